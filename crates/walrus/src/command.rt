@@ -1,0 +1,73 @@
+//! The program as a function of its words and its three streams.
+
+ghost use Rattle.std.specs.Prelude.{◌≡◌, ◌⊎◌, codes, false, true};
+ghost use Rattle.std.specs.Io.KnownBytes.{Keeps};
+ghost use Rattle.walrus.specs.Command.{are_known, is_known, flags_for, stands_in};
+ghost use Rattle.walrus.specs.Device.{WroteFront};
+ghost use Rattle.walrus.specs.Message.{line};
+ghost use Rattle.walrus_module.specs.Flags.{flags};
+
+use crate::device::{Sink, Source};
+use crate::message::{refuse, text_of, write_line};
+use crate::tool::run;
+use std::alloc::Global;
+use walrus_module::ModuleConfig;
+
+// Whether the program knows the word.
+fn knows(word: &str) -> bool
+    ensures { result ≡ is_known word.now }
+{
+    word == "--no-names" || word == "--no-producers" || word == "--no-legacy"
+}
+
+// Whether the word stands among these.
+fn has(words: &[String], word: &str) -> bool
+    ensures { result ≡ stands_in words.now word.now }
+{
+    words.iter().any(|w| w.as_str() == word)
+}
+
+// Whether the program knows each of these words.
+fn all_known(words: &[String]) -> bool
+    ensures { result ≡ are_known words.now }
+{
+    words.iter().all(|w| knows(w.as_str()))
+}
+
+// The configuration that the words ask for.
+fn config_for(words: &[String]) -> ModuleConfig
+    ensures { flags result ≡ flags_for words.now }
+{
+    let mut config = ModuleConfig::new();
+    config.generate_name_section(!has(words, "--no-names"));
+    config.generate_producers_section(!has(words, "--no-producers"));
+    config.legacy_exceptions(!has(words, "--no-legacy"));
+    config
+}
+
+/// Runs the program on its words, its standard input, output and error, and answers its status: 0 where the smaller
+/// module was written, 1 where that was refused, 2 where a word isn't known, and then nothing is read or written.
+/// A refusal is told in one line on the last stream; where that can't be written, the status is the same.
+pub fn command<R: Source, W: Sink, E: Sink>(
+    alloc: Global,
+    words: &[String],
+    input: &mut R,
+    output: &mut W,
+    errors: &mut E,
+) -> u8
+    ensures unknown { are_known words.now ≡ false → (result ≡ 2) × Keeps (R.left input.old) (R.left input.new)
+        × (R.read_failures input.new ≡ R.read_failures input.old) × Keeps (W.held output.old) (W.held output.new)
+        × (W.write_failures output.new ≡ W.write_failures output.old)
+        × WroteFront (E.held errors.old) (E.held errors.new) (line (codes "unknown word")) }
+    ensures known { are_known words.now ≡ true → (result ≡ 0) ⊎ (result ≡ 1) }
+    ensures silent { result ≡ 0 → Keeps (E.held errors.old) (E.held errors.new) }
+{
+    if !all_known(words) {
+        let _told = write_line(errors, "unknown word");
+        return 2;
+    }
+    match run(alloc, input, output, &config_for(words)) {
+        Ok(()) => 0,
+        Err(error) => refuse(errors, text_of(&error)),
+    }
+}

@@ -1,0 +1,4 @@
+mod BackLemmas
+mod BodyLemmas
+mod EmitLemmas
+mod ReadLemmas

@@ -1,0 +1,11 @@
+pub mod Body
+pub mod Code
+pub mod Errors
+pub mod Function
+pub mod Indices
+pub mod Location
+pub mod Names
+pub mod Operators
+pub mod Reader
+pub mod Results
+pub mod Writer

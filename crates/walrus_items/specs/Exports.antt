@@ -1,0 +1,72 @@
+-- What a contract sees of the exports of a module ("Structure > Modules > Exports").
+use Rattle.std.specs.Prelude.{ℕ, Bool, true, ◌&&◌, List, Option, Some, map, option_and_then, bytes_eq, nat_eq}
+use Rattle.std.specs.String.{string_bytes}
+use Rattle.walrus_base.specs.Id.{place}
+use Rattle.walrus_base.specs.Arena.{slots, entries_left, with_item}
+use Rattle.walrus_base.specs.declared.id.Id.{Id}
+use Rattle.walrus_base.specs.declared.keys.FunctionKey.{FunctionKey}
+use Rattle.walrus_ir.specs.Operators.{Item, function_item}
+use Rattle.walrus_items.specs.Seen.{seen}
+use Rattle.walrus_items.specs.Searches.{first}
+use Rattle.walrus_items.specs.declared.exports.Export.{Export}
+use Rattle.walrus_items.specs.declared.exports.ExportItem.{ExportItem}
+use Rattle.walrus_items.specs.declared.exports.ExportItem.TheVariants.{Function}
+use Rattle.walrus_items.specs.declared.exports.ModuleExports.{ModuleExports}
+use Rattle.walrus_items.specs.declared.exports.ExportIter.{ExportIter}
+use Rattle.walrus_items.specs.declared.exports.ExportEntries.{ExportEntries}
+
+-- the place of an export's own id, its name, and what it exports
+pub record ExportValue : Type 0 where
+  pub id : ℕ
+  pub name : List ℕ
+  pub item : ExportItem
+
+abbrev pub export_value : Export → ExportValue
+export_value e = record { id = place e.id; name = string_bytes e.name; item = e.item }
+
+-- what is exported, by its index space and place
+abbrev pub exported : ExportItem → Item
+exported (Function f) = function_item (place f)
+
+-- the function that is exported, if it is one
+abbrev pub exported_function : ExportItem → Option (Id FunctionKey)
+exported_function (Function f) = Some f
+
+-- the export or nothing at each place from 0 on
+abbrev pub exports : ModuleExports → List (Option ExportValue)
+exports all = seen export_value (slots all.arena)
+
+-- the exports with this one at a place
+abbrev pub with_export : ModuleExports → ℕ → Export → ModuleExports
+with_export all place e = record all { arena = with_item all.arena place e }
+
+-- the exports that are still to come
+abbrev pub exports_left : ExportIter → List ExportValue
+exports_left left = map (λ e. export_value e.1) (entries_left left.rest)
+
+-- the exports that are still to come, with their places
+abbrev pub export_entries_left : ExportEntries → List (ℕ × ExportValue)
+export_entries_left left = map (λ e. (e.0, export_value e.1)) (entries_left left.rest)
+
+-- the export has this name
+abbrev pub is_named : List ℕ → ExportValue → Bool
+is_named name e = bytes_eq e.name name
+
+-- what is exported is the function at this place
+abbrev pub is_function_at : ℕ → ExportItem → Bool
+is_function_at number (Function f) = nat_eq (place f) number
+
+abbrev pub exports_function : ℕ → ExportValue → Bool
+exports_function number e = is_function_at number e.item
+
+-- what is exported is a function
+abbrev pub is_function : ExportItem → Bool
+is_function (Function f) = true
+
+-- the export is a function's, and has this name
+abbrev pub is_function_named : List ℕ → ExportValue → Bool
+is_function_named name e = is_named name e && is_function e.item
+
+-- the first function that is exported under this name
+abbrev pub function_named : List ℕ → List (Option ExportValue) → Option (Id FunctionKey)
+function_named name all = option_and_then (λ e. exported_function e.1.item) (first (is_function_named name) all)

@@ -1,0 +1,6 @@
+pub mod Exports
+pub mod Functions
+pub mod LendsExport
+pub mod LendsFunction
+pub mod Searches
+pub mod Seen

@@ -1,0 +1,271 @@
+//! The exports of a module ("Structure > Modules > Exports").
+ghost use Rattle.std.specs.Prelude.{◌≡◌, ◌++◌, ◌∷◌, [], length, Some, None, IsTrue, ◌↔◌, MatchResult, IfOk, IsOkUnless, count_by, is_some, slice_set, option_map};
+ghost use Rattle.std.specs.Option.{ok_or};
+ghost use Rattle.std.specs.Borrow.{sem};
+ghost use Rattle.std.specs.Iterator.{YieldsFirstBy, item_count};
+ghost use Rattle.walrus_base.specs.Id.{place};
+ghost use Rattle.walrus_base.specs.Arena.{item_at, IsLive, items, entries};
+ghost use Rattle.walrus_parts.specs.Errors.{out_of_memory};
+ghost use Rattle.walrus_items.specs.Searches.{first, RemovesFound};
+ghost use Rattle.walrus_items.specs.declared.exports.ExportItem.TheVariants.{Function};
+
+use std::alloc::Global;
+use walrus_base::{ArenaIter, ExportId, ExportKey, FunctionId, TombstoneArena};
+use walrus_parts::{Error, Result};
+
+/// What an export exports.
+#[derive(Clone, Copy, Debug)]
+pub enum ExportItem {
+    /// A function.
+    Function(FunctionId),
+}
+
+impl From<FunctionId> for ExportItem {
+    ghost from_gives = { λ id item. item ≡ Function id };
+
+    fn from(id: FunctionId) -> ExportItem {
+        ExportItem::Function(id)
+    }
+}
+
+/// An export of a module.
+#[derive(Debug, Drop)]
+pub struct Export {
+    id: ExportId,
+    /// The name under which the item is exported.
+    pub name: String,
+    /// What is exported.
+    pub item: ExportItem,
+}
+
+impl Export {
+    ghost use Rattle.walrus_items.specs.Exports.{export_value};
+
+    /// The id under which the export was added.
+    pub fn id(&self) -> ExportId
+        ensures { place result ≡ (export_value self.now).id }
+    {
+        self.id
+    }
+
+    /// An equal export. `Memory` is the only error.
+    pub fn try_clone(&self) -> Result<Export>
+        ensures value { IfOk result (λ e. export_value e ≡ export_value self.now) }
+        ensures fails { IsOkUnless result out_of_memory }
+    {
+        Ok(Export {
+            id: self.id,
+            name: self.name.clone()?,
+            item: self.item,
+        })
+    }
+}
+
+/// The exports of a module, by their ids. Deleted ids are never used again.
+#[derive(Drop)]
+pub struct ModuleExports {
+    arena: TombstoneArena<ExportKey, Export>,
+    alloc: Global,
+}
+
+impl ModuleExports {
+    ghost use Rattle.walrus_items.specs.Exports.{ExportValue, export_value, exports, exports_left, export_entries_left, is_named, exports_function, function_named};
+    ghost use Rattle.walrus_items.specs.LendsExport.{LendsExport};
+
+    /// No exports. Takes no memory until the first one comes.
+    pub fn new(alloc: Global) -> ModuleExports
+        ensures { exports result ≡ [] }
+    {
+        ModuleExports {
+            arena: TombstoneArena::new(alloc),
+            alloc,
+        }
+    }
+
+    /// Makes room for `additional` more exports. `Memory` is the only error.
+    pub fn reserve(&mut self, additional: usize) -> Result<()>
+        ensures same { exports self.new ≡ exports self.old }
+        ensures fails { IsOkUnless result out_of_memory }
+    {
+        self.arena.reserve(additional)?;
+        Ok(())
+    }
+
+    /// Exports an item under a name. `Memory` is the only error; then nothing changes.
+    pub fn add(&mut self, name: &str, item: ExportItem) -> Result<ExportId>
+        ensures { MatchResult result
+            (λ id. (place id ≡ length (exports self.old))
+            × (exports self.new ≡ exports self.old ++ Some (record { id = place id; name = name.now; item = item }) ∷ []))
+            (λ e. (e ≡ out_of_memory) × (exports self.new ≡ exports self.old)) }
+    {
+        let name = String::from_str(self.alloc, name)?;
+        let id = self.arena.next_id();
+        Ok(self.arena.alloc(Export { id, name, item })?)
+    }
+
+    /// The export of a live id.
+    pub fn get(&self, id: ExportId) -> &Export
+        requires { IsLive (exports self.now) (place id) }
+        ensures { item_at (exports self.now) (place id) ≡ Some (export_value result.now) }
+    {
+        self.arena.get(id)
+    }
+
+    /// The export of a live id, for writing.
+    pub fn get_mut(&mut self, id: ExportId) -> &mut Export
+        requires { IsLive (exports self.old) (place id) }
+        ensures* writes_back { sem 𝓛 (LendsExport self.entry (place id) result) }
+        ensures value { item_at (exports self.old) (place id) ≡ Some (export_value result.now) }
+    {
+        self.arena.get_mut(id)
+    }
+
+    /// Whether the export of the id is there.
+    pub fn contains(&self, id: ExportId) -> bool
+        ensures { IsTrue result ↔ IsLive (exports self.now) (place id) }
+    {
+        self.arena.contains(id)
+    }
+
+    /// Takes the export of a live id away.
+    pub fn delete(&mut self, id: ExportId)
+        requires { IsLive (exports self.old) (place id) }
+        ensures { exports self.new ≡ slice_set (exports self.old) (place id) None }
+    {
+        let _ = self.arena.delete(id);
+    }
+
+    /// Takes the export of a live id away: another name of `delete`.
+    pub fn remove_root(&mut self, id: ExportId)
+        requires { IsLive (exports self.old) (place id) }
+        ensures { exports self.new ≡ slice_set (exports self.old) (place id) None }
+    {
+        self.delete(id);
+    }
+
+    /// How many exports there are.
+    pub fn len(&self) -> usize
+        ensures { result ≡ count_by is_some (exports self.now) }
+    {
+        self.arena.len()
+    }
+
+    /// Whether there is no export.
+    pub fn is_empty(&self) -> bool
+        ensures { IsTrue result ↔ (count_by is_some (exports self.now) ≡ 0) }
+    {
+        self.len() == 0
+    }
+
+    /// The exports, by rising id.
+    pub fn iter(&self) -> ExportIter<'_>
+        ensures { exports_left result ≡ items (exports self.now) }
+    {
+        ExportIter {
+            rest: self.arena.iter(),
+        }
+    }
+
+    /// The exports with their ids, by rising id.
+    pub fn iter_entries(&self) -> ExportEntries<'_>
+        ensures { export_entries_left result ≡ entries (exports self.now) }
+    {
+        ExportEntries {
+            rest: self.arena.iter(),
+        }
+    }
+
+    /// The first function exported under this name, or `NotFound` where there is none.
+    pub fn get_func(&self, name: &str) -> Result<FunctionId>
+        ensures { result ≡ ok_or (function_named name.now (exports self.now)) Error.NotFound }
+    {
+        for (_, export) in self.arena.iter() {
+            if export.name.as_str() == name {
+                let ExportItem::Function(id) = export.item;
+                return Ok(id);
+            }
+        }
+        Err(Error::NotFound)
+    }
+
+    /// The first export of this function.
+    pub fn get_exported_func(&self, id: FunctionId) -> Option<&Export>
+        ensures { option_map (λ e. export_value e.now) result ≡ option_map (λ e. e.1) (first (exports_function (place id)) (exports self.now)) }
+    {
+        for (_, export) in self.arena.iter() {
+            let ExportItem::Function(exported) = export.item;
+            if exported == id {
+                return Some(export);
+            }
+        }
+        None
+    }
+
+    /// Takes away the first export of this name, or answers `NotFound` where there is none.
+    pub fn remove(&mut self, name: &str) -> Result<()>
+        ensures { RemovesFound (first (is_named name.now) (exports self.old)) (exports self.old) (exports self.new) result }
+    {
+        match self.first_named(name) {
+            Some(found) => {
+                self.delete(found);
+                Ok(())
+            }
+            None => Err(Error::NotFound),
+        }
+    }
+
+    // The id of the first export of this name.
+    fn first_named(&self, name: &str) -> Option<ExportId>
+        ensures { option_map place result ≡ option_map (λ e. e.0) (first (is_named name.now) (exports self.now)) }
+    {
+        for (id, export) in self.arena.iter() {
+            if export.name.as_str() == name {
+                return Some(id);
+            }
+        }
+        None
+    }
+}
+
+/// The exports of a module, by rising id.
+#[derive(Drop)]
+pub struct ExportIter<'a> {
+    rest: ArenaIter<'a, ExportKey, Export>,
+}
+
+impl<'a> Iterator for ExportIter<'a> {
+    type Item = &'a Export;
+
+    ghost use Rattle.walrus_items.specs.Exports.{export_value, exports_left};
+
+    ghost next_gives = { YieldsFirstBy (λ e. export_value e.now) exports_left };
+
+    ghost remaining = { item_count exports_left };
+
+    fn next(&mut self) -> Option<&'a Export> {
+        match self.rest.next() {
+            Some((_, export)) => Some(export),
+            None => None,
+        }
+    }
+}
+
+/// The exports of a module with their ids, by rising id.
+#[derive(Drop)]
+pub struct ExportEntries<'a> {
+    rest: ArenaIter<'a, ExportKey, Export>,
+}
+
+impl<'a> Iterator for ExportEntries<'a> {
+    type Item = (ExportId, &'a Export);
+
+    ghost use Rattle.walrus_items.specs.Exports.{export_value, export_entries_left};
+
+    ghost next_gives = { YieldsFirstBy (λ e. (place e.0, export_value e.1.now)) export_entries_left };
+
+    ghost remaining = { item_count export_entries_left };
+
+    fn next(&mut self) -> Option<(ExportId, &'a Export)> {
+        self.rest.next()
+    }
+}

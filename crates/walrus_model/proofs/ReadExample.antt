@@ -1,0 +1,254 @@
+-- What the bytes of the two worked modules read as.
+use Rattle.std.proofs.Common.{◌≡◌, true, false, drop, ℕ, ◌+◌, ◌<◌, List, [], ◌∷◌, length, refl, sym, ◌∙◌, subst, arith, append-nil}
+use Rattle.std.specs.Prelude.{codes, All, AllPairs, slice_get, Some}
+use Rattle.wasm_forms.specs.Number.{IsU32, number_at, leb_at}
+use Rattle.wasm_forms.specs.Grammar.{Form, Is, at, Vector, U32, row_at, block_at, until_at}
+use Rattle.std.specs.Str.{is_utf8}
+use Rattle.std.proofs.lemmas.Str.{is_utf8-from_IsUtf8, IsUtf8-from_ascii}
+use Rattle.std.proofs.lemmas.Str.Ascii.{IsAscii-nil, IsAscii-cons}
+use Rattle.std.proofs.lemmas.List.Elements.{All-nil, All-cons}
+use Rattle.std.proofs.lemmas.List.Kept.{AllPairs-cons}
+use Rattle.wasm_forms.proofs.Exact.{exact}
+use Rattle.wasm_wire.specs.Forms.{function_type, value_type, value_type_from, export_entry, export_kind, export_kind_from}
+use Rattle.wasm_wire.specs.Frames.{Frames, Section, Types, Functions, Exports, Code, IsSection, IsBody, IsCode, IsContent, id_of}
+use Rattle.wasm_wire.specs.Rules.{StandsBefore, standard_order}
+use Rattle.walrus_ir.specs.Names.{Lookup}
+use Rattle.walrus_ir.specs.Body.{body_form, operator_from, BodyReads}
+use Rattle.walrus_model.specs.Reads.{Reads, declared}
+use Rattle.wasm_forms.specs.Spelling.{number_bytes, vector_bytes, groups}
+use Rattle.wasm_wire.specs.Spelling.{func_type_bytes, export_bytes}
+use Rattle.walrus_model.specs.Placed.{Section as PlacedSection, is_custom, is_called, is_dylink_section, is_other_custom, sized_body, IsListOf, IsCanonical, of_types, of_functions, of_exports, of_bodies, Placed}
+use Rattle.walrus_model.specs.Examples.{two_functions_bytes, one_function_bytes, no_values, export_f, empty_body, just_end, two_functions_sections, one_function_sections, two_functions, one_function, plain}
+
+-- bytes that are read to their end are a text of the form
+reads_whole : {A : Type 0} (g : Form A) (bytes : List ℕ) (a : A) → at g bytes ≡ Some (a, []) → Is g bytes a
+reads_whole g bytes a e =
+    let taken = (exact g).takes bytes (a, []) e in
+    subst (λ b. Is g b a) (sym (taken.1.0 ∙ append-nil taken.0)) taken.1.1
+
+-- a number of one byte
+one_byte : (n : ℕ) → n < 128 → IsU32 (n ∷ []) n
+one_byte n less = record { spelled = (less, refl); short = omega arith; small = omega arith }
+
+types_read : Is (Vector function_type) (0x01 ∷ 0x60 ∷ 0x00 ∷ 0x00 ∷ []) (no_values ∷ [])
+unfolding function_type value_type value_type_from number_at leb_at row_at
+types_read = reads_whole (Vector function_type) (0x01 ∷ 0x60 ∷ 0x00 ∷ 0x00 ∷ []) (no_values ∷ []) refl
+
+two_read : Is (Vector U32) (0x02 ∷ 0x00 ∷ 0x00 ∷ []) (0 ∷ 0 ∷ [])
+unfolding number_at leb_at row_at
+two_read = reads_whole (Vector U32) (0x02 ∷ 0x00 ∷ 0x00 ∷ []) (0 ∷ 0 ∷ []) refl
+
+one_read : Is (Vector U32) (0x01 ∷ 0x00 ∷ []) (0 ∷ [])
+unfolding number_at leb_at row_at
+one_read = reads_whole (Vector U32) (0x01 ∷ 0x00 ∷ []) (0 ∷ []) refl
+
+f_is_text : is_utf8 (0x66 ∷ []) ≡ true
+f_is_text = is_utf8-from_IsUtf8 (0x66 ∷ []) (IsUtf8-from_ascii (0x66 ∷ []) (IsAscii-cons 0x66 [] (omega arith) IsAscii-nil))
+
+export_1 : Is (Vector export_entry) (0x01 ∷ 0x01 ∷ 0x66 ∷ 0x00 ∷ 0x01 ∷ []) (export_f 1 ∷ [])
+unfolding export_entry export_kind export_kind_from number_at leb_at row_at block_at
+export_1 = reads_whole (Vector export_entry) (0x01 ∷ 0x01 ∷ 0x66 ∷ 0x00 ∷ 0x01 ∷ []) (export_f 1 ∷ []) (rw f_is_text refl)
+
+export_0 : Is (Vector export_entry) (0x01 ∷ 0x01 ∷ 0x66 ∷ 0x00 ∷ 0x00 ∷ []) (export_f 0 ∷ [])
+unfolding export_entry export_kind export_kind_from number_at leb_at row_at block_at
+export_0 = reads_whole (Vector export_entry) (0x01 ∷ 0x01 ∷ 0x66 ∷ 0x00 ∷ 0x00 ∷ []) (export_f 0 ∷ []) (rw f_is_text refl)
+
+body_read : (names : Lookup) → BodyReads names (0x00 ∷ 0x0B ∷ []) just_end
+unfolding body_form operator_from number_at leb_at until_at
+body_read names = (just_end, reads_whole body_form (0x00 ∷ 0x0B ∷ []) just_end refl, refl)
+
+-- ---- the sections
+
+a_body : (place : ℕ) → IsBody place (0x02 ∷ 0x00 ∷ 0x0B ∷ []) (empty_body (place + 1))
+a_body place = record { size = 0x02 ∷ []; spelled = refl; sized = one_byte 2 (omega arith); starts = refl }
+
+-- the two modules' code sections, from the count on
+
+two_codes : IsCode 28 (0x02 ∷ 0x02 ∷ 0x00 ∷ 0x0B ∷ 0x02 ∷ 0x00 ∷ 0x0B ∷ []) (empty_body 30 ∷ empty_body 33 ∷ [])
+two_codes = record {
+  count = 0x02 ∷ [];
+  row = 0x02 ∷ 0x00 ∷ 0x0B ∷ 0x02 ∷ 0x00 ∷ 0x0B ∷ [];
+  spelled = refl;
+  counted = one_byte 2 (omega arith);
+  bodies = (0x02 ∷ 0x00 ∷ 0x0B ∷ [], (0x02 ∷ 0x00 ∷ 0x0B ∷ [], (refl, a_body 29, (0x02 ∷ 0x00 ∷ 0x0B ∷ [], ([], (refl, a_body 32, refl))))));
+}
+
+one_code : IsCode 27 (0x01 ∷ 0x02 ∷ 0x00 ∷ 0x0B ∷ []) (empty_body 29 ∷ [])
+one_code = record {
+  count = 0x01 ∷ [];
+  row = 0x02 ∷ 0x00 ∷ 0x0B ∷ [];
+  spelled = refl;
+  counted = one_byte 1 (omega arith);
+  bodies = (0x02 ∷ 0x00 ∷ 0x0B ∷ [], ([], (refl, a_body 28, refl)));
+}
+
+-- a section whose size is one byte
+a_section : (place n : ℕ) (content : List ℕ) (s : Section) → n < 128 → n ≡ length content → IsContent (place + 1 + 1) content s → IsSection place (id_of s ∷ n ∷ content) s
+a_section place n content s small is used = record { size = n ∷ []; content = content; spelled = refl; sized = subst (IsU32 (n ∷ [])) is (one_byte n small); used = used }
+
+two_frames : Frames two_functions_bytes two_functions_sections
+two_frames = record {
+  rest = drop 8 two_functions_bytes;
+  parts = Types (no_values ∷ []) ∷ Functions (0 ∷ 0 ∷ []) ∷ Exports (export_f 1 ∷ []) ∷ Code (empty_body 30 ∷ empty_body 33 ∷ []) ∷ [];
+  headed = refl;
+  framed = (
+    0x01 ∷ 0x04 ∷ 0x01 ∷ 0x60 ∷ 0x00 ∷ 0x00 ∷ [],
+    (
+      drop 14 two_functions_bytes,
+      (
+        refl,
+        a_section 8 4 (0x01 ∷ 0x60 ∷ 0x00 ∷ 0x00 ∷ []) (Types (no_values ∷ [])) (omega arith) refl types_read,
+        (
+          0x03 ∷ 0x03 ∷ 0x02 ∷ 0x00 ∷ 0x00 ∷ [],
+          (
+            drop 19 two_functions_bytes,
+            (
+              refl,
+              a_section 14 3 (0x02 ∷ 0x00 ∷ 0x00 ∷ []) (Functions (0 ∷ 0 ∷ [])) (omega arith) refl two_read,
+              (
+                0x07 ∷ 0x05 ∷ 0x01 ∷ 0x01 ∷ 0x66 ∷ 0x00 ∷ 0x01 ∷ [],
+                (
+                  drop 26 two_functions_bytes,
+                  (
+                    refl,
+                    a_section 19 5 (0x01 ∷ 0x01 ∷ 0x66 ∷ 0x00 ∷ 0x01 ∷ []) (Exports (export_f 1 ∷ [])) (omega arith) refl export_1,
+                    (drop 26 two_functions_bytes, ([], (refl, a_section 26 7 (0x02 ∷ 0x02 ∷ 0x00 ∷ 0x0B ∷ 0x02 ∷ 0x00 ∷ 0x0B ∷ []) (Code (empty_body 30 ∷ empty_body 33 ∷ [])) (omega arith) refl two_codes, refl))),
+                  ),
+                ),
+              ),
+            ),
+          ),
+        ),
+      ),
+    ),
+  );
+  holds = refl;
+}
+
+one_frames : Frames one_function_bytes one_function_sections
+one_frames = record {
+  rest = drop 8 one_function_bytes;
+  parts = Types (no_values ∷ []) ∷ Functions (0 ∷ []) ∷ Exports (export_f 0 ∷ []) ∷ Code (empty_body 29 ∷ []) ∷ [];
+  headed = refl;
+  framed = (
+    0x01 ∷ 0x04 ∷ 0x01 ∷ 0x60 ∷ 0x00 ∷ 0x00 ∷ [],
+    (
+      drop 14 one_function_bytes,
+      (
+        refl,
+        a_section 8 4 (0x01 ∷ 0x60 ∷ 0x00 ∷ 0x00 ∷ []) (Types (no_values ∷ [])) (omega arith) refl types_read,
+        (
+          0x03 ∷ 0x02 ∷ 0x01 ∷ 0x00 ∷ [],
+          (
+            drop 18 one_function_bytes,
+            (
+              refl,
+              a_section 14 2 (0x01 ∷ 0x00 ∷ []) (Functions (0 ∷ [])) (omega arith) refl one_read,
+              (
+                0x07 ∷ 0x05 ∷ 0x01 ∷ 0x01 ∷ 0x66 ∷ 0x00 ∷ 0x00 ∷ [],
+                (
+                  drop 25 one_function_bytes,
+                  (
+                    refl,
+                    a_section 18 5 (0x01 ∷ 0x01 ∷ 0x66 ∷ 0x00 ∷ 0x00 ∷ []) (Exports (export_f 0 ∷ [])) (omega arith) refl export_0,
+                    (drop 25 one_function_bytes, ([], (refl, a_section 25 4 (0x01 ∷ 0x02 ∷ 0x00 ∷ 0x0B ∷ []) (Code (empty_body 29 ∷ [])) (omega arith) refl one_code, refl))),
+                  ),
+                ),
+              ),
+            ),
+          ),
+        ),
+      ),
+    ),
+  );
+  holds = refl;
+}
+
+stands : (i j a b : ℕ) → i < j → slice_get standard_order i ≡ Some a → slice_get standard_order j ≡ Some b → StandsBefore a b
+stands i j a b less p q = record { place_of_a = i; place_of_b = j; earlier = less; a_stands = p; b_stands = q }
+
+-- the four sections stand in order
+in_order : AllPairs StandsBefore (1 ∷ 3 ∷ 7 ∷ 10 ∷ [])
+in_order =
+    AllPairs-cons StandsBefore 1 (3 ∷ 7 ∷ 10 ∷ [])
+    (All-cons (StandsBefore 1) 3 (7 ∷ 10 ∷ []) (stands 0 1 1 3 (omega arith) refl refl)
+    (All-cons (StandsBefore 1) 7 (10 ∷ []) (stands 0 2 1 7 (omega arith) refl refl)
+    (All-cons (StandsBefore 1) 10 [] (stands 0 3 1 10 (omega arith) refl refl) (All-nil (StandsBefore 1)))))
+    (AllPairs-cons StandsBefore 3 (7 ∷ 10 ∷ [])
+    (All-cons (StandsBefore 3) 7 (10 ∷ []) (stands 1 2 3 7 (omega arith) refl refl)
+    (All-cons (StandsBefore 3) 10 [] (stands 1 3 3 10 (omega arith) refl refl) (All-nil (StandsBefore 3))))
+    (AllPairs-cons StandsBefore 7 (10 ∷ [])
+    (All-cons (StandsBefore 7) 10 [] (stands 2 3 7 10 (omega arith) refl refl) (All-nil (StandsBefore 7)))
+    (AllPairs-cons StandsBefore 10 [] (All-nil (StandsBefore 10)) (λ i j d less at. absurd (omega arith)))))
+
+pub two_functions_read : Reads plain two_functions_bytes two_functions
+two_functions_read = record {
+  sections = two_functions_sections;
+  framed = two_frames;
+  in_order = in_order;
+  as_many_bodies = refl;
+  bodies = just_end ∷ just_end ∷ [];
+  read = (body_read (declared two_functions_sections), (body_read (declared two_functions_sections), tt));
+  is = refl;
+}
+
+pub one_function_read : Reads plain one_function_bytes one_function
+one_function_read = record {
+  sections = one_function_sections;
+  framed = one_frames;
+  in_order = in_order;
+  as_many_bodies = refl;
+  bodies = just_end ∷ [];
+  read = (body_read (declared one_function_sections), tt);
+  is = refl;
+}
+
+-- ---- what is written
+
+a_list : {A : Type 0} (spell : A → List ℕ) (x : A) (xs : List A) (content : List ℕ) → content ≡ vector_bytes spell (x ∷ xs) → IsListOf spell content
+a_list spell x xs content is = (x ∷ xs, (λ e. cc), is)
+
+all_four : {A : Type 0} (P : A → Type 0) (a b c d : A) → P a → P b → P c → P d → All P (a ∷ b ∷ c ∷ d ∷ [])
+all_four P a b c d p q r s = All-cons P a (b ∷ c ∷ d ∷ []) p (All-cons P b (c ∷ d ∷ []) q (All-cons P c (d ∷ []) r (All-cons P d [] s (All-nil P))))
+
+abbrev type_part : PlacedSection
+type_part = record { id = 1; name = []; content = vector_bytes func_type_bytes (no_values ∷ []) }
+
+abbrev function_part : PlacedSection
+function_part = record { id = 3; name = []; content = vector_bytes number_bytes (0 ∷ []) }
+
+abbrev export_part : PlacedSection
+export_part = record { id = 7; name = []; content = vector_bytes export_bytes (export_f 0 ∷ []) }
+
+abbrev code_part : PlacedSection
+code_part = record { id = 10; name = []; content = vector_bytes sized_body (just_end ∷ []) }
+
+abbrev placed_sections : List PlacedSection
+placed_sections = type_part ∷ function_part ∷ export_part ∷ code_part ∷ []
+
+pub one_function_placed : Placed one_function_bytes
+unfolding number_bytes groups
+one_function_placed = record {
+  sections = placed_sections;
+  stand = refl;
+  in_place = record {
+    dylinks = [];
+    standard = placed_sections;
+    names = [];
+    producers = [];
+    others = [];
+    is = refl;
+    dylinks_are = All-nil (λ s. is_dylink_section s ≡ true);
+    standard_are = all_four (λ s. is_custom s ≡ false) type_part function_part export_part code_part refl refl refl refl;
+    names_are = All-nil (λ s. is_called (codes "name") s ≡ true);
+    one_name = omega arith;
+    producers_are = All-nil (λ s. is_called (codes "producers") s ≡ true);
+    one_producers = omega arith;
+    others_are = All-nil (λ s. is_other_custom s ≡ true);
+  };
+  canonical = all_four IsCanonical type_part function_part export_part code_part
+      (of_types type_part.content (a_list func_type_bytes no_values [] type_part.content refl))
+      (of_functions function_part.content (a_list number_bytes 0 [] function_part.content refl))
+      (of_exports export_part.content (a_list export_bytes (export_f 0) [] export_part.content refl))
+      (of_bodies code_part.content (a_list sized_body just_end [] code_part.content refl));
+}

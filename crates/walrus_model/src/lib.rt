@@ -1,0 +1,15 @@
+//! What the verified WebAssembly module layer promises, in definitions, and the laws of these definitions.
+//!
+//! The definitions stand in `specs/`: the abstract module, which items refer to which, what gc keeps, renaming, what
+//! comes out, and what bytes read as. `docs/DEFINITIONS.md` of the repository leads through them. Each public function
+//! here has an empty body: it carries a law of the definitions as its contract.
+#![tactic(auto)]
+
+mod laws;
+mod pipeline;
+
+pub use laws::{
+    kept_comes_out, names_follow, reached_follows, reached_is_least, reads_once, renamings_compose,
+    shapes_are_kept, worked_examples,
+};
+pub use pipeline::{accepted_comes_out, collected_once, pipeline_comes_out, read_is_simple};

@@ -1,0 +1,149 @@
+-- What each step of reading adds.
+use Rattle.std.proofs.Common.{◌≡◌, ℕ, zero, suc, ◌+◌, ◌<◌, ◌≤◌, List, [], ◌∷◌, ◌++◌, length, map, take, get_or, refl, sym, ap, ap₂, subst, ◌∙◌, arith}
+use Rattle.std.specs.Prelude.{Option, Some, None, IsSome, Contains, slice_get, slice_set, All, option_map, option_and_then}
+use Rattle.std.specs.List.{range_with_len}
+use Rattle.std.proofs.lemmas.List.{take_more, take_all, map-append, map-set, get_or-map, length-map}
+use Rattle.std.proofs.lemmas.List.FromFn.{length-range_with_len, get_or-range_with_len}
+use Rattle.walrus_base.specs.Arena.{entries_from, item_at, items, slots, IsLive}
+use Rattle.walrus_base.specs.FuncTypes.{FuncType}
+use Rattle.walrus_ir.specs.Operators.{Op, Functions}
+use Rattle.walrus_items.specs.Exports.{ExportValue}
+use Rattle.walrus_items.specs.Functions.{FunctionValue, function_value, functions, with_function}
+use Rattle.walrus_items.specs.declared.functions.Function.{Function}
+use Rattle.walrus_items.specs.declared.functions.ModuleFunctions.{ModuleFunctions}
+use Rattle.walrus_model.specs.Abstract as abstract
+use Rattle.walrus_model.specs.Reads.{space_of}
+use Rattle.walrus_module.specs.Taken.{local_of, locals_held, with_operators, type_taken}
+use Rattle.walrus_module.specs.View.{export_of}
+use Rattle.wasm_wire.specs.Record as wire
+use Rattle.wasm_wire.specs.declared.record.RawExportKind.{RawExportKind}
+use Rattle.wasm_wire.specs.declared.record.RawExportKind.TheVariants as kinds
+
+-- ---- lists that grow with a loop
+
+pub grown : {A B : Type 0} (f : A → B) (xs : List A) (i : ℕ) (x : A) (done more : List B) → i < length xs → x ≡ get_or xs i x
+    → done ≡ map f (take i xs) → more ≡ done ++ f x ∷ [] → more ≡ map f (take (i + 1) xs)
+grown f xs i x done more lt is before push =
+    push ∙ ap (λ l. l ++ f x ∷ []) before ∙ ap (λ y. map f (take i xs) ++ f y ∷ []) is
+    ∙ sym (map-append f (take i xs) (get_or xs i x ∷ [])) ∙ sym (ap (map f) (take_more xs i x lt))
+
+pub grown_by : {A B C : Type 0} (g : C → B) (f : A → B) (xs : List A) (i : ℕ) (x : A) (done more : List C) (y : C) → i < length xs → x ≡ get_or xs i x
+    → map g done ≡ map f (take i xs) → more ≡ done ++ y ∷ [] → g y ≡ f x → map g more ≡ map f (take (i + 1) xs)
+grown_by g f xs i x done more y lt is before push same =
+    grown f xs i x (map g done) (map g more) lt is before (ap (map g) push ∙ map-append g done (y ∷ []) ∙ ap (λ z. map g done ++ z ∷ []) same)
+
+pub whole : {A B : Type 0} (f : A → B) (xs : List A) (i : ℕ) → length xs ≤ i → map f (take i xs) ≡ map f xs
+whole f xs i le = ap (map f) (take_all i xs le)
+
+-- ---- numbers in a row
+
+range_more_at : (a n : ℕ) → range_with_len a (suc n) ≡ range_with_len a n ++ (a + n) ∷ []
+range_more_at a zero = let e : a ≡ a + 0 = omega arith in ap (λ k. k ∷ []) e
+range_more_at a (suc n) =
+    let e : a + 1 + n ≡ a + suc n = omega arith in
+    ap (λ l. a ∷ l) (range_more_at (a + 1) n ∙ ap (λ k. range_with_len (a + 1) n ++ k ∷ []) e)
+
+pub range_more : (a n : ℕ) → range_with_len a (n + 1) ≡ range_with_len a n ++ (a + n) ∷ []
+range_more a n = let e : n + 1 ≡ suc n = omega arith in ap (range_with_len a) e ∙ range_more_at a n
+
+pub own_range_more : (n : ℕ) → range_with_len 0 (n + 1) ≡ range_with_len 0 n ++ n ∷ []
+own_range_more n = let e : 0 + n ≡ n = omega arith in range_more 0 n ∙ ap (λ k. range_with_len 0 n ++ k ∷ []) e
+
+pub range_grown : (n k m : ℕ) (old new : List ℕ) → old ≡ range_with_len 0 n → k ≡ n → m ≡ n + 1 → new ≡ old ++ k ∷ [] → new ≡ range_with_len 0 m
+range_grown n k m old new is same next push =
+    push ∙ ap (λ l. l ++ k ∷ []) is ∙ ap (λ j. range_with_len 0 n ++ j ∷ []) same ∙ sym (own_range_more n) ∙ ap (range_with_len 0) (sym next)
+
+pub not_in_range : (xs : List ℕ) (n x : ℕ) → xs ≡ range_with_len 0 n → x ≡ n → Contains xs x → ⊥
+not_in_range xs n x is same h =
+    let lt : h.0 < n = omega (arith, h.1, ap length is, length-range_with_len 0 n) in
+    omega (arith, h.2, ap (λ l. get_or l h.0 x) is, get_or-range_with_len 0 n h.0 x lt)
+
+get_range : (a n i : ℕ) → i < n → slice_get (range_with_len a n) i ≡ Some (a + i)
+get_range a zero i lt = absurd (omega arith)
+get_range a (suc n) zero lt = let e : a ≡ a + 0 = omega arith in ap Some e
+get_range a (suc n) (suc i) lt = let e : a + 1 + i ≡ a + suc i = omega arith in get_range (a + 1) n i (omega arith) ∙ ap Some e
+
+pub get_own : (n i : ℕ) → i < n → slice_get (range_with_len 0 n) i ≡ Some i
+get_own n i lt = let e : 0 + i ≡ i = omega arith in get_range 0 n i lt ∙ ap Some e
+
+pub get_past : (a n i : ℕ) → n ≤ i → slice_get (range_with_len a n) i ≡ None
+get_past a zero i le = refl
+get_past a (suc n) zero le = absurd (omega arith)
+get_past a (suc n) (suc i) le = get_past (a + 1) n i (omega arith)
+
+-- ---- items of an arena
+
+pub items_push : {T : Type 0} (k : ℕ) (xs : List (Option T)) (v : T) → map (λ e. e.1) (entries_from k (xs ++ Some v ∷ [])) ≡ map (λ e. e.1) (entries_from k xs) ++ v ∷ []
+items_push k [] v = refl
+items_push k (None ∷ rest) v = items_push (k + 1) rest v
+items_push k (Some x ∷ rest) v = ap (λ l. x ∷ l) (items_push (k + 1) rest v)
+
+-- ---- more of these
+
+pub grown_at : {A B : Type 0} (f : A → B) (xs : List A) (i : ℕ) (d : A) (done more : List B) → i < length xs
+    → done ≡ map f (take i xs) → more ≡ done ++ f (get_or xs i d) ∷ [] → more ≡ map f (take (i + 1) xs)
+grown_at f xs i d done more lt before push =
+    push ∙ ap (λ l. l ++ f (get_or xs i d) ∷ []) before ∙ sym (map-append f (take i xs) (get_or xs i d ∷ [])) ∙ sym (ap (map f) (take_more xs i d lt))
+
+pub mapped_all : {A B : Type 0} (P : B → Type 0) (f : A → B) (xs : List A) (i : ℕ) (d : A) → All P (map f xs) → i < length xs → P (f (get_or xs i d))
+mapped_all P f xs i d h lt = subst P (get_or-map f xs i d (f d) lt) (h i (f d) (omega (arith, length-map xs f)))
+
+pub placed_more : {X : Type 0} (g : X → ℕ) (a n : ℕ) (done more : List X) (y : X) → map g done ≡ range_with_len a n → more ≡ done ++ y ∷ [] → g y ≡ a + n → map g more ≡ range_with_len a (n + 1)
+placed_more g a n done more y is push at = ap (map g) push ∙ map-append g done (y ∷ []) ∙ ap₂ (λ l k. l ++ k ∷ []) is at ∙ sym (range_more a n)
+
+pub own_at : (xs : List ℕ) (n i : ℕ) → xs ≡ range_with_len 0 n → i < n → slice_get xs i ≡ Some i
+own_at xs n i is lt = ap (λ l. slice_get l i) is ∙ get_own n i lt
+
+pub some_same : (a b : ℕ) → Some a ≡ Some b → a ≡ b
+some_same a b e = cc
+
+pub own_found : (xs : List ℕ) (n i p : ℕ) → xs ≡ range_with_len 0 n → i < n → Some p ≡ slice_get xs i → p ≡ i
+own_found xs n i p is lt e = some_same p i (e ∙ own_at xs n i is lt)
+
+pub own_missed : (xs : List ℕ) (n i : ℕ) → xs ≡ range_with_len 0 n → i < n → None ≡ slice_get xs i → ⊥
+own_missed xs n i is lt e = let f : ◌≡◌ {A = Option ℕ} None (Some i) = e ∙ own_at xs n i is lt in cc
+
+-- ---- functions
+
+abbrev pub held : Option FunctionValue → Option (ℕ × List Op)
+held slot = option_and_then (λ f. local_of f.kind) slot
+
+pub held_length : (funcs : ModuleFunctions) → length (locals_held funcs) ≡ length (functions funcs)
+held_length funcs = length-map (functions funcs) held
+
+item_map : {A B : Type 0} (h : Option A → Option B) → h None ≡ None → (xs : List (Option A)) (i : ℕ) → get_or (map h xs) i None ≡ h (get_or xs i None)
+item_map h e [] i = sym e
+item_map h e (x ∷ xs) zero = refl
+item_map h e (x ∷ xs) (suc i) = item_map h e xs i
+
+pub put_operators : (funcs : ModuleFunctions) (p i : ℕ) (f g : Function) (ops : List Op) → p ≡ i → item_at (functions funcs) p ≡ Some (function_value f)
+    → local_of g.kind ≡ with_operators ops (local_of f.kind)
+    → locals_held (with_function funcs p g) ≡ slice_set (locals_held funcs) i (with_operators ops (item_at (locals_held funcs) i))
+put_operators funcs p i f g ops same at is =
+    let first : functions (with_function funcs p g) ≡ slice_set (functions funcs) p (Some (function_value g)) = map-set (option_map function_value) (slots funcs.arena) p (Some g) in
+    let second : map held (slice_set (functions funcs) p (Some (function_value g))) ≡ slice_set (locals_held funcs) p (local_of g.kind) = map-set held (functions funcs) p (Some (function_value g)) in
+    let there : item_at (locals_held funcs) p ≡ local_of f.kind = item_map held refl (functions funcs) p ∙ ap held at in
+    let whole : locals_held (with_function funcs p g) ≡ slice_set (locals_held funcs) p (with_operators ops (item_at (locals_held funcs) p)) =
+    ap (map held) first ∙ second ∙ ap (λ x. slice_set (locals_held funcs) p x) (is ∙ ap (with_operators ops) (sym there)) in
+    subst (λ k. locals_held (with_function funcs p g) ≡ slice_set (locals_held funcs) k (with_operators ops (item_at (locals_held funcs) k))) same whole
+
+each_live : (ts : List wire.FuncType) (i : ℕ) → i < length ts → IsLive (map type_taken ts) i
+each_live [] i lt = absurd (omega arith)
+each_live (t ∷ ts) zero lt = refl
+each_live (t ∷ ts) (suc i) lt = each_live ts i (omega arith)
+
+pub types_live : (ss : List (Option FuncType)) (ts : List wire.FuncType) → ss ≡ map type_taken ts → (i : ℕ) → i < length ss → IsLive ss i
+types_live ss ts e i lt =
+    let lt' : i < length ts = omega (arith, ap length e, length-map ts type_taken) in
+    subst (λ (l : List (Option FuncType)). IsLive l i) (sym e) (each_live ts i lt')
+
+-- ---- exports
+
+kind_is : (k : RawExportKind) → Functions ≡ space_of k
+kind_is kinds.Function = refl
+
+pub exports_push : (old new : List (Option ExportValue)) (v : ExportValue) (e : wire.Export) → new ≡ old ++ Some v ∷ [] → export_of v ≡ (record { name = e.name; item = (Functions, e.index) })
+    → map export_of (items new) ≡ map export_of (items old) ++ (record { name = e.name; item = (space_of e.kind, e.index) }) ∷ []
+exports_push old new v e push is =
+    let one : export_of v ≡ (record { name = e.name; item = (space_of e.kind, e.index) }) = is ∙ ap (λ s. record { name = e.name; item = (s, e.index) }) (kind_is e.kind) in
+    ap (λ l. map export_of (items l)) push ∙ ap (map export_of) (items_push 0 old v) ∙ map-append export_of (items old) (v ∷ []) ∙ ap (λ x. map export_of (items old) ++ x ∷ []) one

@@ -1,0 +1,80 @@
+-- One turn of a loop that puts things behind others.
+use Rattle.std.proofs.Common.{◌≡◌, ℕ, zero, suc, ◌+◌, ◌<◌, ◌≤◌, Bool, List, [], ◌∷◌, ◌++◌, map, take, length, length-append, append_assoc, refl, sym, ap, ◌∙◌, subst, arith}
+use Rattle.std.specs.Prelude.{slice_index_or}
+use Rattle.std.specs.List.{AllZip}
+use Rattle.std.specs.List.Sorted.{IsSortedBy}
+
+-- the element at i, and all that stand behind it
+pub split_at : {A B : Type 0} (f : A → B) (xs : List A) (i : ℕ) (d : A) → i < length xs → (rest : List B) × (map f xs ≡ map f (take i xs) ++ f (slice_index_or xs i d) ∷ rest)
+split_at f [] i d h = absurd (omega arith)
+split_at f (x ∷ xs) zero d h = (map f xs, refl)
+split_at {A} {B} f (x ∷ xs) (suc i) d h =
+    let q : (rest : List B) × (map f xs ≡ map f (take i xs) ++ f (slice_index_or xs i d) ∷ rest) = split_at f xs i d (omega arith) in
+    (q.0, ap (λ (l : List B). f x ∷ l) q.1)
+
+more_at : {A : Type 0} (xs : List A) (i : ℕ) (d : A) → i < length xs → take (suc i) xs ≡ take i xs ++ slice_index_or xs i d ∷ []
+more_at [] i d h = absurd (omega arith)
+more_at (x ∷ xs) zero d h = refl
+more_at {A} (x ∷ xs) (suc i) d h = ap (λ (l : List A). x ∷ l) (more_at xs i d (omega arith))
+
+pub one_more : {A : Type 0} (xs : List A) (i : ℕ) (d : A) → i < length xs → take (i + 1) xs ≡ take i xs ++ slice_index_or xs i d ∷ []
+one_more xs i d h =
+    let next : suc i ≡ i + 1 = omega arith in
+    subst (λ n. take n xs ≡ take i xs ++ slice_index_or xs i d ∷ []) next (more_at xs i d h)
+
+pub map_snoc : {A B : Type 0} (f : A → B) (xs : List A) (x : A) → map f (xs ++ x ∷ []) ≡ map f xs ++ f x ∷ []
+map_snoc f [] x = refl
+map_snoc {A} {B} f (y ∷ xs) x = ap (λ (l : List B). f y ∷ l) (map_snoc f xs x)
+
+-- what is made of the one is what comes next
+pub list_turn : {A B C : Type 0} (f : A → C) (g : B → C) (made : List A) (one : A) (left after : List B) (e : B) (all : List C)
+    → map f made ++ map g left ≡ all → left ≡ e ∷ after → f one ≡ g e → map f (made ++ one ∷ []) ++ map g after ≡ all
+list_turn {A} {B} {C} f g made one left after e all h step same =
+    ap (λ (l : List C). l ++ map g after) (map_snoc f made one)
+    ∙ append_assoc (map f made) (f one ∷ []) (map g after)
+    ∙ ap (λ (c : C). map f made ++ c ∷ map g after) same
+    ∙ ap (λ (l : List B). map f made ++ map g l) (sym step)
+    ∙ h
+
+-- pairs
+zip_snoc : {A B : Type 0} (R : A → B → Type 0) (xs : List A) (ys : List B) (x : A) (y : B) → AllZip R xs ys → R x y → AllZip R (xs ++ x ∷ []) (ys ++ y ∷ [])
+zip_snoc R [] [] x y h r = (r, tt)
+zip_snoc R [] (b ∷ ys) x y h r = elim h [ ]
+zip_snoc R (a ∷ xs) [] x y h r = elim h [ ]
+zip_snoc R (a ∷ xs) (b ∷ ys) x y h r = (h.0, zip_snoc R xs ys x y h.1 r)
+
+pub zip_turn : {A B : Type 0} (R : A → B → Type 0) (xs : List A) (i : ℕ) (d : A) (ys : List B) (y : B) → i < length xs → AllZip R (take i xs) ys → R (slice_index_or xs i d) y → AllZip R (take (i + 1) xs) (ys ++ y ∷ [])
+zip_turn R xs i d ys y h zip r = subst (λ l. AllZip R l (ys ++ y ∷ [])) (sym (one_more xs i d h)) (zip_snoc R (take i xs) ys (slice_index_or xs i d) y zip r)
+
+-- places that are done, one, and those to come
+pub places_turn : {A : Type 0} (done : List ℕ) (left after : List (ℕ × A)) (e : ℕ × A) (all : List ℕ) (p : ℕ)
+    → done ++ map (λ e. e.0) left ≡ all → left ≡ e ∷ after → p ≡ e.0 → done ++ p ∷ map (λ e. e.0) after ≡ all
+places_turn {A} done left after e all p h step same =
+    ap (λ (q : ℕ). done ++ q ∷ map (λ (e : ℕ × A). e.0) after) same ∙ ap (λ (l : List (ℕ × A)). done ++ map (λ (e : ℕ × A). e.0) l) (sym step) ∙ h
+
+pub room_left : (done : List ℕ) (p : ℕ) (rest all : List ℕ) (n : ℕ) → done ++ p ∷ rest ≡ all → length all ≡ n → n ≤ 4294967295 → length done < 4294967296
+room_left done p rest all n h count most =
+    let long : length done + suc (length rest) ≡ n = sym (length-append done (p ∷ rest)) ∙ ap (λ (l : List ℕ). length l) h ∙ count in
+    omega (arith, long)
+
+-- sorted, and seen by f
+seen_at : {A B : Type 0} (f : A → B) (xs : List A) (k : ℕ) (d : A) (e : B) → k < length xs → slice_index_or (map f xs) k e ≡ f (slice_index_or xs k d)
+seen_at f [] k d e h = absurd (omega arith)
+seen_at f (x ∷ xs) zero d e h = refl
+seen_at f (x ∷ xs) (suc k) d e h = seen_at f xs k d e (omega arith)
+
+same_length : {A B : Type 0} (f : A → B) (xs : List A) → length (map f xs) ≡ length xs
+same_length f [] = refl
+same_length f (x ∷ xs) = ap suc (same_length f xs)
+
+sorted_at : {A B : Type 0} (f : A → B) (lt : A → A → Bool) (less : B → B → Bool) → ((x y : A) → less (f x) (f y) ≡ lt x y) → (d : A) (xs : List A) → IsSortedBy lt xs → IsSortedBy less (map f xs)
+sorted_at {A} {B} f lt less same d xs h k e low high =
+    let inside : k + 1 < length xs = omega (arith, same_length f xs) in
+    ap (λ (b : B). less b (slice_index_or (map f xs) k e)) (seen_at f xs (k + 1) d e inside)
+    ∙ ap (λ (b : B). less (f (slice_index_or xs (k + 1) d)) b) (seen_at f xs k d e (omega arith))
+    ∙ same (slice_index_or xs (k + 1) d) (slice_index_or xs k d)
+    ∙ h k d low inside
+
+pub sorted_seen : {A B : Type 0} (f : A → B) (lt : A → A → Bool) (less : B → B → Bool) → ((x y : A) → less (f x) (f y) ≡ lt x y) → (xs : List A) → IsSortedBy lt xs → IsSortedBy less (map f xs)
+sorted_seen f lt less same [] h = λ k e low high. absurd (omega arith)
+sorted_seen f lt less same (x ∷ xs) h = sorted_at f lt less same x (x ∷ xs) h

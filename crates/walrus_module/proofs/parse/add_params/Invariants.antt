@@ -1,0 +1,11 @@
+use Rattle.std.proofs.Common.{◌≡◌, ◌+◌, map, length}
+use Rattle.std.specs.List.{range_with_len}
+use Rattle.walrus_base.specs.Id.{place}
+use Rattle.walrus_base.specs.Locals.{locals}
+use Rattle.walrus_module.proofs.parse.add_params.Given as goal
+
+abbrev pub invariant-loop-ty : goal.invariant-loop-ty
+invariant-loop-ty l = record {
+  counted : length (locals l.all) ≡ length (locals l.fn.all) + l.ty-index;
+  args : map place l.args.items ≡ range_with_len (length (locals l.fn.all)) l.ty-index;
+}

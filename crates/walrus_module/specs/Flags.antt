@@ -1,0 +1,55 @@
+-- The flags of a configuration.
+use Rattle.std.specs.Prelude.{Bool, true, false}
+use Rattle.walrus_model.specs.Config.{Config}
+use Rattle.walrus_module.specs.declared.config.ModuleConfig.{ModuleConfig}
+
+pub record Flags : Type 0 where
+  pub generate_dwarf : Bool
+  pub generate_name_section : Bool
+  pub generate_synthetic_names : Bool
+  pub strict_validate : Bool
+  pub generate_producers_section : Bool
+  pub only_stable_features : Bool
+  pub legacy_exceptions : Bool
+  pub preserve_code_transform : Bool
+
+-- what a configuration is set to
+abbrev pub flags : ModuleConfig → Flags
+flags c = record {
+  generate_dwarf = c.generate_dwarf;
+  generate_name_section = c.generate_name_section;
+  generate_synthetic_names = c.generate_synthetic_names;
+  strict_validate = c.strict_validate;
+  generate_producers_section = c.generate_producers_section;
+  only_stable_features = c.only_stable_features;
+  legacy_exceptions = c.legacy_exceptions;
+  preserve_code_transform = c.preserve_code_transform;
+}
+
+-- names, producers, strict validation and legacy exceptions; nothing else
+abbrev pub defaults : Flags
+defaults = record {
+  generate_dwarf = false;
+  generate_name_section = true;
+  generate_synthetic_names = false;
+  strict_validate = true;
+  generate_producers_section = true;
+  only_stable_features = false;
+  legacy_exceptions = true;
+  preserve_code_transform = false;
+}
+
+-- asking for debug information asks for the code transform too; asking for none leaves that flag
+abbrev pub with_dwarf : Bool → Flags → Flags
+with_dwarf true f = record f { generate_dwarf = true; preserve_code_transform = true }
+with_dwarf false f = record f { generate_dwarf = false }
+
+-- What the flags come to so far: names and producers are neither read nor written, legacy exceptions aren't read.
+abbrev pub config_of : Flags → Config
+config_of f = record {
+  writes_names = false;
+  synthetic_names = false;
+  writes_producers = false;
+  legacy_exceptions = false;
+  only_stable_features = f.only_stable_features;
+}

@@ -1,0 +1,16 @@
+pub mod Customs
+pub mod Emitted
+pub mod Entry
+pub mod Flags
+pub mod LendsSection
+pub mod Meaning
+pub mod Numbered
+pub mod Parsed
+pub mod Parts
+pub mod Raws
+pub mod Settings
+pub mod Sizes
+pub mod Spells
+pub mod Taken
+pub mod View
+pub mod Whole

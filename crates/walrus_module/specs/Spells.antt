@@ -1,0 +1,35 @@
+-- What the bytes are that a module is written as: the sections, entry by entry, of what the module holds.
+use Rattle.std.specs.Prelude.{ℕ, true, List, Option, Some, All, map, ◌≡◌}
+use Rattle.std.specs.List.{AllZip}
+use Rattle.std.specs.Str.{IsUtf8}
+use Rattle.wasm_wire.specs.Record as wire
+use Rattle.walrus_base.specs.Arena.{entries, items}
+use Rattle.walrus_base.specs.FuncTypes.{FuncType}
+use Rattle.walrus_ir.specs.Names.{Lookup}
+use Rattle.walrus_items.specs.Exports.{ExportValue}
+use Rattle.walrus_items.specs.Functions.{FunctionValue}
+use Rattle.walrus_module.specs.Numbered.{AreNumbered, NamesNoOthers}
+use Rattle.walrus_module.specs.Parts.{raw_shape, type_index, export_with_index, HasBytes, unplaced, IsWritten}
+use Rattle.walrus_module.specs.Sizes.{IsOrder}
+use Rattle.walrus_module.specs.Whole.{all_local}
+
+pub record Spells (types : List (Option FuncType)) (funcs : List (Option FunctionValue)) (exports : List ExportValue) (bytes : List ℕ) : Type 0 where
+  -- each function has a body
+  pub all_are_local : all_local (items funcs) ≡ true
+  -- the functions in the order in which they are written, and the indices of types and functions
+  pub order : List ℕ
+  pub ordered : IsOrder funcs order
+  pub names : Lookup
+  pub numbered : AreNumbered names (map (λ e. e.0) (entries types)) order
+  pub no_others : NamesNoOthers names
+  -- the entries of the sections
+  pub raw_types : List wire.FuncType
+  pub types_are : map raw_shape raw_types ≡ map (λ e. e.1) (entries types)
+  pub raw_functions : List ℕ
+  pub functions_are : map Some raw_functions ≡ map (type_index funcs names) order
+  pub raw_exports : List wire.Export
+  pub exports_are : map Some raw_exports ≡ map (export_with_index names) exports
+  pub texts : All (λ e. IsUtf8 e.name) raw_exports
+  pub bodies : List (List ℕ)
+  pub bodies_are : AllZip (HasBytes funcs names) order bodies
+  pub written : IsWritten raw_types raw_functions raw_exports (map unplaced bodies) bytes

@@ -1,0 +1,81 @@
+-- A module in memory as an abstract module: the number of an item is the place of its id. What isn't read or written so
+-- far is absent: imports, tables, memories, tags, globals, segments, a start function, custom sections, names, producers.
+use Rattle.std.specs.Prelude.{ℕ, true, false, List, [], ◌∷◌, map, Option, Some, None, option_map}
+use Rattle.walrus_base.specs.Arena.{item_at, items}
+use Rattle.walrus_base.specs.Id.{place}
+use Rattle.walrus_base.specs.FuncTypes.{FuncType, val_type}
+use Rattle.walrus_base.specs.ModuleTypes.{func_types}
+use Rattle.walrus_base.specs.Locals.{locals, local_type}
+use Rattle.walrus_base.specs.Types.{Func}
+use Rattle.walrus_base.specs.declared.locals.ModuleLocals.{ModuleLocals}
+use Rattle.walrus_base.specs.declared.types.ModuleTypes.{ModuleTypes}
+use Rattle.walrus_ir.specs.Function.{body_of}
+use Rattle.walrus_ir.specs.declared.function.LocalFunction.{LocalFunction}
+use Rattle.walrus_items.specs.Exports.{ExportValue, exports, exported}
+use Rattle.walrus_items.specs.Functions.{FunctionValue, functions, kind_type}
+use Rattle.walrus_items.specs.declared.exports.ModuleExports.{ModuleExports}
+use Rattle.walrus_items.specs.declared.functions.FunctionKind.TheVariants as kind
+use Rattle.walrus_items.specs.declared.functions.FunctionKind.{FunctionKind}
+use Rattle.walrus_items.specs.declared.functions.ModuleFunctions.{ModuleFunctions}
+use Rattle.walrus_model.specs.Abstract as abstract
+use Rattle.walrus_module.specs.declared.module.Module.{Module}
+
+-- a function type alone in its group, final, with no supertype
+abbrev pub type_def : ℕ → FuncType → abstract.TypeDef
+type_def i t = record { group = i ∷ []; sub = record { is_final = true; supertypes = []; comp = Func t.params t.results } }
+
+abbrev pub types_of : ModuleTypes → ℕ → Option abstract.TypeDef
+types_of types i = option_map (type_def i) (item_at (func_types types) i)
+
+-- a body with the locals that are its parameters; it declares none beside them so far
+abbrev pub body : ModuleLocals → LocalFunction → abstract.Body
+body all f = record {
+  parameters = map place f.args.items;
+  local_type = λ x. option_map (λ l. val_type (local_type l)) (item_at (locals all) x);
+  declared = 0;
+  operators = body_of f;
+}
+
+abbrev pub kind_of : ModuleLocals → FunctionKind → abstract.FunctionKind
+kind_of all (kind.Import i) = abstract.ImportedFunction (place i.«import»)
+kind_of all (kind.Local f) = abstract.LocalFunction (body all f)
+kind_of all (kind.Uninitialized ty) = abstract.Uninitialised
+
+abbrev pub function : ModuleLocals → FunctionValue → abstract.Function
+function all f = record { ty = place (kind_type f.kind); kind = kind_of all f.kind }
+
+abbrev pub functions_of : ModuleLocals → ModuleFunctions → ℕ → Option abstract.Function
+functions_of all funcs i = option_map (function all) (item_at (functions funcs) i)
+
+abbrev pub export_of : ExportValue → abstract.Export
+export_of e = record { name = e.name; item = exported e.item }
+
+abbrev pub exports_of : ModuleExports → List abstract.Export
+exports_of all = map export_of (items (exports all))
+
+-- a module of these types, locals, functions and exports
+abbrev pub view_of : ModuleTypes → ModuleLocals → ModuleFunctions → ModuleExports → abstract.Abstract
+view_of types all funcs es = record {
+  types = types_of types;
+  imports = λ i. None;
+  functions = functions_of all funcs;
+  tables = λ i. None;
+  memories = λ i. None;
+  tags = λ i. None;
+  globals = λ i. None;
+  elements = λ i. None;
+  data_segments = λ i. None;
+  exports = exports_of es;
+  start = None;
+  customs = [];
+  producers = [];
+  named = λ x. [];
+  table_segments = λ t e. false;
+  memory_segments = λ y d. false;
+  handler_types = λ f. [];
+  section_roots = [];
+}
+
+module _ {V : Type 0} {O : V → Type 0} where
+  abbrev pub view : Module V O → abstract.Abstract
+  view m = view_of m.types m.locals m.funcs m.exports

@@ -1,0 +1,147 @@
+ghost use Rattle.std.specs.Prelude.{◌≡◌, ◌++◌, ◌∷◌, [], length, Some, None, MatchResult, MatchOption, option_map, slice_set, option_and_then, IsTrue, ◌↔◌};
+ghost use Rattle.std.specs.Option.{option_copied, option_copied_mut};
+ghost use Rattle.std.specs.Borrow.{sem};
+ghost use Rattle.std.specs.Iterator.{YieldsFirstBy, item_count};
+ghost use Rattle.walrus_base.specs.Arena.{item_at, entries, IsLive};
+ghost use Rattle.walrus_module.specs.Entry.{names_raw, raw_of};
+ghost use Rattle.walrus_parts.specs.Errors.{out_of_memory};
+
+use crate::entry::SectionEntry;
+use std::alloc::Global;
+use walrus_base::{ArenaIter, CustomSectionKey, TombstoneArena, UntypedCustomSectionId};
+use walrus_parts::{RawCustomSection, Result};
+
+// Whether the section is a raw one of this name.
+fn is_raw_named(entry: &SectionEntry, name: &str) -> bool
+    ensures { result ≡ names_raw name.now entry.now }
+{
+    match entry {
+        SectionEntry::Raw(section) => section.name.as_str() == name,
+        SectionEntry::Boxed(_) => false,
+    }
+}
+
+/// The custom sections of a module.
+#[derive(Drop)]
+pub struct ModuleCustomSections<S = SectionEntry> {
+    arena: TombstoneArena<CustomSectionKey, S>,
+}
+
+impl<S> ModuleCustomSections<S> {
+    ghost use Rattle.walrus_module.specs.Customs.{sections, sections_left};
+    ghost use Rattle.walrus_module.specs.LendsSection.{LendsSection};
+
+    /// None yet.
+    pub fn new(alloc: Global) -> ModuleCustomSections
+        ensures { sections result ≡ [] }
+    {
+        ModuleCustomSections {
+            arena: TombstoneArena::new(alloc),
+        }
+    }
+
+    /// Adds a section behind the others. `Memory` is the only error; then nothing changes.
+    pub fn add(&mut self, entry: S) -> Result<UntypedCustomSectionId>
+    where
+        S: Drop,
+        ensures { MatchResult result
+            (λ id. (id.place ≡ length (sections self.old)) × (sections self.new ≡ sections self.old ++ Some entry ∷ []))
+            (λ e. (e ≡ out_of_memory) × (sections self.new ≡ sections self.old)) }
+    {
+        Ok(self.arena.alloc(entry)?)
+    }
+
+    /// The section of this id, if it is there.
+    pub fn get(&self, id: UntypedCustomSectionId) -> Option<&S>
+        ensures { option_copied result ≡ item_at (sections self.now) id.place }
+    {
+        if self.arena.contains(id) {
+            Some(self.arena.get(id))
+        } else {
+            None
+        }
+    }
+
+    /// The section of this id, if it is there, for writing.
+    pub fn get_mut(&mut self, id: UntypedCustomSectionId) -> Option<&mut S>
+        ensures* writes_back { sem 𝓛 (LendsSection S.row self.entry id.place result) }
+        ensures value { option_copied_mut result ≡ item_at (sections self.old) id.place }
+    {
+        if self.arena.contains(id) {
+            Some(self.arena.get_mut(id))
+        } else {
+            None
+        }
+    }
+
+    /// Takes the section of this id out, if it is there.
+    pub fn delete(&mut self, id: UntypedCustomSectionId) -> Option<S>
+        ensures value { result ≡ item_at (sections self.old) id.place }
+        ensures left { sections self.new ≡ slice_set (sections self.old) id.place None }
+    {
+        if self.arena.contains(id) {
+            Some(self.arena.delete(id))
+        } else {
+            None
+        }
+    }
+
+    /// The sections with their ids, by rising id.
+    pub fn iter(&self) -> SectionIter<'_, S>
+        ensures { sections_left result ≡ entries (sections self.now) }
+    {
+        SectionIter {
+            rest: self.arena.iter(),
+        }
+    }
+}
+
+impl ModuleCustomSections {
+    ghost use Rattle.walrus_module.specs.Customs.{sections};
+    ghost use Rattle.walrus_module.specs.Raws.{first_raw, without_first};
+
+    /// Takes the first raw section of this name out, if there is one.
+    pub fn remove_raw(&mut self, name: &str) -> Option<RawCustomSection>
+        ensures value { result ≡ option_and_then (λ e. raw_of e.1) (first_raw name.now (sections self.old)) }
+        ensures left { sections self.new ≡ without_first (first_raw name.now (sections self.old)) (sections self.old) }
+    {
+        let id = self.first_raw_id(name)?;
+        match self.arena.delete(id) {
+            SectionEntry::Raw(section) => Some(section),
+            SectionEntry::Boxed(_) => unreachable!(),
+        }
+    }
+
+    // The id of the first raw section of this name.
+    fn first_raw_id(&self, name: &str) -> Option<UntypedCustomSectionId>
+        ensures { option_map (λ id. id.place) result ≡ option_map (λ e. e.0) (first_raw name.now (sections self.now)) }
+    {
+        let mut rest = self.iter();
+        while let Some((id, entry)) = rest.next() {
+            if is_raw_named(entry, name) {
+                return Some(id);
+            }
+        }
+        None
+    }
+}
+
+/// The custom sections of a module with their ids, by rising id.
+#[derive(Drop)]
+pub struct SectionIter<'a, S = SectionEntry> {
+    rest: ArenaIter<'a, CustomSectionKey, S>,
+}
+
+impl<'a, S> Iterator for SectionIter<'a, S> {
+    type Item = (UntypedCustomSectionId, &'a S);
+
+    ghost use Rattle.walrus_module.specs.Customs.{sections_left};
+
+    ghost next_gives = { YieldsFirstBy (λ item. (item.0.place, item.1.now)) sections_left };
+
+    ghost remaining = { item_count sections_left };
+
+    fn next(&mut self) -> Option<(UntypedCustomSectionId, &'a S)> {
+        self.rest.next()
+    }
+}

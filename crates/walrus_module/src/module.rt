@@ -1,0 +1,74 @@
+//! The module in memory.
+
+ghost use Rattle.std.specs.Prelude.{◌≡◌, IfOk, IfErr, IsOkUnless};
+ghost use Rattle.walrus_parts.specs.Errors.{out_of_memory};
+
+use crate::config::ModuleConfig;
+use crate::customs::ModuleCustomSections;
+use crate::entry::SectionEntry;
+use std::alloc::Global;
+use walrus_base::{ModuleLocals, ModuleTypes};
+use walrus_items::{ModuleExports, ModuleFunctions};
+use walrus_parts::Result;
+
+/// A WebAssembly module ("Structure > Modules"). Its items are named by ids, which stay when other items come and go.
+#[derive(Drop)]
+pub struct Module {
+    /// The types.
+    pub types: ModuleTypes,
+    /// The functions.
+    pub funcs: ModuleFunctions,
+    /// The locals of all local functions.
+    pub locals: ModuleLocals,
+    /// The exports.
+    pub exports: ModuleExports,
+    /// The custom sections.
+    pub customs: ModuleCustomSections,
+    config: ModuleConfig,
+}
+
+impl Module {
+    ghost use Rattle.walrus_module.specs.Flags.{flags, defaults};
+    ghost use Rattle.walrus_module.specs.Parsed.{TakenFrom, RefusesModule};
+    ghost use Rattle.walrus_module.specs.Settings.{settings};
+    ghost use Rattle.walrus_module.specs.Taken.{AreEmpty};
+
+    /// An empty module, to be written as the configuration says. Want of memory is the only refusal.
+    pub fn with_config(alloc: Global, config: ModuleConfig) -> Result<Module>
+        ensures empty { IfOk result (λ m. AreEmpty m.types m.locals m.funcs m.exports) }
+        ensures configured { IfOk result (λ m. settings m ≡ flags config) }
+        ensures fails { IsOkUnless result out_of_memory }
+    {
+        let customs = ModuleCustomSections::<SectionEntry>::new(alloc);
+        Ok(Module {
+            types: ModuleTypes::new(alloc),
+            funcs: ModuleFunctions::new(alloc)?,
+            locals: ModuleLocals::new(alloc),
+            exports: ModuleExports::new(alloc),
+            customs,
+            config,
+        })
+    }
+
+    /// The module that the bytes are, under the default configuration. Refused as [`ModuleConfig::parse`] is.
+    pub fn from_buffer(alloc: Global, bytes: &[u8]) -> Result<Module>
+        ensures found { IfOk result (λ m. TakenFrom bytes.now m.types m.funcs m.exports) }
+        ensures refused { IfErr result (RefusesModule bytes.now) }
+        ensures configured { IfOk result (λ m. settings m ≡ defaults) }
+    {
+        Module::from_buffer_with_config(alloc, bytes, &ModuleConfig::new())
+    }
+
+    /// The module that the bytes are, under this configuration. Refused as [`ModuleConfig::parse`] is.
+    pub fn from_buffer_with_config(
+        alloc: Global,
+        bytes: &[u8],
+        config: &ModuleConfig,
+    ) -> Result<Module>
+        ensures found { IfOk result (λ m. TakenFrom bytes.now m.types m.funcs m.exports) }
+        ensures refused { IfErr result (RefusesModule bytes.now) }
+        ensures configured { IfOk result (λ m. settings m ≡ flags config.now) }
+    {
+        config.parse(alloc, bytes)
+    }
+}

@@ -1,0 +1,5 @@
+pub mod Errors
+pub mod Roots
+pub mod Sample
+pub mod Section
+pub mod Transform

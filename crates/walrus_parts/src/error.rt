@@ -1,0 +1,118 @@
+ghost use Rattle.std.specs.Prelude.{◌≡◌, alloc_error};
+ghost use Rattle.walrus_parts.specs.declared.error.Error.TheVariants.{Memory};
+ghost use Rattle.walrus_parts.specs.Errors.{error_of_wire, error_of_ir};
+
+use std::alloc::{AllocError, AllocFailed};
+use std::{error, fmt, result};
+use walrus_ir::IrError;
+use wasm_forms::WireError;
+
+/// What is wrong with bytes that aren't a module.
+#[derive(Clone, Copy, Debug, PartialEq, Eq)]
+pub enum ErrorKind {
+    /// The bytes aren't in the grammar of modules with its rules ("Binary Format > Modules").
+    InvalidWasm,
+}
+
+impl fmt::Display for ErrorKind {
+    fn fmt<W: fmt::Write>(&self, f: &mut fmt::Formatter<W>) -> fmt::Result {
+        f.write_str("The input WebAssembly is invalid")
+    }
+}
+
+impl error::Error for ErrorKind {}
+
+/// Why a call was refused.
+#[derive(Debug, Drop, thiserror::Error)]
+pub enum Error {
+    /// A request for memory was refused.
+    #[error("out of memory")]
+    Memory(AllocError),
+    /// The bytes aren't in the grammar of modules with its rules ("Binary Format > Modules").
+    #[error("{0}")]
+    InvalidWasm(ErrorKind),
+    /// Something refers to an item, or names a local, that isn't live, or a function has no body and no import.
+    #[error("reference to an item that is not live")]
+    DeadItem,
+    /// A live item has no index where one is needed.
+    #[error("an item has no index")]
+    NoIndex,
+    /// An item would be numbered twice.
+    #[error("an item has two indices")]
+    TwoIndices,
+    /// A count, a size or a 32-bit limit that is to be written passes 32 bits.
+    #[error("a count or size passes 32 bits")]
+    TooLarge,
+    /// An exact heap type, a constant expression with no instruction, or a body that isn't well formed.
+    #[error("a form that cannot be written")]
+    NotWritable,
+    /// A search by name found nothing.
+    #[error("not found")]
+    NotFound,
+    /// The module has more than one memory.
+    #[error("multiple memories unsupported")]
+    SeveralMemories,
+    /// The module has no memory.
+    #[error("module does not export a memory")]
+    NoMemory,
+    /// The module has more than one table of functions.
+    #[error("module contains more than one function table")]
+    SeveralFunctionTables,
+    /// No export names the function.
+    #[error("no exported function with this id")]
+    NotExported,
+    /// No import names the function.
+    #[error("no imported function with this id")]
+    NotImported,
+    /// The function is exported and not local, or imported by name and not of import kind.
+    #[error("cannot replace function")]
+    NotReplaceable,
+    /// A caller's section or closure refused, with this text.
+    #[error("{0}")]
+    Caller(String),
+}
+
+/// The answer of a call that may be refused.
+pub type Result<T> = result::Result<T, Error>;
+
+impl From<AllocError> for Error {
+    ghost from_gives = { λ e r. r ≡ Memory e };
+
+    fn from(e: AllocError) -> Error {
+        Error::Memory(e)
+    }
+}
+
+impl<T: Drop> From<AllocFailed<T>> for Error {
+    ghost from_gives = { λ _ r. r ≡ Memory alloc_error };
+
+    fn from(_e: AllocFailed<T>) -> Error {
+        Error::Memory(AllocError)
+    }
+}
+
+impl From<WireError> for Error {
+    ghost from_gives = { λ e r. r ≡ error_of_wire e };
+
+    fn from(e: WireError) -> Error {
+        match e {
+            WireError::Malformed => Error::InvalidWasm(ErrorKind::InvalidWasm),
+            WireError::Memory(refused) => Error::Memory(refused),
+            WireError::TooLarge => Error::TooLarge,
+        }
+    }
+}
+
+impl From<IrError> for Error {
+    ghost from_gives = { λ e r. r ≡ error_of_ir e };
+
+    fn from(e: IrError) -> Error {
+        match e {
+            IrError::Malformed => Error::InvalidWasm(ErrorKind::InvalidWasm),
+            IrError::Memory(refused) => Error::Memory(refused),
+            IrError::NoIndex => Error::NoIndex,
+            IrError::NotWritable => Error::NotWritable,
+            IrError::TooLarge => Error::TooLarge,
+        }
+    }
+}

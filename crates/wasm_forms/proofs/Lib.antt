@@ -1,0 +1,12 @@
+pub mod Bind
+pub mod Leb
+pub mod Parts
+pub mod Turns
+pub mod Ends
+pub mod Rows
+pub mod Refused
+pub mod Exact
+pub mod Groups
+pub mod Items
+pub mod Signs
+pub mod Spelled

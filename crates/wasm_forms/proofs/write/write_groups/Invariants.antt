@@ -1,0 +1,8 @@
+use Rattle.wasm_forms.proofs.Groups.{Partway}
+use Rattle.wasm_forms.proofs.write.write_groups.Given as goal
+
+abbrev pub invariant-groups : goal.invariant-groups
+invariant-groups l = Partway l.fn.to.items l.to.items l.below l.stop l.number l.left
+
+abbrev pub decreases-groups : goal.decreases-groups
+decreases-groups l = l.left

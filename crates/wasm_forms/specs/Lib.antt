@@ -1,0 +1,5 @@
+pub mod Reading
+pub mod Number
+pub mod Grammar
+pub mod Spelling
+pub mod Writing

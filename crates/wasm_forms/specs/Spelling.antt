@@ -1,0 +1,38 @@
+-- The one spelling of each value that is written: the shortest.
+use Rattle.std.specs.Prelude.{ℕ, zero, suc, ◌+◌, ◌-◌, ◌/◌, ◌%◌, List, [], ◌∷◌, ◌++◌, length, Bool, true, false, nat_lt, if◌then◌else◌, ℤ, pos, negsuc}
+
+-- seven bits, and of a number below zero what they lack to 127
+abbrev pub shown : Bool → ℕ → ℕ
+shown false n = n
+shown true n = 127 - n
+
+-- n (or - n - 1) by its groups, of which at most this many have more behind them; the last one is below stop
+unfoldable pub groups : Bool → ℕ → ℕ → ℕ → List ℕ
+groups below stop zero n = shown below n ∷ []
+groups below stop (suc most) n = if nat_lt n stop then shown below n ∷ [] else (128 + shown below (n % 128)) ∷ groups below stop most (n / 128)
+
+-- the shortest spelling of a number below 2 ^ 64 (Binary Format > Values > Integers, uN)
+unfoldable pub number_bytes : ℕ → List ℕ
+number_bytes n = groups false 128 9 n
+
+-- the shortest spelling of a number from - 2 ^ 63 to 2 ^ 63 - 1 (Binary Format > Values > Integers, sN)
+unfoldable pub integer_bytes : ℤ → List ℕ
+integer_bytes (pos n) = groups false 64 9 n
+integer_bytes (negsuc n) = groups true 64 9 n
+
+-- a count of bytes, and these (Binary Format > Conventions > Lists)
+abbrev pub block_bytes : List ℕ → List ℕ
+block_bytes content = number_bytes (length content) ++ content
+
+-- a name is spelled as the block of its UTF-8 (Binary Format > Values > Names)
+abbrev pub name_bytes : List ℕ → List ℕ
+name_bytes text = block_bytes text
+
+-- the spellings one after another
+abbrev pub row_bytes : {X : Type 0} → (X → List ℕ) → List X → List ℕ
+row_bytes spell [] = []
+row_bytes spell (x ∷ xs) = spell x ++ row_bytes spell xs
+
+-- a count, and that many spellings (Binary Format > Conventions > Lists)
+abbrev pub vector_bytes : {X : Type 0} → (X → List ℕ) → List X → List ℕ
+vector_bytes spell xs = number_bytes (length xs) ++ row_bytes spell xs
