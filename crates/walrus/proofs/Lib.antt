@@ -1,1 +1,3 @@
 pub mod DeviceLemmas
+pub mod Entered
+pub mod Followed

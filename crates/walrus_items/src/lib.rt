@@ -12,5 +12,11 @@ pub use functions::{
     ModuleFunctions,
 };
 pub use walrus_parts::{
-    CodeTransform, CustomSection, Error, ErrorKind, RawCustomSection, Result, Roots,
+    ArenaIter, Arg, Args, CodeTransform, CustomSection, CustomSectionKey, DataId, DataKey,
+    ElementId, ElementKey, Error, ErrorKind, ExportId, ExportKey, FunctionId, FunctionKey,
+    GlobalId, GlobalKey, Id, IdHashSet, IdsToIndices, ImportId, ImportKey, IndicesToIds,
+    InstrLocId, IrError, Local, LocalFunction, LocalId, LocalIter, LocalKey, MemoryId, MemoryKey,
+    ModuleLocals, ModuleTypes, Operator, RawCustomSection, Result, Roots, TableId, TableKey, TagId,
+    TagKey, TombstoneArena, Type, TypeId, TypeIter, TypeKey, UntypedCustomSectionId, ValType,
+    emit_body, read_body,
 };

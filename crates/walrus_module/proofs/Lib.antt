@@ -12,3 +12,7 @@ pub mod Taking
 pub mod Steps
 pub mod Rooms
 pub mod Refusals
+pub mod Plain
+pub mod Parsing
+pub mod Carrying
+pub mod Accepting

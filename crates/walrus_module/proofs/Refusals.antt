@@ -1,6 +1,6 @@
 -- What a refusal of a part says of the whole.
 use Rattle.std.proofs.Common.{◌≡◌, List, ℕ, refl, subst}
-use Rattle.std.specs.Prelude.{Option, Some, None, Result, Ok, Err}
+use Rattle.std.specs.Prelude.{Option, Some, None, Result, Err}
 use Rattle.std.specs.List.{AllZip}
 use Rattle.wasm_forms.specs.Reading.{Refuses}
 use Rattle.wasm_forms.specs.declared.error.WireError.{WireError}
@@ -13,7 +13,7 @@ use Rattle.walrus_base.specs.declared.types.ModuleTypes.{ModuleTypes}
 use Rattle.walrus_items.specs.declared.exports.ModuleExports.{ModuleExports}
 use Rattle.walrus_items.specs.declared.functions.ModuleFunctions.{ModuleFunctions}
 use Rattle.walrus_model.specs.Reads.{ReadsBody}
-use Rattle.walrus_module.specs.Parsed.{AreModule, RefusesModule}
+use Rattle.walrus_module.specs.Parsed.{RefusesModule}
 use Rattle.walrus_module.specs.Taken.{TakesSections}
 use Rattle.walrus_parts.specs.Errors.{error_of_wire}
 use Rattle.walrus_parts.specs.declared.error.Error.{Error}

@@ -5,7 +5,7 @@ use Rattle.std.proofs.lemmas.List.{append-nil, append_assoc, get_or-append-add}
 use Rattle.std.proofs.lemmas.List.Elements.{Contains-append_left, Contains-push}
 use Rattle.wasm_wire.specs.Record.{Module, no_sections}
 use Rattle.wasm_wire.specs.Rules.{StandsBefore}
-use Rattle.wasm_wire.specs.Frames.{Section, Types, Functions, Exports, Code, id_of, IsSection, AreSections, with_section, gathered_onto, Frames}
+use Rattle.wasm_wire.specs.Frames.{Section, Types, Functions, Exports, Code, id_of, AreSections, with_section, gathered_onto, Frames}
 use Rattle.wasm_wire.proofs.Order.{lower_rank}
 use Rattle.walrus_module.specs.Taken.{FitsIndices}
 

@@ -28,7 +28,7 @@ use Rattle.walrus_ir.specs.Operators.{Space, Types, Functions, Tables, Memories,
 use Rattle.walrus_ir.specs.Names.{Lookup}
 use Rattle.walrus_ir.specs.Indices.{places_in, ids_at}
 use Rattle.walrus_ir.specs.declared.indices.IndicesToIds.{IndicesToIds}
-use Rattle.walrus_model.specs.Reads.{below, declared, export_of}
+use Rattle.walrus_model.specs.Reads.{declared, export_of}
 use Rattle.walrus_module.specs.Taken.{empty_body, with_operators, refilled, AreBodies, TakesBodies, TakesSections, type_taken, locals_held}
 use Rattle.walrus_module.proofs.Taking.{get_own, get_past, own_at}
 use Rattle.wasm_wire.specs.Record as wire

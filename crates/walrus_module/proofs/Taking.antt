@@ -1,6 +1,6 @@
 -- What each step of reading adds.
 use Rattle.std.proofs.Common.{◌≡◌, ℕ, zero, suc, ◌+◌, ◌<◌, ◌≤◌, List, [], ◌∷◌, ◌++◌, length, map, take, get_or, refl, sym, ap, ap₂, subst, ◌∙◌, arith}
-use Rattle.std.specs.Prelude.{Option, Some, None, IsSome, Contains, slice_get, slice_set, All, option_map, option_and_then}
+use Rattle.std.specs.Prelude.{Option, Some, None, Contains, slice_get, slice_set, All, option_map, option_and_then}
 use Rattle.std.specs.List.{range_with_len}
 use Rattle.std.proofs.lemmas.List.{take_more, take_all, map-append, map-set, get_or-map, length-map}
 use Rattle.std.proofs.lemmas.List.FromFn.{length-range_with_len, get_or-range_with_len}
@@ -11,7 +11,6 @@ use Rattle.walrus_items.specs.Exports.{ExportValue}
 use Rattle.walrus_items.specs.Functions.{FunctionValue, function_value, functions, with_function}
 use Rattle.walrus_items.specs.declared.functions.Function.{Function}
 use Rattle.walrus_items.specs.declared.functions.ModuleFunctions.{ModuleFunctions}
-use Rattle.walrus_model.specs.Abstract as abstract
 use Rattle.walrus_model.specs.Reads.{space_of}
 use Rattle.walrus_module.specs.Taken.{local_of, locals_held, with_operators, type_taken}
 use Rattle.walrus_module.specs.View.{export_of}
@@ -111,7 +110,7 @@ held slot = option_and_then (λ f. local_of f.kind) slot
 pub held_length : (funcs : ModuleFunctions) → length (locals_held funcs) ≡ length (functions funcs)
 held_length funcs = length-map (functions funcs) held
 
-item_map : {A B : Type 0} (h : Option A → Option B) → h None ≡ None → (xs : List (Option A)) (i : ℕ) → get_or (map h xs) i None ≡ h (get_or xs i None)
+pub item_map : {A B : Type 0} (h : Option A → Option B) → h None ≡ None → (xs : List (Option A)) (i : ℕ) → get_or (map h xs) i None ≡ h (get_or xs i None)
 item_map h e [] i = sym e
 item_map h e (x ∷ xs) zero = refl
 item_map h e (x ∷ xs) (suc i) = item_map h e xs i

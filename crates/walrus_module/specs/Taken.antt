@@ -1,7 +1,6 @@
 -- What the fields of a module hold of the sections that were read.
 use Rattle.std.specs.Prelude.{ℕ, List, [], ◌∷◌, map, zip, Option, Some, None, option_map, option_and_then, length, ◌≡◌, ◌<◌, ◌^◌, Result, Ok, Err}
 use Rattle.std.specs.List.{AllZip}
-use Rattle.walrus_base.specs.Arena.{item_at}
 use Rattle.walrus_base.specs.Id.{place}
 use Rattle.walrus_base.specs.FuncTypes.{FuncType}
 use Rattle.walrus_base.specs.ModuleTypes.{func_types}

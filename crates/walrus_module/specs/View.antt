@@ -1,6 +1,6 @@
 -- A module in memory as an abstract module: the number of an item is the place of its id. What isn't read or written so
 -- far is absent: imports, tables, memories, tags, globals, segments, a start function, custom sections, names, producers.
-use Rattle.std.specs.Prelude.{ℕ, true, false, List, [], ◌∷◌, map, Option, Some, None, option_map}
+use Rattle.std.specs.Prelude.{ℕ, true, false, List, [], ◌∷◌, map, Option, None, option_map}
 use Rattle.walrus_base.specs.Arena.{item_at, items}
 use Rattle.walrus_base.specs.Id.{place}
 use Rattle.walrus_base.specs.FuncTypes.{FuncType, val_type}

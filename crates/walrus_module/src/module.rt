@@ -28,10 +28,11 @@ pub struct Module {
 }
 
 impl Module {
-    ghost use Rattle.walrus_module.specs.Flags.{flags, defaults};
-    ghost use Rattle.walrus_module.specs.Parsed.{TakenFrom, RefusesModule};
+    ghost use Rattle.walrus_module.specs.Flags.{flags, defaults, config_of};
+    ghost use Rattle.walrus_module.specs.Parsed.{IsParsed, RefusesBytes};
     ghost use Rattle.walrus_module.specs.Settings.{settings};
     ghost use Rattle.walrus_module.specs.Taken.{AreEmpty};
+    ghost use Rattle.walrus_module.specs.View.{view};
 
     /// An empty module, to be written as the configuration says. Want of memory is the only refusal.
     pub fn with_config(alloc: Global, config: ModuleConfig) -> Result<Module>
@@ -52,8 +53,8 @@ impl Module {
 
     /// The module that the bytes are, under the default configuration. Refused as [`ModuleConfig::parse`] is.
     pub fn from_buffer(alloc: Global, bytes: &[u8]) -> Result<Module>
-        ensures found { IfOk result (λ m. TakenFrom bytes.now m.types m.funcs m.exports) }
-        ensures refused { IfErr result (RefusesModule bytes.now) }
+        ensures found { IfOk result (λ m. IsParsed (config_of defaults) bytes.now (view m)) }
+        ensures refused { IfErr result (RefusesBytes (config_of defaults) bytes.now) }
         ensures configured { IfOk result (λ m. settings m ≡ defaults) }
     {
         Module::from_buffer_with_config(alloc, bytes, &ModuleConfig::new())
@@ -65,8 +66,8 @@ impl Module {
         bytes: &[u8],
         config: &ModuleConfig,
     ) -> Result<Module>
-        ensures found { IfOk result (λ m. TakenFrom bytes.now m.types m.funcs m.exports) }
-        ensures refused { IfErr result (RefusesModule bytes.now) }
+        ensures found { IfOk result (λ m. IsParsed (config_of (flags config.now)) bytes.now (view m)) }
+        ensures refused { IfErr result (RefusesBytes (config_of (flags config.now)) bytes.now) }
         ensures configured { IfOk result (λ m. settings m ≡ flags config.now) }
     {
         config.parse(alloc, bytes)

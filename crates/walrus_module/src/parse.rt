@@ -28,15 +28,16 @@ use walrus_parts::Result;
 use wasm_wire::{Raw, RawBody, RawExport, RawFuncType, RawVal, check, read_module};
 
 impl ModuleConfig {
-    ghost use Rattle.walrus_module.specs.Flags.{flags};
-    ghost use Rattle.walrus_module.specs.Parsed.{TakenFrom, RefusesModule};
+    ghost use Rattle.walrus_module.specs.Flags.{flags, config_of};
+    ghost use Rattle.walrus_module.specs.Parsed.{IsParsed, RefusesBytes};
     ghost use Rattle.walrus_module.specs.Settings.{settings};
+    ghost use Rattle.walrus_module.specs.View.{view};
 
     /// The module that the bytes are ("Binary Format > Modules"), to be written as the configuration says. Refused with
     /// `InvalidWasm` where they aren't one, and with `Memory`; then there is no module.
     pub fn parse(&self, alloc: Global, bytes: &[u8]) -> Result<Module>
-        ensures found { IfOk result (λ m. TakenFrom bytes.now m.types m.funcs m.exports) }
-        ensures refused { IfErr result (RefusesModule bytes.now) }
+        ensures found { IfOk result (λ m. IsParsed (config_of (flags self.now)) bytes.now (view m)) }
+        ensures refused { IfErr result (RefusesBytes (config_of (flags self.now)) bytes.now) }
         ensures configured { IfOk result (λ m. settings m ≡ flags self.now) }
     {
         let raw = read_module(alloc, bytes)?;

@@ -1,6 +1,6 @@
 //! Dropping what nothing reaches.
 
-ghost use Rattle.std.specs.Prelude.{◌≡◌, IfErr, OnErr};
+ghost use Rattle.std.specs.Prelude.{◌≡◌, IfErr, OnErr, ⊤};
 ghost use Rattle.walrus.specs.Used.{IsRefusal};
 
 use crate::passes::used::Used;
@@ -12,7 +12,7 @@ use walrus_module::{
 
 /// Deletes the items that the module's roots don't reach. Refused as [`Used::new`] is; then nothing is deleted.
 pub fn run(alloc: Global, module: &mut Module) -> Result<()>
-    ensures refused { IfErr result IsRefusal }
+    ensures refused { IfErr result (IsRefusal ⊤) }
     ensures unchanged { OnErr result («module».new ≡ «module».old) }
     ensures others { («module».new.locals ≡ «module».old.locals) × («module».new.exports ≡ «module».old.exports)
         × («module».new.customs ≡ «module».old.customs) }
@@ -30,7 +30,7 @@ fn unused_functions(
     funcs: &ModuleFunctions,
     used: &IdHashSet<FunctionKey>,
 ) -> Result<Vec<FunctionId>>
-    ensures { IfErr result IsRefusal }
+    ensures { IfErr result (IsRefusal ⊤) }
 {
     let mut unused = Vec::new(alloc);
     for (id, _function) in funcs.iter_entries() {
@@ -46,7 +46,7 @@ fn unused_types(
     types: &ModuleTypes,
     used: &IdHashSet<TypeKey>,
 ) -> Result<Vec<TypeId>>
-    ensures { IfErr result IsRefusal }
+    ensures { IfErr result (IsRefusal ⊤) }
 {
     let mut unused = Vec::new(alloc);
     for ty in types.iter() {

@@ -1,7 +1,31 @@
 //! What a module uses: all that its roots reach.
 
-ghost use Rattle.std.specs.Prelude.{IfErr};
-ghost use Rattle.walrus.specs.Used.{AreLive, IsRefusal};
+ghost use Rattle.std.specs.Prelude.{ℕ, ◌↔◌, ◌⊎◌, [], ◌∷◌, flat_map, map, IfErr, IfOk, OnOk, MatchResult};
+ghost use Rattle.walrus_base.specs.Arena.{IsLive};
+ghost use Rattle.walrus_base.specs.Id.{place};
+ghost use Rattle.walrus_base.specs.IdSet.{HasId, Adds};
+ghost use Rattle.walrus_base.specs.ModuleTypes.{func_types};
+ghost use Rattle.walrus_ir.specs.Code.{arg_of, args_of, ops_of};
+ghost use Rattle.walrus_ir.specs.Operators.{arg_names, function_item, names_of};
+ghost use Rattle.walrus_items.specs.Exports.{exported};
+ghost use Rattle.walrus_items.specs.Functions.{functions};
+ghost use Rattle.walrus.specs.Used.{
+  AreFound,
+  Enters,
+  Followed,
+  IsExported,
+  IsInitialised,
+  IsNothing,
+  IsRefusal,
+  IsWaiting,
+  IsWhole,
+  NamesDead,
+  Reaches,
+  ReachesBroken,
+  ReachesType,
+  export_names,
+  kind_names,
+};
 
 use std::alloc::Global;
 use walrus_module::{
@@ -32,7 +56,16 @@ pub struct Used {
 }
 
 impl Used {
-    fn nothing(alloc: Global) -> Used {
+    fn nothing(alloc: Global) -> Used
+        ensures types { IsNothing result.types }
+        ensures funcs { IsNothing result.funcs }
+        ensures tables { IsNothing result.tables }
+        ensures globals { IsNothing result.globals }
+        ensures memories { IsNothing result.memories }
+        ensures tags { IsNothing result.tags }
+        ensures elements { IsNothing result.elements }
+        ensures data_segments { IsNothing result.data_ }
+    {
         Used {
             tables: IdHashSet::new(alloc),
             types: IdHashSet::new(alloc),
@@ -48,7 +81,16 @@ impl Used {
     /// What the module's roots reach. Refused with `DeadItem` where an item reached isn't live, or a function reached is
     /// uninitialised, and with `Memory`.
     pub fn new(alloc: Global, module: &Module) -> Result<Used>
-        ensures refused { IfErr result IsRefusal }
+        ensures funcs { IfOk result (λ used. (i : ℕ) → HasId used.funcs i
+            ↔ Reaches (IsExported «module».now.exports) (functions «module».now.funcs) i) }
+        ensures types { IfOk result (λ used. (t : ℕ) → HasId used.types t
+            ↔ ReachesType (IsExported «module».now.exports) (functions «module».now.funcs) t) }
+        ensures whole { OnOk result ((i : ℕ) → Reaches (IsExported «module».now.exports) (functions «module».now.funcs) i
+            → IsWhole (functions «module».now.funcs) (func_types «module».now.types) i) }
+        ensures others { IfOk result (λ used. IsNothing used.tables × IsNothing used.globals × IsNothing used.memories
+            × IsNothing used.tags × IsNothing used.elements × IsNothing used.data_) }
+        ensures refused { IfErr result (IsRefusal (ReachesBroken
+            (IsExported «module».now.exports) (functions «module».now.funcs) (func_types «module».now.types))) }
     {
         let mut used = Used::nothing(alloc);
         let mut found = Vec::new(alloc);
@@ -71,13 +113,12 @@ fn enter(
     marks: &mut IdHashSet<FunctionKey>,
     found: &mut Vec<FunctionId>,
 ) -> Result<()>
-    requires { AreLive funcs.now found.old.items }
-    ensures live { AreLive funcs.now found.new.items }
-    ensures refused { IfErr result IsRefusal }
+    ensures { MatchResult result
+        (λ _. Enters (functions funcs.now) (function_item (place id) ∷ []) marks.old marks.new found.old.items found.new.items)
+        (IsRefusal (NamesDead (functions funcs.now) (function_item (place id) ∷ []))) }
 {
     if !funcs.contains(id) {
-        let dead = Error::DeadItem;
-        return Err(dead);
+        return Err(Error::DeadItem);
     }
     if marks.insert(id)? {
         found.push(id)?;
@@ -91,15 +132,29 @@ fn enter_exports(
     marks: &mut IdHashSet<FunctionKey>,
     found: &mut Vec<FunctionId>,
 ) -> Result<()>
-    requires { AreLive funcs.now found.old.items }
-    ensures live { AreLive funcs.now found.new.items }
-    ensures refused { IfErr result IsRefusal }
+    ensures { MatchResult result
+        (λ _. Enters (functions funcs.now) (export_names exports.now) marks.old marks.new found.old.items found.new.items)
+        (IsRefusal (NamesDead (functions funcs.now) (export_names exports.now))) }
 {
     for export in exports.iter() {
-        let ExportItem::Function(id) = export.item;
-        enter(id, funcs, marks, found)?;
+        enter_export(export.item, funcs, marks, found)?;
     }
     Ok(())
+}
+
+fn enter_export(
+    item: ExportItem,
+    funcs: &ModuleFunctions,
+    marks: &mut IdHashSet<FunctionKey>,
+    found: &mut Vec<FunctionId>,
+) -> Result<()>
+    ensures { MatchResult result
+        (λ _. Enters (functions funcs.now) (exported item ∷ []) marks.old marks.new found.old.items found.new.items)
+        (IsRefusal (NamesDead (functions funcs.now) (exported item ∷ []))) }
+{
+    match item {
+        ExportItem::Function(id) => enter(id, funcs, marks, found),
+    }
 }
 
 // Marks what each function found names, those that are found on the way too.
@@ -110,9 +165,12 @@ fn follow(
     marks: &mut IdHashSet<FunctionKey>,
     found: &mut Vec<FunctionId>,
 ) -> Result<()>
-    requires { AreLive funcs.now found.old.items }
-    ensures live { AreLive funcs.now found.new.items }
-    ensures refused { IfErr result IsRefusal }
+    requires waiting { (j : ℕ) → HasId marks.old j → IsWaiting 0 found.old.items j }
+    requires found { AreFound (functions funcs.now) marks.old found.old.items }
+    requires no_types { IsNothing type_marks.old }
+    ensures { MatchResult result
+        (λ _. Followed (HasId marks.old) (functions funcs.now) (func_types types.now) type_marks.new marks.new)
+        (IsRefusal (ReachesBroken (HasId marks.old) (functions funcs.now) (func_types types.now))) }
 {
     for taken in 0..usize::MAX {
         if taken >= found.len() {
@@ -126,7 +184,9 @@ fn follow(
 }
 
 fn enter_type(id: TypeId, types: &ModuleTypes, marks: &mut IdHashSet<TypeKey>) -> Result<()>
-    ensures refused { IfErr result IsRefusal }
+    ensures { MatchResult result
+        (λ _. IsLive (func_types types.now) (place id) × Adds marks.old marks.new (place id))
+        (IsRefusal (IsLive (func_types types.now) (place id) → ⊥)) }
 {
     if !types.contains(id) {
         return Err(Error::DeadItem);
@@ -141,9 +201,10 @@ fn enter_kind(
     marks: &mut IdHashSet<FunctionKey>,
     found: &mut Vec<FunctionId>,
 ) -> Result<()>
-    requires { AreLive funcs.now found.old.items }
-    ensures live { AreLive funcs.now found.new.items }
-    ensures refused { IfErr result IsRefusal }
+    ensures { MatchResult result
+        (λ _. IsInitialised kind.now
+        × Enters (functions funcs.now) (kind_names kind.now) marks.old marks.new found.old.items found.new.items)
+        (IsRefusal (NamesDead (functions funcs.now) (kind_names kind.now) ⊎ (IsInitialised kind.now → ⊥))) }
 {
     match kind {
         FunctionKind::Import(_) => Ok(()),
@@ -158,9 +219,9 @@ fn enter_operators(
     marks: &mut IdHashSet<FunctionKey>,
     found: &mut Vec<FunctionId>,
 ) -> Result<()>
-    requires { AreLive funcs.now found.old.items }
-    ensures live { AreLive funcs.now found.new.items }
-    ensures refused { IfErr result IsRefusal }
+    ensures { MatchResult result
+        (λ _. Enters (functions funcs.now) (names_of (ops_of operators.now)) marks.old marks.new found.old.items found.new.items)
+        (IsRefusal (NamesDead (functions funcs.now) (names_of (ops_of operators.now)))) }
 {
     for operator in operators {
         enter_args(&operator.args, funcs, marks, found)?;
@@ -174,9 +235,9 @@ fn enter_args(
     marks: &mut IdHashSet<FunctionKey>,
     found: &mut Vec<FunctionId>,
 ) -> Result<()>
-    requires { AreLive funcs.now found.old.items }
-    ensures live { AreLive funcs.now found.new.items }
-    ensures refused { IfErr result IsRefusal }
+    ensures { MatchResult result
+        (λ _. Enters (functions funcs.now) (flat_map arg_names (args_of args.now)) marks.old marks.new found.old.items found.new.items)
+        (IsRefusal (NamesDead (functions funcs.now) (flat_map arg_names (args_of args.now)))) }
 {
     match args {
         Args::None => Ok(()),
@@ -191,9 +252,9 @@ fn enter_each(
     marks: &mut IdHashSet<FunctionKey>,
     found: &mut Vec<FunctionId>,
 ) -> Result<()>
-    requires { AreLive funcs.now found.old.items }
-    ensures live { AreLive funcs.now found.new.items }
-    ensures refused { IfErr result IsRefusal }
+    ensures { MatchResult result
+        (λ _. Enters (functions funcs.now) (flat_map arg_names (map arg_of args.now)) marks.old marks.new found.old.items found.new.items)
+        (IsRefusal (NamesDead (functions funcs.now) (flat_map arg_names (map arg_of args.now)))) }
 {
     for arg in args {
         enter_arg(arg, funcs, marks, found)?;
@@ -207,9 +268,9 @@ fn enter_arg(
     marks: &mut IdHashSet<FunctionKey>,
     found: &mut Vec<FunctionId>,
 ) -> Result<()>
-    requires { AreLive funcs.now found.old.items }
-    ensures live { AreLive funcs.now found.new.items }
-    ensures refused { IfErr result IsRefusal }
+    ensures { MatchResult result
+        (λ _. Enters (functions funcs.now) (arg_names (arg_of arg.now)) marks.old marks.new found.old.items found.new.items)
+        (IsRefusal (NamesDead (functions funcs.now) (arg_names (arg_of arg.now)))) }
 {
     match arg {
         Arg::Function(id) => enter(*id, funcs, marks, found),

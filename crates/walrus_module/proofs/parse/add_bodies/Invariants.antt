@@ -1,4 +1,4 @@
-use Rattle.std.proofs.Common.{◌≡◌, List, map, take, length}
+use Rattle.std.proofs.Common.{◌≡◌, List, map, take}
 use Rattle.walrus_ir.specs.Indices.{ids_at}
 use Rattle.walrus_ir.specs.Operators.{Op}
 use Rattle.walrus_module.specs.Taken.{locals_held, refilled, AreBodies}

@@ -1,4 +1,4 @@
-use Rattle.std.proofs.Common.{◌≡◌, [], map, take, length}
+use Rattle.std.proofs.Common.{◌≡◌, map, take, length}
 use Rattle.std.specs.List.{range_with_len}
 use Rattle.walrus_ir.specs.Indices.{places_in}
 use Rattle.walrus_ir.specs.Operators.{Types, Functions}

@@ -1,4 +1,4 @@
-use Rattle.std.proofs.Common.{◌≡◌, ◌∙◌}
+use Rattle.std.proofs.Common.{◌∙◌}
 use Rattle.walrus_base.specs.Id.{place}
 use Rattle.walrus_ir.specs.Code.{ops_of}
 use Rattle.walrus_module.proofs.Taking.{put_operators, some_same}

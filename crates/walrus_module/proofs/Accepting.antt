@@ -1,0 +1,101 @@
+-- Bytes that are accepted frame sections that keep the rules, and the other way round.
+use Rattle.std.proofs.Common.{◌≡◌, ◌≢◌, ℕ, zero, suc, ◌<◌, List, [], ◌∷◌, length, map, get_or, refl, sym, ap, subst, ◌∙◌, arith}
+use Rattle.std.specs.Prelude.{Some, IsSome, Contains, All, AllPairs, slice_get, zip, option_map}
+use Rattle.std.proofs.lemmas.List.{get_or-map, length-map}
+use Rattle.walrus_base.specs.declared.locals.ModuleLocals.{ModuleLocals}
+use Rattle.walrus_base.specs.declared.types.ModuleTypes.{ModuleTypes}
+use Rattle.walrus_items.specs.declared.exports.ModuleExports.{ModuleExports}
+use Rattle.walrus_items.specs.declared.functions.ModuleFunctions.{ModuleFunctions}
+use Rattle.walrus_ir.specs.Operators.{Op}
+use Rattle.walrus_model.specs.Abstract.{Export}
+use Rattle.walrus_model.specs.Config.{Config}
+use Rattle.walrus_model.specs.Live.{Has}
+use Rattle.walrus_model.specs.Reads.{Accepts, ReadsBody, SectionsInOrder, lone_type, function_with, export_of, module_of}
+use Rattle.walrus_model.specs.Rules.{Holds}
+use Rattle.walrus_module.specs.Parsed.{IsParsed, TakenFrom, AreModule, RefusesModule, RefusesBytes}
+use Rattle.walrus_module.specs.View.{view_of}
+use Rattle.walrus_module.proofs.Carrying.{parsed}
+use Rattle.walrus_module.proofs.Parsing.{mapped_some, got_map, got_in, kind_is, zip_long, holds, simple}
+use Rattle.walrus_module.proofs.Steps.{zip_length}
+use Rattle.walrus_parts.specs.declared.error.Error.{Error}
+use Rattle.walrus_parts.specs.declared.error.Error.TheVariants as Parts
+use Rattle.wasm_wire.specs.Record as wire
+use Rattle.wasm_wire.specs.Rules.{Rules}
+
+-- ---- what was taken in was parsed
+
+pub is_parsed : (c : Config) (bytes : List ℕ) (ts : ModuleTypes) (all : ModuleLocals) (fs : ModuleFunctions) (es : ModuleExports) → TakenFrom bytes ts fs es → IsParsed c bytes (view_of ts all fs es)
+is_parsed c bytes ts all fs es t = record {
+  module_read = module_of t.sections t.taken.bodies;
+  reads = record {
+    sections = t.sections;
+    framed = t.framed;
+    in_order = t.rules.sections_in_order;
+    as_many_bodies = t.rules.as_many_bodies;
+    bodies = t.taken.bodies;
+    read = t.taken.read;
+    is = refl;
+  };
+  holds = holds t.sections t.taken.bodies t.rules t.taken.read;
+  simple = simple t.sections t.taken.bodies t.rules t.taken.read;
+  parsed = parsed t.sections ts all fs es t.taken;
+}
+
+-- ---- what is accepted keeps the rules
+
+got_pair : {A B : Type 0} (xs : List A) (ys : List B) (k : ℕ) (d : A) → length ys ≡ length xs → k < length xs → (y : B) × (slice_get (zip xs ys) k ≡ Some (get_or xs k d, y))
+got_pair [] ys k d e lt = absurd (omega arith)
+got_pair (x ∷ xs) [] k d e lt = absurd (omega arith)
+got_pair (x ∷ xs) (y ∷ ys) zero d e lt = (y, refl)
+got_pair (x ∷ xs) (y ∷ ys) (suc k) d e lt = got_pair xs ys k d (omega arith) (omega arith)
+
+some_within : {A : Type 0} (xs : List A) (k : ℕ) → IsSome (slice_get xs k) → k < length xs
+some_within [] k h = cc
+some_within (x ∷ xs) zero h = omega arith
+some_within (x ∷ xs) (suc k) h = let lt : k < length xs = some_within xs k h in omega (arith, lt)
+
+module _ (r : wire.Module) (bodies : List (List Op)) (many : length bodies ≡ length r.functions) (h : Holds (module_of r bodies)) where
+  types_declared : All (λ t. t < length r.types) r.functions
+  types_declared = λ k d lt.
+      let q = got_pair r.functions bodies k d many lt in
+      let f = h.function_types.functions k (function_with r (get_or r.functions k d, q.0)) (got_map (function_with r) (zip r.functions bodies) k ∙ ap (option_map (function_with r)) q.1) in
+      let m = mapped_some (lone_type (get_or r.functions k d)) (slice_get r.types (get_or r.functions k d)) f.0 f.1 in
+      (got_in r.types (get_or r.functions k d) m.0 m.1).0
+
+  function_within : (f : ℕ) → IsSome ((module_of r bodies).functions f) → f < length r.functions
+  function_within f s =
+      let lt = some_within (map (function_with r) (zip r.functions bodies)) f s in
+      omega (arith, lt, length-map (zip r.functions bodies) (function_with r), zip_long r.functions bodies many)
+
+  export_at : (k : ℕ) (d : wire.Export) → k < length r.exports → Contains (map export_of r.exports) (export_of (get_or r.exports k d))
+  export_at k d lt = (k, omega (arith, lt, length-map r.exports export_of), get_or-map export_of r.exports k d (export_of (get_or r.exports k d)) lt)
+
+  exports_declared : All (λ e. e.index < length r.functions) r.exports
+  exports_declared = λ k d lt.
+      let e = get_or r.exports k d in
+      let live = h.indices.exports (export_of e) (export_at k d lt) in
+      function_within e.index (subst (λ s. Has (module_of r bodies) s e.index) (sym (kind_is e.kind)) live)
+
+  names_differ : AllPairs (λ a b. a.name ≢ b.name) r.exports
+  names_differ = λ i j d less within.
+      let w : j < length (map export_of r.exports) = omega (arith, within, length-map r.exports export_of) in
+      let v : i < length r.exports = omega (arith, less, within) in
+      let s = h.exports.distinct i j (export_of d) less w in
+      let a : get_or (map export_of r.exports) i (export_of d) ≡ export_of (get_or r.exports i d) = get_or-map export_of r.exports i d (export_of d) v in
+      let b : get_or (map export_of r.exports) j (export_of d) ≡ export_of (get_or r.exports j d) = get_or-map export_of r.exports j d (export_of d) within in
+      subst (λ (x : Export). x.name ≢ (export_of (get_or r.exports j d)).name) a (subst (λ (x : Export). (get_or (map export_of r.exports) i (export_of d)).name ≢ x.name) b s)
+
+  keeps_rules : SectionsInOrder r → length r.bodies ≡ length r.functions → Rules r
+  keeps_rules ordered as_many = record { sections_in_order = ordered; indices_hold = (types_declared, exports_declared); as_many_bodies = as_many; names_differ = names_differ }
+
+are_module : (c : Config) (bytes : List ℕ) → Accepts c bytes → AreModule bytes
+are_module c bytes a =
+    let m = a.1 in
+    let many : length m.bodies ≡ length m.sections.functions = sym (zip_length (ReadsBody m.sections) m.sections.bodies m.bodies m.read) ∙ m.as_many_bodies in
+    let h : Holds (module_of m.sections m.bodies) = subst Holds m.is a.2 in
+    record { sections = m.sections; framed = m.framed; rules = keeps_rules m.sections m.bodies many h m.in_order m.as_many_bodies; bodies = m.bodies; read = m.read }
+
+pub refused_bytes : (c : Config) (bytes : List ℕ) (e : Error) → RefusesModule bytes e → RefusesBytes c bytes e
+refused_bytes c bytes (Parts.Memory m) h = tt
+refused_bytes c bytes (Parts.InvalidWasm kind) h = λ a. h (are_module c bytes a)
+refused_bytes c bytes _ h = absurd h
