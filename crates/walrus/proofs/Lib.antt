@@ -1,3 +1,4 @@
 pub mod DeviceLemmas
 pub mod Entered
 pub mod Followed
+pub mod Dropped

@@ -5,3 +5,4 @@ pub mod Text
 pub mod Tool
 pub mod Transfer
 pub mod Used
+pub mod Collected

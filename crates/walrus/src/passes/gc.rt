@@ -1,7 +1,12 @@
 //! Dropping what nothing reaches.
 
-ghost use Rattle.std.specs.Prelude.{◌≡◌, IfErr, OnErr, ⊤};
-ghost use Rattle.walrus.specs.Used.{IsRefusal};
+ghost use Rattle.std.specs.Prelude.{ℕ, ◌≡◌, map, IfErr, IfOk, OnErr, OnOk};
+ghost use Rattle.walrus_base.specs.Arena.{entries};
+ghost use Rattle.walrus_base.specs.Id.{place};
+ghost use Rattle.walrus_base.specs.ModuleTypes.{func_types};
+ghost use Rattle.walrus_items.specs.Functions.{functions};
+ghost use Rattle.walrus.specs.Collected.{KeepsOnly, unused_among, without};
+ghost use Rattle.walrus.specs.Used.{IsExported, IsRefusal, IsWhole, Reaches, ReachesBroken, ReachesType};
 
 use crate::passes::used::Used;
 use std::alloc::Global;
@@ -12,7 +17,16 @@ use walrus_module::{
 
 /// Deletes the items that the module's roots don't reach. Refused as [`Used::new`] is; then nothing is deleted.
 pub fn run(alloc: Global, module: &mut Module) -> Result<()>
-    ensures refused { IfErr result (IsRefusal ⊤) }
+    ensures functions { OnOk result (KeepsOnly
+        (Reaches (IsExported «module».old.exports) (functions «module».old.funcs))
+        (functions «module».old.funcs) (functions «module».new.funcs)) }
+    ensures types { OnOk result (KeepsOnly
+        (ReachesType (IsExported «module».old.exports) (functions «module».old.funcs))
+        (func_types «module».old.types) (func_types «module».new.types)) }
+    ensures whole { OnOk result ((i : ℕ) → Reaches (IsExported «module».old.exports) (functions «module».old.funcs) i
+        → IsWhole (functions «module».old.funcs) (func_types «module».old.types) i) }
+    ensures refused { IfErr result (IsRefusal (ReachesBroken
+        (IsExported «module».old.exports) (functions «module».old.funcs) (func_types «module».old.types))) }
     ensures unchanged { OnErr result («module».new ≡ «module».old) }
     ensures others { («module».new.locals ≡ «module».old.locals) × («module».new.exports ≡ «module».old.exports)
         × («module».new.customs ≡ «module».old.customs) }
@@ -30,7 +44,9 @@ fn unused_functions(
     funcs: &ModuleFunctions,
     used: &IdHashSet<FunctionKey>,
 ) -> Result<Vec<FunctionId>>
-    ensures { IfErr result (IsRefusal ⊤) }
+    ensures value { IfOk result (λ unused. map place unused.items
+        ≡ unused_among used.now (entries (functions funcs.now))) }
+    ensures refused { IfErr result (IsRefusal ⊥) }
 {
     let mut unused = Vec::new(alloc);
     for (id, _function) in funcs.iter_entries() {
@@ -46,7 +62,9 @@ fn unused_types(
     types: &ModuleTypes,
     used: &IdHashSet<TypeKey>,
 ) -> Result<Vec<TypeId>>
-    ensures { IfErr result (IsRefusal ⊤) }
+    ensures value { IfOk result (λ unused. map place unused.items
+        ≡ unused_among used.now (entries (func_types types.now))) }
+    ensures refused { IfErr result (IsRefusal ⊥) }
 {
     let mut unused = Vec::new(alloc);
     for ty in types.iter() {
@@ -57,7 +75,9 @@ fn unused_types(
     Ok(unused)
 }
 
-fn delete_functions(funcs: &mut ModuleFunctions, unused: &[FunctionId]) {
+fn delete_functions(funcs: &mut ModuleFunctions, unused: &[FunctionId])
+    ensures { functions funcs.new ≡ without (map place unused.now) (functions funcs.old) }
+{
     for id in unused {
         if funcs.contains(*id) {
             funcs.delete(*id);
@@ -65,7 +85,9 @@ fn delete_functions(funcs: &mut ModuleFunctions, unused: &[FunctionId]) {
     }
 }
 
-fn delete_types(types: &mut ModuleTypes, unused: &[TypeId]) {
+fn delete_types(types: &mut ModuleTypes, unused: &[TypeId])
+    ensures { func_types types.new ≡ without (map place unused.now) (func_types types.old) }
+{
     for id in unused {
         if types.contains(*id) {
             types.delete(*id);

@@ -118,7 +118,8 @@ fn enter(
         (IsRefusal (NamesDead (functions funcs.now) (function_item (place id) ∷ []))) }
 {
     if !funcs.contains(id) {
-        return Err(Error::DeadItem);
+        let dead = Error::DeadItem;
+        return Err(dead);
     }
     if marks.insert(id)? {
         found.push(id)?;
