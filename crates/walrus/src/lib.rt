@@ -8,4 +8,10 @@ pub mod passes;
 pub mod tool;
 mod transfer;
 
-pub use walrus_module::{Module, ModuleConfig};
+pub use walrus_module::{
+    Arg, Args, CodeTransform, CustomSection, Error, ErrorKind, Export, ExportItem, Function,
+    FunctionId, FunctionKind, IdHashSet, IdsToIndices, ImportedFunction, IndicesToIds, InstrLocId,
+    LocalFunction, Module, ModuleConfig, ModuleCustomSections, ModuleExports, ModuleFunctions,
+    ModuleLocals, ModuleTypes, Operator, RawCustomSection, Result, Roots, SectionEntry, TypeId,
+    ValType,
+};

@@ -16,3 +16,4 @@ pub mod Plain
 pub mod Parsing
 pub mod Carrying
 pub mod Accepting
+mod PlacedLemmas

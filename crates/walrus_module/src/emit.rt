@@ -12,6 +12,7 @@ ghost use Rattle.walrus_items.specs.Functions.{functions};
 ghost use Rattle.walrus_model.specs.Reads.{value_type};
 ghost use Rattle.walrus_parts.specs.Errors.{out_of_memory};
 ghost use Rattle.wasm_wire.specs.Record.{type_record, export_record, body_record};
+ghost use Rattle.walrus_model.specs.Placed.{Placed};
 ghost use Rattle.walrus_module.specs.Emitted.{IsMemoryOrTooLarge, IsMemoryOrNoIndex, IsRefusalOfBody, IsRefusalBehind, RefusesDead};
 ghost use Rattle.walrus_module.specs.Spells.{Spells};
 ghost use Rattle.walrus_module.specs.Whole.{is_all_there};
@@ -37,6 +38,7 @@ impl Module {
     /// body isn't one that the binary format can spell, `TooLarge` where a number passes 32 bits, and `Memory`.
     pub fn emit_wasm(&mut self, alloc: Global) -> Result<Vec<u8>>
         ensures unchanged { self.new ≡ self.old }
+        ensures placed { IfOk result (λ bytes. Placed bytes.items) }
         ensures spells { IfOk result (λ bytes. Spells (func_types self.old.types) (functions self.old.funcs) (items (exports self.old.exports)) bytes.items) }
         ensures refused { RefusesDead (is_all_there self.old.types self.old.funcs self.old.exports) result }
     {
@@ -50,6 +52,7 @@ fn emit_items(
     funcs: &ModuleFunctions,
     all_exports: &ModuleExports,
 ) -> Result<Vec<u8>>
+    ensures placed { IfOk result (λ bytes. Placed bytes.items) }
     ensures spells { IfOk result (λ bytes. Spells (func_types types.now) (functions funcs.now) (items (exports all_exports.now)) bytes.items) }
     ensures refused { RefusesDead (is_all_there types.now funcs.now all_exports.now) result }
 {
@@ -66,6 +69,7 @@ fn emit_live(
     funcs: &ModuleFunctions,
     all_exports: &ModuleExports,
 ) -> Result<Vec<u8>>
+    ensures placed { IfOk result (λ bytes. Placed bytes.items) }
     ensures spells { IfOk result (λ bytes. Spells (func_types types.now) (functions funcs.now) (items (exports all_exports.now)) bytes.items) }
     ensures fails { IfErr result IsRefusalBehind }
 {

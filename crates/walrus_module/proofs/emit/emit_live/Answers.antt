@@ -14,6 +14,7 @@ use Rattle.walrus_model.proofs.Lists.{map-map}
 use Rattle.walrus_module.specs.Numbered.{AreNumbered}
 use Rattle.walrus_module.specs.Parts.{raw_shape, type_index, HasBytes, unplaced}
 use Rattle.walrus_module.proofs.Differ.{order_differs}
+use Rattle.walrus_module.proofs.PlacedLemmas.{placed_as_spelled}
 use Rattle.walrus_module.proofs.SpellsLemmas.{no_others_of, zip_seen, written_same}
 use Rattle.walrus_module.proofs.emit.emit_live.Goals as goal
 
@@ -47,3 +48,6 @@ returns-clause-spells c =
           ∙ sym (map-map unplaced (λ (v : Vec ℕ). v.items) c.in_ok-bodies.bodies.items))
           c.in_ok-bytes.ensures.value;
     }
+
+pub returns-clause-placed : goal.returns-clause-placed
+returns-clause-placed c = placed_as_spelled _ _ _ _ (returns-clause-spells c)

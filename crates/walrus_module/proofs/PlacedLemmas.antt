@@ -1,0 +1,141 @@
+-- What is written has its sections in place, each in its one spelling.
+use Rattle.std.proofs.Common.{◌≡◌, ℕ, suc, Bool, true, false, List, [], ◌∷◌, ◌++◌, refl, sym, ap, ap₂, ◌∙◌, append_assoc, arith}
+use Rattle.std.specs.Prelude.{All, codes, length, map, Option}
+use Rattle.std.specs.List.{AllZip}
+use Rattle.std.proofs.lemmas.List.{append-nil}
+use Rattle.std.proofs.lemmas.List.Elements.{All-cons, All-append}
+use Rattle.wasm_forms.specs.Spelling.{number_bytes, block_bytes, vector_bytes, row_bytes}
+use Rattle.wasm_wire.specs.Frames.{header}
+use Rattle.wasm_wire.specs.Record as wire
+use Rattle.wasm_wire.specs.Spelling.{func_type_bytes, export_bytes, body_bytes, listed, type_section, function_section, export_section, code_section, module_bytes}
+use Rattle.walrus_model.specs.Placed.{Section, is_custom, is_called, is_dylink_section, is_other_custom, spelled, IsCanonical, of_types, of_functions, of_exports, of_bodies, sized_body, Placed}
+use Rattle.walrus_base.specs.FuncTypes.{FuncType}
+use Rattle.walrus_ir.specs.Body.{body_bytes as ops_bytes}
+use Rattle.walrus_ir.specs.Names.{Lookup}
+use Rattle.walrus_ir.specs.Operators.{Op}
+use Rattle.walrus_items.specs.Exports.{ExportValue}
+use Rattle.walrus_items.specs.Functions.{FunctionValue}
+use Rattle.walrus_module.specs.Parts.{IsWritten, HasBytes, unplaced}
+use Rattle.walrus_module.specs.Spells.{Spells}
+
+sections_of : {A : Type 0} → ℕ → (A → List ℕ) → List A → List Section
+sections_of id spell [] = []
+sections_of id spell (x ∷ xs) = record { id = id; name = []; content = vector_bytes spell (x ∷ xs) } ∷ []
+
+spelled_listed : {A : Type 0} (id : ℕ) (spell : A → List ℕ) (xs : List A) → listed id spell xs ≡ spelled (sections_of id spell xs)
+unfolding sections_of
+spelled_listed id spell [] = refl
+spelled_listed id spell (x ∷ xs) = sym (append-nil (id ∷ block_bytes (vector_bytes spell (x ∷ xs))))
+
+spelled_both : (a b : List Section) → spelled (a ++ b) ≡ spelled a ++ spelled b
+spelled_both [] b = refl
+spelled_both (s ∷ a) b = ap (λ (rest : List ℕ). (s.id ∷ block_bytes s.content) ++ rest) (spelled_both a b) ∙ sym (append_assoc (s.id ∷ block_bytes s.content) (spelled a) (spelled b))
+
+none_of : (P : Section → Type 0) → All P []
+none_of P k d h = absurd (omega arith)
+
+all_of : {A : Type 0} (P : Section → Type 0) (id : ℕ) (spell : A → List ℕ) → ((x : A) (xs : List A) → P (record { id = id; name = []; content = vector_bytes spell (x ∷ xs) })) → (xs : List A) → All P (sections_of id spell xs)
+unfolding sections_of
+all_of P id spell h [] = none_of P
+all_of P id spell h (x ∷ xs) = All-cons P (record { id = id; name = []; content = vector_bytes spell (x ∷ xs) }) [] (h x xs) (none_of P)
+
+not_empty : {A : Type 0} (x : A) (xs : List A) → (x ∷ xs) ≡ [] → ⊥
+not_empty x xs e = absurd (cc)
+
+-- each body is spelled from operators
+module _ (funcs : List (Option FunctionValue)) (names : Lookup) where
+  abbrev ops_of : (order : List ℕ) (bodies : List (List ℕ)) → AllZip (HasBytes funcs names) order bodies → List (List Op)
+  ops_of [] [] h = []
+  ops_of (i ∷ is) (b ∷ bs) h = h.0.emitted.indices ∷ ops_of is bs h.1
+  ops_of [] (b ∷ bs) h = elim h [ ]
+  ops_of (i ∷ is) [] h = elim h [ ]
+
+  same_rows : (order : List ℕ) (bodies : List (List ℕ)) (h : AllZip (HasBytes funcs names) order bodies) → row_bytes body_bytes (map unplaced bodies) ≡ row_bytes sized_body (ops_of order bodies h)
+  same_rows [] [] h = refl
+  same_rows (i ∷ is) (b ∷ bs) h = ap₂ (λ (x y : List ℕ). x ++ y) (ap block_bytes h.0.emitted.spelled) (same_rows is bs h.1)
+  same_rows [] (b ∷ bs) h = elim h [ ]
+  same_rows (i ∷ is) [] h = elim h [ ]
+
+  same_count : (order : List ℕ) (bodies : List (List ℕ)) (h : AllZip (HasBytes funcs names) order bodies) → length (map unplaced bodies) ≡ length (ops_of order bodies h)
+  same_count [] [] h = refl
+  same_count (i ∷ is) (b ∷ bs) h = ap suc (same_count is bs h.1)
+  same_count [] (b ∷ bs) h = elim h [ ]
+  same_count (i ∷ is) [] h = elim h [ ]
+
+  bodies_canonical : (order : List ℕ) (bodies : List (List ℕ)) (h : AllZip (HasBytes funcs names) order bodies) → All IsCanonical (sections_of 10 body_bytes (map unplaced bodies))
+  unfolding sections_of
+  bodies_canonical [] [] h = none_of IsCanonical
+  bodies_canonical (i ∷ is) (b ∷ bs) h =
+      All-cons IsCanonical (record { id = 10; name = []; content = vector_bytes body_bytes (map unplaced (b ∷ bs)) }) []
+      (of_bodies (vector_bytes body_bytes (map unplaced (b ∷ bs))) (
+        ops_of (i ∷ is) (b ∷ bs) h,
+        not_empty h.0.emitted.indices (ops_of is bs h.1),
+        ap₂ (λ (n : ℕ) (row : List ℕ). number_bytes n ++ row) (same_count (i ∷ is) (b ∷ bs) h) (same_rows (i ∷ is) (b ∷ bs) h),
+      ))
+      (none_of IsCanonical)
+  bodies_canonical [] (b ∷ bs) h = elim h [ ]
+  bodies_canonical (i ∷ is) [] h = elim h [ ]
+
+module _ (ts : List wire.FuncType) (fs : List ℕ) (es : List wire.Export) (bs : List wire.Body) where
+  all_sections : List Section
+  all_sections = sections_of 1 func_type_bytes ts ++ sections_of 3 number_bytes fs ++ sections_of 7 export_bytes es ++ sections_of 10 body_bytes bs
+
+  all_have : (P : Section → Type 0) → All P (sections_of 1 func_type_bytes ts) → All P (sections_of 3 number_bytes fs) → All P (sections_of 7 export_bytes es) → All P (sections_of 10 body_bytes bs) → All P all_sections
+  unfolding all_sections
+  all_have P t f e b =
+      All-append P (sections_of 1 func_type_bytes ts ++ sections_of 3 number_bytes fs ++ sections_of 7 export_bytes es) (sections_of 10 body_bytes bs)
+      (All-append P (sections_of 1 func_type_bytes ts ++ sections_of 3 number_bytes fs) (sections_of 7 export_bytes es)
+      (All-append P (sections_of 1 func_type_bytes ts) (sections_of 3 number_bytes fs) t f) e) b
+
+  spelled_all : type_section ts ++ function_section fs ++ export_section es ++ code_section bs ≡ spelled all_sections
+  unfolding all_sections
+  spelled_all =
+      ap₂ (λ (a b : List ℕ). a ++ b)
+      (ap₂ (λ (a b : List ℕ). a ++ b)
+      (ap₂ (λ (a b : List ℕ). a ++ b) (spelled_listed 1 func_type_bytes ts) (spelled_listed 3 number_bytes fs)
+      ∙ sym (spelled_both (sections_of 1 func_type_bytes ts) (sections_of 3 number_bytes fs)))
+      (spelled_listed 7 export_bytes es)
+      ∙ sym (spelled_both (sections_of 1 func_type_bytes ts ++ sections_of 3 number_bytes fs) (sections_of 7 export_bytes es)))
+      (spelled_listed 10 body_bytes bs)
+      ∙ sym (spelled_both (sections_of 1 func_type_bytes ts ++ sections_of 3 number_bytes fs ++ sections_of 7 export_bytes es) (sections_of 10 body_bytes bs))
+
+  header_first : module_bytes ts fs es bs ≡ header ++ (type_section ts ++ function_section fs ++ export_section es ++ code_section bs)
+  header_first =
+      ap (λ (l : List ℕ). l ++ export_section es ++ code_section bs) (append_assoc header (type_section ts) (function_section fs))
+      ∙ ap (λ (l : List ℕ). l ++ code_section bs) (append_assoc header (type_section ts ++ function_section fs) (export_section es))
+      ∙ append_assoc header (type_section ts ++ function_section fs ++ export_section es) (code_section bs)
+
+  placed_as_written : (bytes : List ℕ) → IsWritten ts fs es bs bytes → All IsCanonical (sections_of 10 body_bytes bs) → Placed bytes
+  placed_as_written bytes w canonical = record {
+    sections = all_sections;
+    stand = w.is ∙ header_first ∙ ap (λ (l : List ℕ). header ++ l) spelled_all;
+    in_place = record {
+      dylinks = [];
+      standard = all_sections;
+      names = [];
+      producers = [];
+      others = [];
+      is = sym (append-nil all_sections);
+      dylinks_are = none_of (λ s. is_dylink_section s ≡ true);
+      standard_are = all_have (λ s. is_custom s ≡ false)
+          (all_of (λ s. is_custom s ≡ false) 1 func_type_bytes (λ x xs. refl {A = Bool} {a = false}) ts)
+          (all_of (λ s. is_custom s ≡ false) 3 number_bytes (λ x xs. refl {A = Bool} {a = false}) fs)
+          (all_of (λ s. is_custom s ≡ false) 7 export_bytes (λ x xs. refl {A = Bool} {a = false}) es)
+          (all_of (λ s. is_custom s ≡ false) 10 body_bytes (λ x xs. refl {A = Bool} {a = false}) bs);
+      names_are = none_of (λ s. is_called (codes "name") s ≡ true);
+      one_name = omega arith;
+      producers_are = none_of (λ s. is_called (codes "producers") s ≡ true);
+      one_producers = omega arith;
+      others_are = none_of (λ s. is_other_custom s ≡ true);
+    };
+    canonical = all_have IsCanonical
+        (all_of IsCanonical 1 func_type_bytes (λ x xs. of_types (vector_bytes func_type_bytes (x ∷ xs)) (x ∷ xs, not_empty x xs, refl)) ts)
+        (all_of IsCanonical 3 number_bytes (λ x xs. of_functions (vector_bytes number_bytes (x ∷ xs)) (x ∷ xs, not_empty x xs, refl)) fs)
+        (all_of IsCanonical 7 export_bytes (λ x xs. of_exports (vector_bytes export_bytes (x ∷ xs)) (x ∷ xs, not_empty x xs, refl)) es)
+        canonical;
+  }
+
+-- what is spelled has its sections in place
+pub placed_as_spelled : (types : List (Option FuncType)) (funcs : List (Option FunctionValue)) (es : List ExportValue) (bytes : List ℕ) → Spells types funcs es bytes → Placed bytes
+placed_as_spelled types funcs es bytes s =
+    placed_as_written s.raw_types s.raw_functions s.raw_exports (map unplaced s.bodies) bytes s.written (bodies_canonical funcs s.names s.order s.bodies s.bodies_are)
