@@ -6,3 +6,5 @@ pub mod Tool
 pub mod Transfer
 pub mod Used
 pub mod Collected
+pub mod Headline
+pub mod Marked

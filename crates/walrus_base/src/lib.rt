@@ -6,8 +6,6 @@ mod id;
 mod keys;
 mod locals;
 mod set;
-#[cfg(test)]
-mod tests;
 mod types;
 
 pub use arena::{ArenaIter, TombstoneArena};

@@ -9,8 +9,6 @@ mod indices;
 mod location;
 mod operator;
 mod read;
-#[cfg(test)]
-mod tests;
 
 pub use emit::emit_body;
 pub use error::IrError;

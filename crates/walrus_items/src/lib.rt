@@ -3,8 +3,6 @@
 
 mod exports;
 mod functions;
-#[cfg(test)]
-mod tests;
 
 pub use exports::{Export, ExportEntries, ExportItem, ExportIter, ModuleExports};
 pub use functions::{

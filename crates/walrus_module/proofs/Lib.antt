@@ -17,3 +17,4 @@ pub mod Parsing
 pub mod Carrying
 pub mod Accepting
 mod PlacedLemmas
+pub mod WrittenAs

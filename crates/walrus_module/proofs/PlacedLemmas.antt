@@ -17,6 +17,7 @@ use Rattle.walrus_items.specs.Exports.{ExportValue}
 use Rattle.walrus_items.specs.Functions.{FunctionValue}
 use Rattle.walrus_module.specs.Parts.{IsWritten, HasBytes, unplaced}
 use Rattle.walrus_module.specs.Spells.{Spells}
+use Rattle.walrus_module.proofs.WrittenAs.{ops_of}
 
 sections_of : {A : Type 0} → ℕ → (A → List ℕ) → List A → List Section
 sections_of id spell [] = []
@@ -44,19 +45,13 @@ not_empty x xs e = absurd (cc)
 
 -- each body is spelled from operators
 module _ (funcs : List (Option FunctionValue)) (names : Lookup) where
-  abbrev ops_of : (order : List ℕ) (bodies : List (List ℕ)) → AllZip (HasBytes funcs names) order bodies → List (List Op)
-  ops_of [] [] h = []
-  ops_of (i ∷ is) (b ∷ bs) h = h.0.emitted.indices ∷ ops_of is bs h.1
-  ops_of [] (b ∷ bs) h = elim h [ ]
-  ops_of (i ∷ is) [] h = elim h [ ]
-
-  same_rows : (order : List ℕ) (bodies : List (List ℕ)) (h : AllZip (HasBytes funcs names) order bodies) → row_bytes body_bytes (map unplaced bodies) ≡ row_bytes sized_body (ops_of order bodies h)
+  same_rows : (order : List ℕ) (bodies : List (List ℕ)) (h : AllZip (HasBytes funcs names) order bodies) → row_bytes body_bytes (map unplaced bodies) ≡ row_bytes sized_body (ops_of funcs names order bodies h)
   same_rows [] [] h = refl
   same_rows (i ∷ is) (b ∷ bs) h = ap₂ (λ (x y : List ℕ). x ++ y) (ap block_bytes h.0.emitted.spelled) (same_rows is bs h.1)
   same_rows [] (b ∷ bs) h = elim h [ ]
   same_rows (i ∷ is) [] h = elim h [ ]
 
-  same_count : (order : List ℕ) (bodies : List (List ℕ)) (h : AllZip (HasBytes funcs names) order bodies) → length (map unplaced bodies) ≡ length (ops_of order bodies h)
+  same_count : (order : List ℕ) (bodies : List (List ℕ)) (h : AllZip (HasBytes funcs names) order bodies) → length (map unplaced bodies) ≡ length (ops_of funcs names order bodies h)
   same_count [] [] h = refl
   same_count (i ∷ is) (b ∷ bs) h = ap suc (same_count is bs h.1)
   same_count [] (b ∷ bs) h = elim h [ ]
@@ -68,8 +63,8 @@ module _ (funcs : List (Option FunctionValue)) (names : Lookup) where
   bodies_canonical (i ∷ is) (b ∷ bs) h =
       All-cons IsCanonical (record { id = 10; name = []; content = vector_bytes body_bytes (map unplaced (b ∷ bs)) }) []
       (of_bodies (vector_bytes body_bytes (map unplaced (b ∷ bs))) (
-        ops_of (i ∷ is) (b ∷ bs) h,
-        not_empty h.0.emitted.indices (ops_of is bs h.1),
+        ops_of funcs names (i ∷ is) (b ∷ bs) h,
+        not_empty h.0.emitted.indices (ops_of funcs names is bs h.1),
         ap₂ (λ (n : ℕ) (row : List ℕ). number_bytes n ++ row) (same_count (i ∷ is) (b ∷ bs) h) (same_rows (i ∷ is) (b ∷ bs) h),
       ))
       (none_of IsCanonical)
@@ -138,4 +133,5 @@ module _ (ts : List wire.FuncType) (fs : List ℕ) (es : List wire.Export) (bs :
 -- what is spelled has its sections in place
 pub placed_as_spelled : (types : List (Option FuncType)) (funcs : List (Option FunctionValue)) (es : List ExportValue) (bytes : List ℕ) → Spells types funcs es bytes → Placed bytes
 placed_as_spelled types funcs es bytes s =
-    placed_as_written s.raw_types s.raw_functions s.raw_exports (map unplaced s.bodies) bytes s.written (bodies_canonical funcs s.names s.order s.bodies s.bodies_are)
+    let r = s.records in
+    placed_as_written r.raw_types r.raw_functions r.raw_exports (map unplaced r.bodies) bytes s.written (bodies_canonical funcs r.names r.order r.bodies r.bodies_are)

@@ -8,6 +8,7 @@ pub mod Numbered
 pub mod Parsed
 pub mod Parts
 pub mod Raws
+pub mod Refused
 pub mod Settings
 pub mod Sizes
 pub mod Spells

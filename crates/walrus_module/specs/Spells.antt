@@ -1,4 +1,4 @@
--- What the bytes are that a module is written as: the sections, entry by entry, of what the module holds.
+-- The records of the sections that a module is written as, and their spelling.
 use Rattle.std.specs.Prelude.{ℕ, true, List, Option, Some, All, map, ◌≡◌}
 use Rattle.std.specs.List.{AllZip}
 use Rattle.std.specs.Str.{IsUtf8}
@@ -13,7 +13,8 @@ use Rattle.walrus_module.specs.Parts.{raw_shape, type_index, export_with_index, 
 use Rattle.walrus_module.specs.Sizes.{IsOrder}
 use Rattle.walrus_module.specs.Whole.{all_local}
 
-pub record Spells (types : List (Option FuncType)) (funcs : List (Option FunctionValue)) (exports : List ExportValue) (bytes : List ℕ) : Type 0 where
+-- the records, entry by entry, of what a module holds
+pub record Records (types : List (Option FuncType)) (funcs : List (Option FunctionValue)) (exports : List ExportValue) : Type 0 where
   -- each function has a body
   pub all_are_local : all_local (items funcs) ≡ true
   -- the functions in the order in which they are written, and the indices of types and functions
@@ -32,4 +33,8 @@ pub record Spells (types : List (Option FuncType)) (funcs : List (Option Functio
   pub texts : All (λ e. IsUtf8 e.name) raw_exports
   pub bodies : List (List ℕ)
   pub bodies_are : AllZip (HasBytes funcs names) order bodies
-  pub written : IsWritten raw_types raw_functions raw_exports (map unplaced bodies) bytes
+
+-- the bytes are the spelling of these records
+pub record Spells (types : List (Option FuncType)) (funcs : List (Option FunctionValue)) (exports : List ExportValue) (bytes : List ℕ) : Type 0 where
+  pub records : Records types funcs exports
+  pub written : IsWritten records.raw_types records.raw_functions records.raw_exports (map unplaced records.bodies) bytes

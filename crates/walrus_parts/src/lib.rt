@@ -5,10 +5,6 @@ mod custom;
 mod error;
 mod raw_section;
 mod roots;
-#[cfg(test)]
-mod sample;
-#[cfg(test)]
-mod tests;
 mod transform;
 
 pub use custom::CustomSection;

@@ -7,8 +7,6 @@ mod byte;
 mod error;
 mod law;
 mod number;
-#[cfg(test)]
-mod tests;
 mod vector;
 mod write;
 

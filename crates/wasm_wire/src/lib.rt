@@ -8,8 +8,6 @@ mod record;
 mod rules;
 mod section;
 mod spell;
-#[cfg(test)]
-mod tests;
 mod writer;
 
 pub use read::{one_record, read_module};

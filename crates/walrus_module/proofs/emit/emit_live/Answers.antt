@@ -26,22 +26,24 @@ returns-clause-spells c =
     let names = index_of c.in_ok-indices.indices in
     let funcs = functions c.args.funcs.now in
     record {
-      all_are_local = search rules;
-      order = map place c.in_ok-order.order.items;
-      ordered = c.in_ok-order.ensures.value;
-      names = names;
-      numbered = subst (λ ids. AreNumbered names (map (λ e. e.0) (entries (func_types c.args.types.now))) (map place ids)) c.as_slice.ensures.value c.in_ok-indices.ensures.value;
-      no_others = no_others_of c.in_ok-indices.indices;
-      raw_types = map type_record c.in_ok-raws.raws.items;
-      types_are = map-map raw_shape type_record c.in_ok-raws.raws.items ∙ c.in_ok-raws.ensures.value;
-      raw_functions = c.in_ok-functions.functions.items;
-      functions_are = c.in_ok-functions.ensures.value ∙ ap (map (λ id. type_index funcs names (place id))) c.as_slice-3.ensures.value ∙ sym (map-map (type_index funcs names) place c.in_ok-order.order.items);
-      raw_exports = map export_record c.in_ok-exported.exported.items;
-      exports_are = map-map (λ (e : Export). Some e) export_record c.in_ok-exported.exported.items ∙ c.in_ok-exported.ensures.value;
-      texts = All-map (λ (e : Export). IsUtf8 e.name) export_record c.in_ok-exported.exported.items c.in_ok-exported.ensures.text;
-      bodies = map (λ (v : Vec ℕ). v.items) c.in_ok-bodies.bodies.items;
-      bodies_are = zip_seen place (λ (v : Vec ℕ). v.items) (HasBytes funcs names) c.in_ok-order.order.items c.in_ok-bodies.bodies.items
-          (subst (λ ids. AllZip (λ id bytes. HasBytes funcs names (place id) bytes.items) ids c.in_ok-bodies.bodies.items) c.as_slice-2.ensures.value c.in_ok-bodies.ensures.value);
+      records = record {
+        all_are_local = search rules;
+        order = map place c.in_ok-order.order.items;
+        ordered = c.in_ok-order.ensures.value;
+        names = names;
+        numbered = subst (λ ids. AreNumbered names (map (λ e. e.0) (entries (func_types c.args.types.now))) (map place ids)) c.as_slice.ensures.value c.in_ok-indices.ensures.value;
+        no_others = no_others_of c.in_ok-indices.indices;
+        raw_types = map type_record c.in_ok-raws.raws.items;
+        types_are = map-map raw_shape type_record c.in_ok-raws.raws.items ∙ c.in_ok-raws.ensures.value;
+        raw_functions = c.in_ok-functions.functions.items;
+        functions_are = c.in_ok-functions.ensures.value ∙ ap (map (λ id. type_index funcs names (place id))) c.as_slice-3.ensures.value ∙ sym (map-map (type_index funcs names) place c.in_ok-order.order.items);
+        raw_exports = map export_record c.in_ok-exported.exported.items;
+        exports_are = map-map (λ (e : Export). Some e) export_record c.in_ok-exported.exported.items ∙ c.in_ok-exported.ensures.value;
+        texts = All-map (λ (e : Export). IsUtf8 e.name) export_record c.in_ok-exported.exported.items c.in_ok-exported.ensures.text;
+        bodies = map (λ (v : Vec ℕ). v.items) c.in_ok-bodies.bodies.items;
+        bodies_are = zip_seen place (λ (v : Vec ℕ). v.items) (HasBytes funcs names) c.in_ok-order.order.items c.in_ok-bodies.bodies.items
+            (subst (λ ids. AllZip (λ id bytes. HasBytes funcs names (place id) bytes.items) ids c.in_ok-bodies.bodies.items) c.as_slice-2.ensures.value c.in_ok-bodies.ensures.value);
+      };
       written = written_same _ _ _ _ _ _ _ _ c.in_ok-bytes.bytes.items
           (ap (map type_record) c.as_slice-5.ensures.value) c.as_slice-6.ensures.value (ap (map export_record) c.as_slice-7.ensures.value)
           (ap (map body_record) c.as_slice-8.ensures.value ∙ c.in_ok-code.ensures.value ∙ ap (map (λ (v : Vec ℕ). unplaced v.items)) c.as_slice-4.ensures.value

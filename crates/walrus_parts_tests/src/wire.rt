@@ -1,6 +1,7 @@
-//! Each call that takes memory, once where it succeeds.
+//! A module read and written.
 
-use super::*;
+use wasm_forms::WireError;
+use wasm_wire::{Writer, check, read_module};
 
 /// Two functions of one type, the second exported as `f`.
 const SMALL: [u8; 35] = [

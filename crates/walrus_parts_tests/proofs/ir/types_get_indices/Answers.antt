@@ -1,7 +1,7 @@
 use Rattle.std.proofs.Common.{arith, lit<}
 use Rattle.walrus_base.specs.Id.{place}
 use Rattle.walrus_ir.specs.Operators.{Types}
-use Rattle.walrus_ir.proofs.tests.types_get_indices.Goals as goal
+use Rattle.walrus_parts_tests.proofs.ir.types_get_indices.Goals as goal
 
 pub push_type-requires-clause-is_new : goal.push_type-requires-clause-is_new
 push_type-requires-clause-is_new g c = rw (c.new-ids.ensures Types) (λ found. absurd (omega (arith, found.1)))

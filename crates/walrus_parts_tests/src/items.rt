@@ -1,8 +1,8 @@
-use crate::exports::{ExportItem, ModuleExports};
-use crate::functions::ModuleFunctions;
+//! Functions and exports.
 use std::alloc::Global;
 use walrus_base::{ImportKey, TombstoneArena, TypeId, TypeKey};
 use walrus_ir::LocalFunction;
+use walrus_items::{ExportItem, ModuleExports, ModuleFunctions};
 use walrus_parts::{Error, Result};
 
 fn some_type(alloc: Global) -> Result<TypeId> {

@@ -1,11 +1,11 @@
-use crate::custom::CustomSection;
-use crate::error::{Error, ErrorKind, Result};
-use crate::raw_section::RawCustomSection;
-use crate::roots::Roots;
+//! Errors and their texts, roots, and custom sections.
 use crate::sample::Sample;
 use std::alloc::{AllocError, Global};
 use walrus_base::{FunctionId, FunctionKey, TombstoneArena};
 use walrus_ir::IdsToIndices;
+use walrus_parts::{CustomSection, Error, ErrorKind, RawCustomSection, Result, Roots};
+
+
 
 #[test]
 fn each_error_has_its_text(rt: HostRuntime) -> Result<()> {

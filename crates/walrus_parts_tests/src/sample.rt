@@ -2,14 +2,11 @@
 ghost use Rattle.std.specs.Prelude.{codes, true, [], ◌∷◌};
 ghost use Rattle.walrus_base.specs.Id.{place};
 ghost use Rattle.walrus_ir.specs.Operators.{Functions};
-ghost use Rattle.walrus_parts.specs.Sample.{one_byte};
+ghost use Rattle.walrus_parts_tests.specs.Sample.{one_byte};
 
-use crate::custom::CustomSection;
-use crate::error::{Error, Result};
-use crate::roots::Roots;
-use crate::transform::CodeTransform;
 use std::alloc::Global;
 use walrus_ir::{FunctionId, IdsToIndices};
+use walrus_parts::{CodeTransform, CustomSection, Error, Result, Roots};
 
 /// Keeps a function, and writes its index in one byte.
 #[derive(Drop)]

@@ -1,5 +1,5 @@
-//! Each call that takes memory, once.
-use crate::{FunctionKey, IdHashSet, ModuleLocals, ModuleTypes, TombstoneArena, ValType};
+//! Arenas, sets of ids, types and locals.
+use walrus_base::{FunctionKey, IdHashSet, ModuleLocals, ModuleTypes, TombstoneArena, ValType};
 use std::alloc::AllocError;
 
 #[test]

@@ -1,6 +1,6 @@
-//! Each call that takes memory, once, against bytes known from the standard and from other encoders.
+//! Numbers, blocks, names and vectors, against bytes known from the standard and from other encoders.
 
-use crate::{
+use wasm_forms::{
     read_name, read_s32, read_u32, read_vector, write_block, write_name, write_s32, write_u32,
     write_vector,
 };

@@ -1,5 +1,5 @@
-//! Each call that takes memory, once.
-use crate::{
+//! Bodies and indices.
+use walrus_ir::{
     FunctionKey, IdsToIndices, IndicesToIds, IrError, LocalFunction, TombstoneArena, TypeKey,
     emit_body, read_body,
 };

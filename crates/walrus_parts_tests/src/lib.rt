@@ -1,0 +1,17 @@
+//! Tests of the crates that modules are built from: each call that takes memory, once, where it succeeds.
+#![tactic(auto)]
+
+#[cfg(test)]
+mod base;
+#[cfg(test)]
+mod forms;
+#[cfg(test)]
+mod ir;
+#[cfg(test)]
+mod items;
+#[cfg(test)]
+mod parts;
+#[cfg(test)]
+mod sample;
+#[cfg(test)]
+mod wire;
