@@ -1,7 +1,8 @@
 //! The program's work, over any source and any sink.
 
-ghost use Rattle.std.specs.Io.KnownBytes.{Keeps};
-ghost use Rattle.walrus.specs.Tool.{BeforeWriting, CountsReads, CountsWrites, IfWriting, ReadsAll};
+ghost use Rattle.walrus.specs.Headline.{Answers, Runs};
+ghost use Rattle.walrus.specs.Tool.{CountsReads, CountsWrites};
+ghost use Rattle.walrus_module.specs.Flags.{config_of, flags};
 
 pub use crate::command::command;
 pub use crate::device::{DeviceFailed, FromRead, FromWrite, Sink, Source};
@@ -29,8 +30,7 @@ pub fn run<R: Source, W: Sink>(
     sink: &mut W,
     config: &ModuleConfig,
 ) -> Result<(), ToolError>
-    ensures whole { IfWriting result (ReadsAll (R.left source.old) (R.left source.new)) }
-    ensures unwritten { BeforeWriting result (Keeps (W.held sink.old) (W.held sink.new)) }
+    ensures headline { Runs (config_of (flags config.now)) (R.left source.old) (R.left source.new) (W.held sink.old) (W.held sink.new) result }
     ensures reads { CountsReads (R.read_failures source.old) (R.read_failures source.new) result }
     ensures writes { CountsWrites (W.write_failures sink.old) (W.write_failures sink.new) result }
 {
@@ -50,7 +50,9 @@ pub fn run<R: Source, W: Sink>(
 }
 
 // The bytes of the module without what nothing reaches.
-fn smaller(alloc: Global, bytes: Vec<u8>, config: &ModuleConfig) -> Result<Vec<u8>, Error> {
+fn smaller(alloc: Global, bytes: Vec<u8>, config: &ModuleConfig) -> Result<Vec<u8>, Error>
+    ensures { Answers (config_of (flags config.now)) bytes.items (λ output. output.items) result }
+{
     let mut module = config.parse(alloc, &bytes)?;
     drop(bytes);
     gc::run(alloc, &mut module)?;

@@ -79,7 +79,7 @@ locals_differ k [] = tt
 locals_differ k (None ∷ rest) = locals_differ (k + 1) rest
 locals_differ k (Some f ∷ rest) = differ_one k f.kind (local_functions (entries_from (k + 1) rest)) (locals_above (k + 1) rest k (omega arith)) (locals_differ (k + 1) rest)
 
-sizes_places : (es : List (ℕ × LocalFunction)) → map (λ (s : ℕ × ℕ). s.1) (map (λ (e : ℕ × LocalFunction). (length e.1.operators.items, e.0)) es) ≡ map (λ (e : ℕ × LocalFunction). e.0) es
+pub sizes_places : (es : List (ℕ × LocalFunction)) → map (λ (s : ℕ × ℕ). s.1) (map (λ (e : ℕ × LocalFunction). (length e.1.operators.items, e.0)) es) ≡ map (λ (e : ℕ × LocalFunction). e.0) es
 sizes_places [] = refl
 sizes_places (e ∷ es) = ap (λ (ps : List ℕ). e.0 ∷ ps) (sizes_places es)
 

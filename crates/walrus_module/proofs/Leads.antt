@@ -46,7 +46,7 @@ stands_at (x ∷ xs) t (suc k) h e =
 
 -- ---- the two look-ups
 
-pub ids_by : List ℕ → List ℕ → Lookup
+unfoldable pub ids_by : List ℕ → List ℕ → Lookup
 ids_by types order Types i = slice_get types i
 ids_by types order Functions i = slice_get order i
 ids_by types order Tables i = None

@@ -18,3 +18,17 @@ pub mod Carrying
 pub mod Accepting
 mod PlacedLemmas
 pub mod WrittenAs
+pub mod ReadBack
+mod OneOrder
+pub mod SpelledOnce
+pub mod Standing
+pub mod CarriedOver
+mod InOrder
+pub mod WrittenLemmas
+pub mod EmittedLemmas
+pub mod BodyRead
+mod Entries
+mod Indexed
+mod Refusing
+mod ThereLemmas
+pub mod RefusedLemmas

@@ -91,7 +91,7 @@ zip_long [] (y ∷ ys) e = refl
 zip_long (x ∷ xs) [] e = absurd (omega arith)
 zip_long (x ∷ xs) (y ∷ ys) e = ap suc (zip_long xs ys (omega arith))
 
-pairs_map : {A B : Type 0} (R : B → B → Type 0) (f : A → B) (xs : List A) → AllPairs (λ a b. R (f a) (f b)) xs → AllPairs R (map f xs)
+pub pairs_map : {A B : Type 0} (R : B → B → Type 0) (f : A → B) (xs : List A) → AllPairs (λ a b. R (f a) (f b)) xs → AllPairs R (map f xs)
 pairs_map R f [] h = λ i j d less within. let w : j < 0 = within in absurd (omega (arith, w))
 pairs_map R f (x ∷ xs) h = λ i j d less within.
     let w : j < length (x ∷ xs) = omega (arith, within, length-map (x ∷ xs) f) in

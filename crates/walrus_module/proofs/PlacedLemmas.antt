@@ -10,9 +10,7 @@ use Rattle.wasm_wire.specs.Record as wire
 use Rattle.wasm_wire.specs.Spelling.{func_type_bytes, export_bytes, body_bytes, listed, type_section, function_section, export_section, code_section, module_bytes}
 use Rattle.walrus_model.specs.Placed.{Section, is_custom, is_called, is_dylink_section, is_other_custom, spelled, IsCanonical, of_types, of_functions, of_exports, of_bodies, sized_body, Placed}
 use Rattle.walrus_base.specs.FuncTypes.{FuncType}
-use Rattle.walrus_ir.specs.Body.{body_bytes as ops_bytes}
 use Rattle.walrus_ir.specs.Names.{Lookup}
-use Rattle.walrus_ir.specs.Operators.{Op}
 use Rattle.walrus_items.specs.Exports.{ExportValue}
 use Rattle.walrus_items.specs.Functions.{FunctionValue}
 use Rattle.walrus_module.specs.Parts.{IsWritten, HasBytes, unplaced}

@@ -1,5 +1,5 @@
 -- What the sections hold that a module is written as.
-use Rattle.std.specs.Prelude.{ℕ, List, Option, Some, option_map, option_and_then, map, ◌≡◌}
+use Rattle.std.specs.Prelude.{ℕ, List, Option, Some, IsSome, option_map, option_and_then, map, ◌≡◌}
 use Rattle.wasm_wire.specs.Record as wire
 use Rattle.wasm_wire.specs.Spelling.{module_bytes, TypesFit, FunctionsFit, ExportsFit, BodiesFit}
 use Rattle.wasm_wire.specs.declared.record.RawExportKind.TheVariants as raw_kind
@@ -7,7 +7,7 @@ use Rattle.walrus_base.specs.Arena.{item_at}
 use Rattle.walrus_base.specs.FuncTypes.{FuncType}
 use Rattle.walrus_base.specs.Id.{place}
 use Rattle.walrus_ir.specs.Operators.{Types}
-use Rattle.walrus_ir.specs.Names.{Lookup}
+use Rattle.walrus_ir.specs.Names.{Lookup, named_ops}
 use Rattle.walrus_ir.specs.Function.{function_type, body_of}
 use Rattle.walrus_ir.specs.Results.{Emitted}
 use Rattle.walrus_ir.specs.declared.function.LocalFunction.{LocalFunction}
@@ -36,6 +36,13 @@ pub record HasBytes (funcs : List (Option FunctionValue)) (names : Lookup) (numb
   pub local : LocalFunction
   pub is : local_in funcs number ≡ Some (number, local)
   pub emitted : Emitted names (body_of local) bytes
+
+-- a function with a body is at the place, and its type and all that its body names have an index
+pub record IsIndexed (funcs : List (Option FunctionValue)) (names : Lookup) (number : ℕ) : Type 0 where
+  pub local : LocalFunction
+  pub is : local_in funcs number ≡ Some (number, local)
+  pub typed : IsSome (names Types (place (function_type local)))
+  pub named : IsSome (named_ops names (body_of local))
 
 -- a body's bytes, wherever they lie
 abbrev pub unplaced : List ℕ → wire.Body

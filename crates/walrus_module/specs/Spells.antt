@@ -38,3 +38,7 @@ pub record Records (types : List (Option FuncType)) (funcs : List (Option Functi
 pub record Spells (types : List (Option FuncType)) (funcs : List (Option FunctionValue)) (exports : List ExportValue) (bytes : List ℕ) : Type 0 where
   pub records : Records types funcs exports
   pub written : IsWritten records.raw_types records.raw_functions records.raw_exports (map unplaced records.bodies) bytes
+
+-- no two byte strings are the spelling of one module's items
+abbrev pub SpelledOnce : Type 0
+SpelledOnce = (types : List (Option FuncType)) (funcs : List (Option FunctionValue)) (exports : List ExportValue) (a b : List ℕ) → Spells types funcs exports a → Spells types funcs exports b → b ≡ a

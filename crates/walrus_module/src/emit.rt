@@ -1,5 +1,5 @@
 //! Writing a module as bytes.
-ghost use Rattle.std.specs.Prelude.{◌≡◌, map, All, Some, IfOk, IfErr, IfSome, IsOkUnless, option_map};
+ghost use Rattle.std.specs.Prelude.{◌≡◌, map, All, Some, true, IsSome, IfOk, IfErr, IfSome, IsOkUnless, option_map};
 ghost use Rattle.std.specs.List.{AllZip};
 ghost use Rattle.std.specs.Str.{IsUtf8};
 ghost use Rattle.walrus_base.specs.Arena.{entries, items};
@@ -13,10 +13,14 @@ ghost use Rattle.walrus_model.specs.Reads.{value_type};
 ghost use Rattle.walrus_parts.specs.Errors.{out_of_memory};
 ghost use Rattle.wasm_wire.specs.Record.{type_record, export_record, body_record};
 ghost use Rattle.walrus_model.specs.Placed.{Placed};
-ghost use Rattle.walrus_module.specs.Emitted.{IsMemoryOrTooLarge, IsMemoryOrNoIndex, IsRefusalOfBody, IsRefusalBehind, RefusesDead};
+ghost use Rattle.walrus_module.specs.Emitted.{IsEmitted, NamesDiffer, RefusesItems, RefusesBodies, RefusesSections};
+ghost use Rattle.walrus_module.specs.Flags.{config_of};
+ghost use Rattle.walrus_module.specs.Refused.{RefusesToWrite};
+ghost use Rattle.walrus_module.specs.Settings.{settings};
+ghost use Rattle.walrus_module.specs.View.{view};
 ghost use Rattle.walrus_module.specs.Spells.{Spells};
 ghost use Rattle.walrus_module.specs.Whole.{is_all_there};
-ghost use Rattle.walrus_module.specs.Parts.{raw_shape, local_in, type_index, export_with_index, HasBytes, unplaced, IsWritten};
+ghost use Rattle.walrus_module.specs.Parts.{raw_shape, local_in, type_index, export_with_index, HasBytes, IsIndexed, unplaced, IsWritten};
 
 use crate::live::{are_all_local, is_all_live};
 use crate::module::Module;
@@ -38,9 +42,11 @@ impl Module {
     /// body isn't one that the binary format can spell, `TooLarge` where a number passes 32 bits, and `Memory`.
     pub fn emit_wasm(&mut self, alloc: Global) -> Result<Vec<u8>>
         ensures unchanged { self.new ≡ self.old }
+        ensures emitted { NamesDiffer (view self.old)
+            → IfOk result (λ bytes. IsEmitted (config_of (settings self.old)) (view self.old) bytes.items) }
         ensures placed { IfOk result (λ bytes. Placed bytes.items) }
         ensures spells { IfOk result (λ bytes. Spells (func_types self.old.types) (functions self.old.funcs) (items (exports self.old.exports)) bytes.items) }
-        ensures refused { RefusesDead (is_all_there self.old.types self.old.funcs self.old.exports) result }
+        ensures refused { RefusesToWrite (config_of (settings self.old)) (view self.old) result }
     {
         emit_items(alloc, &self.types, &self.funcs, &self.exports)
     }
@@ -54,7 +60,7 @@ fn emit_items(
 ) -> Result<Vec<u8>>
     ensures placed { IfOk result (λ bytes. Placed bytes.items) }
     ensures spells { IfOk result (λ bytes. Spells (func_types types.now) (functions funcs.now) (items (exports all_exports.now)) bytes.items) }
-    ensures refused { RefusesDead (is_all_there types.now funcs.now all_exports.now) result }
+    ensures refused { RefusesItems (func_types types.now) (functions funcs.now) (items (exports all_exports.now)) result }
 {
     if !is_all_live(types, funcs, all_exports) {
         return Err(Error::DeadItem);
@@ -69,9 +75,10 @@ fn emit_live(
     funcs: &ModuleFunctions,
     all_exports: &ModuleExports,
 ) -> Result<Vec<u8>>
+    requires there { is_all_there types.now funcs.now all_exports.now ≡ true }
     ensures placed { IfOk result (λ bytes. Placed bytes.items) }
     ensures spells { IfOk result (λ bytes. Spells (func_types types.now) (functions funcs.now) (items (exports all_exports.now)) bytes.items) }
-    ensures fails { IfErr result IsRefusalBehind }
+    ensures refused { RefusesItems (func_types types.now) (functions funcs.now) (items (exports all_exports.now)) result }
 {
     if !are_all_local(funcs) {
         return Err(Error::NoIndex);
@@ -157,8 +164,9 @@ fn raw_functions(
     order: &[FunctionId],
     indices: &IdsToIndices,
 ) -> Result<Vec<u32>>
+    requires indexed { All (λ id. IsIndexed (functions funcs.now) (index_of indices.now) (place id)) order.now }
     ensures value { IfOk result (λ raw. map Some raw.items ≡ map (λ id. type_index (functions funcs.now) (index_of indices.now) (place id)) order.now) }
-    ensures fails { IfErr result IsMemoryOrNoIndex }
+    ensures fails { IsOkUnless result out_of_memory }
 {
     let mut raw = Vec::with_capacity(alloc, order.len())?;
     for id in order {
@@ -188,9 +196,10 @@ fn raw_exports<'a>(
     all_exports: &'a ModuleExports,
     indices: &IdsToIndices,
 ) -> Result<Vec<RawExport<'a>>>
+    requires indexed { All (λ e. IsSome e) (map (export_with_index (index_of indices.now)) (items (exports all_exports.now))) }
     ensures value { IfOk result (λ raw. map (λ e. Some (export_record e)) raw.items ≡ map (export_with_index (index_of indices.now)) (items (exports all_exports.now))) }
     ensures text { IfOk result (λ raw. All (λ e. IsUtf8 e.name.now) raw.items) }
-    ensures fails { IfErr result IsMemoryOrNoIndex }
+    ensures fails { IsOkUnless result out_of_memory }
 {
     let mut raw = Vec::new(alloc);
     for export in all_exports.iter() {
@@ -208,8 +217,9 @@ fn one_body(
     id: FunctionId,
     indices: &IdsToIndices,
 ) -> Result<Vec<u8>>
+    requires indexed { IsIndexed (functions funcs.now) (index_of indices.now) (place id) }
     ensures value { IfOk result (λ bytes. HasBytes (functions funcs.now) (index_of indices.now) (place id) bytes.items) }
-    ensures fails { IfErr result IsRefusalOfBody }
+    ensures fails { IfErr result (RefusesBodies (functions funcs.now)) }
 {
     let Some(local) = local_of(funcs, id) else {
         return Err(Error::NoIndex);
@@ -224,8 +234,9 @@ fn body_bytes(
     order: &[FunctionId],
     indices: &IdsToIndices,
 ) -> Result<Vec<Vec<u8>>>
+    requires indexed { All (λ id. IsIndexed (functions funcs.now) (index_of indices.now) (place id)) order.now }
     ensures value { IfOk result (λ bodies. AllZip (λ id bytes. HasBytes (functions funcs.now) (index_of indices.now) (place id) bytes.items) order.now bodies.items) }
-    ensures fails { IfErr result IsRefusalOfBody }
+    ensures fails { IfErr result (RefusesBodies (functions funcs.now)) }
 {
     let mut bodies = Vec::new(alloc);
     for id in order {
@@ -257,7 +268,7 @@ fn written(
     code: &[RawBody<'_>],
 ) -> Result<Vec<u8>>
     ensures value { IfOk result (λ bytes. IsWritten (map type_record types.now) functions.now (map export_record exported.now) (map body_record code.now) bytes.items) }
-    ensures fails { IfErr result IsMemoryOrTooLarge }
+    ensures fails { IfErr result (RefusesSections (map type_record types.now) functions.now (map export_record exported.now) (map body_record code.now)) }
 {
     let mut writer = Writer::new(alloc);
     writer.header()?;

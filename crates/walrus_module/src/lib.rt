@@ -5,6 +5,7 @@ pub mod config;
 pub mod customs;
 pub mod emit;
 pub mod entry;
+pub mod law;
 pub mod live;
 pub mod module;
 pub mod order;
@@ -13,6 +14,7 @@ pub mod parse;
 pub use config::ModuleConfig;
 pub use customs::{ModuleCustomSections, SectionIter};
 pub use entry::SectionEntry;
+pub use law::spelled_once;
 pub use module::Module;
 pub use walrus_base::{
     DataKey, ElementKey, FunctionId, FunctionKey, GlobalKey, IdHashSet, MemoryKey, ModuleLocals,

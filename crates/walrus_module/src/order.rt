@@ -1,5 +1,5 @@
 //! The order in which items are numbered.
-ghost use Rattle.std.specs.Prelude.{◌≡◌, ℕ, map, IfOk, IfErr, IsOkUnless, None, nat_eq};
+ghost use Rattle.std.specs.Prelude.{◌≡◌, ℕ, map, length, IfOk, IfErr, IsOkUnless, None, nat_eq};
 ghost use Rattle.walrus_base.specs.Arena.{entries};
 ghost use Rattle.std.specs.List.{IsDistinct};
 ghost use Rattle.walrus_base.specs.Id.{place};
@@ -8,7 +8,7 @@ ghost use Rattle.walrus_ir.specs.Indices.{index_of, given};
 ghost use Rattle.walrus_ir.specs.Operators.{Types, Functions};
 ghost use Rattle.walrus_items.specs.Functions.{functions};
 ghost use Rattle.walrus_parts.specs.Errors.{out_of_memory};
-ghost use Rattle.walrus_module.specs.Emitted.{IsMemoryOrTooLarge};
+ghost use Rattle.walrus_module.specs.Emitted.{RefusesCount, RefusesCounts};
 ghost use Rattle.walrus_module.specs.Sizes.{local_sizes, IsOrder};
 ghost use Rattle.walrus_module.specs.Numbered.{AreNumbered, NumbersTypes, NumbersFunctions};
 
@@ -61,7 +61,7 @@ fn number_types(indices: &mut IdsToIndices, types: &ModuleTypes) -> Result<()>
     requires none { (number : ℕ) → index_of indices.old Types number ≡ None }
     requires count { given indices.old Types ≡ 0 }
     ensures value { IfOk result (λ _. NumbersTypes indices.old indices.new (map (λ e. e.0) (entries (func_types types.now)))) }
-    ensures fails { IfErr result IsMemoryOrTooLarge }
+    ensures fails { IfErr result (RefusesCount (length (entries (func_types types.now)))) }
 {
     if types.len() > u32::MAX as usize {
         return Err(Error::TooLarge);
@@ -78,7 +78,7 @@ fn number_functions(indices: &mut IdsToIndices, order: &[FunctionId]) -> Result<
     requires none { (number : ℕ) → index_of indices.old Functions number ≡ None }
     requires count { given indices.old Functions ≡ 0 }
     ensures value { IfOk result (λ _. NumbersFunctions indices.old indices.new (map place order.now)) }
-    ensures fails { IfErr result IsMemoryOrTooLarge }
+    ensures fails { IfErr result (RefusesCount (length order.now)) }
 {
     if order.len() > u32::MAX as usize {
         return Err(Error::TooLarge);
@@ -93,7 +93,7 @@ fn number_functions(indices: &mut IdsToIndices, order: &[FunctionId]) -> Result<
 pub fn number(alloc: Global, types: &ModuleTypes, order: &[FunctionId]) -> Result<IdsToIndices>
     requires distinct { IsDistinct nat_eq (map place order.now) }
     ensures value { IfOk result (λ indices. AreNumbered (index_of indices) (map (λ e. e.0) (entries (func_types types.now))) (map place order.now)) }
-    ensures fails { IfErr result IsMemoryOrTooLarge }
+    ensures fails { IfErr result (RefusesCounts (length (entries (func_types types.now))) (length order.now)) }
 {
     let mut indices = IdsToIndices::new(alloc);
     number_types(&mut indices, types)?;

@@ -1,12 +1,19 @@
 //! Dropping what nothing reaches.
 
-ghost use Rattle.std.specs.Prelude.{ℕ, ◌≡◌, map, IfErr, IfOk, OnErr, OnOk};
+ghost use Rattle.std.specs.Prelude.{◌≡◌, map, IfErr, IfOk, OnErr, OnOk};
 ghost use Rattle.walrus_base.specs.Arena.{entries};
 ghost use Rattle.walrus_base.specs.Id.{place};
 ghost use Rattle.walrus_base.specs.ModuleTypes.{func_types};
+ghost use Rattle.walrus_ir.specs.Operators.{Item, Functions, Types};
 ghost use Rattle.walrus_items.specs.Functions.{functions};
+ghost use Rattle.walrus_model.specs.Kept.{Kept};
+ghost use Rattle.walrus_model.specs.Live.{IsLive};
+ghost use Rattle.walrus_model.specs.Pipeline.{Collected};
+ghost use Rattle.walrus_module.specs.Settings.{settings};
+ghost use Rattle.walrus_module.specs.View.{view};
 ghost use Rattle.walrus.specs.Collected.{KeepsOnly, unused_among, without};
-ghost use Rattle.walrus.specs.Used.{IsExported, IsRefusal, IsWhole, Reaches, ReachesBroken, ReachesType};
+ghost use Rattle.walrus.specs.Marked.{ReachesSound, ReachesUnsound};
+ghost use Rattle.walrus.specs.Used.{IsRefusal};
 
 use crate::passes::used::Used;
 use std::alloc::Global;
@@ -15,21 +22,20 @@ use walrus_module::{
     TypeKey,
 };
 
-/// Deletes the items that the module's roots don't reach. Refused as [`Used::new`] is; then nothing is deleted.
+/// Deletes the items that the module's roots don't reach, but the memory that stays with data. A second run deletes nothing.
+/// Refused as [`Used::new`] is; then nothing is deleted.
 pub fn run(alloc: Global, module: &mut Module) -> Result<()>
-    ensures functions { OnOk result (KeepsOnly
-        (Reaches (IsExported «module».old.exports) (functions «module».old.funcs))
+    ensures collected { OnOk result (Collected (view «module».old) (view «module».new)) }
+    ensures functions { OnOk result (KeepsOnly (λ i. Kept (view «module».old) (Functions, i))
         (functions «module».old.funcs) (functions «module».new.funcs)) }
-    ensures types { OnOk result (KeepsOnly
-        (ReachesType (IsExported «module».old.exports) (functions «module».old.funcs))
+    ensures types { OnOk result (KeepsOnly (λ t. Kept (view «module».old) (Types, t))
         (func_types «module».old.types) (func_types «module».new.types)) }
-    ensures whole { OnOk result ((i : ℕ) → Reaches (IsExported «module».old.exports) (functions «module».old.funcs) i
-        → IsWhole (functions «module».old.funcs) (func_types «module».old.types) i) }
-    ensures refused { IfErr result (IsRefusal (ReachesBroken
-        (IsExported «module».old.exports) (functions «module».old.funcs) (func_types «module».old.types))) }
+    ensures sound { OnOk result (ReachesSound (view «module».old)) }
+    ensures settled { OnOk result ((x : Item) → IsLive (view «module».new) x → Kept (view «module».new) x) }
+    ensures refused { IfErr result (IsRefusal (ReachesUnsound (view «module».old))) }
     ensures unchanged { OnErr result («module».new ≡ «module».old) }
     ensures others { («module».new.locals ≡ «module».old.locals) × («module».new.exports ≡ «module».old.exports)
-        × («module».new.customs ≡ «module».old.customs) }
+        × («module».new.customs ≡ «module».old.customs) × (settings «module».new ≡ settings «module».old) }
 {
     let used = Used::new(alloc, module)?;
     let functions = unused_functions(alloc, &module.funcs, &used.funcs)?;

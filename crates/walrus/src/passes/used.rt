@@ -9,6 +9,8 @@ ghost use Rattle.walrus_ir.specs.Code.{arg_of, args_of, ops_of};
 ghost use Rattle.walrus_ir.specs.Operators.{arg_names, function_item, names_of};
 ghost use Rattle.walrus_items.specs.Exports.{exported};
 ghost use Rattle.walrus_items.specs.Functions.{functions};
+ghost use Rattle.walrus_module.specs.View.{view};
+ghost use Rattle.walrus.specs.Marked.{MarksKept, ReachesSound, ReachesUnsound};
 ghost use Rattle.walrus.specs.Used.{
   AreFound,
   Enters,
@@ -78,9 +80,18 @@ impl Used {
         }
     }
 
-    /// What the module's roots reach. Refused with `DeadItem` where an item reached isn't live, or a function reached is
-    /// uninitialised, and with `Memory`.
+    /// What the module's roots reach, and the memory that stays with data. Refused with `DeadItem` where an item reached isn't
+    /// live, or a function reached is uninitialised, and with `Memory`.
     pub fn new(alloc: Global, module: &Module) -> Result<Used>
+        ensures kept { IfOk result (λ used. MarksKept (view «module».now) used) }
+        ensures sound { OnOk result (ReachesSound (view «module».now)) }
+        ensures refused { IfErr result (IsRefusal (ReachesUnsound (view «module».now))) }
+    {
+        Used::search(alloc, module)
+    }
+
+    // The same over slots.
+    fn search(alloc: Global, module: &Module) -> Result<Used>
         ensures funcs { IfOk result (λ used. (i : ℕ) → HasId used.funcs i
             ↔ Reaches (IsExported «module».now.exports) (functions «module».now.funcs) i) }
         ensures types { IfOk result (λ used. (t : ℕ) → HasId used.types t

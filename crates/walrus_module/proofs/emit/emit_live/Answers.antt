@@ -1,49 +1,87 @@
-use Rattle.std.proofs.Common.{rules, ◌∙◌, ℕ, map, sym, ap, subst, Some}
+use Rattle.std.proofs.Common.{rules, ◌≡◌, true, ◌∙◌, ℕ, map, sym, ap, subst}
 use Rattle.std.specs.Prelude.{nat_eq}
 use Rattle.std.specs.Global.{Vec}
 use Rattle.std.specs.List.{AllZip, IsDistinct}
-use Rattle.std.specs.Str.{IsUtf8}
-use Rattle.std.proofs.lemmas.List.Elements.{All-map}
-use Rattle.wasm_wire.specs.Record.{Export, type_record, export_record, body_record}
-use Rattle.walrus_base.specs.Arena.{entries}
+use Rattle.std.proofs.lemmas.Result.{err_from_is_err_and}
+use Rattle.wasm_wire.specs.Record.{type_record, export_record, body_record}
+use Rattle.walrus_base.specs.Arena.{entries, items}
 use Rattle.walrus_base.specs.Id.{place}
 use Rattle.walrus_base.specs.ModuleTypes.{func_types}
 use Rattle.walrus_ir.specs.Indices.{index_of}
+use Rattle.walrus_items.specs.Exports.{exports}
 use Rattle.walrus_items.specs.Functions.{functions}
 use Rattle.walrus_model.proofs.Lists.{map-map}
 use Rattle.walrus_module.specs.Numbered.{AreNumbered}
-use Rattle.walrus_module.specs.Parts.{raw_shape, type_index, HasBytes, unplaced}
+use Rattle.walrus_module.specs.Parts.{type_index, HasBytes, unplaced}
+use Rattle.walrus_module.specs.Whole.{all_local}
 use Rattle.walrus_module.proofs.Differ.{order_differs}
+use Rattle.walrus_module.proofs.Indexed.{ids_indexed, exports_indexed}
 use Rattle.walrus_module.proofs.PlacedLemmas.{placed_as_spelled}
-use Rattle.walrus_module.proofs.SpellsLemmas.{no_others_of, zip_seen, written_same}
+use Rattle.walrus_module.proofs.Refusing.{counts_refused, records_of, sections_refused}
+use Rattle.walrus_module.proofs.SpellsLemmas.{written_same}
 use Rattle.walrus_module.proofs.emit.emit_live.Goals as goal
 
 pub number-requires : goal.number-requires
 number-requires c = record { distinct = subst (λ ids. IsDistinct nat_eq (map place ids)) (sym c.as_slice.ensures.value) (order_differs (functions c.args.funcs.now) _ c.in_ok-order.ensures.value) }
 
+pub returns-in_err-indices-clause-refused : goal.returns-in_err-indices-clause-refused
+returns-in_err-indices-clause-refused c =
+    let p = err_from_is_err_and c.from_residual-in_err-indices.result c.from_residual-in_err-indices.ensures.1 in
+    rw (p.1, p.2) (counts_refused (func_types c.args.types.now) (functions c.args.funcs.now) (items (exports c.args.all_exports.now)) (Vec ℕ) c.in_ok-order.order.items c.as_slice.result.now _ c.requires.there c.in_ok-order.ensures.value c.as_slice.ensures.value c.in_err-indices.ensures.fails)
+
+pub body_bytes-requires : goal.body_bytes-requires
+body_bytes-requires c =
+    let names = index_of c.in_ok-indices.indices in
+    let local : all_local (items (functions c.args.funcs.now)) ≡ true = search rules in
+    let numbered = subst (λ ids. AreNumbered names (map (λ e. e.0) (entries (func_types c.args.types.now))) (map place ids)) c.as_slice.ensures.value c.in_ok-indices.ensures.value in
+    record { indexed = ids_indexed (func_types c.args.types.now) (functions c.args.funcs.now) (items (exports c.args.all_exports.now)) names c.in_ok-order.order.items _ c.requires.there local c.in_ok-order.ensures.value numbered c.as_slice-2.ensures.value }
+
+pub raw_functions-requires : goal.raw_functions-requires
+raw_functions-requires c =
+    let names = index_of c.in_ok-indices.indices in
+    let local : all_local (items (functions c.args.funcs.now)) ≡ true = search rules in
+    let numbered = subst (λ ids. AreNumbered names (map (λ e. e.0) (entries (func_types c.args.types.now))) (map place ids)) c.as_slice.ensures.value c.in_ok-indices.ensures.value in
+    record { indexed = ids_indexed (func_types c.args.types.now) (functions c.args.funcs.now) (items (exports c.args.all_exports.now)) names c.in_ok-order.order.items _ c.requires.there local c.in_ok-order.ensures.value numbered c.as_slice-3.ensures.value }
+
+pub raw_exports-requires : goal.raw_exports-requires
+raw_exports-requires c =
+    let names = index_of c.in_ok-indices.indices in
+    let local : all_local (items (functions c.args.funcs.now)) ≡ true = search rules in
+    let numbered = subst (λ ids. AreNumbered names (map (λ e. e.0) (entries (func_types c.args.types.now))) (map place ids)) c.as_slice.ensures.value c.in_ok-indices.ensures.value in
+    record { indexed = exports_indexed (func_types c.args.types.now) (functions c.args.funcs.now) (items (exports c.args.all_exports.now)) c.requires.there local names (map place c.in_ok-order.order.items) c.in_ok-order.ensures.value numbered }
+
+pub returns-in_err-bytes-clause-refused : goal.returns-in_err-bytes-clause-refused
+returns-in_err-bytes-clause-refused c =
+    let names = index_of c.in_ok-indices.indices in
+    let funcs = functions c.args.funcs.now in
+    let local : all_local (items (functions c.args.funcs.now)) ≡ true = search rules in
+    let records = records_of (func_types c.args.types.now) funcs (items (exports c.args.all_exports.now)) c.in_ok-order.order.items c.in_ok-indices.indices c.in_ok-raws.raws.items c.in_ok-functions.functions.items c.in_ok-exported.exported.items c.in_ok-bodies.bodies.items
+    local c.in_ok-order.ensures.value
+    (subst (λ ids. AreNumbered names (map (λ e. e.0) (entries (func_types c.args.types.now))) (map place ids)) c.as_slice.ensures.value c.in_ok-indices.ensures.value)
+    c.in_ok-raws.ensures.value
+    (c.in_ok-functions.ensures.value ∙ ap (map (λ id. type_index funcs names (place id))) c.as_slice-3.ensures.value)
+    c.in_ok-exported.ensures.value c.in_ok-exported.ensures.text
+    (subst (λ ids. AllZip (λ id bytes. HasBytes funcs names (place id) bytes.items) ids c.in_ok-bodies.bodies.items) c.as_slice-2.ensures.value c.in_ok-bodies.ensures.value) in
+    let p = err_from_is_err_and c.from_residual-in_err-bytes.result c.from_residual-in_err-bytes.ensures.1 in
+    rw (p.1, p.2) (sections_refused (func_types c.args.types.now) funcs (items (exports c.args.all_exports.now)) (Vec ℕ) records _ _ _ _ _ c.requires.there
+    (ap (map type_record) c.as_slice-5.ensures.value) c.as_slice-6.ensures.value (ap (map export_record) c.as_slice-7.ensures.value)
+    (ap (map body_record) c.as_slice-8.ensures.value ∙ c.in_ok-code.ensures.value ∙ ap (map (λ (v : Vec ℕ). unplaced v.items)) c.as_slice-4.ensures.value
+    ∙ sym (map-map unplaced (λ (v : Vec ℕ). v.items) c.in_ok-bodies.bodies.items))
+    c.in_err-bytes.ensures.fails)
+
 pub returns-clause-spells : goal.returns-clause-spells
 returns-clause-spells c =
     let names = index_of c.in_ok-indices.indices in
     let funcs = functions c.args.funcs.now in
+    let local : all_local (items (functions c.args.funcs.now)) ≡ true = search rules in
     record {
-      records = record {
-        all_are_local = search rules;
-        order = map place c.in_ok-order.order.items;
-        ordered = c.in_ok-order.ensures.value;
-        names = names;
-        numbered = subst (λ ids. AreNumbered names (map (λ e. e.0) (entries (func_types c.args.types.now))) (map place ids)) c.as_slice.ensures.value c.in_ok-indices.ensures.value;
-        no_others = no_others_of c.in_ok-indices.indices;
-        raw_types = map type_record c.in_ok-raws.raws.items;
-        types_are = map-map raw_shape type_record c.in_ok-raws.raws.items ∙ c.in_ok-raws.ensures.value;
-        raw_functions = c.in_ok-functions.functions.items;
-        functions_are = c.in_ok-functions.ensures.value ∙ ap (map (λ id. type_index funcs names (place id))) c.as_slice-3.ensures.value ∙ sym (map-map (type_index funcs names) place c.in_ok-order.order.items);
-        raw_exports = map export_record c.in_ok-exported.exported.items;
-        exports_are = map-map (λ (e : Export). Some e) export_record c.in_ok-exported.exported.items ∙ c.in_ok-exported.ensures.value;
-        texts = All-map (λ (e : Export). IsUtf8 e.name) export_record c.in_ok-exported.exported.items c.in_ok-exported.ensures.text;
-        bodies = map (λ (v : Vec ℕ). v.items) c.in_ok-bodies.bodies.items;
-        bodies_are = zip_seen place (λ (v : Vec ℕ). v.items) (HasBytes funcs names) c.in_ok-order.order.items c.in_ok-bodies.bodies.items
-            (subst (λ ids. AllZip (λ id bytes. HasBytes funcs names (place id) bytes.items) ids c.in_ok-bodies.bodies.items) c.as_slice-2.ensures.value c.in_ok-bodies.ensures.value);
-      };
+      records = records_of (func_types c.args.types.now) funcs (items (exports c.args.all_exports.now)) c.in_ok-order.order.items c.in_ok-indices.indices c.in_ok-raws.raws.items c.in_ok-functions.functions.items c.in_ok-exported.exported.items c.in_ok-bodies.bodies.items
+          local c.in_ok-order.ensures.value
+          (subst (λ ids. AreNumbered names (map (λ e. e.0) (entries (func_types c.args.types.now))) (map place ids)) c.as_slice.ensures.value c.in_ok-indices.ensures.value)
+          c.in_ok-raws.ensures.value
+          (c.in_ok-functions.ensures.value ∙ ap (map (λ id. type_index funcs names (place id))) c.as_slice-3.ensures.value)
+          c.in_ok-exported.ensures.value c.in_ok-exported.ensures.text
+          (subst (λ ids. AllZip (λ id bytes. HasBytes funcs names (place id) bytes.items) ids c.in_ok-bodies.bodies.items) c.as_slice-2.ensures.value c.in_ok-bodies.ensures.value);
       written = written_same _ _ _ _ _ _ _ _ c.in_ok-bytes.bytes.items
           (ap (map type_record) c.as_slice-5.ensures.value) c.as_slice-6.ensures.value (ap (map export_record) c.as_slice-7.ensures.value)
           (ap (map body_record) c.as_slice-8.ensures.value ∙ c.in_ok-code.ensures.value ∙ ap (map (λ (v : Vec ℕ). unplaced v.items)) c.as_slice-4.ensures.value

@@ -1,6 +1,8 @@
 use Rattle.std.proofs.Common.{◌∙◌, ℕ, List, ◌++◌, ◌∷◌, [], sym, subst, arith, append_assoc}
 use Rattle.std.specs.Prelude.{nat_eq}
 use Rattle.std.specs.List.{IsDistinct}
+use Rattle.std.proofs.lemmas.List.{length-map}
+use Rattle.walrus_base.specs.Arena.{entries}
 use Rattle.walrus_base.specs.ModuleTypes.{func_types}
 use Rattle.walrus_module.proofs.Differ.{places_differ, places_count}
 use Rattle.walrus_module.proofs.Placing.{fresh}
@@ -27,3 +29,8 @@ loop-ty-preserved c =
     let turn = places_turn inv.0 _ _ _ _ _ inv.1 c.in-Some.ensures.steps c.id.ensures in
     let new = fresh inv.0 _ _ (subst (λ (ps : List ℕ). IsDistinct nat_eq ps) (sym turn) (places_differ (func_types c.args.types.now))) in
     (tt, tt, (inv.0 ++ _ ∷ [], append_assoc inv.0 _ _ ∙ turn, types_next c.args.indices.now c.loop-ty.indices c.push_type.new.self inv.0 _ inv.2 new c.in_ok-push_type.ensures))
+
+pub returns-then-len-clause-fails : goal.returns-then-len-clause-fails
+returns-then-len-clause-fails c =
+    let types = func_types c.args.types.now in
+    omega (arith, c.if-len.true, c.len.ensures, places_count types, length-map (entries types) (λ e. e.0))

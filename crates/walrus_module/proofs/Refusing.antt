@@ -1,0 +1,105 @@
+-- What a refusal of a part says of the items that are written.
+use Rattle.std.proofs.Common.{inl, inr, ◌≡◌, ℕ, suc, true, List, [], ◌∷◌, ◌++◌, map, length, sym, ap, ◌∙◌, subst, arith, Some, None}
+use Rattle.std.specs.Prelude.{Option, IsSome, All, Err}
+use Rattle.std.specs.Global.{Vec}
+use Rattle.std.specs.List.{AllZip}
+use Rattle.std.specs.Str.{IsUtf8}
+use Rattle.std.proofs.lemmas.List.{length-map}
+use Rattle.std.proofs.lemmas.List.Elements.{All-map}
+use Rattle.wasm_wire.specs.Record as wire
+use Rattle.wasm_wire.specs.Record.{type_record, export_record}
+use Rattle.wasm_wire.specs.declared.record.RawExport.{RawExport}
+use Rattle.wasm_wire.specs.declared.record.RawFuncType.{RawFuncType}
+use Rattle.walrus_base.specs.Arena.{entries, items}
+use Rattle.walrus_base.specs.FuncTypes.{FuncType}
+use Rattle.walrus_base.specs.Id.{place}
+use Rattle.walrus_base.specs.declared.id.Id.{Id}
+use Rattle.walrus_base.specs.declared.keys.FunctionKey.{FunctionKey}
+use Rattle.walrus_ir.specs.Indices.{index_of}
+use Rattle.walrus_ir.specs.declared.indices.IdsToIndices.{IdsToIndices}
+use Rattle.walrus_items.specs.Exports.{ExportValue}
+use Rattle.walrus_items.specs.Functions.{FunctionValue, local_functions}
+use Rattle.walrus_model.proofs.Lists.{map-map}
+use Rattle.walrus_module.specs.Emitted.{all_there, RefusesCounts, RefusesSections, RefusesItems}
+use Rattle.walrus_module.specs.Numbered.{AreNumbered}
+use Rattle.walrus_module.specs.Parts.{raw_shape, type_index, export_with_index, HasBytes, unplaced}
+use Rattle.walrus_module.specs.Sizes.{IsOrder}
+use Rattle.walrus_module.specs.Spells.{Records}
+use Rattle.walrus_module.specs.Whole.{all_local}
+use Rattle.walrus_module.proofs.Entries.{order_length}
+use Rattle.walrus_module.proofs.Parsing.{none_there}
+use Rattle.walrus_module.proofs.SpellsLemmas.{no_others_of, zip_seen}
+use Rattle.walrus_parts.specs.declared.error.Error.{Error}
+use Rattle.walrus_parts.specs.declared.error.Error.TheVariants as Parts
+
+-- ---- what is still to come
+
+at_seam : {A : Type 0} (P : A → Type 0) (xs : List A) (y : A) (rest : List A) → All P (xs ++ y ∷ rest) → P y
+at_seam P [] y rest h = h 0 y (omega arith)
+at_seam P (x ∷ xs) y rest h = at_seam P xs y rest (λ k d lt. h (suc k) d (omega (arith, lt)))
+
+-- where each has something, so has the next one
+pub next_has : {B C : Type 0} (done : List (Option C)) (g : B → Option C) (left after : List B) (e : B) (all : List (Option C)) → done ++ map g left ≡ all → left ≡ e ∷ after → All (λ o. IsSome o) all → None ≡ g e → ⊥
+next_has {B} {C} done g left after e all is step h none =
+    let parts : all ≡ done ++ g e ∷ map g after = sym is ∙ ap (λ (l : List B). done ++ map g l) step in
+    let some : IsSome (g e) = at_seam (λ (o : Option C). IsSome o) done (g e) (map g after) (subst (λ (l : List (Option C)). All (λ o. IsSome o) l) parts h) in
+    none_there (subst (λ (o : Option C). IsSome o) (sym none) some)
+
+module _ (types : List (Option FuncType)) (funcs : List (Option FunctionValue)) (exports : List ExportValue) where
+  -- ---- too many items
+
+  pub counts_refused : (X : Type 0) (ids lent : List (Id FunctionKey)) (e : Error) → all_there types funcs exports ≡ true → IsOrder funcs (map place ids) → lent ≡ ids → RefusesCounts (length (entries types)) (length lent) e → RefusesItems {X = X} types funcs exports (Err e)
+  counts_refused X ids lent (Parts.Memory m) there ordered same h = tt
+  counts_refused X ids lent Parts.TooLarge there ordered same (inl h) = (there, inl h)
+  counts_refused X ids lent Parts.TooLarge there ordered same (inr h) =
+      let as_many : length lent ≡ length (local_functions (entries funcs)) = ap (λ (l : List (Id FunctionKey)). length l) same ∙ sym (length-map ids place) ∙ order_length funcs (map place ids) ordered in
+      (there, inr (inl (omega (arith, h, as_many))))
+  counts_refused X ids lent _ there ordered same h = absurd h
+
+  -- ---- the records
+
+  abbrev pub records_of : (ids : List (Id FunctionKey)) (indices : IdsToIndices) (raws : List RawFuncType) (raw_functions : List ℕ) (exported : List RawExport) (bodies : List (Vec ℕ)) → all_local (items funcs) ≡ true → IsOrder funcs (map place ids)
+      → AreNumbered (index_of indices) (map (λ e. e.0) (entries types)) (map place ids)
+      → map (λ t. raw_shape (type_record t)) raws ≡ map (λ e. e.1) (entries types)
+      → map Some raw_functions ≡ map (λ id. type_index funcs (index_of indices) (place id)) ids
+      → map (λ e. Some (export_record e)) exported ≡ map (export_with_index (index_of indices)) exports
+      → All (λ e. IsUtf8 e.name.now) exported
+      → AllZip (λ id bytes. HasBytes funcs (index_of indices) (place id) bytes.items) ids bodies
+      → Records types funcs exports
+  records_of ids indices raws raw_functions exported bodies local ordered numbered types_are functions_are exports_are texts bodies_are =
+      let names = index_of indices in
+      record {
+        all_are_local = local;
+        order = map place ids;
+        ordered = ordered;
+        names = names;
+        numbered = numbered;
+        no_others = no_others_of indices;
+        raw_types = map type_record raws;
+        types_are = map-map raw_shape type_record raws ∙ types_are;
+        raw_functions = raw_functions;
+        functions_are = functions_are ∙ sym (map-map (type_index funcs names) place ids);
+        raw_exports = map export_record exported;
+        exports_are = map-map (λ (e : wire.Export). Some e) export_record exported ∙ exports_are;
+        texts = All-map (λ (e : wire.Export). IsUtf8 e.name) export_record exported texts;
+        bodies = map (λ (v : Vec ℕ). v.items) bodies;
+        bodies_are = zip_seen place (λ (v : Vec ℕ). v.items) (HasBytes funcs names) ids bodies bodies_are;
+      }
+
+  -- ---- records that can't be spelled
+
+  pub sections_refused : (X : Type 0) (r : Records types funcs exports) (ts : List wire.FuncType) (fs : List ℕ) (es : List wire.Export) (bs : List wire.Body) (e : Error) → all_there types funcs exports ≡ true
+      → ts ≡ r.raw_types → fs ≡ r.raw_functions → es ≡ r.raw_exports → bs ≡ map unplaced r.bodies → RefusesSections ts fs es bs e → RefusesItems {X = X} types funcs exports (Err e)
+  sections_refused X r ts fs es bs (Parts.Memory m) there t f x b h = tt
+  sections_refused X r ts fs es bs Parts.TooLarge there t f x b h = (
+    there,
+    inr (inr (record {
+      records = r;
+      too_large =
+          subst (λ u. RefusesSections r.raw_types r.raw_functions r.raw_exports u Parts.TooLarge) b
+          (subst (λ u. RefusesSections r.raw_types r.raw_functions u bs Parts.TooLarge) x
+          (subst (λ u. RefusesSections r.raw_types u es bs Parts.TooLarge) f
+          (subst (λ u. RefusesSections u fs es bs Parts.TooLarge) t h)));
+    })),
+  )
+  sections_refused X r ts fs es bs _ there t f x b h = absurd h
