@@ -1,13 +1,10 @@
 -- What is left where unused items are dropped.
-use Rattle.std.proofs.Common.{◌≡◌, ℕ, zero, suc, ◌+◌, ◌<◌, ◌≢◌, ◌⊎◌, inl, inr, Bool, true, false, cond, List, [], ◌∷◌, ◌++◌, append_assoc, Option, Some, None, map, length, get_or, drop, slice_set, sym, ap, ◌∙◌, subst, refl, arith}
+use Rattle.std.proofs.Common.{◌≡◌, ℕ, zero, suc, ◌+◌, ◌≢◌, ◌⊎◌, inl, inr, Bool, true, false, cond, List, [], ◌∷◌, Option, Some, None, slice_set, sym, ap, ◌∙◌, subst, refl, arith}
 use Rattle.std.specs.Prelude.{◌↔◌}
 use Rattle.std.proofs.lemmas.Bool.{false≢true}
-use Rattle.std.proofs.lemmas.List.{map-append}
 use Rattle.std.proofs.lemmas.Option.{none-some}
-use Rattle.walrus_base.specs.Arena.{IsLive, item_at, entries, entries_from}
-use Rattle.walrus_base.specs.Id.{place}
+use Rattle.walrus_base.specs.Arena.{item_at, entries, entries_from}
 use Rattle.walrus_base.specs.IdSet.{HasId, has_id}
-use Rattle.walrus_base.specs.declared.id.Id.{Id}
 use Rattle.walrus_base.specs.declared.set.IdHashSet.{IdHashSet}
 use Rattle.walrus.specs.Collected.{KeepsOnly, unused_among, without}
 use Rattle.walrus.proofs.Entered.{same_or_other}

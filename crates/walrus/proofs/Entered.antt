@@ -1,5 +1,5 @@
 -- How the marks and the functions found follow what is entered.
-use Rattle.std.proofs.Common.{◌≡◌, ℕ, zero, suc, ◌+◌, ◌<◌, ◌≤◌, ◌≢◌, ◌⊎◌, inl, inr, Bool, true, false, eqb, List, [], ◌∷◌, ◌++◌, Option, Some, None, map, length, get_or, take, sym, ap, ◌∙◌, subst, refl, arith}
+use Rattle.std.proofs.Common.{◌≡◌, ℕ, zero, suc, ◌+◌, ◌<◌, ◌≤◌, ◌≢◌, ◌⊎◌, inl, inr, Bool, true, false, eqb, List, [], ◌∷◌, ◌++◌, Option, map, length, get_or, take, sym, ap, ◌∙◌, subst, refl, arith}
 use Rattle.std.specs.Prelude.{Contains, flat_map, Decides, Result, Ok, Err, MatchResult, not}
 use Rattle.std.proofs.lemmas.Bool.{false≢true}
 use Rattle.std.proofs.lemmas.Bool.Decides.{Decides-eqb}
@@ -8,7 +8,7 @@ use Rattle.std.proofs.lemmas.List.{append-nil, length-map, length_push, map-appe
 use Rattle.std.proofs.lemmas.List.Elements.{Contains-push, Contains-push_cases, Contains-append_left, Contains-append_right, Contains-append_cases}
 use Rattle.walrus_base.specs.Arena.{IsLive}
 use Rattle.walrus_base.specs.Id.{place}
-use Rattle.walrus_base.specs.IdSet.{HasId, has_id, Adds}
+use Rattle.walrus_base.specs.IdSet.{HasId, Adds}
 use Rattle.walrus_base.specs.declared.id.Id.{Id}
 use Rattle.walrus_base.specs.declared.keys.FunctionKey.{FunctionKey}
 use Rattle.walrus_base.specs.declared.set.IdHashSet.{IdHashSet}

@@ -1,18 +1,18 @@
 -- How the search for used items goes on, and what it has found at its end.
-use Rattle.std.proofs.Common.{◌≡◌, ℕ, ◌+◌, ◌<◌, ◌≤◌, ◌≢◌, ◌⊎◌, inl, inr, zero, suc, List, [], ◌∷◌, get_or, Option, Some, None, length, sym, ap, ◌∙◌, subst, refl, arith}
-use Rattle.std.specs.Prelude.{Contains, ◌↔◌, IsSome, false}
+use Rattle.std.proofs.Common.{◌≡◌, ℕ, ◌+◌, ◌<◌, ◌≤◌, ◌≢◌, ◌⊎◌, inl, inr, zero, suc, List, [], ◌∷◌, get_or, Option, Some, length, sym, ap, ◌∙◌, subst, refl, arith}
+use Rattle.std.specs.Prelude.{Contains, IsSome}
 use Rattle.std.proofs.lemmas.Bool.{false≢true}
 use Rattle.walrus_base.specs.Arena.{IsLive, item_at}
 use Rattle.walrus_base.specs.FuncTypes.{FuncType}
 use Rattle.walrus_base.specs.Id.{place}
-use Rattle.walrus_base.specs.IdSet.{HasId, has_id, Adds}
+use Rattle.walrus_base.specs.IdSet.{HasId, Adds}
 use Rattle.walrus_base.specs.declared.id.Id.{Id}
 use Rattle.walrus_base.specs.declared.keys.FunctionKey.{FunctionKey}
 use Rattle.walrus_base.specs.declared.keys.TypeKey.{TypeKey}
 use Rattle.walrus_base.specs.declared.set.IdHashSet.{IdHashSet}
 use Rattle.walrus_ir.specs.Operators.{Item, function_item}
 use Rattle.walrus_items.specs.Functions.{FunctionValue, kind_type}
-use Rattle.walrus.specs.Used.{Reaches, root, called, ReachesType, ReachesBroken, NamesFunction, IsWhole, IsInitialised, IsNothing, IsWaiting, IsDone, AreFound, Enters, NamesDead, Follows, Followed, kind_names, place_at}
+use Rattle.walrus.specs.Used.{Reaches, root, called, ReachesType, ReachesBroken, IsWhole, IsInitialised, IsNothing, IsWaiting, IsDone, AreFound, Enters, NamesDead, Follows, Followed, kind_names, place_at}
 use Rattle.walrus.proofs.Entered.{same_or_other}
 
 nothing_in : {K : Type 0} (set : IdHashSet K) → IsNothing set → (i : ℕ) → HasId set i → ⊥

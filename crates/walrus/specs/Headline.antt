@@ -1,5 +1,5 @@
 -- THE MAIN THEOREM: what a run comes to, for all that was read and all that was written.
-use Rattle.std.specs.Prelude.{ℕ, List, ◌++◌, Option, ◌≡◌, ⊤, Result, Ok, Err}
+use Rattle.std.specs.Prelude.{ℕ, List, ◌++◌, Option, ⊤, Result, Ok, Err}
 use Rattle.std.specs.Io.KnownBytes.{Appends, Consumes, IsAtEnd, Keeps}
 use Rattle.walrus_model.specs.Abstract.{Abstract}
 use Rattle.walrus_model.specs.Config.{Config}

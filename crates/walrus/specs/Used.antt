@@ -1,5 +1,5 @@
 -- What a search for used items finds, and when it refuses. Places stand for ids, lists of slots for arenas.
-use Rattle.std.specs.Prelude.{ℕ, ◌≡◌, ◌≤◌, ◌<◌, ◌⊎◌, ◌↔◌, false, List, [], Option, Some, map, length, slice_index, All, Contains, ⊤}
+use Rattle.std.specs.Prelude.{ℕ, ◌≡◌, ◌≤◌, ◌<◌, ◌⊎◌, ◌↔◌, false, List, [], Option, Some, map, length, slice_index, Contains, ⊤}
 use Rattle.walrus_base.specs.Arena.{IsLive, item_at, items}
 use Rattle.walrus_base.specs.FuncTypes.{FuncType}
 use Rattle.walrus_base.specs.Id.{place}

@@ -1,7 +1,7 @@
-use Rattle.std.proofs.Common.{◌≡◌, true, rules}
+use Rattle.std.proofs.Common.{rules}
 use Rattle.walrus_base.specs.Arena.{IsLive}
 use Rattle.walrus_base.specs.Id.{place}
-use Rattle.walrus_base.specs.IdSet.{HasId, has_id}
+use Rattle.walrus_base.specs.IdSet.{has_id}
 use Rattle.walrus_items.specs.Functions.{functions}
 use Rattle.walrus.proofs.Entered.{enters_new, enters_again, was_in}
 use Rattle.walrus.proofs.passes.used.enter.Goals as goal

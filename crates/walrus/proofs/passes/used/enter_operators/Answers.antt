@@ -1,7 +1,6 @@
 use Rattle.std.proofs.Common.{◌+◌, take}
-use Rattle.std.specs.Prelude.{flat_map, map}
 use Rattle.std.proofs.lemmas.Result.{err_from_is_err_and}
-use Rattle.walrus_ir.specs.Code.{op_of, args_of, ops_of}
+use Rattle.walrus_ir.specs.Code.{op_of, ops_of}
 use Rattle.walrus_ir.specs.Operators.{op_names, names_of}
 use Rattle.walrus_items.specs.Functions.{functions}
 use Rattle.walrus.specs.Used.{NamesDead}

@@ -1,7 +1,6 @@
 use Rattle.std.proofs.Common.{take}
-use Rattle.std.specs.Prelude.{flat_map, map}
-use Rattle.walrus_ir.specs.Code.{arg_of, ops_of}
-use Rattle.walrus_ir.specs.Operators.{arg_names, names_of}
+use Rattle.walrus_ir.specs.Code.{ops_of}
+use Rattle.walrus_ir.specs.Operators.{names_of}
 use Rattle.walrus_items.specs.Functions.{functions}
 use Rattle.walrus.specs.Used.{Enters}
 use Rattle.walrus.proofs.passes.used.enter_operators.Given as goal
