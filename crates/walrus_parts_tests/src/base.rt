@@ -1,6 +1,6 @@
 //! Arenas, sets of ids, types and locals.
-use walrus_base::{FunctionKey, IdHashSet, ModuleLocals, ModuleTypes, TombstoneArena, ValType};
 use std::alloc::AllocError;
+use walrus_base::{FunctionKey, IdHashSet, ModuleLocals, ModuleTypes, TombstoneArena, ValType};
 
 #[test]
 fn arena_keeps_its_places(rt: HostRuntime) -> Result<(), AllocError> {

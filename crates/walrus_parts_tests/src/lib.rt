@@ -4,6 +4,8 @@
 #[cfg(test)]
 mod base;
 #[cfg(test)]
+mod entries;
+#[cfg(test)]
 mod forms;
 #[cfg(test)]
 mod ir;
@@ -13,5 +15,7 @@ mod items;
 mod parts;
 #[cfg(test)]
 mod sample;
+#[cfg(test)]
+mod whole;
 #[cfg(test)]
 mod wire;

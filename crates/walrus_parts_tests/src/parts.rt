@@ -5,8 +5,6 @@ use walrus_base::{FunctionId, FunctionKey, TombstoneArena};
 use walrus_ir::IdsToIndices;
 use walrus_parts::{CustomSection, Error, ErrorKind, RawCustomSection, Result, Roots};
 
-
-
 #[test]
 fn each_error_has_its_text(rt: HostRuntime) -> Result<()> {
     let alloc = rt.alloc();

@@ -1,13 +1,14 @@
 -- The last byte of a number.
-use Rattle.std.proofs.Common.{◌≡◌, ℕ, suc, ◌+◌, ◌-◌, ◌*◌, ◌<◌, ◌≤◌, true, false, List, [], ◌∷◌, sym, ap, ◌∙◌, arith, lt-ltb, le-ltb, ltb-true, ℤ, pos, negsuc, ◌+ℤ◌, ◌-ℤ◌, ◌*ℤ◌}
+use Rattle.std.proofs.Common.{◌≡◌, ℕ, suc, ◌+◌, ◌-◌, ◌*◌, ◌<◌, ◌≤◌, true, false, List, [], ◌∷◌, sym, ap, ◌∙◌, arith, lt-ltb, le-ltb, ltb-true, ◌⊎◌, inl, inr, ℤ, pos, negsuc, ◌+ℤ◌, ◌-ℤ◌, ◌*ℤ◌}
 use Rattle.std.proofs.lemmas.Int.{ints}
+use Rattle.std.proofs.Math.Nat.{mul-le-mul_left}
 use lib.Signed.{mag}
 use Rattle.std.specs.Prelude.{Option, Some, None, if◌then◌else◌, nat_lt}
 use Rattle.wasm_forms.specs.Reading.{◌>>=◌}
-use Rattle.wasm_forms.specs.Number.{leb_at, sleb_at, number_at, integer_at, last_of, fits, last_at, above, signed_above, unsigned_end, signed_end}
+use Rattle.wasm_forms.specs.Number.{leb_at, sleb_at, number_at, integer_at, last_of, Fits, fits, last_at, IsLast, above, signed_above, unsigned_end, signed_end}
 use Rattle.wasm_forms.proofs.Bind.{if_some}
 use Rattle.wasm_forms.proofs.Leb.{leb-last}
-use Rattle.wasm_forms.proofs.Turns.{lacks}
+use Rattle.wasm_forms.proofs.Turns.{lacks, value_room}
 
 -- a u32 or the like behind its groups, by its last byte
 abbrev small_enough : ℕ → ℕ × List ℕ → Option (ℕ × List ℕ)
@@ -76,6 +77,30 @@ value_high value scale b v l h =
     let p : scale * (b + suc (128 - suc b)) ≡ scale * 128 = ap (λ k. scale * k) g in
     ap (λ z. pos value +ℤ pos scale *ℤ z) (last_high b l h) ∙ lacks value scale (128 - suc b) v ∙ above_lacks value scale b (128 - suc b) v p
 
+shifted : (value scale b gap : ℕ) → scale * (b + gap) ≡ scale * 128 → pos (value + scale * b) -ℤ pos (scale * 128) ≡ pos value -ℤ pos (scale * gap)
+shifted value scale b gap p = omega (arith, ints, p)
+
+pub value_below : (value scale b : ℕ) → value < scale → 64 ≤ b → b < 128 → pos value +ℤ pos scale *ℤ last_of b ≡ pos value -ℤ pos (scale * (128 - b))
+value_below value scale b v l h =
+    let g : b + (128 - b) ≡ 128 = omega arith in
+    value_high value scale b v l h ∙ shifted value scale b (128 - b) (ap (λ k. scale * k) g)
+
+-- a last byte is one that has none behind it
+pub last_stops : (bytes after : List ℕ) (b : ℕ) → last_at bytes ≡ Some (b, after) → IsLast bytes
+last_stops [] after b h = tt
+last_stops (x ∷ xs) after b h = ltb-true x 128 (if_some (nat_lt x 128) (x, xs) (b, after) h).0
+
+-- the tenth byte of a number: nine groups hold 63 bits
+pub nine_full : (value scale b : ℕ) → value < scale → scale ≤ 9223372036854775808 → b ≤ 1 → value + scale * b < 18446744073709551616
+nine_full value scale b v s l = omega (arith, mul-le-mul_left scale l)
+
+pub nine_above : (value scale b : ℕ) → 9223372036854775808 ≤ scale → 2 ≤ b → 18446744073709551616 ≤ value + scale * b
+nine_above value scale b s l = omega (arith, mul-le-mul_left scale l)
+
+pub nine_room : (value scale b : ℕ) → value < scale → b < 128 → scale < 9223372036854775808 → (scale ≡ 9223372036854775808) ⊎ (scale * 128 ≤ 9223372036854775808) → value + scale * b < 18446744073709551616
+nine_room value scale b v l s (inl h) = absurd (omega arith)
+nine_room value scale b v l s (inr h) = omega (arith, value_room value scale b v l)
+
 least : (n half : ℕ) → (n < half → ⊥) → half ≤ n
 least n half h = omega arith
 
@@ -87,3 +112,7 @@ fits_mag half (negsuc n) h = lt-ltb n half h
 pub fits_not : (half : ℕ) (z : ℤ) → (mag z < half → ⊥) → fits half z ≡ false
 fits_not half (pos n) h = le-ltb n half (least n half h)
 fits_not half (negsuc n) h = le-ltb n half (least n half h)
+
+pub mag_from_fits : (half : ℕ) (z : ℤ) → Fits half z → mag z < half
+mag_from_fits half (pos n) h = h
+mag_from_fits half (negsuc n) h = h

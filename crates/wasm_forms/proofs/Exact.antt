@@ -4,10 +4,10 @@ use Rattle.std.specs.Prelude.{Some, Result, Ok, Err}
 use Rattle.wasm_forms.specs.declared.error.WireError.{WireError}
 use Rattle.wasm_forms.specs.declared.error.WireError.TheVariants.{Malformed, Memory, TooLarge}
 use Rattle.wasm_forms.specs.Reading as reading
-use Rattle.wasm_forms.specs.Grammar.{Form, Fails, Gives, Byte, Number, Integer, IndexFrom, Block, ◌then◌, Led, Made, Where, Row, Until, Is, at, IsExact, HasOneReading, Reads}
+use Rattle.wasm_forms.specs.Grammar.{Form, Fails, Gives, Byte, Number, Integer, IndexFrom, Bytes, Block, ◌then◌, Led, Made, Where, Row, Until, Is, at, IsExact, HasOneReading, Reads}
 use Rattle.wasm_forms.proofs.Bind.{some_same, some_not_none}
 use Rattle.wasm_forms.proofs.Leb.{number_exact, integer_exact, index_exact}
-use Rattle.wasm_forms.proofs.Parts.{fails_exact, gives_exact, byte_exact, block_exact, then_exact, led_exact, made_exact, where_exact, row_exact, until_exact}
+use Rattle.wasm_forms.proofs.Parts.{fails_exact, gives_exact, byte_exact, bytes_exact, block_exact, then_exact, led_exact, made_exact, where_exact, row_exact, until_exact}
 
 pub exact : {A : Type 0} (g : Form A) → IsExact (Is g) (at g)
 exact Fails = fails_exact
@@ -16,6 +16,7 @@ exact Byte = byte_exact
 exact (Number most top) = number_exact most top
 exact (Integer most half) = integer_exact most half
 exact (IndexFrom b) = index_exact b
+exact (Bytes n) = bytes_exact n
 exact Block = block_exact
 exact (f then g) = then_exact (Is f) (at f) (Is g) (at g) (exact f) (exact g)
 exact (Led f g) = led_exact (Is f) (at f) (λ b. Is (g b)) (λ b. at (g b)) (exact f) (λ b. exact (g b))

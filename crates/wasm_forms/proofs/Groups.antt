@@ -1,5 +1,5 @@
 -- The groups of a number, one by one.
-use Rattle.std.proofs.Common.{◌≡◌, ℕ, zero, suc, ◌+◌, ◌/◌, ◌%◌, ◌^◌, ◌<◌, ◌≤◌, Bool, true, false, List, [], ◌∷◌, ◌++◌, length, refl, sym, ap, ◌∙◌, arith, lt-ltb, le-ltb, append_assoc, append-nil, pos, negsuc}
+use Rattle.std.proofs.Common.{◌≡◌, ℕ, zero, suc, ◌+◌, ◌*◌, ◌/◌, ◌%◌, ◌^◌, ◌<◌, ◌≤◌, Bool, true, false, List, [], ◌∷◌, ◌++◌, length, refl, sym, ap, ◌∙◌, arith, lt-ltb, le-ltb, append_assoc, append-nil, pos, negsuc}
 use Rattle.std.proofs.lemmas.Nat.{pow-add}
 use Rattle.wasm_forms.specs.Spelling.{shown, groups, number_bytes, integer_bytes}
 
@@ -14,22 +14,22 @@ groups-more below stop most n h = rw (le-ltb n stop h) refl
 -- a number on the way: these groups are written, and those of what is left follow
 abbrev pub Partway : List ℕ → List ℕ → Bool → ℕ → ℕ → ℕ → Type 0
 Partway old now below stop number left =
-    (most : ℕ) × ((done : List ℕ) × ((now ≡ old ++ done) × (groups below stop 9 number ≡ done ++ groups below stop most left) × (left < 128 ^ most)))
+    (most : ℕ) × ((done : List ℕ) × ((now ≡ old ++ done) × (groups below stop 9 number ≡ done ++ groups below stop most left) × (left < 2 * 128 ^ most)))
 
-pub partway_start : (old : List ℕ) (below : Bool) (stop number : ℕ) → number < 4294967296 → Partway old old below stop number number
+pub partway_start : (old : List ℕ) (below : Bool) (stop number : ℕ) → number < 18446744073709551616 → Partway old old below stop number number
 partway_start old below stop number h = (9, ([], (sym (append-nil old), refl, omega arith)))
 
-partway_next : (most left : ℕ) → left < 128 ^ suc most → left / 128 < 128 ^ most
+partway_next : (most left : ℕ) → left < 2 * 128 ^ suc most → left / 128 < 2 * 128 ^ most
 partway_next most left h = let e : most + 1 ≡ suc most = omega arith in omega (arith, pow-add 128 most 1, ap (λ k. 128 ^ k) e)
 
-partway_turn_at : (old now now' : List ℕ) (below : Bool) (stop number left most : ℕ) (done : List ℕ) → 1 ≤ stop → stop ≤ left → now' ≡ now ++ (128 + shown below (left % 128)) ∷ []
-    → now ≡ old ++ done → groups below stop 9 number ≡ done ++ groups below stop most left → left < 128 ^ most → Partway old now' below stop number (left / 128)
+partway_turn_at : (old now now' : List ℕ) (below : Bool) (stop number left most : ℕ) (done : List ℕ) → 2 ≤ stop → stop ≤ left → now' ≡ now ++ (128 + shown below (left % 128)) ∷ []
+    → now ≡ old ++ done → groups below stop 9 number ≡ done ++ groups below stop most left → left < 2 * 128 ^ most → Partway old now' below stop number (left / 128)
 partway_turn_at old now now' below stop number left zero done p l e w g r = absurd (omega arith)
 partway_turn_at old now now' below stop number left (suc most) done p l e w g r =
     let x = 128 + shown below (left % 128) in
     (most, (done ++ x ∷ [], (e ∙ ap (λ y. y ++ x ∷ []) w ∙ append_assoc old done (x ∷ []), g ∙ ap (λ y. done ++ y) (groups-more below stop most left l) ∙ sym (append_assoc done (x ∷ []) (groups below stop most (left / 128))), partway_next most left r)))
 
-pub partway_turn : (old now now' : List ℕ) (below : Bool) (stop number left : ℕ) → 1 ≤ stop → stop ≤ left → now' ≡ now ++ (128 + shown below (left % 128)) ∷ [] → Partway old now below stop number left → Partway old now' below stop number (left / 128)
+pub partway_turn : (old now now' : List ℕ) (below : Bool) (stop number left : ℕ) → 2 ≤ stop → stop ≤ left → now' ≡ now ++ (128 + shown below (left % 128)) ∷ [] → Partway old now below stop number left → Partway old now' below stop number (left / 128)
 partway_turn old now now' below stop number left p l e h = partway_turn_at old now now' below stop number left h.0 h.1.0 p l e h.1.1.0 h.1.1.1 h.1.1.2
 
 groups-end : (below : Bool) (stop most n : ℕ) → n < stop → groups below stop most n ≡ shown below n ∷ []

@@ -1,6 +1,6 @@
 -- One more item that is written.
-use Rattle.std.proofs.Common.{◌≡◌, ℕ, zero, suc, ◌+◌, ◌<◌, ◌≤◌, List, [], ◌∷◌, ◌++◌, length, get_or, take, refl, sym, ap, subst, ◌∙◌, arith, append_assoc, append-nil, length-take, ◌⊎◌, inl, inr}
-use Rattle.std.proofs.lemmas.List.{take_more, take-append-le}
+use Rattle.std.proofs.Common.{◌≡◌, ℕ, zero, suc, ◌+◌, ◌<◌, ◌≤◌, List, [], ◌∷◌, ◌++◌, length, get_or, take, refl, sym, ap, subst, ◌∙◌, arith, append_assoc, append-nil, ◌⊎◌, inl, inr}
+use Rattle.std.proofs.lemmas.List.{take_more}
 use Rattle.wasm_forms.specs.Writing.{EachFits}
 use Rattle.wasm_forms.specs.Spelling.{row_bytes}
 
@@ -26,10 +26,6 @@ each_at F [] i x l e h = absurd (omega arith)
 each_at F (y ∷ ys) zero x l e h = subst F (sym e) h.0
 each_at F (y ∷ ys) (suc i) x l e h = each_at F ys i x (omega arith) e h.1
 
--- what stood before stays in front
-pub kept_more : (n : ℕ) (front old more : List ℕ) → n ≡ length front → take n old ≡ front → take n (old ++ more) ≡ front
-kept_more n front old more e h = let l : n ≤ length old = omega (arith, length-take n old, ap length h) in take-append-le n old more l ∙ h
-
-pub stop_positive : (stop : ℕ) → (stop ≡ 64) ⊎ (stop ≡ 128) → 1 ≤ stop
-stop_positive stop (inl h) = omega arith
-stop_positive stop (inr h) = omega arith
+pub stop_room : (stop : ℕ) → (stop ≡ 64) ⊎ (stop ≡ 128) → 2 ≤ stop
+stop_room stop (inl h) = omega arith
+stop_room stop (inr h) = omega arith

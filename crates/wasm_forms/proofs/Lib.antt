@@ -3,6 +3,8 @@ pub mod Leb
 pub mod Parts
 pub mod Turns
 pub mod Ends
+pub mod Index
+pub mod Floats
 pub mod Rows
 pub mod Refused
 pub mod Exact
@@ -10,3 +12,5 @@ pub mod Groups
 pub mod Items
 pub mod Signs
 pub mod Spelled
+pub mod Adding
+pub mod Stands

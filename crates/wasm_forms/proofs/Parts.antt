@@ -4,7 +4,7 @@ use Rattle.std.proofs.Math.Seq.{take-append_seam, drop-append_seam}
 use Rattle.std.specs.Prelude.{Option, Some, None, if◌then◌else◌, nat_lt}
 use Rattle.wasm_forms.specs.Reading.{◌>>=◌, byte_at}
 use Rattle.wasm_forms.specs.Number.{IsU32, number_at}
-use Rattle.wasm_forms.specs.Grammar.{IsExact, IsRow, row_at, IsBlock, block_at, IsUntil, until_at}
+use Rattle.wasm_forms.specs.Grammar.{IsExact, IsRow, row_at, bytes_at, IsBlock, block_at, IsUntil, until_at}
 use Rattle.wasm_forms.proofs.Bind.{some_same, bind_some, bind_at, if_some, byte_takes}
 use Rattle.wasm_forms.proofs.Leb.{number_exact}
 
@@ -113,6 +113,26 @@ row_again {A} F f ef (suc n) front rest (x ∷ xs) h e =
 
 pub row_exact : {A : Type 0} (F : List ℕ → A → Type 0) (f : Reader A) → IsExact F f → (n : ℕ) → IsExact (λ bytes xs. IsRow F bytes xs × (length xs ≡ n)) (row_at f n)
 row_exact F f ef n = record { takes = row_takes F f ef n; again = λ front rest xs h. row_again F f ef n front rest xs h.0 h.1 }
+
+bytes_takes_at : (n : ℕ) (bytes : List ℕ) (x : List ℕ × List ℕ) → (t : Bool) → ltb (length bytes) n ≡ t → (if t then None else Some (take n bytes, drop n bytes)) ≡ Some x
+    → (front : List ℕ) × ((bytes ≡ front ++ x.1) × ((x.0 ≡ front) × (length front ≡ n)))
+bytes_takes_at n bytes x true h e = cc
+bytes_takes_at n bytes x false h e =
+    let s = some_same (take n bytes, drop n bytes) x e in
+    let l : n ≤ length bytes = ltb-false (length bytes) n h in
+    let H : List ℕ × List ℕ → Type 0 = λ y. (bytes ≡ take n bytes ++ y.1) × ((y.0 ≡ take n bytes) × (length (take n bytes) ≡ n)) in
+    (take n bytes, subst H s (sym (take-append-drop n bytes), (refl, length-take-le n bytes l)))
+
+pub bytes_exact : (n : ℕ) → IsExact (λ bytes a. (a ≡ bytes) × (length bytes ≡ n)) (bytes_at n)
+unfolding bytes_at
+bytes_exact n = record {
+  takes = λ bytes x e. bytes_takes_at n bytes x (ltb (length bytes) n) refl e;
+  again = λ front rest a h.
+      let no : ltb (length (front ++ rest)) (length front) ≡ false = le-ltb (length (front ++ rest)) (length front) (omega (arith, length-append front rest)) in
+      ap (λ k. if nat_lt (length (front ++ rest)) k then None else Some (take k (front ++ rest), drop k (front ++ rest))) (sym h.1)
+      ∙ ap (λ t. if t then None else Some (take (length front) (front ++ rest), drop (length front) (front ++ rest))) no
+      ∙ ap₂ (λ b c. Some (b, c)) (take-append_seam front rest) (drop-append_seam front rest) ∙ ap (λ b. Some (b, rest)) (sym h.0);
+}
 
 block_takes_at : (bytes : List ℕ) (n : ℕ × List ℕ) (x : List ℕ × List ℕ) → (count : List ℕ) × ((bytes ≡ count ++ n.1) × IsU32 count n.0) → (t : Bool) → ltb (length n.1) n.0 ≡ t
     → (if t then None else Some (take n.0 n.1, drop n.0 n.1)) ≡ Some x → (front : List ℕ) × ((bytes ≡ front ++ x.1) × IsBlock front x.0)

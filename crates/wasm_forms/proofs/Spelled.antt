@@ -6,9 +6,9 @@ use Rattle.std.proofs.lemmas.Nat.{pow-add}
 use Rattle.std.proofs.lemmas.Int.{ints}
 use Rattle.std.proofs.lemmas.Str.{is_utf8-from_IsUtf8}
 use Rattle.std.specs.Str.{IsUtf8}
-use Rattle.wasm_forms.specs.Number.{AreBytes, IsUnsigned, IsSigned, Fits}
-use Rattle.wasm_forms.specs.Grammar.{Form, Is, IsRow, Block, U32, S32, Vector, name}
-use Rattle.wasm_forms.specs.Spelling.{shown, groups, number_bytes, integer_bytes, block_bytes, name_bytes, row_bytes, vector_bytes}
+use Rattle.wasm_forms.specs.Number.{AreBytes, IsUnsigned, IsSigned, Fits, IsIndex}
+use Rattle.wasm_forms.specs.Grammar.{Form, Is, IsRow, Block, U32, S32, U64, S64, Index, Vector, name}
+use Rattle.wasm_forms.specs.Spelling.{shown, groups, number_bytes, integer_bytes, index_bytes, block_bytes, name_bytes, row_bytes, vector_bytes}
 use Rattle.wasm_forms.specs.Writing.{FitsLength, EachFits, FitsVector}
 use Rattle.wasm_forms.proofs.Groups.{groups-last, groups-more}
 use Rattle.wasm_forms.proofs.Leb.{unsigned_more, signed_more}
@@ -82,6 +82,27 @@ pub integer_stands : (z : ℤ) → Fits 2147483648 z → Is S32 (integer_bytes z
 unfolding integer_bytes
 integer_stands (pos n) h = record { spelled = signed_groups false 9 n (omega arith); short = groups_short false 64 9 4 n (omega arith); small = h }
 integer_stands (negsuc n) h = record { spelled = signed_groups true 9 n (omega arith); short = groups_short true 64 9 4 n (omega arith); small = h }
+
+pub long_number_stands : (n : ℕ) → n < 18446744073709551616 → Is U64 (number_bytes n) n
+unfolding number_bytes
+long_number_stands n h = record { spelled = unsigned_groups 9 n (omega arith); short = groups_short false 128 9 9 n (omega arith); small = h }
+
+pub long_integer_stands : (z : ℤ) → Fits 9223372036854775808 z → Is S64 (integer_bytes z) z
+unfolding integer_bytes
+long_integer_stands (pos n) h = record { spelled = signed_groups false 9 n (omega arith); short = groups_short false 64 9 9 n (omega arith); small = h }
+long_integer_stands (negsuc n) h = record { spelled = signed_groups true 9 n (omega arith); short = groups_short true 64 9 9 n (omega arith); small = h }
+
+spells_index : (n : ℕ) → n < 4294967296 → IsIndex (index_bytes n) n
+unfolding integer_bytes
+spells_index n h = record { spelled = signed_groups false 9 n (omega arith); short = groups_short false 64 9 4 n (omega arith); small = h }
+
+-- an index has a first byte
+pub index_led : (bytes : List ℕ) (n : ℕ) → IsIndex bytes n → Is Index bytes n
+index_led [] n h = absurd h.spelled
+index_led (b ∷ bytes) n h = (b, (b ∷ [], (bytes, (refl, refl, h))))
+
+pub index_stands : (n : ℕ) → n < 4294967296 → Is Index (index_bytes n) n
+index_stands n h = index_led (index_bytes n) n (spells_index n h)
 
 pub block_stands : (content : List ℕ) → FitsLength content → Is Block (block_bytes content) content
 block_stands content h = (number_bytes (length content), (refl, number_stands (length content) h))

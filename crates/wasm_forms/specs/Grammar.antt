@@ -4,13 +4,13 @@ use Rattle.std.specs.Str.{is_utf8}
 use Rattle.wasm_forms.specs.declared.error.WireError.{WireError}
 use Rattle.wasm_forms.specs.declared.error.WireError.TheVariants.{Malformed, Memory, TooLarge}
 use Rattle.wasm_forms.specs.Reading.{◌>>=◌, byte_at}
-use Rattle.wasm_forms.specs.Number.{IsNumber, IsInteger, IsU32, number_at, integer_at, IsIndex, index_at}
+use Rattle.wasm_forms.specs.Number.{IsNumber, IsInteger, IsU32, number_at, integer_at, IsIndex, index_at, little}
 
 infixr 30 ◌then◌
 -- A text of Fails: none. Gives x: no byte, with this value. Byte: any one. Number, Integer: at most `most` bytes, below `top`, or from
--- - `half` to `half` - 1. IndexFrom b: what stands behind the byte b of an index. Block: a count of bytes, and these. f then g: one behind
--- the other. Led f g: what f's value says stands behind it. Made make f: f, with another value. Where test f: f, with such a value alone.
--- Row f n: n texts of f. Until stop f: texts, each led by its first byte, up to the byte stop.
+-- - `half` to `half` - 1. IndexFrom b: what stands behind the byte b of an index. Bytes n: any n bytes. Block: a count of bytes, and
+-- these. f then g: one behind the other. Led f g: what f's value says stands behind it. Made make f: f, with another value. Where test
+-- f: f, with such a value alone. Row f n: n texts of f. Until stop f: texts, each led by its first byte, up to the byte stop.
 pub data Form : Type 0 → Type 1 where
   Fails : {A : Type 0} → Form A
   Gives : {A : Type 0} → A → Form A
@@ -18,6 +18,7 @@ pub data Form : Type 0 → Type 1 where
   Number : (most top : ℕ) → Form ℕ
   Integer : (most half : ℕ) → Form ℤ
   IndexFrom : ℕ → Form ℕ
+  Bytes : ℕ → Form (List ℕ)
   Block : Form (List ℕ)
   ◌then◌ : {A B : Type 0} → Form A → Form B → Form (A × B)
   Led : {A B : Type 0} → Form A → (A → Form B) → Form B
@@ -38,6 +39,10 @@ row_at p (suc n) bytes = p bytes >>= λ x. row_at p n x.1 >>= λ xs. Some (x.0 �
 -- further values behind these
 abbrev pub behind : {A : Type 0} → List A → List A × List ℕ → Option (List A × List ℕ)
 behind done xs = Some (done ++ xs.0, xs.1)
+
+-- so many bytes
+unfoldable pub bytes_at : ℕ → List ℕ → Option (List ℕ × List ℕ)
+bytes_at n bytes = if nat_lt (length bytes) n then None else Some (take n bytes, drop n bytes)
 
 -- a count of bytes, and these (Binary Format > Conventions > Lists)
 abbrev pub IsBlock : List ℕ → List ℕ → Type 0
@@ -64,6 +69,7 @@ Is Byte bytes a = bytes ≡ a ∷ []
 Is (Number most top) bytes a = IsNumber most top bytes a
 Is (Integer most half) bytes a = IsInteger most half bytes a
 Is (IndexFrom b) bytes a = IsIndex (b ∷ bytes) a
+Is (Bytes n) bytes a = (a ≡ bytes) × (length bytes ≡ n)
 Is Block bytes a = IsBlock bytes a
 Is (f then g) bytes a = (front : List ℕ) × ((back : List ℕ) × ((bytes ≡ front ++ back) × Is f front a.0 × Is g back a.1))
 Is (Led {A = B} f g) bytes a = (b : B) × ((front : List ℕ) × ((back : List ℕ) × ((bytes ≡ front ++ back) × Is f front b × Is (g b) back a)))
@@ -80,6 +86,7 @@ at Byte bytes = byte_at bytes
 at (Number most top) bytes = number_at most top bytes
 at (Integer most half) bytes = integer_at most half bytes
 at (IndexFrom b) bytes = index_at (b ∷ bytes)
+at (Bytes n) bytes = bytes_at n bytes
 at Block bytes = block_at bytes
 at (f then g) bytes = at f bytes >>= λ x. at g x.1 >>= λ y. Some ((x.0, y.0), y.1)
 at (Led f g) bytes = at f bytes >>= λ x. at (g x.0) x.1
@@ -94,6 +101,23 @@ U32 = Number 5 (2 ^ 32)
 
 abbrev pub S32 : Form ℤ
 S32 = Integer 5 (2 ^ 31)
+
+abbrev pub U64 : Form ℕ
+U64 = Number 10 (2 ^ 64)
+
+abbrev pub S64 : Form ℤ
+S64 = Integer 10 (2 ^ 63)
+
+-- an index from its first byte on (Binary Format > Types > Heap Types)
+abbrev pub Index : Form ℕ
+Index = Led Byte IndexFrom
+
+-- the bits of a float, the lowest byte first (Binary Format > Values > Floating-Point)
+abbrev pub F32 : Form ℕ
+F32 = Made little (Bytes 4)
+
+abbrev pub F64 : Form ℕ
+F64 = Made little (Bytes 8)
 
 -- a count, and that many texts (Binary Format > Conventions > Lists)
 abbrev pub Vector : {A : Type 0} → Form A → Form (List A)

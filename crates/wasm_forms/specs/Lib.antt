@@ -3,3 +3,4 @@ pub mod Number
 pub mod Grammar
 pub mod Spelling
 pub mod Writing
+pub mod Types

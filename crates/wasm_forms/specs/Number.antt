@@ -1,4 +1,4 @@
--- Numbers in groups of seven bits, the lowest first (Binary Format > Values > Integers). A byte from 128 on says that more follow.
+-- Numbers in groups of seven bits, the lowest first (Binary Format > Values > Integers): a byte from 128 on says that more follow. And numbers by their bytes.
 use Rattle.std.specs.Prelude.{◌≡◌, ℕ, zero, suc, ◌+◌, ◌-◌, ◌*◌, ◌^◌, ◌<◌, ◌≤◌, Bool, List, [], ◌∷◌, length, Option, Some, None, nat_lt, if◌then◌else◌, ◌⊎◌, ℤ, pos, negsuc, ◌+ℤ◌, ◌-ℤ◌, ◌*ℤ◌}
 use Rattle.wasm_forms.specs.Reading.{◌>>=◌, byte_at}
 
@@ -83,6 +83,11 @@ natural (negsuc n) = None
 -- an s33 that is not negative
 unfoldable pub index_at : List ℕ → Option (ℕ × List ℕ)
 index_at bytes = integer_at 5 (2 ^ 32) bytes >>= λ z. natural z.0 >>= λ n. Some (n, z.1)
+
+-- the number of which these are the bytes, the lowest first (Binary Format > Values > Floating-Point): a byte, plus 256 times the rest
+abbrev pub little : List ℕ → ℕ
+little [] = 0
+little (b ∷ bs) = b + 256 * little bs
 
 -- a byte that says that more follow stands in front: its seven bits, and the bytes after it
 abbrev pub Continues : List ℕ → ℕ → List ℕ → Type 0

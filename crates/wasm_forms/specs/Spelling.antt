@@ -20,6 +20,22 @@ unfoldable pub integer_bytes : ℤ → List ℕ
 integer_bytes (pos n) = groups false 64 9 n
 integer_bytes (negsuc n) = groups true 64 9 n
 
+-- the shortest spelling of an index as an s33 that is not negative (Binary Format > Types > Heap Types)
+abbrev pub index_bytes : ℕ → List ℕ
+index_bytes n = integer_bytes (pos n)
+
+-- so many bytes of a number, the lowest first
+abbrev pub little_bytes : ℕ → ℕ → List ℕ
+little_bytes zero n = []
+little_bytes (suc count) n = (n % 256) ∷ little_bytes count (n / 256)
+
+-- the bits of a float (Binary Format > Values > Floating-Point)
+abbrev pub f32_bytes : ℕ → List ℕ
+f32_bytes bits = little_bytes 4 bits
+
+abbrev pub f64_bytes : ℕ → List ℕ
+f64_bytes bits = little_bytes 8 bits
+
 -- a count of bytes, and these (Binary Format > Conventions > Lists)
 abbrev pub block_bytes : List ℕ → List ℕ
 block_bytes content = number_bytes (length content) ++ content

@@ -10,6 +10,13 @@ Wrote (Err Malformed) old new spelled fits = ⊥
 Wrote (Err (Memory e)) old new spelled fits = new ≡ old
 Wrote (Err TooLarge) old new spelled fits = (new ≡ old) × (fits → ⊥)
 
+-- written, the spelling stands behind what was there, and it fits; only what does not fit is too large
+abbrev pub Adds : {X : Type 0} → Result X WireError → List ℕ → List ℕ → List ℕ → Type 0 → Type 0
+Adds (Ok x) old new spelled fits = (new ≡ old ++ spelled) × fits
+Adds (Err Malformed) old new spelled fits = ⊥
+Adds (Err (Memory e)) old new spelled fits = Unit {0}
+Adds (Err TooLarge) old new spelled fits = fits → ⊥
+
 -- a length that a u32 holds
 abbrev pub FitsLength : {X : Type 0} → List X → Type 0
 FitsLength xs = length xs < 2 ^ 32

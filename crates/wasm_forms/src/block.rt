@@ -1,10 +1,33 @@
-//! Blocks of bytes, and names (Binary Format > Conventions > Lists, Values > Names).
+//! Bytes in a given number, blocks of bytes, and names (Binary Format > Values > Bytes, Conventions > Lists, Values > Names).
 
 ghost use Rattle.wasm_forms.specs.Reading.{Gives};
-ghost use Rattle.wasm_forms.specs.Grammar.{Reads, Block, name, at};
+ghost use Rattle.wasm_forms.specs.Grammar.{Reads, Block, Bytes, name, at};
 
 use crate::error::WireError;
 use crate::number::read_u32;
+
+/// So many bytes, by the list function alone.
+#[inline]
+#[tactic(auto, unfolding(crate::specs::Grammar::bytes_at))]
+fn take_bytes(bytes: &[u8], count: usize) -> Result<(&[u8], &[u8]), WireError>
+    ensures { Gives (λ r. (r.0.now, r.1.now)) result (at (Bytes count) bytes.now) }
+{
+    if bytes.len() < count {
+        return Err(WireError::Malformed);
+    }
+    Ok(bytes.split_at(count))
+}
+
+/// Reads `count` bytes, and gives these with the bytes after them.
+///
+/// Refused as [`WireError::Malformed`] where fewer bytes are left.
+#[inline]
+pub fn read_bytes(bytes: &[u8], count: usize) -> Result<(&[u8], &[u8]), WireError>
+    ensures gives { Gives (λ r. (r.0.now, r.1.now)) result (at (Bytes count) bytes.now) }
+    ensures found { Reads (Bytes count) (λ r. (r.0.now, r.1.now)) bytes.now result }
+{
+    take_bytes(bytes, count)
+}
 
 /// A block, by its list function alone.
 #[inline]

@@ -2,8 +2,8 @@
 
 ghost use Rattle.std.specs.Prelude.{◌≡◌, ◌<◌, ◌≤◌, ◌+◌, ◌%◌, ℕ, List, ◌++◌, length, if◌then◌else◌, is_ok, ◌⊎◌};
 ghost use Rattle.wasm_forms.specs.Number.{AreBytes, IsUnsigned};
-ghost use Rattle.wasm_forms.specs.Writing.{Wrote, FitsLength, EachFits, FitsVector};
-ghost use Rattle.wasm_forms.specs.Spelling.{shown, groups, number_bytes, integer_bytes, block_bytes, name_bytes, row_bytes, vector_bytes};
+ghost use Rattle.wasm_forms.specs.Writing.{Adds, Wrote, FitsLength, EachFits, FitsVector};
+ghost use Rattle.wasm_forms.specs.Spelling.{shown, groups, number_bytes, integer_bytes, index_bytes, f32_bytes, f64_bytes, block_bytes, name_bytes, row_bytes, vector_bytes};
 
 use crate::error::WireError;
 use std::alloc::AllocError;
@@ -28,7 +28,7 @@ pub fn leb128_len(value: u32) -> usize
 
 /// A group that has more behind it: its seven bits, or below zero what they lack, and the mark that more follow.
 #[inline]
-fn more_group(below: bool, left: u32) -> u8
+fn more_group(below: bool, left: u64) -> u8
     ensures { result ≡ 128 + shown below (left % 128) }
 {
     let bits = (left % 128) as u8;
@@ -37,7 +37,7 @@ fn more_group(below: bool, left: u32) -> u8
 
 /// The last group.
 #[inline]
-fn last_group(below: bool, left: u32) -> u8
+fn last_group(below: bool, left: u64) -> u8
     requires { left < 128 }
     ensures { result ≡ shown below left }
 {
@@ -45,7 +45,7 @@ fn last_group(below: bool, left: u32) -> u8
 }
 
 /// Writes the groups of `number`, or where `below` is set those of -`number` - 1, up to one that is below `stop`.
-fn write_groups(to: &mut Vec<u8>, below: bool, stop: u32, number: u32) -> Result<(), AllocError>
+fn write_groups(to: &mut Vec<u8>, below: bool, stop: u64, number: u64) -> Result<(), AllocError>
     requires { (stop ≡ 64) ⊎ (stop ≡ 128) }
     ensures { to.new.items ≡ (if is_ok result then to.old.items ++ groups below stop 9 number else to.old.items) }
 {
@@ -69,7 +69,7 @@ fn write_groups(to: &mut Vec<u8>, below: bool, stop: u32, number: u32) -> Result
 pub fn write_u32(to: &mut Vec<u8>, value: u32) -> Result<(), AllocError>
     ensures { to.new.items ≡ (if is_ok result then to.old.items ++ number_bytes value else to.old.items) }
 {
-    write_groups(to, false, 128, value)
+    write_groups(to, false, 128, u64::from(value))
 }
 
 /// Writes an s32 in its shortest spelling. Refused for lack of memory, the bytes stay.
@@ -77,10 +77,51 @@ pub fn write_s32(to: &mut Vec<u8>, value: i32) -> Result<(), AllocError>
     ensures { to.new.items ≡ (if is_ok result then to.old.items ++ integer_bytes value else to.old.items) }
 {
     if value < 0 {
-        write_groups(to, true, 64, (-1 - value) as u32)
+        write_groups(to, true, 64, u64::from((-1 - value) as u32))
     } else {
-        write_groups(to, false, 64, value as u32)
+        write_groups(to, false, 64, u64::from(value as u32))
     }
+}
+
+/// Writes a u64 (Binary Format > Values > Integers) in its shortest spelling. Refused for lack of memory, the bytes stay.
+pub fn write_u64(to: &mut Vec<u8>, value: u64) -> Result<(), AllocError>
+    ensures { to.new.items ≡ (if is_ok result then to.old.items ++ number_bytes value else to.old.items) }
+{
+    write_groups(to, false, 128, value)
+}
+
+/// Writes an s64 (Binary Format > Values > Integers) in its shortest spelling. Refused for lack of memory, the bytes stay.
+pub fn write_s64(to: &mut Vec<u8>, value: i64) -> Result<(), AllocError>
+    ensures { to.new.items ≡ (if is_ok result then to.old.items ++ integer_bytes value else to.old.items) }
+{
+    if value < 0 {
+        write_groups(to, true, 64, (-1 - value) as u64)
+    } else {
+        write_groups(to, false, 64, value as u64)
+    }
+}
+
+/// Writes an index (Binary Format > Types > Heap Types) as the shortest s33 with its value. Refused for lack of memory, the bytes stay.
+pub fn write_index(to: &mut Vec<u8>, index: u32) -> Result<(), AllocError>
+    ensures { to.new.items ≡ (if is_ok result then to.old.items ++ index_bytes index else to.old.items) }
+{
+    write_groups(to, false, 64, u64::from(index))
+}
+
+/// Writes the bits of an f32 (Binary Format > Values > Floating-Point), the lowest byte first. Refused for lack of memory, the bytes stay.
+pub fn write_f32(to: &mut Vec<u8>, bits: u32) -> Result<(), AllocError>
+    ensures { to.new.items ≡ (if is_ok result then to.old.items ++ f32_bytes bits else to.old.items) }
+{
+    let four = bits.to_le_bytes();
+    to.extend_from_slice(&four)
+}
+
+/// Writes the bits of an f64 (Binary Format > Values > Floating-Point), the lowest byte first. Refused for lack of memory, the bytes stay.
+pub fn write_f64(to: &mut Vec<u8>, bits: u64) -> Result<(), AllocError>
+    ensures { to.new.items ≡ (if is_ok result then to.old.items ++ f64_bytes bits else to.old.items) }
+{
+    let eight = bits.to_le_bytes();
+    to.extend_from_slice(&eight)
 }
 
 /// Writes the count of the bytes and these. Refused, the bytes written before stay.
@@ -116,9 +157,9 @@ pub trait Written {
 
     ghost Fits: { Self → Type 0 };
 
-    /// Writes it behind the bytes of `to`. Refused, these stay.
+    /// Writes it behind the bytes of `to`. Refused, what was appended means nothing: write into a vector that is dropped then.
     fn write(&self, to: &mut Vec<u8>) -> Result<(), WireError>
-        ensures { Wrote result to.old.items to.new.items (spelled self.now) (Fits self.now) };
+        ensures { Adds result to.old.items to.new.items (spelled self.now) (Fits self.now) };
 }
 
 impl Written for u32 {
@@ -132,34 +173,25 @@ impl Written for u32 {
     }
 }
 
-/// Writes items one after another. Refused, the bytes written before stay.
+/// Writes items one after another.
 fn write_row<E: Written>(to: &mut Vec<u8>, items: &[E]) -> Result<(), WireError>
-    ensures { Wrote result to.old.items to.new.items (row_bytes E.spelled items.now) (EachFits E.Fits items.now) }
+    ensures { Adds result to.old.items to.new.items (row_bytes E.spelled items.now) (EachFits E.Fits items.now) }
 {
-    let front = to.len();
     'items: for item in items {
-        if let Err(failed) = item.write(to) {
-            to.truncate(front);
-            return Err(failed);
-        }
+        item.write(to)?;
     }
     Ok(())
 }
 
-/// Writes the count of the items and each item. Refused, the bytes written before stay.
+/// Writes the count of the items and each item. Refused, what was appended means nothing: write into a vector that is dropped then.
 ///
 /// [`WireError::TooLarge`] where there are 2^32 items or more, or one of them is too large.
 pub fn write_vector<E: Written>(to: &mut Vec<u8>, items: &[E]) -> Result<(), WireError>
-    ensures { Wrote result to.old.items to.new.items (vector_bytes E.spelled items.now) (FitsVector E.Fits items.now) }
+    ensures { Adds result to.old.items to.new.items (vector_bytes E.spelled items.now) (FitsVector E.Fits items.now) }
 {
     let Ok(count) = u32::try_from(items.len()) else {
         return Err(WireError::TooLarge);
     };
-    let start = to.len();
     write_u32(to, count)?;
-    if let Err(failed) = write_row(to, items) {
-        to.truncate(start);
-        return Err(failed);
-    }
-    Ok(())
+    write_row(to, items)
 }

@@ -1,4 +1,4 @@
-use Rattle.std.proofs.Common.{◌≡◌, suc, ◌-◌, ◌+◌, ap, ◌∙◌, arith}
+use Rattle.std.proofs.Common.{◌≡◌, suc, ◌-◌, ◌+◌, ap, ◌∙◌, arith, inr}
 use Rattle.wasm_forms.specs.Reading.{◌>>=◌}
 use Rattle.wasm_forms.specs.Number.{leb_at, sleb_at, above, signed_above}
 use Rattle.wasm_forms.proofs.Turns.{unsigned_turn, signed_turn, unsigned_stop, signed_stop, unsigned_full, signed_full, unsigned_start, signed_start, power_up, power_next, scale_room, value_room}
@@ -22,6 +22,12 @@ returns-in_default-clause-signed c = c.groups.invariant.signed ∙ signed_stop (
 
 pub returns-in_default-clause-scaled : goal.returns-in_default-clause-scaled
 returns-in_default-clause-scaled c = omega (arith, c.groups.invariant.power, power_up c.groups._taken c.args.most (omega arith))
+
+pub returns-in_default-clause-stepped : goal.returns-in_default-clause-stepped
+returns-in_default-clause-stepped c =
+    let e = power_next c.groups.scale c.groups._taken c.groups.invariant.power in
+    let l = power_up (c.groups._taken + 1) c.args.most (omega arith) in
+    inr (omega (arith, e, l))
 
 pub overflow_mul-value : goal.overflow_mul-value
 overflow_mul-value c =

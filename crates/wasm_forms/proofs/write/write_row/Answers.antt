@@ -1,6 +1,6 @@
-use Rattle.std.proofs.Common.{◌++◌, take, ap, ◌∙◌, arith, append_assoc}
+use Rattle.std.proofs.Common.{◌++◌, take, ap, ◌∙◌, append_assoc}
 use Rattle.wasm_forms.specs.Spelling.{row_bytes}
-use Rattle.wasm_forms.proofs.Items.{row_push, each_push, kept_more}
+use Rattle.wasm_forms.proofs.Items.{row_push, each_push}
 use Rattle.wasm_forms.proofs.write.write_row.Goals as goal
 
 pub items-preserved : goal.items-preserved
@@ -10,8 +10,7 @@ items-preserved g c =
     let i = c.items.item-index in
     let x = c.item-item.result in
     record {
-      written = c.in_default.ensures.0 ∙ ap (λ l. l ++ spell x) c.items.invariant.written ∙ append_assoc c.args.to.now.items (row_bytes spell (take i xs)) (spell x)
+      written = c.in_ok-write.ensures.0 ∙ ap (λ l. l ++ spell x) c.items.invariant.written ∙ append_assoc c.args.to.now.items (row_bytes spell (take i xs)) (spell x)
           ∙ ap (λ l. c.args.to.now.items ++ l) (row_push spell xs i x c.items-test.true c.item-item.is);
-      fit = each_push g.E.Written.Fits xs i x c.items-test.true c.item-item.is c.items.invariant.fit c.in_default.ensures.1;
-      kept = ap (take c.len-front.result) c.in_default.ensures.0 ∙ kept_more c.len-front.result c.args.to.now.items c.items.to.items (spell x) (omega arith) c.items.invariant.kept;
+      fit = each_push g.E.Written.Fits xs i x c.items-test.true c.item-item.is c.items.invariant.fit c.in_ok-write.ensures.1;
     }

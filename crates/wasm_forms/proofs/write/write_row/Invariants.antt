@@ -7,5 +7,4 @@ abbrev pub invariant-items : goal.invariant-items
 invariant-items g l = record {
   written : l.to.items ≡ l.fn.to.items ++ row_bytes g.E.Written.spelled (take l.item-index l.items);
   fit : EachFits g.E.Written.Fits (take l.item-index l.items);
-  kept : take l.front l.to.items ≡ l.fn.to.items;
 }

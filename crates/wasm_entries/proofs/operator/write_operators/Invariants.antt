@@ -1,0 +1,7 @@
+use Rattle.std.proofs.Common.{◌≡◌, ◌++◌, take}
+use Rattle.wasm_forms.specs.Spelling.{row_bytes}
+use Rattle.wasm_entries.specs.Spelling.{const_bytes}
+use Rattle.wasm_entries.proofs.operator.write_operators.Given as goal
+
+abbrev pub invariant-operators : goal.invariant-operators
+invariant-operators l = l.to.items ≡ l.fn.to.items ++ row_bytes const_bytes (take l.operator-index l.operators)

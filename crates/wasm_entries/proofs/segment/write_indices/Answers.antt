@@ -1,0 +1,11 @@
+use Rattle.std.proofs.Common.{refl}
+use Rattle.wasm_forms.specs.Spelling.{number_bytes, vector_bytes}
+use Rattle.wasm_forms.specs.Writing.{FitsLength, FitsVector}
+use Rattle.wasm_forms.proofs.Adding.{adds_as, fits_free}
+use Rattle.wasm_entries.proofs.segment.write_indices.Goals as goal
+
+pub returns : goal.returns
+returns c =
+    let indices = c.args.indices.now in
+    let spelled = vector_bytes number_bytes indices in
+    adds_as c.write_vector.result c.args.to.now.items c.write_vector.new.to.items spelled spelled (FitsVector (λ n. Unit {0}) indices) (FitsLength indices) refl (λ h. h.0) (fits_free indices) c.write_vector.ensures

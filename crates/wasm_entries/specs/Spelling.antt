@@ -1,0 +1,203 @@
+-- The one spelling of the entries behind the type section, and which of them it spells.
+use Rattle.std.specs.Prelude.{ℕ, ◌≡◌, ◌≢◌, ◌<◌, ◌^◌, List, [], ◌∷◌, ◌++◌, length, Option, Some, None, nat_eq, All, if◌then◌else◌}
+use Rattle.std.specs.Str.{IsUtf8}
+use Rattle.wasm_forms.specs.Number.{Fits}
+use Rattle.wasm_forms.specs.Spelling.{number_bytes, integer_bytes, f32_bytes, f64_bytes, block_bytes, row_bytes, vector_bytes}
+use Rattle.wasm_forms.specs.Writing.{FitsLength}
+use Rattle.wasm_forms.specs.Types.{heap_bytes, reference_bytes, HeapStands}
+use Rattle.wasm_entries.specs.declared.record.RawDesc.{RawDesc}
+use Rattle.wasm_entries.specs.declared.record.RawDesc.TheVariants as descs
+use Rattle.wasm_entries.specs.declared.record.RawConst.{RawConst}
+use Rattle.wasm_entries.specs.declared.record.RawConst.TheVariants as ops
+use Rattle.wasm_entries.specs.declared.record.RawExportKind.{RawExportKind}
+use Rattle.wasm_entries.specs.declared.record.RawExportKind.TheVariants as kinds
+use Rattle.wasm_entries.specs.TypeSpelling.{table_type_bytes, limits_bytes, global_type_bytes, LimitsFit, LimitsStand, TableTypeStands, GlobalTypeStands}
+use Rattle.wasm_entries.specs.Forms.{any_function}
+use Rattle.wasm_entries.specs.Record.{Expression, Import, Table, Global, Export, ElementMode, ActiveElements, PassiveElements, DeclaredElements, Items, Functions, Expressions, Element, DataMode, ActiveData, PassiveData, Segment}
+
+-- ---- spelling
+
+-- (Import Section)
+abbrev pub desc_bytes : RawDesc → List ℕ
+desc_bytes (descs.Function ty) = 0 ∷ number_bytes ty
+desc_bytes (descs.Table t) = 1 ∷ table_type_bytes t
+desc_bytes (descs.Memory l) = 2 ∷ limits_bytes l
+desc_bytes (descs.Global g) = 3 ∷ global_type_bytes g
+desc_bytes (descs.Tag ty) = 4 ∷ 0 ∷ number_bytes ty
+
+abbrev pub import_bytes : Import → List ℕ
+import_bytes i = block_bytes i.from ++ block_bytes i.name ++ desc_bytes i.desc
+
+-- (Binary Format > Instructions)
+abbrev pub const_bytes : RawConst → List ℕ
+const_bytes (ops.GlobalGet g) = 0x23 ∷ number_bytes g
+const_bytes (ops.I32Const z) = 0x41 ∷ integer_bytes z
+const_bytes (ops.I64Const z) = 0x42 ∷ integer_bytes z
+const_bytes (ops.F32Const bits) = 0x43 ∷ f32_bytes bits
+const_bytes (ops.F64Const bits) = 0x44 ∷ f64_bytes bits
+const_bytes (ops.V128Const bytes) = 0xFD ∷ 0x0C ∷ bytes
+const_bytes ops.I32Add = 0x6A ∷ []
+const_bytes ops.I32Sub = 0x6B ∷ []
+const_bytes ops.I32Mul = 0x6C ∷ []
+const_bytes ops.I64Add = 0x7C ∷ []
+const_bytes ops.I64Sub = 0x7D ∷ []
+const_bytes ops.I64Mul = 0x7E ∷ []
+const_bytes (ops.RefNull h) = 0xD0 ∷ heap_bytes h
+const_bytes (ops.RefFunc f) = 0xD2 ∷ number_bytes f
+const_bytes (ops.StructNew t) = 0xFB ∷ 0x00 ∷ number_bytes t
+const_bytes (ops.StructNewDefault t) = 0xFB ∷ 0x01 ∷ number_bytes t
+const_bytes (ops.ArrayNew t) = 0xFB ∷ 0x06 ∷ number_bytes t
+const_bytes (ops.ArrayNewDefault t) = 0xFB ∷ 0x07 ∷ number_bytes t
+const_bytes (ops.ArrayNewFixed t n) = 0xFB ∷ 0x08 ∷ (number_bytes t ++ number_bytes n)
+const_bytes ops.AnyConvertExtern = 0xFB ∷ 0x1A ∷ []
+const_bytes ops.ExternConvertAny = 0xFB ∷ 0x1B ∷ []
+const_bytes ops.RefI31 = 0xFB ∷ 0x1C ∷ []
+
+abbrev pub expression_bytes : Expression → List ℕ
+expression_bytes e = row_bytes const_bytes e ++ 0x0B ∷ []
+
+-- (Table Section)
+abbrev pub table_spelled : Option Expression → List ℕ → List ℕ
+table_spelled None ty = ty
+table_spelled (Some e) ty = 0x40 ∷ 0x00 ∷ (ty ++ expression_bytes e)
+
+abbrev pub table_bytes : Table → List ℕ
+table_bytes t = table_spelled t.initial (table_type_bytes t.ty)
+
+-- (Global Section)
+abbrev pub global_bytes : Global → List ℕ
+global_bytes g = global_type_bytes g.ty ++ expression_bytes g.initial
+
+-- (Export Section)
+abbrev pub kind_byte : RawExportKind → ℕ
+kind_byte kinds.Function = 0
+kind_byte kinds.Table = 1
+kind_byte kinds.Memory = 2
+kind_byte kinds.Global = 3
+kind_byte kinds.Tag = 4
+
+abbrev pub export_bytes : Export → List ℕ
+export_bytes e = block_bytes e.name ++ kind_byte e.kind ∷ number_bytes e.index
+
+-- (Element Section)
+abbrev pub element_spelled : ElementMode → Items → List ℕ
+element_spelled (ActiveElements None offset) (Functions fs) = 0 ∷ (expression_bytes offset ++ vector_bytes number_bytes fs)
+element_spelled PassiveElements (Functions fs) = 1 ∷ 0 ∷ vector_bytes number_bytes fs
+element_spelled (ActiveElements (Some table) offset) (Functions fs) = 2 ∷ (number_bytes table ++ expression_bytes offset ++ 0 ∷ vector_bytes number_bytes fs)
+element_spelled DeclaredElements (Functions fs) = 3 ∷ 0 ∷ vector_bytes number_bytes fs
+element_spelled (ActiveElements None offset) (Expressions ty es) = 4 ∷ (expression_bytes offset ++ vector_bytes expression_bytes es)
+element_spelled PassiveElements (Expressions ty es) = 5 ∷ (reference_bytes ty ++ vector_bytes expression_bytes es)
+element_spelled (ActiveElements (Some table) offset) (Expressions ty es) = 6 ∷ (number_bytes table ++ expression_bytes offset ++ reference_bytes ty ++ vector_bytes expression_bytes es)
+element_spelled DeclaredElements (Expressions ty es) = 7 ∷ (reference_bytes ty ++ vector_bytes expression_bytes es)
+
+abbrev pub element_bytes : Element → List ℕ
+element_bytes e = element_spelled e.mode e.items
+
+-- (Data Section)
+abbrev pub data_mode_bytes : DataMode → List ℕ
+data_mode_bytes PassiveData = 1 ∷ []
+data_mode_bytes (ActiveData memory offset) = if nat_eq memory 0 then 0 ∷ expression_bytes offset else 2 ∷ (number_bytes memory ++ expression_bytes offset)
+
+abbrev pub data_bytes : Segment → List ℕ
+data_bytes d = data_mode_bytes d.mode ++ block_bytes d.bytes
+
+-- ---- what fits: counts, sizes, and limits that aren't wide, below 2 ^ 32
+
+abbrev pub DescFits : RawDesc → Type 0
+DescFits (descs.Function ty) = Unit {0}
+DescFits (descs.Table t) = LimitsFit t.limits
+DescFits (descs.Memory l) = LimitsFit l
+DescFits (descs.Global g) = Unit {0}
+DescFits (descs.Tag ty) = Unit {0}
+
+abbrev pub ImportFits : Import → Type 0
+ImportFits i = FitsLength i.from × FitsLength i.name × DescFits i.desc
+
+abbrev pub TableFits : Table → Type 0
+TableFits t = LimitsFit t.ty.limits
+
+abbrev pub ExportFits : Export → Type 0
+ExportFits e = FitsLength e.name
+
+abbrev pub ItemsFit : Items → Type 0
+ItemsFit (Functions fs) = FitsLength fs
+ItemsFit (Expressions ty es) = FitsLength es
+
+abbrev pub ElementFits : Element → Type 0
+ElementFits e = ItemsFit e.items
+
+abbrev pub DataFits : Segment → Type 0
+DataFits d = FitsLength d.bytes
+
+-- ---- what is spelled at all: numbers in the range of their kind, names that are text, expressions that aren't empty
+
+abbrev pub IsIndex : ℕ → Type 0
+IsIndex n = n < 2 ^ 32
+
+abbrev pub DescStands : RawDesc → Type 0
+DescStands (descs.Function ty) = IsIndex ty
+DescStands (descs.Table t) = TableTypeStands t
+DescStands (descs.Memory l) = LimitsStand l
+DescStands (descs.Global g) = GlobalTypeStands g
+DescStands (descs.Tag ty) = IsIndex ty
+
+pub record ImportStands (i : Import) : Type 0 where
+  pub from : IsUtf8 i.from
+  pub name : IsUtf8 i.name
+  pub desc : DescStands i.desc
+
+abbrev pub ConstStands : RawConst → Type 0
+ConstStands (ops.GlobalGet g) = IsIndex g
+ConstStands (ops.I32Const z) = Fits (2 ^ 31) z
+ConstStands (ops.I64Const z) = Fits (2 ^ 63) z
+ConstStands (ops.F32Const bits) = bits < 2 ^ 32
+ConstStands (ops.F64Const bits) = bits < 2 ^ 64
+ConstStands (ops.V128Const bytes) = length bytes ≡ 16
+ConstStands (ops.RefNull h) = HeapStands h
+ConstStands (ops.RefFunc f) = IsIndex f
+ConstStands (ops.StructNew t) = IsIndex t
+ConstStands (ops.StructNewDefault t) = IsIndex t
+ConstStands (ops.ArrayNew t) = IsIndex t
+ConstStands (ops.ArrayNewDefault t) = IsIndex t
+ConstStands (ops.ArrayNewFixed t n) = IsIndex t × IsIndex n
+ConstStands op = Unit {0}
+
+abbrev pub ExpressionStands : Expression → Type 0
+ExpressionStands e = (e ≢ []) × All ConstStands e
+
+abbrev pub InitialStands : Option Expression → Type 0
+InitialStands None = Unit {0}
+InitialStands (Some e) = ExpressionStands e
+
+pub record TableStands (t : Table) : Type 0 where
+  pub ty : TableTypeStands t.ty
+  pub initial : InitialStands t.initial
+
+pub record GlobalStands (g : Global) : Type 0 where
+  pub ty : GlobalTypeStands g.ty
+  pub initial : ExpressionStands g.initial
+
+pub record ExportStands (e : Export) : Type 0 where
+  pub name : IsUtf8 e.name
+  pub index : IsIndex e.index
+
+-- a segment in table 0 that names no table lists functions, or expressions of the type of all functions
+abbrev pub ElementsStand : ElementMode → Items → Type 0
+ElementsStand (ActiveElements None offset) (Functions fs) = ExpressionStands offset × All IsIndex fs
+ElementsStand (ActiveElements None offset) (Expressions ty es) = ExpressionStands offset × (ty ≡ any_function) × All ExpressionStands es
+ElementsStand (ActiveElements (Some table) offset) (Functions fs) = IsIndex table × ExpressionStands offset × All IsIndex fs
+ElementsStand (ActiveElements (Some table) offset) (Expressions ty es) = IsIndex table × ExpressionStands offset × HeapStands ty.heap × All ExpressionStands es
+ElementsStand PassiveElements (Functions fs) = All IsIndex fs
+ElementsStand PassiveElements (Expressions ty es) = HeapStands ty.heap × All ExpressionStands es
+ElementsStand DeclaredElements (Functions fs) = All IsIndex fs
+ElementsStand DeclaredElements (Expressions ty es) = HeapStands ty.heap × All ExpressionStands es
+
+abbrev pub ElementStands : Element → Type 0
+ElementStands e = ElementsStand e.mode e.items
+
+abbrev pub DataModeStands : DataMode → Type 0
+DataModeStands PassiveData = Unit {0}
+DataModeStands (ActiveData memory offset) = IsIndex memory × ExpressionStands offset
+
+abbrev pub DataStands : Segment → Type 0
+DataStands d = DataModeStands d.mode

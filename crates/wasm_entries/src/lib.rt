@@ -1,0 +1,36 @@
+//! The entries of a module's sections (Binary Format > Types, Binary Format > Modules): their records, read and written exactly.
+#![tactic(auto)]
+
+mod composite;
+mod constant;
+mod entry;
+mod entry_law;
+mod group;
+mod law;
+mod limits;
+mod operator;
+mod record;
+mod segment;
+
+pub use constant::{read_expression, read_expressions};
+pub use entry_law::{
+    data_spelling_stands, element_spelling_stands, export_spelling_stands,
+    expression_spelling_stands, global_spelling_stands, import_spelling_stands,
+    table_spelling_stands,
+};
+pub use group::{read_group, read_groups, write_group, write_groups};
+pub use law::{
+    global_type_spelling_stands, group_spelling_stands, groups_spelling_stands,
+    memory_type_spelling_stands, table_type_spelling_stands, tag_type_spelling_stands,
+};
+pub use limits::{
+    read_global_type, read_memory_type, read_table_type, read_table_type_from, read_tag_type,
+    write_global_type, write_limits, write_table_type,
+};
+pub use operator::{write_expression, write_expressions};
+pub use record::{
+    RawComp, RawConst, RawData, RawDataMode, RawDesc, RawElement, RawElementMode, RawExport,
+    RawExportKind, RawFieldType, RawFuncType, RawGlobal, RawGlobalType, RawGroup, RawImport,
+    RawItems, RawLimits, RawStorage, RawSub, RawTable, RawTableType,
+};
+pub use wasm_forms::{RawHeap, RawRef, RawVal, WireError};

@@ -1,0 +1,188 @@
+//! Constant expressions (Binary Format > Instructions > Expressions), written.
+
+ghost use Rattle.std.specs.Prelude.{map, ◌∷◌, ◌++◌, []};
+ghost use Rattle.wasm_forms.specs.Writing.{Adds, FitsLength};
+ghost use Rattle.wasm_forms.specs.Spelling.{f32_bytes, f64_bytes, integer_bytes, number_bytes, row_bytes, vector_bytes};
+ghost use Rattle.wasm_forms.specs.Types.{heap_bytes};
+ghost use Rattle.wasm_entries.specs.Record.{expression};
+ghost use Rattle.wasm_entries.specs.Spelling.{const_bytes, expression_bytes};
+
+use crate::record::RawConst;
+use wasm_forms::{
+    RawHeap, WireError, write_f32, write_f64, write_heap_type, write_s32, write_s64, write_u32,
+};
+
+/// Writes an operator that is one byte.
+fn write_bare(to: &mut Vec<u8>, byte: u8) -> Result<(), WireError>
+    ensures { Adds result to.old.items to.new.items (byte ∷ []) (Unit {0}) }
+{
+    to.push(byte)?;
+    Ok(())
+}
+
+/// Writes an operator that is a byte and an index.
+fn write_indexed(to: &mut Vec<u8>, byte: u8, index: u32) -> Result<(), WireError>
+    ensures { Adds result to.old.items to.new.items (byte ∷ number_bytes index) (Unit {0}) }
+{
+    to.push(byte)?;
+    write_u32(to, index)?;
+    Ok(())
+}
+
+/// Writes an operator behind the byte FB that has no argument.
+fn write_prefixed(to: &mut Vec<u8>, byte: u8) -> Result<(), WireError>
+    ensures { Adds result to.old.items to.new.items (0xFB ∷ byte ∷ []) (Unit {0}) }
+{
+    to.push(0xFB)?;
+    write_bare(to, byte)
+}
+
+/// Writes an operator behind the byte FB that has the index of a type.
+fn write_typed(to: &mut Vec<u8>, byte: u8, ty: u32) -> Result<(), WireError>
+    ensures { Adds result to.old.items to.new.items (0xFB ∷ byte ∷ number_bytes ty) (Unit {0}) }
+{
+    to.push(0xFB)?;
+    write_indexed(to, byte, ty)
+}
+
+/// Writes `array.new_fixed`.
+fn write_array_new_fixed(to: &mut Vec<u8>, ty: u32, count: u32) -> Result<(), WireError>
+    ensures { Adds result to.old.items to.new.items (0xFB ∷ 0x08 ∷ (number_bytes ty ++ number_bytes count)) (Unit {0}) }
+{
+    write_typed(to, 0x08, ty)?;
+    write_u32(to, count)?;
+    Ok(())
+}
+
+/// Writes `i32.const`.
+fn write_i32_const(to: &mut Vec<u8>, value: i32) -> Result<(), WireError>
+    ensures { Adds result to.old.items to.new.items (0x41 ∷ integer_bytes value) (Unit {0}) }
+{
+    to.push(0x41)?;
+    write_s32(to, value)?;
+    Ok(())
+}
+
+/// Writes `i64.const`.
+fn write_i64_const(to: &mut Vec<u8>, value: i64) -> Result<(), WireError>
+    ensures { Adds result to.old.items to.new.items (0x42 ∷ integer_bytes value) (Unit {0}) }
+{
+    to.push(0x42)?;
+    write_s64(to, value)?;
+    Ok(())
+}
+
+/// Writes `f32.const`.
+fn write_f32_const(to: &mut Vec<u8>, bits: u32) -> Result<(), WireError>
+    ensures { Adds result to.old.items to.new.items (0x43 ∷ f32_bytes bits) (Unit {0}) }
+{
+    to.push(0x43)?;
+    write_f32(to, bits)?;
+    Ok(())
+}
+
+/// Writes `f64.const`.
+fn write_f64_const(to: &mut Vec<u8>, bits: u64) -> Result<(), WireError>
+    ensures { Adds result to.old.items to.new.items (0x44 ∷ f64_bytes bits) (Unit {0}) }
+{
+    to.push(0x44)?;
+    write_f64(to, bits)?;
+    Ok(())
+}
+
+/// Writes `v128.const`.
+fn write_v128_const(to: &mut Vec<u8>, bytes: &[u8]) -> Result<(), WireError>
+    ensures { Adds result to.old.items to.new.items (0xFD ∷ 0x0C ∷ bytes.now) (Unit {0}) }
+{
+    to.push(0xFD)?;
+    to.push(0x0C)?;
+    to.extend_from_slice(bytes)?;
+    Ok(())
+}
+
+/// Writes `ref.null`.
+fn write_ref_null(to: &mut Vec<u8>, heap: &RawHeap) -> Result<(), WireError>
+    ensures { Adds result to.old.items to.new.items (0xD0 ∷ heap_bytes heap.now) (Unit {0}) }
+{
+    to.push(0xD0)?;
+    write_heap_type(to, heap)
+}
+
+/// Writes an operator.
+fn write_const(to: &mut Vec<u8>, operator: &RawConst) -> Result<(), WireError>
+    ensures { Adds result to.old.items to.new.items (const_bytes operator.now) (Unit {0}) }
+{
+    match operator {
+        RawConst::GlobalGet(global) => write_indexed(to, 0x23, *global),
+        RawConst::I32Const(value) => write_i32_const(to, *value),
+        RawConst::I64Const(value) => write_i64_const(to, *value),
+        RawConst::F32Const(bits) => write_f32_const(to, *bits),
+        RawConst::F64Const(bits) => write_f64_const(to, *bits),
+        RawConst::V128Const(bytes) => write_v128_const(to, bytes),
+        RawConst::I32Add => write_bare(to, 0x6A),
+        RawConst::I32Sub => write_bare(to, 0x6B),
+        RawConst::I32Mul => write_bare(to, 0x6C),
+        RawConst::I64Add => write_bare(to, 0x7C),
+        RawConst::I64Sub => write_bare(to, 0x7D),
+        RawConst::I64Mul => write_bare(to, 0x7E),
+        RawConst::RefNull(heap) => write_ref_null(to, heap),
+        RawConst::RefFunc(function) => write_indexed(to, 0xD2, *function),
+        RawConst::StructNew(ty) => write_typed(to, 0x00, *ty),
+        RawConst::StructNewDefault(ty) => write_typed(to, 0x01, *ty),
+        RawConst::ArrayNew(ty) => write_typed(to, 0x06, *ty),
+        RawConst::ArrayNewDefault(ty) => write_typed(to, 0x07, *ty),
+        RawConst::ArrayNewFixed(ty, count) => write_array_new_fixed(to, *ty, *count),
+        RawConst::AnyConvertExtern => write_prefixed(to, 0x1A),
+        RawConst::ExternConvertAny => write_prefixed(to, 0x1B),
+        RawConst::RefI31 => write_prefixed(to, 0x1C),
+    }
+}
+
+/// Writes operators one after another.
+fn write_operators(to: &mut Vec<u8>, operators: &[RawConst]) -> Result<(), WireError>
+    ensures { Adds result to.old.items to.new.items (row_bytes const_bytes operators.now) (Unit {0}) }
+{
+    'operators: for operator in operators {
+        write_const(to, operator)?;
+    }
+    Ok(())
+}
+
+/// Writes a constant expression (Binary Format > Instructions > Expressions) behind the bytes of `to`: its operators, and the byte that
+/// ends it. Refused, what was appended means nothing.
+///
+/// # Errors
+///
+/// `Memory` alone.
+pub fn write_expression(to: &mut Vec<u8>, operators: &[RawConst]) -> Result<(), WireError>
+    ensures { Adds result to.old.items to.new.items (expression_bytes operators.now) (Unit {0}) }
+{
+    write_operators(to, operators)?;
+    write_bare(to, 0x0B)
+}
+
+/// Writes expressions one after another.
+fn write_each(to: &mut Vec<u8>, expressions: &[Vec<RawConst>]) -> Result<(), WireError>
+    ensures { Adds result to.old.items to.new.items (row_bytes expression_bytes (map expression expressions.now)) (Unit {0}) }
+{
+    'expressions: for listed in expressions {
+        write_expression(to, listed)?;
+    }
+    Ok(())
+}
+
+/// Writes the count of the expressions and each of them (Binary Format > Modules > Element Section) behind the bytes of `to`. Refused,
+/// what was appended means nothing.
+///
+/// # Errors
+///
+/// `TooLarge` exactly where there are 2^32 expressions or more, and `Memory`.
+pub fn write_expressions(to: &mut Vec<u8>, expressions: &[Vec<RawConst>]) -> Result<(), WireError>
+    ensures { Adds result to.old.items to.new.items (vector_bytes expression_bytes (map expression expressions.now)) (FitsLength expressions.now) }
+{
+    let Ok(count) = u32::try_from(expressions.len()) else {
+        return Err(WireError::TooLarge);
+    };
+    write_u32(to, count)?;
+    write_each(to, expressions)
+}

@@ -1,0 +1,83 @@
+-- The forms and the spelling of value, reference and heap types (Binary Format > Types).
+use Rattle.std.specs.Prelude.{ℕ, ◌≡◌, ◌<◌, ◌^◌, Bool, true, false, List, [], ◌∷◌, nat_lt, nat_eq, ◌&&◌}
+use Rattle.wasm_forms.specs.declared.types.RawHeap.{RawHeap}
+use Rattle.wasm_forms.specs.declared.types.RawHeap.TheVariants.{Abstract, Index}
+use Rattle.wasm_forms.specs.declared.types.RawRef.{RawRef}
+use Rattle.wasm_forms.specs.declared.types.RawVal.{RawVal}
+use Rattle.wasm_forms.specs.declared.types.RawVal.TheVariants.{I32, I64, F32, F64, V128, Ref}
+use Rattle.wasm_forms.specs.Grammar.{Form, Fails, Gives, Byte, IndexFrom, Led, Made, choose}
+use Rattle.wasm_forms.specs.Spelling.{index_bytes}
+
+-- ---- forms
+
+-- the byte of an abstract heap type: exn, array, struct, i31, eq, any, extern, func, none, noextern, nofunc, noexn
+abbrev pub is_abstract : ℕ → Bool
+is_abstract b = nat_lt 0x68 b && nat_lt b 0x75
+
+-- the heap type that begins with this byte (Heap Types)
+unfoldable pub heap_from : ℕ → Form RawHeap
+heap_from b = choose (is_abstract b) (Gives (Abstract b)) (Made Index (IndexFrom b))
+
+unfoldable pub heap_type : Form RawHeap
+heap_type = Led Byte heap_from
+
+abbrev pub reference : Bool → RawHeap → RawRef
+reference nullable heap = record { nullable = nullable; heap = heap }
+
+-- 63 and a heap type: nullable; 64: not nullable; an abstract heap type alone: nullable (Reference Types)
+unfoldable pub reference_from : ℕ → Form RawRef
+reference_from b = choose (nat_eq b 0x63) (Made (reference true) heap_type)
+    (choose (nat_eq b 0x64) (Made (reference false) heap_type)
+    (choose (is_abstract b) (Gives (reference true (Abstract b)))
+    Fails))
+
+unfoldable pub reference_type : Form RawRef
+reference_type = Led Byte reference_from
+
+-- the value type that begins with this byte (Number Types, Vector Types, Value Types)
+unfoldable pub value_from : ℕ → Form RawVal
+value_from b = choose (nat_eq b 0x7F) (Gives I32)
+    (choose (nat_eq b 0x7E) (Gives I64)
+    (choose (nat_eq b 0x7D) (Gives F32)
+    (choose (nat_eq b 0x7C) (Gives F64)
+    (choose (nat_eq b 0x7B) (Gives V128)
+    (Made Ref (reference_from b))))))
+
+unfoldable pub value_type : Form RawVal
+value_type = Led Byte value_from
+
+-- ---- the one spelling: a nullable reference to an abstract heap type is one byte
+
+abbrev pub heap_bytes : RawHeap → List ℕ
+heap_bytes (Abstract b) = b ∷ []
+heap_bytes (Index n) = index_bytes n
+
+abbrev pub reference_spelled : Bool → RawHeap → List ℕ
+reference_spelled true (Abstract b) = b ∷ []
+reference_spelled true (Index n) = 0x63 ∷ index_bytes n
+reference_spelled false heap = 0x64 ∷ heap_bytes heap
+
+abbrev pub reference_bytes : RawRef → List ℕ
+reference_bytes r = reference_spelled r.nullable r.heap
+
+abbrev pub value_bytes : RawVal → List ℕ
+value_bytes I32 = 0x7F ∷ []
+value_bytes I64 = 0x7E ∷ []
+value_bytes F32 = 0x7D ∷ []
+value_bytes F64 = 0x7C ∷ []
+value_bytes V128 = 0x7B ∷ []
+value_bytes (Ref r) = reference_bytes r
+
+-- ---- which of them spell something: an abstract heap type by one of its bytes, an index below 2 ^ 32
+
+abbrev pub HeapStands : RawHeap → Type 0
+HeapStands (Abstract b) = is_abstract b ≡ true
+HeapStands (Index n) = n < 2 ^ 32
+
+abbrev pub ValueStands : RawVal → Type 0
+ValueStands (Ref r) = HeapStands r.heap
+ValueStands I32 = Unit {0}
+ValueStands I64 = Unit {0}
+ValueStands F32 = Unit {0}
+ValueStands F64 = Unit {0}
+ValueStands V128 = Unit {0}
