@@ -3,9 +3,9 @@
 ghost use Rattle.std.specs.Prelude.{◌≡◌, ◌⊎◌, codes, false, true};
 ghost use Rattle.std.specs.Io.KnownBytes.{Keeps};
 ghost use Rattle.walrus.specs.Command.{are_known, is_known, flags_for, stands_in};
-ghost use Rattle.walrus.specs.Device.{WroteFront};
-ghost use Rattle.walrus.specs.Message.{line};
-ghost use Rattle.walrus_module.specs.Flags.{flags};
+ghost use Rattle.walrus.specs.Headline.{Writes};
+ghost use Rattle.walrus.specs.Message.{Tells, line};
+ghost use Rattle.walrus_module.specs.Flags.{config_of, flags};
 
 use crate::device::{Sink, Source};
 use crate::message::{refuse, text_of, write_line};
@@ -58,8 +58,9 @@ pub fn command<R: Source, W: Sink, E: Sink>(
     ensures unknown { are_known words.now ≡ false → (result ≡ 2) × Keeps (R.left input.old) (R.left input.new)
         × (R.read_failures input.new ≡ R.read_failures input.old) × Keeps (W.held output.old) (W.held output.new)
         × (W.write_failures output.new ≡ W.write_failures output.old)
-        × WroteFront (E.held errors.old) (E.held errors.new) (line (codes "unknown word")) }
+        × Tells (E.held errors.old) (E.held errors.new) (E.write_failures errors.old) (E.write_failures errors.new) (line (codes "unknown word")) }
     ensures known { are_known words.now ≡ true → (result ≡ 0) ⊎ (result ≡ 1) }
+    ensures passed { result ≡ 0 → Writes (config_of (flags_for words.now)) (R.left input.old) (R.left input.new) (W.held output.old) (W.held output.new) }
     ensures silent { result ≡ 0 → Keeps (E.held errors.old) (E.held errors.new) }
 {
     if !all_known(words) {

@@ -2,8 +2,8 @@
 
 ghost use Rattle.std.specs.Prelude.{◌≡◌, OnOk, OnErr, ◌++◌, codes};
 ghost use Rattle.std.specs.Io.KnownBytes.{Appends};
-ghost use Rattle.walrus.specs.Device.{WroteFront};
-ghost use Rattle.walrus.specs.Message.{line};
+ghost use Rattle.walrus.specs.Device.{Counts, WroteFront};
+ghost use Rattle.walrus.specs.Message.{Tells, line};
 ghost use Rattle.walrus.specs.Text.{error_text_lem, tool_text};
 
 use crate::device::{DeviceFailed, Sink};
@@ -15,6 +15,7 @@ use walrus_module::Error;
 pub fn write_line<E: Sink>(errors: &mut E, text: &str) -> Result<(), DeviceFailed>
     ensures ok { OnOk result (Appends (E.held errors.old) (E.held errors.new) (line text.now)) }
     ensures begun { OnErr result (WroteFront (E.held errors.old) (E.held errors.new) (line text.now)) }
+    ensures counts { Counts (E.write_failures errors.old) (E.write_failures errors.new) result }
 {
     write_all(errors, b"walrus-gc: ")?;
     write_all(errors, text.as_bytes())?;
@@ -58,7 +59,7 @@ fn error_text(error: &Error) -> &str
 /// is the same.
 pub fn refuse<E: Sink>(errors: &mut E, text: &str) -> u8
     ensures status { result ≡ 1 }
-    ensures told { WroteFront (E.held errors.old) (E.held errors.new) (line text.now) }
+    ensures told { Tells (E.held errors.old) (E.held errors.new) (E.write_failures errors.old) (E.write_failures errors.new) (line text.now) }
 {
     let _told = write_line(errors, text);
     1

@@ -11,8 +11,8 @@ ghost use Rattle.wasm_entries.specs.declared.record.RawLimits.{RawLimits};
 use crate::record::{RawGlobalType, RawLimits, RawTableType};
 use std::alloc::Global;
 use wasm_forms::{
-    Element, WireError, Written, read_byte, read_reference_from, read_u32, read_u64, read_value_type,
-    write_reference_type, write_u32, write_u64,
+    Element, WireError, Written, read_byte, read_reference_from, read_u32, read_u64,
+    read_value_type, write_reference_type, write_u32, write_u64,
 };
 
 /// Whether the flags have this bit.
