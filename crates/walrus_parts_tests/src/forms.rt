@@ -2,9 +2,9 @@
 
 use std::test::Fail;
 use wasm_forms::{
-    read_f32, read_f64, read_index_from, read_name, read_s32, read_s64, read_u32, read_u64,
-    read_vector, write_block, write_f32, write_f64, write_index, write_name, write_s32, write_s64,
-    write_u32, write_u64, write_vector,
+    read_byte, read_f32, read_f64, read_index_from, read_name, read_s32, read_s64, read_u32,
+    read_u64, read_vector, write_block, write_f32, write_f64, write_index, write_name, write_s32,
+    write_s64, write_u32, write_u64, write_vector,
 };
 
 #[test]
@@ -35,7 +35,8 @@ fn numbers_of_64_bits_are_written_as_other_encoders_write_them(
     assert_eq!(rt; bytes.as_slice(), want.as_slice());
     let (most, rest) = read_u64(bytes.as_slice())?;
     let (least, rest) = read_s64(rest)?;
-    let (index, rest) = read_index_from(rest[0], &rest[1..])?;
+    let (first, rest) = read_byte(rest)?;
+    let (index, rest) = read_index_from(first, rest)?;
     let (one, rest) = read_f32(rest)?;
     let (other, rest) = read_f64(rest)?;
     assert_eq!(rt; (most, least, index), (u64::MAX, i64::MIN, 64));
