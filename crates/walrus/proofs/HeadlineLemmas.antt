@@ -39,7 +39,8 @@ use Rattle.walrus_parts.specs.declared.error.Error.TheVariants as error
 use Rattle.walrus.specs.Headline.{ComesTo, ComesOutTooLarge, Answers}
 use Rattle.walrus.specs.Marked.{ReachesSound, ReachesUnsound}
 use Rattle.walrus.specs.Used.{IsRefusal}
-use Rattle.wasm_wire.specs.Record as wire
+use Rattle.wasm_frames.specs.Record as wire
+use Rattle.walrus_model.specs.Handled as handled
 
 -- ---- names
 
@@ -179,7 +180,7 @@ module _ (P : ℕ → Type 0) (r : Renaming) (in_place : (space : Space) (i : �
   plain_stay (o ∷ ops) h = ap₂ ◌∷◌ (one_stays o h.0) (plain_stay ops h.1)
 
 -- the bytes that have these operators
-read_from : (r : wire.Module) (bs : List wire.Body) (bodies : List (List Op)) (i : ℕ) (ops : List Op) → AllZip (ReadsBody r) bs bodies → slice_get bodies i ≡ Some ops → (b : wire.Body) × ReadsBody r b ops
+read_from : (r : handled.Module) (bs : List wire.Body) (bodies : List (List Op)) (i : ℕ) (ops : List Op) → AllZip (ReadsBody r) bs bodies → slice_get bodies i ≡ Some ops → (b : wire.Body) × ReadsBody r b ops
 read_from r [] [] i ops h e = absurd (cc)
 read_from r [] (o ∷ os) i ops h e = absurd h
 read_from r (b ∷ bs) [] i ops h e = absurd h
@@ -229,7 +230,7 @@ few n (x ∷ xs) rise below =
     omega (arith, low, high)
 
 module _ (c : Config) (bytes : List ℕ) (v w : Abstract) (parsed : IsParsed c bytes v) (collected : Collected v w) where
-  abbrev read : wire.Module
+  abbrev read : handled.Module
   read = parsed.reads.sections
 
   abbrev bodies : List (List Op)

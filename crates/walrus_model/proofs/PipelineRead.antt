@@ -6,7 +6,8 @@ use Rattle.std.specs.List.{AllZip}
 use Rattle.wasm_forms.specs.Grammar.{Gives, Made, Fails, U32, S32, Is, IsUntil, choose}
 use Rattle.wasm_forms.specs.Reading.{◌>>=◌}
 use Rattle.wasm_forms.proofs.Bind.{bind_some}
-use Rattle.wasm_wire.specs.Record as wire
+use Rattle.wasm_frames.specs.Record as wire
+use Rattle.walrus_model.specs.Handled as handled
 use Rattle.walrus_base.specs.Types.{ValType}
 use Rattle.walrus_ir.specs.Operators.{Space, Types, Functions, Tables, Memories, Tags, Globals, Elements, DataSegments, Item, Op}
 use Rattle.walrus_ir.specs.Names.{Lookup, named_args, named_op, named_ops}
@@ -119,25 +120,25 @@ abbrev AllNoTries : List (List Op) → Type 0
 AllNoTries [] = Unit {0}
 AllNoTries (ops ∷ bodies) = NoTries ops × AllNoTries bodies
 
-bodies_have_none : (r : wire.Module) (bs : List wire.Body) (bodies : List (List Op)) → AllZip (ReadsBody r) bs bodies → AllNoTries bodies
+bodies_have_none : (r : handled.Module) (bs : List wire.Body) (bodies : List (List Op)) → AllZip (ReadsBody r) bs bodies → AllNoTries bodies
 bodies_have_none r [] [] read = tt
 bodies_have_none r [] (ops ∷ bodies) read = absurd read
 bodies_have_none r (b ∷ bs) [] read = absurd read
 bodies_have_none r (b ∷ bs) (ops ∷ bodies) read = (body_has_none _ b.bytes ops read.0, bodies_have_none r bs bodies read.1)
 
-function_has_none : (r : wire.Module) (tys : List ℕ) (bodies : List (List Op)) → AllNoTries bodies → (i : ℕ) (b : Body) → body_of_function (slice_get (map (function_with r) (zip tys bodies)) i) ≡ Some b → NoTries b.operators
+function_has_none : (r : handled.Module) (tys : List ℕ) (bodies : List (List Op)) → AllNoTries bodies → (i : ℕ) (b : Body) → body_of_function (slice_get (map (function_with r) (zip tys bodies)) i) ≡ Some b → NoTries b.operators
 function_has_none r [] bodies none i b at = absurd (cc)
 function_has_none r (ty ∷ tys) [] none i b at = absurd (cc)
 function_has_none r (ty ∷ tys) (ops ∷ bodies) none zero b at = let is : body_with (params_of (types_of r ty)) ops ≡ b = cc in subst (λ (x : Body). NoTries x.operators) is none.0
 function_has_none r (ty ∷ tys) (ops ∷ bodies) none (suc i) b at = function_has_none r tys bodies none.1 i b at
 
 -- functions that are all local come in one order
-local_order : (r : wire.Module) (i j : ℕ) (a b : Option (ℕ × List Op)) → BothAnd (FunctionsByIndex i j) (option_map (λ f. f.kind) (option_map (function_with r) a)) (option_map (λ f. f.kind) (option_map (function_with r) b)) → BothAnd (FunctionsByImport i j) (option_map (λ f. f.kind) (option_map (function_with r) a)) (option_map (λ f. f.kind) (option_map (function_with r) b))
+local_order : (r : handled.Module) (i j : ℕ) (a b : Option (ℕ × List Op)) → BothAnd (FunctionsByIndex i j) (option_map (λ f. f.kind) (option_map (function_with r) a)) (option_map (λ f. f.kind) (option_map (function_with r) b)) → BothAnd (FunctionsByImport i j) (option_map (λ f. f.kind) (option_map (function_with r) a)) (option_map (λ f. f.kind) (option_map (function_with r) b))
 local_order r i j (Some x) (Some y) h = h
 local_order r i j (Some x) None h = h
 local_order r i j None b h = h
 
-module _ (r : wire.Module) (bodies : List (List Op)) where
+module _ (r : handled.Module) (bodies : List (List Op)) where
   functions_in_order : (i j : ℕ) → ByIndex (module_of r bodies) Functions i j → ByImport (module_of r bodies) Functions i j
   functions_in_order i j h =
       let one = slice_get-map (function_with r) (zip r.functions bodies) i in
@@ -184,7 +185,7 @@ module _ (m : Abstract) (holds : IndicesHold (λ space i j. i < j) m) (keeps : (
   reached_is_live y (step x z h (inr too)) = keeps x y too
 
 -- a module that was read keeps nothing but what is written in its items
-keeps_none : (r : wire.Module) (bodies : List (List Op)) (x y : Item) → KeepsToo (module_of r bodies) x y → ⊥
+keeps_none : (r : handled.Module) (bodies : List (List Op)) (x y : Item) → KeepsToo (module_of r bodies) x y → ⊥
 keeps_none r bodies (Functions, f) y (t, at, is) = Contains-none t at
 keeps_none r bodies (Tables, t) y (e, held, is) = absurd (cc)
 keeps_none r bodies (Memories, i) y (d, held, is) = absurd (cc)

@@ -9,14 +9,19 @@ use Rattle.std.proofs.lemmas.Str.Ascii.{IsAscii-nil, IsAscii-cons}
 use Rattle.std.proofs.lemmas.List.Elements.{All-nil, All-cons}
 use Rattle.std.proofs.lemmas.List.Kept.{AllPairs-cons}
 use Rattle.wasm_forms.proofs.Exact.{exact}
-use Rattle.wasm_wire.specs.Forms.{function_type, value_type, value_type_from, export_entry, export_kind, export_kind_from}
-use Rattle.wasm_wire.specs.Frames.{Frames, Section, Types, Functions, Exports, Code, IsSection, IsBody, IsCode, IsContent, id_of}
-use Rattle.wasm_wire.specs.Rules.{StandsBefore, standard_order}
+use Rattle.wasm_forms.specs.Types.{value_type}
+use Rattle.wasm_entries.specs.TypeForms.{group_form, group_from, sub_from, comp_from, signature}
+use Rattle.wasm_entries.specs.Forms.{export_form, kind_form, kind_from}
+use Rattle.wasm_entries.specs.Record as entries
+use Rattle.wasm_frames.specs.Frames.{Frames, Section, Types, Functions, Exports, Code, IsSection, IsBody, IsCode, IsContent, id_of}
+use Rattle.wasm_frames.specs.Order.{StandsBefore, standard_order}
 use Rattle.walrus_ir.specs.Names.{Lookup}
 use Rattle.walrus_ir.specs.Body.{body_form, operator_from, BodyReads}
+use Rattle.walrus_model.specs.Handled.{widened, widened_type, widened_export}
 use Rattle.walrus_model.specs.Reads.{Reads, declared}
 use Rattle.wasm_forms.specs.Spelling.{number_bytes, vector_bytes, groups}
-use Rattle.wasm_wire.specs.Spelling.{func_type_bytes, export_bytes}
+use Rattle.wasm_entries.specs.TypeSpelling.{group_bytes}
+use Rattle.wasm_entries.specs.Spelling.{export_bytes}
 use Rattle.walrus_model.specs.Placed.{Section as PlacedSection, is_custom, is_called, is_dylink_section, is_other_custom, sized_body, IsListOf, IsCanonical, of_types, of_functions, of_exports, of_bodies, Placed}
 use Rattle.walrus_model.specs.Examples.{two_functions_bytes, one_function_bytes, no_values, export_f, empty_body, just_end, two_functions_sections, one_function_sections, two_functions, one_function, plain}
 
@@ -30,9 +35,17 @@ reads_whole g bytes a e =
 one_byte : (n : ℕ) → n < 128 → IsU32 (n ∷ []) n
 one_byte n less = record { spelled = (less, refl); short = omega arith; small = omega arith }
 
-types_read : Is (Vector function_type) (0x01 ∷ 0x60 ∷ 0x00 ∷ 0x00 ∷ []) (no_values ∷ [])
-unfolding function_type value_type value_type_from number_at leb_at row_at
-types_read = reads_whole (Vector function_type) (0x01 ∷ 0x60 ∷ 0x00 ∷ 0x00 ∷ []) (no_values ∷ []) refl
+-- the one group of types, and the one export, as sections hold them
+
+abbrev one_group : entries.Group
+one_group = widened_type no_values
+
+abbrev entry_f : ℕ → entries.Export
+entry_f index = widened_export (export_f index)
+
+types_read : Is (Vector group_form) (0x01 ∷ 0x60 ∷ 0x00 ∷ 0x00 ∷ []) (one_group ∷ [])
+unfolding group_form group_from sub_from comp_from signature value_type number_at leb_at row_at
+types_read = reads_whole (Vector group_form) (0x01 ∷ 0x60 ∷ 0x00 ∷ 0x00 ∷ []) (one_group ∷ []) refl
 
 two_read : Is (Vector U32) (0x02 ∷ 0x00 ∷ 0x00 ∷ []) (0 ∷ 0 ∷ [])
 unfolding number_at leb_at row_at
@@ -45,13 +58,13 @@ one_read = reads_whole (Vector U32) (0x01 ∷ 0x00 ∷ []) (0 ∷ []) refl
 f_is_text : is_utf8 (0x66 ∷ []) ≡ true
 f_is_text = is_utf8-from_IsUtf8 (0x66 ∷ []) (IsUtf8-from_ascii (0x66 ∷ []) (IsAscii-cons 0x66 [] (omega arith) IsAscii-nil))
 
-export_1 : Is (Vector export_entry) (0x01 ∷ 0x01 ∷ 0x66 ∷ 0x00 ∷ 0x01 ∷ []) (export_f 1 ∷ [])
-unfolding export_entry export_kind export_kind_from number_at leb_at row_at block_at
-export_1 = reads_whole (Vector export_entry) (0x01 ∷ 0x01 ∷ 0x66 ∷ 0x00 ∷ 0x01 ∷ []) (export_f 1 ∷ []) (rw f_is_text refl)
+export_1 : Is (Vector export_form) (0x01 ∷ 0x01 ∷ 0x66 ∷ 0x00 ∷ 0x01 ∷ []) (entry_f 1 ∷ [])
+unfolding export_form kind_form kind_from number_at leb_at row_at block_at
+export_1 = reads_whole (Vector export_form) (0x01 ∷ 0x01 ∷ 0x66 ∷ 0x00 ∷ 0x01 ∷ []) (entry_f 1 ∷ []) (rw f_is_text refl)
 
-export_0 : Is (Vector export_entry) (0x01 ∷ 0x01 ∷ 0x66 ∷ 0x00 ∷ 0x00 ∷ []) (export_f 0 ∷ [])
-unfolding export_entry export_kind export_kind_from number_at leb_at row_at block_at
-export_0 = reads_whole (Vector export_entry) (0x01 ∷ 0x01 ∷ 0x66 ∷ 0x00 ∷ 0x00 ∷ []) (export_f 0 ∷ []) (rw f_is_text refl)
+export_0 : Is (Vector export_form) (0x01 ∷ 0x01 ∷ 0x66 ∷ 0x00 ∷ 0x00 ∷ []) (entry_f 0 ∷ [])
+unfolding export_form kind_form kind_from number_at leb_at row_at block_at
+export_0 = reads_whole (Vector export_form) (0x01 ∷ 0x01 ∷ 0x66 ∷ 0x00 ∷ 0x00 ∷ []) (entry_f 0 ∷ []) (rw f_is_text refl)
 
 body_read : (names : Lookup) → BodyReads names (0x00 ∷ 0x0B ∷ []) just_end
 unfolding body_form operator_from number_at leb_at until_at
@@ -86,10 +99,10 @@ one_code = record {
 a_section : (place n : ℕ) (content : List ℕ) (s : Section) → n < 128 → n ≡ length content → IsContent (place + 1 + 1) content s → IsSection place (id_of s ∷ n ∷ content) s
 a_section place n content s small is used = record { size = n ∷ []; content = content; spelled = refl; sized = subst (IsU32 (n ∷ [])) is (one_byte n small); used = used }
 
-two_frames : Frames two_functions_bytes two_functions_sections
+two_frames : Frames two_functions_bytes (widened two_functions_sections)
 two_frames = record {
   rest = drop 8 two_functions_bytes;
-  parts = Types (no_values ∷ []) ∷ Functions (0 ∷ 0 ∷ []) ∷ Exports (export_f 1 ∷ []) ∷ Code (empty_body 30 ∷ empty_body 33 ∷ []) ∷ [];
+  parts = Types (one_group ∷ []) ∷ Functions (0 ∷ 0 ∷ []) ∷ Exports (entry_f 1 ∷ []) ∷ Code (empty_body 30 ∷ empty_body 33 ∷ []) ∷ [];
   headed = refl;
   framed = (
     0x01 ∷ 0x04 ∷ 0x01 ∷ 0x60 ∷ 0x00 ∷ 0x00 ∷ [],
@@ -97,7 +110,7 @@ two_frames = record {
       drop 14 two_functions_bytes,
       (
         refl,
-        a_section 8 4 (0x01 ∷ 0x60 ∷ 0x00 ∷ 0x00 ∷ []) (Types (no_values ∷ [])) (omega arith) refl types_read,
+        a_section 8 4 (0x01 ∷ 0x60 ∷ 0x00 ∷ 0x00 ∷ []) (Types (one_group ∷ [])) (omega arith) refl types_read,
         (
           0x03 ∷ 0x03 ∷ 0x02 ∷ 0x00 ∷ 0x00 ∷ [],
           (
@@ -111,7 +124,7 @@ two_frames = record {
                   drop 26 two_functions_bytes,
                   (
                     refl,
-                    a_section 19 5 (0x01 ∷ 0x01 ∷ 0x66 ∷ 0x00 ∷ 0x01 ∷ []) (Exports (export_f 1 ∷ [])) (omega arith) refl export_1,
+                    a_section 19 5 (0x01 ∷ 0x01 ∷ 0x66 ∷ 0x00 ∷ 0x01 ∷ []) (Exports (entry_f 1 ∷ [])) (omega arith) refl export_1,
                     (drop 26 two_functions_bytes, ([], (refl, a_section 26 7 (0x02 ∷ 0x02 ∷ 0x00 ∷ 0x0B ∷ 0x02 ∷ 0x00 ∷ 0x0B ∷ []) (Code (empty_body 30 ∷ empty_body 33 ∷ [])) (omega arith) refl two_codes, refl))),
                   ),
                 ),
@@ -125,10 +138,10 @@ two_frames = record {
   holds = refl;
 }
 
-one_frames : Frames one_function_bytes one_function_sections
+one_frames : Frames one_function_bytes (widened one_function_sections)
 one_frames = record {
   rest = drop 8 one_function_bytes;
-  parts = Types (no_values ∷ []) ∷ Functions (0 ∷ []) ∷ Exports (export_f 0 ∷ []) ∷ Code (empty_body 29 ∷ []) ∷ [];
+  parts = Types (one_group ∷ []) ∷ Functions (0 ∷ []) ∷ Exports (entry_f 0 ∷ []) ∷ Code (empty_body 29 ∷ []) ∷ [];
   headed = refl;
   framed = (
     0x01 ∷ 0x04 ∷ 0x01 ∷ 0x60 ∷ 0x00 ∷ 0x00 ∷ [],
@@ -136,7 +149,7 @@ one_frames = record {
       drop 14 one_function_bytes,
       (
         refl,
-        a_section 8 4 (0x01 ∷ 0x60 ∷ 0x00 ∷ 0x00 ∷ []) (Types (no_values ∷ [])) (omega arith) refl types_read,
+        a_section 8 4 (0x01 ∷ 0x60 ∷ 0x00 ∷ 0x00 ∷ []) (Types (one_group ∷ [])) (omega arith) refl types_read,
         (
           0x03 ∷ 0x02 ∷ 0x01 ∷ 0x00 ∷ [],
           (
@@ -150,7 +163,7 @@ one_frames = record {
                   drop 25 one_function_bytes,
                   (
                     refl,
-                    a_section 18 5 (0x01 ∷ 0x01 ∷ 0x66 ∷ 0x00 ∷ 0x00 ∷ []) (Exports (export_f 0 ∷ [])) (omega arith) refl export_0,
+                    a_section 18 5 (0x01 ∷ 0x01 ∷ 0x66 ∷ 0x00 ∷ 0x00 ∷ []) (Exports (entry_f 0 ∷ [])) (omega arith) refl export_0,
                     (drop 25 one_function_bytes, ([], (refl, a_section 25 4 (0x01 ∷ 0x02 ∷ 0x00 ∷ 0x0B ∷ []) (Code (empty_body 29 ∷ [])) (omega arith) refl one_code, refl))),
                   ),
                 ),
@@ -171,14 +184,14 @@ stands i j a b less p q = record { place_of_a = i; place_of_b = j; earlier = les
 in_order : AllPairs StandsBefore (1 ∷ 3 ∷ 7 ∷ 10 ∷ [])
 in_order =
     AllPairs-cons StandsBefore 1 (3 ∷ 7 ∷ 10 ∷ [])
-    (All-cons (StandsBefore 1) 3 (7 ∷ 10 ∷ []) (stands 0 1 1 3 (omega arith) refl refl)
-    (All-cons (StandsBefore 1) 7 (10 ∷ []) (stands 0 2 1 7 (omega arith) refl refl)
-    (All-cons (StandsBefore 1) 10 [] (stands 0 3 1 10 (omega arith) refl refl) (All-nil (StandsBefore 1)))))
+    (All-cons (StandsBefore 1) 3 (7 ∷ 10 ∷ []) (stands 0 2 1 3 (omega arith) refl refl)
+    (All-cons (StandsBefore 1) 7 (10 ∷ []) (stands 0 7 1 7 (omega arith) refl refl)
+    (All-cons (StandsBefore 1) 10 [] (stands 0 11 1 10 (omega arith) refl refl) (All-nil (StandsBefore 1)))))
     (AllPairs-cons StandsBefore 3 (7 ∷ 10 ∷ [])
-    (All-cons (StandsBefore 3) 7 (10 ∷ []) (stands 1 2 3 7 (omega arith) refl refl)
-    (All-cons (StandsBefore 3) 10 [] (stands 1 3 3 10 (omega arith) refl refl) (All-nil (StandsBefore 3))))
+    (All-cons (StandsBefore 3) 7 (10 ∷ []) (stands 2 7 3 7 (omega arith) refl refl)
+    (All-cons (StandsBefore 3) 10 [] (stands 2 11 3 10 (omega arith) refl refl) (All-nil (StandsBefore 3))))
     (AllPairs-cons StandsBefore 7 (10 ∷ [])
-    (All-cons (StandsBefore 7) 10 [] (stands 2 3 7 10 (omega arith) refl refl) (All-nil (StandsBefore 7)))
+    (All-cons (StandsBefore 7) 10 [] (stands 7 11 7 10 (omega arith) refl refl) (All-nil (StandsBefore 7)))
     (AllPairs-cons StandsBefore 10 [] (All-nil (StandsBefore 10)) (λ i j d less at. absurd (omega arith)))))
 
 pub two_functions_read : Reads plain two_functions_bytes two_functions
@@ -212,13 +225,13 @@ all_four : {A : Type 0} (P : A → Type 0) (a b c d : A) → P a → P b → P c
 all_four P a b c d p q r s = All-cons P a (b ∷ c ∷ d ∷ []) p (All-cons P b (c ∷ d ∷ []) q (All-cons P c (d ∷ []) r (All-cons P d [] s (All-nil P))))
 
 abbrev type_part : PlacedSection
-type_part = record { id = 1; name = []; content = vector_bytes func_type_bytes (no_values ∷ []) }
+type_part = record { id = 1; name = []; content = vector_bytes group_bytes (one_group ∷ []) }
 
 abbrev function_part : PlacedSection
 function_part = record { id = 3; name = []; content = vector_bytes number_bytes (0 ∷ []) }
 
 abbrev export_part : PlacedSection
-export_part = record { id = 7; name = []; content = vector_bytes export_bytes (export_f 0 ∷ []) }
+export_part = record { id = 7; name = []; content = vector_bytes export_bytes (entry_f 0 ∷ []) }
 
 abbrev code_part : PlacedSection
 code_part = record { id = 10; name = []; content = vector_bytes sized_body (just_end ∷ []) }
@@ -247,8 +260,8 @@ one_function_placed = record {
     others_are = All-nil (λ s. is_other_custom s ≡ true);
   };
   canonical = all_four IsCanonical type_part function_part export_part code_part
-      (of_types type_part.content (a_list func_type_bytes no_values [] type_part.content refl))
+      (of_types type_part.content (a_list group_bytes one_group [] type_part.content refl))
       (of_functions function_part.content (a_list number_bytes 0 [] function_part.content refl))
-      (of_exports export_part.content (a_list export_bytes (export_f 0) [] export_part.content refl))
+      (of_exports export_part.content (a_list export_bytes (entry_f 0) [] export_part.content refl))
       (of_bodies code_part.content (a_list sized_body just_end [] code_part.content refl));
 }

@@ -1,11 +1,11 @@
 -- Small modules, worked out.
 use Rattle.std.specs.Prelude.{ℕ, List, [], ◌∷◌, ◌++◌, Some, None, codes, decimal, slice_get, true, false, pos, ◌≡◌}
-use Rattle.wasm_wire.specs.Record as wire
-use Rattle.wasm_wire.specs.declared.record.RawExportKind.TheVariants as kinds
+use Rattle.wasm_frames.specs.Record as wire
 use Rattle.walrus_base.specs.Types.{Func, Struct, ValType, I32, Ref, Concrete, SubType, Unpacked}
 use Rattle.walrus_ir.specs.Operators.{Types, Tags, Functions, Index, Block, OneResult, S32, Op}
 use Rattle.walrus_model.specs.Abstract.{Abstract, TypeDef, Body, LocalFunction, Defined, AnItem, ALocal}
 use Rattle.walrus_model.specs.Config.{Config}
+use Rattle.walrus_model.specs.Handled as handled
 use Rattle.walrus_model.specs.Kept.{Kept}
 use Rattle.walrus_model.specs.Shape.{HasShape, Shape, OfGroup, NoShapes, AndShape, InGroup, Filled}
 use Rattle.walrus_model.specs.Same.{SameType}
@@ -38,12 +38,12 @@ one_function_bytes =
     ∷ 0x07 ∷ 0x05 ∷ 0x01 ∷ 0x01 ∷ 0x66 ∷ 0x00 ∷ 0x00
     ∷ 0x0A ∷ 0x04 ∷ 0x01 ∷ 0x02 ∷ 0x00 ∷ 0x0B ∷ []
 
-abbrev pub no_values : wire.FuncType
+abbrev pub no_values : handled.FuncType
 no_values = record { params = []; results = [] }
 
 -- an export "f" of the function with this index
-abbrev pub export_f : ℕ → wire.Export
-export_f index = record { name = codes "f"; kind = kinds.Function; index = index }
+abbrev pub export_f : ℕ → handled.Export
+export_f index = record { name = codes "f"; kind = handled.Function; index = index }
 
 -- an empty body: no declared locals, and the end
 abbrev pub empty_body : ℕ → wire.Body
@@ -54,10 +54,10 @@ just_end = record { op = 0x0B; args = [] } ∷ []
 
 -- what the sections of these bytes hold
 
-abbrev pub two_functions_sections : wire.Module
+abbrev pub two_functions_sections : handled.Module
 two_functions_sections = record { order = 1 ∷ 3 ∷ 7 ∷ 10 ∷ []; types = no_values ∷ []; functions = 0 ∷ 0 ∷ []; exports = export_f 1 ∷ []; bodies = empty_body 30 ∷ empty_body 33 ∷ [] }
 
-abbrev pub one_function_sections : wire.Module
+abbrev pub one_function_sections : handled.Module
 one_function_sections = record { order = 1 ∷ 3 ∷ 7 ∷ 10 ∷ []; types = no_values ∷ []; functions = 0 ∷ []; exports = export_f 0 ∷ []; bodies = empty_body 29 ∷ [] }
 
 -- the modules

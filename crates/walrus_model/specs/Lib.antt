@@ -19,6 +19,7 @@ pub mod Out
 pub mod Rules
 pub mod Closed
 pub mod Laws
+pub mod Handled
 pub mod Reads
 pub mod WellMade
 pub mod Placed

@@ -1,8 +1,9 @@
 -- The order and the spelling of the sections that are written ("Binary Format > Modules > Sections").
 use Rattle.std.specs.Prelude.{ℕ, Bool, true, false, ◌||◌, ◌&&◌, not, List, [], ◌∷◌, ◌++◌, length, All, codes, bytes_eq, ◌≡◌, ◌≢◌, ◌≤◌, ◌==◌}
 use Rattle.wasm_forms.specs.Spelling.{number_bytes, block_bytes, vector_bytes}
-use Rattle.wasm_wire.specs.Spelling.{func_type_bytes, export_bytes}
-use Rattle.wasm_wire.specs.Frames.{header}
+use Rattle.wasm_entries.specs.TypeSpelling.{group_bytes}
+use Rattle.wasm_entries.specs.Spelling.{export_bytes}
+use Rattle.wasm_frames.specs.Frames.{header}
 use Rattle.walrus_ir.specs.Operators.{Op}
 use Rattle.walrus_ir.specs.Body.{body_bytes}
 use Rattle.walrus_model.specs.Abstract.{Name}
@@ -61,7 +62,7 @@ sized_body ops = block_bytes (body_bytes ops)
 -- The content is spelled as this program writes sections of this id: type, function, export, code. So far no other
 -- section is written.
 pub data IsCanonical : Section → Type 0 where
-  of_types : (content : List ℕ) → IsListOf func_type_bytes content → IsCanonical (record { id = 1; name = []; content = content })
+  of_types : (content : List ℕ) → IsListOf group_bytes content → IsCanonical (record { id = 1; name = []; content = content })
   of_functions : (content : List ℕ) → IsListOf number_bytes content → IsCanonical (record { id = 3; name = []; content = content })
   of_exports : (content : List ℕ) → IsListOf export_bytes content → IsCanonical (record { id = 7; name = []; content = content })
   of_bodies : (content : List ℕ) → IsListOf sized_body content → IsCanonical (record { id = 10; name = []; content = content })

@@ -1,40 +1,38 @@
--- What bytes read as ("Binary Format > Modules"). The sections that this grammar lacks so far (imports, tables, memories,
--- tags, globals, elements, data, start, custom ones) are absent from each module that is read.
-use Rattle.std.specs.Prelude.{ℕ, false, List, [], ◌∷◌, map, length, zip, AllPairs, Option, Some, None, option_map, slice_get, nat_lt, ◌≡◌, if◌then◌else◌, true}
+-- What bytes read as ("Binary Format > Modules"). Sections that aren't handled so far (imports, tables, memories, tags,
+-- globals, elements, data, start, custom ones) are absent from each module that is read.
+use Rattle.std.specs.Prelude.{ℕ, false, List, [], ◌∷◌, map, length, zip, Option, Some, None, option_map, slice_get, nat_lt, ◌≡◌, if◌then◌else◌, true}
 use Rattle.std.specs.List.{AllZip, range_with_len}
-use Rattle.wasm_wire.specs.declared.record.RawVal.{RawVal}
-use Rattle.wasm_wire.specs.declared.record.RawVal.TheVariants as raw
-use Rattle.wasm_wire.specs.declared.record.RawExportKind.{RawExportKind}
-use Rattle.wasm_wire.specs.declared.record.RawExportKind.TheVariants as kinds
-use Rattle.wasm_wire.specs.Record as wire
-use Rattle.wasm_wire.specs.Frames.{Frames}
-use Rattle.wasm_wire.specs.Rules.{StandsBefore}
+use Rattle.wasm_frames.specs.Record as wire
+use Rattle.wasm_frames.specs.Frames.{Frames}
+use Rattle.wasm_frames.specs.Order.{InOrder}
 use Rattle.walrus_base.specs.Types.{ValType, I32, I64, F32, F64, V128, CompType, Func}
 use Rattle.walrus_ir.specs.Operators.{Space, Types, Functions, Op}
 use Rattle.walrus_ir.specs.Names.{Lookup}
 use Rattle.walrus_ir.specs.Body.{BodyReads}
 use Rattle.walrus_model.specs.Abstract.{Abstract, TypeDef, Body, LocalFunction, Function, Export}
+use Rattle.walrus_model.specs.Handled as handled
+use Rattle.walrus_model.specs.Handled.{widened}
 use Rattle.walrus_model.specs.Handlers.{params_of}
 use Rattle.walrus_model.specs.Config.{Config}
 use Rattle.walrus_model.specs.Rules.{Holds}
 
 -- ---- types
 
-abbrev pub value_type : RawVal → ValType ℕ
-value_type raw.I32 = I32
-value_type raw.I64 = I64
-value_type raw.F32 = F32
-value_type raw.F64 = F64
-value_type raw.V128 = V128
+abbrev pub value_type : handled.Value → ValType ℕ
+value_type handled.I32 = I32
+value_type handled.I64 = I64
+value_type handled.F32 = F32
+value_type handled.F64 = F64
+value_type handled.V128 = V128
 
-abbrev pub function_type : wire.FuncType → CompType ℕ
+abbrev pub function_type : handled.FuncType → CompType ℕ
 function_type t = Func (map value_type t.params) (map value_type t.results)
 
 -- an entry of the type section, alone in its group, final, with no supertype; this is its index
-abbrev pub lone_type : ℕ → wire.FuncType → TypeDef
+abbrev pub lone_type : ℕ → handled.FuncType → TypeDef
 lone_type i t = record { group = i ∷ []; sub = record { is_final = true; supertypes = []; comp = function_type t } }
 
-abbrev pub types_of : wire.Module → ℕ → Option TypeDef
+abbrev pub types_of : handled.Module → ℕ → Option TypeDef
 types_of r i = option_map (lone_type i) (slice_get r.types i)
 
 -- ---- functions
@@ -44,21 +42,21 @@ abbrev pub body_with : List (ValType ℕ) → List Op → Body
 body_with params ops = record { parameters = range_with_len 0 (length params); local_type = slice_get params; declared = 0; operators = ops }
 
 -- a function of a type and with operators
-abbrev pub function_with : wire.Module → ℕ × List Op → Function
+abbrev pub function_with : handled.Module → ℕ × List Op → Function
 function_with r f = record { ty = f.0; kind = LocalFunction (body_with (params_of (types_of r f.0)) f.1) }
 
 -- ---- exports
 
-abbrev pub space_of : RawExportKind → Space
-space_of kinds.Function = Functions
+abbrev pub space_of : handled.ExportKind → Space
+space_of handled.Function = Functions
 
-abbrev pub export_of : wire.Export → Export
+abbrev pub export_of : handled.Export → Export
 export_of e = record { name = e.name; item = (space_of e.kind, e.index) }
 
 -- ---- the module
 
 -- the module of these sections, whose bodies have these operators
-abbrev pub module_of : wire.Module → List (List Op) → Abstract
+abbrev pub module_of : handled.Module → List (List Op) → Abstract
 module_of r bodies = record {
   types = types_of r;
   imports = λ i. None;
@@ -85,23 +83,23 @@ abbrev pub below : ℕ → ℕ → Option ℕ
 below count i = if nat_lt i count then Some i else None
 
 -- the declared items of each space ("Validation > Conventions > Contexts"): types and functions
-abbrev pub declared : wire.Module → Lookup
+abbrev pub declared : handled.Module → Lookup
 declared r Types = below (length r.types)
 declared r Functions = below (length r.functions)
 declared r space = λ i. None
 
 -- the bytes of a body have these operators, where each index names a declared item
-abbrev pub ReadsBody : wire.Module → wire.Body → List Op → Type 0
+abbrev pub ReadsBody : handled.Module → wire.Body → List Op → Type 0
 ReadsBody r b ops = BodyReads (declared r) b.bytes ops
 
 -- the sections stand in order, each at most once
-abbrev pub SectionsInOrder : wire.Module → Type 0
-SectionsInOrder r = AllPairs StandsBefore r.order
+abbrev pub SectionsInOrder : handled.Module → Type 0
+SectionsInOrder r = InOrder r.order
 
--- the bytes read as the module m
+-- the bytes are the sections of the module m, and hold nothing that isn't handled
 pub record Reads (c : Config) (bytes : List ℕ) (m : Abstract) : Type 0 where
-  pub sections : wire.Module
-  pub framed : Frames bytes sections
+  pub sections : handled.Module
+  pub framed : Frames bytes (widened sections)
   pub in_order : SectionsInOrder sections
   pub as_many_bodies : length sections.bodies ≡ length sections.functions
   pub bodies : List (List Op)

@@ -19,8 +19,8 @@ use Rattle.walrus_module.proofs.Parsing.{mapped_some, got_map, got_in, kind_is, 
 use Rattle.walrus_module.proofs.Steps.{zip_length}
 use Rattle.walrus_parts.specs.declared.error.Error.{Error}
 use Rattle.walrus_parts.specs.declared.error.Error.TheVariants as Parts
-use Rattle.wasm_wire.specs.Record as wire
-use Rattle.wasm_wire.specs.Rules.{Rules}
+use Rattle.walrus_module.specs.Sections.{Rules}
+use Rattle.walrus_model.specs.Handled as handled
 
 -- ---- what was taken in was parsed
 
@@ -54,7 +54,7 @@ some_within [] k h = cc
 some_within (x ∷ xs) zero h = omega arith
 some_within (x ∷ xs) (suc k) h = let lt : k < length xs = some_within xs k h in omega (arith, lt)
 
-module _ (r : wire.Module) (bodies : List (List Op)) (many : length bodies ≡ length r.functions) (h : Holds (module_of r bodies)) where
+module _ (r : handled.Module) (bodies : List (List Op)) (many : length bodies ≡ length r.functions) (h : Holds (module_of r bodies)) where
   types_declared : All (λ t. t < length r.types) r.functions
   types_declared = λ k d lt.
       let q = got_pair r.functions bodies k d many lt in
@@ -67,7 +67,7 @@ module _ (r : wire.Module) (bodies : List (List Op)) (many : length bodies ≡ l
       let lt = some_within (map (function_with r) (zip r.functions bodies)) f s in
       omega (arith, lt, length-map (zip r.functions bodies) (function_with r), zip_long r.functions bodies many)
 
-  export_at : (k : ℕ) (d : wire.Export) → k < length r.exports → Contains (map export_of r.exports) (export_of (get_or r.exports k d))
+  export_at : (k : ℕ) (d : handled.Export) → k < length r.exports → Contains (map export_of r.exports) (export_of (get_or r.exports k d))
   export_at k d lt = (k, omega (arith, lt, length-map r.exports export_of), get_or-map export_of r.exports k d (export_of (get_or r.exports k d)) lt)
 
   exports_declared : All (λ e. e.index < length r.functions) r.exports

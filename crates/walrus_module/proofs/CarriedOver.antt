@@ -2,10 +2,6 @@
 use Rattle.std.proofs.Common.{◌≡◌, ℕ, zero, suc, List, [], ◌∷◌, ◌++◌, map, refl, sym, ap, ap₂, subst, ◌∙◌, inl, Bool, true}
 use Rattle.std.specs.Prelude.{Option, Some, None, IsSome, Contains, slice_get, zip, option_map, option_and_then, unwrap_or, flat_map, is_some, if◌then◌else◌}
 use Rattle.std.specs.List.{AllZip}
-use Rattle.wasm_wire.specs.Record as wire
-use Rattle.wasm_wire.specs.declared.record.RawVal.{RawVal}
-use Rattle.wasm_wire.specs.declared.record.RawVal.TheVariants as raw
-use Rattle.wasm_wire.specs.declared.record.RawExportKind.TheVariants as raw_kind
 use Rattle.walrus_base.specs.Arena.{item_at, entries, items}
 use Rattle.walrus_base.specs.Id.{place}
 use Rattle.walrus_base.specs.FuncTypes.{FuncType}
@@ -50,23 +46,24 @@ use Rattle.walrus_module.proofs.Placing.{self_eq}
 use Rattle.walrus_module.proofs.Renamed.{ops_renamed}
 use Rattle.walrus_module.proofs.Standing.{got_both, entered, entry_is, entry_found, local_is, ordered_at, order_found}
 use Rattle.walrus_module.proofs.WrittenAs.{ops_of, sections_of, operators_of, written_as, renaming_of}
+use Rattle.walrus_model.specs.Handled as handled
 
 -- ---- types
 
 -- value types name no type
-vals_seen : {R S : Type 0} (p : ℕ → S) (q : R → S) (s : ℕ → R) (vs : List RawVal) → map (map_val p) (map value_type vs) ≡ map (map_val q) (map (map_val s) (map value_type vs))
+vals_seen : {R S : Type 0} (p : ℕ → S) (q : R → S) (s : ℕ → R) (vs : List handled.Value) → map (map_val p) (map value_type vs) ≡ map (map_val q) (map (map_val s) (map value_type vs))
 vals_seen p q s [] = refl
-vals_seen p q s (raw.I32 ∷ vs) = ap₂ ◌∷◌ refl (vals_seen p q s vs)
-vals_seen p q s (raw.I64 ∷ vs) = ap₂ ◌∷◌ refl (vals_seen p q s vs)
-vals_seen p q s (raw.F32 ∷ vs) = ap₂ ◌∷◌ refl (vals_seen p q s vs)
-vals_seen p q s (raw.F64 ∷ vs) = ap₂ ◌∷◌ refl (vals_seen p q s vs)
-vals_seen p q s (raw.V128 ∷ vs) = ap₂ ◌∷◌ refl (vals_seen p q s vs)
+vals_seen p q s (handled.I32 ∷ vs) = ap₂ ◌∷◌ refl (vals_seen p q s vs)
+vals_seen p q s (handled.I64 ∷ vs) = ap₂ ◌∷◌ refl (vals_seen p q s vs)
+vals_seen p q s (handled.F32 ∷ vs) = ap₂ ◌∷◌ refl (vals_seen p q s vs)
+vals_seen p q s (handled.F64 ∷ vs) = ap₂ ◌∷◌ refl (vals_seen p q s vs)
+vals_seen p q s (handled.V128 ∷ vs) = ap₂ ◌∷◌ refl (vals_seen p q s vs)
 
 alone : (t : ℕ) → place_in (t ∷ []) t ≡ Some 0
 alone t = ap (λ (b : Bool). if b then Some 0 else option_map suc (place_in [] t)) (self_eq t)
 
 -- the entry for a type is that type, alone in its group
-same_entry : (f : ℕ → ℕ) (i : ℕ) (t : wire.FuncType) → SameType f i (type_def i (raw_shape t)) (lone_type (f i) t)
+same_entry : (f : ℕ → ℕ) (i : ℕ) (t : handled.FuncType) → SameType f i (type_def i (raw_shape t)) (lone_type (f i) t)
 same_entry f i t = record {
   group = refl;
   position = alone (f i) ∙ sym (alone i);
@@ -76,11 +73,11 @@ same_entry f i t = record {
 }
 
 -- both are there, and the same
-both_types : (ss : List (Option FuncType)) (ts : List wire.FuncType) (f : ℕ → ℕ) (i : ℕ) (t : wire.FuncType) → item_at ss i ≡ Some (raw_shape t) → slice_get ts (f i) ≡ Some t
+both_types : (ss : List (Option FuncType)) (ts : List handled.FuncType) (f : ℕ → ℕ) (i : ℕ) (t : handled.FuncType) → item_at ss i ≡ Some (raw_shape t) → slice_get ts (f i) ≡ Some t
     → BothAnd (SameType f i) (option_map (type_def i) (item_at ss i)) (option_map (lone_type (f i)) (slice_get ts (f i)))
 both_types ss ts f i t e h =
     subst (λ (o : Option FuncType). BothAnd (SameType f i) (option_map (type_def i) o) (option_map (lone_type (f i)) (slice_get ts (f i)))) (sym e)
-    (subst (λ (o : Option wire.FuncType). BothAnd (SameType f i) (Some (type_def i (raw_shape t))) (option_map (lone_type (f i)) o)) (sym h) (same_entry f i t))
+    (subst (λ (o : Option handled.FuncType). BothAnd (SameType f i) (Some (type_def i (raw_shape t))) (option_map (lone_type (f i)) o)) (sym h) (same_entry f i t))
 
 -- ---- operators
 
@@ -109,15 +106,15 @@ heads : {A : Type 0} (x y : A) (xs ys : List A) → x ∷ xs ≡ y ∷ ys → (x
 heads x y xs ys e = (let p : x ≡ y = cc in p, let q : xs ≡ ys = cc in q)
 
 module _ (names : Lookup) (ren : Renaming) (agrees : (space : Space) (p j : ℕ) → names space p ≡ Some j → j ≡ ren.numbers space p) where
-  same_item : (name : List ℕ) (x : ExportItem) (o : Option ℕ) (e : wire.Export) → names (exported x).0 (exported x).1 ≡ o
-      → Some e ≡ option_map (λ index. record { name = name; kind = raw_kind.Function; index = index }) o
+  same_item : (name : List ℕ) (x : ExportItem) (o : Option ℕ) (e : handled.Export) → names (exported x).0 (exported x).1 ≡ o
+      → Some e ≡ option_map (λ index. record { name = name; kind = handled.Function; index = index }) o
       → export_of e ≡ (record { name = name; item = ((exported x).0, ren.numbers (exported x).0 (exported x).1) })
   same_item name x None e h p = absurd (cc)
   same_item name (item.Function f) (Some j) e h p =
-      ap export_of (some_inj e (record { name = name; kind = raw_kind.Function; index = j }) p)
+      ap export_of (some_inj e (record { name = name; kind = handled.Function; index = j }) p)
       ∙ ap (λ (n : ℕ). record { name = name; item = (Functions, n) }) (agrees Functions (place f) j h)
 
-  same_exports : (raws : List wire.Export) (es : List ExportValue) → map Some raws ≡ map (export_with_index names) es → map export_of raws ≡ map (renamed_export ren) (map export_seen es)
+  same_exports : (raws : List handled.Export) (es : List ExportValue) → map Some raws ≡ map (export_with_index names) es → map export_of raws ≡ map (renamed_export ren) (map export_seen es)
   same_exports [] [] e = refl
   same_exports [] (x ∷ es) e = absurd (cc)
   same_exports (y ∷ raws) [] e = absurd (cc)
@@ -177,14 +174,14 @@ module _ (types : ModuleTypes) (all : ModuleLocals) (funcs : ModuleFunctions) (e
   type_carried i live =
       let t : (t : FuncType) × (item_at (func_types types) i ≡ Some t) = mapped_is_some (type_def i) (item_at (func_types types) i) live in
       let k : (k : ℕ) × (slice_get (entries (func_types types)) k ≡ Some (i, t.0)) = entered (func_types types) i t.0 t.1 in
-      let w : (w : wire.FuncType) × (slice_get r.raw_types k.0 ≡ Some w) × (t.0 ≡ raw_shape w) =
+      let w : (w : handled.FuncType) × (slice_get r.raw_types k.0 ≡ Some w) × (t.0 ≡ raw_shape w) =
       mapped_some raw_shape (slice_get r.raw_types k.0) t.0 (raw_type_at k.0 ∙ ap (option_map (λ (e : ℕ × FuncType). e.1)) k.1) in
       both_types (func_types types) r.raw_types (renaming.numbers Types) i w.0 (t.1 ∙ ap (λ (s : FuncType). Some s) w.2)
       (ap (λ (j : ℕ). slice_get r.raw_types j) (sym (type_found k.0 (i, t.0) k.1)) ∙ w.1)
 
   type_there : (j : ℕ) → IsSome (after.types j) → (i : ℕ) × IsSome (before.types i) × (renaming.numbers Types i ≡ j)
   type_there j live =
-      let w : (w : wire.FuncType) × (slice_get r.raw_types j ≡ Some w) = mapped_is_some (lone_type j) (slice_get r.raw_types j) live in
+      let w : (w : handled.FuncType) × (slice_get r.raw_types j ≡ Some w) = mapped_is_some (lone_type j) (slice_get r.raw_types j) live in
       let e : (e : ℕ × FuncType) × (slice_get (entries (func_types types)) j ≡ Some e) × (raw_shape w.0 ≡ e.1) =
       mapped_some (λ (e : ℕ × FuncType). e.1) (slice_get (entries (func_types types)) j) (raw_shape w.0) (sym (raw_type_at j) ∙ ap (option_map raw_shape) w.1) in
       (e.0.0, is_there (type_def e.0.0) (item_at (func_types types) e.0.0) e.0.1 (entry_is (func_types types) j e.0 e.1), sym (type_found j e.0 e.1))

@@ -30,7 +30,7 @@ use Rattle.walrus_module.specs.View.{type_def, kind_of, function, view_of}
 use Rattle.walrus_module.proofs.Plain.{ArePlain, Below, bodies_plain, no_locals, renamed_all}
 use Rattle.walrus_module.proofs.Parsing.{got_map, got_zip, there, still_some, none_there}
 use Rattle.walrus_module.proofs.Taking.{held, item_map, held_length}
-use Rattle.wasm_wire.specs.Record as wire
+use Rattle.walrus_model.specs.Handled as handled
 
 -- ---- types
 
@@ -38,25 +38,25 @@ others_same : (s : Seen) → others_through (λ k. k) s ≡ s
 others_same (Own k) = refl
 others_same (Other t) = refl
 
-same_lone : (i : ℕ) (t : wire.FuncType) → SameType (λ k. k) i (lone_type i t) (lone_type i t)
+same_lone : (i : ℕ) (t : handled.FuncType) → SameType (λ k. k) i (lone_type i t) (lone_type i t)
 same_lone i t = record {
   group = refl;
   position = refl;
   sub = sym (sub-itself (others_through (λ k. k)) others_same (in_its_group (lone_type i t)));
 }
 
-types_same : (ts : List wire.FuncType) (i k : ℕ) → option_map (type_def k) (item_at (map type_taken ts) i) ≡ option_map (lone_type k) (slice_get ts i)
+types_same : (ts : List handled.FuncType) (i k : ℕ) → option_map (type_def k) (item_at (map type_taken ts) i) ≡ option_map (lone_type k) (slice_get ts i)
 types_same [] i k = refl
 types_same (t ∷ ts) zero k = refl
 types_same (t ∷ ts) (suc i) k = types_same ts i k
 
-both_types : (i : ℕ) (o : Option wire.FuncType) → IsSome (option_map (lone_type i) o) → BothAnd (SameType (λ k. k) i) (option_map (lone_type i) o) (option_map (lone_type i) o)
+both_types : (i : ℕ) (o : Option handled.FuncType) → IsSome (option_map (lone_type i) o) → BothAnd (SameType (λ k. k) i) (option_map (lone_type i) o) (option_map (lone_type i) o)
 both_types i (Some t) h = same_lone i t
 both_types i None h = absurd (none_there h)
 
 -- ---- functions
 
-module _ (all : ModuleLocals) (r : wire.Module) (i : ℕ) where
+module _ (all : ModuleLocals) (r : handled.Module) (i : ℕ) where
   unused : (q : ℕ × List Op) (x : ℕ) → ArePlain (Below r) q.1 → IsUsed (body_with (params_of (types_of r q.0)) q.1) x → ⊥
   unused q x plain u = Contains-none x (subst (λ l. Contains l x) (no_locals (Below r) q.1 plain) u)
 
@@ -98,7 +98,7 @@ was_some f None h = absurd (none_there h)
 no_items : {X : Type 0} (S : ℕ → X → X → Type 0) → Carries (λ i. IsSome {T = X} None) (λ j. ⊥) (λ i. i) S (λ i. None) (λ i. None)
 no_items S = record { same = λ i h. absurd (none_there h); onto = λ j h. absurd (none_there h) }
 
-module _ (r : wire.Module) (ts : ModuleTypes) (all : ModuleLocals) (fs : ModuleFunctions) (es : ModuleExports) (h : HasTaken r ts fs es) where
+module _ (r : handled.Module) (ts : ModuleTypes) (all : ModuleLocals) (fs : ModuleFunctions) (es : ModuleExports) (h : HasTaken r ts fs es) where
   type_at : (i : ℕ) → (view_of ts all fs es).types i ≡ option_map (lone_type i) (slice_get r.types i)
   type_at i = ap (λ (l : List (Option FuncType)). option_map (type_def i) (item_at l i)) h.types ∙ types_same r.types i i
 

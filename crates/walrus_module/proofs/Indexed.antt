@@ -4,8 +4,6 @@ use Rattle.std.specs.Prelude.{Option, IsSome, All, Err, option_map, option_and_t
 use Rattle.std.specs.List.{list_all}
 use Rattle.std.proofs.lemmas.List.Elements.{All-cons}
 use Rattle.wasm_forms.specs.Reading.{◌>>=◌}
-use Rattle.wasm_wire.specs.Record as wire
-use Rattle.wasm_wire.specs.declared.record.RawExportKind.TheVariants as raw_kind
 use Rattle.walrus_base.specs.Arena.{item_at, entries, items}
 use Rattle.walrus_base.specs.FuncTypes.{FuncType}
 use Rattle.walrus_base.specs.Id.{place}
@@ -40,6 +38,7 @@ use Rattle.walrus_module.proofs.Entries.{both_pass, item_passes, entry_placed, L
 use Rattle.walrus_module.proofs.Named.{some_inj}
 use Rattle.walrus_module.proofs.Parsing.{none_there, some_of, still_some}
 use Rattle.walrus_module.proofs.Taking.{mapped_all}
+use Rattle.walrus_model.specs.Handled as handled
 
 some_then : {A B : Type 0} (o : Option A) (f : A → Option B) → IsSome o → ((x : A) → IsSome (f x)) → IsSome (o >>= f)
 some_then (Some x) f h k = k x
@@ -77,8 +76,8 @@ module _ (funcs : List (Option FunctionValue)) (names : Lookup) (functions_named
       let q = both_pass (all_name_live funcs o.args) (are_live funcs os) h in
       some_then (named_op names (op_of o)) _ (op_named o q.0) (λ x. some_then (named_ops names (ops_of os)) _ (ops_named os q.1) (λ xs. refl))
 
-  abbrev with_index : List ℕ → ℕ → wire.Export
-  with_index name index = record { name = name; kind = raw_kind.Function; index = index }
+  abbrev with_index : List ℕ → ℕ → handled.Export
+  with_index name index = record { name = name; kind = handled.Function; index = index }
 
   export_named : (name : List ℕ) (i : ExportItem) → exports_live funcs i ≡ true → IsSome (option_map (with_index name) (names (exported i).0 (exported i).1))
   export_named name (item.Function id) h = still_some (with_index name) (names Functions (place id)) (functions_named (place id) h)
@@ -87,7 +86,7 @@ module _ (funcs : List (Option FunctionValue)) (names : Lookup) (functions_named
   exports_named [] h = λ k d lt. absurd (omega (arith, lt))
   exports_named (e ∷ es) h =
       let q = both_pass (exports_live funcs e.item) (all_export_live funcs es) h in
-      All-cons (λ (x : Option wire.Export). IsSome x) (export_with_index names e) (map (export_with_index names) es) (export_named e.name e.item q.0) (exports_named es q.1)
+      All-cons (λ (x : Option handled.Export). IsSome x) (export_with_index names e) (map (export_with_index names) es) (export_named e.name e.item q.0) (exports_named es q.1)
 
 -- ---- what is there, and numbered
 

@@ -11,6 +11,9 @@ mod Turns
 pub mod Taking
 pub mod Steps
 pub mod Rooms
+mod HandledFrames
+pub mod HandledOnly
+pub mod HandledRules
 pub mod Refusals
 pub mod Plain
 pub mod Parsing

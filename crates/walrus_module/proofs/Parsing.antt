@@ -17,14 +17,10 @@ use Rattle.walrus_model.specs.Reads.{value_type, function_type, lone_type, types
 use Rattle.walrus_model.specs.Refers.{named_by, type_names, function_names, written_in, IsUsed, local_names, used_locals}
 use Rattle.walrus_model.specs.Rules.{TypesRefer, IndicesHold, FunctionTypesHold, RulesHold, IsFunctionType}
 use Rattle.walrus_model.proofs.Lists.{Contains-uncons, Contains-none}
-use Rattle.wasm_wire.specs.Record as wire
-use Rattle.wasm_wire.specs.Rules.{Rules}
-use Rattle.wasm_wire.specs.declared.record.RawExportKind.{RawExportKind}
-use Rattle.wasm_wire.specs.declared.record.RawExportKind.TheVariants as kinds
-use Rattle.wasm_wire.specs.declared.record.RawVal.{RawVal}
-use Rattle.wasm_wire.specs.declared.record.RawVal.TheVariants as raw
+use Rattle.walrus_module.specs.Sections.{Rules}
 use Rattle.walrus_module.proofs.Plain.{ArePlain, Below, bodies_plain, no_locals, names_all, no_blocks, no_handlers}
 use Rattle.walrus_module.proofs.Steps.{zip_length}
+use Rattle.walrus_model.specs.Handled as handled
 
 -- ---- look-ups
 
@@ -65,15 +61,15 @@ there_mapped f xs i lt = there (map f xs) i (omega (arith, length-map xs f))
 
 -- ---- value types name nothing
 
-no_heaps : (vs : List RawVal) → flat_map val_heaps (map value_type vs) ≡ []
+no_heaps : (vs : List handled.Value) → flat_map val_heaps (map value_type vs) ≡ []
 no_heaps [] = refl
-no_heaps (raw.I32 ∷ vs) = no_heaps vs
-no_heaps (raw.I64 ∷ vs) = no_heaps vs
-no_heaps (raw.F32 ∷ vs) = no_heaps vs
-no_heaps (raw.F64 ∷ vs) = no_heaps vs
-no_heaps (raw.V128 ∷ vs) = no_heaps vs
+no_heaps (handled.I32 ∷ vs) = no_heaps vs
+no_heaps (handled.I64 ∷ vs) = no_heaps vs
+no_heaps (handled.F32 ∷ vs) = no_heaps vs
+no_heaps (handled.F64 ∷ vs) = no_heaps vs
+no_heaps (handled.V128 ∷ vs) = no_heaps vs
 
-pub names_nothing : (t : wire.FuncType) → comp_names (function_type t) ≡ []
+pub names_nothing : (t : handled.FuncType) → comp_names (function_type t) ≡ []
 names_nothing t = ap₂ (λ a b. flat_map heap_names (a ++ b)) (no_heaps t.params) (no_heaps t.results)
 
 -- ---- small steps
@@ -99,10 +95,10 @@ pairs_map R f (x ∷ xs) h = λ i j d less within.
     let s : R (f (get_or (x ∷ xs) i x)) (f (get_or (x ∷ xs) j x)) = h i j x less w in
     subst (λ z. R z (get_or (map f (x ∷ xs)) j d)) (sym (get_or-map f (x ∷ xs) i x d v)) (subst (λ z. R (f (get_or (x ∷ xs) i x)) z) (sym (get_or-map f (x ∷ xs) j x d w)) s)
 
-pub kind_is : (k : RawExportKind) → Functions ≡ space_of k
-kind_is kinds.Function = refl
+pub kind_is : (k : handled.ExportKind) → Functions ≡ space_of k
+kind_is handled.Function = refl
 
-type_written : (i : ℕ) (o : Option wire.FuncType) (y : Item) → Contains (named_by type_names (option_map (lone_type i) o)) y → IsSome o × (y ≡ type_item i)
+type_written : (i : ℕ) (o : Option handled.FuncType) (y : Item) → Contains (named_by type_names (option_map (lone_type i) o)) y → IsSome o × (y ≡ type_item i)
 type_written i None y c = absurd (Contains-none y c)
 type_written i (Some t) y c =
     let c' : Contains (type_item i ∷ []) y = subst (λ l. Contains (type_item i ∷ map type_item l) y) (names_nothing t) c in
@@ -114,7 +110,7 @@ body_from None b e = cc
 
 -- ---- the module that was read
 
-module _ (r : wire.Module) (bodies : List (List Op)) (rules : Rules r) (read : AllZip (ReadsBody r) r.bodies bodies) where
+module _ (r : handled.Module) (bodies : List (List Op)) (rules : Rules r) (read : AllZip (ReadsBody r) r.bodies bodies) where
   abbrev pub M : Abstract
   M = module_of r bodies
 
@@ -208,7 +204,7 @@ module _ (r : wire.Module) (bodies : List (List Op)) (rules : Rules r) (read : A
   written_live (Elements, i) y c = absurd (Contains-none y c)
   written_live (DataSegments, i) y c = absurd (Contains-none y c)
 
-  export_live : (e : wire.Export) → e.index < length r.functions → IsLive M (export_of e).item
+  export_live : (e : handled.Export) → e.index < length r.functions → IsLive M (export_of e).item
   export_live e lt = subst (λ s. Has M s e.index) (kind_is e.kind) (has_function e.index lt)
 
   exports_live : All (λ (e : Export). IsLive M e.item) (map export_of r.exports)

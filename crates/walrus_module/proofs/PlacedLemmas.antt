@@ -5,26 +5,32 @@ use Rattle.std.specs.List.{AllZip}
 use Rattle.std.proofs.lemmas.List.{append-nil}
 use Rattle.std.proofs.lemmas.List.Elements.{All-cons, All-append}
 use Rattle.wasm_forms.specs.Spelling.{number_bytes, block_bytes, vector_bytes, row_bytes}
-use Rattle.wasm_wire.specs.Frames.{header}
-use Rattle.wasm_wire.specs.Record as wire
-use Rattle.wasm_wire.specs.Spelling.{func_type_bytes, export_bytes, body_bytes, listed, type_section, function_section, export_section, code_section, module_bytes}
+use Rattle.wasm_entries.specs.Record.{Group, Export}
+use Rattle.wasm_entries.specs.TypeSpelling.{group_bytes}
+use Rattle.wasm_entries.specs.Spelling.{export_bytes}
+use Rattle.wasm_frames.specs.Frames.{Section as Wire, Types, Functions, Exports, Code, header}
+use Rattle.wasm_frames.specs.Record as wire
+use Rattle.wasm_frames.specs.Spelling.{body_bytes}
+use Rattle.wasm_writer.specs.Spelling.{section_bytes, spelled as wire_spelled, listed}
 use Rattle.walrus_model.specs.Placed.{Section, is_custom, is_called, is_dylink_section, is_other_custom, spelled, IsCanonical, of_types, of_functions, of_exports, of_bodies, sized_body, Placed}
 use Rattle.walrus_base.specs.FuncTypes.{FuncType}
 use Rattle.walrus_ir.specs.Names.{Lookup}
 use Rattle.walrus_items.specs.Exports.{ExportValue}
 use Rattle.walrus_items.specs.Functions.{FunctionValue}
-use Rattle.walrus_module.specs.Parts.{IsWritten, HasBytes, unplaced}
+use Rattle.walrus_module.specs.Parts.{HasBytes, unplaced}
+use Rattle.walrus_module.specs.Spelled.{module_bytes, IsWritten}
 use Rattle.walrus_module.specs.Spells.{Spells}
 use Rattle.walrus_module.proofs.WrittenAs.{ops_of}
+use Rattle.walrus_model.specs.Handled.{widened_type, widened_export}
 
 sections_of : {A : Type 0} → ℕ → (A → List ℕ) → List A → List Section
 sections_of id spell [] = []
 sections_of id spell (x ∷ xs) = record { id = id; name = []; content = vector_bytes spell (x ∷ xs) } ∷ []
 
-spelled_listed : {A : Type 0} (id : ℕ) (spell : A → List ℕ) (xs : List A) → listed id spell xs ≡ spelled (sections_of id spell xs)
+spelled_listed : {A : Type 0} (make : List A → Wire) (id : ℕ) (spell : A → List ℕ) → ((xs : List A) → wire_spelled (make xs) ≡ section_bytes id (vector_bytes spell xs)) → (xs : List A) → listed make xs ≡ spelled (sections_of id spell xs)
 unfolding sections_of
-spelled_listed id spell [] = refl
-spelled_listed id spell (x ∷ xs) = sym (append-nil (id ∷ block_bytes (vector_bytes spell (x ∷ xs))))
+spelled_listed make id spell h [] = refl
+spelled_listed make id spell h (x ∷ xs) = h (x ∷ xs) ∙ sym (append-nil (id ∷ block_bytes (vector_bytes spell (x ∷ xs))))
 
 spelled_both : (a b : List Section) → spelled (a ++ b) ≡ spelled a ++ spelled b
 spelled_both [] b = refl
@@ -69,34 +75,34 @@ module _ (funcs : List (Option FunctionValue)) (names : Lookup) where
   bodies_canonical [] (b ∷ bs) h = elim h [ ]
   bodies_canonical (i ∷ is) [] h = elim h [ ]
 
-module _ (ts : List wire.FuncType) (fs : List ℕ) (es : List wire.Export) (bs : List wire.Body) where
+module _ (ts : List Group) (fs : List ℕ) (es : List Export) (bs : List wire.Body) where
   all_sections : List Section
-  all_sections = sections_of 1 func_type_bytes ts ++ sections_of 3 number_bytes fs ++ sections_of 7 export_bytes es ++ sections_of 10 body_bytes bs
+  all_sections = sections_of 1 group_bytes ts ++ sections_of 3 number_bytes fs ++ sections_of 7 export_bytes es ++ sections_of 10 body_bytes bs
 
-  all_have : (P : Section → Type 0) → All P (sections_of 1 func_type_bytes ts) → All P (sections_of 3 number_bytes fs) → All P (sections_of 7 export_bytes es) → All P (sections_of 10 body_bytes bs) → All P all_sections
+  all_have : (P : Section → Type 0) → All P (sections_of 1 group_bytes ts) → All P (sections_of 3 number_bytes fs) → All P (sections_of 7 export_bytes es) → All P (sections_of 10 body_bytes bs) → All P all_sections
   unfolding all_sections
   all_have P t f e b =
-      All-append P (sections_of 1 func_type_bytes ts ++ sections_of 3 number_bytes fs ++ sections_of 7 export_bytes es) (sections_of 10 body_bytes bs)
-      (All-append P (sections_of 1 func_type_bytes ts ++ sections_of 3 number_bytes fs) (sections_of 7 export_bytes es)
-      (All-append P (sections_of 1 func_type_bytes ts) (sections_of 3 number_bytes fs) t f) e) b
+      All-append P (sections_of 1 group_bytes ts ++ sections_of 3 number_bytes fs ++ sections_of 7 export_bytes es) (sections_of 10 body_bytes bs)
+      (All-append P (sections_of 1 group_bytes ts ++ sections_of 3 number_bytes fs) (sections_of 7 export_bytes es)
+      (All-append P (sections_of 1 group_bytes ts) (sections_of 3 number_bytes fs) t f) e) b
 
-  spelled_all : type_section ts ++ function_section fs ++ export_section es ++ code_section bs ≡ spelled all_sections
+  spelled_all : listed Types ts ++ listed Functions fs ++ listed Exports es ++ listed Code bs ≡ spelled all_sections
   unfolding all_sections
   spelled_all =
       ap₂ (λ (a b : List ℕ). a ++ b)
       (ap₂ (λ (a b : List ℕ). a ++ b)
-      (ap₂ (λ (a b : List ℕ). a ++ b) (spelled_listed 1 func_type_bytes ts) (spelled_listed 3 number_bytes fs)
-      ∙ sym (spelled_both (sections_of 1 func_type_bytes ts) (sections_of 3 number_bytes fs)))
-      (spelled_listed 7 export_bytes es)
-      ∙ sym (spelled_both (sections_of 1 func_type_bytes ts ++ sections_of 3 number_bytes fs) (sections_of 7 export_bytes es)))
-      (spelled_listed 10 body_bytes bs)
-      ∙ sym (spelled_both (sections_of 1 func_type_bytes ts ++ sections_of 3 number_bytes fs ++ sections_of 7 export_bytes es) (sections_of 10 body_bytes bs))
+      (ap₂ (λ (a b : List ℕ). a ++ b) (spelled_listed Types 1 group_bytes (λ xs. refl) ts) (spelled_listed Functions 3 number_bytes (λ xs. refl) fs)
+      ∙ sym (spelled_both (sections_of 1 group_bytes ts) (sections_of 3 number_bytes fs)))
+      (spelled_listed Exports 7 export_bytes (λ xs. refl) es)
+      ∙ sym (spelled_both (sections_of 1 group_bytes ts ++ sections_of 3 number_bytes fs) (sections_of 7 export_bytes es)))
+      (spelled_listed Code 10 body_bytes (λ xs. refl) bs)
+      ∙ sym (spelled_both (sections_of 1 group_bytes ts ++ sections_of 3 number_bytes fs ++ sections_of 7 export_bytes es) (sections_of 10 body_bytes bs))
 
-  header_first : module_bytes ts fs es bs ≡ header ++ (type_section ts ++ function_section fs ++ export_section es ++ code_section bs)
+  header_first : module_bytes ts fs es bs ≡ header ++ (listed Types ts ++ listed Functions fs ++ listed Exports es ++ listed Code bs)
   header_first =
-      ap (λ (l : List ℕ). l ++ export_section es ++ code_section bs) (append_assoc header (type_section ts) (function_section fs))
-      ∙ ap (λ (l : List ℕ). l ++ code_section bs) (append_assoc header (type_section ts ++ function_section fs) (export_section es))
-      ∙ append_assoc header (type_section ts ++ function_section fs ++ export_section es) (code_section bs)
+      ap (λ (l : List ℕ). l ++ listed Exports es ++ listed Code bs) (append_assoc header (listed Types ts) (listed Functions fs))
+      ∙ ap (λ (l : List ℕ). l ++ listed Code bs) (append_assoc header (listed Types ts ++ listed Functions fs) (listed Exports es))
+      ∙ append_assoc header (listed Types ts ++ listed Functions fs ++ listed Exports es) (listed Code bs)
 
   placed_as_written : (bytes : List ℕ) → IsWritten ts fs es bs bytes → All IsCanonical (sections_of 10 body_bytes bs) → Placed bytes
   placed_as_written bytes w canonical = record {
@@ -111,7 +117,7 @@ module _ (ts : List wire.FuncType) (fs : List ℕ) (es : List wire.Export) (bs :
       is = sym (append-nil all_sections);
       dylinks_are = none_of (λ s. is_dylink_section s ≡ true);
       standard_are = all_have (λ s. is_custom s ≡ false)
-          (all_of (λ s. is_custom s ≡ false) 1 func_type_bytes (λ x xs. refl {A = Bool} {a = false}) ts)
+          (all_of (λ s. is_custom s ≡ false) 1 group_bytes (λ x xs. refl {A = Bool} {a = false}) ts)
           (all_of (λ s. is_custom s ≡ false) 3 number_bytes (λ x xs. refl {A = Bool} {a = false}) fs)
           (all_of (λ s. is_custom s ≡ false) 7 export_bytes (λ x xs. refl {A = Bool} {a = false}) es)
           (all_of (λ s. is_custom s ≡ false) 10 body_bytes (λ x xs. refl {A = Bool} {a = false}) bs);
@@ -122,7 +128,7 @@ module _ (ts : List wire.FuncType) (fs : List ℕ) (es : List wire.Export) (bs :
       others_are = none_of (λ s. is_other_custom s ≡ true);
     };
     canonical = all_have IsCanonical
-        (all_of IsCanonical 1 func_type_bytes (λ x xs. of_types (vector_bytes func_type_bytes (x ∷ xs)) (x ∷ xs, not_empty x xs, refl)) ts)
+        (all_of IsCanonical 1 group_bytes (λ x xs. of_types (vector_bytes group_bytes (x ∷ xs)) (x ∷ xs, not_empty x xs, refl)) ts)
         (all_of IsCanonical 3 number_bytes (λ x xs. of_functions (vector_bytes number_bytes (x ∷ xs)) (x ∷ xs, not_empty x xs, refl)) fs)
         (all_of IsCanonical 7 export_bytes (λ x xs. of_exports (vector_bytes export_bytes (x ∷ xs)) (x ∷ xs, not_empty x xs, refl)) es)
         canonical;
@@ -132,4 +138,4 @@ module _ (ts : List wire.FuncType) (fs : List ℕ) (es : List wire.Export) (bs :
 pub placed_as_spelled : (types : List (Option FuncType)) (funcs : List (Option FunctionValue)) (es : List ExportValue) (bytes : List ℕ) → Spells types funcs es bytes → Placed bytes
 placed_as_spelled types funcs es bytes s =
     let r = s.records in
-    placed_as_written r.raw_types r.raw_functions r.raw_exports (map unplaced r.bodies) bytes s.written (bodies_canonical funcs r.names r.order r.bodies r.bodies_are)
+    placed_as_written (map widened_type r.raw_types) r.raw_functions (map widened_export r.raw_exports) (map unplaced r.bodies) bytes s.written (bodies_canonical funcs r.names r.order r.bodies r.bodies_are)

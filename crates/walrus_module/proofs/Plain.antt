@@ -15,7 +15,8 @@ use Rattle.walrus_model.specs.Handlers.{OpenBlock, Try, OtherBlock, handler_at, 
 use Rattle.walrus_model.specs.Renaming.{unchanged, renamed_op, renamed_ops}
 use Rattle.walrus_model.specs.Reads.{below, declared, ReadsBody}
 use Rattle.walrus_model.proofs.Lists.{Contains-uncons, Contains-none}
-use Rattle.wasm_wire.specs.Record as wire
+use Rattle.wasm_frames.specs.Record as wire
+use Rattle.walrus_model.specs.Handled as handled
 
 -- an operator; what it calls has a number that passes the test
 pub data Plain (P : ℕ → Type 0) (o : Op) : Type 0 where
@@ -67,7 +68,7 @@ within : (b : Bool) (n f k : ℕ) → nat_lt f n ≡ b → (if b then Some f els
 within true n f k t e = let p : f ≡ k = cc in subst (λ x. x < n) p (ltb-true f n t)
 within false n f k t e = cc
 
-module _ (r : wire.Module) where
+module _ (r : handled.Module) where
   abbrev pub Below : ℕ → Type 0
   Below f = f < length r.functions
 

@@ -6,12 +6,12 @@ use borrow.Author.Tests.{ltb-false}
 use Rattle.std.proofs.lemmas.List.{append-nil, length-map, get_or-map}
 use Rattle.std.proofs.lemmas.List.Elements.{All-nil, All-cons, All-append}
 use Rattle.std.proofs.lemmas.List.Quantifiers.{all_pairs_push}
-use Rattle.wasm_wire.specs.Record as wire
-use Rattle.wasm_wire.specs.declared.record.RawExportKind.TheVariants as raw_kind
-use Rattle.wasm_wire.specs.Frames.{Frames}
-use Rattle.wasm_wire.specs.Rules.{Rules, StandsBefore}
-use Rattle.wasm_wire.specs.Spelling.{CanBeWritten, id_if_any, placed, first_body, body_bytes, written_module}
-use Rattle.wasm_wire.proofs.WrittenModule.{written_frames_lem}
+use Rattle.wasm_frames.specs.Record as wire
+use Rattle.wasm_frames.specs.Frames.{Frames}
+use Rattle.walrus_module.specs.Sections.{Rules}
+use Rattle.wasm_frames.specs.Order.{standard_order, StandsBefore}
+use Rattle.wasm_frames.specs.Spelling.{body_bytes}
+use Rattle.wasm_writer.specs.Spelling.{placed_bodies}
 use Rattle.walrus_base.specs.Arena.{entries}
 use Rattle.walrus_base.specs.FuncTypes.{FuncType}
 use Rattle.walrus_base.specs.Id.{place}
@@ -29,7 +29,8 @@ use Rattle.walrus_model.specs.Config.{Config}
 use Rattle.walrus_model.specs.Reads.{Reads, ReadsBody, below, declared}
 use Rattle.walrus_model.specs.Rules.{Holds}
 use Rattle.walrus_module.specs.Numbered.{AreNumbered, NamesNoOthers}
-use Rattle.walrus_module.specs.Parts.{raw_shape, local_in, type_index, export_with_index, HasBytes, unplaced, IsWritten}
+use Rattle.walrus_module.specs.Parts.{raw_shape, local_in, type_index, export_with_index, HasBytes, unplaced}
+use Rattle.walrus_module.specs.Spelled.{IsWritten}
 use Rattle.walrus_module.specs.Spells.{Records, Spells}
 use Rattle.walrus_module.specs.View.{export_of}
 use Rattle.walrus_module.proofs.Differ.{places_differ, order_differs}
@@ -38,6 +39,9 @@ use Rattle.walrus_module.proofs.Named.{ops_again}
 use Rattle.walrus_module.proofs.Parsing.{mapped_some, got_in, pairs_map, holds}
 use Rattle.walrus_module.proofs.Steps.{zip_length}
 use Rattle.walrus_module.proofs.WrittenAs.{ops_of, operators_of, written_as}
+use Rattle.walrus_module.proofs.HandledFrames.{id_if_any, HandledCanBeWritten, first_place, written_module, handled_frames}
+use Rattle.walrus_model.specs.Handled as handled
+use Rattle.walrus_model.specs.Handled.{widened_type, widened_export, widened}
 
 -- ---- the sections stand in order
 
@@ -49,10 +53,10 @@ all_added : {A : Type 0} (P : ℕ → Type 0) (ids : List ℕ) (id : ℕ) (xs : 
 all_added P ids id [] h p = subst (λ l. All P l) (sym (append-nil ids)) h
 all_added P ids id (x ∷ xs) h p = All-append P ids (id ∷ []) h (All-cons P id [] p (All-nil P))
 
-stands : (i j a b : ℕ) → i < j → slice_get (1 ∷ 3 ∷ 7 ∷ 10 ∷ []) i ≡ Some a → slice_get (1 ∷ 3 ∷ 7 ∷ 10 ∷ []) j ≡ Some b → StandsBefore a b
+stands : (i j a b : ℕ) → i < j → slice_get standard_order i ≡ Some a → slice_get standard_order j ≡ Some b → StandsBefore a b
 stands i j a b less at_a at_b = record { place_of_a = i; place_of_b = j; earlier = less; a_stands = at_a; b_stands = at_b }
 
-in_order : (ts : List wire.FuncType) (fs : List ℕ) (es : List wire.Export) (bs : List wire.Body) → AllPairs StandsBefore (id_if_any 1 ts ++ id_if_any 3 fs ++ id_if_any 7 es ++ id_if_any 10 bs)
+in_order : {A B C D : Type 0} (ts : List A) (fs : List B) (es : List C) (bs : List D) → AllPairs StandsBefore (id_if_any 1 ts ++ id_if_any 3 fs ++ id_if_any 7 es ++ id_if_any 10 bs)
 in_order ts fs es bs =
     let t : List ℕ = id_if_any 1 ts in
     let f : List ℕ = t ++ id_if_any 3 fs in
@@ -63,9 +67,9 @@ in_order ts fs es bs =
     let e_has : (P : ℕ → Type 0) → P 1 → P 3 → P 7 → All P e = λ P p q r. all_added P f 7 es (f_has P p q) r in
     added e 10 bs
     (added f 7 es
-    (added t 3 fs (added [] 1 ts none (All-nil (λ x. StandsBefore x 1))) (t_has (λ x. StandsBefore x 3) (stands 0 1 1 3 (omega arith) refl refl)))
-    (f_has (λ x. StandsBefore x 7) (stands 0 2 1 7 (omega arith) refl refl) (stands 1 2 3 7 (omega arith) refl refl)))
-    (e_has (λ x. StandsBefore x 10) (stands 0 3 1 10 (omega arith) refl refl) (stands 1 3 3 10 (omega arith) refl refl) (stands 2 3 7 10 (omega arith) refl refl))
+    (added t 3 fs (added [] 1 ts none (All-nil (λ x. StandsBefore x 1))) (t_has (λ x. StandsBefore x 3) (stands 0 2 1 3 (omega arith) refl refl)))
+    (f_has (λ x. StandsBefore x 7) (stands 0 7 1 7 (omega arith) refl refl) (stands 2 7 3 7 (omega arith) refl refl)))
+    (e_has (λ x. StandsBefore x 10) (stands 0 11 1 10 (omega arith) refl refl) (stands 2 11 3 10 (omega arith) refl refl) (stands 7 11 7 10 (omega arith) refl refl))
 
 -- ---- lists of what was found
 
@@ -95,6 +99,9 @@ then_some : {A B : Type 0} (k : A → Option B) (o : Option A) (y : B) → optio
 then_some k (Some x) y e = (x, refl, e)
 then_some k None y e = absurd (cc)
 
+less_by : {a b c : ℕ} → a ≡ b → a < c → b < c
+less_by e h = omega (arith, h, e)
+
 less : (a b c : ℕ) → a < b → b ≡ c → a < c
 less a b c h e = omega (arith, h, e)
 
@@ -121,11 +128,11 @@ below_is : (count i : ℕ) (b : Bool) → nat_lt i count ≡ b → i < count →
 below_is count i true e h = ap (λ (t : Bool). if t then Some i else None) e
 below_is count i false e h = absurd (omega (arith, ltb-false i count e, h))
 
-placed_count : (start : ℕ) (bs : List wire.Body) → length (placed start bs) ≡ length bs
+placed_count : (start : ℕ) (bs : List wire.Body) → length (placed_bodies start bs) ≡ length bs
 placed_count start [] = refl
 placed_count start (b ∷ bs) = ap suc (placed_count (start + length (body_bytes b)) bs)
 
-module _ (sections : wire.Module) (names : Lookup) (types order : List ℕ) (numbered : AreNumbered names types order) (none : NamesNoOthers names)
+module _ (sections : handled.Module) (names : Lookup) (types order : List ℕ) (numbered : AreNumbered names types order) (none : NamesNoOthers names)
     (types_apart : IsDistinct nat_eq types) (order_apart : IsDistinct nat_eq order) (as_many_types : length sections.types ≡ length types) (as_many_functions : length sections.functions ≡ length order) where
   -- what an index leads to has that index, which is declared
   again : (space : Space) (p j : ℕ) → ids_by types order space p ≡ Some j → names space j ≡ declared sections space p
@@ -149,7 +156,7 @@ module _ (sections : wire.Module) (names : Lookup) (types order : List ℕ) (num
       (q.0, q.1, sym (ops_again (ids_by types order) names (declared sections) again q.0 (body_of h.local) q.2) ∙ h.emitted.named)
 
   bodies_back : (funcs : List (Option FunctionValue)) (start : ℕ) (places : List ℕ) (bodies : List (List ℕ)) (h : AllZip (HasBytes funcs names) places bodies)
-      → AllZip (ReadsBody sections) (placed start (map unplaced bodies)) (ops_of funcs names places bodies h)
+      → AllZip (ReadsBody sections) (placed_bodies start (map unplaced bodies)) (ops_of funcs names places bodies h)
   bodies_back funcs start [] [] h = tt
   bodies_back funcs start (i ∷ is) (b ∷ bs) h = (body_back funcs i b h.0, bodies_back funcs (start + length (body_bytes (unplaced b))) is bs h.1)
   bodies_back funcs start [] (b ∷ bs) h = elim h [ ]
@@ -163,7 +170,7 @@ module _ {types : List (Option FuncType)} {funcs : List (Option FunctionValue)} 
   type_places = map (λ e. e.0) (entries types)
 
   -- what the bytes hold, with the places of its sections and bodies
-  wire_module : wire.Module
+  wire_module : handled.Module
   wire_module = written_module r.raw_types r.raw_functions r.raw_exports (map unplaced r.bodies)
 
   as_many_types : length r.raw_types ≡ length type_places
@@ -173,9 +180,9 @@ module _ {types : List (Option FuncType)} {funcs : List (Option FunctionValue)} 
   as_many_functions : length r.raw_functions ≡ length r.order
   as_many_functions = as_long Some (type_index funcs r.names) r.raw_functions r.order r.functions_are
 
-  as_many_bodies : length (placed (first_body r.raw_types r.raw_functions r.raw_exports (map unplaced r.bodies)) (map unplaced r.bodies)) ≡ length r.raw_functions
+  as_many_bodies : length (placed_bodies (first_place r.raw_types r.raw_functions r.raw_exports (map unplaced r.bodies)) (map unplaced r.bodies)) ≡ length r.raw_functions
   as_many_bodies =
-      placed_count (first_body r.raw_types r.raw_functions r.raw_exports (map unplaced r.bodies)) (map unplaced r.bodies)
+      placed_count (first_place r.raw_types r.raw_functions r.raw_exports (map unplaced r.bodies)) (map unplaced r.bodies)
       ∙ length-map r.bodies unplaced
       ∙ sym (zip_length (HasBytes funcs r.names) r.order r.bodies r.bodies_are)
       ∙ sym as_many_functions
@@ -195,47 +202,49 @@ module _ {types : List (Option FuncType)} {funcs : List (Option FunctionValue)} 
       let at = found_at r.order (place f) index (sym (r.numbered.functions_are (place f)) ∙ e) in
       less index (length r.order) (length r.raw_functions) (got_in r.order index (place f) at).0 (sym as_many_functions)
 
-  export_declared : (x : ExportValue) (e : wire.Export) → export_with_index r.names x ≡ Some e → (e.index < length r.raw_functions) × (e.name ≡ x.name)
+  export_declared : (x : ExportValue) (e : handled.Export) → export_with_index r.names x ≡ Some e → (e.index < length r.raw_functions) × (e.name ≡ x.name)
   export_declared x e h =
-      let m = mapped_some (λ index. record { name = x.name; kind = raw_kind.Function; index = index }) (r.names (exported x.item).0 (exported x.item).1) e h in
-      (subst (λ (y : wire.Export). y.index < length r.raw_functions) (sym m.2) (index_declared x.item m.0 m.1), ap (λ (y : wire.Export). y.name) m.2)
+      let m = mapped_some (λ index. record { name = x.name; kind = handled.Function; index = index }) (r.names (exported x.item).0 (exported x.item).1) e h in
+      (subst (λ (y : handled.Export). y.index < length r.raw_functions) (sym m.2) (index_declared x.item m.0 m.1), ap (λ (y : handled.Export). y.name) m.2)
 
   exports_declared : All (λ e. e.index < length r.raw_functions) r.raw_exports
-  exports_declared = all_found (λ (e : wire.Export). e.index < length r.raw_functions) (export_with_index r.names) exports r.raw_exports r.exports_are (λ x e h. (export_declared x e h).0)
+  exports_declared = all_found (λ (e : handled.Export). e.index < length r.raw_functions) (export_with_index r.names) exports r.raw_exports r.exports_are (λ x e h. (export_declared x e h).0)
 
-  same_names : map (λ (e : wire.Export). e.name) r.raw_exports ≡ map (λ (x : ExportValue). x.name) exports
-  same_names = same_found (export_with_index r.names) (λ (e : wire.Export). e.name) (λ (x : ExportValue). x.name) exports r.raw_exports r.exports_are (λ x e h. (export_declared x e h).1)
+  same_names : map (λ (e : handled.Export). e.name) r.raw_exports ≡ map (λ (x : ExportValue). x.name) exports
+  same_names = same_found (export_with_index r.names) (λ (e : handled.Export). e.name) (λ (x : ExportValue). x.name) exports r.raw_exports r.exports_are (λ x e h. (export_declared x e h).1)
 
   -- no two names among the exports are one, so also among those that are written
-  names_differ : AllPairs (λ (d : Export) (e : Export). d.name ≢ e.name) (map export_of exports) → AllPairs (λ (d : wire.Export) (e : wire.Export). d.name ≢ e.name) r.raw_exports
+  names_differ : AllPairs (λ (d : Export) (e : Export). d.name ≢ e.name) (map export_of exports) → AllPairs (λ (d : handled.Export) (e : handled.Export). d.name ≢ e.name) r.raw_exports
   names_differ h =
       let named : AllPairs (λ (a b : List ℕ). a ≢ b) (map (λ (e : Export). e.name) (map export_of exports)) = pairs_map (λ (a b : List ℕ). a ≢ b) (λ (e : Export). e.name) (map export_of exports) h in
-      pairs_seen (λ (a b : List ℕ). a ≢ b) (λ (e : wire.Export). e.name) r.raw_exports
+      pairs_seen (λ (a b : List ℕ). a ≢ b) (λ (e : handled.Export). e.name) r.raw_exports
       (subst (λ l. AllPairs (λ (a b : List ℕ). a ≢ b) l) (sym (same_names ∙ map_map export_of (λ (e : Export). e.name) exports)) named)
 
   read_back : AllZip (ReadsBody wire_module) wire_module.bodies (operators_of r)
   unfolding type_places wire_module
   read_back =
       bodies_back wire_module r.names type_places r.order r.numbered r.no_others (places_differ types) (order_differs funcs r.order r.ordered) as_many_types as_many_functions
-      funcs (first_body r.raw_types r.raw_functions r.raw_exports (map unplaced r.bodies)) r.order r.bodies r.bodies_are
+      funcs (first_place r.raw_types r.raw_functions r.raw_exports (map unplaced r.bodies)) r.order r.bodies r.bodies_are
 
-  can_be_written : (bytes : List ℕ) → IsWritten r.raw_types r.raw_functions r.raw_exports (map unplaced r.bodies) bytes → CanBeWritten r.raw_types r.raw_functions r.raw_exports (map unplaced r.bodies)
-  can_be_written bytes w = record {
-    types_fit = w.types_fit;
-    functions_fit = w.functions_fit;
-    exports_fit = w.exports_fit;
-    bodies_fit = w.bodies_fit;
-    type_indices = all_small (λ t. t) (length r.raw_types) (2 ^ 32) r.raw_functions w.types_fit.0.0 types_declared;
-    exported_indices = all_small (λ (e : wire.Export). e.index) (length r.raw_functions) (2 ^ 32) r.raw_exports w.functions_fit.0.0 exports_declared;
-    names_are_text = r.texts;
-  }
+  can_be_written : (bytes : List ℕ) → IsWritten (map widened_type r.raw_types) r.raw_functions (map widened_export r.raw_exports) (map unplaced r.bodies) bytes → HandledCanBeWritten r.raw_types r.raw_functions r.raw_exports (map unplaced r.bodies)
+  can_be_written bytes w =
+      let few_types : length r.raw_types < 2 ^ 32 = less_by (length-map r.raw_types widened_type) w.types_fit.0.0 in
+      record {
+        types_fit = w.types_fit;
+        functions_fit = w.functions_fit;
+        exports_fit = w.exports_fit;
+        bodies_fit = w.bodies_fit;
+        type_indices = all_small (λ t. t) (length r.raw_types) (2 ^ 32) r.raw_functions few_types types_declared;
+        exported_indices = all_small (λ (e : handled.Export). e.index) (length r.raw_functions) (2 ^ 32) r.raw_exports w.functions_fit.0 exports_declared;
+        names_are_text = r.texts;
+      }
 
-  reads_as : (c : Config) (bytes : List ℕ) → IsWritten r.raw_types r.raw_functions r.raw_exports (map unplaced r.bodies) bytes → Reads c bytes (written_as r)
+  reads_as : (c : Config) (bytes : List ℕ) → IsWritten (map widened_type r.raw_types) r.raw_functions (map widened_export r.raw_exports) (map unplaced r.bodies) bytes → Reads c bytes (written_as r)
   unfolding wire_module
   reads_as c bytes w = record {
     sections = wire_module;
-    framed = subst (λ b. Frames b wire_module) (sym w.is) (written_frames_lem r.raw_types r.raw_functions r.raw_exports (map unplaced r.bodies) (can_be_written bytes w));
-    in_order = in_order r.raw_types r.raw_functions r.raw_exports (map unplaced r.bodies);
+    framed = subst (λ b. Frames b (widened wire_module)) (sym w.is) (handled_frames r.raw_types r.raw_functions r.raw_exports (map unplaced r.bodies) (can_be_written bytes w));
+    in_order = in_order (map widened_type r.raw_types) r.raw_functions (map widened_export r.raw_exports) (map unplaced r.bodies);
     as_many_bodies = as_many_bodies;
     bodies = operators_of r;
     read = read_back;
@@ -245,7 +254,7 @@ module _ {types : List (Option FuncType)} {funcs : List (Option FunctionValue)} 
   rules_of : AllPairs (λ (d : Export) (e : Export). d.name ≢ e.name) (map export_of exports) → Rules wire_module
   unfolding wire_module
   rules_of h = record {
-    sections_in_order = in_order r.raw_types r.raw_functions r.raw_exports (map unplaced r.bodies);
+    sections_in_order = in_order (map widened_type r.raw_types) r.raw_functions (map widened_export r.raw_exports) (map unplaced r.bodies);
     indices_hold = (types_declared, exports_declared);
     as_many_bodies = as_many_bodies;
     names_differ = names_differ h;

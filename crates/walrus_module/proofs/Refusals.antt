@@ -5,31 +5,44 @@ use Rattle.std.specs.List.{AllZip}
 use Rattle.wasm_forms.specs.Reading.{Refuses}
 use Rattle.wasm_forms.specs.declared.error.WireError.{WireError}
 use Rattle.wasm_forms.specs.declared.error.WireError.TheVariants as Wire
-use Rattle.wasm_wire.specs.Frames.{Frames}
-use Rattle.wasm_wire.specs.Record.{Module}
-use Rattle.wasm_wire.specs.Rules.{Rules, Checks}
-use Rattle.wasm_wire.proofs.Modules.{one_record_lem}
+use Rattle.wasm_frames.specs.Frames.{Frames}
+use Rattle.wasm_frames.specs.Record as wire
+use Rattle.wasm_wire.specs.Rules as wire_rules
+use Rattle.wasm_wire.specs.Rules.{Checks}
+use Rattle.wasm_frames.proofs.Modules.{one_record_lem}
 use Rattle.walrus_base.specs.declared.types.ModuleTypes.{ModuleTypes}
 use Rattle.walrus_items.specs.declared.exports.ModuleExports.{ModuleExports}
 use Rattle.walrus_items.specs.declared.functions.ModuleFunctions.{ModuleFunctions}
+use Rattle.walrus_model.specs.Handled.{Module, widened}
 use Rattle.walrus_model.specs.Reads.{ReadsBody}
+use Rattle.walrus_model.proofs.Handled.{widened_once}
 use Rattle.walrus_module.specs.Parsed.{RefusesModule}
+use Rattle.walrus_module.specs.Sections.{IsHandled}
 use Rattle.walrus_module.specs.Taken.{TakesSections}
+use Rattle.walrus_module.proofs.HandledOnly.{widened_handled}
+use Rattle.walrus_module.proofs.HandledRules.{widen_rules}
 use Rattle.walrus_parts.specs.Errors.{error_of_wire}
 use Rattle.walrus_parts.specs.declared.error.Error.{Error}
 use Rattle.walrus_parts.specs.declared.error.Error.TheVariants as Parts
 
-pub frames_refused : {T : Type 0} (bytes : List ℕ) (e : WireError) → ((m : Module) → Frames bytes m → Refuses e (Some m)) → (◌≡◌ {A = Result T WireError} (Err e) (Err Wire.TooLarge) → ⊥) → RefusesModule bytes (error_of_wire e)
-frames_refused bytes Wire.Malformed only small = λ a. let n : ◌≡◌ {A = Option Module} (Some a.sections) None = only a.sections a.framed in let no : ⊥ = cc in no
+pub frames_refused : {T : Type 0} (bytes : List ℕ) (e : WireError) → ((m : wire.Module) → Frames bytes m → Refuses e (Some m)) → (◌≡◌ {A = Result T WireError} (Err e) (Err Wire.TooLarge) → ⊥) → RefusesModule bytes (error_of_wire e)
+frames_refused bytes Wire.Malformed only small = λ a. let n : ◌≡◌ {A = Option wire.Module} (Some (widened a.sections)) None = only (widened a.sections) a.framed in let no : ⊥ = cc in no
 frames_refused bytes (Wire.Memory m) only small = tt
 frames_refused bytes Wire.TooLarge only small = absurd (small refl)
 
-pub rules_refused : (bytes : List ℕ) (r : Module) (e : WireError) → Frames bytes r → Checks (Err e) (Rules r) → RefusesModule bytes (error_of_wire e)
-rules_refused bytes r Wire.Malformed f h = λ a. h (subst Rules (one_record_lem bytes a.sections r a.framed f) a.rules)
-rules_refused bytes r (Wire.Memory m) f h = tt
-rules_refused bytes r Wire.TooLarge f h = absurd h
+pub rules_refused : (bytes : List ℕ) (w : wire.Module) (e : WireError) → Frames bytes w → Checks (Err e) (wire_rules.Rules w) → RefusesModule bytes (error_of_wire e)
+rules_refused bytes w Wire.Malformed f h = λ a. h (subst wire_rules.Rules (one_record_lem bytes (widened a.sections) w a.framed f) (widen_rules a.sections a.bodies a.rules a.read))
+rules_refused bytes w (Wire.Memory m) f h = tt
+rules_refused bytes w Wire.TooLarge f h = absurd h
 
-pub bodies_refused : (bytes : List ℕ) (r : Module) (ts : ModuleTypes) (fs : ModuleFunctions) (es : ModuleExports) (e : Error) → Frames bytes r → TakesSections r ts fs es (Err e) → RefusesModule bytes e
+pub handled_refused : (bytes : List ℕ) (w : wire.Module) (e : WireError) → Frames bytes w → Checks (Err e) (IsHandled w) → RefusesModule bytes (error_of_wire e)
+handled_refused bytes w Wire.Malformed f h = λ a. h (subst IsHandled (one_record_lem bytes (widened a.sections) w a.framed f) (widened_handled a.sections))
+handled_refused bytes w (Wire.Memory m) f h = tt
+handled_refused bytes w Wire.TooLarge f h = absurd h
+
+pub bodies_refused : (bytes : List ℕ) (r : Module) (ts : ModuleTypes) (fs : ModuleFunctions) (es : ModuleExports) (e : Error) → Frames bytes (widened r) → TakesSections r ts fs es (Err e) → RefusesModule bytes e
 bodies_refused bytes r ts fs es (Parts.Memory m) f h = tt
-bodies_refused bytes r ts fs es (Parts.InvalidWasm kind) f h = λ a. h a.bodies (subst (λ (x : Module). AllZip (ReadsBody x) x.bodies a.bodies) (one_record_lem bytes a.sections r a.framed f) a.read)
+bodies_refused bytes r ts fs es (Parts.InvalidWasm kind) f h = λ a.
+    let same : a.sections ≡ r = widened_once a.sections r (one_record_lem bytes (widened a.sections) (widened r) a.framed f) in
+    h a.bodies (subst (λ (x : Module). AllZip (ReadsBody x) x.bodies a.bodies) same a.read)
 bodies_refused bytes r ts fs es _ f h = absurd h

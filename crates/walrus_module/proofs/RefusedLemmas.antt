@@ -3,8 +3,9 @@ use Rattle.std.proofs.Common.{inl, inr, ◌≡◌, ℕ, ◌≤◌, ◌^◌, ◌�
 use Rattle.std.specs.Prelude.{Option, IsSome, option_map, option_and_then, Result, Ok, Err}
 use Rattle.std.specs.List.{AllZip}
 use Rattle.std.proofs.lemmas.List.{length-map}
-use Rattle.wasm_wire.specs.Spelling.{BodiesFit}
-use Rattle.wasm_wire.specs.Record as wire
+use Rattle.wasm_frames.specs.Frames.{Code}
+use Rattle.wasm_writer.specs.Spelling.{SectionFits}
+use Rattle.wasm_frames.specs.Record as wire
 use Rattle.walrus_base.specs.Arena.{item_at, entries, items}
 use Rattle.walrus_base.specs.FuncTypes.{FuncType}
 use Rattle.walrus_base.specs.ModuleTypes.{func_types}
@@ -126,7 +127,7 @@ module _ (c : Config) (types : ModuleTypes) (all : ModuleLocals) (funcs : Module
           sections = sections_of r;
           bodies = operators_of r;
           is = refl;
-          too_large = λ t f e b. d.too_large t f e (subst (λ (bs : List wire.Body). BodiesFit bs) (bodies_spelled F r.names r.order r.bodies r.bodies_are) b);
+          too_large = λ t f e b. d.too_large t f e (subst (λ (bs : List wire.Body). SectionFits (Code bs)) (bodies_spelled F r.names r.order r.bodies r.bodies_are) b);
         },
       )
 

@@ -6,10 +6,11 @@ use Rattle.std.specs.List.{AllZip}
 use Rattle.std.specs.Str.{IsUtf8}
 use Rattle.std.proofs.lemmas.List.{length-map}
 use Rattle.std.proofs.lemmas.List.Elements.{All-map}
-use Rattle.wasm_wire.specs.Record as wire
-use Rattle.wasm_wire.specs.Record.{type_record, export_record}
-use Rattle.wasm_wire.specs.declared.record.RawExport.{RawExport}
-use Rattle.wasm_wire.specs.declared.record.RawFuncType.{RawFuncType}
+use Rattle.wasm_frames.specs.Record as wire
+use Rattle.walrus_module.specs.Sections.{type_record, export_record}
+use Rattle.wasm_entries.specs.declared.record.RawExport.{RawExport}
+use Rattle.wasm_entries.specs.declared.record.RawSub.{RawSub}
+use Rattle.wasm_entries.specs.Record.{Group, Export}
 use Rattle.walrus_base.specs.Arena.{entries, items}
 use Rattle.walrus_base.specs.FuncTypes.{FuncType}
 use Rattle.walrus_base.specs.Id.{place}
@@ -31,6 +32,8 @@ use Rattle.walrus_module.proofs.Parsing.{none_there}
 use Rattle.walrus_module.proofs.SpellsLemmas.{no_others_of, zip_seen}
 use Rattle.walrus_parts.specs.declared.error.Error.{Error}
 use Rattle.walrus_parts.specs.declared.error.Error.TheVariants as Parts
+use Rattle.walrus_model.specs.Handled as handled
+use Rattle.walrus_model.specs.Handled.{widened_type, widened_export}
 
 -- ---- what is still to come
 
@@ -58,7 +61,7 @@ module _ (types : List (Option FuncType)) (funcs : List (Option FunctionValue)) 
 
   -- ---- the records
 
-  abbrev pub records_of : (ids : List (Id FunctionKey)) (indices : IdsToIndices) (raws : List RawFuncType) (raw_functions : List ℕ) (exported : List RawExport) (bodies : List (Vec ℕ)) → all_local (items funcs) ≡ true → IsOrder funcs (map place ids)
+  abbrev pub records_of : (ids : List (Id FunctionKey)) (indices : IdsToIndices) (raws : List (Vec RawSub)) (raw_functions : List ℕ) (exported : List RawExport) (bodies : List (Vec ℕ)) → all_local (items funcs) ≡ true → IsOrder funcs (map place ids)
       → AreNumbered (index_of indices) (map (λ e. e.0) (entries types)) (map place ids)
       → map (λ t. raw_shape (type_record t)) raws ≡ map (λ e. e.1) (entries types)
       → map Some raw_functions ≡ map (λ id. type_index funcs (index_of indices) (place id)) ids
@@ -80,25 +83,25 @@ module _ (types : List (Option FuncType)) (funcs : List (Option FunctionValue)) 
         raw_functions = raw_functions;
         functions_are = functions_are ∙ sym (map-map (type_index funcs names) place ids);
         raw_exports = map export_record exported;
-        exports_are = map-map (λ (e : wire.Export). Some e) export_record exported ∙ exports_are;
-        texts = All-map (λ (e : wire.Export). IsUtf8 e.name) export_record exported texts;
+        exports_are = map-map (λ (e : handled.Export). Some e) export_record exported ∙ exports_are;
+        texts = All-map (λ (e : handled.Export). IsUtf8 e.name) export_record exported texts;
         bodies = map (λ (v : Vec ℕ). v.items) bodies;
         bodies_are = zip_seen place (λ (v : Vec ℕ). v.items) (HasBytes funcs names) ids bodies bodies_are;
       }
 
   -- ---- records that can't be spelled
 
-  pub sections_refused : (X : Type 0) (r : Records types funcs exports) (ts : List wire.FuncType) (fs : List ℕ) (es : List wire.Export) (bs : List wire.Body) (e : Error) → all_there types funcs exports ≡ true
-      → ts ≡ r.raw_types → fs ≡ r.raw_functions → es ≡ r.raw_exports → bs ≡ map unplaced r.bodies → RefusesSections ts fs es bs e → RefusesItems {X = X} types funcs exports (Err e)
+  pub sections_refused : (X : Type 0) (r : Records types funcs exports) (ts : List Group) (fs : List ℕ) (es : List Export) (bs : List wire.Body) (e : Error) → all_there types funcs exports ≡ true
+      → ts ≡ map widened_type r.raw_types → fs ≡ r.raw_functions → es ≡ map widened_export r.raw_exports → bs ≡ map unplaced r.bodies → RefusesSections ts fs es bs e → RefusesItems {X = X} types funcs exports (Err e)
   sections_refused X r ts fs es bs (Parts.Memory m) there t f x b h = tt
   sections_refused X r ts fs es bs Parts.TooLarge there t f x b h = (
     there,
     inr (inr (record {
       records = r;
       too_large =
-          subst (λ u. RefusesSections r.raw_types r.raw_functions r.raw_exports u Parts.TooLarge) b
-          (subst (λ u. RefusesSections r.raw_types r.raw_functions u bs Parts.TooLarge) x
-          (subst (λ u. RefusesSections r.raw_types u es bs Parts.TooLarge) f
+          subst (λ u. RefusesSections (map widened_type r.raw_types) r.raw_functions (map widened_export r.raw_exports) u Parts.TooLarge) b
+          (subst (λ u. RefusesSections (map widened_type r.raw_types) r.raw_functions u bs Parts.TooLarge) x
+          (subst (λ u. RefusesSections (map widened_type r.raw_types) u es bs Parts.TooLarge) f
           (subst (λ u. RefusesSections u fs es bs Parts.TooLarge) t h)));
     })),
   )

@@ -4,10 +4,6 @@ use Rattle.std.specs.Prelude.{Option, Some}
 use Rattle.std.specs.List.{AllZip}
 use mathlib.Core.Path.{fun_ext}
 use Rattle.wasm_forms.proofs.Bind.{some_same}
-use Rattle.wasm_wire.specs.Record as wire
-use Rattle.wasm_wire.specs.Spelling.{module_bytes}
-use Rattle.wasm_wire.specs.declared.record.RawVal.{RawVal}
-use Rattle.wasm_wire.specs.declared.record.RawVal.TheVariants as raw
 use Rattle.walrus_base.specs.Arena.{entries}
 use Rattle.walrus_base.specs.FuncTypes.{FuncType}
 use Rattle.walrus_base.specs.Types.{ValType, I32, I64, F32, F64, V128, Ref}
@@ -21,8 +17,11 @@ use Rattle.walrus_items.specs.Functions.{FunctionValue}
 use Rattle.walrus_model.specs.Reads.{value_type}
 use Rattle.walrus_module.specs.Numbered.{AreNumbered, NamesNoOthers}
 use Rattle.walrus_module.specs.Parts.{raw_shape, type_index, export_with_index, HasBytes, unplaced}
+use Rattle.walrus_module.specs.Spelled.{module_bytes}
 use Rattle.walrus_module.specs.Spells.{Records, SpelledOnce}
 use Rattle.walrus_module.proofs.OneOrder.{one_order}
+use Rattle.walrus_model.specs.Handled as handled
+use Rattle.walrus_model.specs.Handled.{widened_type, widened_export}
 
 -- ---- lists
 
@@ -40,30 +39,30 @@ map_one f one (x ∷ xs) (y ∷ ys) e =
 
 -- ---- types
 
-raw_value : ValType ℕ → RawVal
-raw_value I32 = raw.I32
-raw_value I64 = raw.I64
-raw_value F32 = raw.F32
-raw_value F64 = raw.F64
-raw_value V128 = raw.V128
-raw_value (Ref r) = raw.I32
+raw_value : ValType ℕ → handled.Value
+raw_value I32 = handled.I32
+raw_value I64 = handled.I64
+raw_value F32 = handled.F32
+raw_value F64 = handled.F64
+raw_value V128 = handled.V128
+raw_value (Ref r) = handled.I32
 
-raw_value_back : (v : RawVal) → raw_value (value_type v) ≡ v
+raw_value_back : (v : handled.Value) → raw_value (value_type v) ≡ v
 unfolding raw_value
-raw_value_back raw.I32 = refl
-raw_value_back raw.I64 = refl
-raw_value_back raw.F32 = refl
-raw_value_back raw.F64 = refl
-raw_value_back raw.V128 = refl
+raw_value_back handled.I32 = refl
+raw_value_back handled.I64 = refl
+raw_value_back handled.F32 = refl
+raw_value_back handled.F64 = refl
+raw_value_back handled.V128 = refl
 
-one_value : (v w : RawVal) → value_type v ≡ value_type w → v ≡ w
+one_value : (v w : handled.Value) → value_type v ≡ value_type w → v ≡ w
 one_value v w e = sym (raw_value_back v) ∙ ap raw_value e ∙ raw_value_back w
 
-one_shape : (t u : wire.FuncType) → raw_shape t ≡ raw_shape u → t ≡ u
+one_shape : (t u : handled.FuncType) → raw_shape t ≡ raw_shape u → t ≡ u
 one_shape t u e =
     let params : t.params ≡ u.params = map_one value_type one_value t.params u.params (ap (λ (s : FuncType). s.params) e) in
     let results : t.results ≡ u.results = map_one value_type one_value t.results u.results (ap (λ (s : FuncType). s.results) e) in
-    ap₂ (λ (p r : List RawVal). record { params = p; results = r }) params results
+    ap₂ (λ (p r : List handled.Value). record { params = p; results = r }) params results
 
 -- ---- indices
 
@@ -100,16 +99,16 @@ module _ (funcs : List (Option FunctionValue)) (names : Lookup) where
 
 -- ---- all of it
 
-same_bytes : (ts us : List wire.FuncType) (fs gs : List ℕ) (es ds : List wire.Export) (bs cs : List (List ℕ)) → ts ≡ us → fs ≡ gs → es ≡ ds → bs ≡ cs
-    → module_bytes ts fs es (map unplaced bs) ≡ module_bytes us gs ds (map unplaced cs)
+same_bytes : (ts us : List handled.FuncType) (fs gs : List ℕ) (es ds : List handled.Export) (bs cs : List (List ℕ)) → ts ≡ us → fs ≡ gs → es ≡ ds → bs ≡ cs
+    → module_bytes (map widened_type ts) fs (map widened_export es) (map unplaced bs) ≡ module_bytes (map widened_type us) gs (map widened_export ds) (map unplaced cs)
 same_bytes ts us fs gs es ds bs cs t f e b =
-    ap (λ x. module_bytes x fs es (map unplaced bs)) t
-    ∙ ap (λ x. module_bytes us x es (map unplaced bs)) f
-    ∙ ap (λ x. module_bytes us gs x (map unplaced bs)) e
-    ∙ ap (λ x. module_bytes us gs ds (map unplaced x)) b
+    ap (λ x. module_bytes (map widened_type x) fs (map widened_export es) (map unplaced bs)) t
+    ∙ ap (λ x. module_bytes (map widened_type us) x (map widened_export es) (map unplaced bs)) f
+    ∙ ap (λ x. module_bytes (map widened_type us) gs (map widened_export x) (map unplaced bs)) e
+    ∙ ap (λ x. module_bytes (map widened_type us) gs (map widened_export ds) (map unplaced x)) b
 
 module _ (types : List (Option FuncType)) (funcs : List (Option FunctionValue)) (exports : List ExportValue) where
-  one_records : (r s : Records types funcs exports) → module_bytes r.raw_types r.raw_functions r.raw_exports (map unplaced r.bodies) ≡ module_bytes s.raw_types s.raw_functions s.raw_exports (map unplaced s.bodies)
+  one_records : (r s : Records types funcs exports) → module_bytes (map widened_type r.raw_types) r.raw_functions (map widened_export r.raw_exports) (map unplaced r.bodies) ≡ module_bytes (map widened_type s.raw_types) s.raw_functions (map widened_export s.raw_exports) (map unplaced s.bodies)
   one_records r s =
       let order : r.order ≡ s.order = one_order funcs r.order s.order r.ordered s.ordered in
       let numbered : AreNumbered r.names (map (λ e. e.0) (entries types)) s.order = subst (λ o. AreNumbered r.names (map (λ e. e.0) (entries types)) o) order r.numbered in

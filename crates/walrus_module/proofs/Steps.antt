@@ -18,9 +18,10 @@ use Rattle.walrus_base.specs.declared.types.ModuleTypes.{ModuleTypes}
 use Rattle.walrus_items.specs.declared.exports.ModuleExports.{ModuleExports}
 use Rattle.walrus_items.specs.declared.functions.ModuleFunctions.{ModuleFunctions}
 use Rattle.walrus_module.specs.View.{exports_of}
-use Rattle.wasm_wire.specs.Record.{body_record, export_record}
-use Rattle.wasm_wire.specs.declared.record.RawExport.{RawExport}
-use Rattle.wasm_wire.specs.declared.record.RawBody.{RawBody}
+use Rattle.walrus_module.specs.Sections.{export_record}
+use Rattle.wasm_frames.specs.Record.{body_record}
+use Rattle.wasm_entries.specs.declared.record.RawExport.{RawExport}
+use Rattle.wasm_frames.specs.declared.record.RawBody.{RawBody}
 use mathlib.Core.Path.{fun_ext}
 use borrow.Author.Tests.{ltb-true, ltb-false}
 use Rattle.walrus_base.specs.Arena.{item_at}
@@ -31,7 +32,8 @@ use Rattle.walrus_ir.specs.declared.indices.IndicesToIds.{IndicesToIds}
 use Rattle.walrus_model.specs.Reads.{declared, export_of}
 use Rattle.walrus_module.specs.Taken.{empty_body, with_operators, refilled, AreBodies, TakesBodies, TakesSections, type_taken, locals_held}
 use Rattle.walrus_module.proofs.Taking.{get_own, get_past, own_at}
-use Rattle.wasm_wire.specs.Record as wire
+use Rattle.wasm_frames.specs.Record as wire
+use Rattle.walrus_model.specs.Handled as handled
 
 -- ---- place by place
 
@@ -88,7 +90,7 @@ below_by : (n i : ℕ) (b : Bool) → nat_lt i n ≡ b → slice_get (range_with
 below_by n i true e = get_own n i (ltb-true i n e)
 below_by n i false e = get_past 0 n i (ltb-false i n e)
 
-names_at : (r : wire.Module) (indices : IndicesToIds) → places_in indices Types ≡ range_with_len 0 (length r.types) → places_in indices Functions ≡ range_with_len 0 (length r.functions)
+names_at : (r : handled.Module) (indices : IndicesToIds) → places_in indices Types ≡ range_with_len 0 (length r.types) → places_in indices Functions ≡ range_with_len 0 (length r.functions)
     → (space : Space) (i : ℕ) → ids_at indices space i ≡ declared r space i
 names_at r indices e f Types i = ap (λ l. slice_get l i) e ∙ below_by (length r.types) i (nat_lt i (length r.types)) refl
 names_at r indices e f Functions i = ap (λ l. slice_get l i) f ∙ below_by (length r.functions) i (nat_lt i (length r.functions)) refl
@@ -99,7 +101,7 @@ names_at r indices e f Globals i = refl
 names_at r indices e f Elements i = refl
 names_at r indices e f DataSegments i = refl
 
-pub same_names : (r : wire.Module) (indices : IndicesToIds) → places_in indices Types ≡ range_with_len 0 (length r.types) → places_in indices Functions ≡ range_with_len 0 (length r.functions)
+pub same_names : (r : handled.Module) (indices : IndicesToIds) → places_in indices Types ≡ range_with_len 0 (length r.types) → places_in indices Functions ≡ range_with_len 0 (length r.functions)
     → ids_at indices ≡ declared r
 same_names r indices e f = fun_ext (λ space. fun_ext (λ i. names_at r indices e f space i))
 
@@ -140,7 +142,7 @@ held_live ss ts e i lt =
     let lt' : i < length ts = omega (arith, ap length e, length-map ts empty_body) in
     subst (λ (l : List (Option (ℕ × List Op))). IsSome (item_at l i)) (sym e) (empty_live ts i lt')
 
-module _ (r : wire.Module) (indices : IndicesToIds) (types : places_in indices Types ≡ range_with_len 0 (length r.types)) (functions : places_in indices Functions ≡ range_with_len 0 (length r.functions)) where
+module _ (r : handled.Module) (indices : IndicesToIds) (types : places_in indices Types ≡ range_with_len 0 (length r.types)) (functions : places_in indices Functions ≡ range_with_len 0 (length r.functions)) where
   pub sections_refused : (l : List RawBody) → map body_record l ≡ r.bodies → (old new : List (Option (ℕ × List Op))) (ts : ModuleTypes) (fs : ModuleFunctions) (es : ModuleExports) (e : Error)
       → TakesBodies (ids_at indices) (map body_record l) old new (Err e) → TakesSections r ts fs es (Err e)
   sections_refused l same old new ts fs es (Parts.Memory m) h = tt
@@ -166,4 +168,4 @@ module _ (r : wire.Module) (indices : IndicesToIds) (types : places_in indices T
 
   pub exports_named : (x : List RawExport) → map export_record x ≡ r.exports → All (λ e. e.index < length r.functions) r.exports → All (λ e. ids_at indices Functions e.index ≡ Some e.index) (map export_record x)
   exports_named x same all = λ k d lt.
-      own_at (places_in indices Functions) (length r.functions) (get_or (map export_record x) k d).index functions (subst (λ (y : List wire.Export). All (λ (e : wire.Export). e.index < length r.functions) y) (sym same) all k d lt)
+      own_at (places_in indices Functions) (length r.functions) (get_or (map export_record x) k d).index functions (subst (λ (y : List handled.Export). All (λ (e : handled.Export). e.index < length r.functions) y) (sym same) all k d lt)

@@ -14,9 +14,7 @@ use Rattle.walrus_items.specs.declared.functions.ModuleFunctions.{ModuleFunction
 use Rattle.walrus_model.specs.Reads.{space_of}
 use Rattle.walrus_module.specs.Taken.{local_of, locals_held, with_operators, type_taken}
 use Rattle.walrus_module.specs.View.{export_of}
-use Rattle.wasm_wire.specs.Record as wire
-use Rattle.wasm_wire.specs.declared.record.RawExportKind.{RawExportKind}
-use Rattle.wasm_wire.specs.declared.record.RawExportKind.TheVariants as kinds
+use Rattle.walrus_model.specs.Handled as handled
 
 -- ---- lists that grow with a loop
 
@@ -126,22 +124,22 @@ put_operators funcs p i f g ops same at is =
     ap (map held) first ∙ second ∙ ap (λ x. slice_set (locals_held funcs) p x) (is ∙ ap (with_operators ops) (sym there)) in
     subst (λ k. locals_held (with_function funcs p g) ≡ slice_set (locals_held funcs) k (with_operators ops (item_at (locals_held funcs) k))) same whole
 
-each_live : (ts : List wire.FuncType) (i : ℕ) → i < length ts → IsLive (map type_taken ts) i
+each_live : (ts : List handled.FuncType) (i : ℕ) → i < length ts → IsLive (map type_taken ts) i
 each_live [] i lt = absurd (omega arith)
 each_live (t ∷ ts) zero lt = refl
 each_live (t ∷ ts) (suc i) lt = each_live ts i (omega arith)
 
-pub types_live : (ss : List (Option FuncType)) (ts : List wire.FuncType) → ss ≡ map type_taken ts → (i : ℕ) → i < length ss → IsLive ss i
+pub types_live : (ss : List (Option FuncType)) (ts : List handled.FuncType) → ss ≡ map type_taken ts → (i : ℕ) → i < length ss → IsLive ss i
 types_live ss ts e i lt =
     let lt' : i < length ts = omega (arith, ap length e, length-map ts type_taken) in
     subst (λ (l : List (Option FuncType)). IsLive l i) (sym e) (each_live ts i lt')
 
 -- ---- exports
 
-kind_is : (k : RawExportKind) → Functions ≡ space_of k
-kind_is kinds.Function = refl
+kind_is : (k : handled.ExportKind) → Functions ≡ space_of k
+kind_is handled.Function = refl
 
-pub exports_push : (old new : List (Option ExportValue)) (v : ExportValue) (e : wire.Export) → new ≡ old ++ Some v ∷ [] → export_of v ≡ (record { name = e.name; item = (Functions, e.index) })
+pub exports_push : (old new : List (Option ExportValue)) (v : ExportValue) (e : handled.Export) → new ≡ old ++ Some v ∷ [] → export_of v ≡ (record { name = e.name; item = (Functions, e.index) })
     → map export_of (items new) ≡ map export_of (items old) ++ (record { name = e.name; item = (space_of e.kind, e.index) }) ∷ []
 exports_push old new v e push is =
     let one : export_of v ≡ (record { name = e.name; item = (space_of e.kind, e.index) }) = is ∙ ap (λ s. record { name = e.name; item = (s, e.index) }) (kind_is e.kind) in

@@ -2,7 +2,6 @@
 use Rattle.std.proofs.Common.{ℕ, List, [], ◌∷◌}
 use Rattle.std.specs.Prelude.{Option, unwrap_or}
 use Rattle.std.specs.List.{AllZip}
-use Rattle.wasm_wire.specs.Record as wire
 use Rattle.walrus_base.specs.FuncTypes.{FuncType}
 use Rattle.walrus_ir.specs.Names.{Lookup}
 use Rattle.walrus_ir.specs.Operators.{Op}
@@ -13,6 +12,7 @@ use Rattle.walrus_model.specs.Reads.{module_of}
 use Rattle.walrus_model.specs.Renaming.{Renaming}
 use Rattle.walrus_module.specs.Parts.{HasBytes}
 use Rattle.walrus_module.specs.Spells.{Records}
+use Rattle.walrus_model.specs.Handled as handled
 
 -- the operators over indices that each body is spelled from
 module _ (funcs : List (Option FunctionValue)) (names : Lookup) where
@@ -24,7 +24,7 @@ module _ (funcs : List (Option FunctionValue)) (names : Lookup) where
 
 module _ {types : List (Option FuncType)} {funcs : List (Option FunctionValue)} {exports : List ExportValue} (r : Records types funcs exports) where
   -- the entries of the sections, wherever they stand
-  abbrev pub sections_of : wire.Module
+  abbrev pub sections_of : handled.Module
   sections_of = record { order = []; types = r.raw_types; functions = r.raw_functions; exports = r.raw_exports; bodies = [] }
 
   abbrev pub operators_of : List (List Op)

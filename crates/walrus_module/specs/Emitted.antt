@@ -1,7 +1,7 @@
 -- What emission gives, and when it refuses.
 use Rattle.std.specs.Prelude.{ℕ, Bool, true, false, ◌&&◌, List, AllPairs, Option, Some, length, map, ◌≢◌, ◌≡◌, ◌≤◌, ◌^◌, ◌⊎◌, ⊤, Result, Ok, Err}
-use Rattle.wasm_wire.specs.Record as wire
-use Rattle.wasm_wire.specs.Spelling.{TypesFit, FunctionsFit, ExportsFit, BodiesFit}
+use Rattle.wasm_entries.specs.Record as entries
+use Rattle.wasm_frames.specs.Record as wire
 use Rattle.walrus_base.specs.Arena.{entries, items}
 use Rattle.walrus_base.specs.FuncTypes.{FuncType}
 use Rattle.walrus_ir.specs.Body.{is_body}
@@ -11,11 +11,13 @@ use Rattle.walrus_items.specs.Exports.{ExportValue}
 use Rattle.walrus_items.specs.Functions.{FunctionValue, local_functions}
 use Rattle.walrus_model.specs.Abstract.{Abstract, Export}
 use Rattle.walrus_model.specs.Config.{Config}
+use Rattle.walrus_model.specs.Handled.{widened_type, widened_export}
 use Rattle.walrus_model.specs.Out.{Written}
 use Rattle.walrus_model.specs.Placed.{Placed}
 use Rattle.walrus_model.specs.Reads.{Reads}
 use Rattle.walrus_model.specs.Rules.{Holds}
 use Rattle.walrus_module.specs.Parts.{local_in, unplaced}
+use Rattle.walrus_module.specs.Spelled.{DoesNotSpell}
 use Rattle.walrus_module.specs.Spells.{Records}
 use Rattle.walrus_module.specs.Whole.{all_whole, all_export_live, all_local}
 use Rattle.walrus_parts.specs.declared.error.Error.{Error}
@@ -46,7 +48,7 @@ HasUnwritable funcs = (number : ℕ) × (local : LocalFunction) × (local_in fun
 -- the records can't be spelled: a count or a size passes 32 bits
 pub record DoesNotFit (types : List (Option FuncType)) (funcs : List (Option FunctionValue)) (exports : List ExportValue) : Type 0 where
   pub records : Records types funcs exports
-  pub too_large : TypesFit records.raw_types → FunctionsFit records.raw_functions → ExportsFit records.raw_exports → BodiesFit (map unplaced records.bodies) → ⊥
+  pub too_large : DoesNotSpell (map widened_type records.raw_types) records.raw_functions (map widened_export records.raw_exports) (map unplaced records.bodies)
 
 -- a count or a size passes 32 bits: the types, the functions, or what is written
 abbrev pub PassesLimits : List (Option FuncType) → List (Option FunctionValue) → List ExportValue → Type 0
@@ -83,7 +85,7 @@ RefusesBodies funcs NotWritable = HasUnwritable funcs
 RefusesBodies funcs _ = ⊥
 
 -- sections are spelled
-abbrev pub RefusesSections : List wire.FuncType → List ℕ → List wire.Export → List wire.Body → Error → Type 0
+abbrev pub RefusesSections : List entries.Group → List ℕ → List entries.Export → List wire.Body → Error → Type 0
 RefusesSections types functions exports bodies (Memory e) = ⊤
-RefusesSections types functions exports bodies TooLarge = TypesFit types → FunctionsFit functions → ExportsFit exports → BodiesFit bodies → ⊥
+RefusesSections types functions exports bodies TooLarge = DoesNotSpell types functions exports bodies
 RefusesSections types functions exports bodies _ = ⊥

@@ -2,6 +2,7 @@ pub mod Customs
 pub mod Emitted
 pub mod Entry
 pub mod Flags
+pub mod HandledOnly
 pub mod LendsSection
 pub mod Meaning
 pub mod Numbered
@@ -9,8 +10,10 @@ pub mod Parsed
 pub mod Parts
 pub mod Raws
 pub mod Refused
+pub mod Sections
 pub mod Settings
 pub mod Sizes
+pub mod Spelled
 pub mod Spells
 pub mod Taken
 pub mod View

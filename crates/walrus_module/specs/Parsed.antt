@@ -2,6 +2,8 @@
 use Rattle.std.specs.Prelude.{ℕ, List, ⊤}
 use Rattle.walrus_model.specs.Abstract.{Abstract}
 use Rattle.walrus_model.specs.Config.{Config}
+use Rattle.walrus_model.specs.Handled as handled
+use Rattle.walrus_model.specs.Handled.{widened}
 use Rattle.walrus_model.specs.Pipeline.{ParsedAs, IsSimple}
 use Rattle.walrus_model.specs.Reads.{Reads, Accepts, ReadsBody}
 use Rattle.walrus_model.specs.Rules.{Holds}
@@ -11,9 +13,8 @@ use Rattle.walrus_ir.specs.Operators.{Op}
 use Rattle.walrus_items.specs.declared.exports.ModuleExports.{ModuleExports}
 use Rattle.walrus_items.specs.declared.functions.ModuleFunctions.{ModuleFunctions}
 use Rattle.walrus_module.specs.Taken.{HasTaken}
-use Rattle.wasm_wire.specs.Frames.{Frames}
-use Rattle.wasm_wire.specs.Rules.{Rules}
-use Rattle.wasm_wire.specs.Record as wire
+use Rattle.walrus_module.specs.Sections.{Rules}
+use Rattle.wasm_frames.specs.Frames.{Frames}
 use Rattle.walrus_parts.specs.declared.error.Error.{Error}
 use Rattle.walrus_parts.specs.declared.error.Error.TheVariants.{Memory, InvalidWasm}
 
@@ -33,15 +34,15 @@ RefusesBytes c bytes _ = ⊥
 
 -- the bytes frame sections that keep the rules, and the fields hold them
 pub record TakenFrom (bytes : List ℕ) (ts : ModuleTypes) (funcs : ModuleFunctions) (es : ModuleExports) : Type 0 where
-  pub sections : wire.Module
-  pub framed : Frames bytes sections
+  pub sections : handled.Module
+  pub framed : Frames bytes (widened sections)
   pub rules : Rules sections
   pub taken : HasTaken sections ts funcs es
 
 -- the bytes frame sections that keep the rules, and each body has operators
 pub record AreModule (bytes : List ℕ) : Type 0 where
-  pub sections : wire.Module
-  pub framed : Frames bytes sections
+  pub sections : handled.Module
+  pub framed : Frames bytes (widened sections)
   pub rules : Rules sections
   pub bodies : List (List Op)
   pub read : AllZip (ReadsBody sections) sections.bodies bodies

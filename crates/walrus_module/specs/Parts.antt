@@ -1,8 +1,6 @@
 -- What the sections hold that a module is written as.
 use Rattle.std.specs.Prelude.{ℕ, List, Option, Some, IsSome, option_map, option_and_then, map, ◌≡◌}
-use Rattle.wasm_wire.specs.Record as wire
-use Rattle.wasm_wire.specs.Spelling.{module_bytes, TypesFit, FunctionsFit, ExportsFit, BodiesFit}
-use Rattle.wasm_wire.specs.declared.record.RawExportKind.TheVariants as raw_kind
+use Rattle.wasm_frames.specs.Record as wire
 use Rattle.walrus_base.specs.Arena.{item_at}
 use Rattle.walrus_base.specs.FuncTypes.{FuncType}
 use Rattle.walrus_base.specs.Id.{place}
@@ -13,10 +11,11 @@ use Rattle.walrus_ir.specs.Results.{Emitted}
 use Rattle.walrus_ir.specs.declared.function.LocalFunction.{LocalFunction}
 use Rattle.walrus_items.specs.Exports.{ExportValue, exported}
 use Rattle.walrus_items.specs.Functions.{FunctionValue, local_at}
+use Rattle.walrus_model.specs.Handled as handled
 use Rattle.walrus_model.specs.Reads.{value_type}
 
 -- a function type as it is read
-abbrev pub raw_shape : wire.FuncType → FuncType
+abbrev pub raw_shape : handled.FuncType → FuncType
 raw_shape t = record { params = map value_type t.params; results = map value_type t.results }
 
 -- the function with a body at a place, with that place, if there is one
@@ -28,8 +27,8 @@ abbrev pub type_index : List (Option FunctionValue) → Lookup → ℕ → Optio
 type_index funcs names number = option_and_then (λ f. names Types (place (function_type f.1))) (local_in funcs number)
 
 -- an export with the index of what it exports
-abbrev pub export_with_index : Lookup → ExportValue → Option wire.Export
-export_with_index names e = option_map (λ index. record { name = e.name; kind = raw_kind.Function; index = index }) (names (exported e.item).0 (exported e.item).1)
+abbrev pub export_with_index : Lookup → ExportValue → Option handled.Export
+export_with_index names e = option_map (λ index. record { name = e.name; kind = handled.Function; index = index }) (names (exported e.item).0 (exported e.item).1)
 
 -- the bytes are the body of the function at a place, under these indices
 pub record HasBytes (funcs : List (Option FunctionValue)) (names : Lookup) (number : ℕ) (bytes : List ℕ) : Type 0 where
@@ -47,11 +46,3 @@ pub record IsIndexed (funcs : List (Option FunctionValue)) (names : Lookup) (num
 -- a body's bytes, wherever they lie
 abbrev pub unplaced : List ℕ → wire.Body
 unplaced bytes = record { start = 0; bytes = bytes }
-
--- the bytes are the sections that hold these, and all of these can be spelled
-pub record IsWritten (types : List wire.FuncType) (functions : List ℕ) (exports : List wire.Export) (bodies : List wire.Body) (bytes : List ℕ) : Type 0 where
-  pub is : bytes ≡ module_bytes types functions exports bodies
-  pub types_fit : TypesFit types
-  pub functions_fit : FunctionsFit functions
-  pub exports_fit : ExportsFit exports
-  pub bodies_fit : BodiesFit bodies

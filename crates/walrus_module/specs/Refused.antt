@@ -1,18 +1,19 @@
 -- Why a module in memory can't be written.
 use Rattle.std.specs.Prelude.{ℕ, List, map, length, Some, All, AllPairs, Contains, ◌≡◌, ◌≢◌, ◌<◌, ◌≤◌, ◌^◌, ◌⊎◌, ⊤, Result, Ok, Err}
-use Rattle.wasm_wire.specs.Record as wire
-use Rattle.wasm_wire.specs.Spelling.{TypesFit, FunctionsFit, ExportsFit, BodiesFit}
 use Rattle.walrus_ir.specs.Body.{BodyReads, body_bytes}
 use Rattle.walrus_ir.specs.Names.{Lookup}
 use Rattle.walrus_ir.specs.Operators.{Space, Op}
 use Rattle.walrus_model.specs.Abstract.{Abstract, Body, ImportedFunction, Uninitialised, Function, Export}
 use Rattle.walrus_model.specs.Closed.{NamesAreLive}
 use Rattle.walrus_model.specs.Config.{Config}
+use Rattle.walrus_model.specs.Handled as handled
+use Rattle.walrus_model.specs.Handled.{widened}
 use Rattle.walrus_model.specs.Live.{Has, IsLive}
 use Rattle.walrus_model.specs.Names.{body_of}
 use Rattle.walrus_model.specs.Out.{Written}
 use Rattle.walrus_model.specs.Reads.{module_of}
 use Rattle.walrus_module.specs.Parts.{unplaced}
+use Rattle.walrus_module.specs.Spelled.{DoesNotSpell}
 use Rattle.walrus_parts.specs.declared.error.Error.{Error}
 use Rattle.walrus_parts.specs.declared.error.Error.TheVariants.{Memory, DeadItem, NoIndex, NotWritable, TooLarge}
 
@@ -36,10 +37,10 @@ HasTooMany v = (space : Space) × (numbers : List ℕ) × AllPairs (λ i j. i < 
 
 -- the sections of a module of indices, spelled as they are written, have a count or a size past 32 bits
 pub record IsTooLarge (n : Abstract) : Type 0 where
-  pub sections : wire.Module
+  pub sections : handled.Module
   pub bodies : List (List Op)
   pub is : n ≡ module_of sections bodies
-  pub too_large : TypesFit sections.types → FunctionsFit sections.functions → ExportsFit sections.exports → BodiesFit (map (λ ops. unplaced (body_bytes ops)) bodies) → ⊥
+  pub too_large : DoesNotSpell (widened sections).types sections.functions (widened sections).exports (map (λ ops. unplaced (body_bytes ops)) bodies)
 
 -- so has what the module is written as
 abbrev pub WritesTooLarge : Config → Abstract → Type 0

@@ -2,15 +2,17 @@
 use Rattle.std.specs.Prelude.{ℕ, true, List, Option, Some, All, map, ◌≡◌}
 use Rattle.std.specs.List.{AllZip}
 use Rattle.std.specs.Str.{IsUtf8}
-use Rattle.wasm_wire.specs.Record as wire
 use Rattle.walrus_base.specs.Arena.{entries, items}
 use Rattle.walrus_base.specs.FuncTypes.{FuncType}
 use Rattle.walrus_ir.specs.Names.{Lookup}
 use Rattle.walrus_items.specs.Exports.{ExportValue}
 use Rattle.walrus_items.specs.Functions.{FunctionValue}
+use Rattle.walrus_model.specs.Handled as handled
+use Rattle.walrus_model.specs.Handled.{widened_type, widened_export}
 use Rattle.walrus_module.specs.Numbered.{AreNumbered, NamesNoOthers}
-use Rattle.walrus_module.specs.Parts.{raw_shape, type_index, export_with_index, HasBytes, unplaced, IsWritten}
+use Rattle.walrus_module.specs.Parts.{raw_shape, type_index, export_with_index, HasBytes, unplaced}
 use Rattle.walrus_module.specs.Sizes.{IsOrder}
+use Rattle.walrus_module.specs.Spelled.{IsWritten}
 use Rattle.walrus_module.specs.Whole.{all_local}
 
 -- the records, entry by entry, of what a module holds
@@ -24,11 +26,11 @@ pub record Records (types : List (Option FuncType)) (funcs : List (Option Functi
   pub numbered : AreNumbered names (map (λ e. e.0) (entries types)) order
   pub no_others : NamesNoOthers names
   -- the entries of the sections
-  pub raw_types : List wire.FuncType
+  pub raw_types : List handled.FuncType
   pub types_are : map raw_shape raw_types ≡ map (λ e. e.1) (entries types)
   pub raw_functions : List ℕ
   pub functions_are : map Some raw_functions ≡ map (type_index funcs names) order
-  pub raw_exports : List wire.Export
+  pub raw_exports : List handled.Export
   pub exports_are : map Some raw_exports ≡ map (export_with_index names) exports
   pub texts : All (λ e. IsUtf8 e.name) raw_exports
   pub bodies : List (List ℕ)
@@ -37,7 +39,7 @@ pub record Records (types : List (Option FuncType)) (funcs : List (Option Functi
 -- the bytes are the spelling of these records
 pub record Spells (types : List (Option FuncType)) (funcs : List (Option FunctionValue)) (exports : List ExportValue) (bytes : List ℕ) : Type 0 where
   pub records : Records types funcs exports
-  pub written : IsWritten records.raw_types records.raw_functions records.raw_exports (map unplaced records.bodies) bytes
+  pub written : IsWritten (map widened_type records.raw_types) records.raw_functions (map widened_export records.raw_exports) (map unplaced records.bodies) bytes
 
 -- no two byte strings are the spelling of one module's items
 abbrev pub SpelledOnce : Type 0

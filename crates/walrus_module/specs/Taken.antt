@@ -17,14 +17,15 @@ use Rattle.walrus_items.specs.declared.exports.ModuleExports.{ModuleExports}
 use Rattle.walrus_items.specs.declared.functions.FunctionKind.TheVariants.{Import, Local, Uninitialized}
 use Rattle.walrus_items.specs.declared.functions.FunctionKind.{FunctionKind}
 use Rattle.walrus_items.specs.declared.functions.ModuleFunctions.{ModuleFunctions}
+use Rattle.walrus_model.specs.Handled as handled
 use Rattle.walrus_model.specs.Reads.{value_type, export_of, ReadsBody}
 use Rattle.walrus_module.specs.View.{exports_of}
 use Rattle.walrus_parts.specs.declared.error.Error.{Error}
 use Rattle.walrus_parts.specs.declared.error.Error.TheVariants.{Memory, InvalidWasm}
-use Rattle.wasm_wire.specs.Record as wire
+use Rattle.wasm_frames.specs.Record as wire
 
 -- a type as it was read
-abbrev pub type_taken : wire.FuncType → Option FuncType
+abbrev pub type_taken : handled.FuncType → Option FuncType
 type_taken t = Some (record { params = map value_type t.params; results = map value_type t.results })
 
 -- a function's type and operators
@@ -70,12 +71,12 @@ pub record AreEmpty (ts : ModuleTypes) (all : ModuleLocals) (funcs : ModuleFunct
   pub exports : exports es ≡ []
 
 -- each list that is numbered has room for its indices
-pub record FitsIndices (r : wire.Module) : Type 0 where
+pub record FitsIndices (r : handled.Module) : Type 0 where
   pub types : length r.types < 2 ^ 32
   pub functions : length r.functions < 2 ^ 32
 
 -- the fields hold these sections, whose bodies have operators
-pub record HasTaken (r : wire.Module) (ts : ModuleTypes) (funcs : ModuleFunctions) (es : ModuleExports) : Type 0 where
+pub record HasTaken (r : handled.Module) (ts : ModuleTypes) (funcs : ModuleFunctions) (es : ModuleExports) : Type 0 where
   pub bodies : List (List Op)
   pub read : AllZip (ReadsBody r) r.bodies bodies
   pub types : func_types ts ≡ map type_taken r.types
@@ -83,7 +84,7 @@ pub record HasTaken (r : wire.Module) (ts : ModuleTypes) (funcs : ModuleFunction
   pub exports : exports_of es ≡ map export_of r.exports
 
 -- taken in: the fields hold the sections; refused: the bodies have no operators, or memory ran out
-abbrev pub TakesSections : wire.Module → ModuleTypes → ModuleFunctions → ModuleExports → Result Unit Error → Type 0
+abbrev pub TakesSections : handled.Module → ModuleTypes → ModuleFunctions → ModuleExports → Result Unit Error → Type 0
 TakesSections r types funcs es (Ok u) = HasTaken r types funcs es
 TakesSections r types funcs es (Err (Memory e)) = Unit {0}
 TakesSections r types funcs es (Err (InvalidWasm kind)) = (bodies : List (List Op)) → AllZip (ReadsBody r) r.bodies bodies → ⊥

@@ -3,7 +3,7 @@ ghost use Rattle.std.specs.Prelude.{◌≡◌, map, All, Some, true, IsSome, IfO
 ghost use Rattle.std.specs.List.{AllZip};
 ghost use Rattle.std.specs.Str.{IsUtf8};
 ghost use Rattle.walrus_base.specs.Arena.{entries, items};
-ghost use Rattle.walrus_base.specs.FuncTypes.{val_type, val_types};
+ghost use Rattle.walrus_base.specs.FuncTypes.{val_type, val_types, func_type};
 ghost use Rattle.walrus_base.specs.Id.{place};
 ghost use Rattle.walrus_base.specs.ModuleTypes.{func_types};
 ghost use Rattle.walrus_ir.specs.Indices.{index_of};
@@ -11,16 +11,20 @@ ghost use Rattle.walrus_items.specs.Exports.{exports, export_value};
 ghost use Rattle.walrus_items.specs.Functions.{functions};
 ghost use Rattle.walrus_model.specs.Reads.{value_type};
 ghost use Rattle.walrus_parts.specs.Errors.{out_of_memory};
-ghost use Rattle.wasm_wire.specs.Record.{type_record, export_record, body_record};
+ghost use Rattle.wasm_entries.specs.Record.{group, export_entry};
+ghost use Rattle.wasm_frames.specs.Record.{body_record};
+ghost use Rattle.walrus_model.specs.Handled.{widened_value, widened_type, widened_export, narrowed_value};
 ghost use Rattle.walrus_model.specs.Placed.{Placed};
 ghost use Rattle.walrus_module.specs.Emitted.{IsEmitted, NamesDiffer, RefusesItems, RefusesBodies, RefusesSections};
 ghost use Rattle.walrus_module.specs.Flags.{config_of};
 ghost use Rattle.walrus_module.specs.Refused.{RefusesToWrite};
+ghost use Rattle.walrus_module.specs.Sections.{type_record, export_record};
 ghost use Rattle.walrus_module.specs.Settings.{settings};
 ghost use Rattle.walrus_module.specs.View.{view};
+ghost use Rattle.walrus_module.specs.Spelled.{IsWritten};
 ghost use Rattle.walrus_module.specs.Spells.{Spells};
 ghost use Rattle.walrus_module.specs.Whole.{is_all_there};
-ghost use Rattle.walrus_module.specs.Parts.{raw_shape, local_in, type_index, export_with_index, HasBytes, IsIndexed, unplaced, IsWritten};
+ghost use Rattle.walrus_module.specs.Parts.{raw_shape, local_in, type_index, export_with_index, HasBytes, IsIndexed, unplaced};
 
 use crate::live::{are_all_local, is_all_live};
 use crate::module::Module;
@@ -30,7 +34,9 @@ use walrus_base::{FunctionId, ModuleTypes, ValType};
 use walrus_ir::{IdsToIndices, LocalFunction, emit_body};
 use walrus_items::{Export, ExportItem, FunctionKind, ModuleExports, ModuleFunctions};
 use walrus_parts::{Error, Result};
-use wasm_wire::{RawBody, RawExport, RawExportKind, RawFuncType, RawVal, Writer};
+use wasm_wire::{
+    RawBody, RawComp, RawExport, RawExportKind, RawFuncType, RawGroup, RawSub, RawVal, Writer,
+};
 
 impl Module {
     /// The module's bytes. The module stays as it is.
@@ -101,7 +107,8 @@ fn emit_live(
 }
 
 fn raw_value(ty: ValType) -> RawVal
-    ensures { value_type result ≡ val_type ty }
+    ensures value { value_type (narrowed_value result) ≡ val_type ty }
+    ensures widened { widened_value (narrowed_value result) ≡ result }
 {
     match ty {
         ValType::I32 => RawVal::I32,
@@ -113,7 +120,8 @@ fn raw_value(ty: ValType) -> RawVal
 }
 
 fn raw_values(alloc: Global, types: &[ValType]) -> Result<Vec<RawVal>>
-    ensures value { IfOk result (λ raw. map value_type raw.items ≡ val_types types.now) }
+    ensures value { IfOk result (λ raw. map value_type (map narrowed_value raw.items) ≡ val_types types.now) }
+    ensures widened { IfOk result (λ raw. map widened_value (map narrowed_value raw.items) ≡ raw.items) }
     ensures fails { IsOkUnless result out_of_memory }
 {
     let mut raw = Vec::with_capacity(alloc, types.len())?;
@@ -123,15 +131,31 @@ fn raw_values(alloc: Global, types: &[ValType]) -> Result<Vec<RawVal>>
     Ok(raw)
 }
 
-fn raw_types(alloc: Global, types: &ModuleTypes) -> Result<Vec<RawFuncType>>
+// A function type, final and without supertypes, alone in its group.
+fn raw_type(alloc: Global, taken: &[ValType], given: &[ValType]) -> Result<RawGroup>
+    ensures value { IfOk result (λ raw. raw_shape (type_record raw) ≡ func_type taken.now given.now) }
+    ensures widened { IfOk result (λ raw. group raw ≡ widened_type (type_record raw)) }
+    ensures fails { IsOkUnless result out_of_memory }
+{
+    let params = raw_values(alloc, taken)?;
+    let results = raw_values(alloc, given)?;
+    let mut alone = Vec::with_capacity(alloc, 1)?;
+    alone.push(RawSub {
+        is_final: true,
+        supers: Vec::new(alloc),
+        comp: RawComp::Func(RawFuncType { params, results }),
+    })?;
+    Ok(alone)
+}
+
+fn raw_types(alloc: Global, types: &ModuleTypes) -> Result<Vec<RawGroup>>
     ensures value { IfOk result (λ raw. map (λ t. raw_shape (type_record t)) raw.items ≡ map (λ e. e.1) (entries (func_types types.now))) }
+    ensures widened { IfOk result (λ raw. map group raw.items ≡ map widened_type (map type_record raw.items)) }
     ensures fails { IsOkUnless result out_of_memory }
 {
     let mut raw = Vec::new(alloc);
     for ty in types.iter() {
-        let params = raw_values(alloc, ty.params())?;
-        let results = raw_values(alloc, ty.results())?;
-        raw.push(RawFuncType { params, results })?;
+        raw.push(raw_type(alloc, ty.params(), ty.results())?)?;
     }
     Ok(raw)
 }
@@ -180,6 +204,7 @@ fn raw_functions(
 
 fn raw_export<'a>(export: &'a Export, indices: &IdsToIndices) -> Option<RawExport<'a>>
     ensures value { option_map export_record result ≡ export_with_index (index_of indices.now) (export_value export.now) }
+    ensures widened { IfSome result (λ raw. export_entry raw ≡ widened_export (export_record raw)) }
     ensures text { IfSome result (λ raw. IsUtf8 raw.name.now) }
 {
     let ExportItem::Function(id) = export.item;
@@ -198,6 +223,7 @@ fn raw_exports<'a>(
 ) -> Result<Vec<RawExport<'a>>>
     requires indexed { All (λ e. IsSome e) (map (export_with_index (index_of indices.now)) (items (exports all_exports.now))) }
     ensures value { IfOk result (λ raw. map (λ e. Some (export_record e)) raw.items ≡ map (export_with_index (index_of indices.now)) (items (exports all_exports.now))) }
+    ensures widened { IfOk result (λ raw. map export_entry raw.items ≡ map widened_export (map export_record raw.items)) }
     ensures text { IfOk result (λ raw. All (λ e. IsUtf8 e.name.now) raw.items) }
     ensures fails { IsOkUnless result out_of_memory }
 {
@@ -262,13 +288,13 @@ fn raw_bodies<'a>(alloc: Global, bodies: &'a [Vec<u8>]) -> Result<Vec<RawBody<'a
 // The header and the sections, in the standard's order.
 fn written(
     alloc: Global,
-    types: &[RawFuncType],
+    types: &[RawGroup],
     functions: &[u32],
     exported: &[RawExport<'_>],
     code: &[RawBody<'_>],
 ) -> Result<Vec<u8>>
-    ensures value { IfOk result (λ bytes. IsWritten (map type_record types.now) functions.now (map export_record exported.now) (map body_record code.now) bytes.items) }
-    ensures fails { IfErr result (RefusesSections (map type_record types.now) functions.now (map export_record exported.now) (map body_record code.now)) }
+    ensures value { IfOk result (λ bytes. IsWritten (map group types.now) functions.now (map export_entry exported.now) (map body_record code.now) bytes.items) }
+    ensures fails { IfErr result (RefusesSections (map group types.now) functions.now (map export_entry exported.now) (map body_record code.now)) }
 {
     let mut writer = Writer::new(alloc);
     writer.header()?;

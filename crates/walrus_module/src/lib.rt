@@ -5,6 +5,7 @@ pub mod config;
 pub mod customs;
 pub mod emit;
 pub mod entry;
+mod handled;
 pub mod law;
 pub mod live;
 pub mod module;

@@ -1,6 +1,6 @@
 //! Reading a module from its bytes.
-ghost use Rattle.std.specs.Prelude.{◌≡◌, ◌++◌, ◌∷◌, ◌<◌, ◌^◌, ℕ, [], length, map, Some, All, IfOk, IfErr, OnOk, IsOkUnless, EachIndex, slice_set};
-ghost use Rattle.std.specs.List.{range_with_len};
+ghost use Rattle.std.specs.Prelude.{true, ◌≡◌, ◌++◌, ◌∷◌, ◌<◌, ◌^◌, ℕ, [], length, map, Some, All, IfOk, IfErr, OnOk, IsOkUnless, EachIndex, slice_set};
+ghost use Rattle.std.specs.List.{range_with_len, AllPass};
 ghost use Rattle.walrus_base.specs.Arena.{item_at, IsLive};
 ghost use Rattle.walrus_base.specs.Id.{place};
 ghost use Rattle.walrus_base.specs.FuncTypes.{val_type, val_types};
@@ -11,21 +11,27 @@ ghost use Rattle.walrus_ir.specs.Indices.{places_in, ids_at, Pushes};
 ghost use Rattle.walrus_ir.specs.Operators.{Space, Types, Functions};
 ghost use Rattle.walrus_items.specs.Exports.{exports};
 ghost use Rattle.walrus_items.specs.Functions.{functions};
+ghost use Rattle.walrus_model.specs.Handled.{narrowed_value};
 ghost use Rattle.walrus_model.specs.Reads.{value_type, export_of};
 ghost use Rattle.walrus_module.specs.View.{exports_of};
 ghost use Rattle.walrus_module.specs.Taken.{type_taken, local_of, locals_held, empty_body, with_operators, TakesBodies, AreEmpty, FitsIndices, TakesSections};
+ghost use Rattle.walrus_module.specs.HandledOnly.{is_number, is_lone};
+ghost use Rattle.walrus_module.specs.Sections.{type_record, export_record, sections, Rules};
 ghost use Rattle.walrus_parts.specs.Errors.{out_of_memory};
-ghost use Rattle.wasm_wire.specs.Record.{type_record, export_record, body_record, sections};
-ghost use Rattle.wasm_wire.specs.Rules.{Rules};
+ghost use Rattle.wasm_entries.specs.Record.{group};
+ghost use Rattle.wasm_frames.specs.Record.{body_record};
 
 use crate::config::ModuleConfig;
+use crate::handled::check_handled;
 use crate::module::Module;
 use std::alloc::Global;
 use walrus_base::{LocalId, ModuleLocals, ModuleTypes, ValType};
 use walrus_ir::{IndicesToIds, LocalFunction, Operator, read_body};
 use walrus_items::{ExportItem, Function, FunctionKind, ModuleExports, ModuleFunctions};
 use walrus_parts::Result;
-use wasm_wire::{Raw, RawBody, RawExport, RawFuncType, RawVal, check, read_module};
+use wasm_wire::{
+    Raw, RawBody, RawComp, RawExport, RawFuncType, RawGroup, RawSub, RawVal, check, read_module,
+};
 
 impl ModuleConfig {
     ghost use Rattle.walrus_module.specs.Flags.{flags, config_of};
@@ -34,7 +40,7 @@ impl ModuleConfig {
     ghost use Rattle.walrus_module.specs.View.{view};
 
     /// The module that the bytes are ("Binary Format > Modules"), to be written as the configuration says. Refused with
-    /// `InvalidWasm` where they aren't one, and with `Memory`; then there is no module.
+    /// `InvalidWasm` where they aren't one, or hold what isn't handled so far, and with `Memory`; then there is no module.
     pub fn parse(&self, alloc: Global, bytes: &[u8]) -> Result<Module>
         ensures found { IfOk result (λ m. IsParsed (config_of (flags self.now)) bytes.now (view m)) }
         ensures refused { IfErr result (RefusesBytes (config_of (flags self.now)) bytes.now) }
@@ -42,6 +48,7 @@ impl ModuleConfig {
     {
         let raw = read_module(alloc, bytes)?;
         check(alloc, &raw)?;
+        check_handled(&raw)?;
         let mut module = Module::with_config(alloc, self.clone()?)?;
         add_sections(
             alloc,
@@ -64,6 +71,7 @@ fn add_sections(
     funcs: &mut ModuleFunctions,
     module_exports: &mut ModuleExports,
 ) -> Result<()>
+    requires handled { All (λ g. is_lone (group g) ≡ true) raw.now.types.items }
     requires rules { Rules (sections raw.now) }
     requires room { FitsIndices (sections raw.now) }
     requires empty { AreEmpty types.old all.old funcs.old module_exports.old }
@@ -77,7 +85,8 @@ fn add_sections(
 }
 
 fn value_type(raw: RawVal) -> ValType
-    ensures { val_type result ≡ value_type raw }
+    requires { is_number raw ≡ true }
+    ensures { val_type result ≡ value_type (narrowed_value raw) }
 {
     match raw {
         RawVal::I32 => ValType::I32,
@@ -85,11 +94,13 @@ fn value_type(raw: RawVal) -> ValType
         RawVal::F32 => ValType::F32,
         RawVal::F64 => ValType::F64,
         RawVal::V128 => ValType::V128,
+        RawVal::Ref(_) => unreachable!(),
     }
 }
 
 fn value_types(alloc: Global, raw: &[RawVal]) -> Result<Vec<ValType>>
-    ensures value { IfOk result (λ types. val_types types.items ≡ map value_type raw.now) }
+    requires { AllPass is_number raw.now }
+    ensures value { IfOk result (λ types. val_types types.items ≡ map value_type (map narrowed_value raw.now)) }
     ensures fails { IsOkUnless result out_of_memory }
 {
     let mut types = Vec::with_capacity(alloc, raw.len())?;
@@ -99,21 +110,42 @@ fn value_types(alloc: Global, raw: &[RawVal]) -> Result<Vec<ValType>>
     Ok(types)
 }
 
+// The function type that is alone in its group.
+fn lone_type(entry: &RawGroup) -> &RawFuncType
+    requires { is_lone (group entry.now) ≡ true }
+    ensures params { (type_record entry.now).params ≡ map narrowed_value result.now.params.items }
+    ensures results { (type_record entry.now).results ≡ map narrowed_value result.now.results.items }
+    ensures numbers { AllPass is_number result.now.params.items × AllPass is_number result.now.results.items }
+{
+    let [
+        RawSub {
+            comp: RawComp::Func(ty),
+            ..
+        },
+    ] = entry.as_slice()
+    else {
+        unreachable!();
+    };
+    ty
+}
+
 // The type gets the next id, and the next index leads to it.
 fn add_type(
     alloc: Global,
-    entry: &RawFuncType,
+    entry: &RawGroup,
     types: &mut ModuleTypes,
     indices: &mut IndicesToIds,
 ) -> Result<()>
+    requires handled { is_lone (group entry.now) ≡ true }
     requires numbered { places_in indices.old Types ≡ range_with_len 0 (length (func_types types.old)) }
     requires room { length (func_types types.old) < 2 ^ 32 }
     ensures added { OnOk result (func_types types.new ≡ func_types types.old ++ type_taken (type_record entry.now) ∷ []) }
     ensures pushed { OnOk result (Pushes indices.old indices.new Types (length (func_types types.old))) }
     ensures fails { IsOkUnless result out_of_memory }
 {
-    let params = value_types(alloc, &entry.params)?;
-    let results = value_types(alloc, &entry.results)?;
+    let ty = lone_type(entry);
+    let params = value_types(alloc, &ty.params)?;
+    let results = value_types(alloc, &ty.results)?;
     let id = types.add(&params, &results)?;
     indices.push_type(id)?;
     Ok(())
@@ -122,10 +154,11 @@ fn add_type(
 // Each type gets the next id, and the next index leads to it.
 fn add_types(
     alloc: Global,
-    raw: &[RawFuncType],
+    raw: &[RawGroup],
     types: &mut ModuleTypes,
     indices: &mut IndicesToIds,
 ) -> Result<()>
+    requires handled { All (λ g. is_lone (group g) ≡ true) raw.now }
     requires none { func_types types.old ≡ [] }
     requires no_index { (space : Space) → places_in indices.old space ≡ [] }
     requires room { length raw.now < 2 ^ 32 }
@@ -254,7 +287,7 @@ fn add_bodies(
     Ok(())
 }
 
-// The export leads to the function of its index.
+// The export leads to the function of its index: what is handled exports functions alone.
 fn add_export(entry: &RawExport<'_>, indices: &IndicesToIds, all: &mut ModuleExports) -> Result<()>
     requires { ids_at indices.now Functions entry.now.index ≡ Some entry.now.index }
     ensures added { OnOk result (exports_of all.new ≡ exports_of all.old ++ export_of (export_record entry.now) ∷ []) }

@@ -16,6 +16,4 @@ mod parts;
 #[cfg(test)]
 mod sample;
 #[cfg(test)]
-mod whole;
-#[cfg(test)]
 mod wire;

@@ -1,8 +1,5 @@
-pub mod Results
-pub mod Bodies
-pub mod Sections
-pub mod Modules
+pub mod Checked
+pub mod Gathered
 pub mod Order
 pub mod Names
-pub mod Listed
-pub mod WrittenModule
+pub mod Totals

@@ -1,20 +1,21 @@
 -- A set of the names that were seen, and the exports that have them.
 use Rattle.std.proofs.Common.{Bor, ◌≡◌, ℕ, suc, ◌+◌, ◌<◌, ◌≤◌, Bool, true, false, List, [], ◌∷◌, ◌++◌, length, get_or, take, drop, map, not, subst, take_all, refl, sym, ap, ◌∙◌, arith, cond, length-append, drop-cons}
-use Rattle.std.specs.Prelude.{AllPairs, ◌≢◌, ◌||◌}
+use Rattle.std.specs.Prelude.{◌≢◌, ◌||◌}
 use Rattle.std.specs.declared.cmp.Ordering.{Ordering}
-use Rattle.std.specs.List.{list_any, All}
+use Rattle.std.specs.List.{list_any}
 use Rattle.std.specs.Ordering.{is_eq, nat_cmp}
 use Rattle.std.specs.Cmp.Lexicographic.{slice_cmp}
 use Rattle.std.specs.BTreeSet.{BTreeSet, contains, Updates}
 use Rattle.std.proofs.Math.Seq.{get_or-append_seam}
 use Rattle.std.proofs.lemmas.Bool.{false≢true}
-use Rattle.std.proofs.lemmas.List.{take_more, map-append, take-append-drop, get_or-map, get_or_append_left, length-map}
+use Rattle.std.proofs.lemmas.List.{take_more, map-append, take-append-drop, get_or_append_left}
 use Rattle.std.proofs.lemmas.Map.Text.{is_eq-slice_cmp}
 use Rattle.std.proofs.lemmas.Slice.Eq.{bytes_eq-Decides}
 use Rattle.std.proofs.lemmas.List.Folds.{list_any-append, list_any_at, Any-from_list_any}
 use Rattle.std.proofs.lemmas.List.Quantifiers.{all_pairs_push}
-use Rattle.wasm_wire.specs.declared.record.RawExport.{RawExport}
-use Rattle.wasm_wire.specs.Record.{Export, export_record}
+use Rattle.wasm_entries.specs.declared.record.RawExport.{RawExport}
+use Rattle.wasm_entries.specs.Record.{Export, export_entry}
+use Rattle.wasm_wire.specs.Rules.{NamesDiffer}
 
 abbrev Text : Type 0
 Text = Bor (List ℕ)
@@ -24,10 +25,6 @@ text_cmp x y = slice_cmp nat_cmp x.now y.now
 
 abbrev pub has_name : List ℕ → Export → Bool
 has_name q e = is_eq (slice_cmp nat_cmp e.name q)
-
--- no two of these have one name
-abbrev pub NamesDiffer : List Export → Type 0
-NamesDiffer es = AllPairs (λ (a b : Export). a.name ≢ b.name) es
 
 -- the set has exactly their names
 abbrev pub Holds : BTreeSet Text → List Export → Type 0
@@ -74,19 +71,13 @@ names_old s all es e rest k same has held parts differ =
 
 -- the exports up to one of them, it, and the others
 
-pub taken_more : (xs : List RawExport) (i : ℕ) (x : RawExport) → i < length xs → map export_record (take (i + 1) xs) ≡ map export_record (take i xs) ++ export_record (get_or xs i x) ∷ []
-taken_more xs i x within = ap (map export_record) (take_more xs i x within) ∙ map-append export_record (take i xs) (get_or xs i x ∷ [])
+pub taken_more : (xs : List RawExport) (i : ℕ) (x : RawExport) → i < length xs → map export_entry (take (i + 1) xs) ≡ map export_entry (take i xs) ++ export_entry (get_or xs i x) ∷ []
+taken_more xs i x within = ap (map export_entry) (take_more xs i x within) ∙ map-append export_entry (take i xs) (get_or xs i x ∷ [])
 
 pub split_at : (xs : List RawExport) (i : ℕ) (x : RawExport) → i < length xs
-    → map export_record xs ≡ map export_record (take i xs) ++ export_record (get_or xs i x) ∷ map export_record (drop (suc i) xs)
+    → map export_entry xs ≡ map export_entry (take i xs) ++ export_entry (get_or xs i x) ∷ map export_entry (drop (suc i) xs)
 split_at xs i x within =
-    ap (map export_record) (sym (take-append-drop i xs) ∙ ap (λ l. take i xs ++ l) (drop-cons xs i x within)) ∙ map-append export_record (take i xs) (get_or xs i x ∷ drop (suc i) xs)
-
-pub index_too_large : (es : List RawExport) (i count : ℕ) (d : RawExport) → i < length es → count ≤ (get_or es i d).index → All (λ (e : Export). e.index < count) (map export_record es) → ⊥
-index_too_large es i count d within large h =
-    let at_i = h i (export_record d) (omega (arith, length-map es export_record)) in
-    let same : (get_or (map export_record es) i (export_record d)).index ≡ (get_or es i d).index = ap (λ (e : Export). e.index) (get_or-map export_record es i d (export_record d) within) in
-    omega (arith, at_i, same)
+    ap (map export_entry) (sym (take-append-drop i xs) ∙ ap (λ l. take i xs ++ l) (drop-cons xs i x within)) ∙ map-append export_entry (take i xs) (get_or xs i x ∷ drop (suc i) xs)
 
 -- a turn of the loop over the exports, whose name the set took or has
 
@@ -99,21 +90,21 @@ not_true true e = refl
 not_true false e = absurd (false≢true e)
 
 pub turn_differs : (xs : List RawExport) (i : ℕ) (x : RawExport) (s : BTreeSet Text) (added : Bool) → i < length xs → added ≡ not (contains text_cmp s (get_or xs i x).name) → added ≡ true
-    → Holds s (map export_record (take i xs)) → NamesDiffer (map export_record (take i xs)) → NamesDiffer (map export_record (take (i + 1) xs))
+    → Holds s (map export_entry (take i xs)) → NamesDiffer (map export_entry (take i xs)) → NamesDiffer (map export_entry (take (i + 1) xs))
 turn_differs xs i x s added within e a held differ =
     rw (taken_more xs i x within)
-    (names_new s (map export_record (take i xs)) (export_record (get_or xs i x)) (get_or xs i x).name refl (not_false _ (sym a ∙ e)) held differ)
+    (names_new s (map export_entry (take i xs)) (export_entry (get_or xs i x)) (get_or xs i x).name refl (not_false _ (sym a ∙ e)) held differ)
 
 pub turn_holds : (xs : List RawExport) (i : ℕ) (x : RawExport) (s n : BTreeSet Text) → i < length xs → Updates text_cmp s n (get_or xs i x).name true
-    → Holds s (map export_record (take i xs)) → Holds n (map export_record (take (i + 1) xs))
+    → Holds s (map export_entry (take i xs)) → Holds n (map export_entry (take (i + 1) xs))
 turn_holds xs i x s n within updated held =
-    rw (taken_more xs i x within) (names_more s n (map export_record (take i xs)) (export_record (get_or xs i x)) (get_or xs i x).name refl updated held)
+    rw (taken_more xs i x within) (names_more s n (map export_entry (take i xs)) (export_entry (get_or xs i x)) (get_or xs i x).name refl updated held)
 
 pub turn_refused : (xs : List RawExport) (i : ℕ) (x : RawExport) (s : BTreeSet Text) (added : Bool) → i < length xs → added ≡ not (contains text_cmp s (get_or xs i x).name) → added ≡ false
-    → Holds s (map export_record (take i xs)) → NamesDiffer (map export_record xs) → ⊥
+    → Holds s (map export_entry (take i xs)) → NamesDiffer (map export_entry xs) → ⊥
 turn_refused xs i x s added within e a held differ =
-    names_old s (map export_record xs) (map export_record (take i xs)) (export_record (get_or xs i x)) (map export_record (drop (suc i) xs)) (get_or xs i x).name refl (not_true _ (sym a ∙ e)) held
+    names_old s (map export_entry xs) (map export_entry (take i xs)) (export_entry (get_or xs i x)) (map export_entry (drop (suc i) xs)) (get_or xs i x).name refl (not_true _ (sym a ∙ e)) held
     (split_at xs i x within) differ
 
-pub all_taken : (xs : List RawExport) (i : ℕ) → length xs ≤ i → NamesDiffer (map export_record (take i xs)) → NamesDiffer (map export_record xs)
-all_taken xs i all differ = subst (λ (l : List RawExport). NamesDiffer (map export_record l)) (take_all i xs all) differ
+pub all_taken : (xs : List RawExport) (i : ℕ) → length xs ≤ i → NamesDiffer (map export_entry (take i xs)) → NamesDiffer (map export_entry xs)
+all_taken xs i all differ = subst (λ (l : List RawExport). NamesDiffer (map export_entry l)) (take_all i xs all) differ

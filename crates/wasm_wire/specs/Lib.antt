@@ -1,7 +1,6 @@
-pub mod Record
-pub mod Forms
-pub mod Frames
-pub mod Steps
+pub mod Context
+pub mod Indices
+pub mod Ranks
+pub mod Locals
+pub mod Gathering
 pub mod Rules
-pub mod Spelling
-pub mod Writing

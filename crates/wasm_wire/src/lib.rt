@@ -1,17 +1,14 @@
-//! The bytes of a WebAssembly module and its records: reading, the rules on the whole, and writing.
+//! The bytes of a WebAssembly module and its records, over all sections: the rules on the whole, beside reading and writing.
 #![tactic(auto)]
 
-mod code;
-mod element;
-mod read;
-mod record;
 mod rules;
-mod section;
-mod spell;
-mod writer;
 
-pub use read::{one_record, read_module};
-pub use record::{Raw, RawBody, RawExport, RawExportKind, RawFuncType, RawVal};
-pub use rules::check;
-pub use wasm_forms::{WireError, leb128_len};
-pub use writer::{Writer, written_frames};
+pub use rules::{Counts, check};
+pub use wasm_entries::{
+    RawComp, RawConst, RawData, RawDataMode, RawDesc, RawElement, RawElementMode, RawExport,
+    RawExportKind, RawFieldType, RawFuncType, RawGlobal, RawGlobalType, RawGroup, RawImport,
+    RawItems, RawLimits, RawStorage, RawSub, RawTable, RawTableType,
+};
+pub use wasm_forms::{RawHeap, RawRef, RawVal, WireError, leb128_len};
+pub use wasm_frames::{Raw, RawBody, RawCustom, one_record, read_module};
+pub use wasm_writer::{Writer, written_frames};

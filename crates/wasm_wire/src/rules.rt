@@ -1,81 +1,83 @@
 //! The rules on a whole module (Validation > Modules).
 
-ghost use Rattle.std.specs.Prelude.{◌≡◌, ◌≢◌, ◌<◌, ◌↔◌, IsTrue, All, AllPairs, length, map};
-ghost use Rattle.wasm_wire.specs.Record.{sections, export_record};
-ghost use Rattle.wasm_wire.specs.Rules.{Rules, StandsBefore, Checks, rank_of};
+ghost use Rattle.std.specs.Prelude.{◌≡◌};
+ghost use Rattle.wasm_frames.specs.Record.{sections};
+ghost use Rattle.wasm_wire.specs.Gathering.{context};
+ghost use Rattle.wasm_wire.specs.Rules.{Rules, Keeps, CountHolds, Checks};
 
-use crate::record::{Raw, RawExport};
 use std::alloc::Global;
-use std::collections::BTreeSet;
 use wasm_forms::WireError;
+use wasm_frames::Raw;
 
-/// The place of a section in the standard's order, from 1 on, or 0 where the order has no such section.
-fn rank(id: u8) -> u8
-    ensures { result ≡ rank_of id }
+mod constant;
+mod counts;
+mod declared;
+mod each;
+mod exports;
+mod functions;
+mod indices;
+mod limits;
+mod locals;
+mod offsets;
+mod order;
+mod types;
+
+pub use counts::Counts;
+use declared::{Declared, counts_of, gather};
+use each::check_all;
+use exports::check_names;
+use functions::{check_functions, check_start, check_tags};
+use indices::check_indices;
+use limits::Limits;
+use locals::Locals;
+use offsets::Offsets;
+use order::check_order;
+use types::check_types;
+
+/// Whether two numbers are one.
+fn check_same(a: usize, b: usize) -> Result<(), WireError>
+    ensures { Checks result (a ≡ b) }
 {
-    match id {
-        1 => 1,
-        3 => 2,
-        7 => 3,
-        10 => 4,
-        _ => 0,
+    if a == b {
+        Ok(())
+    } else {
+        Err(WireError::Malformed)
     }
 }
 
-/// Whether a section with the one id stands before one with the other.
-fn stands_before(a: u8, b: u8) -> bool
-    ensures { IsTrue result ↔ StandsBefore a b }
+/// Whether a data count is that of the data segments (Validation > Modules, data count section).
+fn check_count(segments: usize, count: Option<u32>) -> Result<(), WireError>
+    ensures { Checks result (CountHolds segments count) }
 {
-    let first = rank(a);
-    first > 0 && first < rank(b)
+    match count {
+        None => Ok(()),
+        Some(wanted) => check_same(wanted as usize, segments),
+    }
 }
 
-/// Whether each section stands before all that follow it.
-fn check_order(order: &[u8]) -> Result<(), WireError>
-    ensures { Checks result (AllPairs StandsBefore order.now) }
+/// Whether the rules hold where this is declared.
+fn check_declared(alloc: Global, declared: &Declared<'_>, raw: &Raw<'_>) -> Result<(), WireError>
+    ensures { Checks result (Keeps (context declared.now) (sections raw.now)) }
 {
-    for index in 1..order.len() {
-        if !stands_before(order[index - 1], order[index]) {
-            return Err(WireError::Malformed);
-        }
-    }
-    Ok(())
-}
-
-/// Whether all of these indices are below the count of what they name.
-fn check_indices(indices: &[u32], count: usize) -> Result<(), WireError>
-    ensures { Checks result (All (λ t. t < count) indices.now) }
-{
-    for index in indices {
-        if *index as usize >= count {
-            return Err(WireError::Malformed);
-        }
-    }
-    Ok(())
-}
-
-/// Whether all of these exports name one of so many functions.
-fn check_exports(exports: &[RawExport<'_>], count: usize) -> Result<(), WireError>
-    ensures { Checks result (All (λ e. e.index < count) (map export_record exports.now)) }
-{
-    for export in exports {
-        if export.index as usize >= count {
-            return Err(WireError::Malformed);
-        }
-    }
-    Ok(())
-}
-
-/// Whether no two exports have one name.
-fn check_names(alloc: Global, exports: &[RawExport<'_>]) -> Result<(), WireError>
-    ensures { Checks result (AllPairs (λ a b. a.name ≢ b.name) (map export_record exports.now)) }
-{
-    let mut seen = BTreeSet::new(alloc);
-    for export in exports {
-        if !seen.insert(export.name)? {
-            return Err(WireError::Malformed);
-        }
-    }
+    let offsets = Offsets {
+        tables: &declared.tables,
+        memories: &declared.memories,
+        globals: &declared.globals,
+    };
+    check_order(&raw.order)?;
+    check_types(raw)?;
+    check_indices(&counts_of(declared), raw)?;
+    check_functions(declared)?;
+    check_tags(declared)?;
+    check_all(&Limits, &declared.tables)?;
+    check_all(&Limits, &declared.memories)?;
+    check_same(raw.bodies.len(), raw.functions.len())?;
+    check_count(raw.data_.len(), raw.data_count)?;
+    check_names(alloc, &raw.exports)?;
+    check_start(declared, raw.start)?;
+    check_all(&offsets, &raw.elements)?;
+    check_all(&offsets, &raw.data_)?;
+    check_all(&Locals, &raw.bodies)?;
     Ok(())
 }
 
@@ -87,11 +89,6 @@ fn check_names(alloc: Global, exports: &[RawExport<'_>]) -> Result<(), WireError
 pub fn check(alloc: Global, raw: &Raw<'_>) -> Result<(), WireError>
     ensures { Checks result (Rules (sections raw.now)) }
 {
-    check_order(&raw.order)?;
-    check_indices(&raw.functions, raw.types.len())?;
-    check_exports(&raw.exports, raw.functions.len())?;
-    if raw.bodies.len() != raw.functions.len() {
-        return Err(WireError::Malformed);
-    }
-    check_names(alloc, &raw.exports)
+    let declared = gather(alloc, raw)?;
+    check_declared(alloc, &declared, raw)
 }

@@ -1,4 +1,4 @@
-use Rattle.wasm_wire.proofs.Modules.{one_record_lem}
+use Rattle.wasm_frames.proofs.Modules.{one_record_lem}
 use Rattle.walrus_model.proofs.ReadOnce.{reads_once_lem}
 use Rattle.walrus_model.proofs.laws.reads_once.Goals as goal
 

@@ -3,7 +3,8 @@ use Rattle.std.specs.Prelude.{nat_eq}
 use Rattle.std.specs.Global.{Vec}
 use Rattle.std.specs.List.{AllZip, IsDistinct}
 use Rattle.std.proofs.lemmas.Result.{err_from_is_err_and}
-use Rattle.wasm_wire.specs.Record.{type_record, export_record, body_record}
+use Rattle.wasm_entries.specs.Record.{group, export_entry}
+use Rattle.wasm_frames.specs.Record.{body_record}
 use Rattle.walrus_base.specs.Arena.{entries, items}
 use Rattle.walrus_base.specs.Id.{place}
 use Rattle.walrus_base.specs.ModuleTypes.{func_types}
@@ -64,7 +65,7 @@ returns-in_err-bytes-clause-refused c =
     (subst (λ ids. AllZip (λ id bytes. HasBytes funcs names (place id) bytes.items) ids c.in_ok-bodies.bodies.items) c.as_slice-2.ensures.value c.in_ok-bodies.ensures.value) in
     let p = err_from_is_err_and c.from_residual-in_err-bytes.result c.from_residual-in_err-bytes.ensures.1 in
     rw (p.1, p.2) (sections_refused (func_types c.args.types.now) funcs (items (exports c.args.all_exports.now)) (Vec ℕ) records _ _ _ _ _ c.requires.there
-    (ap (map type_record) c.as_slice-5.ensures.value) c.as_slice-6.ensures.value (ap (map export_record) c.as_slice-7.ensures.value)
+    (ap (map group) c.as_slice-5.ensures.value ∙ c.in_ok-raws.ensures.widened) c.as_slice-6.ensures.value (ap (map export_entry) c.as_slice-7.ensures.value ∙ c.in_ok-exported.ensures.widened)
     (ap (map body_record) c.as_slice-8.ensures.value ∙ c.in_ok-code.ensures.value ∙ ap (map (λ (v : Vec ℕ). unplaced v.items)) c.as_slice-4.ensures.value
     ∙ sym (map-map unplaced (λ (v : Vec ℕ). v.items) c.in_ok-bodies.bodies.items))
     c.in_err-bytes.ensures.fails)
@@ -83,7 +84,7 @@ returns-clause-spells c =
           c.in_ok-exported.ensures.value c.in_ok-exported.ensures.text
           (subst (λ ids. AllZip (λ id bytes. HasBytes funcs names (place id) bytes.items) ids c.in_ok-bodies.bodies.items) c.as_slice-2.ensures.value c.in_ok-bodies.ensures.value);
       written = written_same _ _ _ _ _ _ _ _ c.in_ok-bytes.bytes.items
-          (ap (map type_record) c.as_slice-5.ensures.value) c.as_slice-6.ensures.value (ap (map export_record) c.as_slice-7.ensures.value)
+          (ap (map group) c.as_slice-5.ensures.value ∙ c.in_ok-raws.ensures.widened) c.as_slice-6.ensures.value (ap (map export_entry) c.as_slice-7.ensures.value ∙ c.in_ok-exported.ensures.widened)
           (ap (map body_record) c.as_slice-8.ensures.value ∙ c.in_ok-code.ensures.value ∙ ap (map (λ (v : Vec ℕ). unplaced v.items)) c.as_slice-4.ensures.value
           ∙ sym (map-map unplaced (λ (v : Vec ℕ). v.items) c.in_ok-bodies.bodies.items))
           c.in_ok-bytes.ensures.value;

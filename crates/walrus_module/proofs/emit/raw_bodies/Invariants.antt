@@ -1,5 +1,5 @@
 use Rattle.std.proofs.Common.{◌≡◌, ◌++◌, map, drop}
-use Rattle.wasm_wire.specs.Record.{body_record}
+use Rattle.wasm_frames.specs.Record.{body_record}
 use Rattle.walrus_module.specs.Parts.{unplaced}
 use Rattle.walrus_module.proofs.emit.raw_bodies.Given as goal
 

@@ -1,7 +1,9 @@
 use Rattle.std.proofs.Common.{◌≡◌, ◌++◌, map, Some}
 use Rattle.std.specs.Prelude.{All}
 use Rattle.std.specs.Str.{IsUtf8}
-use Rattle.wasm_wire.specs.Record.{export_record}
+use Rattle.wasm_entries.specs.Record.{export_entry}
+use Rattle.walrus_model.specs.Handled.{widened_export}
+use Rattle.walrus_module.specs.Sections.{export_record}
 use Rattle.walrus_base.specs.Arena.{items}
 use Rattle.walrus_ir.specs.Indices.{index_of}
 use Rattle.walrus_items.specs.Exports.{exports, exports_left}
@@ -14,4 +16,5 @@ invariant-loop-export l =
     goal.iterator-loop-export.can_next l.export-iterator
     × goal.iterator-loop-export.is_finite l.export-iterator
     × All (λ e. IsUtf8 e.name.now) l.raw.items
+    × (map export_entry l.raw.items ≡ map widened_export (map export_record l.raw.items))
     × (map (λ e. Some (export_record e)) l.raw.items ++ map (export_with_index (index_of l.indices)) (exports_left l.export-iterator) ≡ map (export_with_index (index_of l.indices)) (items (exports l.all_exports)))

@@ -2,7 +2,7 @@ use Rattle.std.proofs.Common.{◌≡◌, List, map, take}
 use Rattle.walrus_ir.specs.Indices.{ids_at}
 use Rattle.walrus_ir.specs.Operators.{Op}
 use Rattle.walrus_module.specs.Taken.{locals_held, refilled, AreBodies}
-use Rattle.wasm_wire.specs.Record.{body_record}
+use Rattle.wasm_frames.specs.Record.{body_record}
 use Rattle.walrus_module.proofs.parse.add_bodies.Given as goal
 
 abbrev pub invariant-loop-body : goal.invariant-loop-body

@@ -4,7 +4,8 @@ use Rattle.walrus_ir.specs.Indices.{ids_at}
 use Rattle.walrus_ir.specs.Operators.{Functions}
 use Rattle.walrus_model.specs.Reads.{export_of}
 use Rattle.walrus_model.proofs.Lists.{map-map}
-use Rattle.wasm_wire.specs.Record.{Export, export_record}
+use Rattle.walrus_model.specs.Handled.{Export}
+use Rattle.walrus_module.specs.Sections.{export_record}
 use Rattle.walrus_module.proofs.Taking.{mapped_all, whole}
 use Rattle.walrus_module.proofs.parse.add_exports.Goals as goal
 

@@ -1,7 +1,7 @@
 use Rattle.std.proofs.Common.{◌≡◌, map, take}
 use Rattle.walrus_model.specs.Reads.{export_of}
 use Rattle.walrus_module.specs.View.{exports_of}
-use Rattle.wasm_wire.specs.Record.{export_record}
+use Rattle.walrus_module.specs.Sections.{export_record}
 use Rattle.walrus_module.proofs.parse.add_exports.Given as goal
 
 abbrev pub invariant-loop-entry : goal.invariant-loop-entry

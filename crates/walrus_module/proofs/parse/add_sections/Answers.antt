@@ -7,7 +7,8 @@ use Rattle.walrus_ir.specs.Operators.{Types, Functions}
 use Rattle.walrus_module.specs.Taken.{type_taken, empty_body}
 use Rattle.walrus_module.proofs.Taking.{types_live}
 use Rattle.walrus_module.proofs.Steps.{held_live, sections_refused, sections_taken, exports_named}
-use Rattle.wasm_wire.specs.Record.{sections, type_record, body_record, export_record}
+use Rattle.walrus_module.specs.Sections.{sections, type_record, export_record}
+use Rattle.wasm_frames.specs.Record.{body_record}
 use Rattle.walrus_module.proofs.parse.add_sections.Goals as goal
 
 pub add_functions-requires-clause-live : goal.add_functions-requires-clause-live

@@ -5,7 +5,7 @@ use Rattle.walrus_ir.specs.Operators.{Types, Functions}
 use Rattle.walrus_model.proofs.Lists.{map-map}
 use Rattle.walrus_module.specs.Taken.{type_taken}
 use Rattle.walrus_module.proofs.Taking.{grown, range_grown, whole}
-use Rattle.wasm_wire.specs.Record.{type_record}
+use Rattle.walrus_module.specs.Sections.{type_record}
 use Rattle.walrus_module.proofs.parse.add_types.Goals as goal
 
 pub loop-entry-init : goal.loop-entry-init

@@ -4,7 +4,7 @@ use Rattle.walrus_base.specs.ModuleTypes.{func_types}
 use Rattle.walrus_ir.specs.Indices.{places_in}
 use Rattle.walrus_ir.specs.Operators.{Types, Functions}
 use Rattle.walrus_module.specs.Taken.{type_taken}
-use Rattle.wasm_wire.specs.Record.{type_record}
+use Rattle.walrus_module.specs.Sections.{type_record}
 use Rattle.walrus_module.proofs.parse.add_types.Given as goal
 
 abbrev pub invariant-loop-entry : goal.invariant-loop-entry

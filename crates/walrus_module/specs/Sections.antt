@@ -1,0 +1,36 @@
+-- What the records of sections hold of what is handled so far, and the rules on that.
+use Rattle.std.specs.Prelude.{map, length, All, AllPairs, ◌≡◌, ◌≢◌, ◌<◌}
+use Rattle.std.specs.Global.{Vec}
+use Rattle.wasm_entries.specs.declared.record.RawSub.{RawSub}
+use Rattle.wasm_entries.specs.declared.record.RawExport.{RawExport}
+use Rattle.wasm_entries.specs.Record.{group, export_entry}
+use Rattle.wasm_frames.specs.declared.record.Raw.{Raw}
+use Rattle.wasm_frames.specs.Record as wire
+use Rattle.wasm_frames.specs.Order.{InOrder}
+use Rattle.walrus_model.specs.Handled.{FuncType, Export, Module, widened, narrowed, narrowed_type, narrowed_export}
+
+abbrev pub type_record : Vec RawSub → FuncType
+type_record g = narrowed_type (group g)
+
+abbrev pub export_record : RawExport → Export
+export_record e = narrowed_export (export_entry e)
+
+abbrev pub sections : Raw → Module
+sections r = record {
+  order = r.order.items;
+  types = map type_record r.types.items;
+  functions = r.functions.items;
+  exports = map export_record r.exports.items;
+  bodies = map wire.body_record r.bodies.items;
+}
+
+-- the sections hold what is handled, and nothing else
+abbrev pub IsHandled : wire.Module → Type 0
+IsHandled m = m ≡ widened (narrowed m)
+
+-- what the rules on a whole module come to ("Validation > Modules")
+pub record Rules (m : Module) : Type 0 where
+  pub sections_in_order : InOrder m.order
+  pub indices_hold : All (λ t. t < length m.types) m.functions × All (λ e. e.index < length m.functions) m.exports
+  pub as_many_bodies : length m.bodies ≡ length m.functions
+  pub names_differ : AllPairs (λ a b. a.name ≢ b.name) m.exports

@@ -1,0 +1,4 @@
+pub mod Results
+pub mod Bodies
+pub mod Sections
+pub mod Modules

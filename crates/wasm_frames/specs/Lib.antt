@@ -1,0 +1,5 @@
+pub mod Record
+pub mod Order
+pub mod Frames
+pub mod Steps
+pub mod Spelling

@@ -1,5 +1,0 @@
-use Rattle.wasm_whole.proofs.Modules.{one_record_lem}
-use Rattle.wasm_whole.proofs.read.one_record.Goals as goal
-
-pub returns : goal.returns
-returns c = one_record_lem

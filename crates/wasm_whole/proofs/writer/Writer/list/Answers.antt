@@ -1,9 +1,0 @@
-use Rattle.std.proofs.Common.{◌≡◌, length, arith}
-use Rattle.std.proofs.lemmas.Bool.Decides.{nat_tests}
-use Rattle.wasm_whole.proofs.Listed.{listed_none}
-use Rattle.wasm_whole.proofs.writer.Writer.list.Goals as goal
-
-pub returns-then-is_empty : goal.returns-then-is_empty
-returns-then-is_empty g c =
-    let none : length c.args.items.now ≡ 0 = grind (arith, nat_tests) in
-    listed_none _ _ c.args.items.now _ _ none

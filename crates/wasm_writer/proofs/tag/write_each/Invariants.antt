@@ -1,0 +1,7 @@
+use Rattle.std.proofs.Common.{◌≡◌, ◌++◌, take}
+use Rattle.wasm_forms.specs.Spelling.{row_bytes}
+use Rattle.wasm_writer.specs.Spelling.{tag_bytes}
+use Rattle.wasm_writer.proofs.tag.write_each.Given as goal
+
+abbrev pub invariant-tags : goal.invariant-tags
+invariant-tags l = l.to.items ≡ l.fn.to.items ++ row_bytes tag_bytes (take l.tag-index l.tags)

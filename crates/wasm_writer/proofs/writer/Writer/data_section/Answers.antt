@@ -1,0 +1,11 @@
+use Rattle.std.proofs.Common.{refl}
+use Rattle.wasm_entries.specs.Record.{data_entry}
+use Rattle.wasm_entries.specs.Spelling.{data_bytes, DataFits}
+use Rattle.wasm_entries.specs.declared.record.RawData.{RawData}
+use Rattle.wasm_forms.proofs.Adding.{fits_map, fits_unmap}
+use Rattle.wasm_frames.specs.Frames.{DataSegments}
+use Rattle.wasm_writer.proofs.Listed.{wrote_listed}
+use Rattle.wasm_writer.proofs.writer.Writer.data_section.Goals as goal
+
+pub returns : goal.returns
+returns c = wrote_listed DataSegments data_entry (λ (x : RawData). DataFits (data_entry x)) data_bytes 11 c.args.segments.now _ _ _ refl refl (fits_map data_entry DataFits c.args.segments.now) (fits_unmap data_entry DataFits c.args.segments.now) c.list.ensures

@@ -1,0 +1,11 @@
+use Rattle.std.proofs.Common.{refl}
+use Rattle.wasm_entries.specs.Record.{export_entry}
+use Rattle.wasm_entries.specs.Spelling.{export_bytes, ExportFits}
+use Rattle.wasm_entries.specs.declared.record.RawExport.{RawExport}
+use Rattle.wasm_forms.proofs.Adding.{fits_map, fits_unmap}
+use Rattle.wasm_frames.specs.Frames.{Exports}
+use Rattle.wasm_writer.proofs.Listed.{wrote_listed}
+use Rattle.wasm_writer.proofs.writer.Writer.export_section.Goals as goal
+
+pub returns : goal.returns
+returns c = wrote_listed Exports export_entry (λ (x : RawExport). ExportFits (export_entry x)) export_bytes 7 c.args.exports.now _ _ _ refl refl (fits_map export_entry ExportFits c.args.exports.now) (fits_unmap export_entry ExportFits c.args.exports.now) c.list.ensures

@@ -1,0 +1,12 @@
+use Rattle.std.proofs.Common.{refl, arith}
+use Rattle.std.proofs.lemmas.List.{length-map}
+use Rattle.wasm_entries.specs.Record.{global_entry}
+use Rattle.wasm_entries.specs.Spelling.{global_bytes}
+use Rattle.wasm_entries.specs.declared.record.RawGlobal.{RawGlobal}
+use Rattle.wasm_forms.proofs.Adding.{fits_free}
+use Rattle.wasm_frames.specs.Frames.{Globals}
+use Rattle.wasm_writer.proofs.Listed.{wrote_listed}
+use Rattle.wasm_writer.proofs.writer.Writer.global_section.Goals as goal
+
+pub returns : goal.returns
+returns c = wrote_listed Globals global_entry (λ (x : RawGlobal). Unit {0}) global_bytes 6 c.args.globals.now _ _ _ refl refl (λ h. omega (arith, h.0, length-map c.args.globals.now global_entry)) (λ h. fits_free c.args.globals.now (omega (arith, h, length-map c.args.globals.now global_entry))) c.list.ensures
