@@ -18,14 +18,14 @@ pub struct RawFieldType {
 }
 
 /// A function type: what a function takes and what it gives (Binary Format > Types > Function Types).
-#[derive(Debug, Drop)]
+#[derive(Debug, PartialEq, Eq, Drop)]
 pub struct RawFuncType {
     pub params: Vec<RawVal>,
     pub results: Vec<RawVal>,
 }
 
 /// A composite type (Binary Format > Types > Composite Types).
-#[derive(Debug, Drop)]
+#[derive(Debug, PartialEq, Eq, Drop)]
 pub enum RawComp {
     Func(RawFuncType),
     Struct(Vec<RawFieldType>),
@@ -33,7 +33,7 @@ pub enum RawComp {
 }
 
 /// A subtype with its supertypes, of which the standard allows one (Binary Format > Types > Recursive Types).
-#[derive(Debug, Drop)]
+#[derive(Debug, PartialEq, Eq, Drop)]
 pub struct RawSub {
     pub is_final: bool,
     pub supers: Vec<u32>,
@@ -80,7 +80,7 @@ pub enum RawDesc {
 }
 
 /// An import: its two names, and what it brings (Binary Format > Modules > Import Section).
-#[derive(Clone, Copy, Debug)]
+#[derive(Clone, Copy, Debug, PartialEq, Eq)]
 pub struct RawImport<'a> {
     pub from: &'a str,
     pub name: &'a str,
@@ -115,14 +115,14 @@ pub enum RawConst {
 }
 
 /// A table of the module, with its initialiser where it has one (Binary Format > Modules > Table Section).
-#[derive(Debug, Drop)]
+#[derive(Debug, PartialEq, Eq, Drop)]
 pub struct RawTable {
     pub ty: RawTableType,
     pub initial: Option<Vec<RawConst>>,
 }
 
 /// A global of the module (Binary Format > Modules > Global Section).
-#[derive(Debug, Drop)]
+#[derive(Debug, PartialEq, Eq, Drop)]
 pub struct RawGlobal {
     pub ty: RawGlobalType,
     pub initial: Vec<RawConst>,
@@ -139,7 +139,7 @@ pub enum RawExportKind {
 }
 
 /// An export: its name, and the kind and the index of what it names (Binary Format > Modules > Export Section).
-#[derive(Clone, Copy, Debug)]
+#[derive(Clone, Copy, Debug, PartialEq, Eq)]
 pub struct RawExport<'a> {
     pub name: &'a str,
     pub kind: RawExportKind,
@@ -148,7 +148,7 @@ pub struct RawExport<'a> {
 
 /// When a segment of elements is used. An active one holds its table, none standing for table 0 where the spelling names none
 /// (Binary Format > Modules > Element Section, flags 0 and 4).
-#[derive(Debug, Drop)]
+#[derive(Debug, PartialEq, Eq, Drop)]
 pub enum RawElementMode {
     Active(Option<u32>, Vec<RawConst>),
     Passive,
@@ -156,28 +156,28 @@ pub enum RawElementMode {
 }
 
 /// What a segment of elements lists.
-#[derive(Debug, Drop)]
+#[derive(Debug, PartialEq, Eq, Drop)]
 pub enum RawItems {
     Functions(Vec<u32>),
     Expressions(RawRef, Vec<Vec<RawConst>>),
 }
 
 /// A segment of elements (Binary Format > Modules > Element Section).
-#[derive(Debug, Drop)]
+#[derive(Debug, PartialEq, Eq, Drop)]
 pub struct RawElement {
     pub mode: RawElementMode,
     pub items: RawItems,
 }
 
 /// When a segment of data is used.
-#[derive(Debug, Drop)]
+#[derive(Debug, PartialEq, Eq, Drop)]
 pub enum RawDataMode {
     Active(u32, Vec<RawConst>),
     Passive,
 }
 
 /// A segment of data (Binary Format > Modules > Data Section).
-#[derive(Debug, Drop)]
+#[derive(Debug, PartialEq, Eq, Drop)]
 pub struct RawData<'a> {
     pub mode: RawDataMode,
     pub bytes: &'a [u8],

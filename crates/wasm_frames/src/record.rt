@@ -6,14 +6,14 @@ use wasm_entries::{
 
 /// A function's body: its bytes (its size not among them), and the place of the first of them in the input
 /// (Binary Format > Modules > Code Section).
-#[derive(Clone, Copy, Debug)]
+#[derive(Clone, Copy, Debug, PartialEq, Eq)]
 pub struct RawBody<'a> {
     pub start: usize,
     pub bytes: &'a [u8],
 }
 
 /// A custom section: its name, and the bytes behind that (Binary Format > Modules > Custom Section).
-#[derive(Clone, Copy, Debug)]
+#[derive(Clone, Copy, Debug, PartialEq, Eq)]
 pub struct RawCustom<'a> {
     pub name: &'a str,
     pub bytes: &'a [u8],

@@ -1,0 +1,4 @@
+pub mod Copy
+pub mod Program
+pub mod Status
+pub mod Words
