@@ -1,57 +1,114 @@
 //! Arenas, sets of ids, types and locals.
-use std::alloc::AllocError;
-use walrus_base::{FunctionKey, IdHashSet, ModuleLocals, ModuleTypes, TombstoneArena, ValType};
 
-#[test]
-fn arena_keeps_its_places(rt: HostRuntime) -> Result<(), AllocError> {
-    let mut arena: TombstoneArena<FunctionKey, u32> = TombstoneArena::new(rt.alloc());
-    arena.reserve(3)?;
-    let first = arena.alloc(10)?;
-    let second = arena.alloc_with_id(|_| 20)?;
-    assert_eq!(rt; (first.index(), second.index()), (0, 1));
-    assert_eq!(rt; arena.delete(first), 10);
+use crate::demands::{demand, is_text};
+use std::alloc::Global;
+use std::test::Fail;
+use walrus_base::{
+    FunctionId, FunctionKey, Id, IdHashSet, ModuleLocals, ModuleTypes, TombstoneArena, ValType,
+};
+
+type Numbers = TombstoneArena<FunctionKey, usize>;
+
+/// An id at the first place.
+pub fn some_id<K>(alloc: Global) -> Id<K> {
+    let arena: TombstoneArena<K, u8> = TombstoneArena::new(alloc);
+    arena.next_id()
+}
+
+// Adds two numbers, deletes the first and changes the second.
+fn change(arena: &mut Numbers) -> bool {
+    let Ok(first) = arena.alloc(10) else {
+        return false;
+    };
+    let Ok(second) = arena.alloc_with_id(|_| 20) else {
+        return false;
+    };
+    let deleted = arena.delete(first);
     *arena.get_mut(second) = 21;
-    let third = arena.alloc(30)?;
-    assert_eq!(rt; third.index(), 2);
-    assert!(rt; !arena.contains(first));
-    assert_eq!(rt; arena.len(), 2);
-    let mut found = Vec::new(rt.alloc());
-    for (id, item) in arena.iter() {
-        found.push((id.index(), *item))?;
+    first.index() == 0 && second.index() == 1 && deleted == 10 && !arena.contains(first)
+}
+
+// Whether these places are live and hold these numbers, and no others.
+fn holds(arena: &Numbers, wanted: &[(usize, usize)]) -> bool {
+    let mut entries = arena.iter();
+    for (place, number) in wanted {
+        match entries.next() {
+            Some((id, item)) if id.index() == *place && *item == *number => {}
+            _ => return false,
+        }
     }
-    assert_eq!(rt; found.as_slice(), [(1, 21), (2, 30)].as_slice());
-    Ok(())
+    arena.len() == wanted.len()
 }
 
 #[test]
-fn set_knows_its_ids(rt: HostRuntime) -> Result<(), AllocError> {
-    let mut arena: TombstoneArena<FunctionKey, u32> = TombstoneArena::new(rt.alloc());
-    let first = arena.alloc(10)?;
-    let second = arena.alloc(20)?;
+fn arena_keeps_its_places(rt: HostRuntime) -> Result<(), Fail> {
+    let mut arena = TombstoneArena::new(rt.alloc());
+    let changed = arena.reserve(3).is_ok() && change(&mut arena) && arena.alloc(30).is_ok();
+    demand(
+        changed && holds(&arena, &[(1, 21), (2, 30)]),
+        "what is left",
+    )
+}
+
+fn second_id(alloc: Global) -> FunctionId {
+    let mut arena: Numbers = TombstoneArena::new(alloc);
+    let _first = arena.alloc(10);
+    arena.next_id()
+}
+
+fn takes_once(set: &mut IdHashSet<FunctionKey>, id: FunctionId) -> bool {
+    matches!(set.insert(id), Ok(true)) && matches!(set.insert(id), Ok(false))
+}
+
+fn loses(set: &mut IdHashSet<FunctionKey>, one: FunctionId, other: FunctionId) -> bool {
+    set.contains(one) && !set.contains(other) && set.remove(one) && !set.contains(one)
+}
+
+#[test]
+fn set_knows_its_ids(rt: HostRuntime) -> Result<(), Fail> {
     let mut set = IdHashSet::new(rt.alloc());
-    assert!(rt; set.insert(second)?);
-    assert!(rt; !set.insert(second)?);
-    assert_eq!(rt; (set.contains(first), set.contains(second)), (false, true));
-    assert!(rt; set.remove(second));
-    assert!(rt; !set.contains(second));
-    Ok(())
+    let id = second_id(rt.alloc());
+    demand(
+        takes_once(&mut set, id) && loses(&mut set, id, some_id(rt.alloc())),
+        "one of two",
+    )
+}
+
+fn has_a_type(types: &mut ModuleTypes) -> bool {
+    match types.add(&[ValType::I32], &[ValType::F64, ValType::V128]) {
+        Ok(id) => {
+            types.get(id).params() == [ValType::I32].as_slice()
+                && types.get(id).results() == [ValType::F64, ValType::V128].as_slice()
+        }
+        Err(_) => false,
+    }
 }
 
 #[test]
-fn types_and_locals_are_added(rt: HostRuntime) -> Result<(), AllocError> {
+fn types_are_added(rt: HostRuntime) -> Result<(), Fail> {
     let mut types = ModuleTypes::new(rt.alloc());
-    types.reserve(1)?;
-    let id = types.add(&[ValType::I32], &[ValType::F64, ValType::V128])?;
-    assert_eq!(rt; types.get(id).params(), [ValType::I32].as_slice());
-    assert_eq!(rt;
-        types.get(id).results(),
-        [ValType::F64, ValType::V128].as_slice()
-    );
+    demand(
+        types.reserve(1).is_ok() && has_a_type(&mut types),
+        "the type",
+    )
+}
+
+fn has_a_local(locals: &mut ModuleLocals, name: String) -> bool {
+    match locals.add(ValType::I64) {
+        Ok(id) => {
+            locals.get_mut(id).name = Some(name);
+            locals.get(id).ty() == ValType::I64 && locals.len() == 1
+        }
+        Err(_) => false,
+    }
+}
+
+#[test]
+fn locals_are_added(rt: HostRuntime) -> Result<(), Fail> {
     let mut locals = ModuleLocals::new(rt.alloc());
-    locals.reserve(1)?;
-    let local = locals.add(ValType::I64)?;
-    locals.get_mut(local).name = Some(String::from_str(rt.alloc(), "x")?);
-    assert_eq!(rt; locals.get(local).ty(), ValType::I64);
-    assert_eq!(rt; locals.len(), 1);
-    Ok(())
+    let name = String::from_str(rt.alloc(), "x")?;
+    demand(
+        locals.reserve(1).is_ok() && has_a_local(&mut locals, name),
+        "the local",
+    )
 }

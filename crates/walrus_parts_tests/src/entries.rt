@@ -1,146 +1,172 @@
 //! The entries of sections, read and written: other spellings come out in the one that is written.
+
+use crate::demands::{add_bytes, are, demand, is_text};
+use std::alloc::Global;
 use std::test::Fail;
 use wasm_entries::{
     RawData, RawElement, RawExport, RawGlobal, RawImport, RawLimits, RawTable, read_expression,
     read_group, read_groups, write_expression, write_group, write_groups, write_limits,
 };
-use wasm_forms::{Element, Written};
+use wasm_forms::{Element, WireError, Written};
 
-#[test]
-fn groups_of_types(rt: HostRuntime) -> Result<(), Fail> {
-    let alloc = rt.alloc();
-    for (input, output) in [
-        (
-            b"\x4E\x01\x60\x00\x00".as_slice(),
-            b"\x60\x00\x00".as_slice(),
-        ),
-        (
-            b"\x4F\x00\x60\x00\x00".as_slice(),
-            b"\x60\x00\x00".as_slice(),
-        ),
-        (
-            b"\x60\x01\x63\x70\x00".as_slice(),
-            b"\x60\x01\x70\x00".as_slice(),
-        ),
-        (
-            b"\x50\x01\x00\x60\x00\x00".as_slice(),
-            b"\x50\x01\x00\x60\x00\x00".as_slice(),
-        ),
-        (
-            b"\x5F\x01\x78\x01".as_slice(),
-            b"\x5F\x01\x78\x01".as_slice(),
-        ),
-    ] {
-        let (group, rest) = read_group(alloc, input)?;
-        assert!(rt; rest.is_empty());
-        let mut written = Vec::new(alloc);
-        write_group(&mut written, &group)?;
-        assert_eq!(rt; written.as_slice(), output);
+/// What is read and written.
+#[derive(Clone, Copy)]
+enum Kind {
+    Group,
+    Groups,
+    Import,
+    Export,
+    Table,
+    Limits,
+    Global,
+    Expression,
+    Element,
+    Data,
+}
+
+fn rewrites_entry<'a, E: Element<'a> + Written + Drop>(
+    alloc: Global,
+    bytes: &'a [u8],
+    written: &mut Vec<u8>,
+) -> bool {
+    match E::read(alloc, bytes) {
+        Ok((entry, rest)) => rest.is_empty() && entry.write(written).is_ok(),
+        Err(_) => false,
     }
-    let two = b"\x02\x50\x00\x60\x00\x00\x50\x01\x00\x60\x00\x00";
-    let (groups, rest) = read_groups(alloc, two)?;
-    assert_eq!(rt; (groups.len(), rest.len()), (2, 0));
+}
+
+fn rewrites_limits(alloc: Global, bytes: &[u8], written: &mut Vec<u8>) -> bool {
+    match RawLimits::read(alloc, bytes) {
+        Ok((limits, rest)) => rest.is_empty() && write_limits(written, &limits).is_ok(),
+        Err(_) => false,
+    }
+}
+
+fn rewrites_group(alloc: Global, bytes: &[u8], written: &mut Vec<u8>) -> bool {
+    match read_group(alloc, bytes) {
+        Ok((group, rest)) => rest.is_empty() && write_group(written, &group).is_ok(),
+        Err(_) => false,
+    }
+}
+
+fn rewrites_groups(alloc: Global, bytes: &[u8], written: &mut Vec<u8>) -> bool {
+    match read_groups(alloc, bytes) {
+        Ok((groups, rest)) => rest.is_empty() && write_groups(written, &groups).is_ok(),
+        Err(_) => false,
+    }
+}
+
+fn rewrites_expression(alloc: Global, bytes: &[u8], written: &mut Vec<u8>) -> bool {
+    match read_expression(alloc, bytes) {
+        Ok((operators, rest)) => rest.is_empty() && write_expression(written, &operators).is_ok(),
+        Err(_) => false,
+    }
+}
+
+/// Whether these bytes are read as such an entry, which is then written.
+fn rewrites(alloc: Global, kind: Kind, bytes: &[u8], written: &mut Vec<u8>) -> bool {
+    match kind {
+        Kind::Group => rewrites_group(alloc, bytes, written),
+        Kind::Groups => rewrites_groups(alloc, bytes, written),
+        Kind::Import => rewrites_entry::<RawImport<'_>>(alloc, bytes, written),
+        Kind::Export => rewrites_entry::<RawExport<'_>>(alloc, bytes, written),
+        Kind::Table => rewrites_entry::<RawTable>(alloc, bytes, written),
+        Kind::Limits => rewrites_limits(alloc, bytes, written),
+        Kind::Global => rewrites_entry::<RawGlobal>(alloc, bytes, written),
+        Kind::Expression => rewrites_expression(alloc, bytes, written),
+        Kind::Element => rewrites_entry::<RawElement>(alloc, bytes, written),
+        Kind::Data => rewrites_entry::<RawData<'_>>(alloc, bytes, written),
+    }
+}
+
+fn comes_out(alloc: Global, kind: Kind, input: &str, output: &str) -> bool {
+    let mut bytes = Vec::new(alloc);
     let mut written = Vec::new(alloc);
-    write_groups(&mut written, &groups)?;
-    assert_eq!(rt; written.as_slice(), two.as_slice());
+    add_bytes(&mut bytes, input)
+        && rewrites(alloc, kind, &bytes, &mut written)
+        && are(alloc, &written, output)
+}
+
+// Each entry, and what is written of it.
+const ROWS: [(Kind, &str, &str); 26] = [
+    // a group of one type, with its count
+    (Kind::Group, "4E 01 60 00 00", "60 00 00"),
+    // a final type without supertypes
+    (Kind::Group, "4F 00 60 00 00", "60 00 00"),
+    // a nullable reference to a function
+    (Kind::Group, "60 01 63 70 00", "60 01 70 00"),
+    // a type with a supertype
+    (Kind::Group, "50 01 00 60 00 00", "50 01 00 60 00 00"),
+    // a struct of one byte
+    (Kind::Group, "5F 01 78 01", "5F 01 78 01"),
+    (
+        Kind::Groups,
+        "02 50 00 60 00 00 50 01 00 60 00 00",
+        "02 50 00 60 00 00 50 01 00 60 00 00",
+    ),
+    // a function, a table, a memory, a global and a tag
+    (Kind::Import, "01 6D 01 62 00 00", "01 6D 01 62 00 00"),
+    (
+        Kind::Import,
+        "01 6D 01 74 01 70 00 01",
+        "01 6D 01 74 01 70 00 01",
+    ),
+    (
+        Kind::Import,
+        "01 6D 01 79 02 01 01 02",
+        "01 6D 01 79 02 01 01 02",
+    ),
+    (Kind::Import, "01 6D 01 67 03 7F 01", "01 6D 01 67 03 7F 01"),
+    (Kind::Import, "01 6D 01 65 04 00 00", "01 6D 01 65 04 00 00"),
+    (Kind::Export, "01 67 03 01", "01 67 03 01"),
+    // a table with an initialiser
+    (
+        Kind::Table,
+        "40 00 70 00 00 D0 70 0B",
+        "40 00 70 00 00 D0 70 0B",
+    ),
+    // a minimum in two bytes
+    (Kind::Limits, "01 80 00 02", "01 00 02"),
+    (Kind::Global, "7F 00 41 00 0B", "7F 00 41 00 0B"),
+    (
+        Kind::Expression,
+        "44 00 00 00 00 00 00 F0 3F 42 7F FB 08 01 02 0B",
+        "44 00 00 00 00 00 00 F0 3F 42 7F FB 08 01 02 0B",
+    ),
+    // segments of each flag
+    (Kind::Element, "00 41 00 0B 01 00", "00 41 00 0B 01 00"),
+    (Kind::Element, "01 00 01 00", "01 00 01 00"),
+    (
+        Kind::Element,
+        "02 00 41 00 0B 00 01 00",
+        "02 00 41 00 0B 00 01 00",
+    ),
+    (Kind::Element, "03 00 01 01", "03 00 01 01"),
+    (
+        Kind::Element,
+        "04 41 00 0B 01 D2 00 0B",
+        "04 41 00 0B 01 D2 00 0B",
+    ),
+    (Kind::Element, "05 70 01 D2 00 0B", "05 70 01 D2 00 0B"),
+    (
+        Kind::Element,
+        "06 00 41 00 0B 70 01 D2 00 0B",
+        "06 00 41 00 0B 70 01 D2 00 0B",
+    ),
+    (Kind::Element, "07 70 01 D2 00 0B", "07 70 01 D2 00 0B"),
+    // a memory's index that needs no mention
+    (Kind::Data, "02 00 41 00 0B 01 AA", "00 41 00 0B 01 AA"),
+    (Kind::Data, "01 01 AA", "01 01 AA"),
+];
+
+fn each_comes_out(alloc: Global, rows: &[(Kind, &str, &str)]) -> Result<(), Fail> {
+    for (kind, input, output) in rows {
+        demand(comes_out(alloc, *kind, input, output), input)?;
+    }
     Ok(())
 }
 
 #[test]
-fn imports_and_exports(rt: HostRuntime) -> Result<(), Fail> {
-    let alloc = rt.alloc();
-    for bytes in [
-        b"\x01m\x01b\x00\x00".as_slice(),
-        b"\x01m\x01t\x01\x70\x00\x01".as_slice(),
-        b"\x01m\x01y\x02\x01\x01\x02".as_slice(),
-        b"\x01m\x01g\x03\x7F\x01".as_slice(),
-        b"\x01m\x01e\x04\x00\x00".as_slice(),
-    ] {
-        let (entry, rest) = RawImport::read(alloc, bytes)?;
-        assert!(rt; rest.is_empty());
-        assert_eq!(rt; entry.from, "m");
-        let mut written = Vec::new(alloc);
-        entry.write(&mut written)?;
-        assert_eq!(rt; written.as_slice(), bytes);
-    }
-    let (export, rest) = RawExport::read(alloc, b"\x01g\x03\x01")?;
-    assert_eq!(rt; (export.name, export.index, rest.len()), ("g", 1, 0));
-    let mut written = Vec::new(alloc);
-    export.write(&mut written)?;
-    assert_eq!(rt; written.as_slice(), b"\x01g\x03\x01".as_slice());
-    Ok(())
-}
-
-#[test]
-fn tables_memories_and_globals(rt: HostRuntime) -> Result<(), Fail> {
-    let alloc = rt.alloc();
-    let table = b"\x40\x00\x70\x00\x00\xD0\x70\x0B";
-    let (entry, rest) = RawTable::read(alloc, table)?;
-    assert!(rt; rest.is_empty());
-    let mut written = Vec::new(alloc);
-    entry.write(&mut written)?;
-    assert_eq!(rt; written.as_slice(), table.as_slice());
-    let (limits, rest) = RawLimits::read(alloc, b"\x01\x80\x00\x02")?;
-    assert_eq!(rt;
-        (limits.minimum, limits.maximum, rest.len()),
-        (0, Some(2), 0)
-    );
-    let mut written = Vec::new(alloc);
-    write_limits(&mut written, &limits)?;
-    assert_eq!(rt; written.as_slice(), b"\x01\x00\x02".as_slice());
-    let (global, rest) = RawGlobal::read(alloc, b"\x7F\x00\x41\x00\x0B")?;
-    assert!(rt; rest.is_empty());
-    let mut written = Vec::new(alloc);
-    global.write(&mut written)?;
-    assert_eq!(rt; written.as_slice(), b"\x7F\x00\x41\x00\x0B".as_slice());
-    Ok(())
-}
-
-#[test]
-fn constant_expressions(rt: HostRuntime) -> Result<(), Fail> {
-    let alloc = rt.alloc();
-    let bytes = b"\x44\x00\x00\x00\x00\x00\x00\xF0\x3F\x42\x7F\xFB\x08\x01\x02\x0B";
-    let (expression, rest) = read_expression(alloc, bytes)?;
-    assert_eq!(rt; (expression.len(), rest.len()), (3, 0));
-    let mut written = Vec::new(alloc);
-    write_expression(&mut written, &expression)?;
-    assert_eq!(rt; written.as_slice(), bytes.as_slice());
-    assert!(rt; read_expression(alloc, b"\x0B").is_err());
-    assert!(rt; read_expression(alloc, b"\x41\x00").is_err());
-    Ok(())
-}
-
-#[test]
-fn segments(rt: HostRuntime) -> Result<(), Fail> {
-    let alloc = rt.alloc();
-    for bytes in [
-        b"\x00\x41\x00\x0B\x01\x00".as_slice(),
-        b"\x01\x00\x01\x00".as_slice(),
-        b"\x02\x00\x41\x00\x0B\x00\x01\x00".as_slice(),
-        b"\x03\x00\x01\x01".as_slice(),
-        b"\x04\x41\x00\x0B\x01\xD2\x00\x0B".as_slice(),
-        b"\x05\x70\x01\xD2\x00\x0B".as_slice(),
-        b"\x06\x00\x41\x00\x0B\x70\x01\xD2\x00\x0B".as_slice(),
-        b"\x07\x70\x01\xD2\x00\x0B".as_slice(),
-    ] {
-        let (segment, rest) = RawElement::read(alloc, bytes)?;
-        assert!(rt; rest.is_empty());
-        let mut written = Vec::new(alloc);
-        segment.write(&mut written)?;
-        assert_eq!(rt; written.as_slice(), bytes);
-    }
-    for (input, output) in [
-        (
-            b"\x02\x00\x41\x00\x0B\x01\xAA".as_slice(),
-            b"\x00\x41\x00\x0B\x01\xAA".as_slice(),
-        ),
-        (b"\x01\x01\xAA".as_slice(), b"\x01\x01\xAA".as_slice()),
-    ] {
-        let (segment, rest) = RawData::read(alloc, input)?;
-        assert!(rt; rest.is_empty());
-        let mut written = Vec::new(alloc);
-        segment.write(&mut written)?;
-        assert_eq!(rt; written.as_slice(), output);
-    }
-    Ok(())
+fn entries_come_out_in_one_spelling(rt: HostRuntime) -> Result<(), Fail> {
+    each_comes_out(rt.alloc(), &ROWS)
 }

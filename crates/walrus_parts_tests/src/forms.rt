@@ -1,5 +1,7 @@
 //! Numbers, blocks, names and vectors, against bytes known from the standard and from other encoders.
 
+use crate::demands::{are, demand, is_text};
+use std::alloc::Global;
 use std::test::Fail;
 use wasm_forms::{
     read_byte, read_f32, read_f64, read_index_from, read_name, read_s32, read_s64, read_u32,
@@ -7,17 +9,54 @@ use wasm_forms::{
     write_s64, write_u32, write_u64, write_vector,
 };
 
+fn write_32(bytes: &mut Vec<u8>) -> bool {
+    write_u32(bytes, 624_485).is_ok()
+        && write_u32(bytes, u32::MAX).is_ok()
+        && write_s32(bytes, -123_456).is_ok()
+        && write_s32(bytes, 64).is_ok()
+        && write_s32(bytes, i32::MIN).is_ok()
+}
+
 #[test]
 fn numbers_are_written_as_other_encoders_write_them(rt: HostRuntime) -> Result<(), Fail> {
     let mut bytes = Vec::new(rt.alloc());
-    write_u32(&mut bytes, 624_485)?;
-    write_u32(&mut bytes, u32::MAX)?;
-    write_s32(&mut bytes, -123_456)?;
-    write_s32(&mut bytes, 64)?;
-    write_s32(&mut bytes, i32::MIN)?;
-    let want = b"\xE5\x8E\x26\xFF\xFF\xFF\xFF\x0F\xC0\xBB\x78\xC0\x00\x80\x80\x80\x80\x78";
-    assert_eq!(rt; bytes.as_slice(), want.as_slice());
-    Ok(())
+    let known = "E5 8E 26 FF FF FF FF 0F C0 BB 78 C0 00 80 80 80 80 78";
+    demand(
+        write_32(&mut bytes) && are(rt.alloc(), &bytes, known),
+        known,
+    )
+}
+
+fn write_64(bytes: &mut Vec<u8>) -> bool {
+    write_u64(bytes, u64::MAX).is_ok()
+        && write_s64(bytes, i64::MIN).is_ok()
+        && write_index(bytes, 64).is_ok()
+        && write_f32(bytes, 0x3F80_0000).is_ok()
+        && write_f64(bytes, 0x3FF0_0000_0000_0000).is_ok()
+}
+
+// Whether the index 64 and two floats of the value 1 stand here, and nothing else.
+fn read_index_and_floats(bytes: &[u8]) -> bool {
+    let Ok((first, rest)) = read_byte(bytes) else {
+        return false;
+    };
+    let Ok((index, rest)) = read_index_from(first, rest) else {
+        return false;
+    };
+    let Ok((one, rest)) = read_f32(rest) else {
+        return false;
+    };
+    index == 64 && one == 0x3F80_0000 && matches!(read_f64(rest), Ok((0x3FF0_0000_0000_0000, [])))
+}
+
+fn read_64(bytes: &[u8]) -> bool {
+    let Ok((most, rest)) = read_u64(bytes) else {
+        return false;
+    };
+    let Ok((least, rest)) = read_s64(rest) else {
+        return false;
+    };
+    most == u64::MAX && least == i64::MIN && read_index_and_floats(rest)
 }
 
 #[test]
@@ -25,53 +64,71 @@ fn numbers_of_64_bits_are_written_as_other_encoders_write_them(
     rt: HostRuntime,
 ) -> Result<(), Fail> {
     let mut bytes = Vec::new(rt.alloc());
-    write_u64(&mut bytes, u64::MAX)?;
-    write_s64(&mut bytes, i64::MIN)?;
-    write_index(&mut bytes, 64)?;
-    write_f32(&mut bytes, 0x3F80_0000)?;
-    write_f64(&mut bytes, 0x3FF0_0000_0000_0000)?;
-    let want =
-        b"\xFF\xFF\xFF\xFF\xFF\xFF\xFF\xFF\xFF\x01\x80\x80\x80\x80\x80\x80\x80\x80\x80\x7F\xC0\x00\x00\x00\x80\x3F\x00\x00\x00\x00\x00\x00\xF0\x3F";
-    assert_eq!(rt; bytes.as_slice(), want.as_slice());
-    let (most, rest) = read_u64(bytes.as_slice())?;
-    let (least, rest) = read_s64(rest)?;
-    let (first, rest) = read_byte(rest)?;
-    let (index, rest) = read_index_from(first, rest)?;
-    let (one, rest) = read_f32(rest)?;
-    let (other, rest) = read_f64(rest)?;
-    assert_eq!(rt; (most, least, index), (u64::MAX, i64::MIN, 64));
-    assert_eq!(rt;
-        (one, other, rest.len()),
-        (0x3F80_0000, 0x3FF0_0000_0000_0000, 0)
-    );
-    Ok(())
+    let known =
+        "FF FF FF FF FF FF FF FF FF 01 80 80 80 80 80 80 80 80 80 7F C0 00 00 00 80 3F 00 00 00 00 00 00 F0 3F";
+    demand(
+        write_64(&mut bytes) && are(rt.alloc(), &bytes, known) && read_64(&bytes),
+        known,
+    )
+}
+
+fn is_three_and_a_byte(bytes: &[u8]) -> bool {
+    match read_u32(bytes) {
+        Ok((number, rest)) => number == 3 && rest.len() == 1,
+        Err(_) => false,
+    }
+}
+
+fn is_minus_two(bytes: &[u8]) -> bool {
+    match read_s32(bytes) {
+        Ok((number, rest)) => number == -2 && rest.is_empty(),
+        Err(_) => false,
+    }
 }
 
 #[test]
-fn longer_spellings_are_read(rt: HostRuntime) -> Result<(), Fail> {
-    let (three, rest) = read_u32(b"\x83\x80\x80\x80\x00\x07")?;
-    assert_eq!(rt; (three, rest.len()), (3, 1));
-    let (minus_two, rest) = read_s32(b"\xFE\xFF\x7F")?;
-    assert_eq!(rt; (minus_two, rest.len()), (-2, 0));
-    assert!(rt; read_u32(b"\x83\x80\x80\x80\x10").is_err());
-    assert!(rt; read_u32(b"\x83\x80\x80\x80\x80\x00").is_err());
-    Ok(())
+fn longer_spellings_are_read(_rt: HostRuntime) -> Result<(), Fail> {
+    demand(
+        is_three_and_a_byte(b"\x83\x80\x80\x80\x00\x07") && is_minus_two(b"\xFE\xFF\x7F"),
+        "spellings that aren't the shortest",
+    )?;
+    demand(
+        read_u32(b"\x83\x80\x80\x80\x10").is_err()
+            && read_u32(b"\x83\x80\x80\x80\x80\x00").is_err(),
+        "more than 32 bits, and six bytes",
+    )
+}
+
+fn write_others(bytes: &mut Vec<u8>) -> bool {
+    write_block(bytes, b"\xFF").is_ok()
+        && write_name(bytes, "f\u{E9}").is_ok()
+        && write_vector(bytes, &[1u32, 200]).is_ok()
+}
+
+// Whether the numbers 1 and 200 stand here as a vector, and nothing else.
+fn read_numbers(alloc: Global, bytes: &[u8]) -> bool {
+    match read_vector::<u32>(alloc, bytes) {
+        Ok((numbers, rest)) => { numbers.as_slice() == [1u32, 200].as_slice() && rest.is_empty() }
+        Err(_) => false,
+    }
+}
+
+fn read_others(alloc: Global, bytes: &[u8]) -> bool {
+    match read_name(bytes) {
+        Ok((name, rest)) => is_text(name, "f\u{E9}") && read_numbers(alloc, rest),
+        Err(_) => false,
+    }
 }
 
 #[test]
 fn blocks_names_and_vectors_are_written_and_read(rt: HostRuntime) -> Result<(), Fail> {
     let mut bytes = Vec::new(rt.alloc());
-    write_block(&mut bytes, b"\xFF")?;
-    write_name(&mut bytes, "f\u{E9}")?;
-    write_vector(&mut bytes, &[1u32, 200])?;
-    assert_eq!(rt;
-        bytes.as_slice(),
-        b"\x01\xFF\x03f\xC3\xA9\x02\x01\xC8\x01".as_slice()
-    );
-    let (name, rest) = read_name(&bytes.as_slice()[2..])?;
-    assert_eq!(rt; name, "f\u{E9}");
-    let (indices, rest) = read_vector::<u32>(rt.alloc(), rest)?;
-    assert_eq!(rt; indices.as_slice(), [1u32, 200].as_slice());
-    assert!(rt; rest.is_empty());
-    Ok(())
+    demand(
+        write_others(&mut bytes) && are(rt.alloc(), &bytes, "01 FF 03 66 C3 A9 02 01 C8 01"),
+        "written",
+    )?;
+    demand(
+        bytes.len() == 10 && read_others(rt.alloc(), &bytes[2..]),
+        "read",
+    )
 }

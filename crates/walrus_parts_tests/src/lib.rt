@@ -4,6 +4,8 @@
 #[cfg(test)]
 mod base;
 #[cfg(test)]
+mod demands;
+#[cfg(test)]
 mod entries;
 #[cfg(test)]
 mod forms;
@@ -17,3 +19,7 @@ mod parts;
 mod sample;
 #[cfg(test)]
 mod wire;
+#[cfg(test)]
+mod wire_calls;
+#[cfg(test)]
+mod wire_rows;

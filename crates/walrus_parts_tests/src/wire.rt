@@ -1,105 +1,160 @@
 //! Modules of many sections, read, checked and written back.
+
+use crate::demands::{add_bytes, are, demand};
 use std::alloc::Global;
 use std::test::Fail;
-use wasm_wire::{Raw, WireError, Writer, check, read_module};
+use wasm_wire::{Raw, RawCustom, WireError, Writer, check, read_module};
 
-const HEADER: [u8; 8] = *b"\x00asm\x01\x00\x00\x00";
-
-fn module(alloc: Global, sections: &[&[u8]]) -> Result<Vec<u8>, WireError> {
-    let mut bytes = Vec::new(alloc);
-    bytes.extend_from_slice(&HEADER)?;
-    for section in sections {
-        bytes.extend_from_slice(section)?;
-    }
-    Ok(bytes)
+fn write_declarations(writer: &mut Writer, raw: &Raw<'_>) -> bool {
+    writer.header().is_ok()
+        && writer.type_section(&raw.types).is_ok()
+        && writer.import_section(&raw.imports).is_ok()
+        && writer.function_section(&raw.functions).is_ok()
 }
 
-fn rewritten(alloc: Global, raw: &Raw<'_>) -> Result<Vec<u8>, WireError> {
+fn write_definitions(writer: &mut Writer, raw: &Raw<'_>) -> bool {
+    writer.table_section(&raw.tables).is_ok()
+        && writer.memory_section(&raw.memories).is_ok()
+        && writer.tag_section(&raw.tags).is_ok()
+        && writer.global_section(&raw.globals).is_ok()
+        && writer.export_section(&raw.exports).is_ok()
+}
+
+fn write_start(writer: &mut Writer, start: Option<u32>) -> bool {
+    match start {
+        Some(function) => writer.start_section(function).is_ok(),
+        None => true,
+    }
+}
+
+fn write_count(writer: &mut Writer, count: Option<u32>) -> bool {
+    match count {
+        Some(segments) => writer.data_count_section(segments).is_ok(),
+        None => true,
+    }
+}
+
+fn write_customs(writer: &mut Writer, customs: &[RawCustom<'_>]) -> bool {
+    for custom in customs {
+        if writer.custom(custom).is_err() {
+            return false;
+        }
+    }
+    true
+}
+
+fn write_contents(writer: &mut Writer, raw: &Raw<'_>) -> bool {
+    write_start(writer, raw.start)
+        && writer.element_section(&raw.elements).is_ok()
+        && write_count(writer, raw.data_count)
+        && writer.code_section(&raw.bodies).is_ok()
+        && writer.data_section(&raw.data_).is_ok()
+}
+
+/// Whether the records are written as the bytes that the text says, custom sections last.
+pub fn is_written_as(alloc: Global, raw: &Raw<'_>, text: &str) -> bool {
     let mut writer = Writer::new(alloc);
-    writer.header()?;
-    writer.type_section(&raw.types)?;
-    writer.import_section(&raw.imports)?;
-    writer.function_section(&raw.functions)?;
-    writer.table_section(&raw.tables)?;
-    writer.memory_section(&raw.memories)?;
-    writer.tag_section(&raw.tags)?;
-    writer.global_section(&raw.globals)?;
-    writer.export_section(&raw.exports)?;
-    if let Some(function) = raw.start {
-        writer.start_section(function)?;
-    }
-    writer.element_section(&raw.elements)?;
-    if let Some(count) = raw.data_count {
-        writer.data_count_section(count)?;
-    }
-    writer.code_section(&raw.bodies)?;
-    writer.data_section(&raw.data_)?;
-    for custom in raw.customs.iter() {
-        writer.custom(custom)?;
-    }
-    Ok(writer.finish())
+    write_declarations(&mut writer, raw)
+        && write_definitions(&mut writer, raw)
+        && write_contents(&mut writer, raw)
+        && write_customs(&mut writer, &raw.customs)
+        && are(alloc, &writer.finish(), text)
 }
+
+/// What becomes of bytes.
+#[derive(Clone, Copy)]
+pub enum Answer {
+    /// They aren't read.
+    Malformed,
+    /// They are a module that breaks a rule.
+    Refused,
+    /// They are a module that keeps the rules, and is written as these.
+    Written(&'static str),
+}
+
+fn is_checked_so(alloc: Global, raw: &Raw<'_>, answer: Answer) -> bool {
+    match (check(alloc, raw), answer) {
+        (Ok(()), Answer::Written(text)) => is_written_as(alloc, raw, text),
+        (Err(WireError::Malformed), Answer::Refused) => true,
+        _ => false,
+    }
+}
+
+fn is_read_so(alloc: Global, bytes: &[u8], answer: Answer) -> bool {
+    match read_module(alloc, bytes) {
+        Ok(raw) => is_checked_so(alloc, &raw, answer),
+        Err(WireError::Malformed) => matches!(answer, Answer::Malformed),
+        Err(_) => false,
+    }
+}
+
+fn is_answered(alloc: Global, text: &str, answer: Answer) -> bool {
+    let mut bytes = Vec::new(alloc);
+    add_bytes(&mut bytes, text) && is_read_so(alloc, &bytes, answer)
+}
+
+/// Fails a test where not all of these are answered so.
+pub fn each_is_answered(alloc: Global, rows: &[(&str, Answer)]) -> Result<(), Fail> {
+    for (text, answer) in rows {
+        demand(is_answered(alloc, text, *answer), text)?;
+    }
+    Ok(())
+}
+
+/// Fails a test where not all of these are written back as they are.
+pub fn each_stays(alloc: Global, rows: &[&'static str]) -> Result<(), Fail> {
+    for text in rows {
+        demand(is_answered(alloc, text, Answer::Written(text)), text)?;
+    }
+    Ok(())
+}
+
+const MODULES: [&str; 7] = [
+    // two imported functions, of which the second is exported
+    "00 61 73 6D 01 00 00 00 01 04 01 60 00 00 02 0D 02 01 6D 01 61 00 00 01 6D 01 62 00 00 07 05 01 01 66 00 01",
+    // two globals, of which the second reads the first, and is exported
+    "00 61 73 6D 01 00 00 00 06 0B 02 7F 00 41 00 0B 7F 00 23 00 0B 07 05 01 01 67 03 01",
+    // an imported table, and a segment of expressions in it
+    "00 61 73 6D 01 00 00 00 01 04 01 60 00 00 02 09 01 01 6D 01 74 01 70 00 01 03 02 01 00 09 0B 01 06 00 41 00 0B 70 01 D2 00 0B 0A 04 01 02 00 0B",
+    // a table, and a segment of functions in it
+    "00 61 73 6D 01 00 00 00 01 04 01 60 00 00 03 02 01 00 04 04 01 70 00 01 09 07 01 00 41 00 0B 01 00 0A 04 01 02 00 0B",
+    // a memory, and a segment of data in it
+    "00 61 73 6D 01 00 00 00 05 03 01 00 01 0C 01 01 0B 07 01 00 41 00 0B 01 AA",
+    // a start function
+    "00 61 73 6D 01 00 00 00 01 04 01 60 00 00 03 02 01 00 08 01 00 0A 04 01 02 00 0B",
+    // a tag
+    "00 61 73 6D 01 00 00 00 01 08 02 60 00 00 60 01 7F 00 03 02 01 00 0D 03 01 00 01 07 05 01 01 66 00 00 0A 0C 01 0A 00 06 7F 41 00 07 00 0B 1A 0B",
+];
 
 #[test]
 fn modules_are_written_back(rt: HostRuntime) -> Result<(), Fail> {
-    let alloc = rt.alloc();
-    let types = b"\x01\x04\x01\x60\x00\x00".as_slice();
-    let code = b"\x0A\x04\x01\x02\x00\x0B".as_slice();
-    for sections in [
-        [
-            types,
-            b"\x02\x0D\x02\x01m\x01a\x00\x00\x01m\x01b\x00\x00\x07\x05\x01\x01f\x00\x01".as_slice(),
-            b"".as_slice(),
-        ],
-        [
-            b"\x01\x0C\x02\x50\x00\x60\x00\x00\x50\x01\x00\x60\x00\x00".as_slice(),
-            b"\x03\x02\x01\x01\x07\x05\x01\x01f\x00\x00".as_slice(),
-            code,
-        ],
-        [
-            b"\x06\x0B\x02\x7F\x00\x41\x00\x0B\x7F\x00\x23\x00\x0B".as_slice(),
-            b"\x07\x05\x01\x01g\x03\x01".as_slice(),
-            b"".as_slice(),
-        ],
-        [
-            types,
-            b"\x02\x09\x01\x01m\x01t\x01\x70\x00\x01\x03\x02\x01\x00\x09\x0B\x01\x06\x00\x41\x00\x0B\x70\x01\xD2\x00\x0B".as_slice(),
-            code,
-        ],
-        [
-            b"\x05\x03\x01\x00\x01".as_slice(),
-            b"\x0C\x01\x01".as_slice(),
-            b"\x0B\x07\x01\x00\x41\x00\x0B\x01\xAA".as_slice(),
-        ],
-        [types, b"\x03\x02\x01\x00\x08\x01\x00".as_slice(), code],
-        [b"\x00\x01\x00".as_slice(), b"".as_slice(), b"".as_slice()],
-    ] {
-        let bytes = module(alloc, sections.as_slice())?;
-        let raw = read_module(alloc, &bytes)?;
-        check(alloc, &raw)?;
-        assert_eq!(rt; rewritten(alloc, &raw)?.as_slice(), bytes.as_slice());
-    }
-    Ok(())
+    each_stays(rt.alloc(), &MODULES)
 }
+
+const BROKEN: [(&str, Answer); 4] = [
+    // a global that reads a later one
+    (
+        "00 61 73 6D 01 00 00 00 06 0B 02 7F 00 23 01 0B 7F 00 41 00 0B",
+        Answer::Refused,
+    ),
+    // a table whose initialiser reads a global that isn't imported
+    (
+        "00 61 73 6D 01 00 00 00 04 09 01 40 00 70 00 00 23 00 0B 06 06 01 70 00 D0 70 0B",
+        Answer::Refused,
+    ),
+    // an offset of 64 bits into a memory of 32 bits
+    (
+        "00 61 73 6D 01 00 00 00 05 03 01 00 01 0C 01 01 0B 08 01 02 00 42 00 0B 01 AA",
+        Answer::Refused,
+    ),
+    // a constant expression without an operator
+    (
+        "00 61 73 6D 01 00 00 00 06 04 01 7F 00 0B",
+        Answer::Malformed,
+    ),
+];
 
 #[test]
 fn modules_that_break_a_rule_are_refused(rt: HostRuntime) -> Result<(), Fail> {
-    let alloc = rt.alloc();
-    for section in [
-        b"\x06\x0B\x02\x7F\x00\x23\x01\x0B\x7F\x00\x41\x00\x0B".as_slice(),
-        b"\x06\x04\x01\x7F\x00\x0B".as_slice(),
-        b"\x04\x09\x01\x40\x00\x70\x00\x00\x23\x00\x0B\x06\x06\x01\x70\x00\xD0\x70\x0B".as_slice(),
-        b"\x01\x07\x01\x50\x01\x00\x60\x00\x00".as_slice(),
-        b"\x05\x03\x01\x00\x01\x0C\x01\x01\x0B\x08\x01\x02\x00\x42\x00\x0B\x01\xAA".as_slice(),
-        b"\x00\x02\x01\xFF".as_slice(),
-        b"\x0E\x00".as_slice(),
-    ] {
-        let bytes = module(alloc, &[section])?;
-        let passes = match read_module(alloc, &bytes) {
-            Ok(raw) => check(alloc, &raw).is_ok(),
-            Err(_) => false,
-        };
-        assert!(rt; !passes);
-    }
-    Ok(())
+    each_is_answered(rt.alloc(), &BROKEN)
 }

@@ -1,0 +1,5 @@
+pub mod Agree
+pub mod Agreed
+pub mod Found
+pub mod Handing
+pub mod FieldTurns

@@ -1,0 +1,5 @@
+pub mod Fault
+pub mod Names
+pub mod Producers
+pub mod Sink
+pub mod Steps
