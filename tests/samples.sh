@@ -1,6 +1,7 @@
 #!/usr/bin/env bash
 # Copies each module of a folder with the built program, which also reads the copy and compares the records, and copies the
-# copy, which has to stay as it is. Prints a line a file and the counts. No part of the gate.
+# copy, which has to stay as it is. Compares the names that the program lists with those that other tools found (tests/names),
+# first those of the program's stored run. Prints a line a file and the counts. No part of the gate.
 # tests/samples.sh [FOLDER], ../shared/samples where none is given.
 set -eu
 top=$(cd "$(dirname "$0")/.." && pwd)
@@ -20,16 +21,34 @@ is_copied() {
   cmp -s "$1" "$files/copy" && echo "the same bytes" || echo "$(stat -c %s "$files/copy") bytes"
 }
 
-copied=0 all=0
+# Whether the names that the program lists for the module are those of the list, of which there need be none.
+is_listed() {
+  [ -e "$2" ] || { echo "no list"; return 0; }
+  "$program" --names < "$1" > "$files/names" 2> "$files/told" || { echo "names: status $?: $(cat "$files/told")"; return 1; }
+  python3 "$top/tests/expected-names.py" --shorten < "$files/names" > "$files/short"
+  cmp -s "$files/short" "$2" || { echo "other names"; return 1; }
+  echo "$(wc -l < "$files/names") names"
+}
+
+if told=$(is_listed "$top/crates/wasm_copy/stdin" "$top/tests/names/every.txt"); then
+  echo "the stored run: $told"
+else
+  echo "the stored run: FAILED: $told" && exit 1
+fi
+
+copied=0 listed=0 all=0
 for module in "$folder"/*.wasm; do
   [ -e "$module" ] || continue
-  all=$((all + 1))
+  all=$((all + 1)) word=FAILED
   if told=$(is_copied "$module"); then
     copied=$((copied + 1)) word=copied
+  fi
+  if names=$(is_listed "$module" "$top/tests/names/$(basename "$module" .wasm).txt"); then
+    listed=$((listed + 1))
   else
     word=FAILED
   fi
-  printf '%-7s %8s bytes as %-15s %s\n' "$word" "$(stat -c %s "$module")" "$told" "$(basename "$module")"
+  printf '%-7s %8s bytes as %-15s %-12s %s\n' "$word" "$(stat -c %s "$module")" "$told" "$names" "$(basename "$module")"
 done
-echo "$copied of $all modules are copied"
-[ "$copied" = "$all" ]
+echo "$copied of $all modules are copied, of $listed the names are listed as they are"
+[ "$copied" = "$all" ] && [ "$listed" = "$all" ]

@@ -1,62 +1,102 @@
 //! Functions and exports.
-use std::alloc::Global;
-use walrus_base::{ImportKey, TombstoneArena, TypeId, TypeKey};
+
+use crate::base::some_id;
+use crate::demands::{demand, is_text};
+use std::alloc::{AllocError, Global};
+use std::test::Fail;
+use walrus_base::FunctionId;
 use walrus_ir::LocalFunction;
 use walrus_items::{ExportItem, ModuleExports, ModuleFunctions};
-use walrus_parts::{Error, Result};
+use walrus_parts::Error;
 
-fn some_type(alloc: Global) -> Result<TypeId> {
-    let mut types: TombstoneArena<TypeKey, u8> = TombstoneArena::new(alloc);
-    Ok(types.alloc(7)?)
-}
-
-fn named_function(alloc: Global, ty: TypeId, name: &str) -> Result<LocalFunction> {
-    let mut local = LocalFunction::new(alloc, ty, Vec::new(alloc), Vec::new(alloc));
+fn named_function(alloc: Global, name: &str) -> Result<LocalFunction, AllocError> {
+    let mut local = LocalFunction::new(alloc, some_id(alloc), Vec::new(alloc), Vec::new(alloc));
     local.name = Some(String::from_str(alloc, name)?);
     Ok(local)
 }
 
-#[test]
-fn functions_of_each_kind(rt: HostRuntime) -> Result<()> {
-    let alloc = rt.alloc();
-    let ty = some_type(alloc)?;
-    let mut imports: TombstoneArena<ImportKey, u8> = TombstoneArena::new(alloc);
-    let import = imports.alloc(7)?;
-    let mut functions = ModuleFunctions::new(alloc)?;
-    functions.reserve(2)?;
-    let imported = functions.add_import(ty, import)?;
-    let local = functions.add_local(named_function(alloc, ty, "f")?)?;
-    assert_eq!(rt; functions.len(), 2);
-    assert!(rt; imported != local);
-    assert!(rt; functions.by_name("f") == Some(local));
-    assert!(rt; functions.by_name("g") == None);
-    assert_eq!(rt; functions.iter_local().count(), 1);
-    assert_eq!(rt; functions.iter().count(), 2);
-    assert_eq!(rt; functions.iter_entries().count(), 2);
-    Ok(())
+fn add_f(alloc: Global, functions: &mut ModuleFunctions) -> Option<FunctionId> {
+    let Ok(local) = named_function(alloc, "f") else {
+        return None;
+    };
+    functions.add_local(local).ok()
+}
+
+fn are_counted(functions: &ModuleFunctions) -> bool {
+    functions.len() == 2
+        && functions.iter_local().take(3).count() == 1
+        && functions.iter().take(3).count() == 2
+        && functions.iter_entries().take(3).count() == 2
+}
+
+fn is_called_f(functions: &ModuleFunctions, function: FunctionId) -> bool {
+    functions.by_name("f") == Some(function) && functions.by_name("g") == None
+}
+
+fn has_both(functions: &ModuleFunctions, imported: FunctionId, local: FunctionId) -> bool {
+    imported != local && is_called_f(functions, local) && are_counted(functions)
+}
+
+fn takes_both(alloc: Global, functions: &mut ModuleFunctions) -> bool {
+    let Ok(imported) = functions.add_import(some_id(alloc), some_id(alloc)) else {
+        return false;
+    };
+    match add_f(alloc, functions) {
+        Some(local) => has_both(functions, imported, local),
+        None => false,
+    }
 }
 
 #[test]
-fn exports_by_name_and_function(rt: HostRuntime) -> Result<()> {
-    let alloc = rt.alloc();
-    let ty = some_type(alloc)?;
-    let mut functions = ModuleFunctions::new(alloc)?;
-    let function = functions.add_local(named_function(alloc, ty, "f")?)?;
-    let mut exports = ModuleExports::new(alloc);
-    exports.reserve(2)?;
-    exports.add("a", ExportItem::Function(function))?;
-    exports.add("b", function.into())?;
-    assert!(rt; matches!(exports.get_func("b"), Ok(_)));
-    assert!(rt; matches!(exports.get_func("c"), Err(Error::NotFound)));
-    if let Some(export) = exports.get_exported_func(function) {
-        let copy = export.try_clone()?;
-        assert!(rt; copy.name.as_str() == "a");
-        assert!(rt; copy.id() == export.id());
+fn functions_of_each_kind(rt: HostRuntime) -> Result<(), Fail> {
+    let mut functions = ModuleFunctions::new(rt.alloc())?;
+    demand(
+        functions.reserve(2).is_ok() && takes_both(rt.alloc(), &mut functions),
+        "two functions",
+    )
+}
+
+fn export_twice(exports: &mut ModuleExports, function: FunctionId) -> bool {
+    exports.reserve(2).is_ok()
+        && exports.add("a", ExportItem::Function(function)).is_ok()
+        && exports.add("b", function.into()).is_ok()
+}
+
+fn finds_b_alone(exports: &ModuleExports) -> bool {
+    exports.get_func("b").is_ok() && matches!(exports.get_func("c"), Err(Error::NotFound))
+}
+
+// Whether the function's first export is `a`, and is cloned as it is.
+fn finds_a(exports: &ModuleExports, function: FunctionId) -> bool {
+    let Some(export) = exports.get_exported_func(function) else {
+        return false;
+    };
+    match export.try_clone() {
+        Ok(copy) => is_text(&copy.name, "a") && copy.id() == export.id(),
+        Err(_) => false,
     }
-    exports.remove("a")?;
-    assert!(rt; matches!(exports.remove("a"), Err(Error::NotFound)));
-    assert_eq!(rt; exports.len(), 1);
-    assert_eq!(rt; exports.iter().count(), 1);
-    assert_eq!(rt; exports.iter_entries().count(), 1);
-    Ok(())
+}
+
+fn loses_a(exports: &mut ModuleExports) -> bool {
+    exports.remove("a").is_ok() && matches!(exports.remove("a"), Err(Error::NotFound))
+}
+
+fn has_one(exports: &ModuleExports) -> bool {
+    exports.len() == 1
+        && exports.iter().take(3).count() == 1
+        && exports.iter_entries().take(3).count() == 1
+}
+
+fn are_kept(exports: &mut ModuleExports, function: FunctionId) -> bool {
+    export_twice(exports, function)
+        && finds_b_alone(exports)
+        && finds_a(exports, function)
+        && loses_a(exports)
+        && has_one(exports)
+}
+
+#[test]
+fn exports_by_name_and_function(rt: HostRuntime) -> Result<(), Fail> {
+    let mut exports = ModuleExports::new(rt.alloc());
+    demand(are_kept(&mut exports, some_id(rt.alloc())), "two exports")
 }

@@ -3,8 +3,7 @@
 
 #[cfg(test)]
 mod base;
-#[cfg(test)]
-mod demands;
+pub mod demands;
 #[cfg(test)]
 mod entries;
 #[cfg(test)]
@@ -14,9 +13,17 @@ mod ir;
 #[cfg(test)]
 mod items;
 #[cfg(test)]
+mod measures;
+#[cfg(test)]
+mod names;
+#[cfg(test)]
 mod parts;
 #[cfg(test)]
+mod producers;
+#[cfg(test)]
 mod sample;
+#[cfg(test)]
+mod told;
 #[cfg(test)]
 mod wire;
 #[cfg(test)]

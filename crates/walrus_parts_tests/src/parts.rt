@@ -1,107 +1,188 @@
 //! Errors and their texts, roots, and custom sections.
+
+use crate::base::some_id;
+use crate::demands::{add_bytes, are, demand, is_text};
+use crate::ir::index_of_function;
 use crate::sample::Sample;
 use std::alloc::{AllocError, Global};
-use walrus_base::{FunctionId, FunctionKey, TombstoneArena};
-use walrus_ir::IdsToIndices;
-use walrus_parts::{CustomSection, Error, ErrorKind, RawCustomSection, Result, Roots};
+use std::test::Fail;
+use walrus_ir::{FunctionId, IdsToIndices};
+use walrus_parts::{CustomSection, Error, ErrorKind, RawCustomSection, Roots};
 
-#[test]
-fn each_error_has_its_text(rt: HostRuntime) -> Result<()> {
-    let alloc = rt.alloc();
-    for (error, text) in [
-        (Error::Memory(AllocError), "out of memory"),
-        (
-            Error::InvalidWasm(ErrorKind::InvalidWasm),
-            "The input WebAssembly is invalid",
-        ),
-        (Error::DeadItem, "reference to an item that is not live"),
-        (Error::NoIndex, "an item has no index"),
-        (Error::TwoIndices, "an item has two indices"),
-        (Error::TooLarge, "a count or size passes 32 bits"),
-        (Error::NotWritable, "a form that cannot be written"),
-        (Error::NotFound, "not found"),
-        (Error::SeveralMemories, "multiple memories unsupported"),
-        (Error::NoMemory, "module does not export a memory"),
-        (
+fn says(alloc: Global, error: Error, text: &str) -> bool {
+    match error.to_string(alloc) {
+        Ok(shown) => is_text(&shown, text),
+        Err(_) => false,
+    }
+}
+
+fn kind_says(alloc: Global, kind: ErrorKind, text: &str) -> bool {
+    match kind.to_string(alloc) {
+        Ok(shown) => is_text(&shown, text),
+        Err(_) => false,
+    }
+}
+
+fn invalid_has_its_text(alloc: Global) -> bool {
+    let text = "The input WebAssembly is invalid";
+    says(alloc, Error::InvalidWasm(ErrorKind::InvalidWasm), text)
+        && kind_says(alloc, ErrorKind::InvalidWasm, text)
+}
+
+fn items_have_their_texts(alloc: Global) -> bool {
+    says(
+        alloc,
+        Error::DeadItem,
+        "reference to an item that is not live",
+    ) && says(alloc, Error::NoIndex, "an item has no index")
+        && says(alloc, Error::TwoIndices, "an item has two indices")
+        && says(alloc, Error::NotFound, "not found")
+}
+
+fn sizes_have_their_texts(alloc: Global) -> bool {
+    says(alloc, Error::Memory(AllocError), "out of memory")
+        && says(alloc, Error::TooLarge, "a count or size passes 32 bits")
+        && says(alloc, Error::NotWritable, "a form that cannot be written")
+}
+
+fn memories_and_tables_have_their_texts(alloc: Global) -> bool {
+    says(
+        alloc,
+        Error::SeveralMemories,
+        "multiple memories unsupported",
+    ) && says(alloc, Error::NoMemory, "module does not export a memory")
+        && says(
+            alloc,
             Error::SeveralFunctionTables,
             "module contains more than one function table",
-        ),
-        (Error::NotExported, "no exported function with this id"),
-        (Error::NotImported, "no imported function with this id"),
-        (Error::NotReplaceable, "cannot replace function"),
-        (
-            Error::Caller(String::from_str(alloc, "a text of its own")?),
-            "a text of its own",
-        ),
-    ] {
-        let shown = error.to_string(alloc)?;
-        assert_eq!(rt; shown.as_str(), text);
-    }
-    let shown = ErrorKind::InvalidWasm.to_string(alloc)?;
-    assert_eq!(rt; shown.as_str(), "The input WebAssembly is invalid");
-    Ok(())
+        )
 }
 
-fn some_function(alloc: Global) -> Result<FunctionId> {
-    let mut functions: TombstoneArena<FunctionKey, u8> = TombstoneArena::new(alloc);
-    Ok(functions.alloc(7)?)
+fn functions_have_their_texts(alloc: Global) -> bool {
+    says(
+        alloc,
+        Error::NotExported,
+        "no exported function with this id",
+    ) && says(
+        alloc,
+        Error::NotImported,
+        "no imported function with this id",
+    ) && says(alloc, Error::NotReplaceable, "cannot replace function")
+}
+
+fn caller_has_its_text(alloc: Global) -> bool {
+    match String::from_str(alloc, "a text of its own") {
+        Ok(text) => says(alloc, Error::Caller(text), "a text of its own"),
+        Err(_) => false,
+    }
 }
 
 #[test]
-fn a_section_of_a_caller(rt: HostRuntime) -> Result<()> {
+fn each_error_has_its_text(rt: HostRuntime) -> Result<(), Fail> {
+    demand(invalid_has_its_text(rt.alloc()), "invalid")?;
+    demand(items_have_their_texts(rt.alloc()), "items")?;
+    demand(sizes_have_their_texts(rt.alloc()), "sizes")?;
+    demand(
+        memories_and_tables_have_their_texts(rt.alloc()),
+        "memories and tables",
+    )?;
+    demand(functions_have_their_texts(rt.alloc()), "functions")?;
+    demand(caller_has_its_text(rt.alloc()), "a caller's")
+}
+
+fn asks_for(section: &Sample, roots: &mut Roots, function: FunctionId) -> bool {
+    section.add_gc_roots(roots).is_ok() && matches!(roots.funcs(), [id] if *id == function)
+}
+
+fn refuses_without_an_index(alloc: Global, section: &Sample) -> bool {
+    matches!(
+        section.data(&IdsToIndices::new(alloc)),
+        Err(Error::Caller(_))
+    )
+}
+
+fn gives(alloc: Global, section: &Sample, indices: &IdsToIndices) -> bool {
+    match section.data(indices) {
+        Ok(bytes) => are(alloc, &bytes, "00"),
+        Err(_) => false,
+    }
+}
+
+fn gives_the_index(alloc: Global, section: &Sample) -> bool {
+    match index_of_function(alloc, section.function) {
+        Ok(indices) => gives(alloc, section, &indices),
+        Err(_) => false,
+    }
+}
+
+#[test]
+fn a_section_of_a_caller(rt: HostRuntime) -> Result<(), Fail> {
     let alloc = rt.alloc();
-    let function = some_function(alloc)?;
+    let function = some_id(alloc);
     let section = Sample { alloc, function };
     let mut roots = Roots::new(alloc);
-    section.add_gc_roots(&mut roots)?;
-    assert!(rt; roots.funcs() == [function].as_slice());
-    assert!(rt; section.name() == "s");
-    let mut indices = IdsToIndices::new(alloc);
-    assert!(rt; matches!(section.data(&indices), Err(Error::Caller(_))));
-    indices.push_func(function)?;
-    let bytes = section.data(&indices)?;
-    assert!(rt; bytes.as_slice() == b"\0".as_slice());
-    Ok(())
+    demand(
+        asks_for(&section, &mut roots, function) && is_text(section.name(), "s"),
+        "its function and its name",
+    )?;
+    demand(
+        refuses_without_an_index(alloc, &section) && gives_the_index(alloc, &section),
+        "its data",
+    )
 }
 
-#[test]
-fn roots_of_each_kind(rt: HostRuntime) -> Result<()> {
-    let alloc = rt.alloc();
-    let function = some_function(alloc)?;
-    let mut tables = TombstoneArena::new(alloc);
-    let table = tables.alloc(7u8)?;
-    let mut memories = TombstoneArena::new(alloc);
-    let memory = memories.alloc(7u8)?;
-    let mut globals = TombstoneArena::new(alloc);
-    let global = globals.alloc(7u8)?;
-    let mut tags = TombstoneArena::new(alloc);
-    let tag = tags.alloc(7u8)?;
-    let mut roots = Roots::new(alloc);
+fn ask_for_each(alloc: Global, roots: &mut Roots) -> Result<(), Error> {
     roots
-        .push_func(function)?
-        .push_table(table)?
-        .push_memory(memory)?
-        .push_global(global)?
-        .push_tag(tag)?
-        .push_func(function)?;
-    assert_eq!(rt; roots.funcs().len(), 2);
-    assert!(rt; roots.tables() == [table].as_slice());
-    assert!(rt; roots.memories() == [memory].as_slice());
-    assert!(rt; roots.globals() == [global].as_slice());
-    assert!(rt; roots.tags() == [tag].as_slice());
+        .push_func(some_id(alloc))?
+        .push_table(some_id(alloc))?
+        .push_memory(some_id(alloc))?
+        .push_global(some_id(alloc))?
+        .push_tag(some_id(alloc))?
+        .push_func(some_id(alloc))?;
     Ok(())
 }
 
+fn has_first_items(alloc: Global, roots: &Roots) -> bool {
+    matches!(roots.tables(), [table] if *table == some_id(alloc))
+        && matches!(roots.memories(), [memory] if *memory == some_id(alloc))
+        && matches!(roots.globals(), [global] if *global == some_id(alloc))
+        && matches!(roots.tags(), [tag] if *tag == some_id(alloc))
+}
+
 #[test]
-fn a_raw_section(rt: HostRuntime) -> Result<()> {
-    let alloc = rt.alloc();
-    let section = RawCustomSection {
-        name: String::from_str(alloc, "a")?,
-        data_: Vec::from_slice(alloc, b"\x01\x02")?,
+fn roots_of_each_kind(rt: HostRuntime) -> Result<(), Fail> {
+    let mut roots = Roots::new(rt.alloc());
+    let are_taken = ask_for_each(rt.alloc(), &mut roots).is_ok();
+    demand(
+        are_taken && roots.funcs().len() == 2 && has_first_items(rt.alloc(), &roots),
+        "six items",
+    )
+}
+
+fn is_cloned(section: &RawCustomSection) -> bool {
+    match section.try_clone() {
+        Ok(copy) => copy == *section,
+        Err(_) => false,
+    }
+}
+
+fn gives_its_bytes(alloc: Global, section: &RawCustomSection) -> bool {
+    match section.data(&IdsToIndices::new(alloc)) {
+        Ok(bytes) => are(alloc, &bytes, "01 02"),
+        Err(_) => false,
+    }
+}
+
+#[test]
+fn a_raw_section(rt: HostRuntime) -> Result<(), Fail> {
+    let mut section = RawCustomSection {
+        name: String::from_str(rt.alloc(), "a")?,
+        data_: Vec::new(rt.alloc()),
     };
-    let copy = section.try_clone()?;
-    assert!(rt; copy == section);
-    let bytes = section.data(&IdsToIndices::new(alloc))?;
-    assert!(rt; bytes.as_slice() == b"\x01\x02".as_slice());
-    Ok(())
+    demand(
+        add_bytes(&mut section.data_, "01 02")
+            && is_cloned(&section)
+            && gives_its_bytes(rt.alloc(), &section),
+        "two bytes",
+    )
 }

@@ -1,45 +1,70 @@
 //! The words of the program, its statuses and its messages.
 
-use crate::devices::run;
+use crate::devices::{add_words, passed, refused, run};
+use std::alloc::Global;
 use std::test::Fail;
+use walrus_parts_tests::demands::{add_bytes, demand};
 
-const EMPTY: [u8; 8] = [0x00, 0x61, 0x73, 0x6D, 0x01, 0x00, 0x00, 0x00];
+const EMPTY: &str = "00 61 73 6D 01 00 00 00";
+
+fn pass(alloc: Global, words: &[String]) -> bool {
+    let mut bytes = Vec::new(alloc);
+    add_bytes(&mut bytes, EMPTY) && passed(alloc, &run(alloc, words, &bytes), EMPTY)
+}
+
+fn text_passes(alloc: Global, text: &str) -> bool {
+    let mut words = Vec::new(alloc);
+    add_words(alloc, &mut words, text) && pass(alloc, &words)
+}
+
+const KNOWN: [&str; 3] = [
+    "--no-names",
+    "--no-legacy,--no-names,--no-producers",
+    "--no-producers,--no-producers",
+];
+
+fn each_passes(alloc: Global, rows: &[&str]) -> Result<(), Fail> {
+    for text in rows {
+        demand(text_passes(alloc, text), text)?;
+    }
+    Ok(())
+}
 
 #[test]
 fn known_words(rt: HostRuntime) -> Result<(), Fail> {
-    let alloc = rt.alloc();
-    for words in [
-        &[][..],
-        &["--no-names"][..],
-        &["--no-legacy", "--no-names", "--no-producers"][..],
-        &["--no-producers", "--no-producers"][..],
-    ] {
-        let answer = run(alloc, words, &EMPTY)?;
-        assert_eq!(rt; answer.status, 0);
-        assert_eq!(rt; answer.output.as_slice(), EMPTY.as_slice());
-        assert_eq!(rt; answer.errors.len(), 0);
+    demand(pass(rt.alloc(), &[]), "no words")?;
+    each_passes(rt.alloc(), &KNOWN)
+}
+
+fn are_unknown(alloc: Global, words: &[String]) -> bool {
+    let mut bytes = Vec::new(alloc);
+    add_bytes(&mut bytes, EMPTY)
+        && refused(&run(alloc, words, &bytes), 2, "walrus-gc: unknown word\n")
+}
+
+fn is_text_unknown(alloc: Global, text: &str) -> bool {
+    let mut words = Vec::new(alloc);
+    add_words(alloc, &mut words, text) && are_unknown(alloc, &words)
+}
+
+const UNKNOWN: [&str; 6] = [
+    // one empty word
+    "",
+    "--no-name",
+    "--No-names",
+    "--no-names ",
+    "--no-names=1",
+    "--no-legacy,x",
+];
+
+fn each_is_unknown(alloc: Global, rows: &[&str]) -> Result<(), Fail> {
+    for text in rows {
+        demand(is_text_unknown(alloc, text), text)?;
     }
     Ok(())
 }
 
 #[test]
 fn unknown_words(rt: HostRuntime) -> Result<(), Fail> {
-    let alloc = rt.alloc();
-    for words in [
-        &[""][..],
-        &["--no-name"][..],
-        &["--No-names"][..],
-        &["--no-names "][..],
-        &["--no-names=1"][..],
-        &["--no-legacy", "x"][..],
-    ] {
-        let answer = run(alloc, words, &EMPTY)?;
-        assert_eq!(rt; answer.status, 2);
-        assert_eq!(rt; answer.output.len(), 0);
-        assert_eq!(rt;
-            answer.errors.as_slice(),
-            b"walrus-gc: unknown word\n".as_slice()
-        );
-    }
-    Ok(())
+    each_is_unknown(rt.alloc(), &UNKNOWN)
 }

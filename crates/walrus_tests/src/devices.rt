@@ -1,10 +1,10 @@
 //! What the tests run the program on.
 
-use std::alloc::{AllocError, Global};
+use std::alloc::Global;
 use std::io;
 use std::io::{Read, Write};
-use walrus::tool;
-use walrus::tool::{FromRead, FromWrite};
+use walrus::tool::{FromRead, FromWrite, command};
+use walrus_parts_tests::demands::are;
 
 /// What a run of the program answered and wrote.
 #[derive(Drop)]
@@ -15,48 +15,53 @@ pub struct Outcome {
 }
 
 /// Runs the program on these words and these bytes.
-pub fn run(alloc: Global, words: &[&str], input: &[u8]) -> Result<Outcome, AllocError> {
-    let mut texts = Vec::new(alloc);
-    for word in words {
-        texts.push(String::from_str(alloc, word)?)?;
-    }
+pub fn run(alloc: Global, words: &[String], input: &[u8]) -> Outcome {
     let mut output = Vec::new(alloc);
     let mut errors = Vec::new(alloc);
-    let mut source = FromRead::new(input);
-    let mut sink = FromWrite::new(&mut output);
-    let mut complaints = FromWrite::new(&mut errors);
-    let status = tool::command(alloc, &texts, &mut source, &mut sink, &mut complaints);
-    Ok(Outcome {
+    let status = command(
+        alloc,
+        words,
+        &mut FromRead::new(input),
+        &mut FromWrite::new(&mut output),
+        &mut FromWrite::new(&mut errors),
+    );
+    Outcome {
         status,
         output,
         errors,
-    })
-}
-
-fn digit(byte: u8) -> Option<u8> {
-    match byte {
-        b'0'..=b'9' => Some(byte - b'0'),
-        b'A'..=b'F' => Some(byte - b'A' + 10),
-        _ => None,
     }
 }
 
-/// The bytes that a text of two hexadecimal digits each and spaces says.
-pub fn bytes_of(alloc: Global, text: &str) -> Result<Vec<u8>, AllocError> {
-    let mut bytes = Vec::new(alloc);
-    let mut high = None;
-    for byte in text.as_bytes() {
-        if let Some(value) = digit(*byte) {
-            match high {
-                None => high = Some(value),
-                Some(first) => {
-                    bytes.push((first & 15) * 16 + (value & 15))?;
-                    high = None;
-                }
-            }
+/// Whether a run ended with this status and told this.
+pub fn ended(outcome: &Outcome, status: u8, told: &str) -> bool {
+    outcome.status == status && outcome.errors.as_slice() == told.as_bytes()
+}
+
+/// Whether a run told nothing and wrote the bytes that the text says.
+pub fn passed(alloc: Global, outcome: &Outcome, text: &str) -> bool {
+    ended(outcome, 0, "") && are(alloc, &outcome.output, text)
+}
+
+/// Whether a run ended with this status, told this and wrote nothing.
+pub fn refused(outcome: &Outcome, status: u8, told: &str) -> bool {
+    ended(outcome, status, told) && outcome.output.is_empty()
+}
+
+fn add_word(alloc: Global, words: &mut Vec<String>, word: &str) -> bool {
+    match String::from_str(alloc, word) {
+        Ok(text) => words.push(text).is_ok(),
+        Err(_) => false,
+    }
+}
+
+/// Whether memory suffices for the words of the text, with a comma between them.
+pub fn add_words(alloc: Global, words: &mut Vec<String>, text: &str) -> bool {
+    for word in text.split(',') {
+        if !add_word(alloc, words, word) {
+            return false;
         }
     }
-    Ok(bytes)
+    true
 }
 
 /// A reader that gives these bytes one at a time, and then fails or ends.
@@ -86,6 +91,17 @@ pub struct Narrow {
     pub taken: Vec<u8>,
     pub room: usize,
     pub fails: bool,
+}
+
+impl Narrow {
+    /// Nothing is taken yet.
+    pub fn new(alloc: Global, room: usize, fails: bool) -> Narrow {
+        Narrow {
+            taken: Vec::new(alloc),
+            room,
+            fails,
+        }
+    }
 }
 
 impl Write for Narrow {

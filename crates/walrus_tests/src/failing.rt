@@ -1,9 +1,10 @@
 //! Devices that fail in mid-stream.
 
-use crate::devices::{Narrow, Outcome, Trickle, bytes_of};
-use std::alloc::{AllocError, Global};
+use crate::devices::{Narrow, Outcome, Trickle, ended, refused};
+use std::alloc::Global;
 use std::test::Fail;
 use walrus::tool::{FromRead, FromWrite, command};
+use walrus_parts_tests::demands::{add_bytes, are, demand};
 
 // Two empty functions, of which the second is exported, and what comes of them.
 const INPUT: &str =
@@ -12,113 +13,126 @@ const INPUT: &str =
 const OUTPUT: &str =
     "00 61 73 6D 01 00 00 00 01 04 01 60 00 00 03 02 01 00 07 05 01 01 66 00 00 0A 04 01 02 00 0B";
 
-#[test]
-fn a_read_that_fails(rt: HostRuntime) -> Result<(), Fail> {
-    let alloc = rt.alloc();
-    let whole = bytes_of(alloc, INPUT)?;
-    for length in 0..whole.len() {
-        let mut output = Vec::new(alloc);
-        let mut errors = Vec::new(alloc);
-        let status = command(
-            alloc,
-            &[],
-            &mut FromRead::new(Trickle {
-                left: &whole[..length],
-                fails: true,
-            }),
-            &mut FromWrite::new(&mut output),
-            &mut FromWrite::new(&mut errors),
-        );
-        assert_eq!(rt; status, 1);
-        assert_eq!(rt; output.len(), 0);
-        assert_eq!(rt; errors.as_slice(), b"walrus-gc: read failed\n".as_slice());
+// What a run answers and writes, whose source fails behind these bytes.
+fn run_on_failing(alloc: Global, left: &[u8]) -> Outcome {
+    let mut output = Vec::new(alloc);
+    let mut errors = Vec::new(alloc);
+    let status = command(
+        alloc,
+        &[],
+        &mut FromRead::new(Trickle { left, fails: true }),
+        &mut FromWrite::new(&mut output),
+        &mut FromWrite::new(&mut errors),
+    );
+    Outcome {
+        status,
+        output,
+        errors,
     }
-    Ok(())
 }
 
-// What a run answers and writes, where the sink has this much room.
-fn narrow(alloc: Global, room: usize, fails: bool) -> Result<Outcome, AllocError> {
-    let input = bytes_of(alloc, INPUT)?;
-    let mut output = Narrow {
-        taken: Vec::new(alloc),
-        room,
-        fails,
-    };
+fn is_read_refused(alloc: Global, left: &[u8]) -> bool {
+    refused(&run_on_failing(alloc, left), 1, "walrus-gc: read failed\n")
+}
+
+fn each_read_is_refused(alloc: Global, whole: &[u8]) -> bool {
+    for length in 0..whole.len() {
+        let (front, _) = whole.split_at(length);
+        if !is_read_refused(alloc, front) {
+            return false;
+        }
+    }
+    true
+}
+
+#[test]
+fn a_read_that_fails(rt: HostRuntime) -> Result<(), Fail> {
+    let mut whole = Vec::new(rt.alloc());
+    demand(
+        add_bytes(&mut whole, INPUT) && each_read_is_refused(rt.alloc(), &whole),
+        "reads that fail",
+    )
+}
+
+// What a run answers and writes, whose sink has this much room.
+fn run_into_narrow(alloc: Global, input: &[u8], room: usize, fails: bool) -> Outcome {
+    let mut output = Narrow::new(alloc, room, fails);
     let mut errors = Vec::new(alloc);
     let status = command(
         alloc,
         &[],
         &mut FromRead::new(Trickle {
-            left: &input,
+            left: input,
             fails: false,
         }),
         &mut FromWrite::new(&mut output),
         &mut FromWrite::new(&mut errors),
     );
-    Ok(Outcome {
+    Outcome {
         status,
         output: output.taken,
         errors,
-    })
+    }
+}
+
+fn is_cut_off(outcome: &Outcome, front: &[u8]) -> bool {
+    ended(outcome, 1, "walrus-gc: write failed\n") && outcome.output.as_slice() == front
+}
+
+// Whether so much is written, where the sink then fails and where it then takes nothing.
+fn is_front_written(alloc: Global, input: &[u8], front: &[u8]) -> bool {
+    is_cut_off(&run_into_narrow(alloc, input, front.len(), true), front)
+        && is_cut_off(&run_into_narrow(alloc, input, front.len(), false), front)
+}
+
+fn each_front_is_written(alloc: Global, input: &[u8], whole: &[u8]) -> bool {
+    for room in 0..whole.len() {
+        let (front, _) = whole.split_at(room);
+        if !is_front_written(alloc, input, front) {
+            return false;
+        }
+    }
+    true
 }
 
 #[test]
 fn a_write_that_fails(rt: HostRuntime) -> Result<(), Fail> {
-    let alloc = rt.alloc();
-    let whole = bytes_of(alloc, OUTPUT)?;
-    for room in 0..whole.len() {
-        for fails in [true, false] {
-            let answer = narrow(alloc, room, fails)?;
-            assert_eq!(rt; answer.status, 1);
-            assert_eq!(rt; answer.output.as_slice(), &whole[..room]);
-            assert_eq!(rt;
-                answer.errors.as_slice(),
-                b"walrus-gc: write failed\n".as_slice()
-            );
-        }
-    }
-    Ok(())
+    let mut input = Vec::new(rt.alloc());
+    let mut whole = Vec::new(rt.alloc());
+    demand(
+        add_bytes(&mut input, INPUT)
+            && add_bytes(&mut whole, OUTPUT)
+            && each_front_is_written(rt.alloc(), &input, &whole),
+        "writes that fail",
+    )
+}
+
+// The status of a run that can't tell anything.
+fn untold_status(alloc: Global, input: &[u8], fails: bool, output: &mut Narrow) -> u8 {
+    let mut errors = Narrow::new(alloc, 0, true);
+    command(
+        alloc,
+        &[],
+        &mut FromRead::new(Trickle { left: input, fails }),
+        &mut FromWrite::new(output),
+        &mut FromWrite::new(&mut errors),
+    )
+}
+
+// Whether a run writes the output, and a second one, whose refusal can't be told, has the same status and writes nothing.
+fn writes_once(alloc: Global, input: &[u8]) -> bool {
+    let mut output = Narrow::new(alloc, 1000, true);
+    untold_status(alloc, input, false, &mut output) == 0
+        && are(alloc, &output.taken, OUTPUT)
+        && untold_status(alloc, input, true, &mut output) == 1
+        && are(alloc, &output.taken, OUTPUT)
 }
 
 #[test]
 fn one_byte_at_a_time(rt: HostRuntime) -> Result<(), Fail> {
-    let alloc = rt.alloc();
-    let input = bytes_of(alloc, INPUT)?;
-    let whole = bytes_of(alloc, OUTPUT)?;
-    let mut output = Narrow {
-        taken: Vec::new(alloc),
-        room: 1000,
-        fails: true,
-    };
-    let mut errors = Narrow {
-        taken: Vec::new(alloc),
-        room: 0,
-        fails: true,
-    };
-    let status = command(
-        alloc,
-        &[],
-        &mut FromRead::new(Trickle {
-            left: &input,
-            fails: false,
-        }),
-        &mut FromWrite::new(&mut output),
-        &mut FromWrite::new(&mut errors),
-    );
-    assert_eq!(rt; status, 0);
-    assert_eq!(rt; output.taken.as_slice(), whole.as_slice());
-    // a refusal that can't be told has the same status
-    let status = command(
-        alloc,
-        &[],
-        &mut FromRead::new(Trickle {
-            left: &input,
-            fails: true,
-        }),
-        &mut FromWrite::new(&mut output),
-        &mut FromWrite::new(&mut errors),
-    );
-    assert_eq!(rt; status, 1);
-    assert_eq!(rt; output.taken.as_slice(), whole.as_slice());
-    Ok(())
+    let mut input = Vec::new(rt.alloc());
+    demand(
+        add_bytes(&mut input, INPUT) && writes_once(rt.alloc(), &input),
+        "one byte at a time",
+    )
 }

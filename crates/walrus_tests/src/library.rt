@@ -1,9 +1,10 @@
 //! The library as its users call it.
 
-use crate::devices::bytes_of;
+use std::alloc::Global;
 use std::test::Fail;
 use walrus::passes::{Used, gc};
-use walrus::{Module, ModuleConfig};
+use walrus::{Error, FunctionId, Module, ModuleConfig};
+use walrus_parts_tests::demands::{add_bytes, are, demand, is_text};
 
 // Two empty functions, of which the second is exported, and what comes of them.
 const INPUT: &str =
@@ -16,52 +17,119 @@ const OUTPUT: &str =
 const TWO_TYPES: &str =
     "00 61 73 6D 01 00 00 00 01 07 02 60 00 00 60 00 00 03 03 02 00 01 07 09 02 01 61 00 00 01 62 00 01 0A 07 02 02 00 0B 02 00 0B";
 
+fn is_output(alloc: Global, output: Result<Vec<u8>, Error>, text: &str) -> bool {
+    match output {
+        Ok(bytes) => are(alloc, &bytes, text),
+        Err(_) => false,
+    }
+}
+
+fn is_used(alloc: Global, module: &Module, function: FunctionId) -> bool {
+    match Used::new(alloc, module) {
+        Ok(used) => used.funcs.contains(function),
+        Err(_) => false,
+    }
+}
+
+fn has_alone(module: &Module, function: FunctionId) -> bool {
+    module.funcs.len() == 1 && module.funcs.contains(function)
+}
+
+// Whether the module is written as it was read, and, once the other function is dropped, twice as the same.
+fn drops_the_other(alloc: Global, bytes: &[u8], config: &ModuleConfig) -> bool {
+    let Ok(mut module) = Module::from_buffer_with_config(alloc, bytes, config) else {
+        return false;
+    };
+    let Ok(exported) = module.exports.get_func("f") else {
+        return false;
+    };
+    module.funcs.len() == 2
+        && is_output(alloc, module.emit_wasm(alloc), INPUT)
+        && is_used(alloc, &module, exported)
+        && gc::run(alloc, &mut module).is_ok()
+        && has_alone(&module, exported)
+        && is_output(alloc, module.emit_wasm(alloc), OUTPUT)
+        && is_output(alloc, module.emit_wasm(alloc), OUTPUT)
+}
+
 #[test]
 fn reads_drops_and_writes(rt: HostRuntime) -> Result<(), Fail> {
-    let alloc = rt.alloc();
     let mut config = ModuleConfig::new();
     config.generate_producers_section(false);
-    let input = bytes_of(alloc, INPUT)?;
-    let mut module = Module::from_buffer_with_config(alloc, &input, &config)?;
-    assert_eq!(rt; module.funcs.len(), 2);
-    assert_eq!(rt; module.emit_wasm(alloc)?.as_slice(), input.as_slice());
-    let exported = module.exports.get_func("f")?;
-    let used = Used::new(alloc, &module)?;
-    assert!(rt; used.funcs.contains(exported));
-    gc::run(alloc, &mut module)?;
-    assert_eq!(rt; module.funcs.len(), 1);
-    assert!(rt; module.funcs.contains(exported));
-    let output = bytes_of(alloc, OUTPUT)?;
-    assert_eq!(rt; module.emit_wasm(alloc)?.as_slice(), output.as_slice());
-    assert_eq!(rt; module.emit_wasm(alloc)?.as_slice(), output.as_slice());
-    Ok(())
+    let mut bytes = Vec::new(rt.alloc());
+    demand(
+        add_bytes(&mut bytes, INPUT) && drops_the_other(rt.alloc(), &bytes, &config),
+        INPUT,
+    )
+}
+
+fn has_empty_types(module: &Module) -> bool {
+    for ty in module.types.iter() {
+        if !(ty.params().is_empty() && ty.results().is_empty()) {
+            return false;
+        }
+    }
+    true
+}
+
+fn exports_a_and_b(module: &Module) -> bool {
+    let mut exports = module.exports.iter();
+    match (exports.next(), exports.next(), exports.next()) {
+        (Some(first), Some(second), None) => is_text(&first.name, "a")
+            && is_text(&second.name, "b"),
+        _ => false,
+    }
+}
+
+fn has_functions_in_order(module: &Module) -> bool {
+    match (module.exports.get_func("a"), module.exports.get_func("b")) {
+        (Ok(first), Ok(second)) => first < second,
+        _ => false,
+    }
+}
+
+fn has_two_functions(alloc: Global, bytes: &[u8]) -> bool {
+    match Module::from_buffer(alloc, bytes) {
+        Ok(module) => {
+            module.funcs.len() == 2
+                && has_empty_types(&module)
+                && exports_a_and_b(&module)
+                && has_functions_in_order(&module)
+        }
+        Err(_) => false,
+    }
+}
+
+fn keeps_both(alloc: Global, bytes: &[u8]) -> bool {
+    let Ok(mut module) = Module::from_buffer(alloc, bytes) else {
+        return false;
+    };
+    if gc::run(alloc, &mut module).is_err() {
+        return false;
+    }
+    match module.emit_wasm(alloc) {
+        Ok(output) => has_two_functions(alloc, &output),
+        Err(_) => false,
+    }
 }
 
 #[test]
 fn equal_types(rt: HostRuntime) -> Result<(), Fail> {
-    let alloc = rt.alloc();
-    let mut module = Module::from_buffer(alloc, &bytes_of(alloc, TWO_TYPES)?)?;
-    gc::run(alloc, &mut module)?;
-    let output = module.emit_wasm(alloc)?;
-    let again = Module::from_buffer(alloc, &output)?;
-    assert_eq!(rt; again.funcs.len(), 2);
-    for ty in again.types.iter() {
-        assert_eq!(rt; ty.params().len() + ty.results().len(), 0);
-    }
-    let names = again
-        .exports
-        .iter()
-        .map(|export| export.name.as_str())
-        .collect::<Vec<_>>(alloc)?;
-    assert_eq!(rt; names.as_slice(), ["a", "b"].as_slice());
-    assert!(rt; again.exports.get_func("a")? < again.exports.get_func("b")?);
-    Ok(())
+    let mut bytes = Vec::new(rt.alloc());
+    demand(
+        add_bytes(&mut bytes, TWO_TYPES) && keeps_both(rt.alloc(), &bytes),
+        TWO_TYPES,
+    )
+}
+
+fn is_module(alloc: Global, bytes: &[u8]) -> bool {
+    Module::from_buffer(alloc, bytes).is_ok()
 }
 
 #[test]
 fn what_is_no_module_is_refused(rt: HostRuntime) -> Result<(), Fail> {
-    let alloc = rt.alloc();
-    assert!(rt; Module::from_buffer(alloc, b"\x00asm").is_err());
-    assert!(rt; Module::from_buffer(alloc, b"\x00asm\x01\x00\x00\x00").is_ok());
-    Ok(())
+    demand(
+        !is_module(rt.alloc(), b"\x00asm") && is_module(rt.alloc(), b"\x00asm\x01\x00\x00\x00"),
+        "four bytes of a header, and a header",
+    )
 }

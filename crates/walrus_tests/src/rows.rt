@@ -1,7 +1,9 @@
 //! Worked modules: what goes in and what has to come out, byte for byte.
 
-use crate::devices::{bytes_of, run};
+use crate::devices::{add_words, passed, refused, run};
+use std::alloc::Global;
 use std::test::Fail;
+use walrus_parts_tests::demands::{add_bytes, demand};
 
 // Inputs and what they come to, in hexadecimal.
 const ROWS: [(&str, &str); 6] = [
@@ -58,52 +60,78 @@ const INVALID: [&str; 9] = [
 
 const TEXT_OF_INVALID: &str = "walrus-gc: The input WebAssembly is invalid\n";
 
+fn comes_out(alloc: Global, words: &[String], input: &str, output: &str) -> bool {
+    let mut bytes = Vec::new(alloc);
+    add_bytes(&mut bytes, input) && passed(alloc, &run(alloc, words, &bytes), output)
+}
+
+fn each_comes_out(alloc: Global, words: &[String], rows: &[(&str, &str)]) -> Result<(), Fail> {
+    for (input, output) in rows {
+        demand(comes_out(alloc, words, input, output), input)?;
+    }
+    Ok(())
+}
+
 #[test]
 fn rows_come_out(rt: HostRuntime) -> Result<(), Fail> {
-    let alloc = rt.alloc();
-    for (input, expected) in ROWS {
-        let answer = run(alloc, &["--no-producers"], &bytes_of(alloc, input)?)?;
-        assert_eq!(rt; answer.status, 0, "{input}");
-        assert_eq!(rt;
-            answer.output.as_slice(),
-            bytes_of(alloc, expected)?.as_slice(),
-            "{input}"
-        );
-        assert_eq!(rt; answer.errors.len(), 0);
+    let mut words = Vec::new(rt.alloc());
+    demand(
+        add_words(rt.alloc(), &mut words, "--no-producers"),
+        "memory",
+    )?;
+    each_comes_out(rt.alloc(), &words, &ROWS)
+}
+
+fn is_refused(alloc: Global, words: &[String], input: &str) -> bool {
+    let mut bytes = Vec::new(alloc);
+    add_bytes(&mut bytes, input) && refused(&run(alloc, words, &bytes), 1, TEXT_OF_INVALID)
+}
+
+fn each_is_refused(alloc: Global, words: &[String], rows: &[&str]) -> Result<(), Fail> {
+    for input in rows {
+        demand(is_refused(alloc, words, input), input)?;
     }
     Ok(())
 }
 
 #[test]
 fn invalid_rows_are_refused(rt: HostRuntime) -> Result<(), Fail> {
-    let alloc = rt.alloc();
-    for input in INVALID {
-        let answer = run(alloc, &["--no-producers"], &bytes_of(alloc, input)?)?;
-        assert_eq!(rt; answer.status, 1, "{input}");
-        assert_eq!(rt; answer.output.len(), 0, "{input}");
-        assert_eq!(rt;
-            answer.errors.as_slice(),
-            TEXT_OF_INVALID.as_bytes(),
-            "{input}"
-        );
-    }
-    Ok(())
+    let mut words = Vec::new(rt.alloc());
+    demand(
+        add_words(rt.alloc(), &mut words, "--no-producers"),
+        "memory",
+    )?;
+    each_is_refused(rt.alloc(), &words, &INVALID)
 }
 
-// Of the beginnings of a module those that end where a section does, and that no rule refuses, are modules.
+// The status for the first bytes of the second row. Those that end where a section does, and that no rule refuses, are modules.
+fn beginning_status(length: usize) -> u8 {
+    if length == 8 || length == 14 { 0 } else { 1 }
+}
+
+fn is_beginning_answered(alloc: Global, words: &[String], beginning: &[u8]) -> bool {
+    run(alloc, words, beginning).status == beginning_status(beginning.len())
+}
+
+fn each_beginning_is_answered(alloc: Global, words: &[String], whole: &[u8]) -> bool {
+    for length in 0..whole.len() {
+        let (beginning, _) = whole.split_at(length);
+        if !is_beginning_answered(alloc, words, beginning) {
+            return false;
+        }
+    }
+    true
+}
+
 #[test]
 fn beginnings_are_refused(rt: HostRuntime) -> Result<(), Fail> {
-    let alloc = rt.alloc();
+    let mut words = Vec::new(rt.alloc());
+    let mut whole = Vec::new(rt.alloc());
     let (_, (input, _)) = (ROWS[0], ROWS[1]);
-    let whole = bytes_of(alloc, input)?;
-    for length in 0..whole.len() {
-        let answer = run(alloc, &["--no-producers"], &whole[..length])?;
-        let accepted = length == 8 || length == 14;
-        assert_eq!(rt;
-            answer.status,
-            if accepted { 0 } else { 1 },
-            "the first {length} bytes"
-        );
-    }
-    Ok(())
+    demand(
+        add_words(rt.alloc(), &mut words, "--no-producers")
+            && add_bytes(&mut whole, input)
+            && each_beginning_is_answered(rt.alloc(), &words, &whole),
+        "the beginnings of a module",
+    )
 }

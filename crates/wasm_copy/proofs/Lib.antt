@@ -1,2 +1,4 @@
 pub mod Bodies
 pub mod Customs
+pub mod Listed
+pub mod Rows

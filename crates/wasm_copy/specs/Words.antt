@@ -2,10 +2,10 @@
 use Rattle.std.specs.Prelude.{ℕ, List, [], ◌∷◌, Option, Some, None, codes, bytes_eq, string_bytes, String, if◌then◌else◌}
 use Rattle.std.specs.declared.alloc.Global.{Global}
 use Rattle.wasm_copy.specs.declared.task.Task.{Task}
-use Rattle.wasm_copy.specs.declared.task.Task.TheVariants.{Copy, CopyAndCompare, Read}
+use Rattle.wasm_copy.specs.declared.task.Task.TheVariants.{Copy, CopyAndCompare, Read, Names}
 
 abbrev pub task_of : List ℕ → Option Task
-task_of word = if bytes_eq word (codes "--again") then Some CopyAndCompare else (if bytes_eq word (codes "--read") then Some Read else None)
+task_of word = if bytes_eq word (codes "--again") then Some CopyAndCompare else (if bytes_eq word (codes "--read") then Some Read else (if bytes_eq word (codes "--names") then Some Names else None))
 
 -- no words ask for a copy
 abbrev pub words_task : List (String Global) → Option Task

@@ -26,6 +26,9 @@ pub enum Failure {
     /// The module breaks a rule, or memory ran out.
     #[error("checking the module: {0}")]
     Checking(WireError),
+    /// Memory ran out.
+    #[error("listing the names: {0}")]
+    Listing(WireError),
     /// A size passes 32 bits, or memory ran out.
     #[error("writing the module: {0}")]
     Writing(WireError),

@@ -1,11 +1,13 @@
 //! The program `wasm_copy`: a WebAssembly module on standard input, the same module on standard output, read record by record
 //! and written so. It tests and measures the layer that reads and writes modules, and stands on that layer alone.
 //!
-//! With `--again` it also reads the copy, and writes it only if that gives the same records. With `--read` it writes nothing.
+//! With `--again` it also reads the copy, and writes it only if that gives the same records. With `--read` it writes nothing, and
+//! with `--names` the names of the module's items and what it was made with, a line each (see `listing.rt`).
 #![tactic(auto)]
 
 mod comparing;
 mod failure;
+mod listing;
 mod program;
 mod task;
 mod writing;

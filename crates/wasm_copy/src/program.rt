@@ -1,14 +1,15 @@
 //! The program as a function of its task and its two streams.
 
-ghost use Rattle.std.specs.Prelude.{IfOk, OnOk};
+ghost use Rattle.std.specs.Prelude.{IfErr, IfOk, OnOk};
 ghost use Rattle.wasm_frames.specs.Record.{sections};
 ghost use Rattle.wasm_frames.specs.Frames.{Frames};
 ghost use Rattle.wasm_wire.specs.Rules.{Rules};
 ghost use Rattle.wasm_copy.specs.Copy.{Copies};
-ghost use Rattle.wasm_copy.specs.Program.{Does};
+ghost use Rattle.wasm_copy.specs.Program.{Does, IsUnwritten};
 
 use crate::comparing::same_records;
 use crate::failure::Failure;
+use crate::listing::listing;
 use crate::task::Task;
 use crate::writing::written_module;
 use std::alloc::Global;
@@ -43,6 +44,9 @@ fn output_for(alloc: Global, task: Task, bytes: &[u8]) -> Result<Vec<u8>, Failur
     if task == Task::Read {
         return Ok(Vec::new(alloc));
     }
+    if task == Task::Names {
+        return listing(alloc, &records).map_err(Failure::Listing);
+    }
     let copy = written_module(alloc, &records).map_err(Failure::Writing)?;
     if task == Task::CopyAndCompare {
         compare(alloc, &records, &copy)?;
@@ -50,14 +54,15 @@ fn output_for(alloc: Global, task: Task, bytes: &[u8]) -> Result<Vec<u8>, Failur
     Ok(copy)
 }
 
-/// Reads all of the input as a module, and writes what the task asks for.
+/// Reads all of the input as a module, and writes what the task asks for. Where the module is refused, nothing is written.
 pub fn run<R: Read, W: Write>(
     alloc: Global,
     task: Task,
     input: &mut R,
     output: &mut W,
 ) -> Result<(), Failure>
-    ensures { OnOk result (Does task (R.remaining input.old) (R.remaining input.new) (W.contents output.old) (W.contents output.new)) }
+    ensures does { OnOk result (Does task (R.remaining input.old) (R.remaining input.new) (W.contents output.old) (W.contents output.new)) }
+    ensures unwritten { IfErr result (IsUnwritten (W.contents output.old) (W.contents output.new)) }
 {
     let mut bytes = Vec::new(alloc);
     input.read_to_end(&mut bytes).map_err(Failure::Input)?;

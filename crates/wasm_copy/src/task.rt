@@ -12,6 +12,8 @@ pub enum Task {
     CopyAndCompare,
     /// Nothing more.
     Read,
+    /// Writes its names, in place of it.
+    Names,
 }
 
 /// The task that these words ask for, none where the program doesn't know them.
@@ -32,6 +34,7 @@ fn word_task(word: &str) -> Option<Task>
     match word {
         "--again" => Some(Task::CopyAndCompare),
         "--read" => Some(Task::Read),
+        "--names" => Some(Task::Names),
         _ => None,
     }
 }

@@ -1,10 +1,13 @@
 -- One more operator of an expression, and one more entry that is written.
-use Rattle.std.proofs.Common.{◌≡◌, ℕ, zero, suc, ◌+◌, ◌<◌, length, get_or, take, map, Bool, true, false, List, [], ◌∷◌, ◌++◌, refl, sym, ap, ◌∙◌, append_assoc, append-nil, arith}
-use Rattle.std.specs.Prelude.{Option, Some, None, nat_eq, if◌then◌else◌}
+use Rattle.std.proofs.Common.{◌≡◌, ℕ, zero, suc, ◌+◌, ◌<◌, ◌≤◌, length, get_or, take, map, Bool, true, false, List, [], ◌∷◌, ◌++◌, refl, sym, ap, ◌∙◌, append_assoc, append-nil, arith, Vec, vec_capacity}
+use Rattle.std.specs.Prelude.{Option, Some, None, Err, nat_eq, if◌then◌else◌}
+use Rattle.wasm_forms.specs.declared.error.WireError.{WireError}
 use Rattle.wasm_forms.specs.Reading.{◌>>=◌, byte_at}
 use Rattle.wasm_forms.specs.Grammar.{until_at, behind}
 use Rattle.wasm_forms.specs.Spelling.{row_bytes}
+use Rattle.wasm_forms.specs.Writing.{TakesRoom}
 use Rattle.wasm_forms.proofs.Items.{row_push}
+use Rattle.wasm_forms.proofs.Room.{room_as, row_refused}
 
 abbrev Choice : Type 0 → Type 0
 Choice A = ℕ → List ℕ → Option (A × List ℕ)
@@ -69,3 +72,14 @@ default_any (x ∷ xs) (suc i) d e l = default_any xs i d e (omega arith)
 
 pub written_at : {X : Type 0} (spell : X → List ℕ) (xs : List X) (i : ℕ) (d : X) (front now new : List ℕ) → i < length xs → now ≡ front ++ row_bytes spell (take i xs) → new ≡ now ++ spell (get_or xs i d) → new ≡ front ++ row_bytes spell (take (i + 1) xs)
 written_at spell xs i d front now new l h k = written_more spell xs i (get_or xs i d) front now new l (default_any xs i d (get_or xs i d) l) h k
+
+-- one more that is refused
+pub refused_at : {X A : Type 0} (spell : X → List ℕ) (xs : List X) (i : ℕ) (d : X) (e : WireError) (old between new : Vec ℕ A) → i < length xs → between.items ≡ old.items ++ row_bytes spell (take i xs) → vec_capacity old ≤ vec_capacity between
+    → TakesRoom {X = Unit {0}} (Err e) between new (spell (get_or xs i d)) → TakesRoom {X = Unit {0}} (Err e) old new (row_bytes spell xs)
+refused_at spell xs i d e old between new l h c w = row_refused spell xs i (get_or xs i d) e old between new l (default_any xs i d (get_or xs i d) l) h c w
+
+pub refused_seen : {X Y A : Type 0} (spell : Y → List ℕ) (view : X → Y) (xs : List X) (i : ℕ) (x : X) (e : WireError) (old between new : Vec ℕ A) → i < length xs → x ≡ get_or xs i x → between.items ≡ old.items ++ row_bytes spell (map view (take i xs))
+    → vec_capacity old ≤ vec_capacity between → TakesRoom {X = Unit {0}} (Err e) between new (spell (view x)) → TakesRoom {X = Unit {0}} (Err e) old new (row_bytes spell (map view xs))
+refused_seen spell view xs i x e old between new l k h c w =
+    room_as {X = Unit {0}} (Err e) old new (row_bytes (λ x. spell (view x)) xs) (row_bytes spell (map view xs)) (sym (row_map spell view xs))
+    (row_refused (λ x. spell (view x)) xs i x e old between new l k (h ∙ ap (λ y. old.items ++ y) (row_map spell view (take i xs))) c w)

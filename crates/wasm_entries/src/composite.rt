@@ -2,7 +2,7 @@
 
 ghost use Rattle.wasm_forms.specs.Reading.{Gives};
 ghost use Rattle.wasm_forms.specs.Grammar.{at};
-ghost use Rattle.wasm_forms.specs.Writing.{Adds};
+ghost use Rattle.wasm_forms.specs.Writing.{Adds, Keeps, TakesRoom};
 ghost use Rattle.wasm_entries.specs.declared.record.RawFieldType.{RawFieldType};
 ghost use Rattle.wasm_entries.specs.Record.{func_type, comp};
 ghost use Rattle.wasm_entries.specs.TypeForms.{storage_from, storage_type, flag, field_type, signature, comp_from, composite_type};
@@ -120,7 +120,9 @@ pub(crate) fn read_composite(alloc: Global, bytes: &[u8]) -> Result<(RawComp, &[
 
 /// Writes what a field holds.
 fn write_storage(to: &mut Vec<u8>, storage: &RawStorage) -> Result<(), WireError>
-    ensures { Adds result to.old.items to.new.items (storage_bytes storage.now) (Unit {0}) }
+    ensures adds { Adds result to.old.items to.new.items (storage_bytes storage.now) (Unit {0}) }
+    ensures room { TakesRoom result to.old to.new (storage_bytes storage.now) }
+    ensures keeps { Keeps to.old.items to.new.items }
 {
     match storage {
         RawStorage::Val(value) => value.write(to)?,
@@ -144,7 +146,9 @@ impl Written for RawFieldType {
 
 /// Writes what a function takes and what it gives.
 fn write_signature(to: &mut Vec<u8>, func: &RawFuncType) -> Result<(), WireError>
-    ensures { Adds result to.old.items to.new.items (func_type_bytes (func_type func.now)) (FuncTypeFits (func_type func.now)) }
+    ensures adds { Adds result to.old.items to.new.items (func_type_bytes (func_type func.now)) (FuncTypeFits (func_type func.now)) }
+    ensures room { TakesRoom result to.old to.new (func_type_bytes (func_type func.now)) }
+    ensures keeps { Keeps to.old.items to.new.items }
 {
     write_vector(to, &func.params)?;
     write_vector(to, &func.results)
@@ -152,7 +156,9 @@ fn write_signature(to: &mut Vec<u8>, func: &RawFuncType) -> Result<(), WireError
 
 /// Writes a composite type.
 pub(crate) fn write_composite(to: &mut Vec<u8>, composite: &RawComp) -> Result<(), WireError>
-    ensures { Adds result to.old.items to.new.items (comp_bytes (comp composite.now)) (CompFits (comp composite.now)) }
+    ensures adds { Adds result to.old.items to.new.items (comp_bytes (comp composite.now)) (CompFits (comp composite.now)) }
+    ensures room { TakesRoom result to.old to.new (comp_bytes (comp composite.now)) }
+    ensures keeps { Keeps to.old.items to.new.items }
 {
     match composite {
         RawComp::Func(func) => {

@@ -3,7 +3,7 @@
 ghost use Rattle.std.specs.Prelude.{◌≡◌};
 ghost use Rattle.wasm_forms.specs.Reading.{Gives};
 ghost use Rattle.wasm_forms.specs.Grammar.{at};
-ghost use Rattle.wasm_forms.specs.Writing.{Adds};
+ghost use Rattle.wasm_forms.specs.Writing.{Adds, Keeps, TakesRoom};
 ghost use Rattle.wasm_entries.specs.Record.{Import, Table, Global, Export, import_entry, table_entry, global_entry, export_entry};
 ghost use Rattle.wasm_entries.specs.Forms.{desc_from, desc, import_form, table_from, table_form, global_form, kind_from, kind_form, export_form};
 ghost use Rattle.wasm_entries.specs.Spelling.{desc_bytes, import_bytes, table_bytes, global_bytes, export_bytes, DescFits, ImportFits, TableFits, ExportFits};
@@ -158,7 +158,9 @@ impl<'a> Element<'a> for RawExport<'a> {
 
 /// Writes what an import brings.
 fn write_desc(to: &mut Vec<u8>, desc: &RawDesc) -> Result<(), WireError>
-    ensures { Adds result to.old.items to.new.items (desc_bytes desc.now) (DescFits desc.now) }
+    ensures adds { Adds result to.old.items to.new.items (desc_bytes desc.now) (DescFits desc.now) }
+    ensures room { TakesRoom result to.old to.new (desc_bytes desc.now) }
+    ensures keeps { Keeps to.old.items to.new.items }
 {
     match desc {
         RawDesc::Function(ty) => {

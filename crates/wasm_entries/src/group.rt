@@ -4,7 +4,7 @@ ghost use Rattle.std.specs.Prelude.{map};
 ghost use Rattle.wasm_forms.specs.Reading.{Gives};
 ghost use Rattle.wasm_forms.specs.Grammar.{Row, Vector, at};
 ghost use Rattle.wasm_forms.specs.Spelling.{row_bytes, vector_bytes};
-ghost use Rattle.wasm_forms.specs.Writing.{Adds, EachFits, FitsVector};
+ghost use Rattle.wasm_forms.specs.Writing.{Adds, Keeps, TakesRoom, EachFits, FitsVector};
 ghost use Rattle.wasm_entries.specs.Record.{Sub, sub, group};
 ghost use Rattle.wasm_entries.specs.TypeForms.{sub_with, sub_from, sub_type, group_from, group_form};
 ghost use Rattle.wasm_entries.specs.TypeSpelling.{sub_bytes, group_bytes, SubFits, GroupFits};
@@ -130,12 +130,14 @@ impl Written for RawSub {
     }
 }
 
-/// Writes a group of types (Binary Format > Types > Recursive Types) behind the bytes of `to`, a type alone without a count. Refused, what
-/// was appended means nothing: write into a vector that is dropped then.
+/// Writes a group of types (Binary Format > Types > Recursive Types) behind the bytes of `to`, a type alone without a count. Refused,
+/// the bytes written before stay, and what was appended behind them means nothing.
 ///
 /// [`WireError::TooLarge`] where one of its counts is 2^32 or more.
 pub fn write_group(to: &mut Vec<u8>, types: &RawGroup) -> Result<(), WireError>
-    ensures { Adds result to.old.items to.new.items (group_bytes (group types.now)) (GroupFits (group types.now)) }
+    ensures adds { Adds result to.old.items to.new.items (group_bytes (group types.now)) (GroupFits (group types.now)) }
+    ensures room { TakesRoom result to.old to.new (group_bytes (group types.now)) }
+    ensures keeps { Keeps to.old.items to.new.items }
 {
     if types.len() == 1 {
         return types[0].write(to);
@@ -146,7 +148,9 @@ pub fn write_group(to: &mut Vec<u8>, types: &RawGroup) -> Result<(), WireError>
 
 /// Writes groups one after another.
 fn write_each(to: &mut Vec<u8>, groups: &[RawGroup]) -> Result<(), WireError>
-    ensures { Adds result to.old.items to.new.items (row_bytes (λ g. group_bytes (group g)) groups.now) (EachFits (λ g. GroupFits (group g)) groups.now) }
+    ensures adds { Adds result to.old.items to.new.items (row_bytes (λ g. group_bytes (group g)) groups.now) (EachFits (λ g. GroupFits (group g)) groups.now) }
+    ensures room { TakesRoom result to.old to.new (row_bytes (λ g. group_bytes (group g)) groups.now) }
+    ensures keeps { Keeps to.old.items to.new.items }
 {
     'groups: for types in groups {
         write_group(to, types)?;
@@ -154,12 +158,14 @@ fn write_each(to: &mut Vec<u8>, groups: &[RawGroup]) -> Result<(), WireError>
     Ok(())
 }
 
-/// Writes the count of the groups and each group (Binary Format > Modules > Type Section). Refused, what was appended means nothing: write
-/// into a vector that is dropped then.
+/// Writes the count of the groups and each group (Binary Format > Modules > Type Section). Refused, the bytes written before stay, and
+/// what was appended behind them means nothing.
 ///
 /// [`WireError::TooLarge`] where there are 2^32 groups or more, or one of them is too large.
 pub fn write_groups(to: &mut Vec<u8>, groups: &[RawGroup]) -> Result<(), WireError>
-    ensures { Adds result to.old.items to.new.items (vector_bytes group_bytes (map group groups.now)) (FitsVector GroupFits (map group groups.now)) }
+    ensures adds { Adds result to.old.items to.new.items (vector_bytes group_bytes (map group groups.now)) (FitsVector GroupFits (map group groups.now)) }
+    ensures room { TakesRoom result to.old to.new (vector_bytes group_bytes (map group groups.now)) }
+    ensures keeps { Keeps to.old.items to.new.items }
 {
     let Ok(count) = u32::try_from(groups.len()) else {
         return Err(WireError::TooLarge);

@@ -1,5 +1,5 @@
 //! The entries of a module's sections (Binary Format > Types, Binary Format > Modules): their records, read and written exactly.
-#![tactic(auto)]
+#![tactic(auto, using(wasm_forms::proofs::Keeping::keeps_on))]
 
 mod composite;
 mod constant;

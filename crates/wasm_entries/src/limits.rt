@@ -3,7 +3,7 @@
 ghost use Rattle.std.specs.Prelude.{◌≡◌, ◌↔◌, IsTrue, ℕ};
 ghost use Rattle.wasm_forms.specs.Reading.{Gives};
 ghost use Rattle.wasm_forms.specs.Grammar.{U32, at};
-ghost use Rattle.wasm_forms.specs.Writing.{Adds};
+ghost use Rattle.wasm_forms.specs.Writing.{Adds, Keeps, TakesRoom};
 ghost use Rattle.wasm_entries.specs.TypeForms.{has, optional, size_form, limits_of, memory_type, table_limits, table_type_from, table_type, global_type, tag_type};
 ghost use Rattle.wasm_entries.specs.TypeSpelling.{limits_flags, limits_bytes, table_type_bytes, global_flags, global_type_bytes, FitsWide, LimitsFit};
 ghost use Rattle.wasm_entries.specs.declared.record.RawLimits.{RawLimits};
@@ -190,12 +190,14 @@ fn sizes_fit(limits: &RawLimits) -> bool
         }
 }
 
-/// Writes limits (Binary Format > Types > Limits, Memory Types) behind the bytes of `to`. Refused, what was appended means nothing: write
-/// into a vector that is dropped then.
+/// Writes limits (Binary Format > Types > Limits, Memory Types) behind the bytes of `to`. Refused, the bytes written before stay, and
+/// what was appended behind them means nothing.
 ///
 /// [`WireError::TooLarge`] where addresses have 32 bits, and a size is 2^32 or more.
 pub fn write_limits(to: &mut Vec<u8>, limits: &RawLimits) -> Result<(), WireError>
-    ensures { Adds result to.old.items to.new.items (limits_bytes limits.now) (LimitsFit limits.now) }
+    ensures adds { Adds result to.old.items to.new.items (limits_bytes limits.now) (LimitsFit limits.now) }
+    ensures room { TakesRoom result to.old to.new (limits_bytes limits.now) }
+    ensures keeps { Keeps to.old.items to.new.items }
 {
     if !sizes_fit(limits) {
         return Err(WireError::TooLarge);
@@ -211,21 +213,25 @@ pub fn write_limits(to: &mut Vec<u8>, limits: &RawLimits) -> Result<(), WireErro
     Ok(())
 }
 
-/// Writes a table type (Binary Format > Types > Table Types) behind the bytes of `to`. Refused, what was appended means nothing: write into
-/// a vector that is dropped then.
+/// Writes a table type (Binary Format > Types > Table Types) behind the bytes of `to`. Refused, the bytes written before stay, and what
+/// was appended behind them means nothing.
 ///
 /// [`WireError::TooLarge`] where addresses have 32 bits, and a size is 2^32 or more.
 pub fn write_table_type(to: &mut Vec<u8>, ty: &RawTableType) -> Result<(), WireError>
-    ensures { Adds result to.old.items to.new.items (table_type_bytes ty.now) (LimitsFit ty.now.limits) }
+    ensures adds { Adds result to.old.items to.new.items (table_type_bytes ty.now) (LimitsFit ty.now.limits) }
+    ensures room { TakesRoom result to.old to.new (table_type_bytes ty.now) }
+    ensures keeps { Keeps to.old.items to.new.items }
 {
     write_reference_type(to, &ty.element)?;
     write_limits(to, &ty.limits)
 }
 
-/// Writes a global type (Binary Format > Types > Global Types) behind the bytes of `to`. Refused, what was appended means nothing: write
-/// into a vector that is dropped then.
+/// Writes a global type (Binary Format > Types > Global Types) behind the bytes of `to`. Refused, the bytes written before stay, and
+/// what was appended behind them means nothing.
 pub fn write_global_type(to: &mut Vec<u8>, ty: &RawGlobalType) -> Result<(), WireError>
-    ensures { Adds result to.old.items to.new.items (global_type_bytes ty.now) (Unit {0}) }
+    ensures adds { Adds result to.old.items to.new.items (global_type_bytes ty.now) (Unit {0}) }
+    ensures room { TakesRoom result to.old to.new (global_type_bytes ty.now) }
+    ensures keeps { Keeps to.old.items to.new.items }
 {
     ty.value.write(to)?;
     to.push(u8::from(ty.mutable) + if ty.shared { 2 } else { 0 })?;

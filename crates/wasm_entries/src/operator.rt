@@ -1,7 +1,7 @@
 //! Constant expressions (Binary Format > Instructions > Expressions), written.
 
 ghost use Rattle.std.specs.Prelude.{map, ◌∷◌, ◌++◌, []};
-ghost use Rattle.wasm_forms.specs.Writing.{Adds, FitsLength};
+ghost use Rattle.wasm_forms.specs.Writing.{Adds, Keeps, TakesRoom, FitsLength};
 ghost use Rattle.wasm_forms.specs.Spelling.{f32_bytes, f64_bytes, integer_bytes, number_bytes, row_bytes, vector_bytes};
 ghost use Rattle.wasm_forms.specs.Types.{heap_bytes};
 ghost use Rattle.wasm_entries.specs.Record.{expression};
@@ -14,7 +14,9 @@ use wasm_forms::{
 
 /// Writes an operator that is one byte.
 fn write_bare(to: &mut Vec<u8>, byte: u8) -> Result<(), WireError>
-    ensures { Adds result to.old.items to.new.items (byte ∷ []) (Unit {0}) }
+    ensures adds { Adds result to.old.items to.new.items (byte ∷ []) (Unit {0}) }
+    ensures room { TakesRoom result to.old to.new (byte ∷ []) }
+    ensures keeps { Keeps to.old.items to.new.items }
 {
     to.push(byte)?;
     Ok(())
@@ -22,7 +24,9 @@ fn write_bare(to: &mut Vec<u8>, byte: u8) -> Result<(), WireError>
 
 /// Writes an operator that is a byte and an index.
 fn write_indexed(to: &mut Vec<u8>, byte: u8, index: u32) -> Result<(), WireError>
-    ensures { Adds result to.old.items to.new.items (byte ∷ number_bytes index) (Unit {0}) }
+    ensures adds { Adds result to.old.items to.new.items (byte ∷ number_bytes index) (Unit {0}) }
+    ensures room { TakesRoom result to.old to.new (byte ∷ number_bytes index) }
+    ensures keeps { Keeps to.old.items to.new.items }
 {
     to.push(byte)?;
     write_u32(to, index)?;
@@ -31,7 +35,9 @@ fn write_indexed(to: &mut Vec<u8>, byte: u8, index: u32) -> Result<(), WireError
 
 /// Writes an operator behind the byte FB that has no argument.
 fn write_prefixed(to: &mut Vec<u8>, byte: u8) -> Result<(), WireError>
-    ensures { Adds result to.old.items to.new.items (0xFB ∷ byte ∷ []) (Unit {0}) }
+    ensures adds { Adds result to.old.items to.new.items (0xFB ∷ byte ∷ []) (Unit {0}) }
+    ensures room { TakesRoom result to.old to.new (0xFB ∷ byte ∷ []) }
+    ensures keeps { Keeps to.old.items to.new.items }
 {
     to.push(0xFB)?;
     write_bare(to, byte)
@@ -39,7 +45,9 @@ fn write_prefixed(to: &mut Vec<u8>, byte: u8) -> Result<(), WireError>
 
 /// Writes an operator behind the byte FB that has the index of a type.
 fn write_typed(to: &mut Vec<u8>, byte: u8, ty: u32) -> Result<(), WireError>
-    ensures { Adds result to.old.items to.new.items (0xFB ∷ byte ∷ number_bytes ty) (Unit {0}) }
+    ensures adds { Adds result to.old.items to.new.items (0xFB ∷ byte ∷ number_bytes ty) (Unit {0}) }
+    ensures room { TakesRoom result to.old to.new (0xFB ∷ byte ∷ number_bytes ty) }
+    ensures keeps { Keeps to.old.items to.new.items }
 {
     to.push(0xFB)?;
     write_indexed(to, byte, ty)
@@ -47,7 +55,9 @@ fn write_typed(to: &mut Vec<u8>, byte: u8, ty: u32) -> Result<(), WireError>
 
 /// Writes `array.new_fixed`.
 fn write_array_new_fixed(to: &mut Vec<u8>, ty: u32, count: u32) -> Result<(), WireError>
-    ensures { Adds result to.old.items to.new.items (0xFB ∷ 0x08 ∷ (number_bytes ty ++ number_bytes count)) (Unit {0}) }
+    ensures adds { Adds result to.old.items to.new.items (0xFB ∷ 0x08 ∷ (number_bytes ty ++ number_bytes count)) (Unit {0}) }
+    ensures room { TakesRoom result to.old to.new (0xFB ∷ 0x08 ∷ (number_bytes ty ++ number_bytes count)) }
+    ensures keeps { Keeps to.old.items to.new.items }
 {
     write_typed(to, 0x08, ty)?;
     write_u32(to, count)?;
@@ -56,7 +66,9 @@ fn write_array_new_fixed(to: &mut Vec<u8>, ty: u32, count: u32) -> Result<(), Wi
 
 /// Writes `i32.const`.
 fn write_i32_const(to: &mut Vec<u8>, value: i32) -> Result<(), WireError>
-    ensures { Adds result to.old.items to.new.items (0x41 ∷ integer_bytes value) (Unit {0}) }
+    ensures adds { Adds result to.old.items to.new.items (0x41 ∷ integer_bytes value) (Unit {0}) }
+    ensures room { TakesRoom result to.old to.new (0x41 ∷ integer_bytes value) }
+    ensures keeps { Keeps to.old.items to.new.items }
 {
     to.push(0x41)?;
     write_s32(to, value)?;
@@ -65,7 +77,9 @@ fn write_i32_const(to: &mut Vec<u8>, value: i32) -> Result<(), WireError>
 
 /// Writes `i64.const`.
 fn write_i64_const(to: &mut Vec<u8>, value: i64) -> Result<(), WireError>
-    ensures { Adds result to.old.items to.new.items (0x42 ∷ integer_bytes value) (Unit {0}) }
+    ensures adds { Adds result to.old.items to.new.items (0x42 ∷ integer_bytes value) (Unit {0}) }
+    ensures room { TakesRoom result to.old to.new (0x42 ∷ integer_bytes value) }
+    ensures keeps { Keeps to.old.items to.new.items }
 {
     to.push(0x42)?;
     write_s64(to, value)?;
@@ -74,7 +88,9 @@ fn write_i64_const(to: &mut Vec<u8>, value: i64) -> Result<(), WireError>
 
 /// Writes `f32.const`.
 fn write_f32_const(to: &mut Vec<u8>, bits: u32) -> Result<(), WireError>
-    ensures { Adds result to.old.items to.new.items (0x43 ∷ f32_bytes bits) (Unit {0}) }
+    ensures adds { Adds result to.old.items to.new.items (0x43 ∷ f32_bytes bits) (Unit {0}) }
+    ensures room { TakesRoom result to.old to.new (0x43 ∷ f32_bytes bits) }
+    ensures keeps { Keeps to.old.items to.new.items }
 {
     to.push(0x43)?;
     write_f32(to, bits)?;
@@ -83,7 +99,9 @@ fn write_f32_const(to: &mut Vec<u8>, bits: u32) -> Result<(), WireError>
 
 /// Writes `f64.const`.
 fn write_f64_const(to: &mut Vec<u8>, bits: u64) -> Result<(), WireError>
-    ensures { Adds result to.old.items to.new.items (0x44 ∷ f64_bytes bits) (Unit {0}) }
+    ensures adds { Adds result to.old.items to.new.items (0x44 ∷ f64_bytes bits) (Unit {0}) }
+    ensures room { TakesRoom result to.old to.new (0x44 ∷ f64_bytes bits) }
+    ensures keeps { Keeps to.old.items to.new.items }
 {
     to.push(0x44)?;
     write_f64(to, bits)?;
@@ -92,7 +110,9 @@ fn write_f64_const(to: &mut Vec<u8>, bits: u64) -> Result<(), WireError>
 
 /// Writes `v128.const`.
 fn write_v128_const(to: &mut Vec<u8>, bytes: &[u8]) -> Result<(), WireError>
-    ensures { Adds result to.old.items to.new.items (0xFD ∷ 0x0C ∷ bytes.now) (Unit {0}) }
+    ensures adds { Adds result to.old.items to.new.items (0xFD ∷ 0x0C ∷ bytes.now) (Unit {0}) }
+    ensures room { TakesRoom result to.old to.new (0xFD ∷ 0x0C ∷ bytes.now) }
+    ensures keeps { Keeps to.old.items to.new.items }
 {
     to.push(0xFD)?;
     to.push(0x0C)?;
@@ -102,7 +122,9 @@ fn write_v128_const(to: &mut Vec<u8>, bytes: &[u8]) -> Result<(), WireError>
 
 /// Writes `ref.null`.
 fn write_ref_null(to: &mut Vec<u8>, heap: &RawHeap) -> Result<(), WireError>
-    ensures { Adds result to.old.items to.new.items (0xD0 ∷ heap_bytes heap.now) (Unit {0}) }
+    ensures adds { Adds result to.old.items to.new.items (0xD0 ∷ heap_bytes heap.now) (Unit {0}) }
+    ensures room { TakesRoom result to.old to.new (0xD0 ∷ heap_bytes heap.now) }
+    ensures keeps { Keeps to.old.items to.new.items }
 {
     to.push(0xD0)?;
     write_heap_type(to, heap)
@@ -110,7 +132,9 @@ fn write_ref_null(to: &mut Vec<u8>, heap: &RawHeap) -> Result<(), WireError>
 
 /// Writes an operator.
 fn write_const(to: &mut Vec<u8>, operator: &RawConst) -> Result<(), WireError>
-    ensures { Adds result to.old.items to.new.items (const_bytes operator.now) (Unit {0}) }
+    ensures adds { Adds result to.old.items to.new.items (const_bytes operator.now) (Unit {0}) }
+    ensures room { TakesRoom result to.old to.new (const_bytes operator.now) }
+    ensures keeps { Keeps to.old.items to.new.items }
 {
     match operator {
         RawConst::GlobalGet(global) => write_indexed(to, 0x23, *global),
@@ -140,7 +164,9 @@ fn write_const(to: &mut Vec<u8>, operator: &RawConst) -> Result<(), WireError>
 
 /// Writes operators one after another.
 fn write_operators(to: &mut Vec<u8>, operators: &[RawConst]) -> Result<(), WireError>
-    ensures { Adds result to.old.items to.new.items (row_bytes const_bytes operators.now) (Unit {0}) }
+    ensures adds { Adds result to.old.items to.new.items (row_bytes const_bytes operators.now) (Unit {0}) }
+    ensures room { TakesRoom result to.old to.new (row_bytes const_bytes operators.now) }
+    ensures keeps { Keeps to.old.items to.new.items }
 {
     'operators: for operator in operators {
         write_const(to, operator)?;
@@ -149,13 +175,15 @@ fn write_operators(to: &mut Vec<u8>, operators: &[RawConst]) -> Result<(), WireE
 }
 
 /// Writes a constant expression (Binary Format > Instructions > Expressions) behind the bytes of `to`: its operators, and the byte that
-/// ends it. Refused, what was appended means nothing.
+/// ends it. Refused, the bytes written before stay, and what was appended behind them means nothing.
 ///
 /// # Errors
 ///
 /// `Memory` alone.
 pub fn write_expression(to: &mut Vec<u8>, operators: &[RawConst]) -> Result<(), WireError>
-    ensures { Adds result to.old.items to.new.items (expression_bytes operators.now) (Unit {0}) }
+    ensures adds { Adds result to.old.items to.new.items (expression_bytes operators.now) (Unit {0}) }
+    ensures room { TakesRoom result to.old to.new (expression_bytes operators.now) }
+    ensures keeps { Keeps to.old.items to.new.items }
 {
     write_operators(to, operators)?;
     write_bare(to, 0x0B)
@@ -163,7 +191,9 @@ pub fn write_expression(to: &mut Vec<u8>, operators: &[RawConst]) -> Result<(), 
 
 /// Writes expressions one after another.
 fn write_each(to: &mut Vec<u8>, expressions: &[Vec<RawConst>]) -> Result<(), WireError>
-    ensures { Adds result to.old.items to.new.items (row_bytes expression_bytes (map expression expressions.now)) (Unit {0}) }
+    ensures adds { Adds result to.old.items to.new.items (row_bytes expression_bytes (map expression expressions.now)) (Unit {0}) }
+    ensures room { TakesRoom result to.old to.new (row_bytes expression_bytes (map expression expressions.now)) }
+    ensures keeps { Keeps to.old.items to.new.items }
 {
     'expressions: for listed in expressions {
         write_expression(to, listed)?;
@@ -172,13 +202,15 @@ fn write_each(to: &mut Vec<u8>, expressions: &[Vec<RawConst>]) -> Result<(), Wir
 }
 
 /// Writes the count of the expressions and each of them (Binary Format > Modules > Element Section) behind the bytes of `to`. Refused,
-/// what was appended means nothing.
+/// the bytes written before stay, and what was appended behind them means nothing.
 ///
 /// # Errors
 ///
 /// `TooLarge` exactly where there are 2^32 expressions or more, and `Memory`.
 pub fn write_expressions(to: &mut Vec<u8>, expressions: &[Vec<RawConst>]) -> Result<(), WireError>
-    ensures { Adds result to.old.items to.new.items (vector_bytes expression_bytes (map expression expressions.now)) (FitsLength expressions.now) }
+    ensures adds { Adds result to.old.items to.new.items (vector_bytes expression_bytes (map expression expressions.now)) (FitsLength expressions.now) }
+    ensures room { TakesRoom result to.old to.new (vector_bytes expression_bytes (map expression expressions.now)) }
+    ensures keeps { Keeps to.old.items to.new.items }
 {
     let Ok(count) = u32::try_from(expressions.len()) else {
         return Err(WireError::TooLarge);

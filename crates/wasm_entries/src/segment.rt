@@ -3,7 +3,7 @@
 ghost use Rattle.std.specs.Prelude.{map};
 ghost use Rattle.wasm_forms.specs.Reading.{Gives};
 ghost use Rattle.wasm_forms.specs.Grammar.{at};
-ghost use Rattle.wasm_forms.specs.Writing.{Adds, FitsLength};
+ghost use Rattle.wasm_forms.specs.Writing.{Adds, Keeps, TakesRoom, FitsLength};
 ghost use Rattle.wasm_forms.specs.Spelling.{number_bytes, vector_bytes};
 ghost use Rattle.wasm_entries.specs.Record.{Element, Segment, Functions, Expressions, expression, element_mode, items_of, element_entry, data_mode, data_entry};
 ghost use Rattle.wasm_entries.specs.Forms.{functions_form, kinded, typed, of_functions, in_first, in_table, element_from, element_form, data_from, data_form};
@@ -168,7 +168,9 @@ impl<'a> Element<'a> for RawData<'a> {
 
 /// Writes the count of the indices and each of them.
 fn write_indices(to: &mut Vec<u8>, indices: &[u32]) -> Result<(), WireError>
-    ensures { Adds result to.old.items to.new.items (vector_bytes number_bytes indices.now) (FitsLength indices.now) }
+    ensures adds { Adds result to.old.items to.new.items (vector_bytes number_bytes indices.now) (FitsLength indices.now) }
+    ensures room { TakesRoom result to.old to.new (vector_bytes number_bytes indices.now) }
+    ensures keeps { Keeps to.old.items to.new.items }
 {
     write_vector(to, indices)
 }
@@ -179,7 +181,9 @@ fn write_functions(
     mode: &RawElementMode,
     functions: &[u32],
 ) -> Result<(), WireError>
-    ensures { Adds result to.old.items to.new.items (element_spelled (element_mode mode.now) (Functions functions.now)) (FitsLength functions.now) }
+    ensures adds { Adds result to.old.items to.new.items (element_spelled (element_mode mode.now) (Functions functions.now)) (FitsLength functions.now) }
+    ensures room { TakesRoom result to.old to.new (element_spelled (element_mode mode.now) (Functions functions.now)) }
+    ensures keeps { Keeps to.old.items to.new.items }
 {
     match mode {
         RawElementMode::Active(None, offset) => {
@@ -211,7 +215,9 @@ fn write_typed(
     ty: &RawRef,
     expressions: &[Vec<RawConst>],
 ) -> Result<(), WireError>
-    ensures { Adds result to.old.items to.new.items (element_spelled (element_mode mode.now) (Expressions ty.now (map expression expressions.now))) (FitsLength expressions.now) }
+    ensures adds { Adds result to.old.items to.new.items (element_spelled (element_mode mode.now) (Expressions ty.now (map expression expressions.now))) (FitsLength expressions.now) }
+    ensures room { TakesRoom result to.old to.new (element_spelled (element_mode mode.now) (Expressions ty.now (map expression expressions.now))) }
+    ensures keeps { Keeps to.old.items to.new.items }
 {
     match mode {
         RawElementMode::Active(None, offset) => {
@@ -253,7 +259,9 @@ impl Written for RawElement {
 
 /// Writes when a segment of data is used.
 fn write_data_mode(to: &mut Vec<u8>, mode: &RawDataMode) -> Result<(), WireError>
-    ensures { Adds result to.old.items to.new.items (data_mode_bytes (data_mode mode.now)) (Unit {0}) }
+    ensures adds { Adds result to.old.items to.new.items (data_mode_bytes (data_mode mode.now)) (Unit {0}) }
+    ensures room { TakesRoom result to.old to.new (data_mode_bytes (data_mode mode.now)) }
+    ensures keeps { Keeps to.old.items to.new.items }
 {
     match mode {
         RawDataMode::Passive => {

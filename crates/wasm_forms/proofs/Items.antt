@@ -1,5 +1,5 @@
 -- One more item that is written.
-use Rattle.std.proofs.Common.{◌≡◌, ℕ, zero, suc, ◌+◌, ◌<◌, ◌≤◌, List, [], ◌∷◌, ◌++◌, length, get_or, take, refl, sym, ap, subst, ◌∙◌, arith, append_assoc, append-nil, ◌⊎◌, inl, inr}
+use Rattle.std.proofs.Common.{◌≡◌, ℕ, zero, suc, ◌+◌, ◌<◌, ◌≤◌, List, [], ◌∷◌, ◌++◌, length, get_or, take, refl, sym, ap, subst, ◌∙◌, arith, append_assoc, append-nil, length-append, ◌⊎◌, inl, inr}
 use Rattle.std.proofs.lemmas.List.{take_more}
 use Rattle.wasm_forms.specs.Writing.{EachFits}
 use Rattle.wasm_forms.specs.Spelling.{row_bytes}
@@ -29,3 +29,9 @@ each_at F (y ∷ ys) (suc i) x l e h = each_at F ys i x (omega arith) e h.1
 pub stop_room : (stop : ℕ) → (stop ≡ 64) ⊎ (stop ≡ 128) → 2 ≤ stop
 stop_room stop (inl h) = omega arith
 stop_room stop (inr h) = omega arith
+
+-- the spellings so far and this one are no longer than all
+pub row_within : {X : Type 0} (spell : X → List ℕ) (xs : List X) (i : ℕ) (x : X) → i < length xs → x ≡ get_or xs i x → length (row_bytes spell (take i xs)) + length (spell x) ≤ length (row_bytes spell xs)
+row_within spell [] i x l e = absurd (omega arith)
+row_within spell (y ∷ xs) zero x l e = omega (arith, length-append (spell y) (row_bytes spell xs), ap (λ z. length (spell z)) e)
+row_within spell (y ∷ xs) (suc i) x l e = omega (arith, length-append (spell y) (row_bytes spell xs), length-append (spell y) (row_bytes spell (take i xs)), row_within spell xs i x (omega arith) e)

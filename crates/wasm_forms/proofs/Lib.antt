@@ -14,3 +14,5 @@ pub mod Signs
 pub mod Spelled
 pub mod Adding
 pub mod Stands
+pub mod Room
+pub mod Keeping

@@ -4,7 +4,7 @@ ghost use Rattle.std.specs.Prelude.{◌≡◌};
 ghost use Rattle.wasm_forms.specs.declared.types.RawVal.{RawVal};
 ghost use Rattle.wasm_forms.specs.Reading.{Gives};
 ghost use Rattle.wasm_forms.specs.Grammar.{at};
-ghost use Rattle.wasm_forms.specs.Writing.{Adds};
+ghost use Rattle.wasm_forms.specs.Writing.{Adds, Keeps, TakesRoom};
 ghost use Rattle.wasm_forms.specs.Types.{is_abstract, heap_from, heap_type, reference_from, reference_type, value_from, value_type, heap_bytes, reference_bytes, value_bytes};
 
 use crate::byte::read_byte;
@@ -166,9 +166,12 @@ impl<'a> Element<'a> for RawVal {
     }
 }
 
-/// Writes a heap type (Binary Format > Types > Heap Types) behind the bytes of `to`. Refused, what was appended means nothing.
+/// Writes a heap type (Binary Format > Types > Heap Types) behind the bytes of `to`. Refused, the bytes written before stay, and what
+/// was appended behind them means nothing.
 pub fn write_heap_type(to: &mut Vec<u8>, heap: &RawHeap) -> Result<(), WireError>
-    ensures { Adds result to.old.items to.new.items (heap_bytes heap.now) (Unit {0}) }
+    ensures adds { Adds result to.old.items to.new.items (heap_bytes heap.now) (Unit {0}) }
+    ensures room { TakesRoom result to.old to.new (heap_bytes heap.now) }
+    ensures keeps { Keeps to.old.items to.new.items }
 {
     match heap {
         RawHeap::Abstract(byte) => to.push(*byte)?,
@@ -178,9 +181,11 @@ pub fn write_heap_type(to: &mut Vec<u8>, heap: &RawHeap) -> Result<(), WireError
 }
 
 /// Writes a reference type (Binary Format > Types > Reference Types) behind the bytes of `to`, one that is nullable and abstract as one
-/// byte. Refused, what was appended means nothing.
+/// byte. Refused, the bytes written before stay, and what was appended behind them means nothing.
 pub fn write_reference_type(to: &mut Vec<u8>, reference: &RawRef) -> Result<(), WireError>
-    ensures { Adds result to.old.items to.new.items (reference_bytes reference.now) (Unit {0}) }
+    ensures adds { Adds result to.old.items to.new.items (reference_bytes reference.now) (Unit {0}) }
+    ensures room { TakesRoom result to.old to.new (reference_bytes reference.now) }
+    ensures keeps { Keeps to.old.items to.new.items }
 {
     if !reference.nullable {
         to.push(0x64)?;

@@ -55,6 +55,10 @@ fn append<T: Drop>(
     ensures longer { OnOk result (list.new.items ≡ list.old.items ++ entries.items) }
 {
     order.push(id)?;
+    if list.is_empty() {
+        *list = entries;
+        return Ok(());
+    }
     list.append(&mut entries)
 }
 

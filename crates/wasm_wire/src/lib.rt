@@ -1,4 +1,5 @@
-//! The bytes of a WebAssembly module and its records, over all sections: the rules on the whole, beside reading and writing.
+//! The bytes of a WebAssembly module and its records, over all sections: the rules on the whole, beside reading and writing, and
+//! the payloads of names and producers.
 #![tactic(auto)]
 
 mod rules;
@@ -11,4 +12,7 @@ pub use wasm_entries::{
 };
 pub use wasm_forms::{RawHeap, RawRef, RawVal, WireError, leb128_len};
 pub use wasm_frames::{Raw, RawBody, RawCustom, one_record, read_module};
-pub use wasm_writer::{Writer, written_frames};
+pub use wasm_payloads::{
+    NameSink, NameSpace, Naming, RawField, fields_once, names_once, read_names, read_producers,
+};
+pub use wasm_writer::{CodePlaces, Section, Writer, measure, written_frames};

@@ -1,2 +1,5 @@
 pub mod Listed
 pub mod WrittenModule
+pub mod Ranges
+pub mod Measured
+pub mod Opened

@@ -10,7 +10,8 @@ use Rattle.wasm_forms.proofs.Adding.{vector_map}
 use Rattle.wasm_forms.proofs.Items.{row_push}
 use Rattle.wasm_forms.proofs.Spelled.{number_stands}
 use Rattle.wasm_frames.specs.Frames.{Section}
-use Rattle.wasm_writer.specs.Writing.{unless_empty}
+use Rattle.wasm_writer.specs.declared.writer.Writer.{Writer}
+use Rattle.wasm_writer.specs.Writing.{unless_empty, UsesRoom}
 use Rattle.wasm_writer.specs.Spelling.{listed, spelled, section_bytes, content_bytes, EntriesFit, SectionFits}
 
 -- the same writing, said in other words
@@ -56,6 +57,14 @@ wrote_listed make view F spell id xs r old new same held into back w =
     wrote_as r old new (unless_empty xs (section_bytes id (vector_bytes (λ x. spell (view x)) xs))) (listed make (map view xs)) (FitsVector F xs × FitsLength (vector_bytes (λ x. spell (view x)) xs)) (SectionFits (make (map view xs)))
     (listed_map make view (section_bytes id (vector_bytes (λ x. spell (view x)) xs)) xs (ap (section_bytes id) far ∙ sym same))
     (λ h. (into h.0, subst (λ (l : List ℕ). FitsLength l) far h.1)) (λ h. (back h.0, subst (λ (l : List ℕ). FitsLength l) (sym far) h.1)) w
+
+-- and so was its room
+pub room_listed : {U X A : Type 0} (make : List A → Section) (view : X → A) (spell : A → List ℕ) (id : ℕ) (xs : List X) (r : Result U WireError) (old new : Writer)
+    → spelled (make (map view xs)) ≡ section_bytes id (content_bytes (make (map view xs))) → content_bytes (make (map view xs)) ≡ vector_bytes spell (map view xs)
+    → UsesRoom r old new (unless_empty xs (section_bytes id (vector_bytes (λ x. spell (view x)) xs))) → UsesRoom r old new (listed make (map view xs))
+room_listed make view spell id xs r old new same held w =
+    let far : vector_bytes (λ x. spell (view x)) xs ≡ content_bytes (make (map view xs)) = vector_map view spell xs ∙ sym held in
+    subst (λ (l : List ℕ). UsesRoom r old new l) (listed_map make view (section_bytes id (vector_bytes (λ x. spell (view x)) xs)) xs (ap (section_bytes id) far ∙ sym same)) w
 
 -- one more number that is written
 

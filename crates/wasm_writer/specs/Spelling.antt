@@ -1,6 +1,7 @@
 -- The one spelling of sections, and which of them it spells.
 use Rattle.std.specs.Prelude.{ℕ, ◌+◌, ⊤, List, [], ◌∷◌, ◌++◌, length, All, Option, Some, None}
 use Rattle.std.specs.Str.{IsUtf8}
+use Rattle.std.specs.declared.ops.Range.{Range}
 use Rattle.wasm_forms.specs.Writing.{FitsLength, FitsVector}
 use Rattle.wasm_forms.specs.Spelling.{number_bytes, block_bytes, vector_bytes}
 use Rattle.wasm_entries.specs.TypeSpelling.{group_bytes, limits_bytes, GroupFits, LimitsFit, GroupStands, LimitsStand}
@@ -105,6 +106,15 @@ placed_bodies place (b ∷ bs) = record { start = place + length (number_bytes (
 -- the place of the first body of a section that stands at this place: behind its id, its size and the count of bodies
 abbrev pub first_body : ℕ → List Body → ℕ
 first_body place bs = place + 1 + length (number_bytes (length (content_bytes (Code bs)))) + length (number_bytes (length bs))
+
+-- the place of the count of bodies of a section that stands at this place: behind its id and its size, or 0 where none is written
+abbrev pub count_place : ℕ → List Body → ℕ
+count_place place [] = 0
+count_place place (b ∷ bs) = place + 1 + length (number_bytes (length (content_bytes (Code (b ∷ bs)))))
+
+-- from where a body starts to where it ends
+abbrev pub range_of : Body → Range ℕ
+range_of b = record { start = b.start; end = b.start + length b.bytes }
 
 -- a section as it reads where it is written at this place
 abbrev pub placed : ℕ → Section → Section

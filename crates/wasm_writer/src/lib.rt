@@ -1,7 +1,11 @@
 //! Writing the bytes of a WebAssembly module, over all sections.
 #![tactic(auto)]
 
+mod measuring;
+mod places;
 mod tag;
 mod writer;
 
+pub use measuring::{Section, measure};
+pub use places::CodePlaces;
 pub use writer::{Writer, written_frames};
