@@ -16,7 +16,7 @@ pub struct Id<K> {
 
 impl<K> Id<K> {
     /// The id of the item at a place.
-    pub(crate) fn at(index: usize) -> Id<K>
+    pub fn at(index: usize) -> Id<K>
         ensures { place result ≡ index }
     {
         Id {

@@ -1,0 +1,67 @@
+-- The locals that a body declares.
+use Rattle.std.proofs.Common.{◌≡◌, ℕ, zero, suc, ◌+◌, List, [], ◌∷◌, ◌++◌, Option, Some, None, option_map, map, Result, Ok, Err, replicate, refl, ap, ◌∙◌, sym, append_assoc, length, length-append, arith}
+use Rattle.std.proofs.lemmas.List.{length-replicate}
+use Rattle.wasm_forms.specs.declared.types.RawVal.{RawVal}
+use Rattle.wasm_forms.specs.Reading.{◌>>=◌}
+use Rattle.wasm_forms.specs.Grammar.{at}
+use Rattle.wasm_forms.proofs.Bind.{bind_at, bind_some, some_same, some_not_none}
+use Rattle.wasm_forms.proofs.Exact.{exact}
+use Rattle.walrus_base.specs.Types.{ValType}
+use Rattle.walrus_code.specs.declared.error.IrError.{IrError}
+use Rattle.walrus_code.specs.declared.error.IrError.TheVariants.{Malformed, Memory, NoIndex, NotWritable, TooLarge}
+use Rattle.walrus_code.specs.FromRaw.{val_of}
+use Rattle.walrus_code.specs.Names.{Lookup, named_val}
+use Rattle.walrus_bodies.specs.Body.{declarations, declared_types, how_many}
+use Rattle.walrus_bodies.specs.Declarations.{ReadsDeclarations}
+use Rattle.walrus_bodies.specs.Reader.{Gives}
+
+-- what the function on lists says is what the relation says
+pub reads_declarations : {X : Type 0} (view : X → List (ℕ × RawVal) × List ℕ) (bytes : List ℕ) (result : Result X IrError) → Gives view result (at declarations bytes) → ReadsDeclarations view bytes result
+reads_declarations view bytes (Ok x) gives = (exact declarations).takes bytes (view x) gives
+reads_declarations view bytes (Err Malformed) gives = λ front rest ds parts is. some_not_none (ds, rest) (sym ((exact declarations).again front rest ds is) ∙ ap (at declarations) (sym parts) ∙ gives)
+reads_declarations view bytes (Err (Memory e)) gives = tt
+reads_declarations view bytes (Err NoIndex) gives = gives
+reads_declarations view bytes (Err NotWritable) gives = gives
+reads_declarations view bytes (Err TooLarge) gives = gives
+
+-- further types behind these
+abbrev pub types_behind : List (ValType ℕ) → Option (List (ValType ℕ)) → Option (List (ValType ℕ))
+types_behind done rest = option_map (λ types. done ++ types) rest
+
+pub types_behind-more : (done new : List (ValType ℕ)) (rest : Option (List (ValType ℕ))) → types_behind (done ++ new) rest ≡ types_behind done (rest >>= λ types. Some (new ++ types))
+types_behind-more done new None = refl
+types_behind-more done new (Some types) = ap Some (append_assoc done new types)
+
+pub types_behind-nothing : (rest : Option (List (ValType ℕ))) → types_behind [] rest ≡ rest
+types_behind-nothing None = refl
+types_behind-nothing (Some types) = refl
+
+-- one more declaration
+pub types_behind-next : (names : Lookup) (done new : List (ValType ℕ)) (d : ℕ × RawVal) (rest : List (ℕ × RawVal)) (v : ValType ℕ) (whole : Option (List (ValType ℕ))) → named_val names (val_of d.1) ≡ Some v → new ≡ done ++ replicate d.0 v → types_behind done (declared_types names (d ∷ rest)) ≡ whole → types_behind new (declared_types names rest) ≡ whole
+types_behind-next names done new d rest v whole found is so_far =
+    ap (λ (ts : List (ValType ℕ)). types_behind ts (declared_types names rest)) is
+    ∙ types_behind-more done (replicate d.0 v) (declared_types names rest)
+    ∙ ap (types_behind done) (sym (bind_at (named_val names (val_of d.1)) (λ w. declared_types names rest >>= λ others. Some (replicate d.0 w ++ others)) v found))
+    ∙ so_far
+
+pub map-replicate : {A B : Type 0} (f : A → B) (n : ℕ) (x : A) → map f (replicate n x) ≡ replicate n (f x)
+map-replicate f zero x = refl
+map-replicate {B = B} f (suc n) x = ap (λ (ys : List B). f x ∷ ys) (map-replicate f n x)
+
+pub some_of : {A B : Type 0} (f : A → B) (x : A) (o : Option B) → option_map f (Some x) ≡ o → o ≡ Some (f x)
+some_of f x o is = sym is
+
+-- one type for each local
+pub types_count : (names : Lookup) (ds : List (ℕ × RawVal)) (types : List (ValType ℕ)) → declared_types names ds ≡ Some types → length types ≡ how_many ds
+types_count names [] types is = ap length (sym (some_same _ _ is))
+types_count names (d ∷ ds) types is =
+    let b = bind_some (named_val names (val_of d.1)) (λ v. declared_types names ds >>= λ others. Some (replicate d.0 v ++ others)) types is in
+    let rest = bind_some (declared_types names ds) (λ others. Some (replicate d.0 b.0 ++ others)) types b.2 in
+    let long : length types ≡ length (replicate d.0 b.0) + length rest.0 = ap length (sym (some_same _ _ rest.2)) ∙ length-append (replicate d.0 b.0) rest.0 in
+    let times : length (replicate d.0 b.0) ≡ d.0 = length-replicate d.0 b.0 in
+    let later : length rest.0 ≡ how_many ds = types_count names ds rest.0 rest.1 in
+    omega arith
+
+pub length-map : {A B : Type 0} (f : A → B) (xs : List A) → length (map f xs) ≡ length xs
+length-map f [] = refl
+length-map f (x ∷ xs) = let rest = length-map f xs in omega (arith, rest)

@@ -1,0 +1,11 @@
+pub mod Blocks
+pub mod Body
+pub mod BodyRead
+pub mod Declarations
+pub mod Emitting
+pub mod Features
+pub mod FunctionTypes
+pub mod OpenBlocks
+pub mod Reader
+pub mod Results
+pub mod Writer

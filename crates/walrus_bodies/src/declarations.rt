@@ -1,0 +1,151 @@
+//! Reading the locals that a body declares (Binary Format > Modules > Code Section).
+ghost use Rattle.std.specs.Prelude.{◌≡◌, ◌≤◌, ◌↔◌, ℕ, map, option_map, IsTrue, IfOk, ◌++◌, replicate};
+ghost use Rattle.wasm_forms.specs.Grammar.{Vector, U32, ◌then◌, at};
+ghost use Rattle.wasm_forms.specs.Types.{value_type};
+ghost use Rattle.wasm_forms.specs.declared.types.RawVal.{RawVal as DeclaredVal};
+ghost use Rattle.walrus_types.specs.Value.{abstract_heap, heap_type, val_type};
+ghost use Rattle.walrus_code.specs.FromRaw as from_raw;
+ghost use Rattle.walrus_code.specs.Indices.{ids_at};
+ghost use Rattle.walrus_code.specs.Names.{named_heap, named_val};
+ghost use Rattle.walrus_bodies.specs.Body.{declarations, declared_types, how_many, most_locals};
+ghost use Rattle.walrus_bodies.specs.Declarations.{declaration, declarations_of, ReadsDeclarations};
+ghost use Rattle.walrus_bodies.specs.Reader.{Gives};
+
+use std::alloc::{AllocError, Global};
+use walrus_code::{IndicesToIds, IrError};
+use walrus_types::{AbstractHeapType, HeapType, RefType, ValType};
+use wasm_forms::{Element, RawHeap, RawVal, WireError, read_u32, read_value_type, read_vector};
+
+/// How many locals a body can declare.
+pub const MOST_LOCALS: u32 = 50_000;
+
+/// Locals of one type that a body declares.
+#[derive(Clone, Copy, Debug, PartialEq, Eq)]
+pub struct Declaration {
+    /// How many.
+    pub count: u32,
+    /// Their type.
+    pub value: RawVal,
+}
+
+impl<'a> Element<'a> for Declaration {
+    ghost Seen = { ℕ × DeclaredVal };
+
+    ghost view = { declaration };
+
+    ghost form = { U32 then value_type };
+
+    fn read(_alloc: Global, bytes: &'a [u8]) -> Result<(Declaration, &'a [u8]), WireError> {
+        let (count, rest) = read_u32(bytes)?;
+        let (value, rest) = read_value_type(rest)?;
+        Ok((Declaration { count, value }, rest))
+    }
+}
+
+/// Reads the locals that a body declares, and gives them with the bytes after them.
+///
+/// Refused as [`IrError::Malformed`] where the bytes don't begin with such declarations. Memory is taken as declarations are read, and
+/// none for a count alone.
+pub fn read_declarations(alloc: Global, bytes: &[u8]) -> Result<(Vec<Declaration>, &[u8]), IrError>
+    ensures gives { Gives (λ r. (declarations_of r.0.items, r.1.now)) result (at declarations bytes.now) }
+    ensures found { ReadsDeclarations (λ r. (declarations_of r.0.items, r.1.now)) bytes.now result }
+{
+    take_declarations(alloc, bytes)
+}
+
+// The same, by the list function alone.
+#[tactic(auto, unfolding(crate::specs::Body::declarations))]
+fn take_declarations(alloc: Global, bytes: &[u8]) -> Result<(Vec<Declaration>, &[u8]), IrError>
+    ensures { Gives (λ r. (declarations_of r.0.items, r.1.now)) result (at declarations bytes.now) }
+{
+    Ok(read_vector::<Declaration>(alloc, bytes)?)
+}
+
+// Whether these declare at most 50,000 locals.
+pub(crate) fn are_few(declarations: &[Declaration]) -> bool
+    ensures { IsTrue result ↔ (how_many (declarations_of declarations.now) ≤ most_locals) }
+{
+    let mut left = MOST_LOCALS;
+    for declaration in declarations {
+        if declaration.count > left {
+            return false;
+        }
+        left -= declaration.count;
+    }
+    true
+}
+
+// The types of the locals that these declare, one for each.
+pub(crate) fn name_types(
+    alloc: Global,
+    declarations: &[Declaration],
+    indices: &IndicesToIds,
+) -> Result<Vec<ValType>, IrError>
+    ensures { Gives (λ types. map val_type types.items) result (declared_types (ids_at indices.now) (declarations_of declarations.now)) }
+{
+    let mut types = Vec::new(alloc);
+    for declaration in declarations {
+        let Some(ty) = name_value(declaration.value, indices) else {
+            return Err(IrError::Malformed);
+        };
+        push_times(&mut types, ty, declaration.count)?;
+    }
+    Ok(types)
+}
+
+// Appends a type so many times.
+fn push_times(types: &mut Vec<ValType>, ty: ValType, count: u32) -> Result<(), AllocError>
+    ensures { IfOk result (λ _. types.new.items ≡ types.old.items ++ replicate count ty) }
+{
+    for _turn in 0..count {
+        types.push(ty)?;
+    }
+    Ok(())
+}
+
+// A value type; none where an index in it isn't declared.
+fn name_value(value: RawVal, indices: &IndicesToIds) -> Option<ValType>
+    ensures { option_map val_type result ≡ named_val (ids_at indices.now) (from_raw.val_of value) }
+{
+    match value {
+        RawVal::I32 => Some(ValType::I32),
+        RawVal::I64 => Some(ValType::I64),
+        RawVal::F32 => Some(ValType::F32),
+        RawVal::F64 => Some(ValType::F64),
+        RawVal::V128 => Some(ValType::V128),
+        RawVal::Ref(reference) => Some(ValType::Ref(RefType {
+            nullable: reference.nullable,
+            heap_type: name_heap(reference.heap, indices)?,
+        })),
+    }
+}
+
+// A heap type; none where an index in it isn't declared.
+fn name_heap(heap: RawHeap, indices: &IndicesToIds) -> Option<HeapType>
+    ensures { option_map heap_type result ≡ named_heap (ids_at indices.now) (from_raw.heap_of heap) }
+{
+    match heap {
+        RawHeap::Abstract(byte) => Some(HeapType::Abstract(abstract_heap(byte))),
+        RawHeap::Index(index) => Some(HeapType::Concrete(indices.get_type(index)?)),
+    }
+}
+
+// The abstract heap type of a byte from 69 to 74 (Binary Format > Types > Heap Types).
+fn abstract_heap(byte: u8) -> AbstractHeapType
+    ensures { abstract_heap result ≡ from_raw.abstract_of byte }
+{
+    match byte {
+        0x69 => AbstractHeapType::Exn,
+        0x6A => AbstractHeapType::Array,
+        0x6B => AbstractHeapType::Struct,
+        0x6C => AbstractHeapType::I31,
+        0x6D => AbstractHeapType::Eq,
+        0x6E => AbstractHeapType::Any,
+        0x6F => AbstractHeapType::Extern,
+        0x70 => AbstractHeapType::Func,
+        0x71 => AbstractHeapType::None,
+        0x72 => AbstractHeapType::NoExtern,
+        0x73 => AbstractHeapType::NoFunc,
+        _ => AbstractHeapType::NoExn,
+    }
+}

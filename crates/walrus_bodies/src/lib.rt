@@ -1,0 +1,18 @@
+//! Function bodies, read from and written to the binary format (Binary Format > Modules > Code Section, Binary Format > Instructions).
+#![tactic(auto)]
+
+mod blocks;
+mod body;
+mod declarations;
+mod emit;
+mod features;
+mod read;
+mod types;
+
+pub use blocks::{OpenBlocks, Opened};
+pub use body::{ReadBody, read_body};
+pub use declarations::{Declaration, MOST_LOCALS, read_declarations};
+pub use emit::emit_operators;
+pub use features::Features;
+pub use read::read_operators;
+pub use types::FunctionTypes;

@@ -1,0 +1,4 @@
+pub mod Function
+pub mod Instructions
+pub mod LendsBody
+pub mod Sequence

@@ -1,0 +1,23 @@
+-- What a contract sees of a sequence of operators that is being built.
+use Rattle.std.specs.Prelude.{◌≡◌, ℕ, List, map}
+use Rattle.walrus_types.specs.Operators.{Op}
+use Rattle.walrus_code.specs.Code.{ops_of}
+use Rattle.walrus_code.specs.Location.{location}
+use Rattle.walrus_code.specs.declared.operator.Operator.{Operator}
+use Rattle.walrus_builder.specs.declared.sequence.InstrSeqBuilder.{InstrSeqBuilder}
+
+-- where each operator came from
+abbrev pub locations : List Operator → List ℕ
+locations operators = map (λ operator. location operator.loc) operators
+
+-- the operators that were built, in order, over the places of the items that they name
+abbrev pub built : InstrSeqBuilder → List Op
+built b = ops_of b.operators.items
+
+-- where each of them came from
+abbrev pub located : InstrSeqBuilder → List ℕ
+located b = locations b.operators.items
+
+-- the same operators from the same locations
+abbrev pub Stays : (old new : InstrSeqBuilder) → Type 0
+Stays old new = (built new ≡ built old) × (located new ≡ located old)

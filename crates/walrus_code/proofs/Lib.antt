@@ -1,0 +1,2 @@
+mod Arguments
+pub mod BackLemmas

@@ -1,0 +1,11 @@
+use Rattle.std.proofs.Common.{◌≡◌, ◌++◌, ◌≤◌, length, map, flat_map, take, drop}
+use Rattle.walrus_types.specs.Operators.{arg_names}
+use Rattle.walrus_code.specs.Code.{arg_of, item_of}
+use Rattle.walrus_code.proofs.items.push_items.Given as goal
+
+-- what was named so far and what is left to name are what the whole names; what was there stands in front
+abbrev pub invariant-loop-arg : goal.invariant-loop-arg
+invariant-loop-arg l =
+    (map item_of l.to.items ++ flat_map arg_names (map arg_of (drop l.arg-index l.args)) ≡ map item_of l.initial.to.items ++ flat_map arg_names (map arg_of l.args))
+    × (take (length l.initial.to.items) l.to.items ≡ l.initial.to.items)
+    × (length l.initial.to.items ≤ length l.to.items)

@@ -1,0 +1,9 @@
+pub mod Code
+pub mod Errors
+pub mod FromRaw
+pub mod Function
+pub mod Indices
+pub mod Location
+pub mod Names
+pub mod Results
+pub mod Stands

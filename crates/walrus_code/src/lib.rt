@@ -1,0 +1,25 @@
+//! Operators over ids (Structure > Instructions), made from operators over indices and put back into them
+//! (Structure > Modules > Indices).
+#![tactic(auto)]
+
+mod error;
+mod function;
+mod indices;
+mod items;
+mod law;
+mod local_numbers;
+mod location;
+mod operator;
+mod to_ids;
+mod to_indices;
+
+pub use error::IrError;
+pub use function::LocalFunction;
+pub use indices::{IdsToIndices, IndicesToIds};
+pub use items::{ItemId, push_locals, push_names};
+pub use law::named_operators_lead_back;
+pub use local_numbers::LocalNumbers;
+pub use location::InstrLocId;
+pub use operator::{Arg, Args, BlockType, Operator};
+pub use to_ids::name_operator;
+pub use to_indices::index_operator;

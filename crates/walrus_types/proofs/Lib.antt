@@ -1,0 +1,14 @@
+pub mod FunctionSame
+pub mod Indexed
+pub mod Lists
+pub mod Members
+pub mod NewGroups
+pub mod Noted
+pub mod OwnIdLemmas
+pub mod Places
+pub mod RowNames
+pub mod ShapesEnd
+pub mod ShapesKept
+pub mod SlotLemmas
+pub mod TypeMaps
+pub mod WholeLemmas

@@ -1,0 +1,84 @@
+-- What an index of types has after an id was put in.
+use Rattle.std.proofs.Common.{◌≡◌, ℕ, ◌||◌, Bool, true, false, cond, List, [], ◌∷◌, ◌++◌, map, Option, Some, None, IsSome, refl, ap, sym, ◌∙◌, eq-eqb, Ordering, Less, Equal, Greater, ◌⊎◌, ⊎_elim, inl, inr}
+use Rattle.std.specs.Ordering.{is_eq}
+use Rattle.std.specs.BTreeMap.{BTreeMap, get, get_by, is_at, WritesThrough, Updates}
+use Rattle.std.specs.Cmp.{IsTotalOrder}
+use Rattle.std.specs.Global.{Vec}
+use mathlib.Core.Path.{fun_ext}
+use Rattle.walrus_base.specs.Id.{place}
+use Rattle.walrus_base.specs.declared.id.Id.{Id}
+use Rattle.walrus_base.specs.declared.keys.TypeKey.{TypeKey}
+use Rattle.walrus_types.specs.Index.{places_of}
+use Rattle.walrus_types.specs.PlaceList.{has}
+
+or_left : (a b : Bool) → a ≡ true → (a || b) ≡ true
+or_left true b h = refl
+or_left false b h = absurd cc
+
+or_right : (a b : Bool) → b ≡ true → (a || b) ≡ true
+or_right true b h = refl
+or_right false b h = h
+
+or_cases : (a b : Bool) → (a || b) ≡ true → (a ≡ true) ⊎ (b ≡ true)
+or_cases true b h = inl refl
+or_cases false b h = inr h
+
+-- a list with one more id has what it had, and that id
+pub has-push_old : (ids : List (Id TypeKey)) (id : Id TypeKey) (p : ℕ) → has (map place ids) p ≡ true → has (map place (ids ++ id ∷ [])) p ≡ true
+has-push_old [] id p h = absurd cc
+has-push_old (x ∷ xs) id p h =
+    ⊎_elim (λ l. or_left _ _ l) (λ r. or_right _ _ (has-push_old xs id p r)) (or_cases _ _ h)
+
+pub has-push_new : (ids : List (Id TypeKey)) (id : Id TypeKey) → has (map place (ids ++ id ∷ [])) (place id) ≡ true
+has-push_new [] id = or_left _ _ (eq-eqb (place id) (place id) refl)
+has-push_new (x ∷ xs) id = or_right _ _ (has-push_new xs id)
+
+equal_from : (o : Ordering) → is_eq o ≡ true → o ≡ Equal
+equal_from Less h = absurd cc
+equal_from Equal h = refl
+equal_from Greater h = absurd cc
+
+stays_at : (b : Bool) (old_q old_k new_q : Option (Vec (Id TypeKey))) (v : Vec (Id TypeKey)) (p : ℕ) → new_q ≡ cond b (Some v) old_q → (b ≡ true → old_q ≡ old_k)
+    → (has (places_of old_k) p ≡ true → has (map place v.items) p ≡ true) → has (places_of old_q) p ≡ true → has (places_of new_q) p ≡ true
+stays_at true old_q old_k new_q v p is same more h = rw is (more (rw (same refl) at h))
+stays_at false old_q old_k new_q v p is same more h = rw is h
+
+noted_at : (b : Bool) (old_q new_q : Option (Vec (Id TypeKey))) (v : Vec (Id TypeKey)) (p : ℕ) → new_q ≡ cond b (Some v) old_q → b ≡ true → has (map place v.items) p ≡ true → has (places_of new_q) p ≡ true
+noted_at true old_q new_q v p is t h = rw is h
+noted_at false old_q new_q v p is t h = absurd cc
+
+none_has : (old : Option (Vec (Id TypeKey))) (p : ℕ) → old ≡ None → has (places_of old) p ≡ true → ⊥
+none_has None p none h = cc
+none_has (Some v) p none h = cc
+
+is_some_from : (o : Option (Vec (Id TypeKey))) (v : Vec (Id TypeKey)) → o ≡ Some v → IsSome o
+is_some_from (Some w) v h = refl
+is_some_from None v h = absurd cc
+
+-- an equal map has the same
+pub has_old : {K : Type 0} (R : K → K → Ordering) (m n : BTreeMap K (Vec (Id TypeKey))) (q : K) (p : ℕ) → m ≡ n → has (places_of (get R n q)) p ≡ true → has (places_of (get R m q)) p ≡ true
+has_old R m n q p same h = ap (λ x. has (places_of (get R x q)) p) same ∙ h
+
+module _ {K : Type 0} {R : K → K → Ordering} (total : IsTotalOrder R) (m n : BTreeMap K (Vec (Id TypeKey))) (k : K) (v : Vec (Id TypeKey)) where
+  at_equal : (q : K) → R k q ≡ Equal → get R m q ≡ get R m k
+  at_equal q same = ap (λ c. get_by c m) (sym (fun_ext (λ z. total.congr k q z same)))
+
+  -- written through what was lent: where the list has what it had, each list has what it had
+  pub pushed_stays : (ids : Vec (Id TypeKey)) → WritesThrough R (R k) m v n → get R m k ≡ Some ids → ((p : ℕ) → has (map place ids.items) p ≡ true → has (map place v.items) p ≡ true)
+      → (q : K) (p : ℕ) → has (places_of (get R m q)) p ≡ true → has (places_of (get R n q)) p ≡ true
+  pushed_stays ids w found more q p h =
+      stays_at (is_at (R k) q) (get R m q) (get R m k) (get R n q) v p ((w.3 (is_some_from _ ids found)).0 q) (λ t. at_equal q (equal_from _ t)) (λ t. more p (rw found at t)) h
+
+  -- and an id that it has stands at each equal key
+  pub pushed_noted : (ids : Vec (Id TypeKey)) → WritesThrough R (R k) m v n → get R m k ≡ Some ids → (p : ℕ) → has (map place v.items) p ≡ true → (q : K) → R k q ≡ Equal → has (places_of (get R n q)) p ≡ true
+  pushed_noted ids w found p there q same =
+      noted_at (is_at (R k) q) (get R m q) (get R n q) v p ((w.3 (is_some_from _ ids found)).0 q) (ap is_eq same) there
+
+  -- put in under a new key: each list has what it had
+  pub inserted_stays : Updates R m n k (Some v) → (same_key : K) → R k same_key ≡ Equal → get R m same_key ≡ None → (q : K) (p : ℕ) → has (places_of (get R m q)) p ≡ true → has (places_of (get R n q)) p ≡ true
+  inserted_stays updates same_key same none q p h =
+      stays_at (is_at (R k) q) (get R m q) (get R m k) (get R n q) v p (updates.0 q) (λ t. at_equal q (equal_from _ t)) (λ t. absurd (none_has _ p (sym (at_equal same_key same) ∙ none) t)) h
+
+  -- and what the new list has stands at each equal key
+  pub inserted_noted : Updates R m n k (Some v) → (p : ℕ) → has (map place v.items) p ≡ true → (q : K) → R k q ≡ Equal → has (places_of (get R n q)) p ≡ true
+  inserted_noted updates p there q same = noted_at (is_at (R k) q) (get R m q) (get R n q) v p (updates.0 q) (ap is_eq same) there

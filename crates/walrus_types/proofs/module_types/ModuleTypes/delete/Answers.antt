@@ -1,0 +1,34 @@
+use Rattle.std.proofs.Common.{ap, sym, ◌∙◌}
+use Rattle.walrus_types.specs.ModuleTypes.{type_slots, type_names}
+use Rattle.walrus_types.specs.TypeDef.{type_def, type_name, places_between}
+use Rattle.walrus_types.specs.TypeSlots.{defs, names, cleared, group_of}
+use Rattle.walrus_types.proofs.Indexed.{indexed-cleared, indexed-seen}
+use Rattle.walrus_types.proofs.OwnIdLemmas.{under_own_ids-cleared}
+use Rattle.walrus_types.proofs.WholeLemmas.{whole-cleared, whole-same}
+use Rattle.walrus_types.proofs.SlotLemmas.{map-cleared}
+use Rattle.walrus_types.proofs.module_types.ModuleTypes.delete.Goals as goal
+
+pub invariant_of-self : goal.invariant_of-self
+invariant_of-self c =
+    let old = c.args.self.now in
+    let emptied = places_between c.get-ty.result.now.first c.get-ty.result.now.end in
+    record {
+      whole = whole-same (cleared emptied (type_slots old)) _ (ap (λ places. defs places) c.clear.ensures ∙ map-cleared type_def emptied old.places.items)
+          (whole-cleared (type_slots old) c.args.id.place (type_def c.get-ty.result.now) c.get-ty.ensures.value old.whole);
+      under_own_ids = rw c.clear.ensures (under_own_ids-cleared 0 emptied old.places.items old.under_own_ids);
+      indexed = indexed-seen old.index (cleared emptied old.places.items) c.clear.new.places.items (indexed-cleared old.index emptied old.places.items old.indexed) (ap (λ places. defs places) c.clear.ensures);
+    }
+
+pub returns-clause-slots : goal.returns-clause-slots
+returns-clause-slots c =
+    let old = c.args.self.now in
+    let emptied = places_between c.get-ty.result.now.first c.get-ty.result.now.end in
+    ap (λ places. defs places) c.clear.ensures ∙ map-cleared type_def emptied old.places.items
+    ∙ ap (λ o. cleared (group_of o) (type_slots old)) (sym c.get-ty.ensures.value)
+
+pub returns-clause-names : goal.returns-clause-names
+returns-clause-names c =
+    let old = c.args.self.now in
+    let emptied = places_between c.get-ty.result.now.first c.get-ty.result.now.end in
+    ap (λ places. names places) c.clear.ensures ∙ map-cleared type_name emptied old.places.items
+    ∙ ap (λ o. cleared (group_of o) (type_names old)) (sym c.get-ty.ensures.value)

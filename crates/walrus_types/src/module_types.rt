@@ -1,0 +1,222 @@
+//! The types of a module, by their ids.
+ghost use Rattle.std.specs.Prelude.{◌≡◌, ◌≢◌, ◌++◌, [], ℕ, length, Some, IsTrue, ◌↔◌, MatchResult, MatchOption, IfOk, count_by, is_some, slice_set, map};
+ghost use Rattle.std.specs.List.{range_with_len};
+ghost use Rattle.walrus_base.specs.Arena.{item_at, IsLive, entries};
+ghost use Rattle.walrus_base.specs.Id.{place};
+ghost use Rattle.walrus_types.specs.Alone.{alone, IsIndexed, FoundOrAdded};
+ghost use Rattle.walrus_types.specs.Composite.{function_type, function_of};
+ghost use Rattle.walrus_types.specs.OwnIds.{under_own_ids};
+ghost use Rattle.walrus_types.specs.TypeDef.{type_def, type_place, type_name, name_bytes};
+ghost use Rattle.walrus_types.specs.TypeSlots.{defs, group_at, new_group, no_names, cleared};
+ghost use Rattle.walrus_types.specs.Whole.{AreWhole};
+ghost use Rattle.std.proofs.Props.{props};
+ghost use Rattle.walrus_types.specs.TypesLeft.{types_left, ids_left};
+
+use crate::composite::{CompositeType, FunctionType, NewType};
+use crate::group::GroupIds;
+use crate::index::FunctionIndex;
+use crate::slots::{clear, count_items, note_alone, placed, rename};
+use crate::type_iter::TypeIter;
+use crate::types::Type;
+use crate::value::ValType;
+use std::alloc::{AllocError, Global};
+use walrus_base::{Id, TypeId};
+
+/// The types of a module, by their ids, in groups (Structure > Types > Recursive Types).
+///
+/// A place is never used again. Groups are added and deleted whole.
+#[derive(Drop)]
+pub struct ModuleTypes {
+    places: Vec<Option<Type>>,
+    index: FunctionIndex,
+    alloc: Global,
+    ghost under_own_ids: { IsTrue (under_own_ids 0 places.items) },
+    ghost indexed: { IsIndexed index places.items },
+    ghost whole: { AreWhole (defs places.items) } by { Prim.hlevel props },
+}
+
+impl ModuleTypes {
+    ghost use Rattle.walrus_types.specs.ModuleTypes.{type_slots, type_names};
+
+    /// No types. Takes no memory until the first one comes.
+    pub fn new(alloc: Global) -> ModuleTypes
+        ensures slots { type_slots result ≡ [] }
+        ensures names { type_names result ≡ [] }
+    {
+        ModuleTypes {
+            places: Vec::new(alloc),
+            index: FunctionIndex::new(alloc),
+            alloc,
+        }
+    }
+
+    /// The ids that the members of the next group get, if it has this many.
+    pub fn next_ids(&self, alloc: Global, count: usize) -> Result<Vec<TypeId>, AllocError>
+        ensures { IfOk result (λ ids. map (λ id. place id) ids.items ≡ range_with_len (length (type_slots self.now)) count) }
+    {
+        let first = self.places.len();
+        let Some(end) = first.checked_add(count) else {
+            return Err(AllocError);
+        };
+        let mut ids = Vec::new(alloc);
+        for place in first..end {
+            ids.push(Id::at(place))?;
+        }
+        Ok(ids)
+    }
+
+    /// Adds a group of these members: each gets the next id, none has a name. An empty list adds nothing.
+    /// Where memory runs out, the members are dropped and nothing changes.
+    pub fn add_group(&mut self, members: Vec<NewType>) -> Result<(), AllocError>
+        ensures slots { MatchResult result
+            (λ _. type_slots self.new ≡ type_slots self.old ++ new_group (length (type_slots self.old)) members.items)
+            (λ _. type_slots self.new ≡ type_slots self.old) }
+        ensures names { MatchResult result
+            (λ _. type_names self.new ≡ type_names self.old ++ no_names members.items)
+            (λ _. type_names self.new ≡ type_names self.old) }
+    {
+        let mut added = placed(self.alloc, self.places.len(), members)?;
+        note_alone(&mut self.index, added.as_slice())?;
+        self.places.append(&mut added)?;
+        Ok(())
+    }
+
+    /// The id of a final type of functions with these parameters and results that is alone in its group and has no supertype.
+    /// One that is there already is answered; else it is added. Where memory runs out, nothing changes.
+    pub fn add(&mut self, params: &[ValType], results: &[ValType]) -> Result<TypeId, AllocError>
+        ensures { MatchResult result
+            (λ id. FoundOrAdded (function_of params.now results.now) (type_slots self.old) (type_slots self.new) (type_names self.old) (type_names self.new) (place id))
+            (λ _. (type_slots self.new ≡ type_slots self.old) × (type_names self.new ≡ type_names self.old)) }
+    {
+        let params = params.to_vec(self.alloc)?;
+        let results = results.to_vec(self.alloc)?;
+        let function = FunctionType::new(params, results);
+        match self.find(&function) {
+            Some(id) => Ok(id),
+            None => self.add_function(function),
+        }
+    }
+
+    // The same where none is there.
+    fn add_function(&mut self, function: FunctionType) -> Result<TypeId, AllocError>
+        requires { (p : ℕ) → item_at (type_slots self.old) p ≢ Some (alone p (function_type function)) }
+        ensures { MatchResult result
+            (λ id. FoundOrAdded (function_type function) (type_slots self.old) (type_slots self.new) (type_names self.old) (type_names self.new) (place id))
+            (λ _. (type_slots self.new ≡ type_slots self.old) × (type_names self.new ≡ type_names self.old)) }
+    {
+        let id = Id::at(self.places.len());
+        let mut members = Vec::new(self.alloc);
+        members.push(NewType {
+            is_final: true,
+            supertype: None,
+            comp: CompositeType::Function(function),
+        })?;
+        self.add_group(members)?;
+        Ok(id)
+    }
+
+    /// The id of such a type, if one is there.
+    pub fn find(&self, function: &FunctionType) -> Option<TypeId>
+        ensures { MatchOption result
+            ((p : ℕ) → item_at (type_slots self.now) p ≢ Some (alone p (function_type function.now)))
+            (λ id. item_at (type_slots self.now) (place id) ≡ Some (alone (place id) (function_type function.now))) }
+    {
+        for id in self.index.at(function) {
+            if self.is_alone_as(*id, function) {
+                return Some(*id);
+            }
+        }
+        None
+    }
+
+    // Whether such a type is under this id.
+    fn is_alone_as(&self, id: TypeId, function: &FunctionType) -> bool
+        ensures { IsTrue result ↔ (item_at (type_slots self.now) (place id) ≡ Some (alone (place id) (function_type function.now))) }
+    {
+        if !self.contains(id) {
+            return false;
+        }
+        match self.get(id).alone_function() {
+            Some(found) => found == function,
+            None => false,
+        }
+    }
+
+    /// Takes the whole group of a live type out. Takes no memory.
+    pub fn delete(&mut self, id: TypeId)
+        requires { IsLive (type_slots self.old) (place id) }
+        ensures slots { type_slots self.new ≡ cleared (group_at (type_slots self.old) (place id)) (type_slots self.old) }
+        ensures names { type_names self.new ≡ cleared (group_at (type_slots self.old) (place id)) (type_names self.old) }
+    {
+        let ty = self.get(id);
+        let (first, end) = (ty.first, ty.end);
+        clear(&mut self.places, first, end);
+    }
+
+    /// Gives a live type this name, or takes its name away.
+    pub fn set_name(&mut self, id: TypeId, name: Option<String>)
+        requires { IsLive (type_slots self.old) (place id) }
+        ensures slots { type_slots self.new ≡ type_slots self.old }
+        ensures names { type_names self.new ≡ slice_set (type_names self.old) (place id) (Some (name_bytes name)) }
+    {
+        rename(&mut self.places, id.index(), name);
+    }
+
+    /// The type of a live id.
+    pub fn get(&self, id: TypeId) -> &Type
+        requires { IsLive (type_slots self.now) (place id) }
+        ensures value { item_at (type_slots self.now) (place id) ≡ Some (type_def result.now) }
+        ensures own { type_place result.now ≡ place id }
+        ensures named { item_at (type_names self.now) (place id) ≡ Some (type_name result.now) }
+    {
+        match &self.places[id.index()] {
+            Some(ty) => ty,
+            None => unreachable!(),
+        }
+    }
+
+    /// The ids of the members of a live type's group, in order.
+    pub fn group(&self, id: TypeId) -> GroupIds
+        requires { IsLive (type_slots self.now) (place id) }
+        ensures { ids_left result ≡ group_at (type_slots self.now) (place id) }
+    {
+        let ty = self.get(id);
+        GroupIds::between(ty.first, ty.end)
+    }
+
+    /// Each type is a member of its group, and all members of its group are there.
+    pub fn groups_are_whole(&self)
+        ensures { AreWhole (type_slots self.now) }
+    {}
+
+    /// Whether the type of the id is there.
+    pub fn contains(&self, id: TypeId) -> bool
+        ensures { IsTrue result ↔ IsLive (type_slots self.now) (place id) }
+    {
+        match self.places.get(id.index()) {
+            Some(slot) => slot.is_some(),
+            None => false,
+        }
+    }
+
+    /// How many types there are. Deleted ones aren't counted.
+    pub fn len(&self) -> usize
+        ensures { result ≡ count_by is_some (type_slots self.now) }
+    {
+        count_items(self.places.as_slice())
+    }
+
+    /// Whether there is no type.
+    pub fn is_empty(&self) -> bool
+        ensures { IsTrue result ↔ (count_by is_some (type_slots self.now) ≡ 0) }
+    {
+        self.len() == 0
+    }
+
+    /// The types, by rising id.
+    pub fn iter(&self) -> TypeIter<'_>
+        ensures { types_left result ≡ entries (type_slots self.now) }
+    {
+        TypeIter::over(self.places.as_slice())
+    }
+}

@@ -1,0 +1,93 @@
+//! The types that a type names.
+ghost use Rattle.std.specs.Prelude.{OnOk, map, flat_map};
+ghost use Rattle.walrus_base.specs.Types.{heap_names, val_heaps, storage_heaps, field_heaps, comp_names, sub_names, val_names};
+ghost use Rattle.walrus_types.specs.Composite.{storage_type, field_type, comp_type};
+ghost use Rattle.walrus_types.specs.Names.{Puts};
+ghost use Rattle.walrus_types.specs.TypeDef.{type_def};
+ghost use Rattle.walrus_types.specs.Value.{heap_type, val_type};
+
+use crate::composite::{CompositeType, FieldType, StorageType};
+use crate::types::Type;
+use crate::value::{HeapType, ValType};
+use std::alloc::AllocError;
+use walrus_base::TypeId;
+
+/// Puts the ids of the types that a type names behind `to`, in order, its supertype first.
+pub fn push_names(to: &mut Vec<TypeId>, ty: &Type) -> Result<(), AllocError>
+    ensures { OnOk result (Puts to.old to.new (sub_names (type_def ty.now).sub)) }
+{
+    if let Some(id) = ty.supertype() {
+        to.push(id)?;
+    }
+    push_comp_names(to, ty.comp())
+}
+
+// The same for a composite type.
+fn push_comp_names(to: &mut Vec<TypeId>, comp: &CompositeType) -> Result<(), AllocError>
+    ensures { OnOk result (Puts to.old to.new (comp_names (comp_type comp.now))) }
+{
+    match comp {
+        CompositeType::Function(function) => {
+            push_all_val_names(to, function.params())?;
+            push_all_val_names(to, function.results())
+        }
+        CompositeType::Struct(fields) => push_all_field_names(to, fields.fields.as_slice()),
+        CompositeType::Array(array) => push_field_names(to, array.field),
+    }
+}
+
+// The same for value types.
+fn push_all_val_names(to: &mut Vec<TypeId>, vals: &[ValType]) -> Result<(), AllocError>
+    ensures { OnOk result (Puts to.old to.new (flat_map heap_names (flat_map val_heaps (map val_type vals.now)))) }
+{
+    for val in vals {
+        push_val_names(to, *val)?;
+    }
+    Ok(())
+}
+
+// The same for fields.
+fn push_all_field_names(to: &mut Vec<TypeId>, fields: &[FieldType]) -> Result<(), AllocError>
+    ensures { OnOk result (Puts to.old to.new (flat_map heap_names (flat_map field_heaps (map field_type fields.now)))) }
+{
+    for field in fields {
+        push_field_names(to, *field)?;
+    }
+    Ok(())
+}
+
+// The same for a field.
+fn push_field_names(to: &mut Vec<TypeId>, field: FieldType) -> Result<(), AllocError>
+    ensures { OnOk result (Puts to.old to.new (flat_map heap_names (field_heaps (field_type field)))) }
+{
+    match field.element_type {
+        StorageType::Val(val) => push_val_names(to, val),
+        StorageType::I8 => Ok(()),
+        StorageType::I16 => Ok(()),
+    }
+}
+
+// The same for a value type.
+fn push_val_names(to: &mut Vec<TypeId>, val: ValType) -> Result<(), AllocError>
+    ensures { OnOk result (Puts to.old to.new (flat_map heap_names (val_heaps (val_type val)))) }
+{
+    match val {
+        ValType::Ref(ty) => push_heap_names(to, ty.heap_type),
+        ValType::I32 => Ok(()),
+        ValType::I64 => Ok(()),
+        ValType::F32 => Ok(()),
+        ValType::F64 => Ok(()),
+        ValType::V128 => Ok(()),
+    }
+}
+
+// The same for a heap type.
+fn push_heap_names(to: &mut Vec<TypeId>, heap: HeapType) -> Result<(), AllocError>
+    ensures { OnOk result (Puts to.old to.new (heap_names (heap_type heap))) }
+{
+    match heap {
+        HeapType::Abstract(_) => Ok(()),
+        HeapType::Concrete(id) => Ok(to.push(id)?),
+        HeapType::Exact(id) => Ok(to.push(id)?),
+    }
+}

@@ -1,0 +1,111 @@
+//! The places in which the types of a module are kept.
+ghost use Rattle.std.specs.Prelude.{◌≡◌, ◌∷◌, ℕ, Some, IfOk, MatchOption, OnOk, IsTrue, slice_set, count_by, is_some, None, []};
+ghost use Rattle.walrus_base.specs.Arena.{item_at, IsLive};
+ghost use Rattle.walrus_base.specs.Id.{place};
+ghost use Rattle.walrus_types.specs.TypeDef.{places_between, type_def, type_place, name_bytes};
+ghost use Rattle.walrus_types.specs.TypeSlots.{defs, names, new_group, no_names, cleared};
+ghost use Rattle.walrus_types.specs.OwnIds.{under_own_ids};
+ghost use Rattle.walrus_types.specs.Alone.{alone};
+ghost use Rattle.walrus_types.specs.Composite.{function_type};
+ghost use Rattle.walrus_types.specs.Function.{AsAlone};
+ghost use Rattle.walrus_types.specs.Index.{places_at};
+ghost use Rattle.walrus_types.specs.PlaceList.{has};
+
+use crate::composite::{FunctionType, NewType};
+use crate::index::FunctionIndex;
+use crate::types::Type;
+use std::alloc::{AllocError, Global};
+use walrus_base::Id;
+
+// The types of a group of these members, whose places begin at the first.
+pub(crate) fn placed(
+    alloc: Global,
+    first: usize,
+    members: Vec<NewType>,
+) -> Result<Vec<Option<Type>>, AllocError>
+    ensures group { IfOk result (λ added. defs added.items ≡ new_group first members.items) }
+    ensures unnamed { IfOk result (λ added. names added.items ≡ no_names members.items) }
+    ensures own { IfOk result (λ added. IsTrue (under_own_ids first added.items)) }
+{
+    let Some(end) = first.checked_add(members.len()) else {
+        return Err(AllocError);
+    };
+    let mut added = Vec::new(alloc);
+    for member in members {
+        let Some(place) = first.checked_add(added.len()) else {
+            return Err(AllocError);
+        };
+        added.push(Some(Type::new(Id::at(place), first, end, member)))?;
+    }
+    Ok(added)
+}
+
+// Empties the places from the first on, up to the end.
+pub(crate) fn clear(places: &mut Vec<Option<Type>>, first: usize, end: usize)
+    ensures { places.new.items ≡ cleared (places_between first end) places.old.items }
+{
+    for place in first..end {
+        clear_place(places, place);
+    }
+}
+
+// Empties a place, if there is one.
+fn clear_place<T>(places: &mut Vec<Option<T>>, place: usize)
+where
+    T: Drop,
+    ensures { places.new.items ≡ slice_set places.old.items place None }
+{
+    if place < places.len() {
+        places[place] = None;
+    }
+}
+
+// How many places have an item.
+pub(crate) fn count_items<T>(places: &[Option<T>]) -> usize
+    ensures { result ≡ count_by is_some places.now }
+{
+    places.iter().filter(|slot| slot.is_some()).count()
+}
+
+// Gives the type at a place this name.
+pub(crate) fn rename(places: &mut Vec<Option<Type>>, place: usize, name: Option<String>)
+    requires { IsLive places.old.items place }
+    ensures defs { defs places.new.items ≡ defs places.old.items }
+    ensures names { names places.new.items ≡ slice_set (names places.old.items) place (Some (name_bytes name)) }
+    ensures own { (start : ℕ) → under_own_ids start places.new.items ≡ under_own_ids start places.old.items }
+{
+    if let Some(mut ty) = places[place].take() {
+        ty.name = name;
+        places[place] = Some(ty);
+    }
+}
+
+// Puts the type into the index, if it is the only one of its group and a final type of functions without supertype.
+pub(crate) fn note_alone(
+    index: &mut FunctionIndex,
+    added: &[Option<Type>],
+) -> Result<(), AllocError>
+    ensures stays { (f : _) (p : ℕ) → IsTrue (has (places_at index.old f) p) → IsTrue (has (places_at index.new f) p) }
+    ensures noted { OnOk result ((ty : _) (f : _) → added.now ≡ Some ty ∷ [] → type_def ty ≡ alone (type_place ty) (function_type f) → IsTrue (has (places_at index.new f) (type_place ty))) }
+{
+    match only_type(added) {
+        Some(ty) => match ty.alone_function() {
+            Some(function) => index.note(function, ty.id()),
+            None => Ok(()),
+        },
+        None => Ok(()),
+    }
+}
+
+// The only type of these, if it is the only one.
+fn only_type(added: &[Option<Type>]) -> Option<&Type>
+    ensures { MatchOption result ((ty : _) → added.now ≡ Some ty ∷ [] → ⊥) (λ ty. added.now ≡ Some ty.now ∷ []) }
+{
+    if added.len() != 1 {
+        return None;
+    }
+    match &added[0] {
+        Some(ty) => Some(ty),
+        None => None,
+    }
+}

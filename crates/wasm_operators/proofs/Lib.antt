@@ -1,0 +1,9 @@
+pub mod Arguments
+pub mod Lookup
+pub mod OneRead
+pub mod OneStands
+pub mod Pushed
+pub mod Skipped
+pub mod Stands
+pub mod Taken
+pub mod Written

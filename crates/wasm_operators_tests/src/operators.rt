@@ -1,0 +1,147 @@
+//! Operators, read and written back. They are given as text, in hexadecimal.
+
+use std::alloc::Global;
+use std::test::Fail;
+use wasm_operators::{RawOperator, is_operator, kinds, read_operator, write_operator};
+
+fn digit(byte: u8) -> Option<u8> {
+    match byte {
+        b'0'..=b'9' => Some(byte - b'0'),
+        b'A'..=b'F' => Some(byte - b'A' + 10),
+        _ => None,
+    }
+}
+
+fn number(high: u8, low: u8) -> Option<u8> {
+    match (digit(high), digit(low)) {
+        (Some(first), Some(second)) => Some((first & 15) * 16 + (second & 15)),
+        _ => None,
+    }
+}
+
+fn add_byte(bytes: &mut Vec<u8>, word: &str) -> bool {
+    match word.as_bytes() {
+        [high, low] => match number(*high, *low) {
+            Some(byte) => bytes.push(byte).is_ok(),
+            None => false,
+        },
+        _ => false,
+    }
+}
+
+// Whether memory suffices for the bytes that the text says.
+fn add_bytes(bytes: &mut Vec<u8>, text: &str) -> bool {
+    for word in text.split_whitespace() {
+        if !add_byte(bytes, word) {
+            return false;
+        }
+    }
+    true
+}
+
+// Whether these are the bytes that the text says.
+fn are(alloc: Global, found: &[u8], text: &str) -> bool {
+    let mut wanted = Vec::new(alloc);
+    add_bytes(&mut wanted, text) && found == wanted.as_slice()
+}
+
+// Whether the operator is one that bytes spell, and is written so.
+fn is_written(alloc: Global, operator: &RawOperator, text: &str) -> bool {
+    let mut written = Vec::new(alloc);
+    kinds(operator.op).is_some()
+        && is_operator(operator)
+        && write_operator(&mut written, operator).is_ok()
+        && are(alloc, &written, text)
+}
+
+// Whether an operator stands there, and nothing behind it, and is written so.
+fn reads(alloc: Global, bytes: &[u8], text: &str) -> bool {
+    match read_operator(alloc, bytes) {
+        Ok((operator, rest)) => rest.is_empty() && is_written(alloc, &operator, text),
+        Err(_) => false,
+    }
+}
+
+fn comes_back(alloc: Global, input: &str, output: &str) -> bool {
+    let mut bytes = Vec::new(alloc);
+    add_bytes(&mut bytes, input) && reads(alloc, &bytes, output)
+}
+
+fn is_refused(alloc: Global, input: &str) -> bool {
+    let mut bytes = Vec::new(alloc);
+    add_bytes(&mut bytes, input) && read_operator(alloc, &bytes).is_err()
+}
+
+// Each operator, and what is written of it.
+const ROWS: [(&str, &str); 24] = [
+    // nop, and block with no result, a value and the index of a type
+    ("01", "01"),
+    ("02 40", "02 40"),
+    ("02 7F", "02 7F"),
+    ("02 C0 00", "02 C0 00"),
+    // try_table with a clause of each kind
+    (
+        "1F 40 04 00 05 01 01 06 02 02 03 03 04",
+        "1F 40 04 00 05 01 01 06 02 02 03 03 04",
+    ),
+    // br_table, call_indirect, select with a type
+    ("0E 02 00 01 02", "0E 02 00 01 02"),
+    ("11 03 00", "11 03 00"),
+    ("1C 01 6F", "1C 01 6F"),
+    // accesses to memory 0, to memory 0 with its bit, and to memory 1
+    ("28 02 08", "28 02 08"),
+    ("28 42 00 08", "28 02 08"),
+    ("28 42 01 80 01", "28 42 01 80 01"),
+    // constants, of which one is longer than it has to be
+    ("41 FF 00", "41 FF 00"),
+    ("41 85 00", "41 05"),
+    ("42 80 7F", "42 80 7F"),
+    ("43 00 00 80 3F", "43 00 00 80 3F"),
+    ("44 00 00 00 00 00 00 F0 3F", "44 00 00 00 00 00 00 F0 3F"),
+    // ref.null func, br_on_cast
+    ("D0 70", "D0 70"),
+    ("FB 18 03 00 6E 6D", "FB 18 03 00 6E 6D"),
+    // memory.init, and i64.add128
+    ("FC 08 01 00", "FC 08 01 00"),
+    ("FC 13", "FC 13"),
+    // v128.const, v128.load8_lane, a relaxed operator
+    (
+        "FD 0C 00 01 02 03 04 05 06 07 08 09 0A 0B 0C 0D 0E 0F",
+        "FD 0C 00 01 02 03 04 05 06 07 08 09 0A 0B 0C 0D 0E 0F",
+    ),
+    ("FD 54 00 00 0F", "FD 54 00 00 0F"),
+    ("FD 93 02", "FD 93 02"),
+    // atomic.fence
+    ("FE 03 00", "FE 03 00"),
+];
+
+#[test]
+fn operators_come_back(rt: HostRuntime) -> Result<(), Fail> {
+    for (input, output) in &ROWS {
+        if !comes_back(rt.alloc(), input, output) {
+            return Err(Fail::new(input));
+        }
+    }
+    Ok(())
+}
+
+// No operator, a number too large, a catch clause of kind 4, a missing lane, an index below zero.
+const REFUSED: [&str; 7] = [
+    "27",
+    "FF 00",
+    "FB 80 80 04",
+    "FD 94 02",
+    "1F 40 01 04 00",
+    "FD 54 00 00",
+    "02 C0 7F",
+];
+
+#[test]
+fn others_are_refused(rt: HostRuntime) -> Result<(), Fail> {
+    for input in &REFUSED {
+        if !is_refused(rt.alloc(), input) {
+            return Err(Fail::new(input));
+        }
+    }
+    Ok(())
+}
