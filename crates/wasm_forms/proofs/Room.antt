@@ -19,11 +19,11 @@ pub room_behind : {X A : Type 0} (r : Result X WireError) (old between new : Vec
 room_behind (Ok x) old between new front back e h w = omega arith
 room_behind (Err Malformed) old between new front back e h w = tt
 room_behind (Err (Memory m)) old between new front back e h w = omega (arith, old.ok.0, between.ok.0, ap length e, length-append old.items front, length-append front back)
-room_behind (Err TooLarge) old between new front back e h w = tt
+room_behind (Err TooLarge) old between new front back e h w = omega arith
 
 -- an item that is refused behind those before it
 pub row_refused : {X A : Type 0} (spell : X → List ℕ) (xs : List X) (i : ℕ) (x : X) (e : WireError) (old between new : Vec ℕ A) → i < length xs → x ≡ get_or xs i x → between.items ≡ old.items ++ row_bytes spell (take i xs)
     → vec_capacity old ≤ vec_capacity between → TakesRoom {X = Unit {0}} (Err e) between new (spell x) → TakesRoom {X = Unit {0}} (Err e) old new (row_bytes spell xs)
 row_refused spell xs i x Malformed old between new l k h c w = tt
 row_refused spell xs i x (Memory m) old between new l k h c w = omega (arith, old.ok.0, between.ok.0, ap length h, length-append old.items (row_bytes spell (take i xs)), row_within spell xs i x l k)
-row_refused spell xs i x TooLarge old between new l k h c w = tt
+row_refused spell xs i x TooLarge old between new l k h c w = omega arith

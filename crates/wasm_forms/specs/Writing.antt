@@ -21,12 +21,12 @@ Adds (Err TooLarge) old new spelled fits = fits → ⊥
 abbrev pub Keeps : List ℕ → List ℕ → Type 0
 Keeps old new = take (length old) new ≡ old
 
--- room isn't given back, and memory runs out only where the spelling doesn't fit into the room that was there
+-- room isn't given back where memory doesn't run out, and that only where the spelling doesn't fit into the room that was there
 abbrev pub TakesRoom : {X A : Type 0} → Result X WireError → Vec ℕ A → Vec ℕ A → List ℕ → Type 0
 TakesRoom (Ok x) old new spelled = vec_capacity old ≤ vec_capacity new
 TakesRoom (Err Malformed) old new spelled = Unit {0}
 TakesRoom (Err (Memory e)) old new spelled = vec_capacity old < vec_len old + length spelled
-TakesRoom (Err TooLarge) old new spelled = Unit {0}
+TakesRoom (Err TooLarge) old new spelled = vec_capacity old ≤ vec_capacity new
 
 -- the same of a writer that can be refused for lack of memory alone
 abbrev pub NeedsRoom : {X E A : Type 0} → Result X E → Vec ℕ A → Vec ℕ A → List ℕ → Type 0

@@ -1,6 +1,6 @@
 -- Content that is written behind its section's id and size, into the room that was made for it: nothing refuses it any more.
 use Rattle.std.proofs.Common.{◌≡◌, ℕ, ◌+◌, ◌<◌, ◌≤◌, ◌^◌, List, ◌∷◌, ◌++◌, length, ap, ◌∙◌, arith, append_assoc, length-append}
-use Rattle.std.specs.Prelude.{Result, Ok, Err, vec_capacity}
+use Rattle.std.specs.Prelude.{Result, Ok, Err, vec_capacity, ⊤}
 use Rattle.wasm_forms.specs.declared.error.WireError.{WireError}
 use Rattle.wasm_forms.specs.declared.error.WireError.TheVariants.{Malformed, Memory, TooLarge}
 use Rattle.wasm_forms.specs.Writing.{Adds, TakesRoom, Wrote, FitsLength}
@@ -22,10 +22,10 @@ open_same old id size content e = append_assoc old (id ∷ number_bytes size) co
 open_long : (id size : ℕ) (content : List ℕ) → size ≡ length content → 1 + length (number_bytes size) + size ≡ length (section_bytes id content)
 open_long id size content e = omega (arith, ap (λ n. length (number_bytes n)) e, e, length-append (number_bytes (length content)) content)
 
-pub refused_room : (e : WireError) (old new : Writer) (id size : ℕ) (content : List ℕ) → size ≡ length content → room old < 1 + length (number_bytes size) + size → UsesRoom {X = Unit {0}} (Err e) old new (section_bytes id content)
-refused_room Malformed old new id size content e w = tt
-refused_room (Memory m) old new id size content e w = omega (arith, open_long id size content e)
-refused_room TooLarge old new id size content e w = tt
+pub refused_room : (e : WireError) (old new : Writer) (id size : ℕ) (content : List ℕ) → size ≡ length content → Wrote {X = Unit {0}} (Err e) (written old) (written new) (id ∷ number_bytes size) ⊤ → room old < 1 + length (number_bytes size) + size → UsesRoom {X = Unit {0}} (Err e) old new (section_bytes id content)
+refused_room Malformed old new id size content e o w = tt
+refused_room (Memory m) old new id size content e o w = omega (arith, open_long id size content e)
+refused_room TooLarge old new id size content e o w = absurd (o.1 tt)
 
 no_room : (between : Writer) (content : List ℕ) (size : ℕ) → size ≡ length content → size ≤ room between → vec_capacity between.bytes < between.bytes.len + length content → ⊥
 no_room between content size e l w = omega (arith, between.bytes.ok.0, between.bytes.ok.1)
@@ -44,4 +44,4 @@ content_room (Ok x) old between new id size content fits e l f o w k =
     omega (arith, o.kept, ap length all, length-append (written old) (section_bytes id content))
 content_room (Err Malformed) old between new id size content fits e l f o w k = tt
 content_room (Err (Memory m)) old between new id size content fits e l f o w k = absurd (no_room between content size e o.ready k)
-content_room (Err TooLarge) old between new id size content fits e l f o w k = tt
+content_room (Err TooLarge) old between new id size content fits e l f o w k = absurd (w f)

@@ -17,9 +17,10 @@ unless_empty (x ∷ xs) bytes = bytes
 abbrev pub room : Writer → ℕ
 room w = vec_capacity w.bytes - length (written w)
 
--- memory runs out only where more is to be appended than there was room for, and no more room is used up than what is appended
+-- memory runs out only where more is to be appended than there was room for, no more room is used up than what is appended, and none
+-- where that is too large
 abbrev pub UsesRoom : {X : Type 0} → Result X WireError → Writer → Writer → List ℕ → Type 0
 UsesRoom (Ok x) old new appended = room old ≤ room new + length appended
 UsesRoom (Err Malformed) old new appended = Unit {0}
 UsesRoom (Err (Memory e)) old new appended = room old < length appended
-UsesRoom (Err TooLarge) old new appended = Unit {0}
+UsesRoom (Err TooLarge) old new appended = room old ≤ room new

@@ -22,4 +22,4 @@ pub returns-in_err-open-clause-room : goal.returns-in_err-open-clause-room
 returns-in_err-open-clause-room c =
     let p = err_from_is_err_and c.from_residual-in_err-open.result c.from_residual-in_err-open.ensures.1 in
     let told = c.in_ok-size.ensures c.args.custom.now.bytes.now refl in
-    rw (p.1, p.2) (refused_room c.in_err-open.field-0.0 c.args.self.now c.open.new.self 0 c.in_ok-size.size (custom_bytes (custom_record c.args.custom.now)) told.0 c.in_err-open.ensures.full)
+    rw (p.1, p.2) (refused_room c.in_err-open.field-0.0 c.args.self.now c.open.new.self 0 c.in_ok-size.size (custom_bytes (custom_record c.args.custom.now)) told.0 c.in_err-open.ensures.opened c.in_err-open.ensures.full)
