@@ -8,7 +8,7 @@ use wasm_wire::{Raw, RawBody, RawCustom, Section, measure, read_module};
 // Modules, and how many bytes each of their sections has with its id and its size, in hexadecimal: types, imports, functions, tables,
 // memories, tags, globals, exports, start, elements, data count, code, data (00 where there is none), and then the custom ones. The
 // lengths were taken from the bytes by a script of a few lines that steps over sections.
-const ROWS: [(&str, &str); 27] = [
+const ROWS: [(&str, &str); 32] = [
     (
         "00 61 73 6D 01 00 00 00",
         "00 00 00 00 00 00 00 00 00 00 00 00 00",
@@ -116,6 +116,26 @@ const ROWS: [(&str, &str); 27] = [
     (
         "00 61 73 6D 01 00 00 00 01 04 01 60 00 00 03 02 01 00 07 05 01 01 66 00 00 0A 04 01 02 00 0B 00 0B 04 6E 61 6D 65 01 04 01 00 01 62",
         "06 00 04 00 00 00 00 07 00 00 00 06 00 0D",
+    ),
+    (
+        "00 61 73 6D 01 00 00 00 01 04 01 60 00 00 03 02 01 00 07 05 01 01 66 00 00 0A 04 01 02 00 0B 00 0C 04 6E 61 6D 65 01 05 01 00 02 66 31",
+        "06 00 04 00 00 00 00 07 00 00 00 06 00 0E",
+    ),
+    (
+        "00 61 73 6D 01 00 00 00 01 04 01 60 00 00 03 02 01 00 0A 04 01 02 00 0B 00 03 01 73 00",
+        "06 00 04 00 00 00 00 00 00 00 00 06 00 05",
+    ),
+    (
+        "00 61 73 6D 01 00 00 00 01 04 01 60 00 00 03 02 01 00 07 09 02 01 66 00 00 01 70 00 00 0A 04 01 02 00 0B",
+        "06 00 04 00 00 00 00 0B 00 00 00 06 00",
+    ),
+    (
+        "00 61 73 6D 01 00 00 00 00 0A 08 64 79 6C 69 6E 6B 2E 30 03 01 04 01 60 00 00 03 02 01 00 07 05 01 01 66 00 00 0A 04 01 02 00 0B 00 03 01 61 01 00 03 01 62 04 00 03 01 73 27",
+        "06 00 04 00 00 00 00 07 00 00 00 06 00 0C 05 05 05",
+    ),
+    (
+        "00 61 73 6D 01 00 00 00 01 04 01 60 00 00 03 02 01 00 07 05 01 01 61 00 00 0A 07 01 05 00 41 00 1A 0B",
+        "06 00 04 00 00 00 00 07 00 00 00 09 00",
     ),
 ];
 
