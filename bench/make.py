@@ -5,8 +5,9 @@ KIND: small    many functions of a few operators each
       huge     four functions of one-byte operators alone (the worst case for memory)
       mixed    functions of some hundred operators: calls, constants, drops
       code     functions of some thousand operators, with locals
+      bodies   functions of some hundred to some thousand operators: locals, constants, calls, blocks, branches, loads, stores
       entries  types, imports, globals, exports, segments of elements and of data in equal parts, and no code
-Of the first four every function is exported or called by one that is, so nothing of it is dropped.
+Of the first five every function is exported or called by one that is, so nothing of it is dropped.
 """
 import sys
 
@@ -32,6 +33,8 @@ def sized(body):
 
 
 def bodies_of(kind, size):
+    if kind == "bodies":
+        return mixed_bodies(size)
     if kind == "huge":
         # no declarations, nops, end
         body = b"\x00" + b"\x01" * (size // 4 - 8) + b"\x0B"
@@ -56,6 +59,28 @@ def bodies_of(kind, size):
         total += len(body) + 3
         index += 1
     bodies[-1] = declarations + operators * 20 + b"\x0B"
+    return bodies
+
+
+def mixed_operators(callee):
+    return (
+        b"\x20\x00\x41\xC0\xC4\x07\x6A\x22\x01\x28\x02\x10\x21\x02"  # local 1 is local 0 and 123,456 more, local 2 what stands there
+        b"\x02\x40\x20\x02\x0D\x00\x10" + unsigned(callee) + b"\x0B"  # a block: a branch out of it, a call
+        b"\x42\x7B\x21\x04"  # local 4 is -5
+        b"\x03\x40\x20\x01\x45\x0D\x00\x0B"  # a loop: a branch back
+        b"\x20\x00\x20\x01\x36\x02\x08"  # a store
+    )
+
+
+def mixed_bodies(size):
+    bodies, total, index = [], 0, 0
+    while total < size:
+        # four locals and three; each calls the next one
+        body = b"\x02\x04\x7F\x03\x7E" + mixed_operators(index + 1) * (10 + index % 100) + b"\x0B"
+        bodies.append(body)
+        total += len(body) + 3
+        index += 1
+    bodies[-1] = b"\x00\x0B"
     return bodies
 
 
@@ -85,9 +110,11 @@ def code_sections(kind, size):
     bodies = bodies_of(kind, size)
     roots = range(len(bodies)) if kind == "huge" else range(1)
     exports = b"".join(sized(b"f%d" % i) + b"\x00" + unsigned(i) for i in roots)
+    memories = [(5, b"\x01\x00\x01")] if kind == "bodies" else []
     return [
         (1, b"\x01\x60\x00\x00"),
         (3, unsigned(len(bodies)) + b"\x00" * len(bodies)),
+        *memories,
         (7, unsigned(len(roots)) + exports),
         (10, unsigned(len(bodies)) + b"".join(map(sized, bodies))),
     ]

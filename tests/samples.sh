@@ -1,7 +1,8 @@
 #!/usr/bin/env bash
 # Copies each module of a folder with the built program, which also reads the copy and compares the records, and copies the
 # copy, which has to stay as it is. Compares the names that the program lists with those that other tools found (tests/names),
-# first those of the program's stored run. Prints a line a file and the counts. No part of the gate.
+# first those of the program's stored run. Then reads each body of each module as operators over ids, writes it, reads what was
+# written, and compares, with the built program wasm_bodies. Prints a line a file and the counts. No part of the gate.
 # tests/samples.sh [FOLDER], ../shared/samples where none is given.
 set -eu
 top=$(cd "$(dirname "$0")/.." && pwd)
@@ -10,6 +11,9 @@ folder=${1:-$top/../shared/samples}
 program=$top/crates/wasm_copy/out/wasm_copy
 [ -x "$program" ] || { (cd "$top/crates/wasm_copy" && rt run -- --again < stdin > /dev/null) || true; }
 [ -x "$program" ] || { echo "tests/samples.sh: the program isn't built" >&2; exit 1; }
+bodies=$top/crates/wasm_bodies/out/wasm_bodies
+[ -x "$bodies" ] || { (cd "$top/crates/wasm_bodies" && rt run < stdin > /dev/null) || true; }
+[ -x "$bodies" ] || { echo "tests/samples.sh: the program wasm_bodies isn't built" >&2; exit 1; }
 files=$(mktemp -d)
 trap 'rm -rf "$files"' EXIT
 
@@ -28,6 +32,11 @@ is_listed() {
   python3 "$top/tests/expected-names.py" --shorten < "$files/names" > "$files/short"
   cmp -s "$files/short" "$2" || { echo "other names"; return 1; }
   echo "$(wc -l < "$files/names") names"
+}
+
+# Whether each body of the module comes out the same.
+is_same() {
+  "$bodies" < "$1" 2> "$files/told" || { echo "status $?: $(cat "$files/told")"; return 1; }
 }
 
 if told=$(is_listed "$top/crates/wasm_copy/stdin" "$top/tests/names/every.txt"); then
@@ -51,4 +60,15 @@ for module in "$folder"/*.wasm; do
   printf '%-7s %8s bytes as %-15s %-12s %s\n' "$word" "$(stat -c %s "$module")" "$told" "$names" "$(basename "$module")"
 done
 echo "$copied of $all modules are copied, of $listed the names are listed as they are"
-[ "$copied" = "$all" ] && [ "$listed" = "$all" ]
+
+same=0
+for module in "$folder"/*.wasm; do
+  [ -e "$module" ] || continue
+  word=FAILED
+  if told=$(is_same "$module"); then
+    same=$((same + 1)) word=same
+  fi
+  printf '%-7s %-33s %s\n' "$word" "$told" "$(basename "$module")"
+done
+echo "of $same of $all modules each body comes out the same"
+[ "$copied" = "$all" ] && [ "$listed" = "$all" ] && [ "$same" = "$all" ]

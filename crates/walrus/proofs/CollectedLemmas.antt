@@ -1,19 +1,27 @@
 -- Where gc keeps, of functions and of types, what is kept, the abstract module is collected.
-use Rattle.std.proofs.Common.{◌≡◌, ℕ, List, Option, Some, None, refl, ap, ◌∙◌}
-use Rattle.std.specs.Prelude.{option_map}
+use Rattle.std.proofs.Common.{◌≡◌, ℕ, inl, inr, true, List, map, Option, Some, None, refl, ap, sym, subst, ◌∙◌}
+use Rattle.std.specs.Prelude.{Contains, option_map}
 use Rattle.std.proofs.lemmas.Option.{none-some}
+use Rattle.std.proofs.lemmas.List.Elements.{Contains-append_left}
 use Rattle.walrus_base.specs.Arena.{item_at}
-use Rattle.walrus_base.specs.ModuleTypes.{func_types}
-use Rattle.walrus_base.specs.declared.locals.ModuleLocals.{ModuleLocals}
-use Rattle.walrus_base.specs.declared.types.ModuleTypes.{ModuleTypes}
-use Rattle.walrus_ir.specs.Operators.{Types, Functions}
+use Rattle.walrus_base.specs.Types.{sub_names}
+use Rattle.walrus_types.specs.ModuleTypes.{type_slots}
+use Rattle.walrus_types.specs.declared.locals.ModuleLocals.{ModuleLocals}
+use Rattle.walrus_types.specs.declared.module_types.ModuleTypes.{ModuleTypes}
+use Rattle.walrus_types.specs.Operators.{Types, Functions, Memories, Item, type_item}
+use Rattle.walrus_types.specs.PlaceList.{has}
+use Rattle.walrus_types.specs.TypeDef.{TypeDef}
 use Rattle.walrus_items.specs.Functions.{functions}
 use Rattle.walrus_items.specs.declared.exports.ModuleExports.{ModuleExports}
 use Rattle.walrus_items.specs.declared.functions.ModuleFunctions.{ModuleFunctions}
 use Rattle.walrus_model.specs.Kept.{Kept}
 use Rattle.walrus_model.specs.Pipeline.{Collected, KeepsOnly}
-use Rattle.walrus_module.specs.View.{function, type_def, view_of}
+use Rattle.walrus_model.specs.Reached.{step}
+use Rattle.walrus_model.specs.Refers.{named_by, type_names}
+use Rattle.walrus_model.proofs.Lists.{Contains-map}
+use Rattle.walrus_module.specs.View.{function, handlers_at, view_of}
 use Rattle.walrus.specs.Collected as slots
+use Rattle.walrus.proofs.Dropped.{has_contains}
 
 -- the same of what is seen of each slot
 module _ {X Y : Type 0} (see : ℕ → X → Y) (K : ℕ → Type 0) (old new : List (Option X)) (k : slots.KeepsOnly K old new) where
@@ -31,10 +39,17 @@ module _ {X Y : Type 0} (see : ℕ → X → Y) (K : ℕ → Type 0) (old new : 
 nothing_kept : {X : Type 0} (K : ℕ → Type 0) → KeepsOnly {X = X} K (λ i. None) (λ i. None)
 nothing_kept K = record { kept = λ i h. refl; left = λ i x e. absurd (none-some x e) }
 
+-- what is kept of the types keeps its group
+pub keeps_groups : (types : ModuleTypes) (all : ModuleLocals) (funcs : ModuleFunctions) (es : ModuleExports) (i q : ℕ) (x : TypeDef) → item_at (type_slots types) i ≡ Some x → Kept (view_of types all funcs es) (Types, i) → has x.group q ≡ true → Kept (view_of types all funcs es) (Types, q)
+keeps_groups types all funcs es i q x at (inl reached) g =
+    let written : Contains (type_names x) (Types, q) = Contains-append_left (map type_item x.group) (map type_item (sub_names x.sub)) (Types, q) (Contains-map type_item q x.group (has_contains x.group q g)) in
+    inl (step (Types, i) (Types, q) reached (inl (subst (λ (o : Option TypeDef). Contains (named_by type_names o) (Types, q)) (sym at) written)))
+keeps_groups types all funcs es i q x at (inr spare) g = let apart : Types ≡ Memories = ap (λ (y : Item). y.0) spare.is in absurd (cc)
+
 module _ (types types_left : ModuleTypes) (all : ModuleLocals) (funcs funcs_left : ModuleFunctions) (es : ModuleExports) where
-  pub is_collected : slots.KeepsOnly (λ i. Kept (view_of types all funcs es) (Functions, i)) (functions funcs) (functions funcs_left) → slots.KeepsOnly (λ t. Kept (view_of types all funcs es) (Types, t)) (func_types types) (func_types types_left) → Collected (view_of types all funcs es) (view_of types_left all funcs_left es)
+  pub is_collected : slots.KeepsOnly (λ i. Kept (view_of types all funcs es) (Functions, i)) (functions funcs) (functions funcs_left) → slots.KeepsOnly (λ t. Kept (view_of types all funcs es) (Types, t)) (type_slots types) (type_slots types_left) → Collected (view_of types all funcs es) (view_of types_left all funcs_left es)
   is_collected f t = record {
-    types = seen_kept type_def (λ i. Kept (view_of types all funcs es) (Types, i)) (func_types types) (func_types types_left) t;
+    types = record { kept = t.kept; left = t.left };
     imports = nothing_kept _;
     functions = seen_kept (λ i. function all) (λ i. Kept (view_of types all funcs es) (Functions, i)) (functions funcs) (functions funcs_left) f;
     tables = nothing_kept _;
@@ -50,6 +65,6 @@ module _ (types types_left : ModuleTypes) (all : ModuleLocals) (funcs funcs_left
     named = λ y h. refl;
     table_segments = λ table h segment. refl;
     memory_segments = λ memory h segment. refl;
-    handler_types = λ f h. refl;
+    handler_types = λ i h. ap handlers_at (f.kept i h);
     section_roots = refl;
   }

@@ -1,22 +1,16 @@
--- How the marks and the functions found follow what is entered.
-use Rattle.std.proofs.Common.{◌≡◌, ℕ, zero, suc, ◌+◌, ◌<◌, ◌≤◌, ◌≢◌, ◌⊎◌, inl, inr, Bool, true, false, eqb, List, [], ◌∷◌, ◌++◌, Option, map, length, get_or, take, sym, ap, ◌∙◌, subst, refl, arith}
-use Rattle.std.specs.Prelude.{Contains, flat_map, Decides, Result, Ok, Err, MatchResult, not}
+-- How the marks and the items entered follow what is entered.
+use Rattle.std.proofs.Common.{◌≡◌, ℕ, zero, suc, ◌≢◌, ◌⊎◌, inl, inr, ⊎_elim, Bool, true, false, eqb, List, [], ◌∷◌, ◌++◌, sym, ap, ◌∙◌, subst, refl, append_assoc}
+use Rattle.std.specs.Prelude.{Contains, Decides, not}
 use Rattle.std.proofs.lemmas.Bool.{false≢true}
 use Rattle.std.proofs.lemmas.Bool.Decides.{Decides-eqb}
-use Rattle.std.proofs.lemmas.Grind.{flat_map-append}
-use Rattle.std.proofs.lemmas.List.{append-nil, length-map, length_push, map-append, map_more, get_or_append_left, get_or_push}
+use Rattle.std.proofs.lemmas.List.{append-nil}
 use Rattle.std.proofs.lemmas.List.Elements.{Contains-push, Contains-push_cases, Contains-append_left, Contains-append_right, Contains-append_cases}
-use Rattle.walrus_base.specs.Arena.{IsLive}
-use Rattle.walrus_base.specs.Id.{place}
-use Rattle.walrus_base.specs.IdSet.{HasId, Adds}
-use Rattle.walrus_base.specs.declared.id.Id.{Id}
-use Rattle.walrus_base.specs.declared.keys.FunctionKey.{FunctionKey}
-use Rattle.walrus_base.specs.declared.set.IdHashSet.{IdHashSet}
-use Rattle.walrus_ir.specs.Operators.{Item, function_item}
-use Rattle.walrus_items.specs.Functions.{FunctionValue}
-use Rattle.walrus_parts.specs.declared.error.Error.{Error}
-use Rattle.walrus_parts.specs.declared.error.Error.TheVariants.{Memory, DeadItem}
-use Rattle.walrus.specs.Used.{IsRefusal, IsWaiting, AreFound, Enters, NamesDead, place_at}
+use Rattle.walrus_types.specs.Operators.{Space, Types, Functions, Tables, Memories, Tags, Globals, Elements, DataSegments, Item}
+use Rattle.walrus_model.specs.Abstract.{Abstract}
+use Rattle.walrus_model.specs.Live.{IsLive}
+use Rattle.walrus_model.proofs.Lists.{Contains-none}
+use Rattle.walrus.specs.Used.{Agrees, Enters, IsNothing, Marks, has_mark}
+use Rattle.walrus.specs.declared.passes.used.Used.{Used}
 
 pub same_or_other : (a b : ℕ) → (a ≡ b) ⊎ (a ≢ b)
 same_or_other a b = choose (eqb a b) (Decides-eqb a b) where
@@ -24,174 +18,139 @@ same_or_other a b = choose (eqb a b) (Decides-eqb a b) where
   choose true d = inl (d.0 refl)
   choose false d = inr (λ e. absurd (false≢true (d.1 e)))
 
-pub was_in : (b : Bool) (r : Bool) → r ≡ not b → r ≡ false → b ≡ true
+abbrev space_number : Space → ℕ
+space_number Types = 0
+space_number Functions = 1
+space_number Tables = 2
+space_number Memories = 3
+space_number Tags = 4
+space_number Globals = 5
+space_number Elements = 6
+space_number DataSegments = 7
+
+abbrev space_at : ℕ → Space
+space_at zero = Types
+space_at (suc zero) = Functions
+space_at (suc (suc zero)) = Tables
+space_at (suc (suc (suc zero))) = Memories
+space_at (suc (suc (suc (suc zero)))) = Tags
+space_at (suc (suc (suc (suc (suc zero))))) = Globals
+space_at (suc (suc (suc (suc (suc (suc zero)))))) = Elements
+space_at (suc (suc (suc (suc (suc (suc (suc n))))))) = DataSegments
+
+space_back : (s : Space) → space_at (space_number s) ≡ s
+space_back Types = refl
+space_back Functions = refl
+space_back Tables = refl
+space_back Memories = refl
+space_back Tags = refl
+space_back Globals = refl
+space_back Elements = refl
+space_back DataSegments = refl
+
+pair_same : (s t : Space) (i j : ℕ) → s ≡ t → i ≡ j → ◌≡◌ {A = Item} (s, i) (t, j)
+pair_same s t i j p q = ap (λ (x : Space). (x, i)) p ∙ ap (λ (n : ℕ). (t, n)) q
+
+pub same_or_other_item : (x y : Item) → (x ≡ y) ⊎ (x ≢ y)
+same_or_other_item (s, i) (t, j) = choose (same_or_other (space_number s) (space_number t)) (same_or_other i j) where
+  choose : (space_number s ≡ space_number t) ⊎ (space_number s ≢ space_number t) → (i ≡ j) ⊎ (i ≢ j) → (◌≡◌ {A = Item} (s, i) (t, j)) ⊎ (◌≢◌ {A = Item} (s, i) (t, j))
+  choose (inl p) (inl q) = inl (pair_same s t i j (sym (space_back s) ∙ ap space_at p ∙ space_back t) q)
+  choose (inl p) (inr q) = inr (λ e. q (ap (λ (x : Item). x.1) e))
+  choose (inr p) b = inr (λ e. p (ap (λ (x : Item). space_number x.0) e))
+
+was_in : (b r : Bool) → r ≡ not b → r ≡ false → b ≡ true
 was_in true r e f = refl
 was_in false r e f = absurd (false≢true (sym f ∙ e))
 
--- ---- refusals
+module _ (v : Abstract) where
+  -- ---- one item
 
-pub refusal_map : (P Q : Type 0) → (P → Q) → (e : Error) → IsRefusal P e → IsRefusal Q e
-refusal_map P Q f (Memory m) h = h
-refusal_map P Q f DeadItem h = f h
-refusal_map P Q f e h = absurd h
+  module _ (x : Item) (old new : Used) (m : Marks old new x) (is_live : IsLive v x) (before : List Item) where
+    live_one : (y : Item) → Contains (x ∷ []) y → IsLive v y
+    live_one y c = ⊎_elim (λ h. absurd (Contains-none y h)) (λ (e : x ≡ y). subst (λ (z : Item). IsLive v z) e is_live) (Contains-push_cases [] x y c)
 
-pub result_map : {T : Type 0} (A B P Q : Type 0) → (A → B) → (P → Q) → (r : Result T Error) → MatchResult r (λ _. A) (IsRefusal P) → MatchResult r (λ _. B) (IsRefusal Q)
-result_map A B P Q f g (Ok x) h = f h
-result_map A B P Q f g (Err e) h = refusal_map P Q g e h
-
--- ---- what is named
-
-itself : (p : ℕ) → Contains (function_item p ∷ []) (function_item p)
-itself p = Contains-push [] (function_item p)
-
-single : (p j : ℕ) → Contains (function_item p ∷ []) (function_item j) → p ≡ j
-single p j c = elim (Contains-push_cases [] (function_item p) (function_item j) c) [ inl h ↦ absurd (omega (arith, h.1)) | inr e ↦ ap (λ (x : Item). x.1) e ]
-
-pub single_dead : (funcs : List (Option FunctionValue)) (p : ℕ) → (IsLive funcs p → ⊥) → NamesDead funcs (function_item p ∷ [])
-single_dead funcs p dead = (p, itself p, dead)
-
-module _ {X A : Type 0} (names : A → List Item) (value : X → A) where
-  -- what one more names
-  pub names_more : (xs : List X) (i : ℕ) (x : X) → i < length xs → x ≡ get_or xs i x → flat_map names (map value (take (i + 1) xs)) ≡ flat_map names (map value (take i xs)) ++ names (value x)
-  names_more xs i x lt is =
-      ap (λ (ys : List A). flat_map names ys) (map_more value xs i x lt)
-      ∙ flat_map-append names (map value (take i xs)) (value (get_or xs i x) ∷ [])
-      ∙ ap (λ (ys : List Item). flat_map names (map value (take i xs)) ++ ys) (append-nil (names (value (get_or xs i x))) ∙ ap (λ (y : X). names (value y)) (sym is))
-
-  names_among : (xs : List X) (i : ℕ) (d : X) (y : Item) → i < length xs → Contains (names (value (get_or xs i d))) y → Contains (flat_map names (map value xs)) y
-  names_among [] i d y lt c = absurd (omega arith)
-  names_among (x ∷ xs) zero d y lt c = Contains-append_left (names (value x)) (flat_map names (map value xs)) y c
-  names_among (x ∷ xs) (suc i) d y lt c = Contains-append_right (names (value x)) (flat_map names (map value xs)) y (names_among xs i d y (omega arith) c)
-
-  pub dead_among : (funcs : List (Option FunctionValue)) (xs : List X) (i : ℕ) (x : X) → i < length xs → x ≡ get_or xs i x → NamesDead funcs (names (value x)) → NamesDead funcs (flat_map names (map value xs))
-  dead_among funcs xs i x lt is h =
-      let P : X → Type 0 = λ (y : X). Contains (names (value y)) (function_item h.0) in
-      (h.0, names_among xs i x (function_item h.0) lt (subst P is h.1), h.2)
-
--- ---- the places of those found
-
-push_before : (f : List (Id FunctionKey)) (id : Id FunctionKey) (k : ℕ) → k < length f → place_at (f ++ id ∷ []) k ≡ place_at f k
-push_before f id k lt =
-    ap (λ (ps : List ℕ). get_or ps k 0) (map-append place f (id ∷ [])) ∙ get_or_append_left (map place f) (place id ∷ []) 0 k (omega (arith, length-map f place))
-
-push_last : (f : List (Id FunctionKey)) (id : Id FunctionKey) → place_at (f ++ id ∷ []) (length f) ≡ place id
-push_last f id =
-    ap (λ (ps : List ℕ). get_or ps (length f) 0) (map-append place f (id ∷ [])) ∙ get_or_push (map place f) (place id) 0 (length f) (length-map f place)
-
-module _ (funcs : List (Option FunctionValue)) where
-  -- ---- one function is entered
-  module _ (p : ℕ) (old new : IdHashSet FunctionKey) (adds : Adds old new p) where
-    keeps : (j : ℕ) → HasId old j → HasId new j
-    keeps j h = elim (same_or_other j p) [ inl e ↦ subst (λ (i : ℕ). HasId new i) (sym e) adds.added | inr other ↦ adds.others j other ∙ h ]
-
-    only : (j : ℕ) → HasId new j → HasId old j ⊎ (j ≡ p)
-    only j h = elim (same_or_other j p) [ inl e ↦ inr e | inr other ↦ inl (sym (adds.others j other) ∙ h) ]
-
-    names_it : (j : ℕ) → j ≡ p → Contains (function_item p ∷ []) (function_item j)
-    names_it j e = subst (λ (i : ℕ). Contains (function_item p ∷ []) (function_item i)) (sym e) (itself p)
-
-    only_named : (j : ℕ) → HasId old j ⊎ (j ≡ p) → HasId old j ⊎ Contains (function_item p ∷ []) (function_item j)
-    only_named j (inl h) = inl h
-    only_named j (inr e) = inr (names_it j e)
-
-    -- it was marked before
-    pub enters_again : (f : List (Id FunctionKey)) → IsLive funcs p → HasId old p → Enters funcs (function_item p ∷ []) old new f f
-    enters_again f is_live was = record {
-      live = λ j c. subst (λ (i : ℕ). IsLive funcs i) (single p j c) is_live;
-      marked = λ j c. subst (λ (i : ℕ). HasId new i) (single p j c) adds.added;
-      kept = keeps;
-      named_only = λ j h. only_named j (only j h);
-      longer = omega arith;
-      stays = λ n j w. w;
-      waits = λ n j le h. still n j (only j h);
-      found = λ all k lt. (keeps (place_at f k) (all k lt).0, (all k lt).1);
+    -- it wasn't marked
+    pub enters_new : Enters v (x ∷ []) old new before (before ++ x ∷ [])
+    enters_new = record {
+      live = live_one;
+      rest = x ∷ [];
+      grows = refl;
+      named_only = λ y c. c;
+      agrees = λ a y. (λ h. there a y h (same_or_other_item y x), λ c. back a y c);
+      entered = λ a y c. Contains-append_right before (x ∷ []) y c;
     } where
-      still : (n j : ℕ) → HasId old j ⊎ (j ≡ p) → HasId old j ⊎ IsWaiting n f j
-      still n j (inl h) = inl h
-      still n j (inr e) = inl (subst (λ (i : ℕ). HasId old i) (sym e) was)
+      there : Agrees old before → (y : Item) → has_mark new y ≡ true → (y ≡ x) ⊎ (y ≢ x) → Contains (before ++ x ∷ []) y
+      there a y h (inl e) = subst (λ (z : Item). Contains (before ++ x ∷ []) z) (sym e) (Contains-push before x)
+      there a y h (inr other) = Contains-append_left before (x ∷ []) y ((a y).0 (sym (m.others y other) ∙ h))
 
-  -- it is new
-  pub enters_new : (id : Id FunctionKey) (old new : IdHashSet FunctionKey) → Adds old new (place id) → (f : List (Id FunctionKey)) → IsLive funcs (place id) → Enters funcs (function_item (place id) ∷ []) old new f (f ++ id ∷ [])
-  enters_new id old new adds f is_live = record {
-    live = λ j c. subst (λ (i : ℕ). IsLive funcs i) (single (place id) j c) is_live;
-    marked = λ j c. subst (λ (i : ℕ). HasId new i) (single (place id) j c) adds.added;
-    kept = keeps (place id) old new adds;
-    named_only = λ j h. only_named (place id) old new adds j (only (place id) old new adds j h);
-    longer = omega (arith, length_push f id);
-    stays = λ n j w. (w.0, w.1, omega (arith, length_push f id, w.2), push_before f id w.0 w.2 ∙ w.3);
-    waits = λ n j le h. now_waits n j le (only (place id) old new adds j h);
-    found = λ all k lt. found_at all k lt (same_or_other k (length f));
-  } where
-    now_waits : (n j : ℕ) → n ≤ length f → HasId old j ⊎ (j ≡ place id) → HasId old j ⊎ IsWaiting n (f ++ id ∷ []) j
-    now_waits n j le (inl h) = inl h
-    now_waits n j le (inr e) = inr (length f, le, omega (arith, length_push f id), push_last f id ∙ sym e)
+      back_other : Agrees old before → (y : Item) → Contains before y → (y ≡ x) ⊎ (y ≢ x) → has_mark new y ≡ true
+      back_other a y c (inl e) = subst (λ (z : Item). has_mark new z ≡ true) (sym e) m.added
+      back_other a y c (inr other) = m.others y other ∙ (a y).1 c
 
-    Fine : ℕ → Type 0
-    Fine i = HasId new i × IsLive funcs i
+      back : Agrees old before → (y : Item) → Contains (before ++ x ∷ []) y → has_mark new y ≡ true
+      back a y c = ⊎_elim (λ h. back_other a y h (same_or_other_item y x)) (λ (e : x ≡ y). subst (λ (z : Item). has_mark new z ≡ true) e m.added) (Contains-push_cases before x y c)
 
-    found_at : AreFound funcs old f → (k : ℕ) → k < length (f ++ id ∷ []) → (k ≡ length f) ⊎ (k ≢ length f) → Fine (place_at (f ++ id ∷ []) k)
-    found_at all k lt (inl e) = subst (λ (n : ℕ). Fine (place_at (f ++ id ∷ []) n)) (sym e) (subst (λ (i : ℕ). Fine i) (sym (push_last f id)) (adds.added, is_live))
-    found_at all k lt (inr other) =
-        let before : k < length f = omega (arith, length_push f id) in
-        let it = all k before in
-        subst (λ (i : ℕ). Fine i) (sym (push_before f id k before)) (keeps (place id) old new adds (place_at f k) it.0, it.1)
+    -- it was marked
+    pub enters_again : has_mark old x ≡ true → Enters v (x ∷ []) old new before before
+    enters_again was = record {
+      live = live_one;
+      rest = [];
+      grows = sym (append-nil before);
+      named_only = λ y c. absurd (Contains-none y c);
+      agrees = λ a y. (λ h. (a y).0 (unmarked y h (same_or_other_item y x)), λ c. marked y ((a y).1 c) (same_or_other_item y x));
+      entered = λ a y c. ⊎_elim (λ h. absurd (Contains-none y h)) (λ (e : x ≡ y). subst (λ (z : Item). Contains before z) e ((a x).0 was)) (Contains-push_cases [] x y c);
+    } where
+      marked : (y : Item) → has_mark old y ≡ true → (y ≡ x) ⊎ (y ≢ x) → has_mark new y ≡ true
+      marked y h (inl e) = subst (λ (z : Item). has_mark new z ≡ true) (sym e) m.added
+      marked y h (inr other) = m.others y other ∙ h
+
+      unmarked : (y : Item) → has_mark new y ≡ true → (y ≡ x) ⊎ (y ≢ x) → has_mark old y ≡ true
+      unmarked y h (inl e) = subst (λ (z : Item). has_mark old z ≡ true) (sym e) was
+      unmarked y h (inr other) = sym (m.others y other) ∙ h
+
+    pub enters_marked : (is_new : Bool) → is_new ≡ not (has_mark old x) → is_new ≡ false → Enters v (x ∷ []) old new before before
+    enters_marked is_new e f = enters_again (was_in (has_mark old x) is_new e f)
 
   -- ---- nothing, and one after the other
 
-  pub enters_none : (m : IdHashSet FunctionKey) (f : List (Id FunctionKey)) → Enters funcs [] m m f f
-  enters_none m f = record {
-    live = λ j c. absurd (omega (arith, c.1));
-    marked = λ j c. absurd (omega (arith, c.1));
-    kept = λ j h. h;
-    named_only = λ j h. inl h;
-    longer = omega arith;
-    stays = λ n j w. w;
-    waits = λ n j le h. inl h;
-    found = λ all. all;
+  pub enters_none : (used : Used) (before : List Item) → Enters v [] used used before before
+  enters_none used before = record {
+    live = λ x c. absurd (Contains-none x c);
+    rest = [];
+    grows = sym (append-nil before);
+    named_only = λ x c. c;
+    agrees = λ a. a;
+    entered = λ a x c. absurd (Contains-none x c);
   }
 
-  module _ (a b : List Item) (m m1 m2 : IdHashSet FunctionKey) (f f1 f2 : List (Id FunctionKey)) (x : Enters funcs a m m1 f f1) (y : Enters funcs b m1 m2 f1 f2) where
-    live_by : (j : ℕ) → Contains a (function_item j) ⊎ Contains b (function_item j) → IsLive funcs j
-    live_by j (inl c) = x.live j c
-    live_by j (inr c) = y.live j c
+  pub enters_both : (a b : List Item) (u u1 u2 : Used) (f f1 f2 : List Item) → Enters v a u u1 f f1 → Enters v b u1 u2 f1 f2 → Enters v (a ++ b) u u2 f f2
+  enters_both a b u u1 u2 f f1 f2 x y = record {
+    live = λ z c. ⊎_elim (λ h. x.live z h) (λ h. y.live z h) (Contains-append_cases a b z c);
+    rest = x.rest ++ y.rest;
+    grows = y.grows ∙ ap (λ (t : List Item). t ++ y.rest) x.grows ∙ append_assoc f x.rest y.rest;
+    named_only = λ z c. ⊎_elim (λ h. Contains-append_left a b z (x.named_only z h)) (λ h. Contains-append_right a b z (y.named_only z h)) (Contains-append_cases x.rest y.rest z c);
+    agrees = λ g. y.agrees (x.agrees g);
+    entered = λ g z c. ⊎_elim
+        (λ h. subst (λ (t : List Item). Contains t z) (sym y.grows) (Contains-append_left f1 y.rest z (x.entered g z h)))
+        (λ h. y.entered (x.agrees g) z h)
+        (Contains-append_cases a b z c);
+  }
 
-    marked_by : (j : ℕ) → Contains a (function_item j) ⊎ Contains b (function_item j) → HasId m2 j
-    marked_by j (inl c) = y.kept j (x.marked j c)
-    marked_by j (inr c) = y.marked j c
+  pub enters_more : (a b c : List Item) (u u1 u2 : Used) (f f1 f2 : List Item) → c ≡ a ++ b → Enters v a u u1 f f1 → Enters v b u1 u2 f1 f2 → Enters v c u u2 f f2
+  enters_more a b c u u1 u2 f f1 f2 e x y = subst (λ (named : List Item). Enters v named u u2 f f2) (sym e) (enters_both a b u u1 u2 f f1 f2 x y)
 
-    named_first : (j : ℕ) → HasId m j ⊎ Contains a (function_item j) → HasId m j ⊎ Contains (a ++ b) (function_item j)
-    named_first j (inl h) = inl h
-    named_first j (inr c) = inr (Contains-append_left a b (function_item j) c)
+-- ---- nothing is marked, and nothing entered
 
-    named_by : (j : ℕ) → HasId m1 j ⊎ Contains b (function_item j) → HasId m j ⊎ Contains (a ++ b) (function_item j)
-    named_by j (inl h) = named_first j (x.named_only j h)
-    named_by j (inr c) = inr (Contains-append_right a b (function_item j) c)
+module _ (used : Used) (types : IsNothing used.types) (funcs : IsNothing used.funcs) (tables : IsNothing used.tables) (globals : IsNothing used.globals) (memories : IsNothing used.memories) (tags : IsNothing used.tags) (elements : IsNothing used.elements) (segments : IsNothing used.data_) where
+  unmarked : (x : Item) → has_mark used x ≡ false
+  unmarked (Types, i) = types i
+  unmarked (Functions, i) = funcs i
+  unmarked (Tables, i) = tables i
+  unmarked (Memories, i) = memories i
+  unmarked (Tags, i) = tags i
+  unmarked (Globals, i) = globals i
+  unmarked (Elements, i) = elements i
+  unmarked (DataSegments, i) = segments i
 
-    waits_first : (n j : ℕ) → HasId m j ⊎ IsWaiting n f1 j → HasId m j ⊎ IsWaiting n f2 j
-    waits_first n j (inl h) = inl h
-    waits_first n j (inr w) = inr (y.stays n j w)
-
-    waits_by : (n j : ℕ) → n ≤ length f → HasId m1 j ⊎ IsWaiting n f2 j → HasId m j ⊎ IsWaiting n f2 j
-    waits_by n j le (inl h) = waits_first n j (x.waits n j le h)
-    waits_by n j le (inr w) = inr w
-
-    pub enters_both : Enters funcs (a ++ b) m m2 f f2
-    enters_both = record {
-      live = λ j c. live_by j (Contains-append_cases a b (function_item j) c);
-      marked = λ j c. marked_by j (Contains-append_cases a b (function_item j) c);
-      kept = λ j h. y.kept j (x.kept j h);
-      named_only = λ j h. named_by j (y.named_only j h);
-      longer = let p : length f ≤ length f1 = x.longer in let q : length f1 ≤ length f2 = y.longer in omega arith;
-      stays = λ n j w. y.stays n j (x.stays n j w);
-      waits = λ n j le h. waits_by n j le (y.waits n j (let p : length f ≤ length f1 = x.longer in omega arith) h);
-      found = λ all. y.found (x.found all);
-    }
-
-  pub enters_more : (a b c : List Item) (m m1 m2 : IdHashSet FunctionKey) (f f1 f2 : List (Id FunctionKey)) → c ≡ a ++ b → Enters funcs a m m1 f f1 → Enters funcs b m1 m2 f1 f2 → Enters funcs c m m2 f f2
-  enters_more a b c m m1 m2 f f1 f2 e x y = subst (λ (named : List Item). Enters funcs named m m2 f f2) (sym e) (enters_both a b m m1 m2 f f1 f2 x y)
-
--- an item that is read at its place
-pub same_item : {X : Type 0} (xs : List X) (i : ℕ) (d : X) → i < length xs → get_or xs i d ≡ get_or xs i (get_or xs i d)
-same_item [] i d lt = absurd (omega arith)
-same_item (x ∷ xs) zero d lt = refl
-same_item (x ∷ xs) (suc i) d lt = same_item xs i d (omega arith)
+  pub nothing_agrees : Agrees used []
+  nothing_agrees x = (λ h. absurd (false≢true (sym (unmarked x) ∙ h)), λ c. absurd (Contains-none x c))

@@ -1,45 +1,51 @@
 -- What was parsed, then collected, then written or refused: what the whole way comes to.
-use Rattle.std.proofs.Common.{◌≡◌, ◌≢◌, ℕ, zero, suc, ◌<◌, ◌≤◌, ◌^◌, true, false, List, [], ◌∷◌, length, get_or, refl, sym, ap, ap₂, ◌∙◌, subst, arith, inl, ⊎_elim}
+use Rattle.std.proofs.Common.{◌≡◌, ◌≢◌, ℕ, zero, suc, ◌<◌, ◌≤◌, ◌^◌, Bool, true, false, List, [], ◌∷◌, ◌++◌, map, length, get_or, refl, sym, ap, ap₂, ◌∙◌, subst, arith, inl, inr, ⊎_elim}
+use Rattle.std.proofs.lemmas.List.Elements.{All-contains, All-from_recursion, Contains-append_cases}
+use Rattle.std.proofs.lemmas.Option.{slice_get_within, get_or_from_slice_get}
 use Rattle.std.proofs.lemmas.Result.{err_from_is_err_and}
-use Rattle.std.specs.Prelude.{Option, Some, None, IsSome, is_some, option_map, Contains, All, AllPairs, slice_get, zip, IfOk, IsErrAnd, Result, Ok, Err}
-use Rattle.std.specs.List.{AllZip}
-use Rattle.walrus_ir.specs.Operators.{Space, Types, Functions, Tables, Memories, Tags, Globals, Elements, DataSegments, Item, Op}
-use Rattle.walrus_ir.specs.Body.{call_op, BodyReads}
-use Rattle.walrus_ir.specs.Names.{Lookup}
-use Rattle.walrus_model.specs.Abstract.{Abstract, Body, FunctionKind, ImportedFunction, LocalFunction, Uninitialised, Function, Export}
+use Rattle.std.specs.Prelude.{Option, Some, None, IsSome, is_some, option_map, Contains, All, AllPairs, ◌&&◌, ◌⊎◌, flat_map, slice_get, zip, IfOk, IsErrAnd, Result, Ok, Err}
+use Rattle.std.specs.List.{AllByRecursion}
+use Rattle.walrus_base.specs.Types.{ValType}
+use Rattle.walrus_types.specs.Operators.{Space, Types, Functions, Tables, Memories, Tags, Globals, Elements, DataSegments, Item, type_item, NoResult, OneResult, OfType, Arg, Index, Label, Local, Number, Count, Byte, S32, S64, Bits32, Bits64, Value, Heap, Block, Access, Op, arg_names, op_names, names_of, locals_of}
+use Rattle.walrus_code.specs.FromRaw.{ops_of}
+use Rattle.walrus_code.specs.Names.{Lookup}
+use Rattle.walrus_bodies.specs.Blocks.{block_holds, args_hold, blocks_hold}
+use Rattle.walrus_bodies.specs.Body.{context, BodyReads}
+use Rattle.walrus_bodies.specs.FunctionTypes.{is_function_def}
+use Rattle.walrus_functions.specs.Handlers.{params_of}
+use Rattle.walrus_functions.proofs.LawNamed.{HasIndex, ops_found}
+use Rattle.walrus_model.specs.Abstract.{Abstract, TypeDef, Body, FunctionKind, ImportedFunction, LocalFunction, Uninitialised, Function, Export}
 use Rattle.walrus_model.specs.Closed.{NamesAreLive}
 use Rattle.walrus_model.specs.Config.{Config}
-use Rattle.walrus_model.specs.Handlers.{params_of}
+use Rattle.walrus_model.specs.Declared.{IsRefInBody, IsRefInGlobal}
 use Rattle.walrus_model.specs.Kept.{Kept, IsSpareMemory}
 use Rattle.walrus_model.specs.Live.{Has, IsLive}
 use Rattle.walrus_model.specs.Names.{body_of, body_of_function, body_of_kind}
 use Rattle.walrus_model.specs.Pipeline.{ParsedAs, Collected}
 use Rattle.walrus_model.specs.Reached.{Reached, root, step}
-use Rattle.walrus_model.specs.Reads.{declared, types_of, lone_type, body_with, function_with, module_of, ReadsBody}
-use Rattle.walrus_model.specs.Refers.{named_by, type_names, function_names, table_names, memory_names, tag_names, global_names, element_names, data_names, written_in}
-use Rattle.walrus_model.specs.Renaming.{Renaming, renamed_op, renamed_ops}
+use Rattle.walrus_model.specs.Reads.{Said, features_of, types_of, lone_type, body_with, function_with, module_of, ReadsBody}
+use Rattle.walrus_model.specs.Refers.{named_by, kind_names, local_names, used_locals, IsUsed, type_names, function_names, table_names, memory_names, tag_names, global_names, element_names, data_names, written_in}
+use Rattle.walrus_model.specs.Renaming.{Renaming}
 use Rattle.walrus_model.specs.Roots.{exported}
 use Rattle.walrus_model.specs.Rules.{Holds}
 use Rattle.walrus_model.specs.Same.{SameKind, SameFunction}
-use Rattle.walrus_model.proofs.Lists.{Contains-none}
+use Rattle.walrus_model.specs.WellMade.{IsWellFormed}
+use Rattle.walrus_model.proofs.Lists.{Contains-none, Contains-head, Contains-tail, Contains-append_1, Contains-append_2}
 use Rattle.walrus_model.proofs.PipelineCollected.{some_of, left_is_kept}
-use Rattle.walrus_model.proofs.PipelineOps.{kind_body_back}
 use Rattle.walrus_model.proofs.PipelineParsed.{exports_same, function_of_v, initialised, live_back, live_parsed}
 use Rattle.walrus_model.proofs.PipelineRead.{live_read, accepted_comes_out_lem}
 use Rattle.walrus_module.specs.Emitted.{NamesDiffer, IsEmitted}
 use Rattle.walrus_module.specs.Flags.{Flags, config_of}
 use Rattle.walrus_module.specs.Parsed.{IsParsed}
-use Rattle.walrus_module.specs.Refused.{IsThere, HasImported, HasNoBody, HasTooMany, WritesTooLarge, RefusesToWrite}
-use Rattle.walrus_module.proofs.Parsing.{mapped_some, got_map, got_zip, zip_long}
-use Rattle.walrus_module.proofs.Plain.{Plain, nop, drop_one, closes, call, const, ArePlain, Below, bodies_plain}
+use Rattle.walrus_module.specs.Refused.{IsThere, HasImported, AreWellFormed, HasIllFormed, HasOtherType, HasUndeclared, HasTooMany, HasManyLocals, WritesTooLarge, RefusesToWrite}
+use Rattle.walrus_module.proofs.Parsing.{mapped_some, got_map, zip_long}
 use Rattle.walrus_module.proofs.Rooms.{fits_indices}
-use Rattle.walrus_module.proofs.Steps.{zip_length}
+use Rattle.walrus_module.proofs.Steps.{zip_length, pairs_long}
 use Rattle.walrus_parts.specs.declared.error.Error.{Error}
 use Rattle.walrus_parts.specs.declared.error.Error.TheVariants as error
 use Rattle.walrus.specs.Headline.{ComesTo, ComesOutTooLarge, Answers}
 use Rattle.walrus.specs.Marked.{ReachesSound, ReachesUnsound}
 use Rattle.walrus.specs.Used.{IsRefusal}
-use Rattle.wasm_frames.specs.Record as wire
 use Rattle.walrus_model.specs.Handled as handled
 
 -- ---- names
@@ -71,6 +77,49 @@ too_large c names producers bytes v w parsed collected large = record {
   out = accepted_comes_out_lem c bytes parsed.module_read v w large.0 names producers parsed.reads parsed.holds parsed.parsed collected large.1;
   too_large = large.2;
 }
+
+-- ---- functions with their bodies
+
+-- the function that has the body
+body_there : (o : Option Function) (b : Body) → body_of_function o ≡ Some b → (f : Function) × (o ≡ Some f) × (body_of_kind f.kind ≡ Some b)
+body_there (Some f) b e = (f, refl, e)
+body_there None b e = absurd (cc)
+
+is_local : (k : FunctionKind) (b : Body) → body_of_kind k ≡ Some b → k ≡ LocalFunction b
+is_local (LocalFunction d) b e = let is : d ≡ b = cc in ap LocalFunction is
+is_local (ImportedFunction p) b e = absurd (cc)
+is_local Uninitialised b e = absurd (cc)
+
+-- the locals that a well-formed body uses are there
+module _ (c : Config) (m : Abstract) (ty : ℕ) (b : Body) (made : IsWellFormed c m ty b) where
+  abbrev IsTyped : ℕ → Type 0
+  IsTyped x = IsSome (b.local_type x)
+
+  all_typed : (xs : List ℕ) (types : List (ValType ℕ)) → map b.local_type xs ≡ map Some types → AllByRecursion IsTyped xs
+  all_typed [] types e = tt
+  all_typed (x ∷ xs) [] e = absurd (cc)
+  all_typed (x ∷ xs) (t ∷ types) e =
+      let head : b.local_type x ≡ Some t = cc in
+      let tail : map b.local_type xs ≡ map Some types = cc in
+      (ap is_some head, all_typed xs types tail)
+
+  one_typed : (xs : List ℕ) (types : List (ValType ℕ)) (x : ℕ) → map b.local_type xs ≡ map Some types → Contains xs x → IsTyped x
+  one_typed xs types x e at = All-contains IsTyped xs x (All-from_recursion IsTyped xs (all_typed xs types e)) at
+
+  abbrev places : ℕ → Option ℕ
+  places = slice_get (b.parameters ++ made.further)
+
+  used_at : (x : ℕ) → IsUsed b x → Contains (b.parameters ++ made.further) x
+  used_at x used =
+      let all = ops_found made.names places (ops_of made.read.operators.texts) b.operators made.read.operators.named in
+      let index = All-contains (HasIndex made.names places) (locals_of b.operators) x (All-from_recursion (HasIndex made.names places) (locals_of b.operators) all) used in
+      (index.0, slice_get_within (b.parameters ++ made.further) index.0 x index.1, get_or_from_slice_get (b.parameters ++ made.further) index.0 x x index.1)
+
+  used_typed : (x : ℕ) → IsUsed b x → IsTyped x
+  used_typed x used = ⊎_elim
+      (λ (at : Contains b.parameters x). one_typed b.parameters (params_of (m.types ty)) x made.typed at)
+      (λ (at : Contains made.further x). one_typed made.further made.types x (sym made.further_typed) at)
+      (Contains-append_cases b.parameters made.further x (used_at x used))
 
 -- ---- what is left of a sound module is there
 
@@ -135,17 +184,26 @@ module _ (v w : Abstract) (c : Collected v w) where
         let k : Kept v x = left_is_kept v w c x (written_is_live w x y at) in
         named_live x y k (subst (λ (l : List Item). Contains l y) (same_written x k) at)
 
+    reached_local : (i : ℕ) (f : Function) → w.functions i ≡ Some f → Reached v (Functions, i)
+    reached_local i f at = ⊎_elim
+        (λ (h : Reached v (Functions, i)). h)
+        (λ (s : IsSpareMemory v (Functions, i)). absurd (no_spare_function v i s))
+        (c.functions.left i f at).0
+
     left_initialised : (i : ℕ) (f : Function) → w.functions i ≡ Some f → f.kind ≢ Uninitialised
     left_initialised i f at =
-        let left = c.functions.left i f at in
-        ⊎_elim
-        (λ (h : Reached v (Functions, i)). (sound (Functions, i) h).initialised i f refl left.1)
-        (λ (s : IsSpareMemory v (Functions, i)). absurd (no_spare_function v i s))
-        left.0
+        (sound (Functions, i) (reached_local i f at)).initialised i f refl (c.functions.left i f at).1
+
+    left_locals : (i : ℕ) (b : Body) (x : ℕ) → body_of w i ≡ Some b → IsUsed b x → IsSome (b.local_type x)
+    left_locals i b x e used =
+        let there = body_there (w.functions i) b e in
+        let kind : there.0.kind ≡ LocalFunction b = is_local there.0.kind b there.2 in
+        (sound (Functions, i) (reached_local i there.0 there.1)).locals i there.0 b x refl (c.functions.left i there.0 there.1).1 kind used
 
     left_there : IsThere w
     left_there = record {
       written = all_live;
+      locals = left_locals;
       exports = λ e at. reached_live e.item (root e.item (exported e (subst (λ (l : List Export). Contains l e) c.exports at) refl));
       initialised = left_initialised;
     }
@@ -159,33 +217,114 @@ pub reaches_sound : (c : Config) (bytes : List ℕ) (v : Abstract) → IsParsed 
 reaches_sound c bytes v parsed x reached = record {
   live = live_parsed parsed.module_read v parsed.parsed (live_read c bytes parsed.module_read parsed.reads parsed.holds) x reached;
   initialised = λ i f is at. initialised parsed.module_read v parsed.parsed i f at;
+  locals = λ i f b l is at kind used. used_typed c v f.ty b (parsed.bodies i f b at kind) l used;
 }
 
 pub sound_read : (c : Config) (bytes : List ℕ) (v : Abstract) → IsParsed c bytes v → ReachesUnsound v → ⊥
 sound_read c bytes v parsed (x, reached, unsound) = unsound (reaches_sound c bytes v parsed x reached)
 
+-- ---- what is left of well-formed bodies is well formed
+
+-- tests that agree on the types that are named hold of the same blocks
+module _ (F G : ℕ → Bool) where
+  abbrev Agree : List Item → Type 0
+  Agree names = (t : ℕ) → Contains names (type_item t) → F t ≡ G t
+
+  arg_alike : (x : Arg) → Agree (arg_names x) → block_holds F x ≡ block_holds G x
+  arg_alike (Block (OfType t)) h = h t (Contains-head (type_item t) [])
+  arg_alike (Block NoResult) h = refl
+  arg_alike (Block (OneResult v)) h = refl
+  arg_alike (Label n) h = refl
+  arg_alike (Index x) h = refl
+  arg_alike (Local n) h = refl
+  arg_alike (Number n) h = refl
+  arg_alike (Count n) h = refl
+  arg_alike (Byte n) h = refl
+  arg_alike (S32 z) h = refl
+  arg_alike (S64 z) h = refl
+  arg_alike (Bits32 n) h = refl
+  arg_alike (Bits64 n) h = refl
+  arg_alike (Value v) h = refl
+  arg_alike (Heap t) h = refl
+  arg_alike (Access flags memory offset) h = refl
+
+  args_alike : (xs : List Arg) → Agree (flat_map arg_names xs) → args_hold F xs ≡ args_hold G xs
+  args_alike [] h = refl
+  args_alike (x ∷ xs) h = ap₂ (λ (p q : Bool). p && q)
+      (arg_alike x (λ t at. h t (Contains-append_1 (type_item t) (arg_names x) (flat_map arg_names xs) at)))
+      (args_alike xs (λ t at. h t (Contains-append_2 (type_item t) (arg_names x) (flat_map arg_names xs) at)))
+
+  ops_alike : (ops : List Op) → Agree (names_of ops) → blocks_hold F ops ≡ blocks_hold G ops
+  ops_alike [] h = refl
+  ops_alike (o ∷ ops) h = ap₂ (λ (p q : Bool). p && q)
+      (args_alike o.args (λ t at. h t (Contains-append_1 (type_item t) (op_names o) (names_of ops) at)))
+      (ops_alike ops (λ t at. h t (Contains-append_2 (type_item t) (op_names o) (names_of ops) at)))
+
+-- a body keeps its form where the type of its function, and the types that its operators name, are the same
+module _ (c : Config) (v w : Abstract) (ty : ℕ) (b : Body) (same : w.types ty ≡ v.types ty) (named : (t : ℕ) → Contains (names_of b.operators) (type_item t) → w.types t ≡ v.types t) where
+  abbrev typed_in : Abstract → ℕ → Bool
+  typed_in m t = is_function_def (m.types t)
+
+  same_read : (names : Lookup) (locals : ℕ → Option ℕ) (text : List ℕ) (types : List (ValType ℕ)) → BodyReads (context names (typed_in v) (features_of c)) locals text types b.operators → BodyReads (context names (typed_in w) (features_of c)) locals text types b.operators
+  same_read names locals text types read = record {
+    front = read.front;
+    back = read.back;
+    parts = read.parts;
+    declared = read.declared;
+    declares = read.declares;
+    few = read.few;
+    typed = read.typed;
+    operators = record {
+      texts = read.operators.texts;
+      spelled = read.operators.spelled;
+      named = read.operators.named;
+      nested = read.operators.nested;
+      allowed = read.operators.allowed;
+      blocks = ops_alike (typed_in w) (typed_in v) b.operators (λ t at. ap is_function_def (named t at)) ∙ read.operators.blocks;
+    };
+  }
+
+  same_form : IsWellFormed c v ty b → IsWellFormed c w ty b
+  same_form made = record {
+    function_type = (made.function_type.0, same ∙ made.function_type.1, made.function_type.2);
+    distinct = made.distinct;
+    typed = made.typed ∙ ap (λ (o : Option TypeDef). map Some (params_of o)) (sym same);
+    names = made.names;
+    further = made.further;
+    types = made.types;
+    further_typed = made.further_typed;
+    text = made.text;
+    read = same_read made.names (slice_get (b.parameters ++ made.further)) made.text made.types made.read;
+  }
+
+module _ (v w : Abstract) (collected : Collected v w) (sound : ReachesSound v) where
+  -- the types that a function names stay
+  type_left : (i : ℕ) (f : Function) (t : ℕ) → w.functions i ≡ Some f → Contains (function_names f) (type_item t) → w.types t ≡ v.types t
+  type_left i f t at has =
+      let in_v : v.functions i ≡ Some f = (collected.functions.left i f at).1 in
+      let written : Contains (written_in v (Functions, i)) (type_item t) = subst (λ (o : Option Function). Contains (named_by function_names o) (type_item t)) (sym in_v) has in
+      collected.types.kept t (inl (step (Functions, i) (Types, t) (reached_local v w collected sound i f at) (inl written)))
+
+  body_type_left : (i : ℕ) (f : Function) (b : Body) (t : ℕ) → w.functions i ≡ Some f → f.kind ≡ LocalFunction b → Contains (names_of b.operators) (type_item t) → w.types t ≡ v.types t
+  body_type_left i f b t at kind has =
+      let of_body : Contains (kind_names (LocalFunction b)) (type_item t) = Contains-append_1 (type_item t) (names_of b.operators) (flat_map (local_names b) (used_locals b)) has in
+      let of_kind : Contains (kind_names f.kind) (type_item t) = subst (λ (k : FunctionKind). Contains (kind_names k) (type_item t)) (sym kind) of_body in
+      type_left i f t at (Contains-tail (type_item f.ty) (type_item t) (kind_names f.kind) of_kind)
+
+pub well_formed_left : (c : Config) (v w : Abstract) → AreWellFormed c v → ReachesSound v → Collected v w → AreWellFormed c w
+well_formed_left c v w formed sound collected i f b at kind =
+    same_form c v w f.ty b
+    (type_left v w collected sound i f f.ty at (Contains-head (type_item f.ty) (kind_names f.kind)))
+    (λ t has. body_type_left v w collected sound i f b t at kind has)
+    (formed i f b (collected.functions.left i f at).1 kind)
+
+-- a body that is left was there
+body_before : (v w : Abstract) (i : ℕ) (b : Body) → Collected v w → body_of w i ≡ Some b → body_of v i ≡ Some b
+body_before v w i b collected e =
+    let there = body_there (w.functions i) b e in
+    ap body_of_function ((collected.functions.left i there.0 there.1).1 ∙ sym there.1) ∙ e
+
 -- ---- each function that is left was read, with a body of its own
-
--- operators that were read have no locals, and so stay where every number does
-module _ (P : ℕ → Type 0) (r : Renaming) (in_place : (space : Space) (i : ℕ) → r.numbers space i ≡ i) (l : ℕ → ℕ) where
-  one_stays : (o : Op) → Plain P o → renamed_op r l o ≡ o
-  one_stays o (nop e) = subst (λ (p : Op). renamed_op r l p ≡ p) (sym e) refl
-  one_stays o (drop_one e) = subst (λ (p : Op). renamed_op r l p ≡ p) (sym e) refl
-  one_stays o (closes e) = subst (λ (p : Op). renamed_op r l p ≡ p) (sym e) refl
-  one_stays o (call f x e) = subst (λ (p : Op). renamed_op r l p ≡ p) (sym e) (ap call_op (in_place Functions f))
-  one_stays o (const z e) = subst (λ (p : Op). renamed_op r l p ≡ p) (sym e) refl
-
-  plain_stay : (ops : List Op) → ArePlain P ops → renamed_ops r l ops ≡ ops
-  plain_stay [] h = refl
-  plain_stay (o ∷ ops) h = ap₂ ◌∷◌ (one_stays o h.0) (plain_stay ops h.1)
-
--- the bytes that have these operators
-read_from : (r : handled.Module) (bs : List wire.Body) (bodies : List (List Op)) (i : ℕ) (ops : List Op) → AllZip (ReadsBody r) bs bodies → slice_get bodies i ≡ Some ops → (b : wire.Body) × ReadsBody r b ops
-read_from r [] [] i ops h e = absurd (cc)
-read_from r [] (o ∷ os) i ops h e = absurd h
-read_from r (b ∷ bs) [] i ops h e = absurd h
-read_from r (b ∷ bs) (o ∷ os) zero ops h e = let is : o ≡ ops = cc in (b, subst (ReadsBody r b) is h.0)
-read_from r (b ∷ bs) (o ∷ os) (suc i) ops h e = read_from r bs os i ops h.1 e
 
 -- what is got stands within the list
 within : {A : Type 0} (xs : List A) (i : ℕ) → IsSome (slice_get xs i) → i < length xs
@@ -205,11 +344,6 @@ local_stays r i (LocalFunction a) (LocalFunction b) s d e p f = absurd (cc)
 local_stays r i (LocalFunction a) Uninitialised s d e p f = s
 local_stays r i (ImportedFunction q) b s d e p f = absurd (cc)
 local_stays r i Uninitialised b s d e p f = absurd (cc)
-
--- the function that has the body
-body_there : (o : Option Function) (b : Body) → body_of_function o ≡ Some b → (f : Function) × (o ≡ Some f) × (body_of_kind f.kind ≡ Some b)
-body_there (Some f) b e = (f, refl, e)
-body_there None b e = absurd (cc)
 
 absent : false ≡ true → ⊥
 absent e = absurd (cc)
@@ -233,11 +367,11 @@ module _ (c : Config) (bytes : List ℕ) (v w : Abstract) (parsed : IsParsed c b
   abbrev read : handled.Module
   read = parsed.reads.sections
 
-  abbrev bodies : List (List Op)
+  abbrev bodies : List Said
   bodies = parsed.reads.bodies
 
   as_many : length bodies ≡ length read.functions
-  as_many = sym (zip_length (ReadsBody read) read.bodies bodies parsed.reads.read) ∙ parsed.reads.as_many_bodies
+  as_many = sym (zip_length (ReadsBody c read) (zip read.functions read.bodies) bodies parsed.reads.read) ∙ pairs_long read.functions read.bodies parsed.reads.as_many_bodies
 
   live_before : (x : Item) → IsLive w x → IsLive v x
   live_before (Types, i) h = let at = some_of (w.types i) h in ap is_some (collected.types.left i at.0 at.1).1
@@ -249,13 +383,16 @@ module _ (c : Config) (bytes : List ℕ) (v w : Abstract) (parsed : IsParsed c b
   live_before (Elements, i) h = let at = some_of (w.elements i) h in ap is_some (collected.elements.left i at.0 at.1).1
   live_before (DataSegments, i) h = let at = some_of (w.data_segments i) h in ap is_some (collected.data_segments.left i at.0 at.1).1
 
-  -- what is left was read
-  live_in_read : (x : Item) → IsLive w x → IsLive (module_of read bodies) x
-  live_in_read x h = subst (λ (m : Abstract). IsLive m x) parsed.reads.is (live_back parsed.module_read v parsed.parsed x (live_before x h))
+  -- what was parsed was read, and so was what is left
+  live_parsed_in_read : (x : Item) → IsLive v x → IsLive (module_of read bodies) x
+  live_parsed_in_read x h = subst (λ (m : Abstract). IsLive m x) parsed.reads.is (live_back parsed.module_read v parsed.parsed x h)
 
-  -- the function was read with a type and operators
+  live_in_read : (x : Item) → IsLive w x → IsLive (module_of read bodies) x
+  live_in_read x h = live_parsed_in_read x (live_before x h)
+
+  -- the function was read with a type, and what its body says
   record WasRead (i : ℕ) (f : Function) : Type 0 where
-    typed : ℕ × List Op
+    typed : ℕ × Said
     at : slice_get (zip read.functions bodies) i ≡ Some typed
     same : SameFunction parsed.parsed.renaming i (function_with read typed) f
 
@@ -280,21 +417,27 @@ module _ (c : Config) (bytes : List ℕ) (v w : Abstract) (parsed : IsParsed c b
       let found = was_read i f at in
       local_stays parsed.parsed.renaming i (function_with read found.typed).kind f.kind found.same.kind (body_with (params_of (types_of read found.typed.0)) found.typed.1) refl p is
 
-  body_reads : (i : ℕ) (b : Body) → body_of w i ≡ Some b → (text : List ℕ) × (names : Lookup) × BodyReads names text b.operators
-  body_reads i b e =
-      let there = body_there (w.functions i) b e in
-      let found = was_read i there.0 there.1 in
-      let back = kind_body_back parsed.parsed.renaming i (function_with read found.typed).kind there.0.kind found.same.kind b there.2 in
-      let some : Some (body_with (params_of (types_of read found.typed.0)) found.typed.1) ≡ Some back.0 = back.1 in
-      let is : body_with (params_of (types_of read found.typed.0)) found.typed.1 ≡ back.0 = cc in
-      let got : slice_get bodies i ≡ Some found.typed.1 = (got_zip read.functions bodies i found.typed found.at).1 in
-      let stay = plain_stay (Below read) parsed.parsed.renaming parsed.parsed.in_place (parsed.parsed.renaming.locals i) found.typed.1 (bodies_plain read read.bodies bodies i found.typed.1 parsed.reads.read got) in
-      let ops : b.operators ≡ found.typed.1 = back.2.operators ∙ ap (λ (x : Body). renamed_ops parsed.parsed.renaming (parsed.parsed.renaming.locals i) x.operators) (sym is) ∙ stay in
-      let from = read_from read read.bodies bodies i found.typed.1 parsed.reads.read got in
-      (from.0.bytes, declared read, subst (λ (x : List Op). BodyReads (declared read) from.0.bytes x) (sym ops) from.1)
+  -- ---- none of the causes to refuse it as not writable
 
-  none_without : HasNoBody w → ⊥
-  none_without (i, b, e, none) = let found = body_reads i b e in none found.1 found.0 found.2
+  none_ill_formed : HasIllFormed c w → ⊥
+  none_ill_formed (i, (f, (b, (at, kind, ill)))) = ill (well_formed_left c v w parsed.bodies (reaches_sound c bytes v parsed) collected i f b at kind)
+
+  none_other : HasOtherType w → ⊥
+  none_other (t, (x, (at, other))) = let alone = parsed.types t x (collected.types.left t x at).1 in other alone.0 alone.1
+
+  named_before : (f : ℕ) → IsRefInBody (IsLive w) w f ⊎ IsRefInGlobal (IsLive w) w f → IsRefInBody (IsLive v) v f ⊎ IsRefInGlobal (IsLive v) v f
+  named_before f (inl (i, b, live, at, has)) = inl (i, b, live_before (Functions, i) live, body_before v w i b collected at, has)
+  named_before f (inr (i, g, ops, live, at, is, has)) = inr (i, g, ops, live_before (Globals, i) live, (collected.globals.left i g at).1, is, has)
+
+  none_undeclared : HasUndeclared w → ⊥
+  none_undeclared (f, undeclared) = parsed.references f (record {
+    named = named_before f undeclared.named;
+    not_exported = λ e at. undeclared.not_exported e (subst (λ (l : List Export). Contains l e) (sym collected.exports) at);
+    not_listed = λ i e live at lists. absent (live_parsed_in_read (Elements, i) live);
+  })
+
+  few_left : HasManyLocals w → ⊥
+  few_left (i, (b, (further, (at, apart, used, no_parameters, many)))) = parsed.few_locals (i, (b, (further, (body_before v w i b collected at, apart, used, no_parameters, many))))
 
   -- ---- each index space has room
 
@@ -330,11 +473,16 @@ module _ (c : Config) (bytes : List ℕ) (v w : Abstract) (parsed : IsParsed c b
 pub no_imported : (c : Config) (bytes : List ℕ) (v w : Abstract) → IsParsed c bytes v → Collected v w → HasImported w → ⊥
 no_imported c bytes v w parsed collected = none_imported c bytes v w parsed collected
 
-pub has_bodies : (c : Config) (bytes : List ℕ) (v w : Abstract) → IsParsed c bytes v → Collected v w → HasNoBody w → ⊥
-has_bodies c bytes v w parsed collected = none_without c bytes v w parsed collected
+pub none_unwritable : (c : Config) (bytes : List ℕ) (v w : Abstract) → IsParsed c bytes v → Collected v w → HasIllFormed c w ⊎ (HasOtherType w ⊎ HasUndeclared w) → ⊥
+none_unwritable c bytes v w parsed collected (inl ill) = none_ill_formed c bytes v w parsed collected ill
+none_unwritable c bytes v w parsed collected (inr (inl other)) = none_other c bytes v w parsed collected other
+none_unwritable c bytes v w parsed collected (inr (inr undeclared)) = none_undeclared c bytes v w parsed collected undeclared
 
 pub not_too_many : (c : Config) (bytes : List ℕ) (v w : Abstract) → IsParsed c bytes v → Collected v w → HasTooMany w → ⊥
 not_too_many c bytes v w parsed collected = none_crowded c bytes v w parsed collected
+
+pub not_many_locals : (c : Config) (bytes : List ℕ) (v w : Abstract) → IsParsed c bytes v → Collected v w → HasManyLocals w → ⊥
+not_many_locals c bytes v w parsed collected = few_left c bytes v w parsed collected
 
 -- ---- what the whole way answers
 
@@ -346,10 +494,13 @@ module _ {X : Type 0} (c : Config) (view : X → List ℕ) where
   answers_for names producers bytes v w (Err (error.Memory e)) parsed collected emitted refused = tt
   answers_for names producers bytes v w (Err error.DeadItem) parsed collected emitted refused = absurd (refused (is_there v w (reaches_sound c bytes v parsed) collected))
   answers_for names producers bytes v w (Err error.NoIndex) parsed collected emitted refused = absurd (no_imported c bytes v w parsed collected refused.1)
-  answers_for names producers bytes v w (Err error.NotWritable) parsed collected emitted refused = absurd (has_bodies c bytes v w parsed collected refused.1)
+  answers_for names producers bytes v w (Err error.NotWritable) parsed collected emitted refused = absurd (none_unwritable c bytes v w parsed collected refused.1)
   answers_for names producers bytes v w (Err error.TooLarge) parsed collected emitted refused = ⊎_elim
       (λ many. absurd (not_too_many c bytes v w parsed collected many))
+      (λ more. ⊎_elim
+      (λ many. absurd (not_many_locals c bytes v w parsed collected many))
       (λ large. too_large c names producers bytes v w parsed collected large)
+      more)
       refused.1
   answers_for names producers bytes v w (Err _) parsed collected emitted refused = absurd refused
 

@@ -1,7 +1,8 @@
 pub mod DeviceLemmas
+pub mod HeadlineLemmas
 pub mod Entered
 pub mod Followed
-pub mod Dropped
+pub mod NamedLemmas
 pub mod ReachedLemmas
+pub mod Dropped
 pub mod CollectedLemmas
-pub mod HeadlineLemmas

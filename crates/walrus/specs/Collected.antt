@@ -1,8 +1,10 @@
 -- What gc leaves of a kind of items, over lists of slots.
-use Rattle.std.specs.Prelude.{ℕ, ◌≡◌, List, [], ◌∷◌, Option, Some, None, slice_set, if◌then◌else◌}
+use Rattle.std.specs.Prelude.{ℕ, ◌≡◌, List, [], ◌∷◌, Option, Some, if◌then◌else◌}
 use Rattle.walrus_base.specs.Arena.{item_at}
 use Rattle.walrus_base.specs.IdSet.{has_id}
 use Rattle.walrus_base.specs.declared.set.IdHashSet.{IdHashSet}
+use Rattle.walrus_types.specs.TypeDef.{TypeDef}
+use Rattle.walrus_types.specs.TypeSlots.{cleared, group_at}
 
 module _ {X : Type 0} where
   -- the chosen ones as they were, and no others
@@ -15,7 +17,7 @@ module _ {X : Type 0} where
   unused_among used [] = []
   unused_among used (e ∷ rest) = if has_id used e.0 then unused_among used rest else (e.0 ∷ unused_among used rest)
 
-  -- the slots with nothing at these places
-  abbrev pub without : List ℕ → List (Option X) → List (Option X)
-  without [] slots = slots
-  without (p ∷ ps) slots = without ps (slice_set slots p None)
+-- the slots of types with nothing at the places of these types' groups
+abbrev pub without_groups : List ℕ → List (Option TypeDef) → List (Option TypeDef)
+without_groups [] slots = slots
+without_groups (p ∷ ps) slots = without_groups ps (cleared (group_at slots p) slots)

@@ -9,9 +9,12 @@ pub mod tool;
 mod transfer;
 
 pub use walrus_module::{
-    Arg, Args, CodeTransform, CustomSection, Error, ErrorKind, Export, ExportItem, Function,
-    FunctionId, FunctionKind, IdHashSet, IdsToIndices, ImportedFunction, IndicesToIds, InstrLocId,
-    LocalFunction, Module, ModuleConfig, ModuleCustomSections, ModuleExports, ModuleFunctions,
-    ModuleLocals, ModuleTypes, Operator, RawCustomSection, Result, Roots, SectionEntry, TypeId,
-    ValType,
+    AbstractHeapType, Arg, Args, ArrayType, BlockType, CodeTransform, CompositeType, ConstExpr,
+    ConstOp, CustomSection, DataId, ElementId, Error, ErrorKind, Export, ExportId, ExportItem,
+    FieldType, Function, FunctionBuilder, FunctionId, FunctionKind, FunctionType, GlobalId,
+    GroupIds, HeapType, Id, IdHashSet, IdsToIndices, ImportId, ImportedFunction, IndicesToIds,
+    InstrLocId, InstrSeqBuilder, ItemId, Local, LocalFunction, LocalId, MemoryId, Module,
+    ModuleConfig, ModuleCustomSections, ModuleExports, ModuleFunctions, ModuleLocals, ModuleTypes,
+    NewType, Operator, RawCustomSection, RefType, Result, Roots, SectionEntry, StorageType,
+    StructType, TableId, TagId, Type, TypeId, UntypedCustomSectionId, ValType, Value,
 };

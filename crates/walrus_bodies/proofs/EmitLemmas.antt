@@ -15,12 +15,13 @@ use Rattle.walrus_code.specs.Names.{Lookup}
 use Rattle.walrus_code.specs.declared.operator.Operator.{Operator}
 use Rattle.walrus_code.specs.declared.error.IrError.{IrError}
 use Rattle.walrus_code.specs.declared.error.IrError.TheVariants.{Malformed, Memory, NoIndex, NotWritable, TooLarge}
+use Rattle.walrus_code.proofs.BackLemmas.{ops_back}
 use Rattle.walrus_bodies.specs.declared.features.Features.{Features}
 use Rattle.walrus_bodies.specs.Blocks.{are_nested}
 use Rattle.walrus_bodies.specs.Features.{are_allowed}
-use Rattle.walrus_bodies.specs.Emitting.{places_from, EmitsOperators}
-use Rattle.walrus_bodies.specs.Writer.{Appends, Writes, AllStand, AppendsAll, WritesAll}
-use Rattle.walrus_bodies.proofs.NamedLemmas.{named-more, named-none, ops_back}
+use Rattle.walrus_bodies.specs.Emitting.{places_from, AllStand, EmitsOperators}
+use Rattle.walrus_bodies.specs.Writer.{Appends, Writes, AppendsAll, WritesAll}
+use Rattle.walrus_bodies.proofs.NamedLemmas.{named-more, named-none}
 
 -- ---- operators one after another
 
@@ -87,14 +88,17 @@ take-next xs i x below is =
 
 -- ---- the whole
 
-row_stands : (texts : List wire.Op) → AllStand texts → IsRow (Is operator) (row_bytes op_bytes texts) texts
+pub row_stands : (texts : List wire.Op) → AllStand texts → IsRow (Is operator) (row_bytes op_bytes texts) texts
 row_stands [] stand = refl
 row_stands (text ∷ texts) stand = (op_bytes text, (row_bytes op_bytes texts, (refl, stand.0, row_stands texts stand.1)))
 
 pub emits : {X : Type 0} (names : Lookup) (locals : ℕ → Option ℕ) (features : Features) (ops : List Op) (old new : List ℕ) (places : X → List ℕ) (result : Result X IrError) → are_nested ops ≡ true → are_allowed features ops ≡ true → WritesAll names locals ops old new places result → EmitsOperators names locals features ops old new places result
 emits names locals features ops old new places (Ok x) nested allowed all = record {
+  nested = nested;
+  allowed = allowed;
   texts = all.texts;
   named = all.named;
+  stand = all.stand;
   spelled = all.spelled;
   placed = all.placed;
   back = λ c locals_back leads locals_lead same holds. record {

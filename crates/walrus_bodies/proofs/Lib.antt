@@ -1,7 +1,7 @@
 mod BlockLemmas
 mod BodyLemmas
 mod DeclarationLemmas
-mod EmitLemmas
+pub mod EmitLemmas
 mod LocatedLemmas
 mod NamedLemmas
 mod ReadLemmas

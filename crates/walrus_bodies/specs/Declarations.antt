@@ -2,6 +2,8 @@
 use Rattle.std.specs.Prelude.{◌≡◌, ℕ, List, ◌++◌, map, Result, Ok, Err}
 use Rattle.wasm_forms.specs.declared.types.RawVal.{RawVal}
 use Rattle.wasm_forms.specs.Grammar.{Is}
+use Rattle.wasm_forms.specs.Spelling.{number_bytes}
+use Rattle.wasm_forms.specs.Types.{value_bytes}
 use Rattle.walrus_code.specs.declared.error.IrError.{IrError}
 use Rattle.walrus_code.specs.declared.error.IrError.TheVariants.{Malformed, Memory, NoIndex, NotWritable, TooLarge}
 use Rattle.walrus_bodies.specs.declared.declarations.Declaration.{Declaration}
@@ -10,6 +12,10 @@ use Rattle.walrus_bodies.specs.Body.{declarations}
 -- the count and the type
 abbrev pub declaration : Declaration → ℕ × RawVal
 declaration d = (d.count, d.value)
+
+-- how it is written
+abbrev pub spelling : Declaration → List ℕ
+spelling d = number_bytes d.count ++ value_bytes d.value
 
 abbrev pub declarations_of : List Declaration → List (ℕ × RawVal)
 declarations_of ds = map declaration ds

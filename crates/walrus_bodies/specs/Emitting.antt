@@ -1,7 +1,9 @@
 -- What is answered where the operators of a body are written.
 use Rattle.std.specs.Prelude.{◌≡◌, ◌⊎◌, ℕ, ◌+◌, true, false, Option, Some, None, List, [], ◌∷◌, ◌++◌, length, All, Contains, Result, Ok, Err}
+use Rattle.wasm_forms.specs.Grammar.{Is}
 use Rattle.wasm_forms.specs.Spelling.{row_bytes}
 use Rattle.wasm_operators.specs.Operators as wire
+use Rattle.wasm_operators.specs.Forms.{operator}
 use Rattle.wasm_operators.specs.Spelling.{op_bytes}
 use Rattle.walrus_types.specs.Operators.{Op}
 use Rattle.walrus_code.specs.FromRaw.{op_of, ops_of}
@@ -21,12 +23,20 @@ abbrev pub places_from : ℕ → List wire.Op → List ℕ
 places_from start [] = []
 places_from start (o ∷ ops) = start ∷ places_from (start + length (op_bytes o)) ops
 
--- Behind the bytes that were there stands the one spelling of the operators over indices, and it reads as the operators: under all
--- look-ups to which the indices lead back, with the same features and with function types as the types of the blocks. And these
--- are the places of their first bytes.
+-- each of these operators over indices stands where it is spelled
+abbrev pub AllStand : List wire.Op → Type 0
+AllStand [] = Unit {0}
+AllStand (text ∷ rest) = Is operator (op_bytes text) text × AllStand rest
+
+-- The operators nest and are allowed. Behind the bytes that were there stands the one spelling of them over indices, and it reads as
+-- the operators: under all look-ups to which the indices lead back, with the same features and with function types as the types of the
+-- blocks. And these are the places of their first bytes.
 pub record OperatorsWritten (names : Lookup) (locals : ℕ → Option ℕ) (features : Features) (ops : List Op) (old new : List ℕ) (places : List ℕ) : Type 0 where
+  pub nested : are_nested ops ≡ true
+  pub allowed : are_allowed features ops ≡ true
   pub texts : List wire.Op
   pub named : named_ops names locals ops ≡ Some (ops_of texts)
+  pub stand : AllStand texts
   pub spelled : new ≡ old ++ row_bytes op_bytes texts
   pub placed : places ≡ places_from (length old) texts
   pub back : (c : Context) (locals_back : ℕ → Option ℕ) → LeadsBack names c.names → LocalsLeadBack locals locals_back → c.features ≡ features → blocks_hold c.is_function_type ops ≡ true → OperatorsRead c locals_back (row_bytes op_bytes texts) ops

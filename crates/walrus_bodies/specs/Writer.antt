@@ -1,5 +1,5 @@
 -- What the steps of writing operators append. Public clauses speak of `OperatorsWritten` alone.
-use Rattle.std.specs.Prelude.{◌≡◌, ℕ, false, Option, Some, None, List, [], ◌∷◌, ◌++◌, length, Contains, Result, Ok, Err}
+use Rattle.std.specs.Prelude.{◌≡◌, ℕ, false, Option, Some, None, List, ◌++◌, length, Contains, Result, Ok, Err}
 use Rattle.wasm_forms.specs.Grammar.{Is}
 use Rattle.wasm_forms.specs.Spelling.{row_bytes}
 use Rattle.wasm_operators.specs.Operators as wire
@@ -10,7 +10,7 @@ use Rattle.walrus_code.specs.FromRaw.{op_of, ops_of}
 use Rattle.walrus_code.specs.Names.{Lookup, named_op, named_ops}
 use Rattle.walrus_code.specs.declared.error.IrError.{IrError}
 use Rattle.walrus_code.specs.declared.error.IrError.TheVariants.{Malformed, Memory, NoIndex, NotWritable, TooLarge}
-use Rattle.walrus_bodies.specs.Emitting.{places_from, IsUnspelled}
+use Rattle.walrus_bodies.specs.Emitting.{places_from, AllStand, IsUnspelled}
 use Rattle.wasm_operators.specs.Standing.{spells}
 
 -- an operator over indices: its spelling is appended, and reads as it
@@ -36,10 +36,6 @@ Writes names locals o old new (Err NotWritable) = IsUnspelled names locals o
 Writes names locals o old new (Err (Memory e)) = Unit {0}
 Writes names locals o old new (Err Malformed) = ⊥
 Writes names locals o old new (Err TooLarge) = ⊥
-
-abbrev pub AllStand : List wire.Op → Type 0
-AllStand [] = Unit {0}
-AllStand (text ∷ rest) = Is operator (op_bytes text) text × AllStand rest
 
 -- the operators are appended, at these places
 pub record AppendsAll (names : Lookup) (locals : ℕ → Option ℕ) (ops : List Op) (old new : List ℕ) (places : List ℕ) : Type 0 where

@@ -1,20 +1,20 @@
 //! Reading the locals that a body declares (Binary Format > Modules > Code Section).
-ghost use Rattle.std.specs.Prelude.{◌≡◌, ◌≤◌, ◌↔◌, ℕ, map, option_map, IsTrue, IfOk, ◌++◌, replicate};
+ghost use Rattle.std.specs.Prelude.{◌≡◌, ◌≤◌, ◌↔◌, ℕ, map, IsTrue, IfOk, ◌++◌, replicate};
 ghost use Rattle.wasm_forms.specs.Grammar.{Vector, U32, ◌then◌, at};
 ghost use Rattle.wasm_forms.specs.Types.{value_type};
 ghost use Rattle.wasm_forms.specs.declared.types.RawVal.{RawVal as DeclaredVal};
-ghost use Rattle.walrus_types.specs.Value.{abstract_heap, heap_type, val_type};
-ghost use Rattle.walrus_code.specs.FromRaw as from_raw;
+ghost use Rattle.walrus_types.specs.Value.{val_type};
 ghost use Rattle.walrus_code.specs.Indices.{ids_at};
-ghost use Rattle.walrus_code.specs.Names.{named_heap, named_val};
 ghost use Rattle.walrus_bodies.specs.Body.{declarations, declared_types, how_many, most_locals};
-ghost use Rattle.walrus_bodies.specs.Declarations.{declaration, declarations_of, ReadsDeclarations};
+ghost use Rattle.walrus_bodies.specs.Declarations.{declaration, declarations_of, ReadsDeclarations, spelling};
 ghost use Rattle.walrus_bodies.specs.Reader.{Gives};
 
 use std::alloc::{AllocError, Global};
-use walrus_code::{IndicesToIds, IrError};
-use walrus_types::{AbstractHeapType, HeapType, RefType, ValType};
-use wasm_forms::{Element, RawHeap, RawVal, WireError, read_u32, read_value_type, read_vector};
+use walrus_code::{IndicesToIds, IrError, name_value};
+use walrus_types::ValType;
+use wasm_forms::{
+    Element, RawVal, WireError, Written, read_u32, read_value_type, read_vector, write_u32,
+};
 
 /// How many locals a body can declare.
 pub const MOST_LOCALS: u32 = 50_000;
@@ -39,6 +39,17 @@ impl<'a> Element<'a> for Declaration {
         let (count, rest) = read_u32(bytes)?;
         let (value, rest) = read_value_type(rest)?;
         Ok((Declaration { count, value }, rest))
+    }
+}
+
+impl Written for Declaration {
+    ghost spelled = { spelling };
+
+    ghost Fits = { λ _. Unit {0} };
+
+    fn write(&self, to: &mut Vec<u8>) -> Result<(), WireError> {
+        write_u32(to, self.count)?;
+        self.value.write(to)
     }
 }
 
@@ -101,51 +112,4 @@ fn push_times(types: &mut Vec<ValType>, ty: ValType, count: u32) -> Result<(), A
         types.push(ty)?;
     }
     Ok(())
-}
-
-// A value type; none where an index in it isn't declared.
-fn name_value(value: RawVal, indices: &IndicesToIds) -> Option<ValType>
-    ensures { option_map val_type result ≡ named_val (ids_at indices.now) (from_raw.val_of value) }
-{
-    match value {
-        RawVal::I32 => Some(ValType::I32),
-        RawVal::I64 => Some(ValType::I64),
-        RawVal::F32 => Some(ValType::F32),
-        RawVal::F64 => Some(ValType::F64),
-        RawVal::V128 => Some(ValType::V128),
-        RawVal::Ref(reference) => Some(ValType::Ref(RefType {
-            nullable: reference.nullable,
-            heap_type: name_heap(reference.heap, indices)?,
-        })),
-    }
-}
-
-// A heap type; none where an index in it isn't declared.
-fn name_heap(heap: RawHeap, indices: &IndicesToIds) -> Option<HeapType>
-    ensures { option_map heap_type result ≡ named_heap (ids_at indices.now) (from_raw.heap_of heap) }
-{
-    match heap {
-        RawHeap::Abstract(byte) => Some(HeapType::Abstract(abstract_heap(byte))),
-        RawHeap::Index(index) => Some(HeapType::Concrete(indices.get_type(index)?)),
-    }
-}
-
-// The abstract heap type of a byte from 69 to 74 (Binary Format > Types > Heap Types).
-fn abstract_heap(byte: u8) -> AbstractHeapType
-    ensures { abstract_heap result ≡ from_raw.abstract_of byte }
-{
-    match byte {
-        0x69 => AbstractHeapType::Exn,
-        0x6A => AbstractHeapType::Array,
-        0x6B => AbstractHeapType::Struct,
-        0x6C => AbstractHeapType::I31,
-        0x6D => AbstractHeapType::Eq,
-        0x6E => AbstractHeapType::Any,
-        0x6F => AbstractHeapType::Extern,
-        0x70 => AbstractHeapType::Func,
-        0x71 => AbstractHeapType::None,
-        0x72 => AbstractHeapType::NoExtern,
-        0x73 => AbstractHeapType::NoFunc,
-        _ => AbstractHeapType::NoExn,
-    }
 }

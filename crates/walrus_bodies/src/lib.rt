@@ -15,4 +15,4 @@ pub use declarations::{Declaration, MOST_LOCALS, read_declarations};
 pub use emit::emit_operators;
 pub use features::Features;
 pub use read::read_operators;
-pub use types::FunctionTypes;
+pub use types::{FunctionTypes, blocks_hold};

@@ -147,7 +147,7 @@ fn step_over(blocks: &mut OpenBlocks, operator: &Operator) -> Result<(), IrError
 }
 
 // Whether each type of a block among the arguments is a function type.
-fn args_hold<T: FunctionTypes>(types: &T, args: &[Arg]) -> bool
+pub(crate) fn args_hold<T: FunctionTypes>(types: &T, args: &[Arg]) -> bool
     ensures { result ≡ args_hold (T.function_types types.now) (map arg_of args.now) }
 {
     for arg in args {

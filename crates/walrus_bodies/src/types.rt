@@ -1,9 +1,13 @@
 //! Which types are function types (Structure > Types > Composite Types).
 ghost use Rattle.std.specs.Prelude.{◌≡◌, ℕ, Bool};
 ghost use Rattle.walrus_base.specs.Id.{place};
+ghost use Rattle.walrus_code.specs.Code.{ops_of};
+ghost use Rattle.walrus_bodies.specs.Blocks.{blocks_hold};
 ghost use Rattle.walrus_bodies.specs.FunctionTypes.{is_function_at};
 
+use crate::read::args_hold;
 use walrus_base::TypeId;
+use walrus_code::Operator;
 use walrus_types::ModuleTypes;
 
 /// The types of a module, of which a body asks only which are function types. `function_types` says so by place.
@@ -24,4 +28,16 @@ impl FunctionTypes for ModuleTypes {
         }
         self.get(id).is_function()
     }
+}
+
+/// Whether each type of a block in the operators is a function type (Binary Format > Instructions > Control Instructions).
+pub fn blocks_hold<T: FunctionTypes>(types: &T, operators: &[Operator]) -> bool
+    ensures { result ≡ blocks_hold (T.function_types types.now) (ops_of operators.now) }
+{
+    for operator in operators {
+        if !args_hold(types, operator.args.as_slice()) {
+            return false;
+        }
+    }
+    true
 }

@@ -18,7 +18,7 @@ module _ (there back : Lookup) (leads : LeadsBack there back) where
       let same : found ≡ Exact b.0 = sym (some_same _ _ b.2) in
       rw (same, leads Types t b.0 b.1) refl
 
-  val_back : (x found : ValType ℕ) → named_val there x ≡ Some found → named_val back found ≡ Some x
+  pub val_back : (x found : ValType ℕ) → named_val there x ≡ Some found → named_val back found ≡ Some x
   val_back (Ref r) found is =
       let b = bind_some (named_heap there r.heap) (λ heap. Some (Ref (record { nullable = r.nullable; heap = heap }))) found is in
       let same : found ≡ Ref (record { nullable = r.nullable; heap = b.0 }) = sym (some_same _ _ b.2) in

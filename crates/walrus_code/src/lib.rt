@@ -21,5 +21,5 @@ pub use law::named_operators_lead_back;
 pub use local_numbers::LocalNumbers;
 pub use location::InstrLocId;
 pub use operator::{Arg, Args, BlockType, Operator};
-pub use to_ids::name_operator;
-pub use to_indices::index_operator;
+pub use to_ids::{name_operator, name_value};
+pub use to_indices::{index_operator, index_value};

@@ -128,8 +128,8 @@ fn name_block(block: RawBlock, indices: &IndicesToIds) -> Option<BlockType>
     }
 }
 
-// A value type; none where an index in it isn't declared.
-fn name_value(value: RawVal, indices: &IndicesToIds) -> Option<ValType>
+/// The value type with the id for the index of a type in it; none where that index isn't declared.
+pub fn name_value(value: RawVal, indices: &IndicesToIds) -> Option<ValType>
     ensures { option_map val_type result ≡ named_val (ids_at indices.now) (from_raw.val_of value) }
 {
     match value {

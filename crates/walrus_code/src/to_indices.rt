@@ -129,8 +129,10 @@ fn index_block(block: BlockType, indices: &IdsToIndices) -> Result<RawBlock, IrE
     }
 }
 
-// A value type.
-fn index_value(value: ValType, indices: &IdsToIndices) -> Result<RawVal, IrError>
+/// The value type with the index for the id of a type in it. Takes no memory.
+///
+/// Refused as [`IrError::NoIndex`] where that type has no index, as [`IrError::NotWritable`] where it is exact.
+pub fn index_value(value: ValType, indices: &IdsToIndices) -> Result<RawVal, IrError>
     ensures indexed { IndexesIn from_raw.val_of result (val_is_exact (val_type value)) (named_val (index_of indices.now) (val_type value)) }
     ensures spelled { IfOk result ValueStands }
     ensures memory { NeedsNoMemory result }

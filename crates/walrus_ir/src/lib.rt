@@ -1,26 +1,22 @@
-//! Function bodies as lists of operators, read from and written to the binary format
-//! ("Binary Format > Modules > Code Section", "Binary Format > Instructions").
+//! Types, constant expressions, operators and bodies of functions, over ids: what the items of a module are made of. All of it comes
+//! from the crates below, which this one gathers under one name.
 #![tactic(auto)]
 
-mod emit;
-mod error;
-mod function;
-mod indices;
-mod location;
-mod operator;
-mod read;
-
-pub use emit::emit_body;
-pub use error::IrError;
-pub use function::LocalFunction;
-pub use indices::{IdsToIndices, IndicesToIds};
-pub use location::InstrLocId;
-pub use operator::{Arg, Args, Operator};
-pub use read::read_body;
 pub use walrus_base::{
     ArenaIter, CustomSectionKey, DataId, DataKey, ElementId, ElementKey, ExportId, ExportKey,
-    FunctionId, FunctionKey, GlobalId, GlobalKey, Id, IdHashSet, ImportId, ImportKey, Local,
-    LocalId, LocalIter, LocalKey, MemoryId, MemoryKey, ModuleLocals, ModuleTypes, TableId,
-    TableKey, TagId, TagKey, TombstoneArena, Type, TypeId, TypeIter, TypeKey,
-    UntypedCustomSectionId, ValType,
+    FunctionId, FunctionKey, GlobalId, GlobalKey, Id, IdHashSet, ImportId, ImportKey, LocalId,
+    LocalKey, MemoryId, MemoryKey, TableId, TableKey, TagId, TagKey, TombstoneArena, TypeId,
+    TypeKey, UntypedCustomSectionId,
+};
+pub use walrus_bodies::Features;
+pub use walrus_builder::{FunctionBuilder, InstrSeqBuilder};
+pub use walrus_code::{
+    Arg, Args, BlockType, IdsToIndices, IndicesToIds, InstrLocId, IrError, ItemId, LocalFunction,
+    LocalNumbers, Operator,
+};
+pub use walrus_functions::{EmittedBody, emit_body, read_function};
+pub use walrus_types::{
+    AbstractHeapType, ArrayType, CompositeType, ConstExpr, ConstOp, FieldType, FunctionType,
+    GroupIds, HeapType, Local, LocalIter, ModuleLocals, ModuleTypes, NewType, RefType, StorageType,
+    StructType, Type, TypeIter, ValType, Value,
 };

@@ -5,7 +5,7 @@ use Rattle.walrus_base.specs.Id.{place}
 use Rattle.walrus_base.specs.Arena.{slots, entries_left, with_item}
 use Rattle.walrus_base.specs.declared.id.Id.{Id}
 use Rattle.walrus_base.specs.declared.keys.FunctionKey.{FunctionKey}
-use Rattle.walrus_ir.specs.Operators.{Item, function_item}
+use Rattle.walrus_types.specs.Operators.{Item, function_item}
 use Rattle.walrus_items.specs.Seen.{seen}
 use Rattle.walrus_items.specs.Searches.{first}
 use Rattle.walrus_items.specs.declared.exports.Export.{Export}

@@ -5,8 +5,8 @@ use Rattle.walrus_base.specs.Id.{place}
 use Rattle.walrus_base.specs.Arena.{slots, entries_left, with_item}
 use Rattle.walrus_base.specs.declared.id.Id.{Id}
 use Rattle.walrus_base.specs.declared.keys.TypeKey.{TypeKey}
-use Rattle.walrus_ir.specs.Function.{function_type}
-use Rattle.walrus_ir.specs.declared.function.LocalFunction.{LocalFunction}
+use Rattle.walrus_code.specs.Function.{function_type}
+use Rattle.walrus_code.specs.declared.function.LocalFunction.{LocalFunction}
 use Rattle.walrus_items.specs.Seen.{seen, text_of, text_is}
 use Rattle.walrus_items.specs.declared.functions.Function.{Function}
 use Rattle.walrus_items.specs.declared.functions.FunctionKind.{FunctionKind}

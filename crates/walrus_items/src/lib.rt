@@ -10,11 +10,13 @@ pub use functions::{
     ModuleFunctions,
 };
 pub use walrus_parts::{
-    ArenaIter, Arg, Args, CodeTransform, CustomSection, CustomSectionKey, DataId, DataKey,
-    ElementId, ElementKey, Error, ErrorKind, ExportId, ExportKey, FunctionId, FunctionKey,
-    GlobalId, GlobalKey, Id, IdHashSet, IdsToIndices, ImportId, ImportKey, IndicesToIds,
-    InstrLocId, IrError, Local, LocalFunction, LocalId, LocalIter, LocalKey, MemoryId, MemoryKey,
-    ModuleLocals, ModuleTypes, Operator, RawCustomSection, Result, Roots, TableId, TableKey, TagId,
-    TagKey, TombstoneArena, Type, TypeId, TypeIter, TypeKey, UntypedCustomSectionId, ValType,
-    emit_body, read_body,
+    AbstractHeapType, ArenaIter, Arg, Args, ArrayType, BlockType, CodeTransform, CompositeType,
+    ConstExpr, ConstOp, CustomSection, CustomSectionKey, DataId, DataKey, ElementId, ElementKey,
+    EmittedBody, Error, ErrorKind, ExportId, ExportKey, Features, FieldType, FunctionBuilder,
+    FunctionId, FunctionKey, FunctionType, GlobalId, GlobalKey, GroupIds, HeapType, Id, IdHashSet,
+    IdsToIndices, ImportId, ImportKey, IndicesToIds, InstrLocId, InstrSeqBuilder, IrError, ItemId,
+    Local, LocalFunction, LocalId, LocalIter, LocalKey, LocalNumbers, MemoryId, MemoryKey,
+    ModuleLocals, ModuleTypes, NewType, Operator, RawCustomSection, RefType, Result, Roots,
+    StorageType, StructType, TableId, TableKey, TagId, TagKey, TombstoneArena, Type, TypeId,
+    TypeIter, TypeKey, UntypedCustomSectionId, ValType, Value, emit_body, read_function,
 };

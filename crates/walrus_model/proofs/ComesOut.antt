@@ -1,7 +1,7 @@
 -- A module taken whole, what is kept of that, and all of it as written: what is kept of the first, in one step.
 use Rattle.std.proofs.Common.{◌≡◌, ℕ, refl, sym, ap, ◌∙◌, subst, inl, inr, ⊎_elim}
 use Rattle.std.specs.Prelude.{Option, Some}
-use Rattle.walrus_ir.specs.Operators.{Space, Types, Functions, Tables, Memories, Tags, Globals, Elements, DataSegments, Item}
+use Rattle.walrus_types.specs.Operators.{Space, Types, Functions, Tables, Memories, Tags, Globals, Elements, DataSegments, Item}
 use Rattle.walrus_model.specs.Abstract.{Abstract, Import}
 use Rattle.walrus_model.specs.Live.{IsLive}
 use Rattle.walrus_model.specs.Kept.{Kept, IsImportOf}

@@ -1,7 +1,7 @@
 -- Two carried steps as one.
 use Rattle.std.proofs.Common.{◌≡◌, ℕ, map, refl, sym, ap, ◌∙◌, subst, inl, inr, ⊎_elim}
 use Rattle.std.specs.Prelude.{Option, Some, None, option_map, IsSome, ◌⊎◌}
-use Rattle.walrus_ir.specs.Operators.{Space, Types, Functions, Tables, Memories, Tags, Globals, Elements, DataSegments, Item}
+use Rattle.walrus_types.specs.Operators.{Space, Types, Functions, Tables, Memories, Tags, Globals, Elements, DataSegments, Item}
 use Rattle.walrus_model.specs.Abstract.{Abstract}
 use Rattle.walrus_model.specs.Renaming.{Renaming, joined, renamed_import, renamed_export}
 use Rattle.walrus_model.specs.Same.{BothAnd}

@@ -1,8 +1,10 @@
 -- The worked examples.
-use Rattle.std.proofs.Common.{◌≡◌, ℕ, zero, suc, pred, ◌<◌, Bool, true, false, [], ◌∷◌, refl, sym, ap, ◌∙◌, subst, inl, inr, ⊎_elim, arith}
+use Rattle.std.proofs.Common.{◌≡◌, ℕ, zero, suc, pred, ◌<◌, Bool, true, false, [], ◌∷◌, map, refl, sym, ap, ◌∙◌, subst, inl, inr, ⊎_elim, arith}
 use Rattle.std.specs.Prelude.{Some, None, IsTrue, IsSome, ◌⊎◌, Contains}
 use Rattle.walrus_base.specs.Types.{CompType, Func, I32, sub_names}
-use Rattle.walrus_ir.specs.Operators.{Space, Types, Functions, Tables, Memories, Tags, Globals, Elements, DataSegments, Item, Op}
+use Rattle.walrus_types.specs.Composite.{function_comp}
+use Rattle.walrus_types.specs.Operators.{Space, Types, Functions, Tables, Memories, Tags, Globals, Elements, DataSegments, Item, Op}
+use Rattle.walrus_functions.specs.Handlers.{handlers_of}
 use Rattle.walrus_model.specs.Abstract.{TypeDef, Body}
 use Rattle.walrus_model.specs.Roots.{exported, start, data_segment, element_segment, asked_for}
 use Rattle.walrus_model.specs.Reached.{Reached, root, step, HasRoots, IsClosed}
@@ -14,10 +16,10 @@ use Rattle.walrus_model.specs.Out.{IsAdded, IsHandlerType, Out}
 use Rattle.walrus_model.specs.Order.{ByIndex}
 use Rattle.walrus_model.specs.Names.{body_of}
 use Rattle.walrus_model.specs.Declared.{ref_func, IsUndeclared, Declares}
-use Rattle.walrus_model.specs.Handlers.{OtherBlock, handlers_from}
+use Rattle.walrus_model.specs.Handlers.{tag_type}
 use Rattle.walrus_model.specs.Reads.{export_of, body_with}
 use Rattle.walrus_model.specs.Examples.{two_functions, one_function, export_f, just_end, plain, SmallOnes, alone, function_type, struct_of, empty_struct, with_handler, structs, pair_shape}
-use Rattle.walrus_model.specs.Shape.{Own, Other, in_its_group, HasShape, OfGroup, NoShapes, AndShape, Filled}
+use Rattle.walrus_types.specs.Shape.{Own, Other, in_its_group, HasShape, OfGroup, NoShapes, AndShape, Filled}
 use Rattle.walrus_model.proofs.Lists.{Contains-head, Contains-uncons, Contains-none}
 use Rattle.walrus_model.proofs.Least.{lies_within}
 
@@ -201,7 +203,7 @@ kept_rise DataSegments h i j k l before = absurd (not_kept (DataSegments, i) ref
 empty_bodies : (i : ℕ) (b : Body) → Kept two_functions (Functions, i) → body_of two_functions i ≡ Some b → b.operators ≡ just_end
 empty_bodies i b k is =
     let second : body_of two_functions 1 ≡ Some b = subst (λ f. body_of two_functions f ≡ Some b) (only_second i k) is in
-    let same : body_with [] just_end ≡ b = cc in
+    let same : body_with [] ([], just_end) ≡ b = cc in
     ap (λ b. b.operators) (sym same)
 
 no_undeclared : (f : ℕ) → IsUndeclared (Kept two_functions) two_functions f → ⊥
@@ -220,7 +222,7 @@ nothing_declared = record {
 
 no_handlers : (comp : CompType ℕ) → IsHandlerType (Kept two_functions) two_functions comp → ⊥
 no_handlers comp (f, b, k, is, at) =
-    Contains-none comp (subst (λ ops. Contains (handlers_from two_functions (OtherBlock ∷ []) ops) comp) (empty_bodies f b k is) at)
+    Contains-none comp (subst (λ ops. Contains (map function_comp (handlers_of two_functions.types (tag_type two_functions) ops)) comp) (empty_bodies f b k is) at)
 
 comes_out : Out plain two_functions one_function
 unfolding Added
@@ -249,14 +251,14 @@ pair_first = record { group = 0 ∷ 1 ∷ []; sub = empty_struct }
 pair_second : TypeDef
 pair_second = record { group = 0 ∷ 1 ∷ []; sub = struct_of 0 }
 
-has_shape : HasShape with_handler 1 (OfGroup (record { is_final = true; supertypes = []; comp = Func (I32 ∷ []) [] } ∷ []) NoShapes 0)
+has_shape : HasShape with_handler.types 1 (OfGroup (record { is_final = true; supertypes = []; comp = Func (I32 ∷ []) [] } ∷ []) NoShapes 0)
 has_shape = (alone 1 (function_type (I32 ∷ []) []), refl, refl, in_its_group (alone 1 (function_type (I32 ∷ []) [])) ∷ [], refl, refl, refl)
 
-in_group : HasShape structs 1 (pair_shape 1)
+in_group : HasShape structs.types 1 (pair_shape 1)
 unfolding pair_first pair_second
 in_group = (pair_second, refl, refl, in_its_group pair_first ∷ in_its_group pair_second ∷ [], refl, refl, refl)
 
-outside : HasShape structs 2 (OfGroup (struct_of Filled ∷ []) (AndShape (pair_shape 1) NoShapes) 0)
+outside : HasShape structs.types 2 (OfGroup (struct_of Filled ∷ []) (AndShape (pair_shape 1) NoShapes) 0)
 outside = (alone 2 (struct_of 1), refl, refl, in_its_group (alone 2 (struct_of 1)) ∷ [], refl, refl, (1, [], refl, in_group, refl))
 
 not_merged : SameType (λ t. 0) 1 (alone 1 (struct_of 0)) (alone 0 (struct_of 0)) → ⊥

@@ -4,7 +4,7 @@ use Rattle.std.specs.Prelude.{Some, Contains, ◌≢◌}
 use Rattle.std.proofs.lemmas.List.Elements.{All-nil}
 use Rattle.std.proofs.lemmas.List.Kept.{AllPairs-cons}
 use Rattle.walrus_base.specs.Types.{comp_names}
-use Rattle.walrus_ir.specs.Operators.{Types, Functions, Tables, Memories, Tags, Globals, Elements, DataSegments, Item, Block, OfType, Op}
+use Rattle.walrus_types.specs.Operators.{Types, Functions, Tables, Memories, Tags, Globals, Elements, DataSegments, Item, Block, OfType, Op}
 use Rattle.walrus_model.specs.Abstract.{TypeDef, Function, Body, Export}
 use Rattle.walrus_model.specs.Live.{IsLive}
 use Rattle.walrus_model.specs.Refers.{written_in, IsUsed}
@@ -19,12 +19,12 @@ type_is : (t : ℕ) (x : TypeDef) → two_functions.types t ≡ Some x → lone_
 type_is zero x e = cc
 type_is (suc t) x e = absurd (cc)
 
-function_is : (i : ℕ) (f : Function) → two_functions.functions i ≡ Some f → function_with two_functions_sections (0, just_end) ≡ f
+function_is : (i : ℕ) (f : Function) → two_functions.functions i ≡ Some f → function_with two_functions_sections (0, ([], just_end)) ≡ f
 function_is zero f e = cc
 function_is (suc zero) f e = cc
 function_is (suc (suc i)) f e = absurd (cc)
 
-body_is : (i : ℕ) (b : Body) → body_of two_functions i ≡ Some b → body_with [] just_end ≡ b
+body_is : (i : ℕ) (b : Body) → body_of two_functions i ≡ Some b → body_with [] ([], just_end) ≡ b
 body_is zero b e = cc
 body_is (suc zero) b e = cc
 body_is (suc (suc i)) b e = absurd (cc)

@@ -1,7 +1,7 @@
 -- What gc keeps follows a renaming.
 use Rattle.std.proofs.Common.{◌≡◌, ℕ, zero, suc, ◌<◌, refl, sym, ap, ◌∙◌, subst, inl, inr, ⊎_elim, arith}
 use Rattle.std.specs.Prelude.{Option, Some, None, IsSome, ◌⊎◌}
-use Rattle.walrus_ir.specs.Operators.{Space, Memories, DataSegments, Item}
+use Rattle.walrus_types.specs.Operators.{Space, Memories, DataSegments, Item}
 use Rattle.walrus_model.specs.Abstract.{Abstract}
 use Rattle.walrus_model.specs.Live.{IsLive}
 use Rattle.walrus_model.specs.Reached.{Reached}

@@ -1,7 +1,7 @@
 -- What gc leaves of a module is reached as before, is all kept, and is carried under the renaming that changes nothing.
 use Rattle.std.proofs.Common.{◌≡◌, ℕ, true, false, List, ◌++◌, refl, sym, ap, ◌∙◌, subst, inl, inr, ⊎_elim}
 use Rattle.std.specs.Prelude.{Option, Some, None, IsSome, is_some, Contains}
-use Rattle.walrus_ir.specs.Operators.{Space, Types, Functions, Tables, Memories, Tags, Globals, Elements, DataSegments, Item, Op, names_of}
+use Rattle.walrus_types.specs.Operators.{Space, Types, Functions, Tables, Memories, Tags, Globals, Elements, DataSegments, Item, Op, names_of}
 use Rattle.walrus_model.specs.Abstract.{Abstract, Memory, Function, Uninitialised, Element, ElementKind, ActiveElements, Import}
 use Rattle.walrus_model.specs.Live.{Has, IsLive}
 use Rattle.walrus_model.specs.Refers.{named_by, type_names, function_names, table_names, memory_names, tag_names, global_names, element_kind_names, element_item_names, element_names, data_names, written_in}

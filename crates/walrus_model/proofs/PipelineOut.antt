@@ -1,7 +1,7 @@
 -- What is written of what gc left of a parsed module comes out for the module that was read.
 use Rattle.std.proofs.Common.{◌≡◌, ℕ, ◌<◌, Bool, true, false, List, [], ◌∷◌, ◌++◌, map, filter, refl, sym, ap, ap₂, ◌∙◌, subst, inl, inr, ⊎_elim}
 use Rattle.std.specs.Prelude.{Option, Some, Contains, not, ◌||◌, cond}
-use Rattle.walrus_ir.specs.Operators.{Space, Types, Functions, Tables, Memories, Tags, Globals, Elements, DataSegments, Item, Op}
+use Rattle.walrus_types.specs.Operators.{Space, Types, Functions, Tables, Memories, Tags, Globals, Elements, DataSegments, Item, Op}
 use Rattle.walrus_base.specs.Types.{CompType}
 use Rattle.walrus_model.specs.Abstract.{Abstract, Body, Function, Table, Memory, Tag, Global, Import, Element, ListedFunctions, DeclaredElements, Custom, Indices}
 use Rattle.walrus_model.specs.Live.{IsLive}

@@ -1,7 +1,7 @@
 -- What is reached follows a renaming.
 use Rattle.std.proofs.Common.{◌≡◌, ℕ, List, [], ◌∷◌, ◌++◌, map, refl, sym, ap, ◌∙◌, subst, inl, inr, ⊎_elim}
 use Rattle.std.specs.Prelude.{Option, Some, None, option_map, IsSome, Contains}
-use Rattle.walrus_ir.specs.Operators.{Functions, Tables, Elements, DataSegments, Item, Op, names_of}
+use Rattle.walrus_types.specs.Operators.{Functions, Tables, Elements, DataSegments, Item, Op, names_of}
 use Rattle.walrus_model.specs.Abstract.{Abstract, Origin, ImportedBy, Defined, Table, Export, ElementKind, PassiveElements, DeclaredElements, ActiveElements, Element, DataKind, PassiveData, ActiveData, DataSegment}
 use Rattle.walrus_model.specs.Refers.{named_by, element_kind_names, element_names, element_item_names, written_in, Refers}
 use Rattle.walrus_model.specs.Roots.{IsImported, IsImportedTable, IsRootElement, IsRootData, IsRoot, exported, start, data_segment, element_segment, asked_for}

@@ -1,8 +1,8 @@
 -- What the bytes of the two worked modules read as.
-use Rattle.std.proofs.Common.{◌≡◌, true, false, drop, ℕ, ◌+◌, ◌<◌, List, [], ◌∷◌, length, refl, sym, ◌∙◌, subst, arith, append-nil}
-use Rattle.std.specs.Prelude.{codes, All, AllPairs, slice_get, Some}
+use Rattle.std.proofs.Common.{◌≡◌, true, false, drop, ℕ, zero, suc, ◌+◌, ◌<◌, List, [], ◌∷◌, length, refl, sym, ap, ◌∙◌, subst, arith, append-nil, ⊎_elim}
+use Rattle.std.specs.Prelude.{codes, All, AllPairs, slice_get, Option, Some, Contains}
 use Rattle.wasm_forms.specs.Number.{IsU32, number_at, leb_at}
-use Rattle.wasm_forms.specs.Grammar.{Form, Is, at, Vector, U32, row_at, block_at, until_at}
+use Rattle.wasm_forms.specs.Grammar.{Form, Is, at, Vector, U32, row_at, block_at}
 use Rattle.std.specs.Str.{is_utf8}
 use Rattle.std.proofs.lemmas.Str.{is_utf8-from_IsUtf8, IsUtf8-from_ascii}
 use Rattle.std.proofs.lemmas.Str.Ascii.{IsAscii-nil, IsAscii-cons}
@@ -15,14 +15,24 @@ use Rattle.wasm_entries.specs.Forms.{export_form, kind_form, kind_from}
 use Rattle.wasm_entries.specs.Record as entries
 use Rattle.wasm_frames.specs.Frames.{Frames, Section, Types, Functions, Exports, Code, IsSection, IsBody, IsCode, IsContent, id_of}
 use Rattle.wasm_frames.specs.Order.{StandsBefore, standard_order}
-use Rattle.walrus_ir.specs.Names.{Lookup}
-use Rattle.walrus_ir.specs.Body.{body_form, operator_from, BodyReads}
+use Rattle.wasm_operators.specs.Operators as wire
+use Rattle.wasm_operators.specs.Forms.{args_form, operator_of, operator_from, operator}
+use Rattle.wasm_operators.specs.Table.{kinds_of}
+use Rattle.walrus_bodies.specs.Body.{declarations, BodyReads}
+use Rattle.walrus_functions.specs.ReadFunction.{locals_from}
+use Rattle.walrus_model.specs.Handled as handled
 use Rattle.walrus_model.specs.Handled.{widened, widened_type, widened_export}
-use Rattle.walrus_model.specs.Reads.{Reads, declared}
+use Rattle.walrus_model.specs.Reads.{Reads, context_of, body_with}
+use Rattle.walrus_model.specs.Abstract.{Body}
+use Rattle.walrus_model.specs.Declared.{ref_func, NothingUndeclared}
+use Rattle.walrus_model.specs.Names.{body_of}
+use Rattle.walrus_model.proofs.Lists.{Contains-uncons, Contains-none}
+use Rattle.walrus_types.specs.Operators.{Op}
 use Rattle.wasm_forms.specs.Spelling.{number_bytes, vector_bytes, groups}
 use Rattle.wasm_entries.specs.TypeSpelling.{group_bytes}
 use Rattle.wasm_entries.specs.Spelling.{export_bytes}
-use Rattle.walrus_model.specs.Placed.{Section as PlacedSection, is_custom, is_called, is_dylink_section, is_other_custom, sized_body, IsListOf, IsCanonical, of_types, of_functions, of_exports, of_bodies, Placed}
+use Rattle.walrus_model.specs.BodyText.{BodyText, DeclaresOnce, sized_text}
+use Rattle.walrus_model.specs.Placed.{Section as PlacedSection, is_custom, is_called, is_dylink_section, is_other_custom, IsListOf, IsCanonical, of_types, of_functions, of_exports, of_bodies, Placed}
 use Rattle.walrus_model.specs.Examples.{two_functions_bytes, one_function_bytes, no_values, export_f, empty_body, just_end, two_functions_sections, one_function_sections, two_functions, one_function, plain}
 
 -- bytes that are read to their end are a text of the form
@@ -66,9 +76,29 @@ export_0 : Is (Vector export_form) (0x01 ∷ 0x01 ∷ 0x66 ∷ 0x00 ∷ 0x00 ∷
 unfolding export_form kind_form kind_from number_at leb_at row_at block_at
 export_0 = reads_whole (Vector export_form) (0x01 ∷ 0x01 ∷ 0x66 ∷ 0x00 ∷ 0x00 ∷ []) (entry_f 0 ∷ []) (rw f_is_text refl)
 
-body_read : (names : Lookup) → BodyReads names (0x00 ∷ 0x0B ∷ []) just_end
-unfolding body_form operator_from number_at leb_at until_at
-body_read names = (just_end, reads_whole body_form (0x00 ∷ 0x0B ∷ []) just_end refl, refl)
+-- the end, as it is spelled
+abbrev the_end : wire.Op
+the_end = record { op = 0x0B; args = [] }
+
+end_read : Is operator (0x0B ∷ []) the_end
+unfolding operator operator_from operator_of args_form kinds_of
+end_read = reads_whole operator (0x0B ∷ []) the_end refl
+
+no_declarations : Is declarations (0x00 ∷ []) []
+unfolding declarations number_at leb_at row_at
+no_declarations = reads_whole declarations (0x00 ∷ []) [] refl
+
+body_read : (r : handled.Module) (locals : ℕ → Option ℕ) → BodyReads (context_of plain r) locals (0x00 ∷ 0x0B ∷ []) [] just_end
+body_read r locals = record {
+  front = 0x00 ∷ [];
+  back = 0x0B ∷ [];
+  parts = refl;
+  declared = [];
+  declares = no_declarations;
+  few = omega arith;
+  typed = refl;
+  operators = record { texts = the_end ∷ []; spelled = (0x0B ∷ [], ([], (refl, end_read, refl))); named = refl; nested = refl; allowed = refl; blocks = refl };
+}
 
 -- ---- the sections
 
@@ -194,15 +224,45 @@ in_order =
     (All-cons (StandsBefore 7) 10 [] (stands 7 11 7 10 (omega arith) refl refl) (All-nil (StandsBefore 7)))
     (AllPairs-cons StandsBefore 10 [] (All-nil (StandsBefore 10)) (λ i j d less at. absurd (omega arith)))))
 
+-- ---- no function is named by ref.func
+
+one_alone : (x y : Op) → Contains (x ∷ []) y → x ≡ y
+one_alone x y at = ⊎_elim (λ e. e) (λ none. absurd (Contains-none y none)) (Contains-uncons x y [] at)
+
+just_ends : (b : Body) (f : ℕ) → b.operators ≡ just_end → Contains b.operators (ref_func f) → ⊥
+just_ends b f is at = differ 0x0B 0xD2 (ap (λ (o : Op). o.op) (one_alone (record { op = 0x0B; args = [] }) (ref_func f) (subst (λ (ops : List Op). Contains ops (ref_func f)) is at))) refl refl
+  where
+    differ : (n m : ℕ) → n ≡ m → n ≡ 0x0B → m ≡ 0xD2 → ⊥
+    differ n m same p q = omega arith
+
+ended : (b : Body) → Some (body_with [] ([], just_end)) ≡ Some b → b.operators ≡ just_end
+ended b e = let same : body_with [] ([], just_end) ≡ b = cc in ap (λ (c : Body). c.operators) (sym same)
+
+two_end : (i : ℕ) (b : Body) → body_of two_functions i ≡ Some b → b.operators ≡ just_end
+two_end zero b e = ended b e
+two_end (suc zero) b e = ended b e
+two_end (suc (suc i)) b e = absurd (cc)
+
+one_ends : (i : ℕ) (b : Body) → body_of one_function i ≡ Some b → b.operators ≡ just_end
+one_ends zero b e = ended b e
+one_ends (suc i) b e = absurd (cc)
+
+two_declare : NothingUndeclared two_functions
+two_declare f u = ⊎_elim (λ body. just_ends body.1 f (two_end body.0 body.1 body.3) body.4) (λ global. let is = global.4 in absurd (cc)) u.named
+
+one_declares : NothingUndeclared one_function
+one_declares f u = ⊎_elim (λ body. just_ends body.1 f (one_ends body.0 body.1 body.3) body.4) (λ global. let is = global.4 in absurd (cc)) u.named
+
 pub two_functions_read : Reads plain two_functions_bytes two_functions
 two_functions_read = record {
   sections = two_functions_sections;
   framed = two_frames;
   in_order = in_order;
   as_many_bodies = refl;
-  bodies = just_end ∷ just_end ∷ [];
-  read = (body_read (declared two_functions_sections), (body_read (declared two_functions_sections), tt));
+  bodies = ([], just_end) ∷ ([], just_end) ∷ [];
+  read = (body_read two_functions_sections (locals_from 0 0), (body_read two_functions_sections (locals_from 0 0), tt));
   is = refl;
+  references = two_declare;
 }
 
 pub one_function_read : Reads plain one_function_bytes one_function
@@ -211,9 +271,10 @@ one_function_read = record {
   framed = one_frames;
   in_order = in_order;
   as_many_bodies = refl;
-  bodies = just_end ∷ [];
-  read = (body_read (declared one_function_sections), tt);
+  bodies = ([], just_end) ∷ [];
+  read = (body_read one_function_sections (locals_from 0 0), tt);
   is = refl;
+  references = one_declares;
 }
 
 -- ---- what is written
@@ -233,8 +294,14 @@ function_part = record { id = 3; name = []; content = vector_bytes number_bytes 
 abbrev export_part : PlacedSection
 export_part = record { id = 7; name = []; content = vector_bytes export_bytes (entry_f 0 ∷ []) }
 
+abbrev end_text : BodyText
+end_text = record { declarations = []; operators = the_end ∷ [] }
+
 abbrev code_part : PlacedSection
-code_part = record { id = 10; name = []; content = vector_bytes sized_body (just_end ∷ []) }
+code_part = record { id = 10; name = []; content = vector_bytes sized_text (end_text ∷ []) }
+
+end_declares_once : All DeclaresOnce (end_text ∷ [])
+end_declares_once = All-cons DeclaresOnce end_text [] (λ i j d less at. absurd (omega arith)) (All-nil DeclaresOnce)
 
 abbrev placed_sections : List PlacedSection
 placed_sections = type_part ∷ function_part ∷ export_part ∷ code_part ∷ []
@@ -263,5 +330,5 @@ one_function_placed = record {
       (of_types type_part.content (a_list group_bytes one_group [] type_part.content refl))
       (of_functions function_part.content (a_list number_bytes 0 [] function_part.content refl))
       (of_exports export_part.content (a_list export_bytes (entry_f 0) [] export_part.content refl))
-      (of_bodies code_part.content (a_list sized_body just_end [] code_part.content refl));
+      (of_bodies code_part.content (end_text ∷ [], (λ e. cc), end_declares_once, refl));
 }

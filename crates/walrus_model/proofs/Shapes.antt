@@ -2,9 +2,9 @@
 use Rattle.std.proofs.Common.{◌≡◌, ℕ, List, [], ◌∷◌, ◌++◌, map, refl, sym, ap, ◌∙◌, subst, ⊎_elim}
 use Rattle.std.specs.Prelude.{Option, Some, None, option_map, Contains, flat_map, filter_map}
 use Rattle.walrus_base.specs.Types.{SubType, map_sub, sub_names}
-use Rattle.walrus_ir.specs.Operators.{Types, Item, type_item}
+use Rattle.walrus_types.specs.Operators.{Types, Item, type_item}
 use Rattle.walrus_model.specs.Abstract.{Abstract, TypeDef}
-use Rattle.walrus_model.specs.Shape.{place_in, Seen, Own, Other, seen_at, seen_from, in_its_group, others_through, slot, other_type, Shape, OfGroup, Shapes, NoShapes, AndShape, AreMembers, HasShape, HaveShapes}
+use Rattle.walrus_types.specs.Shape.{place_in, Seen, Own, Other, seen_at, seen_from, in_its_group, others_through, slot, other_type, Shape, OfGroup, Shapes, NoShapes, AndShape, AreMembers, HasShape, HaveShapes}
 use Rattle.walrus_model.specs.Renaming.{Renaming}
 use Rattle.walrus_model.specs.Same.{SameType, BothAnd}
 use Rattle.walrus_model.specs.Carried.{Carried}
@@ -70,12 +70,12 @@ module _ (K : Item → Type 0) (m : Abstract) (holds : HoldsItsTypes K m) where
       let names : sub_names s ≡ map (seen_from x.group) (sub_names x.sub) = ap sub_names (sym made.2) ∙ sub-names (seen_from x.group) x.sub in
       named_chosen t x k made.1 u (others_named x.group (sub_names x.sub) u (subst (λ l. Contains (filter_map other_type l) u) names at))
 
-  filling_chosen : (group : List ℕ) (subs : List (SubType Seen)) → ((u : ℕ) → Contains group u → K (type_item u)) → AreMembers m group subs → (v : ℕ) → Contains (filter_map other_type (flat_map sub_names subs)) v → K (type_item v)
+  filling_chosen : (group : List ℕ) (subs : List (SubType Seen)) → ((u : ℕ) → Contains group u → K (type_item u)) → AreMembers m.types group subs → (v : ℕ) → Contains (filter_map other_type (flat_map sub_names subs)) v → K (type_item v)
   filling_chosen group [] h are v at = absurd (Contains-none v at)
   filling_chosen [] (s ∷ ss) h are v at = absurd (cc)
   filling_chosen (t ∷ ts) (s ∷ ss) h are v at =
       let first : option_map in_its_group (m.types t) ≡ Some s = cc in
-      let rest : AreMembers m ts ss = cc in
+      let rest : AreMembers m.types ts ss = cc in
       let both : Contains (filter_map other_type (sub_names s) ++ filter_map other_type (flat_map sub_names ss)) v = subst (λ l. Contains l v) (elements.filter_map-append other_type (sub_names s) (flat_map sub_names ss)) at in
       ⊎_elim
       (λ here. member_chosen t s (h t (Contains-head t ts)) first v here)
@@ -91,7 +91,7 @@ module _ (f : ℕ → ℕ) where
   same_member t None b s = absurd s
 
   module _ (m n : Abstract) where
-    members_carried : (group : List ℕ) (subs : List (SubType Seen)) → ((t : ℕ) → Contains group t → BothAnd (SameType f t) (m.types t) (n.types (f t))) → AreMembers m group subs → AreMembers n (map f group) (map (map_sub (others_through f)) subs)
+    members_carried : (group : List ℕ) (subs : List (SubType Seen)) → ((t : ℕ) → Contains group t → BothAnd (SameType f t) (m.types t) (n.types (f t))) → AreMembers m.types group subs → AreMembers n.types (map f group) (map (map_sub (others_through f)) subs)
     members_carried group subs same are =
         map-map (λ t. option_map in_its_group (n.types t)) f group
         ∙ map-same_on (λ t. option_map in_its_group (n.types (f t))) (λ t. option_map (map_sub (others_through f)) (option_map in_its_group (m.types t))) group (λ t at. same_member t (m.types t) (n.types (f t)) (same t at))
@@ -104,24 +104,24 @@ module _ (f : ℕ → ℕ) where
 
 module _ (K : Item → Type 0) (m n : Abstract) (f : ℕ → ℕ) (holds : HoldsItsTypes K m) (same : (t : ℕ) → K (type_item t) → BothAnd (SameType f t) (m.types t) (n.types (f t))) where
   mutual
-    shape_kept : (shape : Shape) (t : ℕ) → K (type_item t) → HasShape m t shape → HasShape n (f t) shape
+    shape_kept : (shape : Shape) (t : ℕ) → K (type_item t) → HasShape m.types t shape → HasShape n.types (f t) shape
     shape_kept (OfGroup members filling position) t k (x, e, place, subs, are, members_are, filled) =
         let there = given (SameType f t) (m.types t) (n.types (f t)) x (same t k) e in
         let y = there.0 in
         let s = there.2 in
         let chosen = group_chosen K m holds t x k e in
-        let new_members : AreMembers n y.group (map (map_sub (others_through f)) subs) =
-        subst (λ g. AreMembers n g (map (map_sub (others_through f)) subs)) (sym s.group) (members_carried f m n x.group subs (λ u at. same u (chosen u at)) are) in (
+        let new_members : AreMembers n.types y.group (map (map_sub (others_through f)) subs) =
+        subst (λ g. AreMembers n.types g (map (map_sub (others_through f)) subs)) (sym s.group) (members_carried f m n x.group subs (λ u at. same u (chosen u at)) are) in (
           y,
           there.1,
           s.position ∙ place,
           map (map_sub (others_through f)) subs,
           new_members,
           members_are ∙ sym (members_through f subs),
-          subst (λ ts. HaveShapes n ts filling) (sym (filling_follows f subs)) (shapes_kept filling (filter_map other_type (flat_map sub_names subs)) (filling_chosen K m holds x.group subs chosen are) filled),
+          subst (λ ts. HaveShapes n.types ts filling) (sym (filling_follows f subs)) (shapes_kept filling (filter_map other_type (flat_map sub_names subs)) (filling_chosen K m holds x.group subs chosen are) filled),
         )
 
-    shapes_kept : (shapes : Shapes) (ts : List ℕ) → ((u : ℕ) → Contains ts u → K (type_item u)) → HaveShapes m ts shapes → HaveShapes n (map f ts) shapes
+    shapes_kept : (shapes : Shapes) (ts : List ℕ) → ((u : ℕ) → Contains ts u → K (type_item u)) → HaveShapes m.types ts shapes → HaveShapes n.types (map f ts) shapes
     shapes_kept NoShapes ts h e = ap (map f) e
     shapes_kept (AndShape shape rest) ts h (t, us, e, has, have) = (
       f t,

@@ -2,12 +2,12 @@
 use Rattle.std.specs.Prelude.{ℕ, List, [], ◌∷◌, ◌++◌, Some, None, codes, decimal, slice_get, true, false, pos, ◌≡◌}
 use Rattle.wasm_frames.specs.Record as wire
 use Rattle.walrus_base.specs.Types.{Func, Struct, ValType, I32, Ref, Concrete, SubType, Unpacked}
-use Rattle.walrus_ir.specs.Operators.{Types, Tags, Functions, Index, Block, OneResult, S32, Op}
+use Rattle.walrus_types.specs.Operators.{Types, Tags, Functions, Index, Block, OneResult, S32, Op}
 use Rattle.walrus_model.specs.Abstract.{Abstract, TypeDef, Body, LocalFunction, Defined, AnItem, ALocal}
 use Rattle.walrus_model.specs.Config.{Config}
 use Rattle.walrus_model.specs.Handled as handled
 use Rattle.walrus_model.specs.Kept.{Kept}
-use Rattle.walrus_model.specs.Shape.{HasShape, Shape, OfGroup, NoShapes, AndShape, InGroup, Filled}
+use Rattle.walrus_types.specs.Shape.{HasShape, Shape, OfGroup, NoShapes, AndShape, InGroup, Filled}
 use Rattle.walrus_model.specs.Same.{SameType}
 use Rattle.walrus_model.specs.Names.{name_of}
 use Rattle.walrus_model.specs.Producers.{produced}
@@ -63,10 +63,10 @@ one_function_sections = record { order = 1 ∷ 3 ∷ 7 ∷ 10 ∷ []; types = no
 -- the modules
 
 abbrev pub two_functions : Abstract
-two_functions = module_of two_functions_sections (just_end ∷ just_end ∷ [])
+two_functions = module_of two_functions_sections (([], just_end) ∷ ([], just_end) ∷ [])
 
 abbrev pub one_function : Abstract
-one_function = module_of one_function_sections (just_end ∷ [])
+one_function = module_of one_function_sections (([], just_end) ∷ [])
 
 -- names are written, producers aren't
 abbrev pub plain : Config
@@ -137,9 +137,9 @@ pub record SmallOnes : Type 0 where
   pub produced_first : produced [] ≡ record { name = codes "processed-by"; values = record { name = codes "walrus"; version = codes "0.28.0" } ∷ [] } ∷ []
   pub debug_name : is_debug_name (codes ".debug_info") ≡ true
   pub no_debug_name : is_debug_name (codes "a.debug") ≡ false
-  pub shape : HasShape with_handler 1 (OfGroup (record { is_final = true; supertypes = []; comp = Func (I32 ∷ []) [] } ∷ []) NoShapes 0)
-  pub in_group : HasShape structs 1 (pair_shape 1)
-  pub outside : HasShape structs 2 (OfGroup (struct_of Filled ∷ []) (AndShape (pair_shape 1) NoShapes) 0)
+  pub shape : HasShape with_handler.types 1 (OfGroup (record { is_final = true; supertypes = []; comp = Func (I32 ∷ []) [] } ∷ []) NoShapes 0)
+  pub in_group : HasShape structs.types 1 (pair_shape 1)
+  pub outside : HasShape structs.types 2 (OfGroup (struct_of Filled ∷ []) (AndShape (pair_shape 1) NoShapes) 0)
   -- two equal types may become one
   pub merged : SameType (λ t. 0) 1 (alone 1 (function_type [] [])) (alone 0 (function_type [] []))
   -- a struct that names itself and a struct that names it from outside are kept apart

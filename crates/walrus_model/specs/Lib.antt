@@ -4,9 +4,9 @@ pub mod Refers
 pub mod Roots
 pub mod Reached
 pub mod Kept
-pub mod Shape
 pub mod Renaming
 pub mod Same
+pub mod BodyText
 pub mod Carried
 pub mod Order
 pub mod Config

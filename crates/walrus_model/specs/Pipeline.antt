@@ -1,6 +1,6 @@
 -- From the module that was read to the one that is written: what is parsed, what gc leaves of it, what is written of that.
 use Rattle.std.specs.Prelude.{ℕ, false, List, [], Option, Some, IsSome, Contains, ◌≡◌, ◌↔◌}
-use Rattle.walrus_ir.specs.Operators.{Space, Types, Functions, Tables, Memories, Tags, Globals, Elements, DataSegments, Item}
+use Rattle.walrus_types.specs.Operators.{Space, Types, Functions, Tables, Memories, Tags, Globals, Elements, DataSegments, Item}
 use Rattle.walrus_model.specs.Abstract.{Abstract, Body, Custom, Indices, Subject, TheModule, AnItem, ALocal}
 use Rattle.walrus_model.specs.Live.{IsLive}
 use Rattle.walrus_model.specs.Reached.{Reached}

@@ -4,9 +4,8 @@ use Rattle.wasm_forms.specs.Spelling.{number_bytes, block_bytes, vector_bytes}
 use Rattle.wasm_entries.specs.TypeSpelling.{group_bytes}
 use Rattle.wasm_entries.specs.Spelling.{export_bytes}
 use Rattle.wasm_frames.specs.Frames.{header}
-use Rattle.walrus_ir.specs.Operators.{Op}
-use Rattle.walrus_ir.specs.Body.{body_bytes}
 use Rattle.walrus_model.specs.Abstract.{Name}
+use Rattle.walrus_model.specs.BodyText.{BodyText, DeclaresOnce, sized_text}
 
 -- ---- order
 
@@ -55,9 +54,9 @@ spelled (s ∷ ss) = (s.id ∷ block_bytes s.content) ++ spelled ss
 abbrev pub IsListOf : {A : Type 0} → (A → List ℕ) → List ℕ → Type 0
 IsListOf {A} spell content = (xs : List A) × (xs ≢ []) × (content ≡ vector_bytes spell xs)
 
--- a body behind its size: no declarations, operators with the shortest numbers
-abbrev pub sized_body : List Op → List ℕ
-sized_body ops = block_bytes (body_bytes ops)
+-- bodies, each behind its size, with one declaration a type, and numbers at their shortest
+abbrev pub AreBodies : List ℕ → Type 0
+AreBodies content = (ts : List BodyText) × (ts ≢ []) × All DeclaresOnce ts × (content ≡ vector_bytes sized_text ts)
 
 -- The content is spelled as this program writes sections of this id: type, function, export, code. So far no other
 -- section is written.
@@ -65,7 +64,7 @@ pub data IsCanonical : Section → Type 0 where
   of_types : (content : List ℕ) → IsListOf group_bytes content → IsCanonical (record { id = 1; name = []; content = content })
   of_functions : (content : List ℕ) → IsListOf number_bytes content → IsCanonical (record { id = 3; name = []; content = content })
   of_exports : (content : List ℕ) → IsListOf export_bytes content → IsCanonical (record { id = 7; name = []; content = content })
-  of_bodies : (content : List ℕ) → IsListOf sized_body content → IsCanonical (record { id = 10; name = []; content = content })
+  of_bodies : (content : List ℕ) → AreBodies content → IsCanonical (record { id = 10; name = []; content = content })
 
 pub record Placed (bytes : List ℕ) : Type 0 where
   pub sections : List Section

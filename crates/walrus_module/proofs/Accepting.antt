@@ -1,22 +1,36 @@
 -- Bytes that are accepted frame sections that keep the rules, and the other way round.
-use Rattle.std.proofs.Common.{◌≡◌, ◌≢◌, ℕ, zero, suc, ◌<◌, List, [], ◌∷◌, length, map, get_or, refl, sym, ap, subst, ◌∙◌, arith}
-use Rattle.std.specs.Prelude.{Some, IsSome, Contains, All, AllPairs, slice_get, zip, option_map}
+use Rattle.std.proofs.Common.{true, false, sym, ap₂, ◌≡◌, ◌≢◌, ℕ, zero, suc, ◌<◌, List, [], ◌∷◌, length, map, get_or, refl, ap, subst, ◌∙◌, arith}
+use Rattle.std.specs.Prelude.{Err, Some, IsSome, Contains, All, AllPairs, slice_get, zip, option_map}
 use Rattle.std.proofs.lemmas.List.{get_or-map, length-map}
-use Rattle.walrus_base.specs.declared.locals.ModuleLocals.{ModuleLocals}
-use Rattle.walrus_base.specs.declared.types.ModuleTypes.{ModuleTypes}
+use Rattle.walrus_types.specs.declared.locals.ModuleLocals.{ModuleLocals}
+use Rattle.walrus_types.specs.declared.module_types.ModuleTypes.{ModuleTypes}
 use Rattle.walrus_items.specs.declared.exports.ModuleExports.{ModuleExports}
 use Rattle.walrus_items.specs.declared.functions.ModuleFunctions.{ModuleFunctions}
-use Rattle.walrus_ir.specs.Operators.{Op}
+use Rattle.walrus_model.proofs.PipelineRead.{simple_read}
 use Rattle.walrus_model.specs.Abstract.{Export}
 use Rattle.walrus_model.specs.Config.{Config}
+use Rattle.walrus_model.specs.Declared.{NothingUndeclared}
+use Rattle.walrus_base.specs.Arena.{items}
+use Rattle.walrus_items.specs.Exports.{exports}
+use Rattle.walrus_items.specs.Functions.{functions}
+use Rattle.walrus_module.specs.References.{refs_are_exported, ChecksReferences}
+use Rattle.walrus_model.proofs.ReadOnce.{bodies_once}
+use Rattle.walrus_model.proofs.Handled.{widened_once}
+use Rattle.wasm_frames.proofs.Modules.{one_record_lem}
+use Rattle.walrus_model.specs.Handled.{widened}
+use Rattle.walrus_module.proofs.ExportedRefs.{nothing_undeclared, one_undeclared}
+use Rattle.walrus_module.proofs.ParsedWhole.{lone, well_formed, references_read, references_seen}
+use Rattle.walrus_module.proofs.FewLocals.{few_locals}
+use Rattle.walrus_module.proofs.FewParams.{few_params}
+use Rattle.std.specs.List.{AllZip}
 use Rattle.walrus_model.specs.Live.{Has}
-use Rattle.walrus_model.specs.Reads.{Accepts, ReadsBody, SectionsInOrder, lone_type, function_with, export_of, module_of}
+use Rattle.walrus_model.specs.Reads.{Said, Reads, Accepts, ReadsBody, SectionsInOrder, lone_type, function_with, export_of, module_of}
 use Rattle.walrus_model.specs.Rules.{Holds}
 use Rattle.walrus_module.specs.Parsed.{IsParsed, TakenFrom, AreModule, RefusesModule, RefusesBytes}
 use Rattle.walrus_module.specs.View.{view_of}
 use Rattle.walrus_module.proofs.Carrying.{parsed}
-use Rattle.walrus_module.proofs.Parsing.{mapped_some, got_map, got_in, kind_is, zip_long, holds, simple}
-use Rattle.walrus_module.proofs.Steps.{zip_length}
+use Rattle.walrus_module.proofs.Parsing.{mapped_some, got_map, got_in, kind_is, zip_long, holds}
+use Rattle.walrus_module.proofs.Steps.{zip_length, pairs_long}
 use Rattle.walrus_parts.specs.declared.error.Error.{Error}
 use Rattle.walrus_parts.specs.declared.error.Error.TheVariants as Parts
 use Rattle.walrus_module.specs.Sections.{Rules}
@@ -24,22 +38,30 @@ use Rattle.walrus_model.specs.Handled as handled
 
 -- ---- what was taken in was parsed
 
-pub is_parsed : (c : Config) (bytes : List ℕ) (ts : ModuleTypes) (all : ModuleLocals) (fs : ModuleFunctions) (es : ModuleExports) → TakenFrom bytes ts fs es → IsParsed c bytes (view_of ts all fs es)
-is_parsed c bytes ts all fs es t = record {
-  module_read = module_of t.sections t.taken.bodies;
-  reads = record {
-    sections = t.sections;
-    framed = t.framed;
-    in_order = t.rules.sections_in_order;
-    as_many_bodies = t.rules.as_many_bodies;
-    bodies = t.taken.bodies;
-    read = t.taken.read;
-    is = refl;
-  };
-  holds = holds t.sections t.taken.bodies t.rules t.taken.read;
-  simple = simple t.sections t.taken.bodies t.rules t.taken.read;
-  parsed = parsed t.sections ts all fs es t.taken;
-}
+pub is_parsed : (c : Config) (bytes : List ℕ) (ts : ModuleTypes) (all : ModuleLocals) (fs : ModuleFunctions) (es : ModuleExports) → TakenFrom c bytes ts all fs es → refs_are_exported (items (functions fs)) (items (exports es)) ≡ true → IsParsed c bytes (view_of ts all fs es)
+is_parsed c bytes ts all fs es t refs =
+    let declared : NothingUndeclared (view_of ts all fs es) = nothing_undeclared ts all fs es refs in
+    let found : Reads c bytes (module_of t.sections t.taken.bodies) = record {
+      sections = t.sections;
+      framed = t.framed;
+      in_order = t.rules.sections_in_order;
+      as_many_bodies = t.rules.as_many_bodies;
+      bodies = t.taken.bodies;
+      read = t.taken.read;
+      is = refl;
+      references = references_read c t.sections ts all fs es t.taken declared;
+    } in
+    record {
+      module_read = module_of t.sections t.taken.bodies;
+      reads = found;
+      holds = holds c t.sections t.taken.bodies t.rules t.taken.read;
+      simple = simple_read c bytes (module_of t.sections t.taken.bodies) found;
+      parsed = parsed c t.sections ts all fs es t.rules.as_many_bodies t.taken;
+      bodies = well_formed c t.sections ts all fs es t.taken t.rules;
+      types = lone c t.sections ts all fs es t.taken;
+      references = declared;
+      few_locals = few_locals c t.sections ts all fs es t.taken (few_params bytes t.sections t.framed);
+    }
 
 -- ---- what is accepted keeps the rules
 
@@ -54,7 +76,7 @@ some_within [] k h = cc
 some_within (x ∷ xs) zero h = omega arith
 some_within (x ∷ xs) (suc k) h = let lt : k < length xs = some_within xs k h in omega (arith, lt)
 
-module _ (r : handled.Module) (bodies : List (List Op)) (many : length bodies ≡ length r.functions) (h : Holds (module_of r bodies)) where
+module _ (r : handled.Module) (bodies : List Said) (many : length bodies ≡ length r.functions) (h : Holds (module_of r bodies)) where
   types_declared : All (λ t. t < length r.types) r.functions
   types_declared = λ k d lt.
       let q = got_pair r.functions bodies k d many lt in
@@ -88,14 +110,27 @@ module _ (r : handled.Module) (bodies : List (List Op)) (many : length bodies �
   keeps_rules : SectionsInOrder r → length r.bodies ≡ length r.functions → Rules r
   keeps_rules ordered as_many = record { sections_in_order = ordered; indices_hold = (types_declared, exports_declared); as_many_bodies = as_many; names_differ = names_differ }
 
-are_module : (c : Config) (bytes : List ℕ) → Accepts c bytes → AreModule bytes
+are_module : (c : Config) (bytes : List ℕ) → Accepts c bytes → AreModule c bytes
 are_module c bytes a =
     let m = a.1 in
-    let many : length m.bodies ≡ length m.sections.functions = sym (zip_length (ReadsBody m.sections) m.sections.bodies m.bodies m.read) ∙ m.as_many_bodies in
+    let many : length m.bodies ≡ length m.sections.functions = sym (zip_length (ReadsBody c m.sections) (zip m.sections.functions m.sections.bodies) m.bodies m.read) ∙ pairs_long m.sections.functions m.sections.bodies m.as_many_bodies in
     let h : Holds (module_of m.sections m.bodies) = subst Holds m.is a.2 in
-    record { sections = m.sections; framed = m.framed; rules = keeps_rules m.sections m.bodies many h m.in_order m.as_many_bodies; bodies = m.bodies; read = m.read }
+    record { sections = m.sections; framed = m.framed; rules = keeps_rules m.sections m.bodies many h m.in_order m.as_many_bodies; bodies = m.bodies; read = m.read; references = subst NothingUndeclared m.is m.references }
 
-pub refused_bytes : (c : Config) (bytes : List ℕ) (e : Error) → RefusesModule bytes e → RefusesBytes c bytes e
+-- the bodies that bytes are read as are those that were taken in, so that no module is read in which a reference isn't exported
+pub references_refused : (c : Config) (bytes : List ℕ) (ts : ModuleTypes) (all : ModuleLocals) (fs : ModuleFunctions) (es : ModuleExports) (t : TakenFrom c bytes ts all fs es) (e : Error)
+    → ChecksReferences (items (functions fs)) (items (exports es)) (Err e) → RefusesModule c bytes e
+references_refused c bytes ts all fs es t (Parts.Memory m) h = tt
+references_refused c bytes ts all fs es t (Parts.InvalidWasm kind) h = λ a.
+    let same : a.sections ≡ t.sections = widened_once a.sections t.sections (one_record_lem bytes (widened a.sections) (widened t.sections) a.framed t.framed) in
+    let read : AllZip (ReadsBody c t.sections) (zip t.sections.functions t.sections.bodies) a.bodies = subst (λ (x : handled.Module). AllZip (ReadsBody c x) (zip x.functions x.bodies) a.bodies) same a.read in
+    let one : a.bodies ≡ t.taken.bodies = bodies_once c t.sections (zip t.sections.functions t.sections.bodies) a.bodies t.taken.bodies read t.taken.read in
+    let there : NothingUndeclared (module_of t.sections t.taken.bodies) = subst NothingUndeclared (ap₂ module_of same one) a.references in
+    let found = one_undeclared ts all fs es h in
+    references_seen c t.sections ts all fs es t.taken there found.0 found.1
+references_refused c bytes ts all fs es t _ h = absurd h
+
+pub refused_bytes : (c : Config) (bytes : List ℕ) (e : Error) → RefusesModule c bytes e → RefusesBytes c bytes e
 refused_bytes c bytes (Parts.Memory m) h = tt
 refused_bytes c bytes (Parts.InvalidWasm kind) h = λ a. h (are_module c bytes a)
 refused_bytes c bytes _ h = absurd h

@@ -1,35 +1,39 @@
 -- A module in memory that took in the sections is the module that was read.
-use Rattle.std.proofs.Common.{◌≡◌, ℕ, zero, suc, ◌<◌, List, [], ◌∷◌, length, map, refl, sym, ap, subst, ◌∙◌, arith, inl}
-use Rattle.std.specs.Prelude.{Option, Some, None, IsSome, Contains, slice_get, zip, option_map}
-use Rattle.std.proofs.lemmas.List.{length-map}
+use Rattle.std.proofs.Common.{◌≡◌, ℕ, zero, suc, ◌+◌, ◌<◌, Bool, true, false, List, [], ◌∷◌, ◌++◌, length, length-append, map, refl, sym, ap, ap₂, subst, ◌∙◌, arith, inl, eqb-true}
+use Rattle.std.proofs.lemmas.Bool.{eqb-false}
+use Rattle.std.specs.Prelude.{Option, Some, None, IsSome, slice_get, zip, option_map, ◌==◌, if◌then◌else◌}
+use Rattle.std.specs.List.{AllZip, range_with_len}
 use Rattle.walrus_base.specs.Arena.{item_at}
 use Rattle.walrus_base.specs.Id.{place}
-use Rattle.walrus_base.specs.FuncTypes.{FuncType}
-use Rattle.walrus_base.specs.declared.locals.ModuleLocals.{ModuleLocals}
-use Rattle.walrus_base.specs.declared.types.ModuleTypes.{ModuleTypes}
-use Rattle.walrus_ir.specs.Function.{function_type, body_of}
-use Rattle.walrus_ir.specs.Operators.{Op}
+use Rattle.walrus_base.specs.Types.{ValType, map_val}
+use Rattle.walrus_types.specs.Locals.{locals}
+use Rattle.walrus_types.specs.Operators.{NoResult, OneResult, OfType, Arg, Index, Label, Local as LocalArg, Number, Count, Byte, S32, S64, Bits32, Bits64, Value, Heap, Block, Access, Op}
+use Rattle.walrus_types.specs.declared.locals.ModuleLocals.{ModuleLocals}
+use Rattle.walrus_types.specs.declared.module_types.ModuleTypes.{ModuleTypes}
+use Rattle.walrus_code.specs.declared.function.LocalFunction.{LocalFunction}
+use Rattle.walrus_functions.specs.EmittedBody.{types_of as local_types}
+use Rattle.walrus_functions.specs.Handlers.{params_of}
+use Rattle.walrus_functions.specs.Laws.{moved_arg, moved_op}
 use Rattle.walrus_items.specs.Functions.{FunctionValue, functions, kind_type}
 use Rattle.walrus_items.specs.declared.exports.ModuleExports.{ModuleExports}
 use Rattle.walrus_items.specs.declared.functions.FunctionKind.{FunctionKind}
-use Rattle.walrus_items.specs.declared.functions.FunctionKind.TheVariants.{Import, Local, Uninitialized}
+use Rattle.walrus_items.specs.declared.functions.FunctionKind.TheVariants.{Local}
 use Rattle.walrus_items.specs.declared.functions.ModuleFunctions.{ModuleFunctions}
-use Rattle.walrus_model.specs.Abstract.{Body}
+use Rattle.walrus_model.specs.Abstract.{TypeDef, Function}
 use Rattle.walrus_model.specs.Carried.{Carries}
+use Rattle.walrus_model.specs.Config.{Config}
 use Rattle.walrus_model.specs.Pipeline.{ParsedAs}
-use Rattle.walrus_model.specs.Reads.{lone_type, function_with, body_with, types_of, module_of}
-use Rattle.walrus_model.specs.Handlers.{params_of}
-use Rattle.walrus_model.specs.Refers.{IsUsed}
-use Rattle.walrus_model.specs.Renaming.{unchanged, renamed_export}
+use Rattle.walrus_model.specs.Reads.{Said, lone_type, function_with, body_with, types_of, module_of, arity, ReadsBody}
+use Rattle.walrus_model.specs.Renaming.{Renaming, renamed_arg, renamed_op, renamed_ops, renamed_export}
 use Rattle.walrus_model.specs.Same.{SameType, SameBody, SameFunction, BothAnd}
-use Rattle.walrus_model.specs.Shape.{Seen, Own, Other, in_its_group, others_through}
-use Rattle.walrus_model.proofs.Lists.{map-itself, Contains-none}
-use Rattle.walrus_model.proofs.TypeMaps.{sub-itself}
-use Rattle.walrus_module.specs.Taken.{type_taken, local_of, HasTaken}
-use Rattle.walrus_module.specs.View.{type_def, kind_of, function, view_of}
-use Rattle.walrus_module.proofs.Plain.{ArePlain, Below, bodies_plain, no_locals, renamed_all}
-use Rattle.walrus_module.proofs.Parsing.{got_map, got_zip, there, still_some, none_there}
-use Rattle.walrus_module.proofs.Taking.{held, item_map, held_length}
+use Rattle.walrus_types.specs.Shape.{Seen, Own, Other, in_its_group, others_through, place_in}
+use Rattle.walrus_model.proofs.Lists.{map-itself, map-same}
+use Rattle.walrus_model.proofs.TypeMaps.{sub-itself, val-itself, heap-itself}
+use Rattle.walrus_module.specs.Taken.{HoldsBody, HoldsFunction, HasTaken}
+use Rattle.walrus_module.specs.View.{body, kind_of, kind_handlers, handlers_at, function, view_of}
+use Rattle.walrus_module.proofs.Parsing.{got_map, there, still_some, none_there, read_at, used_below}
+use Rattle.walrus_module.proofs.Steps.{type_there, zip_length}
+use Rattle.wasm_frames.specs.Record as wire
 use Rattle.walrus_model.specs.Handled as handled
 
 -- ---- types
@@ -45,51 +49,147 @@ same_lone i t = record {
   sub = sym (sub-itself (others_through (λ k. k)) others_same (in_its_group (lone_type i t)));
 }
 
-types_same : (ts : List handled.FuncType) (i k : ℕ) → option_map (type_def k) (item_at (map type_taken ts) i) ≡ option_map (lone_type k) (slice_get ts i)
-types_same [] i k = refl
-types_same (t ∷ ts) zero k = refl
-types_same (t ∷ ts) (suc i) k = types_same ts i k
-
 both_types : (i : ℕ) (o : Option handled.FuncType) → IsSome (option_map (lone_type i) o) → BothAnd (SameType (λ k. k) i) (option_map (lone_type i) o) (option_map (lone_type i) o)
 both_types i (Some t) h = same_lone i t
 both_types i None h = absurd (none_there h)
 
--- ---- functions
+-- ---- a range of numbers further on
 
-module _ (all : ModuleLocals) (r : handled.Module) (i : ℕ) where
-  unused : (q : ℕ × List Op) (x : ℕ) → ArePlain (Below r) q.1 → IsUsed (body_with (params_of (types_of r q.0)) q.1) x → ⊥
-  unused q x plain u = Contains-none x (subst (λ l. Contains l x) (no_locals (Below r) q.1 plain) u)
+range_moved : (by first count : ℕ) → range_with_len (by + first) count ≡ map (λ (n : ℕ). by + n) (range_with_len first count)
+range_moved by first zero = refl
+range_moved by first (suc count) =
+    let next : by + first + 1 ≡ by + (first + 1) = omega arith in
+    ap (λ (ns : List ℕ). (by + first) ∷ ns) (ap (λ (n : ℕ). range_with_len n count) next ∙ range_moved by (first + 1) count)
 
-  same_body : (q : ℕ × List Op) (b : Body) → ArePlain (Below r) q.1 → b.operators ≡ q.1 → SameBody unchanged i (body_with (params_of (types_of r q.0)) q.1) b
-  same_body q b plain e = record {
-    operators = e ∙ sym (renamed_all (Below r) (λ x. x) q.1 plain);
-    apart = λ x y u. absurd (unused q x plain u);
-    types = λ x u. absurd (unused q x plain u);
-    parameters = λ x u. absurd (unused q x plain u);
-  }
+same_test : (by n x : ℕ) (b c : Bool) → (by + n == by + x) ≡ b → (n == x) ≡ c → b ≡ c
+same_test by n x true true p q = refl
+same_test by n x false false p q = refl
+same_test by n x true false p q = absurd (eqb-false n x q (let e : by + n ≡ by + x = eqb-true (by + n) (by + x) p in omega (arith, e)))
+same_test by n x false true p q = absurd (eqb-false (by + n) (by + x) p (ap (λ (k : ℕ). by + k) (eqb-true n x q)))
 
-  same_kind : (k : FunctionKind) (q : ℕ × List Op) → local_of k ≡ Some q → ArePlain (Below r) q.1 → SameFunction unchanged i (function_with r q) (record { ty = place (kind_type k); kind = kind_of all k })
-  same_kind (Local f) q e plain =
-      let p : (place (function_type f), body_of f) ≡ q = cc in
-      record { ty = ap (λ z. z.0) p; kind = same_body q _ plain (ap (λ z. z.1) p) }
-  same_kind (Import x) q e plain = cc
-  same_kind (Uninitialized t) q e plain = cc
+place_moved : (by : ℕ) (ns : List ℕ) (x : ℕ) → place_in (map (λ (n : ℕ). by + n) ns) (by + x) ≡ place_in ns x
+place_moved by [] x = refl
+place_moved by (n ∷ ns) x =
+    ap₂ (λ (t : Bool) (o : Option ℕ). if t then Some 0 else option_map suc o) (same_test by n x (by + n == by + x) (n == x) refl refl) (place_moved by ns x)
 
-  same_functions : (o : Option FunctionValue) (p : Option (ℕ × List Op)) → held o ≡ p → ((q : ℕ × List Op) → p ≡ Some q → ArePlain (Below r) q.1) → IsSome p → BothAnd (SameFunction unchanged i) (option_map (function_with r) p) (option_map (function all) o)
-  same_functions (Some v) (Some q) e plain h = same_kind v.kind q e (plain q refl)
-  same_functions (Some v) None e plain h = absurd (none_there h)
-  same_functions None (Some q) e plain h = cc
-  same_functions None None e plain h = absurd (none_there h)
+parameter_places : (first count x : ℕ) → place_in (range_with_len first count) (first + x) ≡ place_in (range_with_len 0 count) x
+parameter_places first count x =
+    let start : first ≡ first + 0 = omega arith in
+    ap (λ (n : ℕ). place_in (range_with_len n count) (first + x)) start ∙ ap (λ (ns : List ℕ). place_in ns (first + x)) (range_moved first 0 count) ∙ place_moved first (range_with_len 0 count) x
 
-item_some : {A : Type 0} (xs : List A) (i : ℕ) → item_at (map Some xs) i ≡ slice_get xs i
-item_some [] i = refl
-item_some (x ∷ xs) zero = refl
-item_some (x ∷ xs) (suc i) = item_some xs i
+types_stay : (o : Option (ValType ℕ)) → option_map (map_val (λ i. i)) o ≡ o
+types_stay None = refl
+types_stay (Some v) = ap Some (val-itself (λ (i : ℕ). i) (λ i. refl) v)
+
+abbrev of_kind : ModuleLocals → FunctionKind → Function
+of_kind all k = record { ty = place (kind_type k); kind = kind_of all k }
+
+-- ---- where every number stays, and a local moves
+
+module _ (moved : ℕ → ℕ → ℕ) where
+  abbrev pub moving : Renaming
+  moving = record { numbers = λ space i. i; imports = λ i. i; locals = moved }
+
+  arg_moved : (by : ℕ) (x : Arg) → moved_arg by x ≡ renamed_arg moving (λ n. by + n) x
+  arg_moved by (Index x) = refl
+  arg_moved by (LocalArg n) = refl
+  arg_moved by (Value v) = ap Value (sym (val-itself (λ (i : ℕ). i) (λ i. refl) v))
+  arg_moved by (Heap h) = ap Heap (sym (heap-itself (λ (i : ℕ). i) (λ i. refl) h))
+  arg_moved by (Block NoResult) = refl
+  arg_moved by (Block (OneResult v)) = ap (λ (w : ValType ℕ). Block (OneResult w)) (sym (val-itself (λ (i : ℕ). i) (λ i. refl) v))
+  arg_moved by (Block (OfType t)) = refl
+  arg_moved by (Access flags memory offset) = refl
+  arg_moved by (Label n) = refl
+  arg_moved by (Number n) = refl
+  arg_moved by (Count n) = refl
+  arg_moved by (Byte n) = refl
+  arg_moved by (S32 n) = refl
+  arg_moved by (S64 n) = refl
+  arg_moved by (Bits32 n) = refl
+  arg_moved by (Bits64 n) = refl
+
+  op_moved : (by : ℕ) (o : Op) → moved_op by o ≡ renamed_op moving (λ n. by + n) o
+  op_moved by o = ap (λ (args : List Arg). record { op = o.op; args = args }) (map-same (moved_arg by) (renamed_arg moving (λ n. by + n)) o.args (arg_moved by))
+
+  ops_moved : (by : ℕ) (ops : List Op) → map (moved_op by) ops ≡ renamed_ops moving (λ n. by + n) ops
+  ops_moved by ops = map-same (moved_op by) (renamed_op moving (λ n. by + n)) ops (op_moved by)
+
+  module _ (all : ModuleLocals) (c : Config) (r : handled.Module) (i : ℕ) where
+    same_body : (p : ℕ × Said) (b : wire.Body) (f : LocalFunction) (h : HoldsBody (local_types (locals all)) p.0 (params_of (types_of r p.0)) p.1 f) → ReadsBody c r (p.0, b) p.1 → moved i ≡ (λ n. h.first + n)
+        → SameBody moving i (body_with (params_of (types_of r p.0)) p.1) (body all f)
+    same_body p b f h read at =
+        let params = params_of (types_of r p.0) in
+        let by : (x : ℕ) → moved i x ≡ h.first + x = λ x. ap (λ (g : ℕ → ℕ). g x) at in
+        record {
+          operators = h.operators ∙ ops_moved h.first p.1.1 ∙ ap (λ (g : ℕ → ℕ). renamed_ops moving g p.1.1) (sym at);
+          apart = λ x y u v e. let e' : h.first + x ≡ h.first + y = sym (by x) ∙ e ∙ by y in omega (arith, e');
+          types = λ x u.
+              let small : x < arity r p.0 + length p.1.0 = used_below c r (p.0, b) p.1 x read u in
+              ap (item_at (local_types (locals all))) (by x) ∙ h.local_types x (within params p.1.0 x small) ∙ sym (types_stay (slice_get (params ++ p.1.0) x));
+          parameters = λ x u. ap₂ place_in h.parameters (by x) ∙ parameter_places h.first (length params) x;
+        }
+      where
+        within : (xs ys : List (ValType ℕ)) (x : ℕ) → x < length xs + length ys → x < length (xs ++ ys)
+        within xs ys x lt = omega (arith, lt, length-append xs ys)
+
+    same_held : (p : ℕ × Said) (b : wire.Body) (slot : Option FunctionValue) (h : HoldsFunction (types_of r) (local_types (locals all)) p slot) → ReadsBody c r (p.0, b) p.1 → moved i ≡ (λ n. h.body.first + n)
+        → BothAnd (SameFunction moving i) (Some (function_with r p)) (option_map (function all) slot)
+    same_held p b slot h read at =
+        let same : SameFunction moving i (function_with r p) (of_kind all (Local h.local)) = record { ty = h.body.typed; kind = same_body p b h.local h.body read at } in
+        let known : option_map (function all) slot ≡ Some (of_kind all (Local h.local)) = ap (option_map (function all)) h.is ∙ ap (λ (k : FunctionKind). Some (of_kind all k)) h.kind in
+        subst (λ (o : Option Function). BothAnd (SameFunction moving i) (Some (function_with r p)) o) (sym known) same
+
+-- ---- slot by slot
+
+module _ (types : ℕ → Option TypeDef) (slots : List (Option (ValType ℕ))) where
+  abbrev Holds : ℕ × Said → Option FunctionValue → Type 0
+  Holds p slot = HoldsFunction types slots p slot
+
+  -- the first local of each function
+  first_at : (ps : List (ℕ × Said)) (fs : List (Option FunctionValue)) → AllZip Holds ps fs → ℕ → ℕ
+  first_at [] [] h i = 0
+  first_at [] (f ∷ fs) h i = absurd h
+  first_at (p ∷ ps) [] h i = absurd h
+  first_at (p ∷ ps) (f ∷ fs) h zero = h.0.body.first
+  first_at (p ∷ ps) (f ∷ fs) h (suc i) = first_at ps fs h.1 i
+
+  -- function i is held
+  record HeldAt (ps : List (ℕ × Said)) (fs : List (Option FunctionValue)) (first : ℕ) (i : ℕ) : Type 0 where
+    pub pair : ℕ × Said
+    pub got : slice_get ps i ≡ Some pair
+    pub slot : Option FunctionValue
+    pub at : item_at fs i ≡ slot
+    pub holds : Holds pair slot
+    pub same : first ≡ holds.body.first
+
+  held_at : (ps : List (ℕ × Said)) (fs : List (Option FunctionValue)) (h : AllZip Holds ps fs) (i : ℕ) → i < length ps → HeldAt ps fs (first_at ps fs h i) i
+  unfolding first_at
+  held_at [] fs h i lt = absurd (omega arith)
+  held_at (p ∷ ps) [] h i lt = absurd h
+  held_at (p ∷ ps) (f ∷ fs) h zero lt = record { pair = p; got = refl; slot = f; at = refl; holds = h.0; same = refl }
+  held_at (p ∷ ps) (f ∷ fs) h (suc i) lt =
+      let r = held_at ps fs h.1 i (omega arith) in
+      record { pair = r.pair; got = r.got; slot = r.slot; at = r.at; holds = r.holds; same = r.same }
+
+  no_handlers : (p : ℕ × Said) (slot : Option FunctionValue) → Holds p slot → handlers_at slot ≡ []
+  no_handlers p slot h = ap handlers_at h.is ∙ ap kind_handlers h.kind ∙ ap (map place) h.body.handlers
+
+  none_handled : (ps : List (ℕ × Said)) (fs : List (Option FunctionValue)) (i : ℕ) → AllZip Holds ps fs → handlers_at (item_at fs i) ≡ []
+  none_handled [] [] i h = refl
+  none_handled [] (f ∷ fs) i h = absurd h
+  none_handled (p ∷ ps) [] i h = absurd h
+  none_handled (p ∷ ps) (f ∷ fs) zero h = no_handlers p f h.0
+  none_handled (p ∷ ps) (f ∷ fs) (suc i) h = none_handled ps fs i h.1
 
 item_within : {A : Type 0} (xs : List (Option A)) (i : ℕ) → IsSome (item_at xs i) → i < length xs
 item_within [] i h = absurd (none_there h)
 item_within (x ∷ xs) zero h = omega arith
 item_within (x ∷ xs) (suc i) h = let lt : i < length xs = item_within xs i h in omega (arith, lt)
+
+got_within : {A : Type 0} (xs : List A) (i : ℕ) → IsSome (slice_get xs i) → i < length xs
+got_within [] i h = absurd (none_there h)
+got_within (x ∷ xs) zero h = omega arith
+got_within (x ∷ xs) (suc i) h = let lt : i < length xs = got_within xs i h in omega (arith, lt)
 
 was_some : {A B : Type 0} (f : A → B) (o : Option A) → IsSome (option_map f o) → IsSome o
 was_some f (Some x) h = refl
@@ -98,37 +198,45 @@ was_some f None h = absurd (none_there h)
 no_items : {X : Type 0} (S : ℕ → X → X → Type 0) → Carries (λ i. IsSome {T = X} None) (λ j. ⊥) (λ i. i) S (λ i. None) (λ i. None)
 no_items S = record { same = λ i h. absurd (none_there h); onto = λ j h. absurd (none_there h) }
 
-module _ (r : handled.Module) (ts : ModuleTypes) (all : ModuleLocals) (fs : ModuleFunctions) (es : ModuleExports) (h : HasTaken r ts fs es) where
-  type_at : (i : ℕ) → (view_of ts all fs es).types i ≡ option_map (lone_type i) (slice_get r.types i)
-  type_at i = ap (λ (l : List (Option FuncType)). option_map (type_def i) (item_at l i)) h.types ∙ types_same r.types i i
+-- ---- the whole
 
-  held_at : (i : ℕ) → held (item_at (functions fs) i) ≡ slice_get (zip r.functions h.bodies) i
-  held_at i = sym (item_map held refl (functions fs) i) ∙ ap (λ l. item_at l i) h.functions ∙ item_some (zip r.functions h.bodies) i
+module _ (c : Config) (r : handled.Module) (ts : ModuleTypes) (all : ModuleLocals) (fs : ModuleFunctions) (es : ModuleExports) (many : length r.bodies ≡ length r.functions) (h : HasTaken c r ts all fs es) where
+  abbrev pairs : List (ℕ × Said)
+  pairs = zip r.functions h.bodies
 
-  plain_at : (i : ℕ) (q : ℕ × List Op) → slice_get (zip r.functions h.bodies) i ≡ Some q → ArePlain (Below r) q.1
-  plain_at i q e = bodies_plain r r.bodies h.bodies i q.1 h.read (got_zip r.functions h.bodies i q e).1
+  -- a function's locals begin where its first one stands
+  abbrev moved : ℕ → ℕ → ℕ
+  moved i x = first_at (types_of r) (local_types (locals all)) pairs (functions fs) h.functions i + x
 
-  function_carried : (i : ℕ) → IsSome ((module_of r h.bodies).functions i) → BothAnd (SameFunction unchanged i) ((module_of r h.bodies).functions i) ((view_of ts all fs es).functions i)
+  abbrev further : ℕ → ℕ → ℕ
+  further k n = k + n
+
+  function_carried : (i : ℕ) → IsSome ((module_of r h.bodies).functions i) → BothAnd (SameFunction (moving moved) i) ((module_of r h.bodies).functions i) ((view_of ts all fs es).functions i)
   function_carried i live =
-      let e = got_map (function_with r) (zip r.functions h.bodies) i in
-      let some : IsSome (slice_get (zip r.functions h.bodies) i) = was_some (function_with r) (slice_get (zip r.functions h.bodies) i) (subst (λ o. IsSome o) e live) in
-      subst (λ o. BothAnd (SameFunction unchanged i) o ((view_of ts all fs es).functions i)) (sym e)
-      (same_functions all r i (item_at (functions fs) i) (slice_get (zip r.functions h.bodies) i) (held_at i) (plain_at i) some)
+      let e = got_map (function_with r) pairs i in
+      let some : IsSome (slice_get pairs i) = was_some (function_with r) (slice_get pairs i) (subst (λ o. IsSome o) e live) in
+      let a = held_at (types_of r) (local_types (locals all)) pairs (functions fs) h.functions i (got_within pairs i some) in
+      let b = read_at (ReadsBody c r) r.functions r.bodies h.bodies i a.pair many h.read a.got in
+      let at : moved i ≡ (λ n. a.holds.body.first + n) = ap further a.same in
+      let was : Some (function_with r a.pair) ≡ (module_of r h.bodies).functions i = sym (e ∙ ap (option_map (function_with r)) a.got) in
+      subst (λ (o : Option Function). BothAnd (SameFunction (moving moved) i) o ((view_of ts all fs es).functions i)) was
+      (subst (λ (s : Option FunctionValue). BothAnd (SameFunction (moving moved) i) (Some (function_with r a.pair)) (option_map (function all) s)) (sym a.at)
+      (same_held moved all c r i a.pair b.0 a.slot a.holds b.1 at))
 
   function_there : (i : ℕ) → IsSome ((view_of ts all fs es).functions i) → IsSome ((module_of r h.bodies).functions i)
   function_there i live =
       let lt : i < length (functions fs) = item_within (functions fs) i (was_some (function all) (item_at (functions fs) i) live) in
-      let many : length (zip r.functions h.bodies) ≡ length (functions fs) = sym (length-map (zip r.functions h.bodies) Some) ∙ sym (ap length h.functions) ∙ held_length fs in
-      let within : i < length (zip r.functions h.bodies) = omega (arith, lt, many) in
-      subst (λ o. IsSome o) (sym (got_map (function_with r) (zip r.functions h.bodies) i)) (still_some (function_with r) (slice_get (zip r.functions h.bodies) i) (there (zip r.functions h.bodies) i within))
+      let as_many : length pairs ≡ length (functions fs) = zip_length (HoldsFunction (types_of r) (local_types (locals all))) pairs (functions fs) h.functions in
+      let within : i < length pairs = omega (arith, lt, as_many) in
+      subst (λ o. IsSome o) (sym (got_map (function_with r) pairs i)) (still_some (function_with r) (slice_get pairs i) (there pairs i within))
 
   pub parsed : ParsedAs (module_of r h.bodies) (view_of ts all fs es)
   parsed = record {
-    renaming = unchanged;
+    renaming = moving moved;
     carried = record {
       types = record {
-        same = λ i live. subst (λ o. BothAnd (SameType (λ k. k) i) (option_map (lone_type i) (slice_get r.types i)) o) (sym (type_at i)) (both_types i (slice_get r.types i) live);
-        onto = λ j live. inl (j, subst (λ o. IsSome o) (type_at j) live, refl);
+        same = λ i live. subst (λ o. BothAnd (SameType (λ k. k) i) (option_map (lone_type i) (slice_get r.types i)) o) (sym (type_there r ts h.types i)) (both_types i (slice_get r.types i) live);
+        onto = λ j live. inl (j, subst (λ o. IsSome o) (type_there r ts h.types j) live, refl);
       };
       imports = record { same = λ i x. (let e = x.1 in cc); onto = λ j live. absurd (none_there live) };
       functions = record { same = function_carried; onto = λ j live. inl (j, function_there j live, refl) };
@@ -140,14 +248,14 @@ module _ (r : handled.Module) (ts : ModuleTypes) (all : ModuleLocals) (fs : Modu
       data_segments = no_items _;
       imports_apart = λ i j k l e. e;
       apart = λ space no i j k l e. e;
-      exports = h.exports ∙ sym (map-itself (renamed_export unchanged) _ (λ e. refl));
+      exports = h.exports ∙ sym (map-itself (renamed_export (moving moved)) _ (λ e. refl));
       start = refl;
     };
     in_place = λ space i. refl;
     imports_in_place = λ i. refl;
     table_segments = λ table segment. refl;
     memory_segments = λ memory segment. refl;
-    handler_types = λ f. refl;
+    handler_types = λ f. none_handled (types_of r) (local_types (locals all)) pairs (functions fs) f h.functions;
     section_roots = refl;
     customs = refl;
   }

@@ -8,15 +8,15 @@ use Rattle.std.proofs.lemmas.List.Elements.{All-cons}
 use Rattle.std.proofs.lemmas.List.Sorted.{Contains-permutation, length_permutation}
 use Rattle.std.proofs.lemmas.Map.Views.{All-map-IsPermutation}
 use Rattle.walrus_base.specs.Arena.{item_at, entries, entries_from, items}
-use Rattle.walrus_ir.specs.declared.function.LocalFunction.{LocalFunction}
+use Rattle.walrus_code.specs.declared.function.LocalFunction.{LocalFunction}
 use Rattle.walrus_items.specs.Functions.{FunctionValue, local_functions, local_at}
 use Rattle.walrus_items.specs.declared.functions.FunctionKind.{FunctionKind}
 use Rattle.walrus_items.specs.declared.functions.FunctionKind.TheVariants as kind
 use Rattle.walrus_model.proofs.Lists.{Contains-head, Contains-tail, Contains-uncons, Contains-none, Contains-map, Contains-append_2}
-use Rattle.walrus_model.specs.Shape.{place_in}
+use Rattle.walrus_types.specs.Shape.{place_in}
 use Rattle.walrus_module.specs.Sizes.{local_sizes, IsOrder}
 use Rattle.walrus_module.proofs.Named.{some_inj}
-use Rattle.walrus_module.proofs.Parsing.{none_there, still_some}
+use Rattle.walrus_module.proofs.Lookups.{none_there, still_some}
 use Rattle.walrus_module.proofs.Placing.{self_eq}
 
 pub none_some : {A : Type 0} (x : A) → None ≡ Some x → ⊥

@@ -1,11 +1,11 @@
 -- The rules on what is handled are the rules on sections that hold it.
-use Rattle.std.proofs.Common.{◌≡◌, ◌≢◌, ℕ, zero, suc, ◌+◌, ◌<◌, ◌≤◌, true, List, [], ◌∷◌, ◌++◌, map, length, get_or, take, refl, sym, ap, subst, ◌∙◌, arith, eqb-true}
-use Rattle.std.specs.Prelude.{All, AllPairs, slice_get, flat_map, sum_by, sum}
+use Rattle.std.proofs.Common.{◌≡◌, ◌≢◌, ℕ, zero, suc, ◌+◌, ◌<◌, ◌≤◌, true, List, [], ◌∷◌, map, length, get_or, take, refl, sym, ap, ap₂, subst, ◌∙◌, arith}
+use Rattle.std.specs.Prelude.{All, AllPairs, slice_get, flat_map, sum_by, sum, zip}
 use Rattle.std.specs.List.{AllZip}
-use Rattle.std.proofs.lemmas.List.{get_or-map, length-map, append_assoc}
+use Rattle.std.proofs.lemmas.List.{get_or-map, length-map}
 use Rattle.std.proofs.lemmas.List.Elements.{All-nil, All-cons}
+use Rattle.std.proofs.lemmas.List.Sums.{sum_by_from}
 use Rattle.wasm_forms.specs.declared.types.RawVal.{RawVal}
-use Rattle.wasm_forms.specs.Grammar.{Is, U32}
 use Rattle.wasm_forms.proofs.Exact.{one_reading}
 use Rattle.wasm_entries.specs.Record as entries
 use Rattle.wasm_wire.specs.declared.rules.counts.Counts.{Counts}
@@ -16,11 +16,11 @@ use Rattle.wasm_wire.specs.Indices.{ValueHolds, SubRefers, GroupRefers, TypesRef
 use Rattle.wasm_frames.specs.Record as wire
 use Rattle.wasm_wire.specs.Rules as wire_rules
 use Rattle.wasm_wire.proofs.Checked.{all_mapped, all_unmapped, each_mapped}
-use Rattle.walrus_ir.specs.Body.{body_form}
-use Rattle.walrus_ir.specs.Operators.{Op}
+use Rattle.walrus_bodies.specs.Body.{declarations, how_many, most_locals}
+use Rattle.walrus_model.specs.Config.{Config}
 use Rattle.walrus_model.specs.Handled as handled
 use Rattle.walrus_model.specs.Handled.{widened_value, widened_type, widened_kind, widened_export, widened}
-use Rattle.walrus_model.specs.Reads.{ReadsBody}
+use Rattle.walrus_model.specs.Reads.{Said, ReadsBody}
 use Rattle.walrus_module.specs.Sections.{Rules, IsHandled, sections}
 use Rattle.walrus_module.proofs.HandledOnly.{sections_widened}
 use Rattle.walrus_module.proofs.Parsing.{pairs_map}
@@ -113,30 +113,31 @@ indices_hold m h = record {
   data_segments = λ i d lt. absurd (omega (arith, lt));
 }
 
--- ---- bodies that can be read declare no locals
+-- ---- bodies that can be read declare at most 50,000 locals
 
-none_counted : (locals : List (ℕ × RawVal)) → length locals ≡ 0 → sum (map (λ l. l.0) locals) ≤ 50_000
-none_counted [] e = omega arith
-none_counted (l ∷ locals) e = absurd (omega (arith, e))
+same_sum : (locals : List (ℕ × RawVal)) → sum (map (λ l. l.0) locals) ≡ how_many locals
+same_sum [] = refl
+same_sum (l ∷ locals) =
+    let h : sum (map (λ (x : ℕ × RawVal). x.0) (l ∷ locals)) ≡ 0 + l.0 + sum (map (λ (x : ℕ × RawVal). x.0) locals) = sum_by_from (λ (n : ℕ). n) (0 + l.0) (map (λ (x : ℕ × RawVal). x.0) locals) in
+    h ∙ ap₂ ◌+◌ (let e : 0 + l.0 ≡ l.0 = omega arith in e) (same_sum locals)
 
-body_holds : (b : wire.Body) (ops : List Op) → Is body_form b.bytes ops → wire_rules.LocalsHold b
-unfolding body_form
-body_holds b ops h front back locals stands is =
-    let count = h.0.0 in
-    let c = h.1.1 in
-    let zero_count : count ≡ 0 = eqb-true count 0 c.1.1.1.1 in
-    let rest = is.1.1.0 in
-    let same : c.0 ++ c.1.0 ≡ is.1.0 ++ (rest ++ back) = sym c.1.1.0 ∙ stands ∙ ap (λ x. x ++ back) is.1.1.1.0 ∙ append_assoc is.1.0 rest back in
-    let one = one_reading U32 c.0 c.1.0 is.1.0 (rest ++ back) count is.0 same c.1.1.1.0 is.1.1.1.1 in
-    none_counted locals (is.1.1.1.2.1 ∙ sym one.0 ∙ zero_count)
+body_holds : (c : Config) (m : handled.Module) (f : ℕ × wire.Body) (said : Said) → ReadsBody c m f said → wire_rules.LocalsHold f.1
+unfolding declarations
+body_holds c m f said h front back locals stands is =
+    let one = one_reading declarations h.front h.back front back h.declared locals (sym h.parts ∙ stands) h.declares is in
+    let few : how_many h.declared ≤ most_locals = h.few in
+    let few' : how_many locals ≤ most_locals = subst (λ (l : List (ℕ × RawVal)). how_many l ≤ most_locals) one.0 few in
+    subst (λ n. n ≤ 50_000) (sym (same_sum locals)) few'
 
-bodies_hold : (m : handled.Module) (bs : List wire.Body) (bodies : List (List Op)) → AllZip (ReadsBody m) bs bodies → All wire_rules.LocalsHold bs
-bodies_hold m [] bodies read = All-nil wire_rules.LocalsHold
-bodies_hold m (b ∷ bs) [] read = absurd read
-bodies_hold m (b ∷ bs) (ops ∷ bodies) read = All-cons wire_rules.LocalsHold b bs (body_holds b read.0.0 read.0.1) (bodies_hold m bs bodies read.1)
+bodies_hold : (c : Config) (m : handled.Module) (fs : List ℕ) (bs : List wire.Body) (bodies : List Said) → length bs ≡ length fs → AllZip (ReadsBody c m) (zip fs bs) bodies → All wire_rules.LocalsHold bs
+bodies_hold c m [] [] bodies same read = All-nil wire_rules.LocalsHold
+bodies_hold c m [] (b ∷ bs) bodies same read = absurd (omega arith)
+bodies_hold c m (f ∷ fs) [] bodies same read = All-nil wire_rules.LocalsHold
+bodies_hold c m (f ∷ fs) (b ∷ bs) [] same read = absurd read
+bodies_hold c m (f ∷ fs) (b ∷ bs) (said ∷ bodies) same read = All-cons wire_rules.LocalsHold b bs (body_holds c m (f, b) said read.0) (bodies_hold c m fs bs bodies (omega arith) read.1)
 
-pub widen_rules : (m : handled.Module) (bodies : List (List Op)) → Rules m → AllZip (ReadsBody m) m.bodies bodies → wire_rules.Rules (widened m)
-widen_rules m bodies h read = record {
+pub widen_rules : (c : Config) (m : handled.Module) (bodies : List Said) → Rules m → AllZip (ReadsBody c m) (zip m.functions m.bodies) bodies → wire_rules.Rules (widened m)
+widen_rules c m bodies h read = record {
   in_order = h.sections_in_order;
   types = types_refer m.types;
   indices = indices_hold m h;
@@ -150,7 +151,7 @@ widen_rules m bodies h read = record {
   start = tt;
   element_offsets = λ i d lt. absurd (omega (arith, lt));
   data_offsets = λ i d lt. absurd (omega (arith, lt));
-  locals = bodies_hold m m.bodies bodies read;
+  locals = bodies_hold c m m.functions m.bodies bodies h.as_many_bodies read;
 }
 
 -- ---- what was read

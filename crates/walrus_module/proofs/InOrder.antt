@@ -6,21 +6,23 @@ use Rattle.std.specs.Option.{option_to_list}
 use Rattle.std.specs.List.Sorted.{IsPermutation}
 use Rattle.std.proofs.lemmas.List.Sorted.{Contains-permutation, IsPermutation-sym, IsPermutation-map}
 use Rattle.walrus_base.specs.Arena.{item_at, entries, entries_from}
-use Rattle.walrus_base.specs.FuncTypes.{FuncType}
-use Rattle.walrus_ir.specs.Operators.{Types, Functions}
-use Rattle.walrus_ir.specs.declared.function.LocalFunction.{LocalFunction}
+use Rattle.walrus_types.specs.Operators.{Types, Functions}
+use Rattle.walrus_bodies.specs.declared.features.Features.{Features}
+use Rattle.walrus_code.specs.declared.function.LocalFunction.{LocalFunction}
 use Rattle.walrus_items.specs.Exports.{ExportValue}
 use Rattle.walrus_items.specs.Functions.{FunctionValue, local_functions, local_at}
 use Rattle.walrus_items.specs.declared.functions.FunctionKind.{FunctionKind}
 use Rattle.walrus_items.specs.declared.functions.FunctionKind.TheVariants as kind
-use Rattle.walrus_model.specs.Shape.{place_in}
+use Rattle.walrus_types.specs.Shape.{place_in}
+use Rattle.walrus_types.specs.TypeDef.{TypeDef}
 use Rattle.walrus_model.proofs.Lists.{Contains-head, Contains-tail, Contains-uncons, Contains-none, Contains-map, Contains-append_2}
+use Rattle.walrus_module.specs.Parts.{Held as ModuleHeld}
 use Rattle.walrus_module.specs.Sizes.{local_sizes}
 use Rattle.walrus_module.specs.Spells.{Records}
 use Rattle.walrus_module.specs.Whole.{is_local}
 use Rattle.walrus_module.proofs.Differ.{places_differ, order_differs, sizes_places}
 use Rattle.walrus_module.proofs.Leads.{found_at, stands_at}
-use Rattle.walrus_module.proofs.Parsing.{got_in, got_map, none_there, some_of}
+use Rattle.walrus_module.proofs.Lookups.{got_in, got_map, none_there, some_of}
 
 -- ---- lists
 
@@ -128,7 +130,13 @@ local_held k (Some w ∷ rest) n c =
 
 -- ---- the order of the functions that are written
 
-module _ {types : List (Option FuncType)} {funcs : List (Option FunctionValue)} {exports : List ExportValue} (r : Records types funcs exports) where
+module _ {h : ModuleHeld} {features : Features} {exports : List ExportValue} (r : Records h features exports) where
+  abbrev funcs : List (Option FunctionValue)
+  funcs = h.funcs
+
+  abbrev types : List (Option TypeDef)
+  types = h.types
+
   -- a function, its body, and where it stands in the order
   pub record StandsIn (i : ℕ) : Type 0 where
     pub value : FunctionValue

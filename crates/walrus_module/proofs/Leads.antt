@@ -3,9 +3,9 @@ use Rattle.std.proofs.Common.{inl, inr, ◌≡◌, ℕ, zero, suc, Bool, true, f
 use Rattle.std.specs.Prelude.{◌≢◌, ◌⊎◌, nat_eq, Option, option_map, if◌then◌else◌, slice_get}
 use Rattle.std.specs.List.{IsDistinct, AllByRecursion}
 use Rattle.std.proofs.lemmas.Bool.Decides.{eqb_tells}
-use Rattle.walrus_ir.specs.Operators.{Types, Functions, Tables, Memories, Tags, Globals, Elements, DataSegments}
-use Rattle.walrus_ir.specs.Names.{Lookup, LeadsBack}
-use Rattle.walrus_model.specs.Shape.{place_in}
+use Rattle.walrus_types.specs.Operators.{Types, Functions, Tables, Memories, Tags, Globals, Elements, DataSegments}
+use Rattle.walrus_code.specs.Names.{Lookup, LeadsBack}
+use Rattle.walrus_types.specs.Shape.{place_in}
 use Rattle.walrus_module.specs.Numbered.{AreNumbered, NamesNoOthers}
 use Rattle.walrus_module.proofs.Placing.{self_eq}
 

@@ -1,37 +1,62 @@
+pub mod Accepting
+pub mod BodiesBack
+pub mod BodyBack
+pub mod BodyNames
+pub mod CarriedOver
+pub mod Carrying
+pub mod DeclaredTypes
+pub mod Differ
+pub mod EmittedLemmas
+pub mod Entries
+pub mod EntryLemmas
+pub mod ExportedRefs
+pub mod FewLocals
+pub mod FewParams
 pub mod Found
-mod RawLemmas
-mod Differ
-mod Leads
-mod Named
-mod Numbering
-mod Placing
-mod Renamed
-mod SpellsLemmas
-mod Turns
-pub mod Taking
-pub mod Steps
-pub mod Rooms
-mod HandledFrames
+pub mod HandledFrames
 pub mod HandledOnly
 pub mod HandledRules
-pub mod Refusals
-pub mod Plain
+pub mod InOrder
+pub mod Indexed
+pub mod Keeps
+pub mod Leads
+pub mod LiveLists
+pub mod LiveTests
+pub mod Lookups
+pub mod Named
+pub mod NamedAll
+pub mod NamedFound
+pub mod Numbering
+pub mod OneOrder
+pub mod OneText
+pub mod ParsedWhole
 pub mod Parsing
-pub mod Carrying
-pub mod Accepting
-mod PlacedLemmas
-pub mod WrittenAs
+pub mod PlacedLemmas
+pub mod Placing
+pub mod RawLemmas
 pub mod ReadBack
-mod OneOrder
-pub mod SpelledOnce
-pub mod Standing
-pub mod CarriedOver
-mod InOrder
-pub mod WrittenLemmas
-pub mod EmittedLemmas
-pub mod BodyRead
-mod Entries
-mod Indexed
-mod Refusing
-mod ThereLemmas
+pub mod RefsCarried
+pub mod Refusals
 pub mod RefusedLemmas
+pub mod Refusing
+pub mod Renamed
+pub mod Rooms
+pub mod SameBodies
+pub mod SmallLocals
+pub mod Somes
+pub mod SpelledOnce
+pub mod SpellsLemmas
+pub mod Standing
+pub mod Steps
+pub mod TakenBody
+pub mod TakenSections
+pub mod Taking
+pub mod TextsStand
+pub mod ThereLemmas
+pub mod Turns
+pub mod TypeRefusals
+pub mod WrittenAs
+pub mod WrittenLemmas
+pub mod MovedRefs
+pub mod WholeLists
+pub mod Locating

@@ -3,8 +3,8 @@ use Rattle.std.proofs.Common.{◌≡◌, ℕ, List, [], ◌∷◌, refl, ap, ap�
 use Rattle.std.specs.Prelude.{Option, unwrap_or}
 use Rattle.wasm_forms.specs.Reading.{◌>>=◌}
 use Rattle.walrus_base.specs.Types.{HeapType, OfHeap, Concrete, Exact, ValType, I32, I64, F32, F64, V128, Ref}
-use Rattle.walrus_ir.specs.Operators.{Space, Types, Memories, BlockType, NoResult, OneResult, OfType, Arg, Index, Label, Local, Number, Count, Byte, S32, S64, Bits32, Bits64, Value, Heap, Block, Access, Op}
-use Rattle.walrus_ir.specs.Names.{Lookup, named_heap, named_val, named_block, named_arg, named_args, named_op, named_ops}
+use Rattle.walrus_types.specs.Operators.{Space, Types, Memories, BlockType, NoResult, OneResult, OfType, Arg, Index, Label, Local, Number, Count, Byte, S32, S64, Bits32, Bits64, Value, Heap, Block, Access, Op}
+use Rattle.walrus_code.specs.Names.{Lookup, named_heap, named_val, named_block, named_arg, named_args, named_op, named_ops}
 
 pub through : {A B : Type 0} (o : Option A) (k : A → Option B) (b : B) → (o >>= k) ≡ Some b → (x : A) × (o ≡ Some x) × (k x ≡ Some b)
 through None k b e = absurd (cc)
@@ -25,7 +25,7 @@ module _ (f g h : Lookup) (H : (space : Space) (p j : ℕ) → f space p ≡ Som
       let q : (j : ℕ) × (f Types t ≡ Some j) × (Some (Exact j) ≡ Some b) = through (f Types t) (λ found. Some (Exact found)) b e in
       subst (λ c. named_heap g c ≡ named_heap h (Exact t)) (some_inj (Exact q.0) b q.2) (ap (λ (o : Option ℕ). o >>= λ found. Some (Exact found)) (H Types t q.0 q.1))
 
-  val_again : (a b : ValType ℕ) → named_val f a ≡ Some b → named_val g b ≡ named_val h a
+  pub val_again : (a b : ValType ℕ) → named_val f a ≡ Some b → named_val g b ≡ named_val h a
   val_again (Ref r) b e =
       let q : (heap : HeapType ℕ) × (named_heap f r.heap ≡ Some heap) × (Some (Ref (record { nullable = r.nullable; heap = heap })) ≡ Some b) =
       through (named_heap f r.heap) (λ heap. Some (Ref (record { nullable = r.nullable; heap = heap }))) b e in
@@ -46,51 +46,54 @@ module _ (f g h : Lookup) (H : (space : Space) (p j : ℕ) → f space p ≡ Som
       let q : (j : ℕ) × (f Types t ≡ Some j) × (Some (OfType j) ≡ Some b) = through (f Types t) (λ found. Some (OfType found)) b e in
       subst (λ c. named_block g c ≡ named_block h (OfType t)) (some_inj (OfType q.0) b q.2) (ap (λ (o : Option ℕ). o >>= λ found. Some (OfType found)) (H Types t q.0 q.1))
 
-  arg_again : (a b : Arg) → named_arg f a ≡ Some b → named_arg g b ≡ named_arg h a
-  arg_again (Index x) b e =
-      let q : (j : ℕ) × (f x.0 x.1 ≡ Some j) × (Some (Index (x.0, j)) ≡ Some b) = through (f x.0 x.1) (λ found. Some (Index (x.0, found))) b e in
-      subst (λ c. named_arg g c ≡ named_arg h (Index x)) (some_inj (Index (x.0, q.0)) b q.2) (ap (λ (o : Option ℕ). o >>= λ found. Some (Index (x.0, found))) (H x.0 x.1 q.0 q.1))
-  arg_again (Value v) b e =
-      let q : (w : ValType ℕ) × (named_val f v ≡ Some w) × (Some (Value w) ≡ Some b) = through (named_val f v) (λ found. Some (Value found)) b e in
-      subst (λ c. named_arg g c ≡ named_arg h (Value v)) (some_inj (Value q.0) b q.2) (ap (λ (o : Option (ValType ℕ)). o >>= λ found. Some (Value found)) (val_again v q.0 q.1))
-  arg_again (Heap v) b e =
-      let q : (w : HeapType ℕ) × (named_heap f v ≡ Some w) × (Some (Heap w) ≡ Some b) = through (named_heap f v) (λ found. Some (Heap found)) b e in
-      subst (λ c. named_arg g c ≡ named_arg h (Heap v)) (some_inj (Heap q.0) b q.2) (ap (λ (o : Option (HeapType ℕ)). o >>= λ found. Some (Heap found)) (heap_again v q.0 q.1))
-  arg_again (Block v) b e =
-      let q : (w : BlockType) × (named_block f v ≡ Some w) × (Some (Block w) ≡ Some b) = through (named_block f v) (λ found. Some (Block found)) b e in
-      subst (λ c. named_arg g c ≡ named_arg h (Block v)) (some_inj (Block q.0) b q.2) (ap (λ (o : Option BlockType). o >>= λ found. Some (Block found)) (block_again v q.0 q.1))
-  arg_again (Access flags memory offset) b e =
-      let q : (j : ℕ) × (f Memories memory ≡ Some j) × (Some (Access flags j offset) ≡ Some b) = through (f Memories memory) (λ found. Some (Access flags found offset)) b e in
-      subst (λ c. named_arg g c ≡ named_arg h (Access flags memory offset)) (some_inj (Access flags q.0 offset) b q.2) (ap (λ (o : Option ℕ). o >>= λ found. Some (Access flags found offset)) (H Memories memory q.0 q.1))
-  arg_again (Label n) b e = subst (λ c. named_arg g c ≡ named_arg h (Label n)) (some_inj (Label n) b e) refl
-  arg_again (Local n) b e = subst (λ c. named_arg g c ≡ named_arg h (Local n)) (some_inj (Local n) b e) refl
-  arg_again (Number n) b e = subst (λ c. named_arg g c ≡ named_arg h (Number n)) (some_inj (Number n) b e) refl
-  arg_again (Count n) b e = subst (λ c. named_arg g c ≡ named_arg h (Count n)) (some_inj (Count n) b e) refl
-  arg_again (Byte n) b e = subst (λ c. named_arg g c ≡ named_arg h (Byte n)) (some_inj (Byte n) b e) refl
-  arg_again (S32 n) b e = subst (λ c. named_arg g c ≡ named_arg h (S32 n)) (some_inj (S32 n) b e) refl
-  arg_again (S64 n) b e = subst (λ c. named_arg g c ≡ named_arg h (S64 n)) (some_inj (S64 n) b e) refl
-  arg_again (Bits32 n) b e = subst (λ c. named_arg g c ≡ named_arg h (Bits32 n)) (some_inj (Bits32 n) b e) refl
-  arg_again (Bits64 n) b e = subst (λ c. named_arg g c ≡ named_arg h (Bits64 n)) (some_inj (Bits64 n) b e) refl
+  module _ (lf lg lh : ℕ → Option ℕ) (HL : (p j : ℕ) → lf p ≡ Some j → lg j ≡ lh p) where
+    arg_again : (a b : Arg) → named_arg f lf a ≡ Some b → named_arg g lg b ≡ named_arg h lh a
+    arg_again (Index x) b e =
+        let q : (j : ℕ) × (f x.0 x.1 ≡ Some j) × (Some (Index (x.0, j)) ≡ Some b) = through (f x.0 x.1) (λ found. Some (Index (x.0, found))) b e in
+        subst (λ c. named_arg g lg c ≡ named_arg h lh (Index x)) (some_inj (Index (x.0, q.0)) b q.2) (ap (λ (o : Option ℕ). o >>= λ found. Some (Index (x.0, found))) (H x.0 x.1 q.0 q.1))
+    arg_again (Value v) b e =
+        let q : (w : ValType ℕ) × (named_val f v ≡ Some w) × (Some (Value w) ≡ Some b) = through (named_val f v) (λ found. Some (Value found)) b e in
+        subst (λ c. named_arg g lg c ≡ named_arg h lh (Value v)) (some_inj (Value q.0) b q.2) (ap (λ (o : Option (ValType ℕ)). o >>= λ found. Some (Value found)) (val_again v q.0 q.1))
+    arg_again (Heap v) b e =
+        let q : (w : HeapType ℕ) × (named_heap f v ≡ Some w) × (Some (Heap w) ≡ Some b) = through (named_heap f v) (λ found. Some (Heap found)) b e in
+        subst (λ c. named_arg g lg c ≡ named_arg h lh (Heap v)) (some_inj (Heap q.0) b q.2) (ap (λ (o : Option (HeapType ℕ)). o >>= λ found. Some (Heap found)) (heap_again v q.0 q.1))
+    arg_again (Block v) b e =
+        let q : (w : BlockType) × (named_block f v ≡ Some w) × (Some (Block w) ≡ Some b) = through (named_block f v) (λ found. Some (Block found)) b e in
+        subst (λ c. named_arg g lg c ≡ named_arg h lh (Block v)) (some_inj (Block q.0) b q.2) (ap (λ (o : Option BlockType). o >>= λ found. Some (Block found)) (block_again v q.0 q.1))
+    arg_again (Access flags memory offset) b e =
+        let q : (j : ℕ) × (f Memories memory ≡ Some j) × (Some (Access flags j offset) ≡ Some b) = through (f Memories memory) (λ found. Some (Access flags found offset)) b e in
+        subst (λ c. named_arg g lg c ≡ named_arg h lh (Access flags memory offset)) (some_inj (Access flags q.0 offset) b q.2) (ap (λ (o : Option ℕ). o >>= λ found. Some (Access flags found offset)) (H Memories memory q.0 q.1))
+    arg_again (Label n) b e = subst (λ c. named_arg g lg c ≡ named_arg h lh (Label n)) (some_inj (Label n) b e) refl
+    arg_again (Local n) b e =
+        let q : (j : ℕ) × (lf n ≡ Some j) × (Some (Local j) ≡ Some b) = through (lf n) (λ found. Some (Local found)) b e in
+        subst (λ c. named_arg g lg c ≡ named_arg h lh (Local n)) (some_inj (Local q.0) b q.2) (ap (λ (o : Option ℕ). o >>= λ found. Some (Local found)) (HL n q.0 q.1))
+    arg_again (Number n) b e = subst (λ c. named_arg g lg c ≡ named_arg h lh (Number n)) (some_inj (Number n) b e) refl
+    arg_again (Count n) b e = subst (λ c. named_arg g lg c ≡ named_arg h lh (Count n)) (some_inj (Count n) b e) refl
+    arg_again (Byte n) b e = subst (λ c. named_arg g lg c ≡ named_arg h lh (Byte n)) (some_inj (Byte n) b e) refl
+    arg_again (S32 n) b e = subst (λ c. named_arg g lg c ≡ named_arg h lh (S32 n)) (some_inj (S32 n) b e) refl
+    arg_again (S64 n) b e = subst (λ c. named_arg g lg c ≡ named_arg h lh (S64 n)) (some_inj (S64 n) b e) refl
+    arg_again (Bits32 n) b e = subst (λ c. named_arg g lg c ≡ named_arg h lh (Bits32 n)) (some_inj (Bits32 n) b e) refl
+    arg_again (Bits64 n) b e = subst (λ c. named_arg g lg c ≡ named_arg h lh (Bits64 n)) (some_inj (Bits64 n) b e) refl
 
-  args_again : (a b : List Arg) → named_args f a ≡ Some b → named_args g b ≡ named_args h a
-  args_again [] b e = subst (λ c. named_args g c ≡ named_args h []) (some_inj [] b e) refl
-  args_again (x ∷ rest) b e =
-      let q : (y : Arg) × (named_arg f x ≡ Some y) × ((named_args f rest >>= λ others. Some (y ∷ others)) ≡ Some b) = through (named_arg f x) (λ found. named_args f rest >>= λ others. Some (found ∷ others)) b e in
-      let s : (ys : List Arg) × (named_args f rest ≡ Some ys) × (Some (q.0 ∷ ys) ≡ Some b) = through (named_args f rest) (λ others. Some (q.0 ∷ others)) b q.2 in
-      subst (λ c. named_args g c ≡ named_args h (x ∷ rest)) (some_inj (q.0 ∷ s.0) b s.2)
-      (ap₂ (λ (o : Option Arg) (os : Option (List Arg)). o >>= λ found. os >>= λ others. Some (found ∷ others)) (arg_again x q.0 q.1) (args_again rest s.0 s.1))
+    args_again : (a b : List Arg) → named_args f lf a ≡ Some b → named_args g lg b ≡ named_args h lh a
+    args_again [] b e = subst (λ c. named_args g lg c ≡ named_args h lh []) (some_inj [] b e) refl
+    args_again (x ∷ rest) b e =
+        let q : (y : Arg) × (named_arg f lf x ≡ Some y) × ((named_args f lf rest >>= λ others. Some (y ∷ others)) ≡ Some b) = through (named_arg f lf x) (λ found. named_args f lf rest >>= λ others. Some (found ∷ others)) b e in
+        let s : (ys : List Arg) × (named_args f lf rest ≡ Some ys) × (Some (q.0 ∷ ys) ≡ Some b) = through (named_args f lf rest) (λ others. Some (q.0 ∷ others)) b q.2 in
+        subst (λ c. named_args g lg c ≡ named_args h lh (x ∷ rest)) (some_inj (q.0 ∷ s.0) b s.2)
+        (ap₂ (λ (o : Option Arg) (os : Option (List Arg)). o >>= λ found. os >>= λ others. Some (found ∷ others)) (arg_again x q.0 q.1) (args_again rest s.0 s.1))
 
-  op_again : (a b : Op) → named_op f a ≡ Some b → named_op g b ≡ named_op h a
-  op_again a b e =
-      let q : (ys : List Arg) × (named_args f a.args ≡ Some ys) × (Some (record { op = a.op; args = ys }) ≡ Some b) = through (named_args f a.args) (λ args. Some (record { op = a.op; args = args })) b e in
-      let made : Op = record { op = a.op; args = q.0 } in
-      subst (λ c. named_op g c ≡ named_op h a) (some_inj made b q.2)
-      (ap (λ (o : Option (List Arg)). o >>= λ args. Some (record { op = a.op; args = args })) (args_again a.args q.0 q.1))
+    op_again : (a b : Op) → named_op f lf a ≡ Some b → named_op g lg b ≡ named_op h lh a
+    op_again a b e =
+        let q : (ys : List Arg) × (named_args f lf a.args ≡ Some ys) × (Some (record { op = a.op; args = ys }) ≡ Some b) = through (named_args f lf a.args) (λ args. Some (record { op = a.op; args = args })) b e in
+        let made : Op = record { op = a.op; args = q.0 } in
+        subst (λ c. named_op g lg c ≡ named_op h lh a) (some_inj made b q.2)
+        (ap (λ (o : Option (List Arg)). o >>= λ args. Some (record { op = a.op; args = args })) (args_again a.args q.0 q.1))
 
-  pub ops_again : (a b : List Op) → named_ops f a ≡ Some b → named_ops g b ≡ named_ops h a
-  ops_again [] b e = subst (λ c. named_ops g c ≡ named_ops h []) (some_inj [] b e) refl
-  ops_again (x ∷ rest) b e =
-      let q : (y : Op) × (named_op f x ≡ Some y) × ((named_ops f rest >>= λ others. Some (y ∷ others)) ≡ Some b) = through (named_op f x) (λ found. named_ops f rest >>= λ others. Some (found ∷ others)) b e in
-      let s : (ys : List Op) × (named_ops f rest ≡ Some ys) × (Some (q.0 ∷ ys) ≡ Some b) = through (named_ops f rest) (λ others. Some (q.0 ∷ others)) b q.2 in
-      subst (λ c. named_ops g c ≡ named_ops h (x ∷ rest)) (some_inj (q.0 ∷ s.0) b s.2)
-      (ap₂ (λ (o : Option Op) (os : Option (List Op)). o >>= λ found. os >>= λ others. Some (found ∷ others)) (op_again x q.0 q.1) (ops_again rest s.0 s.1))
+    pub ops_again : (a b : List Op) → named_ops f lf a ≡ Some b → named_ops g lg b ≡ named_ops h lh a
+    ops_again [] b e = subst (λ c. named_ops g lg c ≡ named_ops h lh []) (some_inj [] b e) refl
+    ops_again (x ∷ rest) b e =
+        let q : (y : Op) × (named_op f lf x ≡ Some y) × ((named_ops f lf rest >>= λ others. Some (y ∷ others)) ≡ Some b) = through (named_op f lf x) (λ found. named_ops f lf rest >>= λ others. Some (found ∷ others)) b e in
+        let s : (ys : List Op) × (named_ops f lf rest ≡ Some ys) × (Some (q.0 ∷ ys) ≡ Some b) = through (named_ops f lf rest) (λ others. Some (q.0 ∷ others)) b q.2 in
+        subst (λ c. named_ops g lg c ≡ named_ops h lh (x ∷ rest)) (some_inj (q.0 ∷ s.0) b s.2)
+        (ap₂ (λ (o : Option Op) (os : Option (List Op)). o >>= λ found. os >>= λ others. Some (found ∷ others)) (op_again x q.0 q.1) (ops_again rest s.0 s.1))

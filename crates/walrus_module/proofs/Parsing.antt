@@ -1,25 +1,32 @@
 -- The sections that were taken in are the module that was read.
 use Rattle.std.proofs.Common.{◌≡◌, ◌≢◌, ℕ, zero, suc, ◌<◌, ◌≤◌, List, [], ◌∷◌, ◌++◌, length, map, get_or, refl, sym, ap, ap₂, subst, ◌∙◌, arith, ⊎_elim, false, true}
-use Rattle.std.specs.Prelude.{Option, Some, None, IsSome, Contains, All, AllPairs, slice_get, zip, flat_map, option_map}
-use Rattle.std.specs.List.{AllZip}
+use Rattle.std.specs.Prelude.{Option, Some, None, IsSome, Contains, All, AllPairs, slice_get, zip, flat_map, option_map, nat_lt}
+use Rattle.std.specs.List.{AllZip, AllByRecursion}
 use Rattle.std.proofs.lemmas.List.{get_or-map, length-map}
+use Rattle.std.proofs.Common.{length-append, Bool, ◌+◌}
 use Rattle.std.proofs.lemmas.List.Elements.{Contains-append_cases, All-contains, All-map}
 use Rattle.walrus_base.specs.Types.{ValType, comp_names, val_heaps, heap_names}
-use Rattle.walrus_ir.specs.Operators.{Space, Types, Functions, Tables, Memories, Tags, Globals, Elements, DataSegments, Item, Op, type_item, names_of, locals_of}
-use Rattle.walrus_model.specs.Abstract.{Abstract, TypeDef, Body, FunctionKind, LocalFunction, ImportedFunction, Uninitialised, Function, Export}
+use Rattle.walrus_types.specs.Operators.{Types, Functions, Tables, Memories, Tags, Globals, Elements, DataSegments, Item, Op, Block, OfType, type_item, names_of, locals_of}
+use Rattle.walrus_model.specs.Abstract.{Abstract, TypeDef, Body, Function, Export}
 use Rattle.walrus_model.specs.Live.{Has, IsLive}
-use Rattle.walrus_model.specs.Handlers.{params_of, OtherBlock, handlers_of}
-use Rattle.walrus_model.specs.Order.{ByIndex, ByImport, FunctionsByIndex, FunctionsByImport}
-use Rattle.walrus_model.specs.Pipeline.{IsSimple}
-use Rattle.walrus_model.specs.Same.{BothAnd}
+use Rattle.walrus_functions.specs.Handlers.{params_of}
+use Rattle.walrus_functions.specs.ReadFunction.{locals_from}
+use Rattle.walrus_functions.proofs.LawNamed.{HasIndex, each_append, ops_found}
+use Rattle.walrus_bodies.specs.FunctionTypes.{is_function_def}
+use Rattle.walrus_code.specs.FromRaw.{ops_of}
+use Rattle.walrus_model.specs.Config.{Config}
 use Rattle.walrus_model.specs.Names.{body_of, body_of_function, body_of_kind}
-use Rattle.walrus_model.specs.Reads.{value_type, function_type, lone_type, types_of, function_with, body_with, space_of, export_of, module_of, ReadsBody}
-use Rattle.walrus_model.specs.Refers.{named_by, type_names, function_names, written_in, IsUsed, local_names, used_locals}
+use Rattle.walrus_model.specs.Reads.{Said, value_type, function_type, lone_type, types_of, function_with, body_with, space_of, export_of, module_of, below, declared, is_function, arity, ReadsBody}
+use Rattle.walrus_model.specs.Refers.{named_by, type_names, function_names, written_in, IsUsed, local_names}
 use Rattle.walrus_model.specs.Rules.{TypesRefer, IndicesHold, FunctionTypesHold, RulesHold, IsFunctionType}
 use Rattle.walrus_model.proofs.Lists.{Contains-uncons, Contains-none}
 use Rattle.walrus_module.specs.Sections.{Rules}
-use Rattle.walrus_module.proofs.Plain.{ArePlain, Below, bodies_plain, no_locals, names_all, no_blocks, no_handlers}
-use Rattle.walrus_module.proofs.Steps.{zip_length}
+use Rattle.walrus_module.proofs.BodyNames.{each_in, in_flat, block_typed, ValNamed, ops_named, types_named, local_named, declared_long}
+use Rattle.walrus_module.proofs.Steps.{zip_length, pairs_long}
+use Rattle.walrus_module.proofs.Taking.{get_own, get_past}
+use Rattle.wasm_frames.specs.Record as wire
+use Rattle.wasm_forms.proofs.Bind.{if_some, some_same}
+use borrow.Author.Tests.{ltb-true, ltb-false}
 use Rattle.walrus_model.specs.Handled as handled
 
 -- ---- look-ups
@@ -108,14 +115,40 @@ body_from : (o : Option Function) (b : Body) → body_of_function o ≡ Some b �
 body_from (Some f) b e = (f, refl, e)
 body_from None b e = cc
 
+-- ---- bodies that were read
+
+-- the body behind what is said at a place
+pub read_at : (R : ℕ × wire.Body → Said → Type 0) (fs : List ℕ) (bs : List wire.Body) (saids : List Said) (i : ℕ) (p : ℕ × Said) → length bs ≡ length fs → AllZip R (zip fs bs) saids → slice_get (zip fs saids) i ≡ Some p → (b : wire.Body) × R (p.0, b) p.1
+read_at R [] [] saids i p same h e = cc
+read_at R [] (b ∷ bs) saids i p same h e = absurd (omega arith)
+read_at R (f ∷ fs) [] saids i p same h e = absurd (omega arith)
+read_at R (f ∷ fs) (b ∷ bs) [] i p same h e = cc
+read_at R (f ∷ fs) (b ∷ bs) (s ∷ saids) zero p same h e = let q : (f, s) ≡ p = some_same (f, s) p e in subst (λ (x : ℕ × Said). (c : wire.Body) × R (x.0, c) x.1) q (b, h.0)
+read_at R (f ∷ fs) (b ∷ bs) (s ∷ saids) (suc i) p same h e = read_at R fs bs saids i p (omega arith) h.1 e
+
+-- a local of so many, from the first on, is below their number
+index_below : (count n x : ℕ) (t : Bool) → nat_lt n count ≡ t → locals_from 0 count n ≡ Some x → x < count
+index_below count n x true lt e =
+    let small : n < count = ltb-true n count lt in
+    let same : n ≡ x = some_same n x (sym (get_own count n small) ∙ e) in
+    omega (arith, small, same)
+index_below count n x false ge e = let none : ◌≡◌ {A = Option ℕ} None (Some x) = sym (get_past 0 count n (ltb-false n count ge)) ∙ e in absurd cc
+
+pub used_below : (c : Config) (r : handled.Module) (f : ℕ × wire.Body) (said : Said) (x : ℕ) → ReadsBody c r f said → Contains (locals_of said.1) x → x < arity r f.0 + length said.0
+used_below c r f said x read used =
+    let count = arity r f.0 + length said.0 in
+    let all = ops_found (declared r) (locals_from 0 count) (ops_of read.operators.texts) said.1 read.operators.named in
+    let h = each_in (HasIndex (declared r) (locals_from 0 count)) (locals_of said.1) x all used in
+    index_below count h.0 x (nat_lt h.0 count) refl h.1
+
 -- ---- the module that was read
 
-module _ (r : handled.Module) (bodies : List (List Op)) (rules : Rules r) (read : AllZip (ReadsBody r) r.bodies bodies) where
+module _ (c : Config) (r : handled.Module) (bodies : List Said) (rules : Rules r) (read : AllZip (ReadsBody c r) (zip r.functions r.bodies) bodies) where
   abbrev pub M : Abstract
   M = module_of r bodies
 
   many : length bodies ≡ length r.functions
-  many = sym (zip_length (ReadsBody r) r.bodies bodies read) ∙ rules.as_many_bodies
+  many = sym (zip_length (ReadsBody c r) (zip r.functions r.bodies) bodies read) ∙ pairs_long r.functions r.bodies rules.as_many_bodies
 
   has_type : (t : ℕ) → t < length r.types → IsSome (M.types t)
   has_type t lt = still_some (lone_type t) (slice_get r.types t) (there r.types t lt)
@@ -123,41 +156,56 @@ module _ (r : handled.Module) (bodies : List (List Op)) (rules : Rules r) (read 
   has_function : (f : ℕ) → f < length r.functions → IsSome (M.functions f)
   has_function f lt = there_mapped (function_with r) (zip r.functions bodies) f (omega (arith, lt, zip_long r.functions bodies many))
 
-  -- function i as its type and operators
+  -- what is declared is there
+  found_below : (n i found : ℕ) → below n i ≡ Some found → (i < n) × (i ≡ found)
+  found_below n i found e = let b = if_some (nat_lt i n) i found e in (ltb-true i n b.0, b.1)
+
+  declared_live : (x : Item) (found : ℕ) → declared r x.0 x.1 ≡ Some found → IsLive M (x.0, found)
+  declared_live (Types, i) found e = let b = found_below (length r.types) i found e in subst (λ n. IsLive M (Types, n)) b.1 (has_type i b.0)
+  declared_live (Functions, i) found e = let b = found_below (length r.functions) i found e in subst (λ n. IsLive M (Functions, n)) b.1 (has_function i b.0)
+  declared_live (Tables, i) found e = absurd cc
+  declared_live (Memories, i) found e = absurd cc
+  declared_live (Tags, i) found e = absurd cc
+  declared_live (Globals, i) found e = absurd cc
+  declared_live (Elements, i) found e = absurd cc
+  declared_live (DataSegments, i) found e = absurd cc
+
+  -- function i as its type and what its body says
   pub record At (f : Function) : Type 0 where
     pub at_type : ℕ
-    pub ops : List Op
-    pub is : f ≡ function_with r (at_type, ops)
-    pub below : at_type < length r.types
-    pub plain : ArePlain (Below r) ops
+    pub said : Said
+    pub is : f ≡ function_with r (at_type, said)
+    pub below_types : at_type < length r.types
+    pub body : wire.Body
+    pub reads : ReadsBody c r (at_type, body) said
 
   function_at : (i : ℕ) (f : Function) → M.functions i ≡ Some f → At f
   function_at i f e =
       let m = mapped_some (function_with r) (slice_get (zip r.functions bodies) i) f (sym (got_map (function_with r) (zip r.functions bodies) i) ∙ e) in
       let z = got_zip r.functions bodies i m.0 m.1 in
+      let b = read_at (ReadsBody c r) r.functions r.bodies bodies i m.0 rules.as_many_bodies read m.1 in
       record {
         at_type = m.0.0;
-        ops = m.0.1;
+        said = m.0.1;
         is = m.2;
-        below = all_got (λ t. t < length r.types) r.functions i m.0.0 rules.indices_hold.0 z.0;
-        plain = bodies_plain r r.bodies bodies i m.0.1 read z.1;
+        below_types = all_got (λ t. t < length r.types) r.functions i m.0.0 rules.indices_hold.0 z.0;
+        body = b.0;
+        reads = b.1;
       }
 
   pub record BodyAt (b : Body) : Type 0 where
-    pub params : List (ValType ℕ)
-    pub ops : List Op
-    pub is : b ≡ body_with params ops
-    pub plain : ArePlain (Below r) ops
+    pub at_type : ℕ
+    pub said : Said
+    pub is : b ≡ body_with (params_of (types_of r at_type)) said
+    pub body : wire.Body
+    pub reads : ReadsBody c r (at_type, body) said
 
   body_at : (i : ℕ) (b : Body) → body_of M i ≡ Some b → BodyAt b
   body_at i b e =
       let f = body_from (M.functions i) b e in
       let a = function_at i f.0 f.1 in
-      let p : Some (body_with (params_of (types_of r a.at_type)) a.ops) ≡ Some b = sym (ap (λ g. body_of_kind g.kind) a.is) ∙ f.2 in
-      record { params = params_of (types_of r a.at_type); ops = a.ops; is = (let q : body_with (params_of (types_of r a.at_type)) a.ops ≡ b = cc in sym q); plain = a.plain }
-
-  not_used : (b : Body) (x : ℕ) → BodyAt b → IsUsed b x → ⊥
-  not_used b x a u = Contains-none x (subst (λ l. Contains l x) (ap (λ c. used_locals c) a.is ∙ no_locals (Below r) a.ops a.plain) u)
+      let p : Some (body_with (params_of (types_of r a.at_type)) a.said) ≡ Some b = sym (ap (λ g. body_of_kind g.kind) a.is) ∙ f.2 in
+      record { at_type = a.at_type; said = a.said; is = sym (some_same _ _ p); body = a.body; reads = a.reads }
 
   -- ---- the rules
 
@@ -174,21 +222,43 @@ module _ (r : handled.Module) (bodies : List (List Op)) (rules : Rules r) (read 
         absurd (Contains-none u (subst (λ l. Contains l u) (ap (λ (z : TypeDef). comp_names z.sub.comp) m.2 ∙ names_nothing m.0) c));
   }
 
-  type_names_live : (i : ℕ) (y : Item) → Contains (written_in M (Types, i)) y → IsLive M y
+  type_names_live : (i : ℕ) (y : Item) → Contains (named_by type_names (M.types i)) y → IsLive M y
   type_names_live i y c =
       let w = type_written i (slice_get r.types i) y c in
       subst (IsLive M) (sym w.1) (still_some (lone_type i) (slice_get r.types i) w.0)
 
+  abbrev Live : ValType ℕ → Type 0
+  Live v = ValNamed (declared r) (IsLive M) declared_live v
+
+  params_live : (vs : List handled.Value) → AllByRecursion Live (map value_type vs)
+  params_live [] = tt
+  params_live (handled.I32 ∷ vs) = (tt, params_live vs)
+  params_live (handled.I64 ∷ vs) = (tt, params_live vs)
+  params_live (handled.F32 ∷ vs) = (tt, params_live vs)
+  params_live (handled.F64 ∷ vs) = (tt, params_live vs)
+  params_live (handled.V128 ∷ vs) = (tt, params_live vs)
+
+  takes_live : (k : ℕ) (o : Option handled.FuncType) → AllByRecursion Live (params_of (option_map (lone_type k) o))
+  takes_live k None = tt
+  takes_live k (Some t) = params_live t.params
+
+  locals_live : (f : Function) (a : At f) → AllByRecursion Live (params_of (types_of r a.at_type) ++ a.said.0)
+  locals_live f a =
+      each_append Live (params_of (types_of r a.at_type)) a.said.0 (takes_live a.at_type (slice_get r.types a.at_type))
+      (types_named (declared r) (IsLive M) declared_live a.reads.declared a.said.0 a.reads.typed)
+
   named_live : (f : Function) (y : Item) → At f → Contains (function_names f) y → IsLive M y
   named_live f y a c =
-      let c' : Contains (function_names (function_with r (a.at_type, a.ops))) y = subst (λ g. Contains (function_names g) y) a.is c in
-      let b = body_with (params_of (types_of r a.at_type)) a.ops in
-      ⊎_elim (λ (e : type_item a.at_type ≡ y). subst (IsLive M) e (has_type a.at_type a.below))
-      (λ (d : Contains (names_of a.ops ++ flat_map (local_names b) (locals_of a.ops)) y).
-      ⊎_elim (λ (n : Contains (names_of a.ops) y). let p = names_all (Below r) a.ops y a.plain n in subst (IsLive M) (sym p.2) (has_function p.0 p.1))
-      (λ (n : Contains (flat_map (local_names b) (locals_of a.ops)) y). absurd (Contains-none y (subst (λ l. Contains (flat_map (local_names b) l) y) (no_locals (Below r) a.ops a.plain) n)))
-      (Contains-append_cases (names_of a.ops) (flat_map (local_names b) (locals_of a.ops)) y d))
-      (Contains-uncons (type_item a.at_type) y (names_of a.ops ++ flat_map (local_names b) (locals_of a.ops)) c')
+      let c' : Contains (function_names (function_with r (a.at_type, a.said))) y = subst (λ g. Contains (function_names g) y) a.is c in
+      let b = body_with (params_of (types_of r a.at_type)) a.said in
+      ⊎_elim (λ (e : type_item a.at_type ≡ y). subst (IsLive M) e (has_type a.at_type a.below_types))
+      (λ (d : Contains (names_of a.said.1 ++ flat_map (local_names b) (locals_of a.said.1)) y).
+      ⊎_elim (λ (n : Contains (names_of a.said.1) y). each_in (IsLive M) (names_of a.said.1) y (ops_named (declared r) (IsLive M) declared_live (locals_from 0 (arity r a.at_type + length a.said.0)) (ops_of a.reads.operators.texts) a.said.1 a.reads.operators.named) n)
+      (λ (n : Contains (flat_map (local_names b) (locals_of a.said.1)) y).
+      let x = in_flat (local_names b) (locals_of a.said.1) y n in
+      local_named (declared r) (IsLive M) declared_live (params_of (types_of r a.at_type) ++ a.said.0) x.0 y (locals_live f a) x.1.1)
+      (Contains-append_cases (names_of a.said.1) (flat_map (local_names b) (locals_of a.said.1)) y d))
+      (Contains-uncons (type_item a.at_type) y (names_of a.said.1 ++ flat_map (local_names b) (locals_of a.said.1)) c')
 
   functions_named : (o : Option Function) (y : Item) → ((f : Function) → o ≡ Some f → At f) → Contains (named_by function_names o) y → IsLive M y
   functions_named None y at c = absurd (Contains-none y c)
@@ -210,10 +280,17 @@ module _ (r : handled.Module) (bodies : List (List Op)) (rules : Rules r) (read 
   exports_live : All (λ (e : Export). IsLive M e.item) (map export_of r.exports)
   exports_live = All-map (λ (e : Export). IsLive M e.item) export_of r.exports (λ k d lt. export_live (get_or r.exports k d) (rules.indices_hold.1 k d lt))
 
+  local_there : (b : Body) (x : ℕ) → BodyAt b → IsUsed b x → IsSome (b.local_type x)
+  local_there b x a used =
+      let used' : Contains (locals_of a.said.1) x = subst (λ (z : Body). IsUsed z x) a.is used in
+      let small : x < arity r a.at_type + length a.said.0 = used_below c r (a.at_type, a.body) a.said x a.reads used' in
+      let long : length (params_of (types_of r a.at_type) ++ a.said.0) ≡ arity r a.at_type + length a.said.0 = length-append (params_of (types_of r a.at_type)) a.said.0 in
+      subst (λ (z : Body). IsSome (z.local_type x)) (sym a.is) (there (params_of (types_of r a.at_type) ++ a.said.0) x (omega (arith, small, long)))
+
   indices_hold : IndicesHold (λ space i j. i < j) M
   indices_hold = record {
     written = written_live;
-    locals = λ f b x e u. absurd (not_used b x (body_at f b e) u);
+    locals = λ f b x e u. local_there b x (body_at f b e) u;
     exports = λ e c. All-contains (λ (x : Export). IsLive M x.item) (map export_of r.exports) e exports_live c;
     start = λ f e. cc;
     tables = λ i g t ops e. cc;
@@ -222,18 +299,32 @@ module _ (r : handled.Module) (bodies : List (List Op)) (rules : Rules r) (read 
 
   function_type_holds : (f : Function) → At f → IsFunctionType M f.ty
   function_type_holds f a =
-      let s = some_of (slice_get r.types a.at_type) (there r.types a.at_type a.below) in
+      let s = some_of (slice_get r.types a.at_type) (there r.types a.at_type a.below_types) in
       let h : IsFunctionType M a.at_type = (lone_type a.at_type s.0, ap (option_map (lone_type a.at_type)) s.1, tt) in
       subst (λ (g : Function). IsFunctionType M g.ty) (sym a.is) h
+
+  lone_function : (t : ℕ) (o : Option handled.FuncType) → slice_get r.types t ≡ o → is_function_def (option_map (lone_type t) o) ≡ true → IsFunctionType M t
+  lone_function t (Some s) e h = (lone_type t s, ap (option_map (lone_type t)) e, tt)
+  lone_function t None e h = absurd (none_there h)
+
+  block_holds : (b : Body) (o : Op) (t : ℕ) → BodyAt b → Contains b.operators o → Contains o.args (Block (OfType t)) → IsFunctionType M t
+  block_holds b o t a stands names =
+      let stands' : Contains a.said.1 o = subst (λ (z : Body). Contains z.operators o) a.is stands in
+      lone_function t (slice_get r.types t) refl (block_typed (is_function r) a.said.1 o t a.reads.operators.blocks stands' names)
 
   function_types_hold : FunctionTypesHold M
   function_types_hold = record {
     functions = λ i f e. function_type_holds f (function_at i f e);
     tags = λ i t e. cc;
-    blocks = λ f t b o e c d.
-        let a = body_at f b e in
-        absurd (no_blocks (Below r) a.ops o t a.plain (subst (λ (x : Body). Contains x.operators o) a.is c) d);
+    blocks = λ f t b o e c d. block_holds b o t (body_at f b e) c d;
   }
+
+  few_locals : (b : Body) → BodyAt b → b.declared ≤ 50_000
+  few_locals b a =
+      let long = declared_long (declared r) a.reads.declared a.said.0 a.reads.typed in
+      let few = a.reads.few in
+      let h : length a.said.0 ≤ 50_000 = omega (arith, long, few) in
+      subst (λ (x : Body). x.declared ≤ 50_000) (sym a.is) h
 
   pub holds : RulesHold (λ space i j. i < j) M
   holds = record {
@@ -243,41 +334,5 @@ module _ (r : handled.Module) (bodies : List (List Op)) (rules : Rules r) (read 
     limits = record { tables = λ i t e. cc; memories = λ i x e. cc };
     exports = record { distinct = pairs_map (λ (d : Export) (e : Export). d.name ≢ e.name) export_of r.exports rules.names_differ; start = λ i f e. cc };
     offsets = record { elements = λ i table e t offset p. cc; data_segments = λ i memory d x offset p. cc };
-    locals = λ f b e. subst (λ (x : Body). x.declared ≤ 50_000) (sym (body_at f b e).is) (omega arith);
-  }
-
-  -- ---- what is taken for granted of it
-
-  local_kind : (i : ℕ) (k : FunctionKind) → option_map (λ (f : Function). f.kind) (M.functions i) ≡ Some k → (b : Body) × (k ≡ LocalFunction b)
-  local_kind i k e =
-      let m = mapped_some (λ (f : Function). f.kind) (M.functions i) k e in
-      let a = function_at i m.0 m.1 in
-      (body_with (params_of (types_of r a.at_type)) a.ops, m.2 ∙ ap (λ (f : Function). f.kind) a.is)
-
-  by_import : (i j : ℕ) (a b : Option FunctionKind) → ((k : FunctionKind) → a ≡ Some k → (x : Body) × (k ≡ LocalFunction x)) → BothAnd (FunctionsByIndex i j) a b → BothAnd (FunctionsByImport i j) a b
-  by_import i j (Some (LocalFunction x)) (Some (LocalFunction y)) p h = h
-  by_import i j (Some (LocalFunction x)) (Some (ImportedFunction k)) p h = absurd h
-  by_import i j (Some (LocalFunction x)) (Some Uninitialised) p h = absurd h
-  by_import i j (Some (LocalFunction x)) None p h = absurd h
-  by_import i j (Some (ImportedFunction k)) b p h = let l = p (ImportedFunction k) refl in let e : ImportedFunction k ≡ LocalFunction l.0 = l.1 in cc
-  by_import i j (Some Uninitialised) b p h = let l = p Uninitialised refl in let e : Uninitialised ≡ LocalFunction l.0 = l.1 in cc
-  by_import i j None b p h = absurd h
-
-  in_order : (space : Space) → (space ≡ Types → ⊥) → (i j : ℕ) → IsLive M (space, i) → IsLive M (space, j) → ByIndex M space i j → ByImport M space i j
-  in_order Types other i j k l h = absurd (other refl)
-  in_order Functions other i j k l h = by_import i j (option_map (λ (f : Function). f.kind) (M.functions i)) (option_map (λ (f : Function). f.kind) (M.functions j)) (local_kind i) h
-  in_order Tables other i j k l h = absurd (none_there k)
-  in_order Memories other i j k l h = absurd (none_there k)
-  in_order Tags other i j k l h = absurd (none_there k)
-  in_order Globals other i j k l h = absurd (none_there k)
-  in_order Elements other i j k l h = absurd (none_there k)
-  in_order DataSegments other i j k l h = absurd (none_there k)
-
-  pub simple : IsSimple M
-  simple = record {
-    in_order = in_order;
-    no_handlers = λ f b e.
-        let a = body_at f b e in
-        ap (λ (x : Body). handlers_of M x) a.is ∙ no_handlers (Below r) M a.ops (OtherBlock ∷ []) a.plain;
-    plain_customs = λ s c. absurd (Contains-none s c);
+    locals = λ f b e. few_locals b (body_at f b e);
   }

@@ -1,6 +1,6 @@
 -- What is written has its sections in place, each in its one spelling.
 use Rattle.std.proofs.Common.{◌≡◌, ℕ, suc, Bool, true, false, List, [], ◌∷◌, ◌++◌, refl, sym, ap, ap₂, ◌∙◌, append_assoc, arith}
-use Rattle.std.specs.Prelude.{All, codes, length, map, Option}
+use Rattle.std.specs.Prelude.{All, codes, length, map}
 use Rattle.std.specs.List.{AllZip}
 use Rattle.std.proofs.lemmas.List.{append-nil}
 use Rattle.std.proofs.lemmas.List.Elements.{All-cons, All-append}
@@ -12,15 +12,17 @@ use Rattle.wasm_frames.specs.Frames.{Section as Wire, Types, Functions, Exports,
 use Rattle.wasm_frames.specs.Record as wire
 use Rattle.wasm_frames.specs.Spelling.{body_bytes}
 use Rattle.wasm_writer.specs.Spelling.{section_bytes, spelled as wire_spelled, listed}
-use Rattle.walrus_model.specs.Placed.{Section, is_custom, is_called, is_dylink_section, is_other_custom, spelled, IsCanonical, of_types, of_functions, of_exports, of_bodies, sized_body, Placed}
-use Rattle.walrus_base.specs.FuncTypes.{FuncType}
-use Rattle.walrus_ir.specs.Names.{Lookup}
+use Rattle.walrus_model.specs.BodyText.{DeclaresOnce, sized_text}
+use Rattle.walrus_model.specs.Placed.{Section, is_custom, is_called, is_dylink_section, is_other_custom, spelled, IsCanonical, of_types, of_functions, of_exports, of_bodies, Placed}
+use Rattle.walrus_base.specs.Arena.{entries}
+use Rattle.walrus_code.specs.Names.{Lookup}
+use Rattle.walrus_bodies.specs.declared.features.Features.{Features}
 use Rattle.walrus_items.specs.Exports.{ExportValue}
-use Rattle.walrus_items.specs.Functions.{FunctionValue}
-use Rattle.walrus_module.specs.Parts.{HasBytes, unplaced}
+use Rattle.walrus_module.specs.Parts.{Held, HasBytes, unplaced}
 use Rattle.walrus_module.specs.Spelled.{module_bytes, IsWritten}
 use Rattle.walrus_module.specs.Spells.{Spells}
-use Rattle.walrus_module.proofs.WrittenAs.{ops_of}
+use Rattle.walrus_module.proofs.DeclaredTypes.{texts_declare}
+use Rattle.walrus_module.proofs.WrittenAs.{texts_in}
 use Rattle.walrus_model.specs.Handled.{widened_type, widened_export}
 
 sections_of : {A : Type 0} → ℕ → (A → List ℕ) → List A → List Section
@@ -47,33 +49,34 @@ all_of P id spell h (x ∷ xs) = All-cons P (record { id = id; name = []; conten
 not_empty : {A : Type 0} (x : A) (xs : List A) → (x ∷ xs) ≡ [] → ⊥
 not_empty x xs e = absurd (cc)
 
--- each body is spelled from operators
-module _ (funcs : List (Option FunctionValue)) (names : Lookup) where
-  same_rows : (order : List ℕ) (bodies : List (List ℕ)) (h : AllZip (HasBytes funcs names) order bodies) → row_bytes body_bytes (map unplaced bodies) ≡ row_bytes sized_body (ops_of funcs names order bodies h)
-  same_rows [] [] h = refl
-  same_rows (i ∷ is) (b ∷ bs) h = ap₂ (λ (x y : List ℕ). x ++ y) (ap block_bytes h.0.emitted.spelled) (same_rows is bs h.1)
-  same_rows [] (b ∷ bs) h = elim h [ ]
-  same_rows (i ∷ is) [] h = elim h [ ]
+-- each body is spelled from its text
+module _ (h : Held) (names : Lookup) (features : Features) where
+  same_rows : (order : List ℕ) (bodies : List (List ℕ)) (a : AllZip (HasBytes h names features) order bodies) → row_bytes body_bytes (map unplaced bodies) ≡ row_bytes sized_text (texts_in h names features order bodies a)
+  same_rows [] [] a = refl
+  same_rows (i ∷ is) (b ∷ bs) a = ap₂ (λ (x y : List ℕ). x ++ y) (ap block_bytes a.0.written.spelled) (same_rows is bs a.1)
+  same_rows [] (b ∷ bs) a = elim a [ ]
+  same_rows (i ∷ is) [] a = elim a [ ]
 
-  same_count : (order : List ℕ) (bodies : List (List ℕ)) (h : AllZip (HasBytes funcs names) order bodies) → length (map unplaced bodies) ≡ length (ops_of funcs names order bodies h)
-  same_count [] [] h = refl
-  same_count (i ∷ is) (b ∷ bs) h = ap suc (same_count is bs h.1)
-  same_count [] (b ∷ bs) h = elim h [ ]
-  same_count (i ∷ is) [] h = elim h [ ]
+  same_count : (order : List ℕ) (bodies : List (List ℕ)) (a : AllZip (HasBytes h names features) order bodies) → length (map unplaced bodies) ≡ length (texts_in h names features order bodies a)
+  same_count [] [] a = refl
+  same_count (i ∷ is) (b ∷ bs) a = ap suc (same_count is bs a.1)
+  same_count [] (b ∷ bs) a = elim a [ ]
+  same_count (i ∷ is) [] a = elim a [ ]
 
-  bodies_canonical : (order : List ℕ) (bodies : List (List ℕ)) (h : AllZip (HasBytes funcs names) order bodies) → All IsCanonical (sections_of 10 body_bytes (map unplaced bodies))
+  bodies_canonical : (order : List ℕ) (bodies : List (List ℕ)) (a : AllZip (HasBytes h names features) order bodies) → All DeclaresOnce (texts_in h names features order bodies a) → All IsCanonical (sections_of 10 body_bytes (map unplaced bodies))
   unfolding sections_of
-  bodies_canonical [] [] h = none_of IsCanonical
-  bodies_canonical (i ∷ is) (b ∷ bs) h =
+  bodies_canonical [] [] a once = none_of IsCanonical
+  bodies_canonical (i ∷ is) (b ∷ bs) a once =
       All-cons IsCanonical (record { id = 10; name = []; content = vector_bytes body_bytes (map unplaced (b ∷ bs)) }) []
       (of_bodies (vector_bytes body_bytes (map unplaced (b ∷ bs))) (
-        ops_of funcs names (i ∷ is) (b ∷ bs) h,
-        not_empty h.0.emitted.indices (ops_of funcs names is bs h.1),
-        ap₂ (λ (n : ℕ) (row : List ℕ). number_bytes n ++ row) (same_count (i ∷ is) (b ∷ bs) h) (same_rows (i ∷ is) (b ∷ bs) h),
+        texts_in h names features (i ∷ is) (b ∷ bs) a,
+        not_empty (record { declarations = a.0.written.declarations; operators = a.0.written.texts }) (texts_in h names features is bs a.1),
+        once,
+        ap₂ (λ (n : ℕ) (row : List ℕ). number_bytes n ++ row) (same_count (i ∷ is) (b ∷ bs) a) (same_rows (i ∷ is) (b ∷ bs) a),
       ))
       (none_of IsCanonical)
-  bodies_canonical [] (b ∷ bs) h = elim h [ ]
-  bodies_canonical (i ∷ is) [] h = elim h [ ]
+  bodies_canonical [] (b ∷ bs) a once = elim a [ ]
+  bodies_canonical (i ∷ is) [] a once = elim a [ ]
 
 module _ (ts : List Group) (fs : List ℕ) (es : List Export) (bs : List wire.Body) where
   all_sections : List Section
@@ -135,7 +138,8 @@ module _ (ts : List Group) (fs : List ℕ) (es : List Export) (bs : List wire.Bo
   }
 
 -- what is spelled has its sections in place
-pub placed_as_spelled : (types : List (Option FuncType)) (funcs : List (Option FunctionValue)) (es : List ExportValue) (bytes : List ℕ) → Spells types funcs es bytes → Placed bytes
-placed_as_spelled types funcs es bytes s =
+pub placed_as_spelled : (h : Held) (features : Features) (es : List ExportValue) (bytes : List ℕ) → Spells h features es bytes → Placed bytes
+placed_as_spelled h features es bytes s =
     let r = s.records in
-    placed_as_written (map widened_type r.raw_types) r.raw_functions (map widened_export r.raw_exports) (map unplaced r.bodies) bytes s.written (bodies_canonical funcs r.names r.order r.bodies r.bodies_are)
+    let once = texts_declare r.names (map (λ e. e.0) (entries h.types)) r.order r.numbered h features r.order r.bodies r.bodies_are in
+    placed_as_written (map widened_type r.raw_types) r.raw_functions (map widened_export r.raw_exports) (map unplaced r.bodies) bytes s.written (bodies_canonical h r.names features r.order r.bodies r.bodies_are once)

@@ -3,7 +3,7 @@ use Rattle.std.proofs.Common.{◌≡◌, ℕ, suc, Bool, true, false, List, [], 
 use Rattle.std.specs.Prelude.{◌≢◌, ◌==◌, nat_eq, Option, option_map, if◌then◌else◌}
 use Rattle.std.specs.List.{IsDistinct, AllByRecursion}
 use Rattle.std.proofs.lemmas.Bool.{ne_eqb, eqb-false}
-use Rattle.walrus_model.specs.Shape.{place_in}
+use Rattle.walrus_types.specs.Shape.{place_in}
 
 true_by : (b : Bool) → (b ≡ false → ⊥) → b ≡ true
 true_by true h = refl

@@ -1,44 +1,59 @@
 -- The refusals of items, each with its cause, are those of the module seen.
-use Rattle.std.proofs.Common.{inl, inr, ◌≡◌, ℕ, ◌≤◌, ◌^◌, ◌⊎◌, true, false, List, [], ◌∷◌, map, length, refl, sym, ap, ap₂, ◌∙◌, subst, arith, Some, None}
-use Rattle.std.specs.Prelude.{Option, IsSome, option_map, option_and_then, Result, Ok, Err}
+use Rattle.std.proofs.Common.{inl, inr, ◌≡◌, ℕ, zero, suc, ◌<◌, ◌≤◌, ◌+◌, ◌^◌, ◌⊎◌, true, false, List, [], ◌∷◌, map, length, refl, sym, ap, ap₂, ◌∙◌, subst, arith, Some, None}
+use Rattle.std.specs.Prelude.{◌≢◌, Option, IsSome, All, AllPairs, Contains, slice_index_or, option_map, option_and_then, Result, Ok, Err}
 use Rattle.std.specs.List.{AllZip}
 use Rattle.std.proofs.lemmas.List.{length-map}
 use Rattle.wasm_frames.specs.Frames.{Code}
 use Rattle.wasm_writer.specs.Spelling.{SectionFits}
 use Rattle.wasm_frames.specs.Record as wire
-use Rattle.walrus_base.specs.Arena.{item_at, entries, items}
-use Rattle.walrus_base.specs.FuncTypes.{FuncType}
-use Rattle.walrus_base.specs.ModuleTypes.{func_types}
-use Rattle.walrus_base.specs.declared.locals.ModuleLocals.{ModuleLocals}
-use Rattle.walrus_base.specs.declared.types.ModuleTypes.{ModuleTypes}
+use Rattle.walrus_base.specs.Arena.{item_at, entries, entries_from, items}
 use Rattle.walrus_base.specs.Id.{place}
-use Rattle.walrus_ir.specs.Body.{body_bytes}
-use Rattle.walrus_ir.specs.Function.{body_of as ops_of_local}
-use Rattle.walrus_ir.specs.Names.{Lookup}
-use Rattle.walrus_ir.specs.Operators.{Types, Functions, Op}
-use Rattle.walrus_ir.specs.declared.function.LocalFunction.{LocalFunction}
-use Rattle.walrus_items.specs.Exports.{exports}
+use Rattle.walrus_base.specs.Types.{ValType, CompType, Func, Struct, Array}
+use Rattle.walrus_types.specs.Locals.{locals}
+use Rattle.walrus_types.specs.ModuleTypes.{type_slots}
+use Rattle.walrus_types.specs.Operators.{Types, Functions, locals_of}
+use Rattle.walrus_types.specs.TypeDef.{TypeDef, type_params}
+use Rattle.walrus_types.specs.declared.locals.ModuleLocals.{ModuleLocals}
+use Rattle.walrus_types.specs.declared.module_types.ModuleTypes.{ModuleTypes}
+use Rattle.walrus_code.specs.Function.{body_of as ops_of_local}
+use Rattle.walrus_code.specs.Names.{Lookup}
+use Rattle.walrus_code.specs.declared.function.LocalFunction.{LocalFunction}
+use Rattle.walrus_bodies.specs.declared.features.Features.{Features}
+use Rattle.walrus_functions.specs.DeclaredLocals.{GoesBefore, AreDeclared}
+use Rattle.walrus_functions.specs.EmittedBody.{comp_takes, takes, types_of as local_types}
+use Rattle.walrus_functions.specs.Handlers.{params_of}
+use Rattle.walrus_functions.specs.Laws as laws
+use Rattle.walrus_functions.proofs.LawOrder.{turn}
+use Rattle.walrus_functions.proofs.LawWritable.{ill_formed}
+use Rattle.walrus_items.specs.Exports.{ExportValue, exports}
 use Rattle.walrus_items.specs.Functions.{FunctionValue, functions, local_at, local_functions}
 use Rattle.walrus_items.specs.declared.exports.ModuleExports.{ModuleExports}
 use Rattle.walrus_items.specs.declared.functions.FunctionKind.{FunctionKind}
 use Rattle.walrus_items.specs.declared.functions.FunctionKind.TheVariants as kind
 use Rattle.walrus_items.specs.declared.functions.ModuleFunctions.{ModuleFunctions}
+use Rattle.walrus_model.specs.Abstract as abstract
 use Rattle.walrus_model.specs.Abstract.{Abstract}
+use Rattle.walrus_model.specs.BodyText.{BodyText, text_bytes}
 use Rattle.walrus_model.specs.Config.{Config}
-use Rattle.walrus_model.specs.Names.{body_of_kind, body_of_function}
+use Rattle.walrus_model.specs.Names.{body_of, body_of_kind, body_of_function}
 use Rattle.walrus_model.specs.Out.{Written}
-use Rattle.walrus_module.specs.Emitted.{HasUnwritable, DoesNotFit, PassesLimits, RefusesItems}
-use Rattle.walrus_module.specs.Parts.{local_in, HasBytes, unplaced}
-use Rattle.walrus_module.specs.Refused.{HasImported, HasNoBody, HasTooMany, WritesTooLarge, RefusesToWrite}
+use Rattle.walrus_model.specs.Reads.{features_of}
+use Rattle.walrus_model.specs.Rules.{IsFunctionComp}
+use Rattle.walrus_model.specs.WellMade.{IsWellFormed}
+use Rattle.walrus_module.specs.Emitted.{HasUnwritable, HasTooManyIn, HasOther, DoesNotFit, PassesLimits, RefusesDeclared}
+use Rattle.walrus_module.specs.Parts.{Held, local_in, source, HasBytes, unplaced}
+use Rattle.walrus_module.specs.References.{refs_are_exported}
+use Rattle.walrus_module.specs.Refused.{IsThere, HasImported, HasIllFormed, HasOtherType, HasUndeclared, HasTooMany, HasManyLocals, WritesTooLarge, RefusesToWrite}
 use Rattle.walrus_module.specs.Spells.{Records}
-use Rattle.walrus_module.specs.View.{type_def, body, kind_of, function, functions_of, view_of}
-use Rattle.walrus_module.specs.Whole.{is_whole, all_whole, all_export_live, is_local, all_local}
-use Rattle.walrus_module.proofs.BodyRead.{is_body_of_read}
+use Rattle.walrus_module.specs.View.{body, kind_of, function, functions_of, view_of}
+use Rattle.walrus_module.specs.Whole.{is_whole, all_types_whole, all_functions_whole, all_exports_live, is_local, all_local, is_all_there}
+use Rattle.walrus_module.proofs.DeclaredTypes.{texts_declare}
 use Rattle.walrus_module.proofs.Entries.{Failing, item_fails, both_pass, item_passes, entries_live, entries_rise, LocalAt, locals_live, locals_rise}
 use Rattle.walrus_module.proofs.Named.{some_inj}
-use Rattle.walrus_module.proofs.Parsing.{none_there, still_some}
-use Rattle.walrus_module.proofs.ThereLemmas.{is_there_of, there_of}
-use Rattle.walrus_module.proofs.WrittenAs.{ops_of, sections_of, operators_of, written_as}
+use Rattle.walrus_module.proofs.Lookups.{none_there}
+use Rattle.walrus_module.proofs.ExportedRefs.{one_undeclared}
+use Rattle.walrus_module.proofs.WrittenAs.{texts_in, sections_of, texts_of, written_as}
+use Rattle.walrus_model.proofs.Lists.{Contains-uncons, Contains-none}
 use Rattle.walrus_parts.specs.declared.error.Error.{Error}
 use Rattle.walrus_parts.specs.declared.error.Error.TheVariants.{Memory, DeadItem, NoIndex, NotWritable, TooLarge}
 
@@ -61,53 +76,146 @@ local_case funcs n f (Some v) at e = record { value = v; item = at; kind_is = lo
 has_local : (funcs : List (Option FunctionValue)) (n : ℕ) (f : LocalFunction) → local_in funcs n ≡ Some (n, f) → HasLocal funcs n f
 has_local funcs n f e = local_case funcs n f (item_at funcs n) refl e
 
--- ---- the spelling of the operators is what the bodies hold
+-- ---- entries
 
-module _ (funcs : List (Option FunctionValue)) (names : Lookup) where
-  bodies_spelled : (order : List ℕ) (bodies : List (List ℕ)) (h : AllZip (HasBytes funcs names) order bodies) → map (λ (ops : List Op). unplaced (body_bytes ops)) (ops_of funcs names order bodies h) ≡ map unplaced bodies
-  bodies_spelled [] [] h = refl
-  bodies_spelled (i ∷ is) (b ∷ bs) h = ap₂ ◌∷◌ (ap unplaced (sym h.0.emitted.spelled)) (bodies_spelled is bs h.1)
-  bodies_spelled [] (b ∷ bs) h = elim h [ ]
-  bodies_spelled (i ∷ is) [] h = elim h [ ]
+-- the place is the i-th from k on, and x is there
+abbrev Entered : {T : Type 0} → ℕ → List (Option T) → ℕ → T → Type 0
+Entered k slots n x = (i : ℕ) × (n ≡ k + i) × (item_at slots i ≡ Some x)
+
+entered_later : {T : Type 0} (k : ℕ) (s : Option T) (rest : List (Option T)) (n : ℕ) (x : T) → Entered (k + 1) rest n x → Entered k (s ∷ rest) n x
+entered_later k s rest n x (i, e, at) = (suc i, (let f : n ≡ k + 1 + i = e in omega (arith, f)), at)
+
+entered_here : {T : Type 0} (k : ℕ) (y : T) (rest : List (Option T)) (n : ℕ) (x : T) → ◌≡◌ {A = ℕ × T} (k, y) (n, x) → Entered k (Some y ∷ rest) n x
+entered_here {T} k y rest n x e =
+    let number : k ≡ n = ap (λ (p : ℕ × T). p.0) e in
+    (0, omega (arith, number), ap (λ (p : ℕ × T). Some p.1) e)
+
+entered : {T : Type 0} (k : ℕ) (slots : List (Option T)) (n : ℕ) (x : T) → Contains (entries_from k slots) (n, x) → Entered k slots n x
+entered k [] n x c = absurd (Contains-none (n, x) c)
+entered k (None ∷ rest) n x c = entered_later k None rest n x (entered (k + 1) rest n x c)
+entered k (Some y ∷ rest) n x c = elim (Contains-uncons (k, y) (n, x) (entries_from (k + 1) rest) c) as (λ _. Entered k (Some y ∷ rest) n x) [
+  | inl e ↦ entered_here k y rest n x e
+  | inr d ↦ entered_later k (Some y) rest n x (entered (k + 1) rest n x d)
+]
+
+entry_at : {T : Type 0} (slots : List (Option T)) (n : ℕ) (x : T) → Contains (entries slots) (n, x) → item_at slots n ≡ Some x
+entry_at slots n x c =
+    let (i, e, at) = entered 0 slots n x c in
+    let same : i ≡ n = (let f : n ≡ 0 + i = e in omega (arith, f)) in
+    subst (λ m. item_at slots m ≡ Some x) same at
+
+-- ---- declared locals
+
+same_at : (xs : List ℕ) (k d e : ℕ) → k < length xs → slice_index_or xs k d ≡ slice_index_or xs k e
+same_at [] k d e low = absurd (omega (arith, low))
+same_at (x ∷ xs) zero d e low = refl
+same_at (x ∷ xs) (suc k) d e low = same_at xs k d e (omega (arith, low))
+
+module _ (slots : List (Option (ValType ℕ))) (used parameters order : List ℕ) (declared : AreDeclared slots used parameters order) where
+  order_used : All (λ x. Contains used x) order
+  order_used k d low =
+      let x = slice_index_or order k d in
+      ((declared.which x).0 (k, low, same_at order k x d low)).is_used
+
+  order_apart : All (λ x. Contains parameters x → ⊥) order
+  order_apart k d low =
+      let x = slice_index_or order k d in
+      ((declared.which x).0 (k, low, same_at order k x d low)).no_parameter
+
+  order_differs : AllPairs (λ (x : ℕ) (y : ℕ). x ≢ y) order
+  order_differs i j d less low same =
+      let x = slice_index_or order i d in
+      let own : GoesBefore slots used parameters x x = subst (λ (z : ℕ). GoesBefore slots used parameters x z) (sym same) (declared.sorted i j d less low) in
+      turn slots used parameters x x own own
+
+-- ---- function types
+
+comp_taken : (comp : CompType ℕ) → IsFunctionComp comp → comp_takes comp ≡ Some (type_params comp)
+comp_taken (Func params results) is = refl
+comp_taken (Struct fields) is = absurd is
+comp_taken (Array element) is = absurd is
+
+def_taken : (def : Option TypeDef) (x : TypeDef) → def ≡ Some x → IsFunctionComp x.sub.comp → takes def ≡ Some (params_of def)
+def_taken def x e is = subst (λ (o : Option TypeDef). takes o ≡ Some (params_of o)) (sym e) (comp_taken x.sub.comp is)
+
+-- ---- the spelling of the texts is what the bodies hold
+
+module _ (h : Held) (names : Lookup) (features : Features) where
+  bodies_spelled : (order : List ℕ) (bodies : List (List ℕ)) (a : AllZip (HasBytes h names features) order bodies) → map (λ (t : BodyText). unplaced (text_bytes t)) (texts_in h names features order bodies a) ≡ map unplaced bodies
+  bodies_spelled [] [] a = refl
+  bodies_spelled (i ∷ is) (b ∷ bs) a = ap₂ ◌∷◌ (ap unplaced (sym a.0.written.spelled)) (bodies_spelled is bs a.1)
+  bodies_spelled [] (b ∷ bs) a = elim a [ ]
+  bodies_spelled (i ∷ is) [] a = elim a [ ]
 
 module _ (c : Config) (types : ModuleTypes) (all : ModuleLocals) (funcs : ModuleFunctions) (es : ModuleExports) where
   abbrev V : Abstract
   V = view_of types all funcs es
 
-  abbrev T : List (Option FuncType)
-  T = func_types types
+  abbrev T : List (Option TypeDef)
+  T = type_slots types
+
+  abbrev L : List (Option (ValType ℕ))
+  L = local_types (locals all)
 
   abbrev F : List (Option FunctionValue)
   F = functions funcs
 
+  abbrev E : List ExportValue
+  E = items (exports es)
+
+  abbrev H : Held
+  H = record { types = T; slots = L; funcs = F }
+
   -- ---- a function with an import
 
-  imported_one : (i : ℕ) (v : FunctionValue) (k : FunctionKind) → item_at F i ≡ Some v → v.kind ≡ k → is_whole T F k ≡ true → is_local k ≡ false → HasImported V
-  imported_one i v (kind.Import imported) at same whole not =
-      (i, function all v, place imported.«import», ap (option_map (function all)) at, ap (kind_of all) same)
+  imported_one : (i : ℕ) (v : FunctionValue) (k : FunctionKind) → item_at F i ≡ Some v → v.kind ≡ k → is_whole T L F k ≡ true → is_local k ≡ false → HasImported V
+  imported_one i v (kind.Import imported) at same whole not = (i, function all v, place imported.«import», ap (option_map (function all)) at, ap (kind_of all) same)
   imported_one i v (kind.Local f) at same whole not = absurd (none_there (sym not))
   imported_one i v (kind.Uninitialized ty) at same whole not = absurd (none_there whole)
 
-  imported : all_whole T F (items F) ≡ true → all_local (items F) ≡ false → HasImported V
+  imported : all_functions_whole T L F ≡ true → all_local (items F) ≡ false → HasImported V
   imported whole not =
       let f : Failing (λ (v : FunctionValue). is_local v.kind) F = item_fails (λ (v : FunctionValue). is_local v.kind) F not in
-      imported_one f.at f.value f.value.kind f.item refl (item_passes (λ (v : FunctionValue). is_whole T F v.kind) F f.at f.value whole f.item) f.fails
+      imported_one f.at f.value f.value.kind f.item refl (item_passes (λ (v : FunctionValue). is_whole T L F v.kind) F f.at f.value whole f.item) f.fails
 
-  -- ---- a body that no bytes read as
+  -- ---- a body that isn't well formed
 
-  no_body : HasUnwritable F → HasNoBody V
-  no_body (n, f, is, not) =
+  view_well_formed : (names : Lookup) (f : LocalFunction) → IsWellFormed c V (place f.ty) (body all f) → laws.IsWellFormed (source H names (features_of c) f)
+  view_well_formed names f w = record {
+    fits = record {
+      types = params_of (item_at T (place f.ty));
+      taken = def_taken (item_at T (place f.ty)) w.function_type.0 w.function_type.1 w.function_type.2;
+      typed = w.typed;
+      distinct = w.distinct;
+    };
+    names = w.names;
+    further = w.further;
+    types = w.types;
+    typed = w.further_typed;
+    bytes = w.text;
+    reads = w.read;
+  }
+
+  not_formed : HasUnwritable H (features_of c) → HasIllFormed c V
+  not_formed (names, (n, (f, (is, cant)))) =
       let h : HasLocal F n f = has_local F n f is in
+      let formed : IsWellFormed c V (place f.ty) (body all f) → ⊥ = (λ w. ill_formed (source H names (features_of c) f) cant (view_well_formed names f w)) in
       let found : functions_of all funcs n ≡ Some (function all h.value) = ap (option_map (function all)) h.item in
-      (n, body all f, ap body_of_function found ∙ ap (λ (k : FunctionKind). body_of_kind (kind_of all k)) h.kind_is, λ names text reads. none_there (sym not ∙ is_body_of_read names text (ops_of_local f) reads))
+      let seen : function all h.value ≡ record { ty = place f.ty; kind = abstract.LocalFunction (body all f) } = ap (λ (k : FunctionKind). function all (record h.value { kind = k })) h.kind_is in
+      (n, (record { ty = place f.ty; kind = abstract.LocalFunction (body all f) }, (body all f, (found ∙ ap (λ (g : abstract.Function). Some g) seen, refl, formed))))
+
+  -- ---- a type that isn't written so far
+
+  other_type : HasOther H → HasOtherType V
+  other_type (t, (x, (has, other))) = (t, (x, (entry_at T t x has, other)))
 
   -- ---- too many items, and what can't be spelled
 
   too_many_types : 2 ^ 32 ≤ length (entries T) → HasTooMany V
   too_many_types h =
-      let numbers = map (λ (e : ℕ × FuncType). e.0) (entries T) in
-      let long : 2 ^ 32 ≤ length numbers = omega (arith, h, length-map (entries T) (λ (e : ℕ × FuncType). e.0)) in
-      (Types, numbers, entries_rise T, λ k d lt. still_some (type_def _) _ (entries_live T k d lt), long)
+      let numbers = map (λ (e : ℕ × TypeDef). e.0) (entries T) in
+      let long : 2 ^ 32 ≤ length numbers = omega (arith, h, length-map (entries T) (λ (e : ℕ × TypeDef). e.0)) in
+      (Types, numbers, entries_rise T, entries_live T, long)
 
   too_many_functions : 2 ^ 32 ≤ length (local_functions (entries F)) → HasTooMany V
   too_many_functions h =
@@ -118,31 +226,49 @@ module _ (c : Config) (types : ModuleTypes) (all : ModuleLocals) (funcs : Module
       function_there : (n : ℕ) → LocalAt F n → IsSome (functions_of all funcs n)
       function_there n a = subst (λ o. IsSome (option_map (function all) o)) (sym a.item) refl
 
-  too_large : ((r : Records T F (items (exports es))) → Written c V (written_as r)) → DoesNotFit T F (items (exports es)) → WritesTooLarge c V
-  too_large written d =
-      let r = d.records in (
-        written_as r,
-        written r,
-        record {
-          sections = sections_of r;
-          bodies = operators_of r;
-          is = refl;
-          too_large = λ t f e b. d.too_large t f e (subst (λ (bs : List wire.Body). SectionFits (Code bs)) (bodies_spelled F r.names r.order r.bodies r.bodies_are) b);
-        },
-      )
+  many_locals : HasTooManyIn H (features_of c) → HasManyLocals V
+  many_locals (names, (n, (f, (is, (order, (declared, many)))))) =
+      let h : HasLocal F n f = has_local F n f is in
+      let found : body_of V n ≡ Some (body all f) = ap (λ (o : Option FunctionValue). body_of_function (option_map (function all) o)) h.item ∙ ap (λ (k : FunctionKind). body_of_kind (kind_of all k)) h.kind_is in
+      let used = locals_of (ops_of_local f) in
+      let parameters = map place f.args.items in
+      (n, (body all f, (order, (found, order_differs L used parameters order declared, order_used L used parameters order declared, order_apart L used parameters order declared, many))))
 
-  passes : ((r : Records T F (items (exports es))) → Written c V (written_as r)) → PassesLimits T F (items (exports es)) → HasTooMany V ⊎ WritesTooLarge c V
-  passes written (inl h) = inl (too_many_types h)
-  passes written (inr (inl h)) = inl (too_many_functions h)
-  passes written (inr (inr d)) = inr (too_large written d)
+  module _ (written : refs_are_exported (items F) E ≡ true → (r : Records H (features_of c) E) → Written c V (written_as r)) where
+    too_large : refs_are_exported (items F) E ≡ true → DoesNotFit H (features_of c) E → WritesTooLarge c V
+    too_large declared d =
+        let r = d.records in (
+          written_as r,
+          written declared r,
+          record {
+            sections = sections_of r;
+            texts = texts_of r;
+            declared_once = texts_declare r.names (map (λ e. e.0) (entries T)) r.order r.numbered H (features_of c) r.order r.bodies r.bodies_are;
+            is = refl;
+            too_large = λ t f e b. d.too_large t f e (subst (λ (bs : List wire.Body). SectionFits (Code bs)) (bodies_spelled H r.names (features_of c) r.order r.bodies r.bodies_are) b);
+          },
+        )
 
--- the refusals of items are those of the module seen
-pub refuses_lem : {X : Type 0} (c : Config) (types : ModuleTypes) (all : ModuleLocals) (funcs : ModuleFunctions) (es : ModuleExports) (result : Result X Error) → ((r : Records (func_types types) (functions funcs) (items (exports es))) → Written c (view_of types all funcs es) (written_as r)) → RefusesItems (func_types types) (functions funcs) (items (exports es)) result → RefusesToWrite c (view_of types all funcs es) result
-refuses_lem c types all funcs es (Ok x) written h = is_there_of types all funcs es h
-refuses_lem c types all funcs es (Err DeadItem) written h = λ there. none_there (sym h ∙ there_of types all funcs es there)
-refuses_lem c types all funcs es (Err NoIndex) written h =
-    (is_there_of types all funcs es h.0, imported c types all funcs es (both_pass (all_whole (func_types types) (functions funcs) (items (functions funcs))) (all_export_live (functions funcs) (items (exports es))) h.0).0 h.1)
-refuses_lem c types all funcs es (Err NotWritable) written h = (is_there_of types all funcs es h.0, no_body c types all funcs es h.1)
-refuses_lem c types all funcs es (Err TooLarge) written h = (is_there_of types all funcs es h.0, passes c types all funcs es written h.1)
-refuses_lem c types all funcs es (Err (Memory e)) written h = tt
-refuses_lem c types all funcs es (Err _) written h = absurd h
+    passes : refs_are_exported (items F) E ≡ true → PassesLimits H (features_of c) E → HasTooMany V ⊎ (HasManyLocals V ⊎ WritesTooLarge c V)
+    passes declared (inl h) = inl (too_many_types h)
+    passes declared (inr (inl h)) = inl (too_many_functions h)
+    passes declared (inr (inr (inl h))) = inr (inl (many_locals h))
+    passes declared (inr (inr (inr d))) = inr (inr (too_large declared d))
+
+    module _ (there : is_all_there types all funcs es ≡ true → IsThere V) (there_back : IsThere V → is_all_there types all funcs es ≡ true) where
+      -- the refusals of items are those of the module seen
+      pub refuses_lem : {X : Type 0} (result : Result X Error) → RefusesDeclared H (features_of c) E result → RefusesToWrite c V result
+      refuses_lem (Ok x) h = there h.0
+      refuses_lem (Err DeadItem) h = λ is. none_there (sym h ∙ there_back is)
+      refuses_lem (Err NoIndex) h =
+          let whole = both_pass (all_types_whole T L F) (all_functions_whole T L F) in
+          (there h.0, imported (whole (both_pass _ (all_exports_live T L F E) h.0).0).1 h.1)
+      refuses_lem (Err NotWritable) h = (there h.0, refused h.1)
+        where
+          refused : (HasUnwritable H (features_of c) ⊎ HasOther H) ⊎ (refs_are_exported (items F) E ≡ false) → HasIllFormed c V ⊎ (HasOtherType V ⊎ HasUndeclared V)
+          refused (inl (inl u)) = inl (not_formed u)
+          refused (inl (inr o)) = inr (inl (other_type o))
+          refused (inr u) = inr (inr (one_undeclared types all funcs es u))
+      refuses_lem (Err TooLarge) h = (there h.0, passes h.1.0 h.1.1)
+      refuses_lem (Err (Memory e)) h = tt
+      refuses_lem (Err _) h = absurd h

@@ -12,24 +12,23 @@ use Rattle.wasm_entries.specs.declared.record.RawExport.{RawExport}
 use Rattle.wasm_entries.specs.declared.record.RawSub.{RawSub}
 use Rattle.wasm_entries.specs.Record.{Group, Export}
 use Rattle.walrus_base.specs.Arena.{entries, items}
-use Rattle.walrus_base.specs.FuncTypes.{FuncType}
 use Rattle.walrus_base.specs.Id.{place}
 use Rattle.walrus_base.specs.declared.id.Id.{Id}
 use Rattle.walrus_base.specs.declared.keys.FunctionKey.{FunctionKey}
-use Rattle.walrus_ir.specs.Indices.{index_of}
-use Rattle.walrus_ir.specs.declared.indices.IdsToIndices.{IdsToIndices}
+use Rattle.walrus_code.specs.Names.{Lookup}
+use Rattle.walrus_bodies.specs.declared.features.Features.{Features}
 use Rattle.walrus_items.specs.Exports.{ExportValue}
-use Rattle.walrus_items.specs.Functions.{FunctionValue, local_functions}
+use Rattle.walrus_items.specs.Functions.{local_functions}
 use Rattle.walrus_model.proofs.Lists.{map-map}
-use Rattle.walrus_module.specs.Emitted.{all_there, RefusesCounts, RefusesSections, RefusesItems}
-use Rattle.walrus_module.specs.Numbered.{AreNumbered}
-use Rattle.walrus_module.specs.Parts.{raw_shape, type_index, export_with_index, HasBytes, unplaced}
+use Rattle.walrus_module.specs.Emitted.{is_there_in, RefusesCounts, RefusesTypes, RefusesBodies, RefusesSections, RefusesItems}
+use Rattle.walrus_module.specs.Numbered.{AreNumbered, NamesNoOthers}
+use Rattle.walrus_module.specs.Parts.{Held, type_index, export_with_index, HasBytes, unplaced}
 use Rattle.walrus_module.specs.Sizes.{IsOrder}
-use Rattle.walrus_module.specs.Spells.{Records}
+use Rattle.walrus_module.specs.Spells.{IsEntry, Records}
 use Rattle.walrus_module.specs.Whole.{all_local}
 use Rattle.walrus_module.proofs.Entries.{order_length}
-use Rattle.walrus_module.proofs.Parsing.{none_there}
-use Rattle.walrus_module.proofs.SpellsLemmas.{no_others_of, zip_seen}
+use Rattle.walrus_module.proofs.Somes.{none_there}
+use Rattle.walrus_module.proofs.SpellsLemmas.{zip_seen}
 use Rattle.walrus_parts.specs.declared.error.Error.{Error}
 use Rattle.walrus_parts.specs.declared.error.Error.TheVariants as Parts
 use Rattle.walrus_model.specs.Handled as handled
@@ -48,61 +47,72 @@ next_has {B} {C} done g left after e all is step h none =
     let some : IsSome (g e) = at_seam (λ (o : Option C). IsSome o) done (g e) (map g after) (subst (λ (l : List (Option C)). All (λ o. IsSome o) l) parts h) in
     none_there (subst (λ (o : Option C). IsSome o) (sym none) some)
 
-module _ (types : List (Option FuncType)) (funcs : List (Option FunctionValue)) (exports : List ExportValue) where
+module _ (h : Held) (features : Features) (exports : List ExportValue) where
   -- ---- too many items
 
-  pub counts_refused : (X : Type 0) (ids lent : List (Id FunctionKey)) (e : Error) → all_there types funcs exports ≡ true → IsOrder funcs (map place ids) → lent ≡ ids → RefusesCounts (length (entries types)) (length lent) e → RefusesItems {X = X} types funcs exports (Err e)
-  counts_refused X ids lent (Parts.Memory m) there ordered same h = tt
-  counts_refused X ids lent Parts.TooLarge there ordered same (inl h) = (there, inl h)
-  counts_refused X ids lent Parts.TooLarge there ordered same (inr h) =
-      let as_many : length lent ≡ length (local_functions (entries funcs)) = ap (λ (l : List (Id FunctionKey)). length l) same ∙ sym (length-map ids place) ∙ order_length funcs (map place ids) ordered in
-      (there, inr (inl (omega (arith, h, as_many))))
-  counts_refused X ids lent _ there ordered same h = absurd h
+  pub counts_refused : (X : Type 0) (ids lent : List (Id FunctionKey)) (e : Error) → is_there_in h exports ≡ true → IsOrder h.funcs (map place ids) → lent ≡ ids → RefusesCounts (length (entries h.types)) (length lent) e → RefusesItems {X = X} h features exports (Err e)
+  counts_refused X ids lent (Parts.Memory m) there ordered same r = tt
+  counts_refused X ids lent Parts.TooLarge there ordered same (inl r) = (there, inl r)
+  counts_refused X ids lent Parts.TooLarge there ordered same (inr r) =
+      let as_many : length lent ≡ length (local_functions (entries h.funcs)) = ap (λ (l : List (Id FunctionKey)). length l) same ∙ sym (length-map ids place) ∙ order_length h.funcs (map place ids) ordered in
+      (there, inr (inl (omega (arith, r, as_many))))
+  counts_refused X ids lent _ there ordered same r = absurd r
+
+  -- ---- types and bodies
+
+  pub types_refused : (X : Type 0) (e : Error) → is_there_in h exports ≡ true → RefusesTypes h.types e → RefusesItems {X = X} h features exports (Err e)
+  types_refused X (Parts.Memory m) there r = tt
+  types_refused X Parts.NotWritable there r = (there, inr r)
+  types_refused X _ there r = absurd r
+
+  pub bodies_refused : (X : Type 0) (e : Error) → is_there_in h exports ≡ true → RefusesBodies h features e → RefusesItems {X = X} h features exports (Err e)
+  bodies_refused X (Parts.Memory m) there r = tt
+  bodies_refused X Parts.NotWritable there r = (there, inl r)
+  bodies_refused X Parts.TooLarge there r = (there, inr (inr (inl r)))
+  bodies_refused X _ there r = absurd r
 
   -- ---- the records
 
-  abbrev pub records_of : (ids : List (Id FunctionKey)) (indices : IdsToIndices) (raws : List (Vec RawSub)) (raw_functions : List ℕ) (exported : List RawExport) (bodies : List (Vec ℕ)) → all_local (items funcs) ≡ true → IsOrder funcs (map place ids)
-      → AreNumbered (index_of indices) (map (λ e. e.0) (entries types)) (map place ids)
-      → map (λ t. raw_shape (type_record t)) raws ≡ map (λ e. e.1) (entries types)
-      → map Some raw_functions ≡ map (λ id. type_index funcs (index_of indices) (place id)) ids
-      → map (λ e. Some (export_record e)) exported ≡ map (export_with_index (index_of indices)) exports
+  abbrev pub records_of : (names : Lookup) (ids : List (Id FunctionKey)) (raws : List (Vec RawSub)) (raw_functions : List ℕ) (exported : List RawExport) (bodies : List (Vec ℕ)) → all_local (items h.funcs) ≡ true → IsOrder h.funcs (map place ids)
+      → AreNumbered names (map (λ e. e.0) (entries h.types)) (map place ids) → NamesNoOthers names
+      → AllZip IsEntry (entries h.types) (map type_record raws)
+      → map Some raw_functions ≡ map (λ id. type_index h.funcs names (place id)) ids
+      → map (λ e. Some (export_record e)) exported ≡ map (export_with_index names) exports
       → All (λ e. IsUtf8 e.name.now) exported
-      → AllZip (λ id bytes. HasBytes funcs (index_of indices) (place id) bytes.items) ids bodies
-      → Records types funcs exports
-  records_of ids indices raws raw_functions exported bodies local ordered numbered types_are functions_are exports_are texts bodies_are =
-      let names = index_of indices in
-      record {
-        all_are_local = local;
-        order = map place ids;
-        ordered = ordered;
-        names = names;
-        numbered = numbered;
-        no_others = no_others_of indices;
-        raw_types = map type_record raws;
-        types_are = map-map raw_shape type_record raws ∙ types_are;
-        raw_functions = raw_functions;
-        functions_are = functions_are ∙ sym (map-map (type_index funcs names) place ids);
-        raw_exports = map export_record exported;
-        exports_are = map-map (λ (e : handled.Export). Some e) export_record exported ∙ exports_are;
-        texts = All-map (λ (e : handled.Export). IsUtf8 e.name) export_record exported texts;
-        bodies = map (λ (v : Vec ℕ). v.items) bodies;
-        bodies_are = zip_seen place (λ (v : Vec ℕ). v.items) (HasBytes funcs names) ids bodies bodies_are;
-      }
+      → AllZip (λ id bytes. HasBytes h names features (place id) bytes.items) ids bodies
+      → Records h features exports
+  records_of names ids raws raw_functions exported bodies local ordered numbered no_others types_are functions_are exports_are texts bodies_are = record {
+    all_are_local = local;
+    order = map place ids;
+    ordered = ordered;
+    names = names;
+    numbered = numbered;
+    no_others = no_others;
+    raw_types = map type_record raws;
+    types_are = types_are;
+    raw_functions = raw_functions;
+    functions_are = functions_are ∙ sym (map-map (type_index h.funcs names) place ids);
+    raw_exports = map export_record exported;
+    exports_are = map-map (λ (e : handled.Export). Some e) export_record exported ∙ exports_are;
+    texts = All-map (λ (e : handled.Export). IsUtf8 e.name) export_record exported texts;
+    bodies = map (λ (v : Vec ℕ). v.items) bodies;
+    bodies_are = zip_seen place (λ (v : Vec ℕ). v.items) (HasBytes h names features) ids bodies bodies_are;
+  }
 
   -- ---- records that can't be spelled
 
-  pub sections_refused : (X : Type 0) (r : Records types funcs exports) (ts : List Group) (fs : List ℕ) (es : List Export) (bs : List wire.Body) (e : Error) → all_there types funcs exports ≡ true
-      → ts ≡ map widened_type r.raw_types → fs ≡ r.raw_functions → es ≡ map widened_export r.raw_exports → bs ≡ map unplaced r.bodies → RefusesSections ts fs es bs e → RefusesItems {X = X} types funcs exports (Err e)
-  sections_refused X r ts fs es bs (Parts.Memory m) there t f x b h = tt
-  sections_refused X r ts fs es bs Parts.TooLarge there t f x b h = (
+  pub sections_refused : (X : Type 0) (r : Records h features exports) (ts : List Group) (fs : List ℕ) (es : List Export) (bs : List wire.Body) (e : Error) → is_there_in h exports ≡ true
+      → ts ≡ map widened_type r.raw_types → fs ≡ r.raw_functions → es ≡ map widened_export r.raw_exports → bs ≡ map unplaced r.bodies → RefusesSections ts fs es bs e → RefusesItems {X = X} h features exports (Err e)
+  sections_refused X r ts fs es bs (Parts.Memory m) there t f x b refused = tt
+  sections_refused X r ts fs es bs Parts.TooLarge there t f x b refused = (
     there,
-    inr (inr (record {
+    inr (inr (inr (record {
       records = r;
       too_large =
           subst (λ u. RefusesSections (map widened_type r.raw_types) r.raw_functions (map widened_export r.raw_exports) u Parts.TooLarge) b
           (subst (λ u. RefusesSections (map widened_type r.raw_types) r.raw_functions u bs Parts.TooLarge) x
           (subst (λ u. RefusesSections (map widened_type r.raw_types) u es bs Parts.TooLarge) f
-          (subst (λ u. RefusesSections u fs es bs Parts.TooLarge) t h)));
-    })),
+          (subst (λ u. RefusesSections u fs es bs Parts.TooLarge) t refused)));
+    }))),
   )
-  sections_refused X r ts fs es bs _ there t f x b h = absurd h
+  sections_refused X r ts fs es bs _ there t f x b refused = absurd refused

@@ -1,25 +1,36 @@
 -- What a module is written as is one function of what it holds.
-use Rattle.std.proofs.Common.{◌≡◌, ℕ, List, [], ◌∷◌, map, refl, sym, ap, ap₂, ◌∙◌, subst}
+use Rattle.std.proofs.Common.{◌≡◌, ℕ, List, [], ◌∷◌, ◌++◌, map, refl, sym, ap, ap₂, ◌∙◌, subst}
 use Rattle.std.specs.Prelude.{Option, Some}
-use Rattle.std.specs.List.{AllZip}
+use Rattle.std.specs.List.{AllZip, AllByRecursion}
 use mathlib.Core.Path.{fun_ext}
 use Rattle.wasm_forms.proofs.Bind.{some_same}
+use Rattle.wasm_forms.specs.Grammar.{Is}
+use Rattle.wasm_forms.specs.Spelling.{row_bytes}
+use Rattle.wasm_forms.specs.declared.types.RawVal.{RawVal}
+use Rattle.wasm_operators.specs.Operators as wire
+use Rattle.wasm_operators.specs.Spelling.{op_bytes}
 use Rattle.walrus_base.specs.Arena.{entries}
-use Rattle.walrus_base.specs.FuncTypes.{FuncType}
-use Rattle.walrus_base.specs.Types.{ValType, I32, I64, F32, F64, V128, Ref}
-use Rattle.walrus_ir.specs.Body.{body_bytes}
-use Rattle.walrus_ir.specs.Function.{body_of}
-use Rattle.walrus_ir.specs.Names.{Lookup, named_ops}
-use Rattle.walrus_ir.specs.Operators.{Space, Types, Functions, Tables, Memories, Tags, Globals, Elements, DataSegments}
-use Rattle.walrus_ir.specs.declared.function.LocalFunction.{LocalFunction}
+use Rattle.walrus_base.specs.Types.{ValType, I32, I64, F32, F64, V128, Ref, CompType, Func, Struct, Array}
+use Rattle.walrus_types.specs.TypeDef.{TypeDef}
+use Rattle.walrus_code.specs.FromRaw.{val_of, ops_of}
+use Rattle.walrus_code.specs.Names.{Lookup, named_ops}
+use Rattle.walrus_types.specs.Operators.{Space, Types, Functions, Tables, Memories, Tags, Globals, Elements, DataSegments, locals_of}
+use Rattle.walrus_code.specs.declared.function.LocalFunction.{LocalFunction}
+use Rattle.walrus_bodies.specs.Body.{declarations}
+use Rattle.walrus_bodies.specs.Emitting.{AllStand}
+use Rattle.walrus_bodies.specs.declared.features.Features.{Features}
+use Rattle.walrus_functions.specs.DeclaredLocals.{AreGrouped}
+use Rattle.walrus_functions.specs.EmittedBody.{Source, index_in, BodyWritten, declarations_bytes, spelled_as, looked_up}
+use Rattle.walrus_functions.proofs.LawOrder.{declared_once, grouped_once}
 use Rattle.walrus_items.specs.Exports.{ExportValue}
-use Rattle.walrus_items.specs.Functions.{FunctionValue}
-use Rattle.walrus_model.specs.Reads.{value_type}
+use Rattle.walrus_model.specs.Reads.{value_type, function_type, lone_type}
 use Rattle.walrus_module.specs.Numbered.{AreNumbered, NamesNoOthers}
-use Rattle.walrus_module.specs.Parts.{raw_shape, type_index, export_with_index, HasBytes, unplaced}
+use Rattle.walrus_module.specs.Parts.{Held, type_index, export_with_index, source, HasBytes, unplaced}
 use Rattle.walrus_module.specs.Spelled.{module_bytes}
-use Rattle.walrus_module.specs.Spells.{Records, SpelledOnce}
+use Rattle.walrus_module.specs.Spells.{IsEntry, Records, SpelledOnce}
 use Rattle.walrus_module.proofs.OneOrder.{one_order}
+use Rattle.walrus_module.proofs.OneText.{OpGood, one_text, one_val}
+use Rattle.walrus_module.proofs.TextsStand.{TypeGood, operator_good, declarations_good}
 use Rattle.walrus_model.specs.Handled as handled
 use Rattle.walrus_model.specs.Handled.{widened_type, widened_export}
 
@@ -58,11 +69,31 @@ raw_value_back handled.V128 = refl
 one_value : (v w : handled.Value) → value_type v ≡ value_type w → v ≡ w
 one_value v w e = sym (raw_value_back v) ∙ ap raw_value e ∙ raw_value_back w
 
-one_shape : (t u : handled.FuncType) → raw_shape t ≡ raw_shape u → t ≡ u
+abbrev params_in : CompType ℕ → List (ValType ℕ)
+params_in (Func params results) = params
+params_in (Struct fields) = []
+params_in (Array element) = []
+
+abbrev results_in : CompType ℕ → List (ValType ℕ)
+results_in (Func params results) = results
+results_in (Struct fields) = []
+results_in (Array element) = []
+
+one_shape : (t u : handled.FuncType) → function_type t ≡ function_type u → t ≡ u
 one_shape t u e =
-    let params : t.params ≡ u.params = map_one value_type one_value t.params u.params (ap (λ (s : FuncType). s.params) e) in
-    let results : t.results ≡ u.results = map_one value_type one_value t.results u.results (ap (λ (s : FuncType). s.results) e) in
+    let params : t.params ≡ u.params = map_one value_type one_value t.params u.params (ap params_in e) in
+    let results : t.results ≡ u.results = map_one value_type one_value t.results u.results (ap results_in e) in
     ap₂ (λ (p r : List handled.Value). record { params = p; results = r }) params results
+
+one_types : (es : List (ℕ × TypeDef)) (ts us : List handled.FuncType) → AllZip IsEntry es ts → AllZip IsEntry es us → ts ≡ us
+one_types [] [] [] h g = refl
+one_types [] [] (u ∷ us) h g = elim g [ ]
+one_types [] (t ∷ ts) us h g = elim h [ ]
+one_types (e ∷ es) [] us h g = elim h [ ]
+one_types (e ∷ es) (t ∷ ts) [] h g = elim g [ ]
+one_types (e ∷ es) (t ∷ ts) (u ∷ us) h g =
+    let same : lone_type e.0 t ≡ lone_type e.0 u = sym h.0 ∙ g.0 in
+    ap₂ ◌∷◌ (one_shape t u (ap (λ (x : TypeDef). x.sub.comp) same)) (one_types es ts us h.1 g.1)
 
 -- ---- indices
 
@@ -79,23 +110,21 @@ names_at m n types order h g k l DataSegments i = k DataSegments (λ e. cc) (λ 
 one_naming : (m n : Lookup) (types order : List ℕ) → AreNumbered m types order → AreNumbered n types order → NamesNoOthers m → NamesNoOthers n → m ≡ n
 one_naming m n types order h g k l = fun_ext (λ space. fun_ext (λ i. names_at m n types order h g k l space i))
 
--- ---- bodies
+-- ---- texts
 
-module _ (funcs : List (Option FunctionValue)) (names : Lookup) where
-  one_body : (number : ℕ) (a b : List ℕ) → HasBytes funcs names number a → HasBytes funcs names number b → a ≡ b
-  one_body number a b h g =
-      let found : Some (number, h.local) ≡ Some (number, g.local) = sym h.is ∙ g.is in
-      let local : h.local ≡ g.local = ap (λ (x : ℕ × LocalFunction). x.1) (some_same (number, h.local) (number, g.local) found) in
-      let indices : Some h.emitted.indices ≡ Some g.emitted.indices = sym h.emitted.named ∙ ap (λ f. named_ops names (body_of f)) local ∙ g.emitted.named in
-      h.emitted.spelled ∙ ap body_bytes (some_same h.emitted.indices g.emitted.indices indices) ∙ sym g.emitted.spelled
+all_good : (texts : List wire.Op) → AllStand texts → AllByRecursion OpGood texts
+all_good [] all = tt
+all_good (o ∷ os) all = (operator_good (op_bytes o) o all.0, all_good os all.1)
 
-  one_row : (order : List ℕ) (cs bs : List (List ℕ)) → AllZip (HasBytes funcs names) order cs → AllZip (HasBytes funcs names) order bs → cs ≡ bs
-  one_row [] [] [] h g = refl
-  one_row [] [] (b ∷ bs) h g = elim g [ ]
-  one_row [] (a ∷ cs) bs h g = elim h [ ]
-  one_row (i ∷ is) [] bs h g = elim h [ ]
-  one_row (i ∷ is) (a ∷ cs) [] h g = elim g [ ]
-  one_row (i ∷ is) (a ∷ cs) (b ∷ bs) h g = ap₂ ◌∷◌ (one_body i a b h.0 g.0) (one_row is cs bs h.1 g.1)
+one_declarations : (ds es : List (ℕ × RawVal)) → AllByRecursion TypeGood ds → AllByRecursion TypeGood es → map spelled_as ds ≡ map spelled_as es → ds ≡ es
+one_declarations [] [] h g e = refl
+one_declarations [] (y ∷ ys) h g e = cc
+one_declarations (x ∷ xs) [] h g e = cc
+one_declarations (x ∷ xs) (y ∷ ys) h g e =
+    let same = cons_same (spelled_as x) (spelled_as y) (map spelled_as xs) (map spelled_as ys) e in
+    let count : x.0 ≡ y.0 = ap (λ (p : ℕ × Option (ValType ℕ)). p.0) same.0 in
+    let ty : val_of x.1 ≡ val_of y.1 = some_same _ _ (ap (λ (p : ℕ × Option (ValType ℕ)). p.1) same.0) in
+    ap₂ ◌∷◌ (ap₂ (λ (n : ℕ) (v : RawVal). (n, v)) count (one_val x.1 y.1 h.0 g.0 ty)) (one_declarations xs ys h.1 g.1 same.1)
 
 -- ---- all of it
 
@@ -107,20 +136,58 @@ same_bytes ts us fs gs es ds bs cs t f e b =
     ∙ ap (λ x. module_bytes (map widened_type us) gs (map widened_export x) (map unplaced bs)) e
     ∙ ap (λ x. module_bytes (map widened_type us) gs (map widened_export ds) (map unplaced x)) b
 
-module _ (types : List (Option FuncType)) (funcs : List (Option FunctionValue)) (exports : List ExportValue) where
-  one_records : (r s : Records types funcs exports) → module_bytes (map widened_type r.raw_types) r.raw_functions (map widened_export r.raw_exports) (map unplaced r.bodies) ≡ module_bytes (map widened_type s.raw_types) s.raw_functions (map widened_export s.raw_exports) (map unplaced s.bodies)
-  one_records r s =
-      let order : r.order ≡ s.order = one_order funcs r.order s.order r.ordered s.ordered in
-      let numbered : AreNumbered r.names (map (λ e. e.0) (entries types)) s.order = subst (λ o. AreNumbered r.names (map (λ e. e.0) (entries types)) o) order r.numbered in
-      let names : r.names ≡ s.names = one_naming r.names s.names (map (λ e. e.0) (entries types)) s.order numbered s.numbered r.no_others s.no_others in
-      let functions : map Some r.raw_functions ≡ map Some s.raw_functions = r.functions_are ∙ ap (λ n. map (type_index funcs n) r.order) names ∙ ap (map (type_index funcs s.names)) order ∙ sym s.functions_are in
-      let exported : map Some r.raw_exports ≡ map Some s.raw_exports = r.exports_are ∙ ap (λ n. map (export_with_index n) exports) names ∙ sym s.exports_are in
-      let bodies : AllZip (HasBytes funcs s.names) s.order r.bodies = subst (λ n. AllZip (HasBytes funcs n) s.order r.bodies) names (subst (λ o. AllZip (HasBytes funcs r.names) o r.bodies) order r.bodies_are) in
-      same_bytes r.raw_types s.raw_types r.raw_functions s.raw_functions r.raw_exports s.raw_exports r.bodies s.bodies
-      (map_one raw_shape one_shape r.raw_types s.raw_types (r.types_are ∙ sym s.types_are))
-      (map_one Some some_same r.raw_functions s.raw_functions functions)
-      (map_one Some some_same r.raw_exports s.raw_exports exported)
-      (one_row funcs s.names s.order r.bodies s.bodies bodies s.bodies_are)
+-- what is written of a body stands as it is spelled
+abbrev pub TextsStand : Type 0
+TextsStand = (s : Source) (bytes places : List ℕ) (numbers : ℕ → Option ℕ) (w : BodyWritten s bytes places numbers) → AllStand w.texts × Is declarations (declarations_bytes w.declarations) w.declarations
 
-pub spelled_once_lem : SpelledOnce
-spelled_once_lem = λ types funcs exports a b h g. g.written.is ∙ one_records types funcs exports g.records h.records ∙ sym h.written.is
+module _ (stand : TextsStand) where
+  -- ---- bodies
+
+  one_written : (s : Source) (a b places others : List ℕ) (numbers indices : ℕ → Option ℕ) → BodyWritten s a places numbers → BodyWritten s b others indices → a ≡ b
+  one_written s a b places others numbers indices w v =
+      let order : v.order ≡ w.order = declared_once s.slots (locals_of s.ops) s.parameters w.order v.order w.declared v.declared in
+      let grouped : AreGrouped s.slots w.order v.groups = subst (λ (o : List ℕ). AreGrouped s.slots o v.groups) order v.grouped in
+      let groups : v.groups ≡ w.groups = grouped_once s.slots w.order w.groups v.groups w.grouped grouped in
+      let typed : map spelled_as w.declarations ≡ map spelled_as v.declarations = w.typed ∙ sym (ap (map (looked_up s.names)) groups) ∙ sym v.typed in
+      let one = stand s a places numbers w in
+      let other = stand s b others indices v in
+      let declared : w.declarations ≡ v.declarations = one_declarations w.declarations v.declarations (declarations_good (declarations_bytes w.declarations) w.declarations one.1) (declarations_good (declarations_bytes v.declarations) v.declarations other.1) typed in
+      let named : Some (ops_of w.texts) ≡ Some (ops_of v.texts) = sym w.named ∙ sym (ap (λ (o : List ℕ). named_ops s.names (index_in s o) s.ops) order) ∙ v.named in
+      let texts : w.texts ≡ v.texts = one_text w.texts v.texts (all_good w.texts one.0) (all_good v.texts other.0) (some_same _ _ named) in
+      w.spelled ∙ ap₂ (λ (ds : List (ℕ × RawVal)) (ts : List wire.Op). declarations_bytes ds ++ row_bytes op_bytes ts) declared texts ∙ sym v.spelled
+
+  module _ (h : Held) (names : Lookup) (features : Features) where
+    one_body : (number : ℕ) (a b : List ℕ) → HasBytes h names features number a → HasBytes h names features number b → a ≡ b
+    one_body number a b x y =
+        let found : Some (number, x.local) ≡ Some (number, y.local) = sym x.is ∙ y.is in
+        let local : x.local ≡ y.local = ap (λ (p : ℕ × LocalFunction). p.1) (some_same (number, x.local) (number, y.local) found) in
+        let also : BodyWritten (source h names features x.local) b y.places y.numbers = subst (λ (f : LocalFunction). BodyWritten (source h names features f) b y.places y.numbers) (sym local) y.written in
+        one_written (source h names features x.local) a b x.places y.places x.numbers y.numbers x.written also
+
+    one_row : (order : List ℕ) (cs bs : List (List ℕ)) → AllZip (HasBytes h names features) order cs → AllZip (HasBytes h names features) order bs → cs ≡ bs
+    one_row [] [] [] x y = refl
+    one_row [] [] (b ∷ bs) x y = elim y [ ]
+    one_row [] (a ∷ cs) bs x y = elim x [ ]
+    one_row (i ∷ is) [] bs x y = elim x [ ]
+    one_row (i ∷ is) (a ∷ cs) [] x y = elim y [ ]
+    one_row (i ∷ is) (a ∷ cs) (b ∷ bs) x y = ap₂ ◌∷◌ (one_body i a b x.0 y.0) (one_row is cs bs x.1 y.1)
+
+  -- ---- records
+
+  module _ (h : Held) (features : Features) (exports : List ExportValue) where
+    one_records : (r s : Records h features exports) → module_bytes (map widened_type r.raw_types) r.raw_functions (map widened_export r.raw_exports) (map unplaced r.bodies) ≡ module_bytes (map widened_type s.raw_types) s.raw_functions (map widened_export s.raw_exports) (map unplaced s.bodies)
+    one_records r s =
+        let order : r.order ≡ s.order = one_order h.funcs r.order s.order r.ordered s.ordered in
+        let numbered : AreNumbered r.names (map (λ e. e.0) (entries h.types)) s.order = subst (λ o. AreNumbered r.names (map (λ e. e.0) (entries h.types)) o) order r.numbered in
+        let names : r.names ≡ s.names = one_naming r.names s.names (map (λ e. e.0) (entries h.types)) s.order numbered s.numbered r.no_others s.no_others in
+        let functions : map Some r.raw_functions ≡ map Some s.raw_functions = r.functions_are ∙ ap (λ n. map (type_index h.funcs n) r.order) names ∙ ap (map (type_index h.funcs s.names)) order ∙ sym s.functions_are in
+        let exported : map Some r.raw_exports ≡ map Some s.raw_exports = r.exports_are ∙ ap (λ n. map (export_with_index n) exports) names ∙ sym s.exports_are in
+        let bodies : AllZip (HasBytes h s.names features) s.order r.bodies = subst (λ n. AllZip (HasBytes h n features) s.order r.bodies) names (subst (λ o. AllZip (HasBytes h r.names features) o r.bodies) order r.bodies_are) in
+        same_bytes r.raw_types s.raw_types r.raw_functions s.raw_functions r.raw_exports s.raw_exports r.bodies s.bodies
+        (one_types (entries h.types) r.raw_types s.raw_types r.types_are s.types_are)
+        (map_one Some some_same r.raw_functions s.raw_functions functions)
+        (map_one Some some_same r.raw_exports s.raw_exports exported)
+        (one_row h s.names features s.order r.bodies s.bodies bodies s.bodies_are)
+
+  pub spelled_once_lem : SpelledOnce
+  spelled_once_lem = λ h features exports a b x y. y.written.is ∙ one_records h features exports y.records x.records ∙ sym x.written.is

@@ -1,24 +1,10 @@
 -- The parts of what is written, over places and bytes.
-use Rattle.std.proofs.Common.{◌≡◌, ℕ, List, [], ◌∷◌, ◌++◌, map, refl, sym, ap, ap₂, ◌∙◌, subst}
+use Rattle.std.proofs.Common.{◌≡◌, ℕ, List, [], ◌∷◌, ◌++◌, map, sym, ap, ap₂, ◌∙◌, subst}
 use Rattle.std.specs.List.{AllZip}
-use Rattle.walrus_ir.specs.Operators.{Types, Functions, Tables, Memories, Tags, Globals, Elements, DataSegments}
-use Rattle.walrus_ir.specs.Indices.{index_of}
-use Rattle.walrus_ir.specs.declared.indices.IdsToIndices.{IdsToIndices}
 use Rattle.wasm_entries.specs.Record.{Group, Export}
 use Rattle.wasm_frames.specs.Record as wire
-use Rattle.walrus_module.specs.Numbered.{NamesNoOthers}
 use Rattle.walrus_module.specs.Spelled.{IsWritten}
 use Rattle.walrus_module.proofs.Turns.{map_snoc}
-
-pub no_others_of : (indices : IdsToIndices) → NamesNoOthers (index_of indices)
-no_others_of indices Types no_type no_function n = absurd (no_type refl)
-no_others_of indices Functions no_type no_function n = absurd (no_function refl)
-no_others_of indices Tables no_type no_function n = refl
-no_others_of indices Memories no_type no_function n = refl
-no_others_of indices Tags no_type no_function n = refl
-no_others_of indices Globals no_type no_function n = refl
-no_others_of indices Elements no_type no_function n = refl
-no_others_of indices DataSegments no_type no_function n = refl
 
 pub zip_seen : {A B C D : Type 0} (f : A → C) (g : B → D) (R : C → D → Type 0) (xs : List A) (ys : List B) → AllZip (λ x y. R (f x) (g y)) xs ys → AllZip R (map f xs) (map g ys)
 zip_seen f g R [] [] h = tt

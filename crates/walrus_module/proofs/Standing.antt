@@ -1,22 +1,22 @@
 -- Where the items of an arena stand among its entries, and its functions in the order in which they are written.
 use Rattle.std.proofs.Common.{◌≡◌, ℕ, zero, suc, ◌+◌, ◌<◌, Bool, true, false, List, [], ◌∷◌, ◌++◌, length, map, get_or, refl, sym, ap, ap₂, subst, ◌∙◌, arith}
-use Rattle.std.specs.Prelude.{Option, Some, None, Contains, slice_get, zip, option_map, ◌&&◌}
+use Rattle.std.specs.Prelude.{Option, Some, None, Contains, slice_get, option_map, ◌&&◌}
 use Rattle.std.specs.List.{list_all}
 use Rattle.std.specs.Option.{option_to_list}
 use Rattle.std.proofs.lemmas.List.Sorted.{Contains-permutation}
 use Rattle.walrus_base.specs.Arena.{item_at, entries, entries_from, items}
-use Rattle.walrus_ir.specs.declared.function.LocalFunction.{LocalFunction}
+use Rattle.walrus_code.specs.declared.function.LocalFunction.{LocalFunction}
 use Rattle.walrus_items.specs.Functions.{FunctionValue, local_functions, local_at}
 use Rattle.walrus_items.specs.declared.functions.FunctionKind.{FunctionKind}
 use Rattle.walrus_items.specs.declared.functions.FunctionKind.TheVariants as kind
 use Rattle.walrus_model.proofs.Lists.{Contains-map, Contains-head, Contains-append_2}
-use Rattle.walrus_model.specs.Shape.{place_in}
+use Rattle.walrus_types.specs.Shape.{place_in}
 use Rattle.walrus_module.specs.Sizes.{local_sizes, IsOrder}
 use Rattle.walrus_module.specs.Whole.{is_local, all_local}
 use Rattle.walrus_module.proofs.Differ.{places_differ, order_differs}
 use Rattle.walrus_module.proofs.Leads.{stands_at}
 use Rattle.walrus_module.proofs.Named.{some_inj}
-use Rattle.walrus_module.proofs.Parsing.{got_map}
+use Rattle.walrus_module.proofs.Lookups.{got_map}
 
 -- ---- lists
 
@@ -24,12 +24,6 @@ got_there : {A : Type 0} (xs : List A) (x : A) (k : ℕ) → k < length xs → g
 got_there [] x k lt e = absurd (omega (arith, lt))
 got_there (y ∷ xs) x zero lt e = ap (λ z. Some z) e
 got_there (y ∷ xs) x (suc k) lt e = got_there xs x k (omega (arith, lt)) e
-
-pub got_both : {A B : Type 0} (xs : List A) (ys : List B) (k : ℕ) (x : A) (y : B) → slice_get xs k ≡ Some x → slice_get ys k ≡ Some y → slice_get (zip xs ys) k ≡ Some (x, y)
-got_both [] ys k x y e h = absurd (cc)
-got_both (a ∷ xs) [] k x y e h = absurd (cc)
-got_both (a ∷ xs) (b ∷ ys) zero x y e h = ap₂ (λ u v. Some (u, v)) (some_inj a x e) (some_inj b y h)
-got_both (a ∷ xs) (b ∷ ys) (suc k) x y e h = got_both xs ys k x y e h
 
 both_true : (a b : Bool) → (a && b) ≡ true → (a ≡ true) × (b ≡ true)
 both_true true b e = (refl, e)

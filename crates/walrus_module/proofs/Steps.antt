@@ -1,38 +1,21 @@
--- The steps over bodies, and what a refusal says.
-use Rattle.std.proofs.Common.{◌≡◌, ℕ, zero, suc, ◌+◌, ◌<◌, ◌≤◌, Bool, true, false, List, [], ◌∷◌, ◌++◌, length, map, take, get_or, refl, sym, ap, subst, ◌∙◌, arith}
-use Rattle.std.specs.Prelude.{Option, Some, None, Result, Ok, Err, All, OnOk, IsOkUnless, IsSome, slice_get, slice_set, zip, nat_lt, if◌then◌else◌}
+-- Lists place by place, the look-ups of indices, and the types that are added.
+use Rattle.std.proofs.Common.{◌≡◌, ℕ, zero, suc, ◌+◌, ◌<◌, ◌≤◌, Bool, true, false, List, [], ◌∷◌, ◌++◌, length, map, take, get_or, refl, sym, ap, ap₂, ◌∙◌, arith}
+use Rattle.std.specs.Prelude.{Option, Some, None, slice_get, zip, nat_lt, option_map, if◌then◌else◌, ◌≢◌}
 use Rattle.std.specs.List.{AllZip, range_with_len}
-use Rattle.std.specs.Global.{Vec}
-use Rattle.std.proofs.lemmas.List.{take_more, map-append, length-map, length-take-le}
-use Rattle.walrus_ir.specs.Body.{BodyReads}
-use Rattle.walrus_ir.specs.Code.{ops_of}
-use Rattle.walrus_ir.specs.Results.{ReadsBody as ReadsResult}
-use Rattle.walrus_ir.specs.declared.operator.Operator.{Operator}
-use Rattle.walrus_ir.specs.declared.error.IrError.{IrError}
-use Rattle.walrus_ir.specs.declared.error.IrError.TheVariants.{Malformed, Memory, NoIndex, NotWritable, TooLarge}
-use Rattle.walrus_parts.specs.Errors.{error_of_ir, out_of_memory}
-use Rattle.walrus_parts.specs.declared.error.Error.{Error}
-use Rattle.walrus_parts.specs.declared.error.Error.TheVariants as Parts
-use Rattle.walrus_base.specs.ModuleTypes.{func_types}
-use Rattle.walrus_base.specs.declared.types.ModuleTypes.{ModuleTypes}
-use Rattle.walrus_items.specs.declared.exports.ModuleExports.{ModuleExports}
-use Rattle.walrus_items.specs.declared.functions.ModuleFunctions.{ModuleFunctions}
-use Rattle.walrus_module.specs.View.{exports_of}
-use Rattle.walrus_module.specs.Sections.{export_record}
-use Rattle.wasm_frames.specs.Record.{body_record}
-use Rattle.wasm_entries.specs.declared.record.RawExport.{RawExport}
-use Rattle.wasm_frames.specs.declared.record.RawBody.{RawBody}
+use Rattle.std.proofs.lemmas.List.{take_more, take_all, map-append}
 use mathlib.Core.Path.{fun_ext}
 use borrow.Author.Tests.{ltb-true, ltb-false}
 use Rattle.walrus_base.specs.Arena.{item_at}
-use Rattle.walrus_ir.specs.Operators.{Space, Types, Functions, Tables, Memories, Tags, Globals, Elements, DataSegments, Op}
-use Rattle.walrus_ir.specs.Names.{Lookup}
-use Rattle.walrus_ir.specs.Indices.{places_in, ids_at}
-use Rattle.walrus_ir.specs.declared.indices.IndicesToIds.{IndicesToIds}
-use Rattle.walrus_model.specs.Reads.{declared, export_of}
-use Rattle.walrus_module.specs.Taken.{empty_body, with_operators, refilled, AreBodies, TakesBodies, TakesSections, type_taken, locals_held}
-use Rattle.walrus_module.proofs.Taking.{get_own, get_past, own_at}
-use Rattle.wasm_frames.specs.Record as wire
+use Rattle.walrus_types.specs.Operators.{Space, Types, Functions, Tables, Memories, Tags, Globals, Elements, DataSegments}
+use Rattle.walrus_types.specs.ModuleTypes.{type_slots}
+use Rattle.walrus_types.specs.TypeDef.{TypeDef}
+use Rattle.walrus_types.specs.declared.module_types.ModuleTypes.{ModuleTypes}
+use Rattle.walrus_code.specs.Indices.{places_in, ids_at}
+use Rattle.walrus_code.specs.declared.indices.IndicesToIds.{IndicesToIds}
+use Rattle.walrus_bodies.specs.FunctionTypes.{is_function_def, is_function_at}
+use Rattle.walrus_model.specs.Reads.{declared, lone_type, types_of, is_function}
+use Rattle.walrus_module.specs.Taken.{taken_types}
+use Rattle.walrus_module.proofs.Taking.{get_own, get_past}
 use Rattle.walrus_model.specs.Handled as handled
 
 -- ---- place by place
@@ -43,11 +26,11 @@ zip_push R [] (b ∷ ys) x y h r = absurd h
 zip_push R (a ∷ xs) [] x y h r = absurd h
 zip_push R (a ∷ xs) (b ∷ ys) x y h r = (h.0, zip_push R xs ys x y h.1 r)
 
-pub zip_at : {A B C : Type 0} (R : C → B → Type 0) (f : A → C) (xs : List A) (ys : List B) (i : ℕ) (d : A) → AllZip R (map f xs) ys → i < length xs → (y : B) × R (f (get_or xs i d)) y
-zip_at R f [] ys i d h lt = absurd (omega arith)
-zip_at R f (a ∷ xs) [] i d h lt = absurd h
-zip_at R f (a ∷ xs) (b ∷ ys) zero d h lt = (b, h.0)
-zip_at R f (a ∷ xs) (b ∷ ys) (suc i) d h lt = zip_at R f xs ys i d h.1 (omega arith)
+pub zip_at : {A B : Type 0} (R : A → B → Type 0) (xs : List A) (ys : List B) (i : ℕ) (d : A) → AllZip R xs ys → i < length xs → (y : B) × R (get_or xs i d) y
+zip_at R [] ys i d h lt = absurd (omega arith)
+zip_at R (a ∷ xs) [] i d h lt = absurd h
+zip_at R (a ∷ xs) (b ∷ ys) zero d h lt = (b, h.0)
+zip_at R (a ∷ xs) (b ∷ ys) (suc i) d h lt = zip_at R xs ys i d h.1 (omega arith)
 
 pub zip_length : {A B : Type 0} (R : A → B → Type 0) (xs : List A) (ys : List B) → AllZip R xs ys → length xs ≡ length ys
 zip_length R [] [] h = refl
@@ -55,34 +38,36 @@ zip_length R [] (b ∷ ys) h = absurd h
 zip_length R (a ∷ xs) [] h = absurd h
 zip_length R (a ∷ xs) (b ∷ ys) h = ap suc (zip_length R xs ys h.1)
 
--- ---- operators put in, function by function
+pub zip_through : {A B : Type 0} (R S : A → B → Type 0) → ((x : A) (y : B) → R x y → S x y) → (xs : List A) (ys : List B) → AllZip R xs ys → AllZip S xs ys
+zip_through R S f [] [] h = tt
+zip_through R S f [] (b ∷ ys) h = absurd h
+zip_through R S f (a ∷ xs) [] h = absurd h
+zip_through R S f (a ∷ xs) (b ∷ ys) h = (f a b h.0, zip_through R S f xs ys h.1)
 
-pub refilled_more : (slots : List (Option (ℕ × List Op))) (ops : List (List Op)) (b : List Op) → length ops < length slots
-    → slice_set (refilled slots ops) (length ops) (with_operators b (item_at (refilled slots ops) (length ops))) ≡ refilled slots (ops ++ b ∷ [])
-refilled_more [] ops b lt = absurd (omega arith)
-refilled_more (s ∷ slots) [] b lt = refl
-refilled_more (s ∷ slots) (o ∷ ops) b lt = ap (λ l. with_operators o s ∷ l) (refilled_more slots ops b (omega arith))
+-- ---- pairs of what stands at one place
 
-live_with : (o : List Op) (s : Option (ℕ × List Op)) → IsSome s → IsSome (with_operators o s)
-live_with o (Some x) h = refl
-live_with o None h = h
+pub pair_at : {A B : Type 0} (xs : List A) (ys : List B) (i : ℕ) (d : A) (e : B) → length ys ≡ length xs → i < length xs → get_or (zip xs ys) i (d, e) ≡ (get_or xs i d, get_or ys i e)
+pair_at [] ys i d e same lt = absurd (omega arith)
+pair_at (x ∷ xs) [] i d e same lt = absurd (omega arith)
+pair_at (x ∷ xs) (y ∷ ys) zero d e same lt = refl
+pair_at (x ∷ xs) (y ∷ ys) (suc i) d e same lt = pair_at xs ys i d e (omega arith) (omega arith)
 
-pub refilled_live : (slots : List (Option (ℕ × List Op))) (ops : List (List Op)) (i : ℕ) → IsSome (item_at slots i) → IsSome (item_at (refilled slots ops) i)
-refilled_live slots [] i h = h
-refilled_live [] (o ∷ ops) i h = h
-refilled_live (s ∷ slots) (o ∷ ops) zero h = live_with o s h
-refilled_live (s ∷ slots) (o ∷ ops) (suc i) h = refilled_live slots ops i h
+pub pairs_long : {A B : Type 0} (xs : List A) (ys : List B) → length ys ≡ length xs → length (zip xs ys) ≡ length xs
+pairs_long [] [] e = refl
+pairs_long [] (y ∷ ys) e = absurd (omega arith)
+pairs_long (x ∷ xs) [] e = absurd (omega arith)
+pairs_long (x ∷ xs) (y ∷ ys) e = ap suc (pairs_long xs ys (omega arith))
 
-pub refilled_all : (ts : List ℕ) (bs : List (List Op)) → length bs ≡ length ts → refilled (map empty_body ts) bs ≡ map Some (zip ts bs)
-refilled_all [] [] e = refl
-refilled_all [] (b ∷ bs) e = absurd (omega arith)
-refilled_all (t ∷ ts) [] e = absurd (omega arith)
-refilled_all (t ∷ ts) (b ∷ bs) e = ap (λ l. Some (t, b) ∷ l) (refilled_all ts bs (omega arith))
+pub pairs_more : {A B : Type 0} (xs : List A) (ys : List B) (i : ℕ) (d : A) (e : B) → length ys ≡ length xs → i < length xs → take (i + 1) (zip xs ys) ≡ take i (zip xs ys) ++ (get_or xs i d, get_or ys i e) ∷ []
+pairs_more xs ys i d e same lt =
+    let long : length (zip xs ys) ≡ length xs = pairs_long xs ys same in
+    let within : i < length (zip xs ys) = omega (arith, long, lt) in
+    take_more (zip xs ys) i (d, e) within ∙ ap (λ p. take i (zip xs ys) ++ p ∷ []) (pair_at xs ys i d e same lt)
 
-pub empty_live : (ts : List ℕ) (i : ℕ) → i < length ts → IsSome (item_at (map empty_body ts) i)
-empty_live [] i lt = absurd (omega arith)
-empty_live (t ∷ ts) zero lt = refl
-empty_live (t ∷ ts) (suc i) lt = empty_live ts i (omega arith)
+pub pairs_all : {A B : Type 0} (xs : List A) (ys : List B) (i : ℕ) → length ys ≡ length xs → length xs ≤ i → take i (zip xs ys) ≡ zip xs ys
+pairs_all xs ys i same le =
+    let long : length (zip xs ys) ≡ length xs = pairs_long xs ys same in
+    take_all i (zip xs ys) (omega (arith, long, le))
 
 -- ---- look-ups by index
 
@@ -90,82 +75,71 @@ below_by : (n i : ℕ) (b : Bool) → nat_lt i n ≡ b → slice_get (range_with
 below_by n i true e = get_own n i (ltb-true i n e)
 below_by n i false e = get_past 0 n i (ltb-false i n e)
 
-names_at : (r : handled.Module) (indices : IndicesToIds) → places_in indices Types ≡ range_with_len 0 (length r.types) → places_in indices Functions ≡ range_with_len 0 (length r.functions)
-    → (space : Space) (i : ℕ) → ids_at indices space i ≡ declared r space i
-names_at r indices e f Types i = ap (λ l. slice_get l i) e ∙ below_by (length r.types) i (nat_lt i (length r.types)) refl
-names_at r indices e f Functions i = ap (λ l. slice_get l i) f ∙ below_by (length r.functions) i (nat_lt i (length r.functions)) refl
-names_at r indices e f Tables i = refl
-names_at r indices e f Memories i = refl
-names_at r indices e f Tags i = refl
-names_at r indices e f Globals i = refl
-names_at r indices e f Elements i = refl
-names_at r indices e f DataSegments i = refl
+nothing_at : (xs : List ℕ) (i : ℕ) → xs ≡ [] → slice_get xs i ≡ None
+nothing_at xs i none = ap (λ (l : List ℕ). slice_get l i) none
 
-pub same_names : (r : handled.Module) (indices : IndicesToIds) → places_in indices Types ≡ range_with_len 0 (length r.types) → places_in indices Functions ≡ range_with_len 0 (length r.functions)
-    → ids_at indices ≡ declared r
-same_names r indices e f = fun_ext (λ space. fun_ext (λ i. names_at r indices e f space i))
+module _ (r : handled.Module) (indices : IndicesToIds) (types : places_in indices Types ≡ range_with_len 0 (length r.types)) (functions : places_in indices Functions ≡ range_with_len 0 (length r.functions))
+    (others : (space : Space) → space ≢ Types → space ≢ Functions → places_in indices space ≡ []) where
+  names_at : (space : Space) (i : ℕ) → ids_at indices space i ≡ declared r space i
+  names_at Types i = ap (λ l. slice_get l i) types ∙ below_by (length r.types) i (nat_lt i (length r.types)) refl
+  names_at Functions i = ap (λ l. slice_get l i) functions ∙ below_by (length r.functions) i (nat_lt i (length r.functions)) refl
+  names_at Tables i = nothing_at (places_in indices Tables) i (others Tables (λ (e : Tables ≡ Types). cc) (λ (e : Tables ≡ Functions). cc))
+  names_at Memories i = nothing_at (places_in indices Memories) i (others Memories (λ (e : Memories ≡ Types). cc) (λ (e : Memories ≡ Functions). cc))
+  names_at Tags i = nothing_at (places_in indices Tags) i (others Tags (λ (e : Tags ≡ Types). cc) (λ (e : Tags ≡ Functions). cc))
+  names_at Globals i = nothing_at (places_in indices Globals) i (others Globals (λ (e : Globals ≡ Types). cc) (λ (e : Globals ≡ Functions). cc))
+  names_at Elements i = nothing_at (places_in indices Elements) i (others Elements (λ (e : Elements ≡ Types). cc) (λ (e : Elements ≡ Functions). cc))
+  names_at DataSegments i = nothing_at (places_in indices DataSegments) i (others DataSegments (λ (e : DataSegments ≡ Types). cc) (λ (e : DataSegments ≡ Functions). cc))
 
--- ---- a body further
+  pub same_names : ids_at indices ≡ declared r
+  same_names = fun_ext (λ space. fun_ext (names_at space))
 
-pub bodies_more : (names : Lookup) (raw : List RawBody) (i : ℕ) (d : RawBody) (ops : List (List Op)) (o : List Op) → AreBodies names (map body_record (take i raw)) ops → i < length raw
-    → BodyReads names (body_record (get_or raw i d)).bytes o → AreBodies names (map body_record (take (i + 1) raw)) (ops ++ o ∷ [])
-bodies_more names raw i d ops o h lt r =
-    let same : map body_record (take i raw) ++ body_record (get_or raw i d) ∷ [] ≡ map body_record (take (i + 1) raw) = sym (map-append body_record (take i raw) (get_or raw i d ∷ [])) ∙ sym (ap (map body_record) (take_more raw i d lt)) in
-    subst (λ (l : List wire.Body). AreBodies names l (ops ++ o ∷ [])) same (zip_push (λ (b : wire.Body) (x : List Op). BodyReads names b.bytes x) (map body_record (take i raw)) ops (body_record (get_or raw i d)) o h r)
+-- an index that is declared leads to its own place
+pub own_index : (n i : ℕ) → i < n → (if nat_lt i n then Some i else None) ≡ Some i
+own_index n i lt = sym (below_by n i (nat_lt i n) refl) ∙ get_own n i lt
 
-pub held_more : (slots now new : List (Option (ℕ × List Op))) (ops : List (List Op)) (o : List Op) (i : ℕ) → now ≡ refilled slots ops → i ≡ length ops → length ops < length slots
-    → new ≡ slice_set now i (with_operators o (item_at now i)) → new ≡ refilled slots (ops ++ o ∷ [])
-held_more slots now new ops o i is at lt set =
-    set ∙ ap (λ l. slice_set l i (with_operators o (item_at l i))) is ∙ ap (λ k. slice_set (refilled slots ops) k (with_operators o (item_at (refilled slots ops) k))) at ∙ refilled_more slots ops o lt
+-- ---- types
 
-pub bodies_count : (names : Lookup) (raw : List RawBody) (i : ℕ) (ops : List (List Op)) → AreBodies names (map body_record (take i raw)) ops → i ≤ length raw → length ops ≡ i
-bodies_count names raw i ops h le =
-    let e : length (map body_record (take i raw)) ≡ length ops = zip_length (λ (b : wire.Body) (x : List Op). BodyReads names b.bytes x) (map body_record (take i raw)) ops h in
-    let f : length (take i raw) ≡ i = length-take-le i raw le in
-    sym e ∙ length-map (take i raw) body_record ∙ f
+pub taken_length : (k : ℕ) (ts : List handled.FuncType) → length (taken_types k ts) ≡ length ts
+taken_length k [] = refl
+taken_length k (t ∷ ts) = ap suc (taken_length (suc k) ts)
 
--- a body that isn't read
-pub body_refused : (names : Lookup) (raw : List RawBody) (i : ℕ) (d : RawBody) (old new : List (Option (ℕ × List Op))) (e : IrError) → i < length raw
-    → ReadsResult {X = Vec Operator} names (λ v. ops_of v.items) (body_record (get_or raw i d)).bytes (Err e) → TakesBodies names (map body_record raw) old new (Err (error_of_ir e))
-body_refused names raw i d old new Malformed lt h = λ ops are.
-    let at = zip_at (λ (b : wire.Body) (x : List Op). BodyReads names b.bytes x) body_record raw ops i d are lt in
-    h at.0 at.1
-body_refused names raw i d old new (Memory m) lt h = tt
-body_refused names raw i d old new NoIndex lt h = absurd h
-body_refused names raw i d old new NotWritable lt h = absurd h
-body_refused names raw i d old new TooLarge lt h = absurd h
+taken_push : (k : ℕ) (ts : List handled.FuncType) (t : handled.FuncType) → taken_types k (ts ++ t ∷ []) ≡ taken_types k ts ++ Some (lone_type (k + length ts) t) ∷ []
+taken_push k [] t = let e : k ≡ k + 0 = omega arith in ap (λ n. Some (lone_type n t) ∷ []) e
+taken_push k (x ∷ ts) t =
+    let e : suc k + length ts ≡ k + suc (length ts) = omega arith in
+    ap (λ l. Some (lone_type k x) ∷ l) (taken_push (suc k) ts t ∙ ap (λ n. taken_types (suc k) ts ++ Some (lone_type n t) ∷ []) e)
 
--- ---- the whole
+pub types_grown : {A : Type 0} (f : A → handled.FuncType) (xs : List A) (i : ℕ) (x : A) (old new : List (Option TypeDef)) → i < length xs → x ≡ get_or xs i x
+    → old ≡ taken_types 0 (map f (take i xs)) → new ≡ old ++ Some (lone_type (length old) (f x)) ∷ [] → new ≡ taken_types 0 (map f (take (i + 1) xs))
+types_grown f xs i x old new lt is before push =
+    let long : length old ≡ length (map f (take i xs)) = ap length before ∙ taken_length 0 (map f (take i xs)) in
+    let n : length old ≡ 0 + length (map f (take i xs)) = omega (arith, long) in
+    let last : Some (lone_type (length old) (f x)) ≡ Some (lone_type (0 + length (map f (take i xs))) (f (get_or xs i x))) = ap₂ (λ k y. Some (lone_type k (f y))) n is in
+    push ∙ ap₂ (λ l y. l ++ y ∷ []) before last ∙ sym (taken_push 0 (map f (take i xs)) (f (get_or xs i x)))
+    ∙ ap (taken_types 0) (sym (map-append f (take i xs) (get_or xs i x ∷ [])) ∙ sym (ap (map f) (take_more xs i x lt)))
 
-pub held_live : (ss : List (Option (ℕ × List Op))) (ts : List ℕ) → ss ≡ map empty_body ts → (i : ℕ) → i < length ss → IsSome (item_at ss i)
-held_live ss ts e i lt =
-    let lt' : i < length ts = omega (arith, ap length e, length-map ts empty_body) in
-    subst (λ (l : List (Option (ℕ × List Op))). IsSome (item_at l i)) (sym e) (empty_live ts i lt')
+taken_at : (k : ℕ) (ts : List handled.FuncType) (i : ℕ) → item_at (taken_types k ts) i ≡ option_map (lone_type (k + i)) (slice_get ts i)
+taken_at k [] i = refl
+taken_at k (t ∷ ts) zero = let e : k ≡ k + 0 = omega arith in ap (λ n. Some (lone_type n t)) e
+taken_at k (t ∷ ts) (suc i) = let e : suc k + i ≡ k + suc i = omega arith in taken_at (suc k) ts i ∙ ap (λ n. option_map (lone_type n) (slice_get ts i)) e
 
-module _ (r : handled.Module) (indices : IndicesToIds) (types : places_in indices Types ≡ range_with_len 0 (length r.types)) (functions : places_in indices Functions ≡ range_with_len 0 (length r.functions)) where
-  pub sections_refused : (l : List RawBody) → map body_record l ≡ r.bodies → (old new : List (Option (ℕ × List Op))) (ts : ModuleTypes) (fs : ModuleFunctions) (es : ModuleExports) (e : Error)
-      → TakesBodies (ids_at indices) (map body_record l) old new (Err e) → TakesSections r ts fs es (Err e)
-  sections_refused l same old new ts fs es (Parts.Memory m) h = tt
-  sections_refused l same old new ts fs es (Parts.InvalidWasm kind) h = λ bodies are.
-      let named : AreBodies (ids_at indices) r.bodies bodies = subst (λ (n : Lookup). AreBodies n r.bodies bodies) (sym (same_names r indices types functions)) are in
-      h bodies (subst (λ (x : List wire.Body). AreBodies (ids_at indices) x bodies) (sym same) named)
-  sections_refused l same old new ts fs es _ h = absurd h
+module _ (r : handled.Module) (ts : ModuleTypes) (typed : type_slots ts ≡ taken_types 0 r.types) where
+  pub type_there : (i : ℕ) → item_at (type_slots ts) i ≡ types_of r i
+  type_there i =
+      let e : 0 + i ≡ i = omega arith in
+      ap (λ (l : List (Option TypeDef)). item_at l i) typed ∙ taken_at 0 r.types i ∙ ap (λ n. option_map (lone_type n) (slice_get r.types i)) e
 
-  pub sections_taken : (l : List RawBody) (x : List RawExport) (slots : List (Option (ℕ × List Op))) (ts : ModuleTypes) (fs : ModuleFunctions) (es : ModuleExports) (u : Unit {0}) (result : Result (Unit {0}) Error)
-      → map body_record l ≡ r.bodies → map export_record x ≡ r.exports → slots ≡ map empty_body r.functions → length r.bodies ≡ length r.functions → func_types ts ≡ map type_taken r.types
-      → TakesBodies (ids_at indices) (map body_record l) slots (locals_held fs) (Ok u)
-      → OnOk result (exports_of es ≡ map export_of (map export_record x)) → IsOkUnless result out_of_memory → TakesSections r ts fs es result
-  sections_taken l x slots ts fs es u (Ok w) same exported empty many typed bodies added fails =
-      let are : AreBodies (ids_at indices) r.bodies bodies.0 = subst (λ (y : List wire.Body). AreBodies (ids_at indices) y bodies.0) same bodies.1 in
-      record {
-        bodies = bodies.0;
-        read = subst (λ (n : Lookup). AreBodies n r.bodies bodies.0) (same_names r indices types functions) are;
-        types = typed;
-        functions = bodies.2 ∙ ap (λ y. refilled y bodies.0) empty ∙ refilled_all r.functions bodies.0 (sym (zip_length (λ (b : wire.Body) (o : List Op). BodyReads (ids_at indices) b.bytes o) r.bodies bodies.0 are) ∙ many);
-        exports = added ∙ ap (map export_of) exported;
-      }
-  sections_taken l x slots ts fs es u (Err e) same exported empty many typed bodies added fails = subst (λ y. TakesSections r ts fs es (Err y)) (sym fails) tt
+  pub same_types : item_at (type_slots ts) ≡ types_of r
+  same_types = fun_ext type_there
 
-  pub exports_named : (x : List RawExport) → map export_record x ≡ r.exports → All (λ e. e.index < length r.functions) r.exports → All (λ e. ids_at indices Functions e.index ≡ Some e.index) (map export_record x)
-  exports_named x same all = λ k d lt.
-      own_at (places_in indices Functions) (length r.functions) (get_or (map export_record x) k d).index functions (subst (λ (y : List handled.Export). All (λ (e : handled.Export). e.index < length r.functions) y) (sym same) all k d lt)
+  pub same_functions : is_function_at ts ≡ is_function r
+  same_functions = fun_ext (λ i. ap is_function_def (type_there i))
+
+lone_is_function : (ts : List handled.FuncType) (i k : ℕ) → i < length ts → is_function_def (option_map (lone_type k) (slice_get ts i)) ≡ true
+lone_is_function [] i k lt = absurd (omega arith)
+lone_is_function (t ∷ ts) zero k lt = refl
+lone_is_function (t ∷ ts) (suc i) k lt = lone_is_function ts i k (omega arith)
+
+-- each type that was declared is a function type
+pub declared_function : (r : handled.Module) (i : ℕ) → i < length r.types → is_function r i ≡ true
+declared_function r i lt = lone_is_function r.types i i lt

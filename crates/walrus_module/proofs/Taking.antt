@@ -1,18 +1,13 @@
 -- What each step of reading adds.
 use Rattle.std.proofs.Common.{◌≡◌, ℕ, zero, suc, ◌+◌, ◌<◌, ◌≤◌, List, [], ◌∷◌, ◌++◌, length, map, take, get_or, refl, sym, ap, ap₂, subst, ◌∙◌, arith}
-use Rattle.std.specs.Prelude.{Option, Some, None, Contains, slice_get, slice_set, All, option_map, option_and_then}
+use Rattle.std.specs.Prelude.{Option, Some, None, Contains, slice_get, All}
 use Rattle.std.specs.List.{range_with_len}
-use Rattle.std.proofs.lemmas.List.{take_more, take_all, map-append, map-set, get_or-map, length-map}
+use Rattle.std.proofs.lemmas.List.{take_more, take_all, map-append, get_or-map, length-map}
 use Rattle.std.proofs.lemmas.List.FromFn.{length-range_with_len, get_or-range_with_len}
-use Rattle.walrus_base.specs.Arena.{entries_from, item_at, items, slots, IsLive}
-use Rattle.walrus_base.specs.FuncTypes.{FuncType}
-use Rattle.walrus_ir.specs.Operators.{Op, Functions}
+use Rattle.walrus_base.specs.Arena.{entries_from, items}
+use Rattle.walrus_types.specs.Operators.{Functions}
 use Rattle.walrus_items.specs.Exports.{ExportValue}
-use Rattle.walrus_items.specs.Functions.{FunctionValue, function_value, functions, with_function}
-use Rattle.walrus_items.specs.declared.functions.Function.{Function}
-use Rattle.walrus_items.specs.declared.functions.ModuleFunctions.{ModuleFunctions}
 use Rattle.walrus_model.specs.Reads.{space_of}
-use Rattle.walrus_module.specs.Taken.{local_of, locals_held, with_operators, type_taken}
 use Rattle.walrus_module.specs.View.{export_of}
 use Rattle.walrus_model.specs.Handled as handled
 
@@ -100,39 +95,10 @@ own_found xs n i p is lt e = some_same p i (e ∙ own_at xs n i is lt)
 pub own_missed : (xs : List ℕ) (n i : ℕ) → xs ≡ range_with_len 0 n → i < n → None ≡ slice_get xs i → ⊥
 own_missed xs n i is lt e = let f : ◌≡◌ {A = Option ℕ} None (Some i) = e ∙ own_at xs n i is lt in cc
 
--- ---- functions
-
-abbrev pub held : Option FunctionValue → Option (ℕ × List Op)
-held slot = option_and_then (λ f. local_of f.kind) slot
-
-pub held_length : (funcs : ModuleFunctions) → length (locals_held funcs) ≡ length (functions funcs)
-held_length funcs = length-map (functions funcs) held
-
 pub item_map : {A B : Type 0} (h : Option A → Option B) → h None ≡ None → (xs : List (Option A)) (i : ℕ) → get_or (map h xs) i None ≡ h (get_or xs i None)
 item_map h e [] i = sym e
 item_map h e (x ∷ xs) zero = refl
 item_map h e (x ∷ xs) (suc i) = item_map h e xs i
-
-pub put_operators : (funcs : ModuleFunctions) (p i : ℕ) (f g : Function) (ops : List Op) → p ≡ i → item_at (functions funcs) p ≡ Some (function_value f)
-    → local_of g.kind ≡ with_operators ops (local_of f.kind)
-    → locals_held (with_function funcs p g) ≡ slice_set (locals_held funcs) i (with_operators ops (item_at (locals_held funcs) i))
-put_operators funcs p i f g ops same at is =
-    let first : functions (with_function funcs p g) ≡ slice_set (functions funcs) p (Some (function_value g)) = map-set (option_map function_value) (slots funcs.arena) p (Some g) in
-    let second : map held (slice_set (functions funcs) p (Some (function_value g))) ≡ slice_set (locals_held funcs) p (local_of g.kind) = map-set held (functions funcs) p (Some (function_value g)) in
-    let there : item_at (locals_held funcs) p ≡ local_of f.kind = item_map held refl (functions funcs) p ∙ ap held at in
-    let whole : locals_held (with_function funcs p g) ≡ slice_set (locals_held funcs) p (with_operators ops (item_at (locals_held funcs) p)) =
-    ap (map held) first ∙ second ∙ ap (λ x. slice_set (locals_held funcs) p x) (is ∙ ap (with_operators ops) (sym there)) in
-    subst (λ k. locals_held (with_function funcs p g) ≡ slice_set (locals_held funcs) k (with_operators ops (item_at (locals_held funcs) k))) same whole
-
-each_live : (ts : List handled.FuncType) (i : ℕ) → i < length ts → IsLive (map type_taken ts) i
-each_live [] i lt = absurd (omega arith)
-each_live (t ∷ ts) zero lt = refl
-each_live (t ∷ ts) (suc i) lt = each_live ts i (omega arith)
-
-pub types_live : (ss : List (Option FuncType)) (ts : List handled.FuncType) → ss ≡ map type_taken ts → (i : ℕ) → i < length ss → IsLive ss i
-types_live ss ts e i lt =
-    let lt' : i < length ts = omega (arith, ap length e, length-map ts type_taken) in
-    subst (λ (l : List (Option FuncType)). IsLive l i) (sym e) (each_live ts i lt')
 
 -- ---- exports
 
@@ -144,3 +110,8 @@ pub exports_push : (old new : List (Option ExportValue)) (v : ExportValue) (e : 
 exports_push old new v e push is =
     let one : export_of v ≡ (record { name = e.name; item = (space_of e.kind, e.index) }) = is ∙ ap (λ s. record { name = e.name; item = (s, e.index) }) (kind_is e.kind) in
     ap (λ l. map export_of (items l)) push ∙ ap (map export_of) (items_push 0 old v) ∙ map-append export_of (items old) (v ∷ []) ∙ ap (λ x. map export_of (items old) ++ x ∷ []) one
+
+-- ---- the end of a count
+
+pub reached : (i n : ℕ) → i ≤ n → n ≤ i → i ≡ n
+reached i n le ge = omega (arith, le, ge)

@@ -1,57 +1,53 @@
--- The module of indices that records make is what a module in memory is written as: the larger functions first, nothing
--- declared beside what is there, and an index for each item that is live.
-use Rattle.std.proofs.Common.{inl, inr, ◌≡◌, ℕ, zero, suc, ◌<◌, ◌≤◌, Bool, true, false, List, [], ◌∷◌, length, get_or, refl, sym, ap, ap₂, ◌∙◌, subst, arith, ⊎_elim}
-use Rattle.std.specs.Prelude.{Option, Some, None, IsSome, Contains, slice_get, unwrap_or, option_map, option_and_then, nat_lt, ◌⊎◌}
-use Rattle.std.specs.List.{AllZip}
+-- The module of indices that records make is what a module in memory is written as: the larger functions first, no function that is
+-- left to be declared, and an index for each item that is live.
+use Rattle.std.proofs.Common.{inl, inr, ◌≡◌, ℕ, zero, suc, ◌<◌, ◌≤◌, Bool, true, false, List, [], ◌∷◌, length, get_or, refl, sym, ap, ap₂, ◌∙◌, subst, arith}
+use Rattle.std.specs.Prelude.{Option, Some, None, IsSome, unwrap_or, option_map, nat_lt, ◌⊎◌, AllPairs, Contains, ◌↔◌}
 use Rattle.std.specs.Cmp.{IsTotalOrder}
 use Rattle.std.specs.Ordering.{nat_cmp, ordering_then, is_lt}
 use Rattle.std.specs.declared.cmp.Ordering.{Ordering}
 use Rattle.std.specs.declared.cmp.Ordering.TheVariants.{Less, Equal}
 use Rattle.std.proofs.lemmas.Bool.{ltb-true, ltb-false}
 use Rattle.std.proofs.lemmas.Cmp.{nat_cmp_total, on_total, back_total, then_total}
-use Rattle.std.proofs.lemmas.Option.{some_pair_parts}
 use Rattle.std.proofs.lemmas.List.{length-map}
 use Rattle.std.proofs.lemmas.List.MinMax.{ranks_by}
 use Rattle.std.proofs.lemmas.List.Sorted.{sorted_far}
 use Rattle.std.specs.Cmp.{nat_cmp_is}
 use Rattle.walrus_base.specs.Arena.{item_at, items}
-use Rattle.walrus_base.specs.ModuleTypes.{func_types}
-use Rattle.walrus_base.specs.declared.locals.ModuleLocals.{ModuleLocals}
-use Rattle.walrus_base.specs.declared.types.ModuleTypes.{ModuleTypes}
-use Rattle.walrus_ir.specs.Body.{is_plain, is_end, is_body}
-use Rattle.walrus_ir.specs.Code.{op_of}
-use Rattle.walrus_ir.specs.Function.{body_of as ops_in}
-use Rattle.walrus_ir.specs.Operators.{Space, Types, Functions, Tables, Memories, Tags, Globals, Elements, DataSegments, Op}
-use Rattle.walrus_ir.specs.declared.function.LocalFunction.{LocalFunction}
+use Rattle.walrus_types.specs.declared.locals.ModuleLocals.{ModuleLocals}
+use Rattle.walrus_types.specs.declared.module_types.ModuleTypes.{ModuleTypes}
+use Rattle.walrus_types.specs.Operators.{Space, Types, Functions, Tables, Memories, Tags, Globals, Elements, DataSegments}
+use Rattle.walrus_code.specs.Code.{op_of}
+use Rattle.walrus_code.specs.Function.{body_of as ops_in}
+use Rattle.walrus_bodies.specs.declared.features.Features.{Features}
 use Rattle.walrus_items.specs.Exports.{exports}
-use Rattle.walrus_items.specs.Functions.{FunctionValue, functions, local_at}
+use Rattle.walrus_items.specs.Functions.{FunctionValue, functions}
 use Rattle.walrus_items.specs.declared.exports.ModuleExports.{ModuleExports}
 use Rattle.walrus_items.specs.declared.functions.FunctionKind.{FunctionKind}
 use Rattle.walrus_items.specs.declared.functions.ModuleFunctions.{ModuleFunctions}
-use Rattle.walrus_model.specs.Abstract.{Abstract, Body, Function, LocalFunction as with_body}
-use Rattle.walrus_model.specs.Carried.{Carried}
+use Rattle.walrus_model.specs.Abstract.{Abstract, Function, LocalFunction as with_body}
 use Rattle.walrus_model.specs.Config.{Config}
 use Rattle.walrus_model.specs.Customs.{AreIndices}
-use Rattle.walrus_model.specs.Declared.{ref_func, IsRefInBody, IsRefInGlobal, IsUndeclared, Declares}
+use Rattle.walrus_model.specs.Declared.{IsUndeclared, Declares}
 use Rattle.walrus_model.specs.Kept.{IsImportOf}
 use Rattle.walrus_model.specs.Live.{IsLive}
-use Rattle.walrus_model.specs.Names.{body_of, body_of_function, own_name, WritesNames}
+use Rattle.walrus_model.specs.Names.{own_name, WritesNames}
 use Rattle.walrus_model.specs.Order.{Rises, ByImport, FunctionsByImport, LargerFirst}
-use Rattle.walrus_model.specs.Out.{IsTheSegment, Written}
+use Rattle.walrus_model.specs.Out.{Written}
+use Rattle.walrus_model.specs.Placed.{Placed}
 use Rattle.walrus_model.specs.Producers.{if_written}
-use Rattle.walrus_model.specs.Reads.{Reads}
+use Rattle.walrus_model.specs.Reads.{features_of}
 use Rattle.walrus_model.specs.Renaming.{Renaming}
-use Rattle.walrus_model.specs.Rules.{Holds}
 use Rattle.walrus_model.specs.Same.{BothAnd}
-use Rattle.walrus_model.proofs.Lists.{Contains-uncons, Contains-none}
-use Rattle.walrus_module.specs.Emitted.{IsEmitted}
-use Rattle.walrus_module.specs.Parts.{HasBytes, local_in}
+use Rattle.walrus_model.proofs.Lists.{Contains-none}
+use Rattle.walrus_module.specs.Emitted.{IsEmitted, NamesDiffer}
 use Rattle.walrus_module.specs.Sizes.{by_size}
 use Rattle.walrus_module.specs.Spells.{Records, Spells}
-use Rattle.walrus_module.specs.View.{type_def, body, function, kind_of, view_of}
-use Rattle.walrus_module.proofs.InOrder.{both, StandsIn, stands_in, function_there, type_named, type_there}
-use Rattle.walrus_module.proofs.Parsing.{none_there, still_some}
-use Rattle.walrus_module.proofs.PlacedLemmas.{placed_as_spelled}
+use Rattle.walrus_module.specs.View.{body, function, kind_of, view_of}
+use Rattle.walrus_module.proofs.CarriedOver.{held_of, carried_over}
+use Rattle.walrus_module.proofs.InOrder.{StandsIn, stands_in, function_there, type_named, type_there}
+use Rattle.walrus_module.proofs.Lookups.{none_there, was_some, still_some}
+use Rattle.walrus_module.proofs.ReadBack.{reads_back, holds_back}
+use Rattle.walrus_module.proofs.RefsCarried.{none_undeclared_in}
 use Rattle.walrus_module.proofs.WrittenAs.{written_as, renaming_of}
 
 -- ---- the larger one first
@@ -69,33 +65,7 @@ larger_less m n i j (inr (e, h)) =
     ap (λ (o : Ordering). is_lt (ordering_then o (nat_cmp i j))) (sym (nat_cmp_is n m Equal (sym e)))
     ∙ ap (λ (o : Ordering). is_lt o) (sym (nat_cmp_is i j Less h))
 
--- ---- no body names a function but by a call
-
-not_plain : (f : ℕ) (o : Op) → o ≡ ref_func f → is_plain o ≡ true → ⊥
-not_plain f o e h = none_there (subst (λ (p : Op). is_plain p ≡ true) e h)
-
-not_end : (f : ℕ) (o : Op) → o ≡ ref_func f → is_end o ≡ true → ⊥
-not_end f o e h = none_there (subst (λ (p : Op). is_end p ≡ true) e h)
-
-no_ref : (f : ℕ) (ops : List Op) → is_body ops ≡ true → Contains ops (ref_func f) → ⊥
-no_ref f [] h c = none_there h
-no_ref f (o ∷ []) h c = ⊎_elim (λ (e : o ≡ ref_func f). not_end f o e h) (λ (d : Contains [] (ref_func f)). Contains-none (ref_func f) d) (Contains-uncons o (ref_func f) [] c)
-no_ref f (o ∷ p ∷ rest) h c =
-    let parts = both (is_plain o) (is_body (p ∷ rest)) h in
-    ⊎_elim (λ (e : o ≡ ref_func f). not_plain f o e parts.0) (λ (d : Contains (p ∷ rest) (ref_func f)). no_ref f (p ∷ rest) parts.1 d) (Contains-uncons o (ref_func f) (p ∷ rest) c)
-
 -- ---- look-ups
-
-zip_at : {A B : Type 0} (R : A → B → Type 0) (xs : List A) (ys : List B) (k : ℕ) (x : A) → AllZip R xs ys → slice_get xs k ≡ Some x → (y : B) × R x y
-zip_at R [] [] k x h e = cc
-zip_at R [] (y ∷ ys) k x h e = absurd h
-zip_at R (z ∷ xs) [] k x h e = absurd h
-zip_at R (z ∷ xs) (y ∷ ys) zero x h e = let p : z ≡ x = cc in (y, subst (λ w. R w y) p h.0)
-zip_at R (z ∷ xs) (y ∷ ys) (suc k) x h e = zip_at R xs ys k x h.1 e
-
-was_there : {A B : Type 0} (f : A → B) (o : Option A) → IsSome (option_map f o) → IsSome o
-was_there f (Some x) h = refl
-was_there f None h = absurd (none_there h)
 
 found : (o : Option ℕ) → IsSome o → o ≡ Some (unwrap_or o 0)
 found (Some k) h = refl
@@ -105,7 +75,7 @@ nothing_by : (o : Option ℕ) → ((k : ℕ) → o ≡ Some k → ⊥) → o ≡
 nothing_by (Some k) h = absurd (h k refl)
 nothing_by None h = refl
 
-module _ (types : ModuleTypes) (all : ModuleLocals) (funcs : ModuleFunctions) (es : ModuleExports) (r : Records (func_types types) (functions funcs) (items (exports es))) where
+module _ (types : ModuleTypes) (all : ModuleLocals) (funcs : ModuleFunctions) (es : ModuleExports) {features : Features} (r : Records (held_of types all funcs) features (items (exports es))) where
   abbrev pub V : Abstract
   V = view_of types all funcs es
 
@@ -114,7 +84,7 @@ module _ (types : ModuleTypes) (all : ModuleLocals) (funcs : ModuleFunctions) (e
 
   -- a function that is live has a body, and stands in the order
   stands : (i : ℕ) → IsLive V (Functions, i) → StandsIn r i
-  stands i live = stands_in r i (was_there (function all) (item_at (functions funcs) i) live)
+  stands i live = let v = was_some (function all) (item_at (functions funcs) i) live in stands_in r i (subst (λ o. IsSome o) (sym v.1) (refl {A = Bool} {a = true}))
 
   kind_at : (i : ℕ) (s : StandsIn r i) → option_map (λ f. f.kind) (V.functions i) ≡ Some (with_body (body all s.local))
   kind_at i s =
@@ -163,43 +133,22 @@ module _ (types : ModuleTypes) (all : ModuleLocals) (funcs : ModuleFunctions) (e
   pub rises : Rises (IsLive V) (ByImport V) (renaming_of r) (IsImportOf (IsLive V) V)
   rises = record { items = items_rise; imports = λ i j k l less. absurd (no_import i k) }
 
-  -- ---- nothing is declared
+  -- ---- nothing is left to be declared
 
-  body_at : (i : ℕ) (s : StandsIn r i) → body_of V i ≡ Some (body all s.local)
-  body_at i s =
-      ap (λ (o : Option FunctionValue). body_of_function (option_map (function all) o)) s.is
-      ∙ ap (λ (k : FunctionKind). body_of_function (Some (record { ty = 0; kind = kind_of all k }))) s.kind_is
-
-  writable : (i : ℕ) (s : StandsIn r i) → is_body (ops_in s.local) ≡ true
-  writable i s =
-      let z = zip_at (HasBytes (functions funcs) r.names) r.order r.bodies s.index i r.bodies_are s.stands in
-      let here : local_in (functions funcs) i ≡ Some (i, s.local) =
-      ap (option_and_then (λ (f : FunctionValue). local_at i f.kind)) s.is ∙ ap (local_at i) s.kind_is in
-      let both_are : Some (i, z.1.local) ≡ Some (i, s.local) = sym z.1.is ∙ here in
-      let same : z.1.local ≡ s.local = (some_pair_parts i i z.1.local s.local both_are).1 in
-      subst (λ (f : LocalFunction). is_body (ops_in f) ≡ true) same z.1.emitted.writable
-
-  no_ref_in_body : (f : ℕ) → IsRefInBody (IsLive V) V f → ⊥
-  no_ref_in_body f (i, b, live, is, at) =
-      let s = stands i live in
-      let e : Some (body all s.local) ≡ Some b = sym (body_at i s) ∙ is in
-      let same : body all s.local ≡ b = cc in
-      no_ref f (ops_in s.local) (writable i s) (subst (λ (c : Body). Contains c.operators (ref_func f)) (sym same) at)
-
-  no_undeclared : (f : ℕ) → IsUndeclared (IsLive V) V f → ⊥
-  no_undeclared f u = ⊎_elim (λ (h : IsRefInBody (IsLive V) V f). no_ref_in_body f h) (λ (h : IsRefInGlobal (IsLive V) V f). none_there h.3) u.named
-
-  pub declares : Declares (IsLive V) (renaming_of r) V (written_as r) None
-  declares = record {
+  declares : ((f : ℕ) → IsUndeclared (IsLive V) V f → ⊥) → Declares (IsLive V) (renaming_of r) V (written_as r) None
+  declares no_undeclared = record {
     functions = [];
-    undeclared = record { rising = λ i j d less at. absurd (omega arith); are = λ f. (λ at. absurd (Contains-none f at), λ u. absurd (no_undeclared f u)) };
+    undeclared = record {
+      rising = λ i j d h within. absurd (omega (arith, within));
+      are = λ f. (λ (n : Contains [] f). absurd (Contains-none f n), λ (u : IsUndeclared (IsLive V) V f). absurd (no_undeclared f u));
+    };
     declared = refl;
   }
 
   -- ---- an index for each item that is live
 
   type_indexed : (i : ℕ) → IsLive V (Types, i) → r.names Types i ≡ Some (R.numbers Types i)
-  type_indexed i live = found (r.names Types i) (type_named r i (was_there (type_def i) (item_at (func_types types) i) live))
+  type_indexed i live = found (r.names Types i) (type_named r i live)
 
   function_indexed : (i : ℕ) → IsLive V (Functions, i) → r.names Functions i ≡ Some (R.numbers Functions i)
   function_indexed i live = let s = stands i live in s.named ∙ ap (λ (k : ℕ). Some k) (numbered i s)
@@ -215,7 +164,7 @@ module _ (types : ModuleTypes) (all : ModuleLocals) (funcs : ModuleFunctions) (e
   live_indexed DataSegments i live = absurd (none_there live)
 
   dead_unnamed : (space : Space) (i : ℕ) → (IsLive V (space, i) → ⊥) → r.names space i ≡ None
-  dead_unnamed Types i dead = nothing_by (r.names Types i) (λ k e. dead (still_some (type_def i) (item_at (func_types types) i) (type_there r i k e)))
+  dead_unnamed Types i dead = nothing_by (r.names Types i) (λ k e. dead (type_there r i k e))
   dead_unnamed Functions i dead = nothing_by (r.names Functions i) (λ k e. dead (still_some (function all) (item_at (functions funcs) i) (function_there r i k e)))
   dead_unnamed Tables i dead = r.no_others Tables (λ h. cc) (λ h. cc) i
   dead_unnamed Memories i dead = r.no_others Memories (λ h. cc) (λ h. cc) i
@@ -229,17 +178,20 @@ module _ (types : ModuleTypes) (all : ModuleLocals) (funcs : ModuleFunctions) (e
 
 -- ---- what is written
 
-pub written_lem : (c : Config) → c.writes_names ≡ false → c.writes_producers ≡ false → (types : ModuleTypes) (all : ModuleLocals) (funcs : ModuleFunctions) (es : ModuleExports) (r : Records (func_types types) (functions funcs) (items (exports es)))
-    → Carried (IsLive (view_of types all funcs es)) (IsTheSegment None) (renaming_of r) (view_of types all funcs es) (written_as r) → Written c (view_of types all funcs es) (written_as r)
-written_lem c no_names no_producers types all funcs es r carried =
+-- A module in memory is written as this, where each function that ref.func names in a body is exported: nothing else is written so far
+-- that would declare it.
+pub written_lem : (c : Config) → c.writes_names ≡ false → c.writes_producers ≡ false → (types : ModuleTypes) (all : ModuleLocals) (funcs : ModuleFunctions) (es : ModuleExports)
+    → ((f : ℕ) → IsUndeclared (IsLive (view_of types all funcs es)) (view_of types all funcs es) f → ⊥)
+    → (r : Records (held_of types all funcs) (features_of c) (items (exports es))) → Written c (view_of types all funcs es) (written_as r)
+written_lem c no_names no_producers types all funcs es no_undeclared r =
     let v : Abstract = view_of types all funcs es in
     record {
       renaming = renaming_of r;
       segment = None;
       indices = λ x. r.names x.0 x.1;
-      carried = carried;
+      carried = carried_over types all funcs es (features_of c) r;
       rises = rises types all funcs es r;
-      declares = declares types all funcs es r;
+      declares = declares types all funcs es r no_undeclared;
       names = subst (λ b. WritesNames b (own_name v) (IsLive v) (renaming_of r) v (written_as r)) (sym no_names) (λ y. refl);
       producers = sym (ap (λ b. if_written b []) no_producers);
       indexed = indexed types all funcs es r;
@@ -247,12 +199,13 @@ written_lem c no_names no_producers types all funcs es r carried =
     }
 
 -- what is spelled is what emission promises
-pub emitted_lem : (c : Config) (types : ModuleTypes) (all : ModuleLocals) (funcs : ModuleFunctions) (es : ModuleExports) (bytes : List ℕ) (s : Spells (func_types types) (functions funcs) (items (exports es)) bytes)
-    → Reads c bytes (written_as s.records) → Holds (written_as s.records) → Written c (view_of types all funcs es) (written_as s.records) → IsEmitted c (view_of types all funcs es) bytes
-emitted_lem c types all funcs es bytes s reads holds written = record {
+pub emitted_lem : (c : Config) → c.writes_names ≡ false → c.writes_producers ≡ false → (types : ModuleTypes) (all : ModuleLocals) (funcs : ModuleFunctions) (es : ModuleExports)
+    → ((f : ℕ) → IsUndeclared (IsLive (view_of types all funcs es)) (view_of types all funcs es) f → ⊥)
+    → NamesDiffer (view_of types all funcs es) → (bytes : List ℕ) → Spells (held_of types all funcs) (features_of c) (items (exports es)) bytes → Placed bytes → IsEmitted c (view_of types all funcs es) bytes
+emitted_lem c no_names no_producers types all funcs es no_undeclared differ bytes s placed = record {
   module_written = written_as s.records;
-  reads = reads;
-  holds = holds;
-  written = written;
-  placed = placed_as_spelled (func_types types) (functions funcs) (items (exports es)) bytes s;
+  reads = reads_back c bytes s (none_undeclared_in (renaming_of s.records) (view_of types all funcs es) (written_as s.records) (carried_over types all funcs es (features_of c) s.records) (λ i. refl) (λ i. refl) no_undeclared);
+  holds = holds_back c s.records differ;
+  written = written_lem c no_names no_producers types all funcs es no_undeclared s.records;
+  placed = placed;
 }

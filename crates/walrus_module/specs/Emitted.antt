@@ -1,25 +1,30 @@
 -- What emission gives, and when it refuses.
-use Rattle.std.specs.Prelude.{ℕ, Bool, true, false, ◌&&◌, List, AllPairs, Option, Some, length, map, ◌≢◌, ◌≡◌, ◌≤◌, ◌^◌, ◌⊎◌, ⊤, Result, Ok, Err}
+use Rattle.std.specs.Prelude.{ℕ, Bool, true, false, List, AllPairs, Contains, Option, Some, length, map, ◌≢◌, ◌≡◌, ◌≤◌, ◌^◌, ◌⊎◌, ⊤, Result, Ok, Err}
 use Rattle.wasm_entries.specs.Record as entries
 use Rattle.wasm_frames.specs.Record as wire
 use Rattle.walrus_base.specs.Arena.{entries, items}
-use Rattle.walrus_base.specs.FuncTypes.{FuncType}
-use Rattle.walrus_ir.specs.Body.{is_body}
-use Rattle.walrus_ir.specs.Function.{body_of}
-use Rattle.walrus_ir.specs.declared.function.LocalFunction.{LocalFunction}
+use Rattle.walrus_base.specs.Types.{ValType}
+use Rattle.walrus_code.specs.Names.{Lookup}
+use Rattle.walrus_code.specs.declared.function.LocalFunction.{LocalFunction}
+use Rattle.walrus_bodies.specs.declared.features.Features.{Features}
+use Rattle.walrus_functions.specs.EmittedBody.{CantBeWritten, HasTooManyLocals}
+use Rattle.walrus_types.specs.Composite.{FunctionType}
+use Rattle.walrus_types.specs.TypeDef.{TypeDef}
 use Rattle.walrus_items.specs.Exports.{ExportValue}
-use Rattle.walrus_items.specs.Functions.{FunctionValue, local_functions}
+use Rattle.walrus_items.specs.Functions.{local_functions}
 use Rattle.walrus_model.specs.Abstract.{Abstract, Export}
 use Rattle.walrus_model.specs.Config.{Config}
 use Rattle.walrus_model.specs.Handled.{widened_type, widened_export}
 use Rattle.walrus_model.specs.Out.{Written}
 use Rattle.walrus_model.specs.Placed.{Placed}
-use Rattle.walrus_model.specs.Reads.{Reads}
+use Rattle.walrus_model.specs.Reads.{Reads, lone_type, value_type}
+use Rattle.walrus_model.specs.Handled as handled
 use Rattle.walrus_model.specs.Rules.{Holds}
-use Rattle.walrus_module.specs.Parts.{local_in, unplaced}
+use Rattle.walrus_module.specs.Parts.{Held, raw_shape, local_in, source, unplaced}
 use Rattle.walrus_module.specs.Spelled.{DoesNotSpell}
 use Rattle.walrus_module.specs.Spells.{Records}
-use Rattle.walrus_module.specs.Whole.{all_whole, all_export_live, all_local}
+use Rattle.walrus_module.specs.References.{refs_are_exported}
+use Rattle.walrus_module.specs.Whole.{all_there, all_local}
 use Rattle.walrus_parts.specs.declared.error.Error.{Error}
 use Rattle.walrus_parts.specs.declared.error.Error.TheVariants.{Memory, DeadItem, NoIndex, NotWritable, TooLarge}
 
@@ -37,32 +42,53 @@ pub record IsEmitted (c : Config) (v : Abstract) (bytes : List ℕ) : Type 0 whe
 
 -- ---- refusals
 
--- all that functions and exports name is there
-abbrev pub all_there : List (Option FuncType) → List (Option FunctionValue) → List ExportValue → Bool
-all_there types funcs exports = all_whole types funcs (items funcs) && all_export_live funcs exports
+-- all that types, functions and exports name is there
+abbrev pub is_there_in : Held → List ExportValue → Bool
+is_there_in h exports = all_there h.types h.slots h.funcs exports
 
--- a function has a body that can't be spelled
-abbrev pub HasUnwritable : List (Option FunctionValue) → Type 0
-HasUnwritable funcs = (number : ℕ) × (local : LocalFunction) × (local_in funcs number ≡ Some (number, local)) × (is_body (body_of local) ≡ false)
+-- a function has a body that can't be spelled, under some indices
+abbrev pub HasUnwritable : Held → Features → Type 0
+HasUnwritable h features = (names : Lookup) × ((number : ℕ) × ((local : LocalFunction) × ((local_in h.funcs number ≡ Some (number, local)) × CantBeWritten (source h names features local))))
+
+-- a function has more than 2 ^ 32 locals
+abbrev pub HasTooManyIn : Held → Features → Type 0
+HasTooManyIn h features = (names : Lookup) × ((number : ℕ) × ((local : LocalFunction) × ((local_in h.funcs number ≡ Some (number, local)) × HasTooManyLocals (source h names features local))))
+
+-- a type isn't a final function type of numbers and vectors, alone in its group
+abbrev pub HasOtherAmong : List (Option TypeDef) → Type 0
+HasOtherAmong types = (t : ℕ) × ((x : TypeDef) × (Contains (entries types) (t, x) × ((f : handled.FuncType) → x ≢ lone_type t f)))
+
+abbrev pub HasOther : Held → Type 0
+HasOther h = HasOtherAmong h.types
 
 -- the records can't be spelled: a count or a size passes 32 bits
-pub record DoesNotFit (types : List (Option FuncType)) (funcs : List (Option FunctionValue)) (exports : List ExportValue) : Type 0 where
-  pub records : Records types funcs exports
+pub record DoesNotFit (h : Held) (features : Features) (exports : List ExportValue) : Type 0 where
+  pub records : Records h features exports
   pub too_large : DoesNotSpell (map widened_type records.raw_types) records.raw_functions (map widened_export records.raw_exports) (map unplaced records.bodies)
 
--- a count or a size passes 32 bits: the types, the functions, or what is written
-abbrev pub PassesLimits : List (Option FuncType) → List (Option FunctionValue) → List ExportValue → Type 0
-PassesLimits types funcs exports = (2 ^ 32 ≤ length (entries types)) ⊎ ((2 ^ 32 ≤ length (local_functions (entries funcs))) ⊎ DoesNotFit types funcs exports)
+-- a count or a size passes 32 bits: the types, the functions, the locals of one, or what is written
+abbrev pub PassesLimits : Held → Features → List ExportValue → Type 0
+PassesLimits h features exports = (2 ^ 32 ≤ length (entries h.types)) ⊎ ((2 ^ 32 ≤ length (local_functions (entries h.funcs))) ⊎ (HasTooManyIn h features ⊎ DoesNotFit h features exports))
 
 -- DeadItem comes exactly where not all is there, and before the refusals behind it, each of which comes with its cause
-abbrev pub RefusesItems : {X : Type 0} → List (Option FuncType) → List (Option FunctionValue) → List ExportValue → Result X Error → Type 0
-RefusesItems types funcs exports (Ok x) = all_there types funcs exports ≡ true
-RefusesItems types funcs exports (Err DeadItem) = all_there types funcs exports ≡ false
-RefusesItems types funcs exports (Err NoIndex) = (all_there types funcs exports ≡ true) × (all_local (items funcs) ≡ false)
-RefusesItems types funcs exports (Err NotWritable) = (all_there types funcs exports ≡ true) × HasUnwritable funcs
-RefusesItems types funcs exports (Err TooLarge) = (all_there types funcs exports ≡ true) × PassesLimits types funcs exports
-RefusesItems types funcs exports (Err (Memory e)) = ⊤
-RefusesItems types funcs exports (Err _) = ⊥
+abbrev pub RefusesItems : {X : Type 0} → Held → Features → List ExportValue → Result X Error → Type 0
+RefusesItems h features exports (Ok x) = is_there_in h exports ≡ true
+RefusesItems h features exports (Err DeadItem) = is_there_in h exports ≡ false
+RefusesItems h features exports (Err NoIndex) = (is_there_in h exports ≡ true) × (all_local (items h.funcs) ≡ false)
+RefusesItems h features exports (Err NotWritable) = (is_there_in h exports ≡ true) × (HasUnwritable h features ⊎ HasOther h)
+RefusesItems h features exports (Err TooLarge) = (is_there_in h exports ≡ true) × PassesLimits h features exports
+RefusesItems h features exports (Err (Memory e)) = ⊤
+RefusesItems h features exports (Err _) = ⊥
+
+-- the same with one more cause behind DeadItem: ref.func names a function that isn't exported
+abbrev pub RefusesDeclared : {X : Type 0} → Held → Features → List ExportValue → Result X Error → Type 0
+RefusesDeclared h features exports (Ok x) = (is_there_in h exports ≡ true) × (refs_are_exported (items h.funcs) exports ≡ true)
+RefusesDeclared h features exports (Err DeadItem) = is_there_in h exports ≡ false
+RefusesDeclared h features exports (Err NoIndex) = (is_there_in h exports ≡ true) × (all_local (items h.funcs) ≡ false)
+RefusesDeclared h features exports (Err NotWritable) = (is_there_in h exports ≡ true) × ((HasUnwritable h features ⊎ HasOther h) ⊎ (refs_are_exported (items h.funcs) exports ≡ false))
+RefusesDeclared h features exports (Err TooLarge) = (is_there_in h exports ≡ true) × ((refs_are_exported (items h.funcs) exports ≡ true) × PassesLimits h features exports)
+RefusesDeclared h features exports (Err (Memory e)) = ⊤
+RefusesDeclared h features exports (Err _) = ⊥
 
 -- ---- refusals of the parts
 
@@ -78,11 +104,36 @@ RefusesCounts types functions (Memory e) = ⊤
 RefusesCounts types functions TooLarge = (2 ^ 32 ≤ types) ⊎ (2 ^ 32 ≤ functions)
 RefusesCounts types functions _ = ⊥
 
+-- value types are spelled: they aren't all numbers and vectors
+abbrev pub RefusesValues : List (ValType ℕ) → Error → Type 0
+RefusesValues types (Memory e) = ⊤
+RefusesValues types NotWritable = (values : List handled.Value) → map value_type values ≢ types
+RefusesValues types _ = ⊥
+
+-- a function type is spelled: what it takes and gives isn't all numbers and vectors
+abbrev pub RefusesShape : FunctionType → Error → Type 0
+RefusesShape shape (Memory e) = ⊤
+RefusesShape shape NotWritable = (f : handled.FuncType) → raw_shape f ≢ shape
+RefusesShape shape _ = ⊥
+
+-- the type at a place is spelled: it isn't such a function type, final, and alone in its group
+abbrev pub RefusesType : ℕ → TypeDef → Error → Type 0
+RefusesType t x (Memory e) = ⊤
+RefusesType t x NotWritable = (f : handled.FuncType) → x ≢ lone_type t f
+RefusesType t x _ = ⊥
+
+-- types are spelled
+abbrev pub RefusesTypes : List (Option TypeDef) → Error → Type 0
+RefusesTypes types (Memory e) = ⊤
+RefusesTypes types NotWritable = HasOtherAmong types
+RefusesTypes types _ = ⊥
+
 -- bodies are spelled
-abbrev pub RefusesBodies : List (Option FunctionValue) → Error → Type 0
-RefusesBodies funcs (Memory e) = ⊤
-RefusesBodies funcs NotWritable = HasUnwritable funcs
-RefusesBodies funcs _ = ⊥
+abbrev pub RefusesBodies : Held → Features → Error → Type 0
+RefusesBodies h features (Memory e) = ⊤
+RefusesBodies h features NotWritable = HasUnwritable h features
+RefusesBodies h features TooLarge = HasTooManyIn h features
+RefusesBodies h features _ = ⊥
 
 -- sections are spelled
 abbrev pub RefusesSections : List entries.Group → List ℕ → List entries.Export → List wire.Body → Error → Type 0

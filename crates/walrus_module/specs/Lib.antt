@@ -3,12 +3,14 @@ pub mod Emitted
 pub mod Entry
 pub mod Flags
 pub mod HandledOnly
+pub mod Held
 pub mod LendsSection
 pub mod Meaning
 pub mod Numbered
 pub mod Parsed
 pub mod Parts
 pub mod Raws
+pub mod References
 pub mod Refused
 pub mod Sections
 pub mod Settings

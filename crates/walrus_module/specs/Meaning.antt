@@ -1,8 +1,8 @@
 -- What a custom section means to gc and to emission, whoever wrote it.
 use Rattle.std.specs.Prelude.{ℕ, Bool, false, List, []}
 use Rattle.std.specs.String.{string_bytes}
-use Rattle.walrus_ir.specs.Operators.{Item}
-use Rattle.walrus_ir.specs.Names.{Lookup}
+use Rattle.walrus_types.specs.Operators.{Item}
+use Rattle.walrus_code.specs.Names.{Lookup}
 use Rattle.walrus_parts.specs.Transform.{Transform}
 use Rattle.walrus_parts.specs.declared.custom.CustomSection.{Ghosts}
 use Rattle.walrus_parts.specs.declared.raw_section.RawCustomSection.{RawCustomSection}

@@ -1,10 +1,10 @@
 -- Which indices are given.
 use Rattle.std.specs.Prelude.{ℕ, List, None, length, ◌≡◌, ◌≢◌}
-use Rattle.walrus_ir.specs.Operators.{Space, Types, Functions}
-use Rattle.walrus_ir.specs.Indices.{index_of, given, SameIn}
-use Rattle.walrus_ir.specs.declared.indices.IdsToIndices.{IdsToIndices}
-use Rattle.walrus_ir.specs.Names.{Lookup}
-use Rattle.walrus_model.specs.Shape.{place_in}
+use Rattle.walrus_types.specs.Operators.{Space, Types, Functions}
+use Rattle.walrus_code.specs.Indices.{index_of, given, SameIn}
+use Rattle.walrus_code.specs.declared.indices.IdsToIndices.{IdsToIndices}
+use Rattle.walrus_code.specs.Names.{Lookup}
+use Rattle.walrus_types.specs.Shape.{place_in}
 
 -- the items at these places are numbered in this order
 pub record AreNumbered (names : Lookup) (types functions : List ℕ) : Type 0 where
@@ -23,9 +23,9 @@ pub record NumbersIn (now : IdsToIndices) (space : Space) (done : List ℕ) : Ty
 -- the types at these places have got their indices, and no others have
 pub record NumbersTypes (old new : IdsToIndices) (places : List ℕ) : Type 0 where
   pub numbered : NumbersIn new Types places
-  pub others : SameIn old new Functions
+  pub others : (space : Space) → space ≢ Types → SameIn old new space
 
 -- the functions at these places have got their indices, and no others have
 pub record NumbersFunctions (old new : IdsToIndices) (places : List ℕ) : Type 0 where
   pub numbered : NumbersIn new Functions places
-  pub others : SameIn old new Types
+  pub others : (space : Space) → space ≢ Functions → SameIn old new space

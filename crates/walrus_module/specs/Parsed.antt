@@ -1,30 +1,38 @@
 -- What parsing gives, and when it refuses.
-use Rattle.std.specs.Prelude.{ℕ, List, ⊤}
+use Rattle.std.specs.Prelude.{ℕ, List, zip, ⊤}
 use Rattle.walrus_model.specs.Abstract.{Abstract}
 use Rattle.walrus_model.specs.Config.{Config}
+use Rattle.walrus_model.specs.Declared.{NothingUndeclared}
 use Rattle.walrus_model.specs.Handled as handled
 use Rattle.walrus_model.specs.Handled.{widened}
 use Rattle.walrus_model.specs.Pipeline.{ParsedAs, IsSimple}
-use Rattle.walrus_model.specs.Reads.{Reads, Accepts, ReadsBody}
+use Rattle.walrus_model.specs.Reads.{Said, Reads, Accepts, ReadsBody, module_of}
 use Rattle.walrus_model.specs.Rules.{Holds}
 use Rattle.std.specs.List.{AllZip}
-use Rattle.walrus_base.specs.declared.types.ModuleTypes.{ModuleTypes}
-use Rattle.walrus_ir.specs.Operators.{Op}
+use Rattle.walrus_types.specs.declared.locals.ModuleLocals.{ModuleLocals}
+use Rattle.walrus_types.specs.declared.module_types.ModuleTypes.{ModuleTypes}
 use Rattle.walrus_items.specs.declared.exports.ModuleExports.{ModuleExports}
 use Rattle.walrus_items.specs.declared.functions.ModuleFunctions.{ModuleFunctions}
-use Rattle.walrus_module.specs.Taken.{HasTaken}
+use Rattle.walrus_module.specs.Refused.{AreWellFormed, AreLone, HasManyLocals}
+use Rattle.walrus_items.specs.Functions.{functions}
+use Rattle.walrus_module.specs.Taken.{HasTaken, IsLocated}
 use Rattle.walrus_module.specs.Sections.{Rules}
 use Rattle.wasm_frames.specs.Frames.{Frames}
 use Rattle.walrus_parts.specs.declared.error.Error.{Error}
 use Rattle.walrus_parts.specs.declared.error.Error.TheVariants.{Memory, InvalidWasm}
 
--- the bytes read as a module that keeps the rules, and v is that module in memory
+-- The bytes read as a module that keeps the rules, and v is that module in memory. Its bodies are well formed, and it can be written: its types
+-- are such as are handled, no segment has to declare what ref.func names, and no function has too many locals.
 pub record IsParsed (c : Config) (bytes : List ℕ) (v : Abstract) : Type 0 where
   pub module_read : Abstract
   pub reads : Reads c bytes module_read
   pub holds : Holds module_read
   pub simple : IsSimple module_read
   pub parsed : ParsedAs module_read v
+  pub bodies : AreWellFormed c v
+  pub types : AreLone v
+  pub references : NothingUndeclared v
+  pub few_locals : HasManyLocals v → ⊥
 
 -- parsing is refused for want of memory, or since the bytes aren't accepted
 abbrev pub RefusesBytes : Config → List ℕ → Error → Type 0
@@ -32,23 +40,30 @@ RefusesBytes c bytes (Memory e) = ⊤
 RefusesBytes c bytes (InvalidWasm kind) = Accepts c bytes → ⊥
 RefusesBytes c bytes _ = ⊥
 
--- the bytes frame sections that keep the rules, and the fields hold them
-pub record TakenFrom (bytes : List ℕ) (ts : ModuleTypes) (funcs : ModuleFunctions) (es : ModuleExports) : Type 0 where
+-- the bytes frame sections, and each operator of the functions is located where it stands in the bytes
+pub record AreLocated (bytes : List ℕ) (funcs : ModuleFunctions) : Type 0 where
   pub sections : handled.Module
   pub framed : Frames bytes (widened sections)
-  pub rules : Rules sections
-  pub taken : HasTaken sections ts funcs es
+  pub located : AllZip IsLocated sections.bodies (functions funcs)
 
--- the bytes frame sections that keep the rules, and each body has operators
-pub record AreModule (bytes : List ℕ) : Type 0 where
+-- the bytes frame sections that keep the rules, and the fields hold them
+pub record TakenFrom (c : Config) (bytes : List ℕ) (ts : ModuleTypes) (all : ModuleLocals) (funcs : ModuleFunctions) (es : ModuleExports) : Type 0 where
   pub sections : handled.Module
   pub framed : Frames bytes (widened sections)
   pub rules : Rules sections
-  pub bodies : List (List Op)
-  pub read : AllZip (ReadsBody sections) sections.bodies bodies
+  pub taken : HasTaken c sections ts all funcs es
+
+-- the bytes frame sections that keep the rules, each body is read, and each function that ref.func names is exported
+pub record AreModule (c : Config) (bytes : List ℕ) : Type 0 where
+  pub sections : handled.Module
+  pub framed : Frames bytes (widened sections)
+  pub rules : Rules sections
+  pub bodies : List Said
+  pub read : AllZip (ReadsBody c sections) (zip sections.functions sections.bodies) bodies
+  pub references : NothingUndeclared (module_of sections bodies)
 
 -- refused for want of memory, or since the bytes are no module
-abbrev pub RefusesModule : List ℕ → Error → Type 0
-RefusesModule bytes (Memory e) = ⊤
-RefusesModule bytes (InvalidWasm kind) = AreModule bytes → ⊥
-RefusesModule bytes _ = ⊥
+abbrev pub RefusesModule : Config → List ℕ → Error → Type 0
+RefusesModule c bytes (Memory e) = ⊤
+RefusesModule c bytes (InvalidWasm kind) = AreModule c bytes → ⊥
+RefusesModule c bytes _ = ⊥

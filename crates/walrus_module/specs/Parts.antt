@@ -1,22 +1,41 @@
 -- What the sections hold that a module is written as.
-use Rattle.std.specs.Prelude.{ℕ, List, Option, Some, IsSome, option_map, option_and_then, map, ◌≡◌}
+use Rattle.std.specs.Prelude.{ℕ, List, Option, Some, option_map, option_and_then, map, ◌≡◌}
 use Rattle.wasm_frames.specs.Record as wire
 use Rattle.walrus_base.specs.Arena.{item_at}
-use Rattle.walrus_base.specs.FuncTypes.{FuncType}
 use Rattle.walrus_base.specs.Id.{place}
-use Rattle.walrus_ir.specs.Operators.{Types}
-use Rattle.walrus_ir.specs.Names.{Lookup, named_ops}
-use Rattle.walrus_ir.specs.Function.{function_type, body_of}
-use Rattle.walrus_ir.specs.Results.{Emitted}
-use Rattle.walrus_ir.specs.declared.function.LocalFunction.{LocalFunction}
+use Rattle.walrus_base.specs.Types.{ValType}
+use Rattle.walrus_types.specs.Composite.{FunctionType}
+use Rattle.walrus_types.specs.Locals.{locals}
+use Rattle.walrus_types.specs.ModuleTypes.{type_slots}
+use Rattle.walrus_types.specs.Operators.{Types}
+use Rattle.walrus_types.specs.TypeDef.{TypeDef}
+use Rattle.walrus_types.specs.declared.locals.ModuleLocals.{ModuleLocals}
+use Rattle.walrus_types.specs.declared.module_types.ModuleTypes.{ModuleTypes}
+use Rattle.walrus_code.specs.Function.{function_type, body_of}
+use Rattle.walrus_code.specs.Names.{Lookup}
+use Rattle.walrus_code.specs.declared.function.LocalFunction.{LocalFunction}
+use Rattle.walrus_bodies.specs.FunctionTypes.{is_function_def}
+use Rattle.walrus_bodies.specs.declared.features.Features.{Features}
+use Rattle.walrus_functions.specs.EmittedBody.{Source, BodyWritten, LacksAnIndex, types_of as local_types}
 use Rattle.walrus_items.specs.Exports.{ExportValue, exported}
-use Rattle.walrus_items.specs.Functions.{FunctionValue, local_at}
+use Rattle.walrus_items.specs.Functions.{FunctionValue, functions, local_at}
+use Rattle.walrus_items.specs.declared.functions.ModuleFunctions.{ModuleFunctions}
 use Rattle.walrus_model.specs.Handled as handled
 use Rattle.walrus_model.specs.Reads.{value_type}
 
 -- a function type as it is read
-abbrev pub raw_shape : handled.FuncType → FuncType
+abbrev pub raw_shape : handled.FuncType → FunctionType
 raw_shape t = record { params = map value_type t.params; results = map value_type t.results }
+
+-- what a module holds that bodies are written by: the types, the types of locals, and the functions, by their places
+pub record Held : Type 0 where
+  pub types : List (Option TypeDef)
+  pub slots : List (Option (ValType ℕ))
+  pub funcs : List (Option FunctionValue)
+
+-- what these types, locals and functions are
+abbrev pub held_in : ModuleTypes → ModuleLocals → ModuleFunctions → Held
+held_in types all funcs = record { types = type_slots types; slots = local_types (locals all); funcs = functions funcs }
 
 -- the function with a body at a place, with that place, if there is one
 abbrev pub local_in : List (Option FunctionValue) → ℕ → Option (ℕ × LocalFunction)
@@ -30,18 +49,31 @@ type_index funcs names number = option_and_then (λ f. names Types (place (funct
 abbrev pub export_with_index : Lookup → ExportValue → Option handled.Export
 export_with_index names e = option_map (λ index. record { name = e.name; kind = handled.Function; index = index }) (names (exported e.item).0 (exported e.item).1)
 
--- the bytes are the body of the function at a place, under these indices
-pub record HasBytes (funcs : List (Option FunctionValue)) (names : Lookup) (number : ℕ) (bytes : List ℕ) : Type 0 where
-  pub local : LocalFunction
-  pub is : local_in funcs number ≡ Some (number, local)
-  pub emitted : Emitted names (body_of local) bytes
+-- a body to be written, under these indices and with these proposals
+abbrev pub source : Held → Lookup → Features → LocalFunction → Source
+source h names features local = record {
+  names = names;
+  slots = h.slots;
+  def = item_at h.types (place (function_type local));
+  is_function_type = λ t. is_function_def (item_at h.types t);
+  features = features;
+  parameters = map place local.args.items;
+  ops = body_of local;
+}
 
--- a function with a body is at the place, and its type and all that its body names have an index
-pub record IsIndexed (funcs : List (Option FunctionValue)) (names : Lookup) (number : ℕ) : Type 0 where
+-- the bytes are the body of the function at a place, under these indices
+pub record HasBytes (h : Held) (names : Lookup) (features : Features) (number : ℕ) (bytes : List ℕ) : Type 0 where
   pub local : LocalFunction
-  pub is : local_in funcs number ≡ Some (number, local)
-  pub typed : IsSome (names Types (place (function_type local)))
-  pub named : IsSome (named_ops names (body_of local))
+  pub is : local_in h.funcs number ≡ Some (number, local)
+  pub places : List ℕ
+  pub numbers : ℕ → Option ℕ
+  pub written : BodyWritten (source h names features local) bytes places numbers
+
+-- the function at a place has a body, and all that this names has an index
+pub record IsIndexed (h : Held) (names : Lookup) (features : Features) (number : ℕ) : Type 0 where
+  pub local : LocalFunction
+  pub is : local_in h.funcs number ≡ Some (number, local)
+  pub indexed : LacksAnIndex (source h names features local) → ⊥
 
 -- a body's bytes, wherever they lie
 abbrev pub unplaced : List ℕ → wire.Body

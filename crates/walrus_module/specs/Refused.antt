@@ -1,25 +1,28 @@
 -- Why a module in memory can't be written.
-use Rattle.std.specs.Prelude.{ℕ, List, map, length, Some, All, AllPairs, Contains, ◌≡◌, ◌≢◌, ◌<◌, ◌≤◌, ◌^◌, ◌⊎◌, ⊤, Result, Ok, Err}
-use Rattle.walrus_ir.specs.Body.{BodyReads, body_bytes}
-use Rattle.walrus_ir.specs.Names.{Lookup}
-use Rattle.walrus_ir.specs.Operators.{Space, Op}
-use Rattle.walrus_model.specs.Abstract.{Abstract, Body, ImportedFunction, Uninitialised, Function, Export}
+use Rattle.std.specs.Prelude.{ℕ, List, map, length, Some, IsSome, All, AllPairs, Contains, ◌++◌, ◌≡◌, ◌≢◌, ◌<◌, ◌≤◌, ◌^◌, ◌⊎◌, ⊤, Result, Ok, Err}
+use Rattle.walrus_types.specs.Operators.{Space}
+use Rattle.walrus_model.specs.Abstract.{Abstract, TypeDef, Body, ImportedFunction, LocalFunction, Uninitialised, Function, Export}
+use Rattle.walrus_model.specs.BodyText.{BodyText, DeclaresOnce, said, text_bytes}
 use Rattle.walrus_model.specs.Closed.{NamesAreLive}
 use Rattle.walrus_model.specs.Config.{Config}
+use Rattle.walrus_model.specs.Declared.{IsUndeclared}
 use Rattle.walrus_model.specs.Handled as handled
 use Rattle.walrus_model.specs.Handled.{widened}
 use Rattle.walrus_model.specs.Live.{Has, IsLive}
 use Rattle.walrus_model.specs.Names.{body_of}
 use Rattle.walrus_model.specs.Out.{Written}
-use Rattle.walrus_model.specs.Reads.{module_of}
+use Rattle.walrus_model.specs.Reads.{lone_type, module_of}
+use Rattle.walrus_model.specs.Refers.{IsUsed}
+use Rattle.walrus_model.specs.WellMade.{IsWellFormed}
 use Rattle.walrus_module.specs.Parts.{unplaced}
 use Rattle.walrus_module.specs.Spelled.{DoesNotSpell}
 use Rattle.walrus_parts.specs.declared.error.Error.{Error}
 use Rattle.walrus_parts.specs.declared.error.Error.TheVariants.{Memory, DeadItem, NoIndex, NotWritable, TooLarge}
 
--- what items and exports name is there, and each function has an import or a body
+-- what items and exports name is there, the locals that bodies use among it, and each function has an import or a body
 pub record IsThere (v : Abstract) : Type 0 where
   pub written : NamesAreLive v
+  pub locals : (i : ℕ) (b : Body) (x : ℕ) → body_of v i ≡ Some b → IsUsed b x → IsSome (b.local_type x)
   pub exports : (e : Export) → Contains v.exports e → IsLive v e.item
   pub initialised : (i : ℕ) (f : Function) → v.functions i ≡ Some f → f.kind ≢ Uninitialised
 
@@ -27,20 +30,39 @@ pub record IsThere (v : Abstract) : Type 0 where
 abbrev pub HasImported : Abstract → Type 0
 HasImported v = (i : ℕ) × (f : Function) × (p : ℕ) × (v.functions i ≡ Some f) × (f.kind ≡ ImportedFunction p)
 
--- a function has a body that no bytes read as
-abbrev pub HasNoBody : Abstract → Type 0
-HasNoBody v = (i : ℕ) × (b : Body) × (body_of v i ≡ Some b) × ((names : Lookup) (text : List ℕ) → BodyReads names text b.operators → ⊥)
+-- each body is well formed, and a function has one that isn't
+abbrev pub AreWellFormed : Config → Abstract → Type 0
+AreWellFormed c v = (i : ℕ) (f : Function) (b : Body) → v.functions i ≡ Some f → f.kind ≡ LocalFunction b → IsWellFormed c v f.ty b
+
+abbrev pub HasIllFormed : Config → Abstract → Type 0
+HasIllFormed c v = (i : ℕ) × ((f : Function) × ((b : Body) × ((v.functions i ≡ Some f) × (f.kind ≡ LocalFunction b) × (IsWellFormed c v f.ty b → ⊥))))
+
+-- each type is a final function type of numbers and vectors, alone in its group, and one isn't, which can't be written so far
+abbrev pub AreLone : Abstract → Type 0
+AreLone v = (t : ℕ) (x : TypeDef) → v.types t ≡ Some x → (f : handled.FuncType) × (x ≡ lone_type t f)
+
+abbrev pub HasOtherType : Abstract → Type 0
+HasOtherType v = (t : ℕ) × ((x : TypeDef) × ((v.types t ≡ Some x) × ((f : handled.FuncType) → x ≢ lone_type t f)))
+
+-- ref.func names a function that isn't exported: a segment would have to declare it, which can't be written so far
+abbrev pub HasUndeclared : Abstract → Type 0
+HasUndeclared v = (f : ℕ) × IsUndeclared (IsLive v) v f
 
 -- an index space has 2 ^ 32 items or more
 abbrev pub HasTooMany : Abstract → Type 0
 HasTooMany v = (space : Space) × (numbers : List ℕ) × AllPairs (λ i j. i < j) numbers × All (Has v space) numbers × (2 ^ 32 ≤ length numbers)
 
+-- a function has more than 2 ^ 32 parameters and further locals that it uses, which are no parameters
+abbrev pub HasManyLocals : Abstract → Type 0
+HasManyLocals v = (i : ℕ) × ((b : Body) × ((further : List ℕ) × ((body_of v i ≡ Some b) × AllPairs (λ (x : ℕ) (y : ℕ). x ≢ y) further × All (IsUsed b) further × All (λ (x : ℕ). Contains b.parameters x → ⊥) further × (2 ^ 32 < length (b.parameters ++ further)))))
+
 -- the sections of a module of indices, spelled as they are written, have a count or a size past 32 bits
 pub record IsTooLarge (n : Abstract) : Type 0 where
   pub sections : handled.Module
-  pub bodies : List (List Op)
-  pub is : n ≡ module_of sections bodies
-  pub too_large : DoesNotSpell (widened sections).types sections.functions (widened sections).exports (map (λ ops. unplaced (body_bytes ops)) bodies)
+  pub texts : List BodyText
+  pub declared_once : All DeclaresOnce texts
+  pub is : n ≡ module_of sections (map said texts)
+  pub too_large : DoesNotSpell (widened sections).types sections.functions (widened sections).exports (map (λ t. unplaced (text_bytes t)) texts)
 
 -- so has what the module is written as
 abbrev pub WritesTooLarge : Config → Abstract → Type 0
@@ -51,7 +73,7 @@ abbrev pub RefusesToWrite : {X : Type 0} → Config → Abstract → Result X Er
 RefusesToWrite c v (Ok x) = IsThere v
 RefusesToWrite c v (Err DeadItem) = IsThere v → ⊥
 RefusesToWrite c v (Err NoIndex) = IsThere v × HasImported v
-RefusesToWrite c v (Err NotWritable) = IsThere v × HasNoBody v
-RefusesToWrite c v (Err TooLarge) = IsThere v × (HasTooMany v ⊎ WritesTooLarge c v)
+RefusesToWrite c v (Err NotWritable) = IsThere v × (HasIllFormed c v ⊎ (HasOtherType v ⊎ HasUndeclared v))
+RefusesToWrite c v (Err TooLarge) = IsThere v × (HasTooMany v ⊎ (HasManyLocals v ⊎ WritesTooLarge c v))
 RefusesToWrite c v (Err (Memory e)) = ⊤
 RefusesToWrite c v (Err _) = ⊥

@@ -3,44 +3,49 @@ use Rattle.std.specs.Prelude.{ℕ, true, List, Option, Some, All, map, ◌≡◌
 use Rattle.std.specs.List.{AllZip}
 use Rattle.std.specs.Str.{IsUtf8}
 use Rattle.walrus_base.specs.Arena.{entries, items}
-use Rattle.walrus_base.specs.FuncTypes.{FuncType}
-use Rattle.walrus_ir.specs.Names.{Lookup}
+use Rattle.walrus_types.specs.TypeDef.{TypeDef}
+use Rattle.walrus_code.specs.Names.{Lookup}
+use Rattle.walrus_bodies.specs.declared.features.Features.{Features}
 use Rattle.walrus_items.specs.Exports.{ExportValue}
-use Rattle.walrus_items.specs.Functions.{FunctionValue}
 use Rattle.walrus_model.specs.Handled as handled
 use Rattle.walrus_model.specs.Handled.{widened_type, widened_export}
+use Rattle.walrus_model.specs.Reads.{lone_type}
 use Rattle.walrus_module.specs.Numbered.{AreNumbered, NamesNoOthers}
-use Rattle.walrus_module.specs.Parts.{raw_shape, type_index, export_with_index, HasBytes, unplaced}
+use Rattle.walrus_module.specs.Parts.{Held, type_index, export_with_index, HasBytes, unplaced}
 use Rattle.walrus_module.specs.Sizes.{IsOrder}
 use Rattle.walrus_module.specs.Spelled.{IsWritten}
 use Rattle.walrus_module.specs.Whole.{all_local}
 
+-- the entry of the type section is the type at this place
+abbrev pub IsEntry : ℕ × TypeDef → handled.FuncType → Type 0
+IsEntry e t = e.1 ≡ lone_type e.0 t
+
 -- the records, entry by entry, of what a module holds
-pub record Records (types : List (Option FuncType)) (funcs : List (Option FunctionValue)) (exports : List ExportValue) : Type 0 where
+pub record Records (h : Held) (features : Features) (exports : List ExportValue) : Type 0 where
   -- each function has a body
-  pub all_are_local : all_local (items funcs) ≡ true
+  pub all_are_local : all_local (items h.funcs) ≡ true
   -- the functions in the order in which they are written, and the indices of types and functions
   pub order : List ℕ
-  pub ordered : IsOrder funcs order
+  pub ordered : IsOrder h.funcs order
   pub names : Lookup
-  pub numbered : AreNumbered names (map (λ e. e.0) (entries types)) order
+  pub numbered : AreNumbered names (map (λ e. e.0) (entries h.types)) order
   pub no_others : NamesNoOthers names
   -- the entries of the sections
   pub raw_types : List handled.FuncType
-  pub types_are : map raw_shape raw_types ≡ map (λ e. e.1) (entries types)
+  pub types_are : AllZip IsEntry (entries h.types) raw_types
   pub raw_functions : List ℕ
-  pub functions_are : map Some raw_functions ≡ map (type_index funcs names) order
+  pub functions_are : map Some raw_functions ≡ map (type_index h.funcs names) order
   pub raw_exports : List handled.Export
   pub exports_are : map Some raw_exports ≡ map (export_with_index names) exports
   pub texts : All (λ e. IsUtf8 e.name) raw_exports
   pub bodies : List (List ℕ)
-  pub bodies_are : AllZip (HasBytes funcs names) order bodies
+  pub bodies_are : AllZip (HasBytes h names features) order bodies
 
 -- the bytes are the spelling of these records
-pub record Spells (types : List (Option FuncType)) (funcs : List (Option FunctionValue)) (exports : List ExportValue) (bytes : List ℕ) : Type 0 where
-  pub records : Records types funcs exports
+pub record Spells (h : Held) (features : Features) (exports : List ExportValue) (bytes : List ℕ) : Type 0 where
+  pub records : Records h features exports
   pub written : IsWritten (map widened_type records.raw_types) records.raw_functions (map widened_export records.raw_exports) (map unplaced records.bodies) bytes
 
 -- no two byte strings are the spelling of one module's items
 abbrev pub SpelledOnce : Type 0
-SpelledOnce = (types : List (Option FuncType)) (funcs : List (Option FunctionValue)) (exports : List ExportValue) (a b : List ℕ) → Spells types funcs exports a → Spells types funcs exports b → b ≡ a
+SpelledOnce = (h : Held) (features : Features) (exports : List ExportValue) (a b : List ℕ) → Spells h features exports a → Spells h features exports b → b ≡ a

@@ -1,71 +1,76 @@
 -- What the fields of a module hold of the sections that were read.
-use Rattle.std.specs.Prelude.{ℕ, List, [], ◌∷◌, map, zip, Option, Some, None, option_map, option_and_then, length, ◌≡◌, ◌<◌, ◌^◌, Result, Ok, Err}
-use Rattle.std.specs.List.{AllZip}
+use Rattle.std.specs.Prelude.{ℕ, suc, ◌+◌, List, [], ◌∷◌, ◌++◌, map, zip, Option, Some, length, slice_get, ◌≡◌, ◌<◌, ◌^◌, Result, Ok, Err}
+use Rattle.std.specs.List.{AllZip, range_with_len}
+use Rattle.walrus_base.specs.Arena.{item_at}
 use Rattle.walrus_base.specs.Id.{place}
-use Rattle.walrus_base.specs.FuncTypes.{FuncType}
-use Rattle.walrus_base.specs.ModuleTypes.{func_types}
-use Rattle.walrus_base.specs.Locals.{locals}
-use Rattle.walrus_base.specs.declared.locals.ModuleLocals.{ModuleLocals}
-use Rattle.walrus_base.specs.declared.types.ModuleTypes.{ModuleTypes}
-use Rattle.walrus_ir.specs.Operators.{Op}
-use Rattle.walrus_ir.specs.Names.{Lookup}
-use Rattle.walrus_ir.specs.Body.{BodyReads}
-use Rattle.walrus_ir.specs.Function.{function_type, body_of}
+use Rattle.walrus_base.specs.Types.{ValType}
+use Rattle.walrus_types.specs.Locals.{locals}
+use Rattle.walrus_types.specs.ModuleTypes.{type_slots}
+use Rattle.walrus_types.specs.TypeDef.{TypeDef}
+use Rattle.walrus_types.specs.declared.locals.ModuleLocals.{ModuleLocals}
+use Rattle.walrus_types.specs.declared.module_types.ModuleTypes.{ModuleTypes}
+use Rattle.walrus_code.specs.Function.{function_type, body_of}
+use Rattle.walrus_code.specs.declared.function.LocalFunction.{LocalFunction}
+use Rattle.walrus_code.specs.Location.{location, location_at}
+use Rattle.walrus_code.specs.declared.location.InstrLocId.{InstrLocId}
+use Rattle.walrus_bodies.specs.BodyRead.{BodyLocated}
+use Rattle.walrus_bodies.specs.Results.{locations}
+use Rattle.walrus_functions.specs.EmittedBody.{types_of as local_types}
+use Rattle.walrus_functions.specs.Handlers.{params_of}
+use Rattle.walrus_functions.specs.Laws.{moved_op}
+use Rattle.walrus_functions.specs.ReadFunction.{locals_from}
+use Rattle.walrus_bodies.specs.Body.{Context, BodyReads}
 use Rattle.walrus_items.specs.Exports.{exports}
-use Rattle.walrus_items.specs.Functions.{functions}
+use Rattle.walrus_items.specs.Functions.{FunctionValue, functions}
 use Rattle.walrus_items.specs.declared.exports.ModuleExports.{ModuleExports}
-use Rattle.walrus_items.specs.declared.functions.FunctionKind.TheVariants.{Import, Local, Uninitialized}
-use Rattle.walrus_items.specs.declared.functions.FunctionKind.{FunctionKind}
+use Rattle.walrus_items.specs.declared.functions.FunctionKind.TheVariants.{Local}
 use Rattle.walrus_items.specs.declared.functions.ModuleFunctions.{ModuleFunctions}
+use Rattle.walrus_model.specs.Config.{Config}
 use Rattle.walrus_model.specs.Handled as handled
-use Rattle.walrus_model.specs.Reads.{value_type, export_of, ReadsBody}
+use Rattle.walrus_model.specs.Reads.{Said, lone_type, types_of, export_of, ReadsBody}
 use Rattle.walrus_module.specs.View.{exports_of}
+use Rattle.wasm_frames.specs.Record as wire
 use Rattle.walrus_parts.specs.declared.error.Error.{Error}
 use Rattle.walrus_parts.specs.declared.error.Error.TheVariants.{Memory, InvalidWasm}
-use Rattle.wasm_frames.specs.Record as wire
 
--- a type as it was read
-abbrev pub type_taken : handled.FuncType → Option FuncType
-type_taken t = Some (record { params = map value_type t.params; results = map value_type t.results })
+-- types as they were read, from a place on
+abbrev pub taken_types : ℕ → List handled.FuncType → List (Option TypeDef)
+taken_types first [] = []
+taken_types first (t ∷ ts) = Some (lone_type first t) ∷ taken_types (suc first) ts
 
--- a function's type and operators
-abbrev pub local_of : FunctionKind → Option (ℕ × List Op)
-local_of (Local f) = Some (place (function_type f), body_of f)
-local_of (Import i) = None
-local_of (Uninitialized ty) = None
+-- A function of this type, with parameters of these types, holds the body that was read: its parameters are the locals from some place on,
+-- behind them stand the declared ones, and its operators name them there. It has no handlers.
+pub record HoldsBody (slots : List (Option (ValType ℕ))) (ty : ℕ) (params : List (ValType ℕ)) (body : Said) (f : LocalFunction) : Type 0 where
+  pub typed : place (function_type f) ≡ ty
+  pub first : ℕ
+  pub parameters : map place f.args.items ≡ range_with_len first (length params)
+  pub local_types : (x : ℕ) → x < length (params ++ body.0) → item_at slots (first + x) ≡ slice_get (params ++ body.0) x
+  pub operators : body_of f ≡ map (moved_op first) body.1
+  pub handlers : f.handler_types.items ≡ []
 
--- the types and the operators of the functions that have a body, at each place from 0 on
-abbrev pub locals_held : ModuleFunctions → List (Option (ℕ × List Op))
-locals_held funcs = map (option_and_then (λ f. local_of f.kind)) (functions funcs)
+-- a slot holds a function of this type with the body that was read
+pub record HoldsFunction (types : ℕ → Option TypeDef) (slots : List (Option (ValType ℕ))) (f : ℕ × Said) (slot : Option FunctionValue) : Type 0 where
+  pub value : FunctionValue
+  pub is : slot ≡ Some value
+  pub local : LocalFunction
+  pub kind : value.kind ≡ Local local
+  pub body : HoldsBody slots f.0 (params_of (types f.0)) f.1 local
 
--- a function of a type, without operators yet
-abbrev pub empty_body : ℕ → Option (ℕ × List Op)
-empty_body t = Some (t, [])
+-- an operator's location is the place of its first byte in the input
+abbrev pub IsPlace : ℕ → InstrLocId → Type 0
+IsPlace place loc = location loc ≡ location_at place
 
--- the same with these operators
-abbrev pub with_operators : List Op → Option (ℕ × List Op) → Option (ℕ × List Op)
-with_operators ops slot = option_map (λ f. (f.0, ops)) slot
-
--- the first ones with these operators in turn
-abbrev pub refilled : List (Option (ℕ × List Op)) → List (List Op) → List (Option (ℕ × List Op))
-refilled slots [] = slots
-refilled [] (ops ∷ rest) = []
-refilled (slot ∷ slots) (ops ∷ rest) = with_operators ops slot ∷ refilled slots rest
-
--- the bytes of the bodies have these operators
-abbrev pub AreBodies : Lookup → List wire.Body → List (List Op) → Type 0
-AreBodies names bodies ops = AllZip (λ b o. BodyReads names b.bytes o) bodies ops
-
--- taken in: what was held, with the operators of the bodies; refused: the bodies have none, or memory ran out
-abbrev pub TakesBodies : Lookup → List wire.Body → List (Option (ℕ × List Op)) → List (Option (ℕ × List Op)) → Result Unit Error → Type 0
-TakesBodies names bodies old new (Ok u) = (ops : List (List Op)) × AreBodies names bodies ops × (new ≡ refilled old ops)
-TakesBodies names bodies old new (Err (Memory e)) = Unit {0}
-TakesBodies names bodies old new (Err (InvalidWasm kind)) = (ops : List (List Op)) → AreBodies names bodies ops → ⊥
-TakesBodies names bodies old new (Err _) = ⊥
+-- a slot holds a function each operator of which is located where it stands in this body
+pub record IsLocated (body : wire.Body) (slot : Option FunctionValue) : Type 0 where
+  pub value : FunctionValue
+  pub is : slot ≡ Some value
+  pub local : LocalFunction
+  pub kind : value.kind ≡ Local local
+  pub places : BodyLocated IsPlace body.start body.bytes (locations local.operators.items)
 
 -- the fields hold nothing
 pub record AreEmpty (ts : ModuleTypes) (all : ModuleLocals) (funcs : ModuleFunctions) (es : ModuleExports) : Type 0 where
-  pub types : func_types ts ≡ []
+  pub types : type_slots ts ≡ []
   pub locals : locals all ≡ []
   pub functions : functions funcs ≡ []
   pub exports : exports es ≡ []
@@ -75,17 +80,47 @@ pub record FitsIndices (r : handled.Module) : Type 0 where
   pub types : length r.types < 2 ^ 32
   pub functions : length r.functions < 2 ^ 32
 
--- the fields hold these sections, whose bodies have operators
-pub record HasTaken (r : handled.Module) (ts : ModuleTypes) (funcs : ModuleFunctions) (es : ModuleExports) : Type 0 where
-  pub bodies : List (List Op)
-  pub read : AllZip (ReadsBody r) r.bodies bodies
-  pub types : func_types ts ≡ map type_taken r.types
-  pub functions : locals_held funcs ≡ map Some (zip r.functions bodies)
+-- the fields hold these sections, whose bodies say this
+pub record HasTaken (c : Config) (r : handled.Module) (ts : ModuleTypes) (all : ModuleLocals) (funcs : ModuleFunctions) (es : ModuleExports) : Type 0 where
+  pub bodies : List Said
+  pub read : AllZip (ReadsBody c r) (zip r.functions r.bodies) bodies
+  pub types : type_slots ts ≡ taken_types 0 r.types
+  pub functions : AllZip (HoldsFunction (types_of r) (local_types (locals all))) (zip r.functions bodies) (functions funcs)
   pub exports : exports_of es ≡ map export_of r.exports
 
--- taken in: the fields hold the sections; refused: the bodies have no operators, or memory ran out
-abbrev pub TakesSections : handled.Module → ModuleTypes → ModuleFunctions → ModuleExports → Result Unit Error → Type 0
-TakesSections r types funcs es (Ok u) = HasTaken r types funcs es
-TakesSections r types funcs es (Err (Memory e)) = Unit {0}
-TakesSections r types funcs es (Err (InvalidWasm kind)) = (bodies : List (List Op)) → AllZip (ReadsBody r) r.bodies bodies → ⊥
-TakesSections r types funcs es (Err _) = ⊥
+-- taken in: the fields hold the sections; refused: the bodies aren't read, or memory ran out
+abbrev pub TakesSections : Config → handled.Module → ModuleTypes → ModuleLocals → ModuleFunctions → ModuleExports → Result Unit Error → Type 0
+TakesSections c r types all funcs es (Ok u) = HasTaken c r types all funcs es
+TakesSections c r types all funcs es (Err (Memory e)) = Unit {0}
+TakesSections c r types all funcs es (Err (InvalidWasm kind)) = (bodies : List Said) → AllZip (ReadsBody c r) (zip r.functions r.bodies) bodies → ⊥
+TakesSections c r types all funcs es (Err _) = ⊥
+
+-- ---- for the functions inside
+
+-- the bytes of the body of a function of this type say this, as far as the types are known by their places
+abbrev pub SaysUnder : Context → (ℕ → Option TypeDef) → ℕ × wire.Body → Said → Type 0
+SaysUnder c types f said = BodyReads c (locals_from 0 (length (params_of (types f.0)) + length said.0)) f.1.bytes said.0 said.1
+
+-- the body is read, and a slot holds the function
+pub record IsTaken (c : Context) (types : ℕ → Option TypeDef) (slots : List (Option (ValType ℕ))) (f : ℕ × wire.Body) (slot : Option FunctionValue) : Type 0 where
+  pub said : Said
+  pub read : SaysUnder c types f said
+  pub held : HoldsFunction types slots (f.0, said) slot
+
+-- one more slot holds a function that is located in the body
+abbrev pub AddsLocated : wire.Body → (old new : List (Option FunctionValue)) → Type 0
+AddsLocated body old new = (slot : Option FunctionValue) × ((new ≡ old ++ slot ∷ []) × IsLocated body slot)
+
+-- one more slot holds the function; refused: its body isn't read, or memory ran out
+abbrev pub TakesFunction : Context → (ℕ → Option TypeDef) → ℕ × wire.Body → ModuleLocals → (old new : List (Option FunctionValue)) → Result Unit Error → Type 0
+TakesFunction c types f all old new (Ok u) = (slot : Option FunctionValue) × ((new ≡ old ++ slot ∷ []) × IsTaken c types (local_types (locals all)) f slot)
+TakesFunction c types f all old new (Err (Memory e)) = Unit {0}
+TakesFunction c types f all old new (Err (InvalidWasm kind)) = (said : Said) → SaysUnder c types f said → ⊥
+TakesFunction c types f all old new (Err _) = ⊥
+
+-- the slots hold these functions; refused: not all bodies are read, or memory ran out
+abbrev pub TakesFunctions : Context → (ℕ → Option TypeDef) → List (ℕ × wire.Body) → ModuleLocals → ModuleFunctions → Result Unit Error → Type 0
+TakesFunctions c types fs all funcs (Ok u) = AllZip (IsTaken c types (local_types (locals all))) fs (functions funcs)
+TakesFunctions c types fs all funcs (Err (Memory e)) = Unit {0}
+TakesFunctions c types fs all funcs (Err (InvalidWasm kind)) = (bodies : List Said) → AllZip (SaysUnder c types) fs bodies → ⊥
+TakesFunctions c types fs all funcs (Err _) = ⊥

@@ -1,16 +1,18 @@
 -- A module in memory as an abstract module: the number of an item is the place of its id. What isn't read or written so
 -- far is absent: imports, tables, memories, tags, globals, segments, a start function, custom sections, names, producers.
-use Rattle.std.specs.Prelude.{ℕ, true, false, List, [], ◌∷◌, map, Option, None, option_map}
+use Rattle.std.specs.Prelude.{ℕ, Bool, true, false, ◌&&◌, not, List, [], map, filter, length, Option, Some, None, option_map}
+use Rattle.std.specs.List.{range_with_len}
 use Rattle.walrus_base.specs.Arena.{item_at, items}
 use Rattle.walrus_base.specs.Id.{place}
-use Rattle.walrus_base.specs.FuncTypes.{FuncType, val_type}
-use Rattle.walrus_base.specs.ModuleTypes.{func_types}
-use Rattle.walrus_base.specs.Locals.{locals, local_type}
-use Rattle.walrus_base.specs.Types.{Func}
-use Rattle.walrus_base.specs.declared.locals.ModuleLocals.{ModuleLocals}
-use Rattle.walrus_base.specs.declared.types.ModuleTypes.{ModuleTypes}
-use Rattle.walrus_ir.specs.Function.{body_of}
-use Rattle.walrus_ir.specs.declared.function.LocalFunction.{LocalFunction}
+use Rattle.walrus_types.specs.Locals.{locals}
+use Rattle.walrus_types.specs.ModuleTypes.{type_slots}
+use Rattle.walrus_types.specs.Operators.{locals_of}
+use Rattle.walrus_types.specs.PlaceList.{has}
+use Rattle.walrus_types.specs.declared.locals.ModuleLocals.{ModuleLocals}
+use Rattle.walrus_types.specs.declared.module_types.ModuleTypes.{ModuleTypes}
+use Rattle.walrus_code.specs.Function.{body_of}
+use Rattle.walrus_code.specs.declared.function.LocalFunction.{LocalFunction}
+use Rattle.walrus_functions.specs.EmittedBody.{types_of as local_types}
 use Rattle.walrus_items.specs.Exports.{ExportValue, exports, exported}
 use Rattle.walrus_items.specs.Functions.{FunctionValue, functions, kind_type}
 use Rattle.walrus_items.specs.declared.exports.ModuleExports.{ModuleExports}
@@ -20,19 +22,20 @@ use Rattle.walrus_items.specs.declared.functions.ModuleFunctions.{ModuleFunction
 use Rattle.walrus_model.specs.Abstract as abstract
 use Rattle.walrus_module.specs.declared.module.Module.{Module}
 
--- a function type alone in its group, final, with no supertype
-abbrev pub type_def : ℕ → FuncType → abstract.TypeDef
-type_def i t = record { group = i ∷ []; sub = record { is_final = true; supertypes = []; comp = Func t.params t.results } }
-
+-- the type at each place, by its group
 abbrev pub types_of : ModuleTypes → ℕ → Option abstract.TypeDef
-types_of types i = option_map (type_def i) (item_at (func_types types) i)
+types_of types i = item_at (type_slots types) i
 
--- a body with the locals that are its parameters; it declares none beside them so far
+-- the local is used and is no parameter
+abbrev pub is_declared : LocalFunction → ℕ → Bool
+is_declared f x = has (locals_of (body_of f)) x && not (has (map place f.args.items) x)
+
+-- a body with the locals that are its parameters; those that it uses beside them are declared
 abbrev pub body : ModuleLocals → LocalFunction → abstract.Body
 body all f = record {
   parameters = map place f.args.items;
-  local_type = λ x. option_map (λ l. val_type (local_type l)) (item_at (locals all) x);
-  declared = 0;
+  local_type = item_at (local_types (locals all));
+  declared = length (filter (is_declared f) (range_with_len 0 (length (locals all))));
   operators = body_of f;
 }
 
@@ -40,6 +43,16 @@ abbrev pub kind_of : ModuleLocals → FunctionKind → abstract.FunctionKind
 kind_of all (kind.Import i) = abstract.ImportedFunction (place i.«import»)
 kind_of all (kind.Local f) = abstract.LocalFunction (body all f)
 kind_of all (kind.Uninitialized ty) = abstract.Uninitialised
+
+-- the types of the legacy handlers of a function
+abbrev pub kind_handlers : FunctionKind → List ℕ
+kind_handlers (kind.Import i) = []
+kind_handlers (kind.Local f) = map place f.handler_types.items
+kind_handlers (kind.Uninitialized ty) = []
+
+abbrev pub handlers_at : Option FunctionValue → List ℕ
+handlers_at None = []
+handlers_at (Some f) = kind_handlers f.kind
 
 abbrev pub function : ModuleLocals → FunctionValue → abstract.Function
 function all f = record { ty = place (kind_type f.kind); kind = kind_of all f.kind }
@@ -72,7 +85,7 @@ view_of types all funcs es = record {
   named = λ x. [];
   table_segments = λ t e. false;
   memory_segments = λ y d. false;
-  handler_types = λ f. [];
+  handler_types = λ f. handlers_at (item_at (functions funcs) f);
   section_roots = [];
 }
 

@@ -1,23 +1,21 @@
--- Whether all that a module names is there, as a test over its types, functions and exports.
-use Rattle.std.specs.Prelude.{ℕ, Bool, true, false, ◌&&◌, List, Option, is_some}
+-- Whether all that a module names is there, as a test over its types, locals, functions and exports.
+use Rattle.std.specs.Prelude.{ℕ, Bool, true, false, ◌&&◌, List, map, Option, Some, None, is_some}
 use Rattle.std.specs.List.{list_all}
 use Rattle.walrus_base.specs.Arena.{item_at, items}
-use Rattle.walrus_base.specs.FuncTypes.{FuncType}
 use Rattle.walrus_base.specs.Id.{place}
-use Rattle.walrus_ir.specs.Function.{function_type}
-use Rattle.walrus_ir.specs.declared.operator.Arg.{Arg}
-use Rattle.walrus_ir.specs.declared.operator.Arg.TheVariants as arg
-use Rattle.walrus_ir.specs.declared.operator.Args.{Args}
-use Rattle.walrus_ir.specs.declared.operator.Args.TheVariants as args
-use Rattle.walrus_ir.specs.declared.operator.Operator.{Operator}
-use Rattle.walrus_base.specs.ModuleTypes.{func_types}
-use Rattle.walrus_base.specs.declared.types.ModuleTypes.{ModuleTypes}
-use Rattle.walrus_items.specs.Exports.{ExportValue, exports}
+use Rattle.walrus_base.specs.Types.{ValType, val_names, sub_names}
+use Rattle.walrus_types.specs.Locals.{locals}
+use Rattle.walrus_types.specs.ModuleTypes.{type_slots}
+use Rattle.walrus_types.specs.Operators.{Space, Types, Functions, Tables, Memories, Tags, Globals, Elements, DataSegments, Item, type_item, names_of, locals_of}
+use Rattle.walrus_types.specs.TypeDef.{TypeDef}
+use Rattle.walrus_types.specs.declared.locals.ModuleLocals.{ModuleLocals}
+use Rattle.walrus_types.specs.declared.module_types.ModuleTypes.{ModuleTypes}
+use Rattle.walrus_code.specs.Function.{function_type, body_of}
+use Rattle.walrus_functions.specs.EmittedBody.{types_of as local_types}
+use Rattle.walrus_items.specs.Exports.{ExportValue, exported, exports}
 use Rattle.walrus_items.specs.Functions.{FunctionValue, functions}
 use Rattle.walrus_items.specs.declared.exports.ModuleExports.{ModuleExports}
 use Rattle.walrus_items.specs.declared.functions.ModuleFunctions.{ModuleFunctions}
-use Rattle.walrus_items.specs.declared.exports.ExportItem.{ExportItem}
-use Rattle.walrus_items.specs.declared.exports.ExportItem.TheVariants as item
 use Rattle.walrus_items.specs.declared.functions.FunctionKind.{FunctionKind}
 use Rattle.walrus_items.specs.declared.functions.FunctionKind.TheVariants as kind
 
@@ -25,35 +23,52 @@ use Rattle.walrus_items.specs.declared.functions.FunctionKind.TheVariants as kin
 abbrev pub is_there : {T : Type 0} → List (Option T) → ℕ → Bool
 is_there slots number = is_some (item_at slots number)
 
-module _ (funcs : List (Option FunctionValue)) where
-  -- the function that the argument names is there, if it names one
-  abbrev pub names_live : Arg → Bool
-  names_live (arg.Function id) = is_there funcs (place id)
-  names_live (arg.S32 value) = true
+-- the types, the types of locals, and the functions of a module, by their places
+module _ (types : List (Option TypeDef)) (slots : List (Option (ValType ℕ))) (funcs : List (Option FunctionValue)) where
+  -- the item is there; items of other kinds can't be in a module so far
+  abbrev pub is_live : Item → Bool
+  is_live (Types, t) = is_there types t
+  is_live (Functions, f) = is_there funcs f
+  is_live (Tables, i) = false
+  is_live (Memories, i) = false
+  is_live (Tags, i) = false
+  is_live (Globals, i) = false
+  is_live (Elements, i) = false
+  is_live (DataSegments, i) = false
 
-  abbrev pub all_name_live : Args → Bool
-  all_name_live args.None = true
-  all_name_live (args.One a) = names_live a
-  all_name_live (args.Several several) = list_all names_live several.items
+  abbrev pub are_live : List Item → Bool
+  are_live names = list_all is_live names
 
-  abbrev pub are_live : List Operator → Bool
-  are_live operators = list_all (λ o. all_name_live o.args) operators
+  -- the types that a member of a group names are there
+  abbrev pub is_type_whole : TypeDef → Bool
+  is_type_whole x = are_live (map type_item (sub_names x.sub))
 
-  abbrev pub exports_live : ExportItem → Bool
-  exports_live (item.Function id) = is_there funcs (place id)
+  -- a local is there, and the types that its type names are
+  abbrev pub is_val_whole : Option (ValType ℕ) → Bool
+  is_val_whole None = false
+  is_val_whole (Some v) = are_live (map type_item (val_names v))
 
-  abbrev pub all_export_live : List ExportValue → Bool
-  all_export_live exports = list_all (λ e. exports_live e.item) exports
+  abbrev pub is_local_whole : ℕ → Bool
+  is_local_whole x = is_val_whole (item_at slots x)
 
-module _ (types : List (Option FuncType)) (funcs : List (Option FunctionValue)) where
-  -- a function's type is there, and the functions that its body names are; it has an import or a body
+  -- a function's type is there, and so is what its body names; it has an import or a body
   abbrev pub is_whole : FunctionKind → Bool
   is_whole (kind.Import imported) = is_there types (place imported.ty)
-  is_whole (kind.Local local) = is_there types (place (function_type local)) && are_live funcs local.operators.items
+  is_whole (kind.Local local) = is_there types (place (function_type local)) && are_live (names_of (body_of local)) && list_all is_local_whole (locals_of (body_of local))
   is_whole (kind.Uninitialized ty) = false
 
-  abbrev pub all_whole : List FunctionValue → Bool
-  all_whole all = list_all (λ f. is_whole f.kind) all
+  abbrev pub all_types_whole : Bool
+  all_types_whole = list_all is_type_whole (items types)
+
+  abbrev pub all_functions_whole : Bool
+  all_functions_whole = list_all (λ f. is_whole f.kind) (items funcs)
+
+  abbrev pub all_exports_live : List ExportValue → Bool
+  all_exports_live all = are_live (map (λ e. exported e.item) all)
+
+  -- all that types, functions and exports name is there
+  abbrev pub all_there : List ExportValue → Bool
+  all_there all = all_types_whole && all_functions_whole && all_exports_live all
 
 -- the function has a body of its own
 abbrev pub is_local : FunctionKind → Bool
@@ -64,6 +79,6 @@ is_local (kind.Uninitialized ty) = false
 abbrev pub all_local : List FunctionValue → Bool
 all_local all = list_all (λ f. is_local f.kind) all
 
--- each function has an import or a body, and all that functions and exports name is there
-abbrev pub is_all_there : ModuleTypes → ModuleFunctions → ModuleExports → Bool
-is_all_there types funcs all = all_whole (func_types types) (functions funcs) (items (functions funcs)) && all_export_live (functions funcs) (items (exports all))
+-- each function has an import or a body, and all that types, functions and exports name is there
+abbrev pub is_all_there : ModuleTypes → ModuleLocals → ModuleFunctions → ModuleExports → Bool
+is_all_there types all funcs es = all_there (type_slots types) (local_types (locals all)) (functions funcs) (items (exports es))

@@ -2,6 +2,8 @@
 
 ghost use Rattle.std.specs.Prelude.{◌≡◌};
 
+use walrus_ir::Features;
+
 /// What to read and what to write. Made with the defaults by [`ModuleConfig::new`]: names, producers, strict
 /// validation and legacy exceptions are on, all else is off. The setters can be chained.
 #[derive(Clone, Debug, Drop)]
@@ -17,7 +19,8 @@ pub struct ModuleConfig {
 }
 
 impl ModuleConfig {
-    ghost use Rattle.walrus_module.specs.Flags.{flags, defaults, with_dwarf};
+    ghost use Rattle.walrus_model.specs.Reads.{features_of};
+    ghost use Rattle.walrus_module.specs.Flags.{flags, defaults, with_dwarf, config_of};
 
     /// The default configuration.
     pub fn new() -> ModuleConfig
@@ -111,5 +114,15 @@ impl ModuleConfig {
     {
         self.preserve_code_transform = preserve;
         self
+    }
+
+    // The proposals that bodies may use.
+    pub(crate) fn features(&self) -> Features
+        ensures { result ≡ features_of (config_of (flags self.now)) }
+    {
+        Features {
+            legacy_exceptions: false,
+            only_stable: self.only_stable_features,
+        }
     }
 }

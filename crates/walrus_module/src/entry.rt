@@ -1,6 +1,6 @@
 ghost use Rattle.std.specs.Prelude.{◌≡◌};
 ghost use Rattle.walrus_parts.specs.Section.{FailsAsSection};
-ghost use Rattle.walrus_ir.specs.Indices.{index_of};
+ghost use Rattle.walrus_code.specs.Indices.{index_of};
 ghost use Rattle.std.specs.Prelude.{IfOk, OnOk, OnErr};
 ghost use Rattle.walrus_parts.specs.Transform.{transform_of};
 ghost use Rattle.walrus_parts.specs.Roots.{with_roots};

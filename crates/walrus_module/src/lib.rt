@@ -11,20 +11,21 @@ pub mod live;
 pub mod module;
 pub mod order;
 pub mod parse;
+pub mod references;
 
 pub use config::ModuleConfig;
 pub use customs::{ModuleCustomSections, SectionIter};
 pub use entry::SectionEntry;
 pub use law::spelled_once;
 pub use module::Module;
-pub use walrus_base::{
-    DataKey, ElementKey, FunctionId, FunctionKey, GlobalKey, IdHashSet, MemoryKey, ModuleLocals,
-    ModuleTypes, TableKey, TagKey, TypeId, TypeKey, ValType,
-};
-pub use walrus_ir::{Arg, Args, IdsToIndices, IndicesToIds, InstrLocId, LocalFunction, Operator};
 pub use walrus_items::{
-    Export, ExportItem, Function, FunctionKind, ImportedFunction, ModuleExports, ModuleFunctions,
-};
-pub use walrus_parts::{
-    CodeTransform, CustomSection, Error, ErrorKind, RawCustomSection, Result, Roots,
+    AbstractHeapType, ArenaIter, Arg, Args, ArrayType, BlockType, CodeTransform, CompositeType,
+    ConstExpr, ConstOp, CustomSection, DataId, DataKey, ElementId, ElementKey, Error, ErrorKind,
+    Export, ExportId, ExportItem, FieldType, Function, FunctionBuilder, FunctionId, FunctionKey,
+    FunctionKind, FunctionType, GlobalId, GlobalKey, GroupIds, HeapType, Id, IdHashSet,
+    IdsToIndices, ImportId, ImportedFunction, IndicesToIds, InstrLocId, InstrSeqBuilder, ItemId,
+    Local, LocalFunction, LocalId, MemoryId, MemoryKey, ModuleExports, ModuleFunctions,
+    ModuleLocals, ModuleTypes, NewType, Operator, RawCustomSection, RefType, Result, Roots,
+    StorageType, StructType, TableId, TableKey, TagId, TagKey, Type, TypeId, TypeKey,
+    UntypedCustomSectionId, ValType, Value,
 };

@@ -7,7 +7,7 @@ use crate::config::ModuleConfig;
 use crate::customs::ModuleCustomSections;
 use crate::entry::SectionEntry;
 use std::alloc::Global;
-use walrus_base::{ModuleLocals, ModuleTypes};
+use walrus_ir::{ModuleLocals, ModuleTypes};
 use walrus_items::{ModuleExports, ModuleFunctions};
 use walrus_parts::Result;
 
@@ -24,12 +24,12 @@ pub struct Module {
     pub exports: ModuleExports,
     /// The custom sections.
     pub customs: ModuleCustomSections,
-    config: ModuleConfig,
+    pub(crate) config: ModuleConfig,
 }
 
 impl Module {
     ghost use Rattle.walrus_module.specs.Flags.{flags, defaults, config_of};
-    ghost use Rattle.walrus_module.specs.Parsed.{IsParsed, RefusesBytes};
+    ghost use Rattle.walrus_module.specs.Parsed.{IsParsed, RefusesBytes, AreLocated};
     ghost use Rattle.walrus_module.specs.Settings.{settings};
     ghost use Rattle.walrus_module.specs.Taken.{AreEmpty};
     ghost use Rattle.walrus_module.specs.View.{view};
@@ -56,6 +56,7 @@ impl Module {
         ensures found { IfOk result (λ m. IsParsed (config_of defaults) bytes.now (view m)) }
         ensures refused { IfErr result (RefusesBytes (config_of defaults) bytes.now) }
         ensures configured { IfOk result (λ m. settings m ≡ defaults) }
+        ensures located { IfOk result (λ m. AreLocated bytes.now m.funcs) }
     {
         Module::from_buffer_with_config(alloc, bytes, &ModuleConfig::new())
     }
@@ -69,6 +70,7 @@ impl Module {
         ensures found { IfOk result (λ m. IsParsed (config_of (flags config.now)) bytes.now (view m)) }
         ensures refused { IfErr result (RefusesBytes (config_of (flags config.now)) bytes.now) }
         ensures configured { IfOk result (λ m. settings m ≡ flags config.now) }
+        ensures located { IfOk result (λ m. AreLocated bytes.now m.funcs) }
     {
         config.parse(alloc, bytes)
     }

@@ -3,19 +3,18 @@ ghost use Rattle.std.specs.Prelude.{◌≡◌, ℕ, map, length, IfOk, IfErr, Is
 ghost use Rattle.walrus_base.specs.Arena.{entries};
 ghost use Rattle.std.specs.List.{IsDistinct};
 ghost use Rattle.walrus_base.specs.Id.{place};
-ghost use Rattle.walrus_base.specs.ModuleTypes.{func_types};
-ghost use Rattle.walrus_ir.specs.Indices.{index_of, given};
-ghost use Rattle.walrus_ir.specs.Operators.{Types, Functions};
+ghost use Rattle.walrus_types.specs.ModuleTypes.{type_slots};
+ghost use Rattle.walrus_code.specs.Indices.{index_of, given};
+ghost use Rattle.walrus_types.specs.Operators.{Types, Functions};
 ghost use Rattle.walrus_items.specs.Functions.{functions};
 ghost use Rattle.walrus_parts.specs.Errors.{out_of_memory};
 ghost use Rattle.walrus_module.specs.Emitted.{RefusesCount, RefusesCounts};
 ghost use Rattle.walrus_module.specs.Sizes.{local_sizes, IsOrder};
-ghost use Rattle.walrus_module.specs.Numbered.{AreNumbered, NumbersTypes, NumbersFunctions};
+ghost use Rattle.walrus_module.specs.Numbered.{AreNumbered, NamesNoOthers, NumbersTypes, NumbersFunctions};
 
 use std::alloc::Global;
 use std::cmp::Reverse;
-use walrus_base::{FunctionId, ModuleTypes};
-use walrus_ir::IdsToIndices;
+use walrus_ir::{FunctionId, IdsToIndices, ModuleTypes};
 use walrus_items::ModuleFunctions;
 use walrus_parts::{Error, Result};
 
@@ -60,8 +59,8 @@ fn ids_of(alloc: Global, sized: &[(Reverse<usize>, FunctionId)]) -> Result<Vec<F
 fn number_types(indices: &mut IdsToIndices, types: &ModuleTypes) -> Result<()>
     requires none { (number : ℕ) → index_of indices.old Types number ≡ None }
     requires count { given indices.old Types ≡ 0 }
-    ensures value { IfOk result (λ _. NumbersTypes indices.old indices.new (map (λ e. e.0) (entries (func_types types.now)))) }
-    ensures fails { IfErr result (RefusesCount (length (entries (func_types types.now)))) }
+    ensures value { IfOk result (λ _. NumbersTypes indices.old indices.new (map (λ e. e.0) (entries (type_slots types.now)))) }
+    ensures fails { IfErr result (RefusesCount (length (entries (type_slots types.now)))) }
 {
     if types.len() > u32::MAX as usize {
         return Err(Error::TooLarge);
@@ -89,11 +88,12 @@ fn number_functions(indices: &mut IdsToIndices, order: &[FunctionId]) -> Result<
     Ok(())
 }
 
-// The index of each type and of each function.
+// The index of each type and of each function; nothing else gets one.
 pub fn number(alloc: Global, types: &ModuleTypes, order: &[FunctionId]) -> Result<IdsToIndices>
     requires distinct { IsDistinct nat_eq (map place order.now) }
-    ensures value { IfOk result (λ indices. AreNumbered (index_of indices) (map (λ e. e.0) (entries (func_types types.now))) (map place order.now)) }
-    ensures fails { IfErr result (RefusesCounts (length (entries (func_types types.now))) (length order.now)) }
+    ensures value { IfOk result (λ indices. AreNumbered (index_of indices) (map (λ e. e.0) (entries (type_slots types.now))) (map place order.now)) }
+    ensures no_others { IfOk result (λ indices. NamesNoOthers (index_of indices)) }
+    ensures fails { IfErr result (RefusesCounts (length (entries (type_slots types.now))) (length order.now)) }
 {
     let mut indices = IdsToIndices::new(alloc);
     number_types(&mut indices, types)?;

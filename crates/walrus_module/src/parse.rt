@@ -1,20 +1,28 @@
 //! Reading a module from its bytes.
-ghost use Rattle.std.specs.Prelude.{true, ◌≡◌, ◌++◌, ◌∷◌, ◌<◌, ◌^◌, ℕ, [], length, map, Some, All, IfOk, IfErr, OnOk, IsOkUnless, EachIndex, slice_set};
-ghost use Rattle.std.specs.List.{range_with_len, AllPass};
-ghost use Rattle.walrus_base.specs.Arena.{item_at, IsLive};
+ghost use Rattle.std.specs.Prelude.{true, ◌≡◌, ◌≢◌, ◌++◌, ◌∷◌, ◌<◌, ◌≤◌, ◌^◌, ℕ, [], length, map, zip, Some, All, IfOk, IfErr, OnOk, IsOkUnless};
+ghost use Rattle.std.specs.List.{range_with_len, AllPass, AllZip};
+ghost use Rattle.walrus_base.specs.Arena.{item_at};
 ghost use Rattle.walrus_base.specs.Id.{place};
-ghost use Rattle.walrus_base.specs.FuncTypes.{val_type, val_types};
-ghost use Rattle.walrus_base.specs.ModuleTypes.{func_types};
-ghost use Rattle.walrus_base.specs.Locals.{locals};
-ghost use Rattle.walrus_ir.specs.Code.{ops_of};
-ghost use Rattle.walrus_ir.specs.Indices.{places_in, ids_at, Pushes};
-ghost use Rattle.walrus_ir.specs.Operators.{Space, Types, Functions};
+ghost use Rattle.walrus_types.specs.Locals.{locals};
+ghost use Rattle.walrus_types.specs.ModuleTypes.{type_slots};
+ghost use Rattle.walrus_types.specs.Operators.{Space, Types, Functions};
+ghost use Rattle.walrus_types.specs.Value.{val_type};
+ghost use Rattle.walrus_code.specs.Indices.{places_in, ids_at};
+ghost use Rattle.walrus_code.specs.Location.{location, location_at};
+ghost use Rattle.walrus_bodies.specs.Body.{context};
+ghost use Rattle.std.specs.Fn.{FnReturnsAt};
+ghost use Rattle.walrus_bodies.specs.BodyRead.{ReadsBody, BodyLocated};
+ghost use Rattle.walrus_bodies.specs.Results.{locations};
+ghost use Rattle.walrus_bodies.specs.FunctionTypes.{is_function_at};
+ghost use Rattle.walrus_functions.specs.EmittedBody.{types_of as local_types};
+ghost use Rattle.walrus_functions.specs.ReadFunction.{StaysInFront};
 ghost use Rattle.walrus_items.specs.Exports.{exports};
 ghost use Rattle.walrus_items.specs.Functions.{functions};
 ghost use Rattle.walrus_model.specs.Handled.{narrowed_value};
-ghost use Rattle.walrus_model.specs.Reads.{value_type, export_of};
+ghost use Rattle.walrus_model.specs.Reads.{value_type, lone_type, declared, export_of};
+ghost use Rattle.walrus_module.specs.Flags.{flags, config_of};
 ghost use Rattle.walrus_module.specs.View.{exports_of};
-ghost use Rattle.walrus_module.specs.Taken.{type_taken, local_of, locals_held, empty_body, with_operators, TakesBodies, AreEmpty, FitsIndices, TakesSections};
+ghost use Rattle.walrus_module.specs.Taken.{taken_types, AreEmpty, FitsIndices, IsPlace, IsLocated, AddsLocated, TakesFunction, TakesFunctions, TakesSections};
 ghost use Rattle.walrus_module.specs.HandledOnly.{is_number, is_lone};
 ghost use Rattle.walrus_module.specs.Sections.{type_record, export_record, sections, Rules};
 ghost use Rattle.walrus_parts.specs.Errors.{out_of_memory};
@@ -24,18 +32,22 @@ ghost use Rattle.wasm_frames.specs.Record.{body_record};
 use crate::config::ModuleConfig;
 use crate::handled::check_handled;
 use crate::module::Module;
+use crate::references::check_references;
 use std::alloc::Global;
-use walrus_base::{LocalId, ModuleLocals, ModuleTypes, ValType};
-use walrus_ir::{IndicesToIds, LocalFunction, Operator, read_body};
-use walrus_items::{ExportItem, Function, FunctionKind, ModuleExports, ModuleFunctions};
+use std::result;
+use walrus_bodies::{ReadBody, read_body};
+use walrus_ir::{
+    CompositeType, Features, FunctionType, Id, IndicesToIds, InstrLocId, IrError, LocalFunction,
+    LocalId, ModuleLocals, ModuleTypes, NewType, ValType,
+};
+use walrus_items::{ExportItem, ModuleExports, ModuleFunctions};
 use walrus_parts::Result;
 use wasm_wire::{
     Raw, RawBody, RawComp, RawExport, RawFuncType, RawGroup, RawSub, RawVal, check, read_module,
 };
 
 impl ModuleConfig {
-    ghost use Rattle.walrus_module.specs.Flags.{flags, config_of};
-    ghost use Rattle.walrus_module.specs.Parsed.{IsParsed, RefusesBytes};
+    ghost use Rattle.walrus_module.specs.Parsed.{IsParsed, RefusesBytes, AreLocated};
     ghost use Rattle.walrus_module.specs.Settings.{settings};
     ghost use Rattle.walrus_module.specs.View.{view};
 
@@ -45,6 +57,7 @@ impl ModuleConfig {
         ensures found { IfOk result (λ m. IsParsed (config_of (flags self.now)) bytes.now (view m)) }
         ensures refused { IfErr result (RefusesBytes (config_of (flags self.now)) bytes.now) }
         ensures configured { IfOk result (λ m. settings m ≡ flags self.now) }
+        ensures located { IfOk result (λ m. AreLocated bytes.now m.funcs) }
     {
         let raw = read_module(alloc, bytes)?;
         check(alloc, &raw)?;
@@ -52,19 +65,22 @@ impl ModuleConfig {
         let mut module = Module::with_config(alloc, self.clone()?)?;
         add_sections(
             alloc,
+            self,
             &raw,
             &mut module.types,
             &mut module.locals,
             &mut module.funcs,
             &mut module.exports,
         )?;
+        check_references(alloc, &module.funcs, &module.exports)?;
         Ok(module)
     }
 }
 
-// Takes in all sections that keep the rules, the bodies last but for the exports.
+// Takes in all sections that keep the rules.
 fn add_sections(
     alloc: Global,
+    config: &ModuleConfig,
     raw: &Raw<'_>,
     types: &mut ModuleTypes,
     all: &mut ModuleLocals,
@@ -75,13 +91,63 @@ fn add_sections(
     requires rules { Rules (sections raw.now) }
     requires room { FitsIndices (sections raw.now) }
     requires empty { AreEmpty types.old all.old funcs.old module_exports.old }
-    ensures { TakesSections (sections raw.now) types.new funcs.new module_exports.new result }
+    ensures taken { TakesSections (config_of (flags config.now)) (sections raw.now) types.new all.new funcs.new module_exports.new result }
+    ensures located { OnOk result (AllZip IsLocated (sections raw.now).bodies (functions funcs.new)) }
+{
+    let features = config.features();
+    let indices = number_items(alloc, raw)?;
+    add_types(alloc, &raw.types, types)?;
+    add_functions(
+        alloc,
+        &features,
+        &raw.functions,
+        &raw.bodies,
+        &indices,
+        types,
+        all,
+        funcs,
+    )?;
+    add_exports(&raw.exports, &indices, module_exports)
+}
+
+// The indices of the sections' items lead to the ids of the same places.
+fn number_items(alloc: Global, raw: &Raw<'_>) -> Result<IndicesToIds>
+    requires { FitsIndices (sections raw.now) }
+    ensures numbered { IfOk result (λ indices. ids_at indices ≡ declared (sections raw.now)) }
+    ensures fails { IsOkUnless result out_of_memory }
 {
     let mut indices = IndicesToIds::new(alloc);
-    add_types(alloc, &raw.types, types, &mut indices)?;
-    add_functions(alloc, &raw.functions, types, all, funcs, &mut indices)?;
-    add_bodies(alloc, &raw.bodies, &indices, funcs)?;
-    add_exports(&raw.exports, &indices, module_exports)
+    number_types(raw.types.len(), &mut indices)?;
+    number_functions(raw.functions.len(), &mut indices)?;
+    Ok(indices)
+}
+
+// The indices of so many types.
+fn number_types(count: usize, indices: &mut IndicesToIds) -> Result<()>
+    requires none { places_in indices.old Types ≡ [] }
+    requires room { count < 2 ^ 32 }
+    ensures numbered { OnOk result (places_in indices.new Types ≡ range_with_len 0 count) }
+    ensures others { OnOk result ((space : Space) → space ≢ Types → places_in indices.new space ≡ places_in indices.old space) }
+    ensures fails { IsOkUnless result out_of_memory }
+{
+    for place in 0..count {
+        indices.push_type(Id::at(place))?;
+    }
+    Ok(())
+}
+
+// The indices of so many functions.
+fn number_functions(count: usize, indices: &mut IndicesToIds) -> Result<()>
+    requires none { places_in indices.old Functions ≡ [] }
+    requires room { count < 2 ^ 32 }
+    ensures numbered { OnOk result (places_in indices.new Functions ≡ range_with_len 0 count) }
+    ensures others { OnOk result ((space : Space) → space ≢ Functions → places_in indices.new space ≡ places_in indices.old space) }
+    ensures fails { IsOkUnless result out_of_memory }
+{
+    for place in 0..count {
+        indices.push_func(Id::at(place))?;
+    }
+    Ok(())
 }
 
 fn value_type(raw: RawVal) -> ValType
@@ -100,7 +166,7 @@ fn value_type(raw: RawVal) -> ValType
 
 fn value_types(alloc: Global, raw: &[RawVal]) -> Result<Vec<ValType>>
     requires { AllPass is_number raw.now }
-    ensures value { IfOk result (λ types. val_types types.items ≡ map value_type (map narrowed_value raw.now)) }
+    ensures value { IfOk result (λ types. map val_type types.items ≡ map value_type (map narrowed_value raw.now)) }
     ensures fails { IsOkUnless result out_of_memory }
 {
     let mut types = Vec::with_capacity(alloc, raw.len())?;
@@ -129,47 +195,34 @@ fn lone_type(entry: &RawGroup) -> &RawFuncType
     ty
 }
 
-// The type gets the next id, and the next index leads to it.
-fn add_type(
-    alloc: Global,
-    entry: &RawGroup,
-    types: &mut ModuleTypes,
-    indices: &mut IndicesToIds,
-) -> Result<()>
-    requires handled { is_lone (group entry.now) ≡ true }
-    requires numbered { places_in indices.old Types ≡ range_with_len 0 (length (func_types types.old)) }
-    requires room { length (func_types types.old) < 2 ^ 32 }
-    ensures added { OnOk result (func_types types.new ≡ func_types types.old ++ type_taken (type_record entry.now) ∷ []) }
-    ensures pushed { OnOk result (Pushes indices.old indices.new Types (length (func_types types.old))) }
+// The type gets the next id, in a group of its own.
+fn add_type(alloc: Global, entry: &RawGroup, types: &mut ModuleTypes) -> Result<()>
+    requires { is_lone (group entry.now) ≡ true }
+    ensures added { OnOk result (type_slots types.new ≡ type_slots types.old ++ Some (lone_type (length (type_slots types.old)) (type_record entry.now)) ∷ []) }
     ensures fails { IsOkUnless result out_of_memory }
 {
     let ty = lone_type(entry);
     let params = value_types(alloc, &ty.params)?;
     let results = value_types(alloc, &ty.results)?;
-    let id = types.add(&params, &results)?;
-    indices.push_type(id)?;
+    let mut members = Vec::with_capacity(alloc, 1)?;
+    members.push(NewType {
+        is_final: true,
+        supertype: None,
+        comp: CompositeType::Function(FunctionType::new(params, results)),
+    })?;
+    types.add_group(members)?;
     Ok(())
 }
 
-// Each type gets the next id, and the next index leads to it.
-fn add_types(
-    alloc: Global,
-    raw: &[RawGroup],
-    types: &mut ModuleTypes,
-    indices: &mut IndicesToIds,
-) -> Result<()>
+// Each type gets the next id, in a group of its own.
+fn add_types(alloc: Global, raw: &[RawGroup], types: &mut ModuleTypes) -> Result<()>
     requires handled { All (λ g. is_lone (group g) ≡ true) raw.now }
-    requires none { func_types types.old ≡ [] }
-    requires no_index { (space : Space) → places_in indices.old space ≡ [] }
-    requires room { length raw.now < 2 ^ 32 }
-    ensures added { OnOk result (func_types types.new ≡ map type_taken (map type_record raw.now)) }
-    ensures numbered { OnOk result (places_in indices.new Types ≡ range_with_len 0 (length raw.now)) }
-    ensures others { OnOk result (places_in indices.new Functions ≡ []) }
+    requires none { type_slots types.old ≡ [] }
+    ensures added { OnOk result (type_slots types.new ≡ taken_types 0 (map type_record raw.now)) }
     ensures fails { IsOkUnless result out_of_memory }
 {
-    types.reserve(raw.len())?;
     for entry in raw {
-        add_type(alloc, entry, types, indices)?;
+        add_type(alloc, entry, types)?;
     }
     Ok(())
 }
@@ -177,6 +230,7 @@ fn add_types(
 // A local for each parameter.
 fn add_params(alloc: Global, params: &[ValType], all: &mut ModuleLocals) -> Result<Vec<LocalId>>
     ensures args { IfOk result (λ args. map place args.items ≡ range_with_len (length (locals all.old)) (length params.now)) }
+    ensures typed { OnOk result (local_types (locals all.new) ≡ local_types (locals all.old) ++ map Some (map val_type params.now)) }
     ensures fails { IsOkUnless result out_of_memory }
 {
     let mut args = Vec::with_capacity(alloc, params.len())?;
@@ -186,103 +240,87 @@ fn add_params(alloc: Global, params: &[ValType], all: &mut ModuleLocals) -> Resu
     Ok(args)
 }
 
-// The function gets the next id, its type and locals for its parameters, and no operators yet.
+// Reads the body of a function of this type. The function gets the next id; its locals are its parameters, and behind them
+// those that the body declares.
 fn add_function(
     alloc: Global,
+    features: &Features,
     index: u32,
+    body: &RawBody<'_>,
+    indices: &IndicesToIds,
     types: &ModuleTypes,
     all: &mut ModuleLocals,
     funcs: &mut ModuleFunctions,
-    indices: &mut IndicesToIds,
 ) -> Result<()>
-    requires typed { places_in indices.old Types ≡ range_with_len 0 (length (func_types types.now)) }
-    requires declared { index < length (func_types types.now) }
-    requires live { IsLive (func_types types.now) index }
-    requires numbered { places_in indices.old Functions ≡ range_with_len 0 (length (locals_held funcs.old)) }
-    requires room { length (locals_held funcs.old) < 2 ^ 32 }
-    ensures added { OnOk result (locals_held funcs.new ≡ locals_held funcs.old ++ empty_body index ∷ []) }
-    ensures pushed { OnOk result (Pushes indices.old indices.new Functions (length (locals_held funcs.old))) }
-    ensures fails { IsOkUnless result out_of_memory }
+    requires declared { ids_at indices.now Types index ≡ Some index }
+    requires typed { is_function_at types.now index ≡ true }
+    ensures taken { TakesFunction (context (ids_at indices.now) (is_function_at types.now) features.now) (item_at (type_slots types.now)) (index, body_record body.now) all.new (functions funcs.old) (functions funcs.new) result }
+    ensures stays { OnOk result (StaysInFront (local_types (locals all.old)) (local_types (locals all.new))) }
+    ensures located { OnOk result (AddsLocated (body_record body.now) (functions funcs.old) (functions funcs.new)) }
 {
     let Some(ty) = indices.get_type(index) else {
         unreachable!();
     };
     let args = add_params(alloc, types.get(ty).params(), all)?;
-    let id = funcs.add_local(LocalFunction::new(alloc, ty, args, Vec::new(alloc)))?;
-    indices.push_func(id)?;
+    let locate = |place: &usize| -> InstrLocId
+        ensures { location result ≡ location_at place.now }
+    { InstrLocId::of_place(*place) };
+    let read = read_located(alloc, body, features, indices, types, &args, all, &locate)?;
+    funcs.add_local(LocalFunction::new(alloc, ty, args, read.operators))?;
     Ok(())
 }
 
-// Each function gets the next id, its type and locals for its parameters, and no operators yet.
+// Reads a body, each operator of which is located where it stands.
+fn read_located<L: Fn(&usize) -> InstrLocId>(
+    alloc: Global,
+    body: &RawBody<'_>,
+    features: &Features,
+    indices: &IndicesToIds,
+    types: &ModuleTypes,
+    args: &[LocalId],
+    all: &mut ModuleLocals,
+    locate: &L,
+) -> result::Result<ReadBody, IrError>
+    requires callable { L.IsAlwaysCallable locate.now }
+    requires tells { (place : ℕ) (loc : _) → FnReturnsAt L.Fn locate.now place loc → IsPlace place loc }
+    ensures read { ReadsBody (context (ids_at indices.now) (is_function_at types.now) features.now) (map place args.now) (locals all.old) (locals all.new) body.now.bytes.now result }
+    ensures located { IfOk result (λ read. BodyLocated IsPlace body.now.start body.now.bytes.now (locations read.operators.items)) }
+{
+    read_body(
+        alloc, body.bytes, body.start, features, indices, types, args, all, locate,
+    )
+}
+
+// Reads the bodies of the functions of these types, which get the next ids.
 fn add_functions(
     alloc: Global,
-    raw: &[u32],
+    features: &Features,
+    of_types: &[u32],
+    bodies: &[RawBody<'_>],
+    indices: &IndicesToIds,
     types: &ModuleTypes,
     all: &mut ModuleLocals,
     funcs: &mut ModuleFunctions,
-    indices: &mut IndicesToIds,
 ) -> Result<()>
     requires none { functions funcs.old ≡ [] }
-    requires typed { places_in indices.old Types ≡ range_with_len 0 (length (func_types types.now)) }
-    requires no_index { places_in indices.old Functions ≡ [] }
-    requires live { EachIndex (func_types types.now) (IsLive (func_types types.now)) }
-    requires declared { All (λ t. t < length (func_types types.now)) raw.now }
-    requires room { length raw.now < 2 ^ 32 }
-    ensures added { OnOk result (locals_held funcs.new ≡ map empty_body raw.now) }
-    ensures numbered { OnOk result (places_in indices.new Functions ≡ range_with_len 0 (length raw.now)) }
-    ensures others { OnOk result (places_in indices.new Types ≡ places_in indices.old Types) }
-    ensures fails { IsOkUnless result out_of_memory }
+    requires as_many { length bodies.now ≡ length of_types.now }
+    requires declared { All (λ t. ids_at indices.now Types t ≡ Some t) of_types.now }
+    requires typed { All (λ t. is_function_at types.now t ≡ true) of_types.now }
+    ensures taken { TakesFunctions (context (ids_at indices.now) (is_function_at types.now) features.now) (item_at (type_slots types.now)) (zip of_types.now (map body_record bodies.now)) all.new funcs.new result }
+    ensures located { OnOk result (AllZip IsLocated (map body_record bodies.now) (functions funcs.new)) }
 {
-    funcs.reserve(raw.len())?;
-    for index in raw {
-        add_function(alloc, *index, types, all, funcs, indices)?;
-    }
-    Ok(())
-}
-
-fn set_operators(function: &mut Function, operators: Vec<Operator>)
-    ensures { local_of function.new.kind ≡ with_operators (ops_of operators.items) (local_of function.old.kind) }
-{
-    if let FunctionKind::Local(local) = &mut function.kind {
-        local.operators = operators;
-    }
-}
-
-// Gives the function of this index these operators.
-fn set_body(
-    funcs: &mut ModuleFunctions,
-    indices: &IndicesToIds,
-    index: u32,
-    operators: Vec<Operator>,
-)
-    requires found { ids_at indices.now Functions index ≡ Some index }
-    requires live { IsLive (locals_held funcs.old) index }
-    ensures { locals_held funcs.new ≡ slice_set (locals_held funcs.old) index (with_operators (ops_of operators.items) (item_at (locals_held funcs.old) index)) }
-{
-    let Some(id) = indices.get_func(index) else {
-        unreachable!();
-    };
-    set_operators(funcs.get_mut(id), operators);
-}
-
-// Gives each function the operators of its body.
-fn add_bodies(
-    alloc: Global,
-    raw: &[RawBody<'_>],
-    indices: &IndicesToIds,
-    funcs: &mut ModuleFunctions,
-) -> Result<()>
-    requires numbered { places_in indices.now Functions ≡ range_with_len 0 (length (locals_held funcs.old)) }
-    requires live { EachIndex (locals_held funcs.old) (IsLive (locals_held funcs.old)) }
-    requires as_many { length raw.now ≡ length (locals_held funcs.old) }
-    requires room { length (locals_held funcs.old) < 2 ^ 32 }
-    ensures { TakesBodies (ids_at indices.now) (map body_record raw.now) (locals_held funcs.old) (locals_held funcs.new) result }
-{
-    let mut index = 0u32;
-    for body in raw {
-        let operators = read_body(alloc, body.bytes, body.start, indices)?;
-        set_body(funcs, indices, index, operators);
-        index += 1;
+    funcs.reserve(of_types.len())?;
+    for place in 0..of_types.len() {
+        add_function(
+            alloc,
+            features,
+            of_types[place],
+            &bodies[place],
+            indices,
+            types,
+            all,
+            funcs,
+        )?;
     }
     Ok(())
 }

@@ -1,6 +1,6 @@
 -- Roots that are asked for in turn.
 use Rattle.std.proofs.Common.{◌≡◌, List, [], ◌∷◌, ◌++◌, refl}
-use Rattle.walrus_ir.specs.Operators.{Item}
+use Rattle.walrus_types.specs.Operators.{Item}
 use Rattle.walrus_parts.specs.Roots.{RootLists, with_root, with_roots}
 
 -- those of one section and then those of another are those of both

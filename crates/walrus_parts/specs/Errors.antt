@@ -2,8 +2,8 @@
 use Rattle.std.specs.Prelude.{alloc_error}
 use Rattle.wasm_forms.specs.declared.error.WireError.{WireError}
 use Rattle.wasm_forms.specs.declared.error.WireError.TheVariants as Wire
-use Rattle.walrus_ir.specs.declared.error.IrError.{IrError}
-use Rattle.walrus_ir.specs.declared.error.IrError.TheVariants as Ir
+use Rattle.walrus_code.specs.declared.error.IrError.{IrError}
+use Rattle.walrus_code.specs.declared.error.IrError.TheVariants as Ir
 use Rattle.walrus_parts.specs.declared.error.Error.{Error}
 use Rattle.walrus_parts.specs.declared.error.Error.TheVariants.{Memory, InvalidWasm, TooLarge, NoIndex, NotWritable}
 use Rattle.walrus_parts.specs.declared.error.ErrorKind.TheVariants as Kind

@@ -3,7 +3,7 @@
 use Rattle.std.specs.Prelude.{ℕ, List, [], ◌∷◌, ◌++◌, map}
 use Rattle.walrus_base.specs.declared.id.Id.{Id}
 use Rattle.walrus_base.specs.Id.{place}
-use Rattle.walrus_ir.specs.Operators.{Item, Space, Types, Functions, Tables, Memories, Tags, Globals, Elements, DataSegments}
+use Rattle.walrus_types.specs.Operators.{Item, Space, Types, Functions, Tables, Memories, Tags, Globals, Elements, DataSegments}
 
 pub record RootLists : Type 0 where
   pub funcs : List ℕ

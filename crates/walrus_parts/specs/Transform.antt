@@ -4,8 +4,8 @@ use Rattle.std.specs.declared.ops.Range.{Range}
 use Rattle.walrus_base.specs.declared.id.Id.{Id}
 use Rattle.walrus_base.specs.declared.keys.FunctionKey.{FunctionKey}
 use Rattle.walrus_base.specs.Id.{place}
-use Rattle.walrus_ir.specs.Location.{location}
-use Rattle.walrus_ir.specs.declared.location.InstrLocId.{InstrLocId}
+use Rattle.walrus_code.specs.Location.{location}
+use Rattle.walrus_code.specs.declared.location.InstrLocId.{InstrLocId}
 use Rattle.walrus_parts.specs.declared.transform.CodeTransform.{CodeTransform}
 
 -- the place of a function's id with the start and the end of its body; where the code begins; a location with a place

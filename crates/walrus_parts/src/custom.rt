@@ -1,8 +1,8 @@
 //! What a custom section is ("Binary Format > Custom Section").
 ghost use Rattle.std.specs.Prelude.{◌≡◌, ℕ, Bool, List, IfOk, OnOk, OnErr};
-ghost use Rattle.walrus_ir.specs.Operators.{Item};
-ghost use Rattle.walrus_ir.specs.Indices.{index_of};
-ghost use Rattle.walrus_ir.specs.Names.{Lookup};
+ghost use Rattle.walrus_types.specs.Operators.{Item};
+ghost use Rattle.walrus_code.specs.Indices.{index_of};
+ghost use Rattle.walrus_code.specs.Names.{Lookup};
 ghost use Rattle.walrus_parts.specs.Roots.{with_roots};
 ghost use Rattle.walrus_parts.specs.Transform.{Transform, transform_of};
 ghost use Rattle.walrus_parts.specs.Section.{FailsAsSection};

@@ -13,10 +13,13 @@ pub use raw_section::RawCustomSection;
 pub use roots::Roots;
 pub use transform::CodeTransform;
 pub use walrus_ir::{
-    ArenaIter, Arg, Args, CustomSectionKey, DataId, DataKey, ElementId, ElementKey, ExportId,
-    ExportKey, FunctionId, FunctionKey, GlobalId, GlobalKey, Id, IdHashSet, IdsToIndices, ImportId,
-    ImportKey, IndicesToIds, InstrLocId, IrError, Local, LocalFunction, LocalId, LocalIter,
-    LocalKey, MemoryId, MemoryKey, ModuleLocals, ModuleTypes, Operator, TableId, TableKey, TagId,
-    TagKey, TombstoneArena, Type, TypeId, TypeIter, TypeKey, UntypedCustomSectionId, ValType,
-    emit_body, read_body,
+    AbstractHeapType, ArenaIter, Arg, Args, ArrayType, BlockType, CompositeType, ConstExpr,
+    ConstOp, CustomSectionKey, DataId, DataKey, ElementId, ElementKey, EmittedBody, ExportId,
+    ExportKey, Features, FieldType, FunctionBuilder, FunctionId, FunctionKey, FunctionType,
+    GlobalId, GlobalKey, GroupIds, HeapType, Id, IdHashSet, IdsToIndices, ImportId, ImportKey,
+    IndicesToIds, InstrLocId, InstrSeqBuilder, IrError, ItemId, Local, LocalFunction, LocalId,
+    LocalIter, LocalKey, LocalNumbers, MemoryId, MemoryKey, ModuleLocals, ModuleTypes, NewType,
+    Operator, RefType, StorageType, StructType, TableId, TableKey, TagId, TagKey, TombstoneArena,
+    Type, TypeId, TypeIter, TypeKey, UntypedCustomSectionId, ValType, Value, emit_body,
+    read_function,
 };

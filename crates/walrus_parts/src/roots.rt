@@ -1,6 +1,6 @@
 ghost use Rattle.std.specs.Prelude.{◌≡◌, IfOk, IsOkUnless};
 ghost use Rattle.walrus_base.specs.Id.{place};
-ghost use Rattle.walrus_ir.specs.Operators.{Functions, Tables, Memories, Globals, Tags};
+ghost use Rattle.walrus_types.specs.Operators.{Functions, Tables, Memories, Globals, Tags};
 ghost use Rattle.walrus_parts.specs.Roots.{RootLists, places, no_roots, with_place};
 ghost use Rattle.walrus_parts.specs.Errors.{out_of_memory};
 

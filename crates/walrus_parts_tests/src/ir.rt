@@ -5,10 +5,22 @@ use crate::demands::{add_bytes, are, demand};
 use std::alloc::{AllocError, Global};
 use std::test::Fail;
 use walrus_base::{FunctionId, TypeId};
-use walrus_ir::{IdsToIndices, IndicesToIds, LocalFunction, Operator, emit_body, read_body};
+use walrus_bodies::FunctionTypes;
+use walrus_ir::{
+    Features, IdsToIndices, IndicesToIds, InstrLocId, LocalFunction, ModuleLocals, ModuleTypes,
+    emit_body, read_function,
+};
 
-// i32.const 5, drop, call 0, nop, end
-const BODY: &str = "00 41 05 1A 10 00 01 0B";
+// Two locals of i32: i32.const 5, local.set 0, local.get 0, drop, call 0, nop, end
+const BODY: &str = "01 02 7F 41 05 21 00 20 00 1A 10 00 01 0B";
+
+// The same with the one local that is used.
+const WRITTEN: &str = "01 01 7F 41 05 21 00 20 00 1A 10 00 01 0B";
+
+const ALL: Features = Features {
+    legacy_exceptions: true,
+    only_stable: false,
+};
 
 // A table in which the function has the index 0.
 fn function_by_index(alloc: Global, id: FunctionId) -> Result<IndicesToIds, AllocError> {
@@ -24,32 +36,66 @@ pub fn index_of_function(alloc: Global, id: FunctionId) -> Result<IdsToIndices, 
     Ok(indices)
 }
 
-fn is_written_back(alloc: Global, id: FunctionId, operators: Vec<Operator>) -> bool {
+fn is_written(
+    alloc: Global,
+    id: FunctionId,
+    function: &LocalFunction,
+    types: &ModuleTypes,
+    locals: &ModuleLocals,
+) -> bool {
     let Ok(indices) = index_of_function(alloc, id) else {
         return false;
     };
-    let function = LocalFunction::new(alloc, some_id(alloc), Vec::new(alloc), operators);
-    match emit_body(alloc, &function, &indices) {
-        Ok(bytes) => are(alloc, &bytes, BODY),
+    match emit_body(alloc, function, types, locals, &indices, &ALL) {
+        Ok(body) => are(alloc, &body.bytes, WRITTEN),
         Err(_) => false,
     }
 }
 
-// Whether there are five operators, of which the fourth was read at the place 46.
-fn are_placed(operators: &[Operator]) -> bool {
-    match operators {
-        [_, _, _, fourth, _] => fourth.loc.value() == 46,
+// Whether there are seven operators, of which the fourth was read at the place 49.
+fn are_placed(function: &LocalFunction) -> bool {
+    match function.operators.as_slice() {
+        [_, _, _, fourth, _, _, _] => fourth.loc.value() == 49,
         _ => false,
     }
 }
 
+fn read(
+    alloc: Global,
+    id: FunctionId,
+    bytes: &[u8],
+    types: &mut ModuleTypes,
+    locals: &mut ModuleLocals,
+) -> Option<LocalFunction> {
+    let ids = function_by_index(alloc, id).ok()?;
+    let ty = types.add(&[], &[]).ok()?;
+    if !types.is_function_type(ty) {
+        return None;
+    }
+    let locate = |place: &usize| InstrLocId::of_place(*place);
+    read_function(
+        alloc,
+        bytes,
+        40,
+        &ALL,
+        ty,
+        &[],
+        &ids,
+        types,
+        locals,
+        &locate,
+    )
+    .ok()
+}
+
 fn comes_back(alloc: Global, id: FunctionId, bytes: &[u8]) -> bool {
-    let Ok(ids) = function_by_index(alloc, id) else {
-        return false;
-    };
-    match read_body(alloc, bytes, 40, &ids) {
-        Ok(operators) => are_placed(&operators) && is_written_back(alloc, id, operators),
-        Err(_) => false,
+    let mut types = ModuleTypes::new(alloc);
+    let mut locals = ModuleLocals::new(alloc);
+    match read(alloc, id, bytes, &mut types, &mut locals) {
+        Some(function) => {
+            are_placed(&function) && is_written(alloc, id, &function, &types, &locals)
+        }
+        None => false,
     }
 }
 

@@ -1,7 +1,7 @@
 //! A section that a caller could write: it shows that the contract of `CustomSection` can be met.
 ghost use Rattle.std.specs.Prelude.{codes, true, [], ◌∷◌};
 ghost use Rattle.walrus_base.specs.Id.{place};
-ghost use Rattle.walrus_ir.specs.Operators.{Functions};
+ghost use Rattle.walrus_types.specs.Operators.{Functions};
 ghost use Rattle.walrus_parts_tests.specs.Sample.{one_byte};
 
 use std::alloc::Global;

@@ -3,7 +3,7 @@
 use std::alloc::Global;
 use std::test::Fail;
 use walrus::passes::{Used, gc};
-use walrus::{Error, FunctionId, Module, ModuleConfig};
+use walrus::{Error, FunctionId, Module, ModuleConfig, Type};
 use walrus_parts_tests::demands::{add_bytes, are, demand, is_text};
 
 // Two empty functions, of which the second is exported, and what comes of them.
@@ -63,13 +63,21 @@ fn reads_drops_and_writes(rt: HostRuntime) -> Result<(), Fail> {
     )
 }
 
-fn has_empty_types(module: &Module) -> bool {
-    for ty in module.types.iter() {
-        if !(ty.params().is_empty() && ty.results().is_empty()) {
-            return false;
-        }
+fn is_empty(ty: &Type) -> bool {
+    match ty.as_function() {
+        Some(function) => function.params().is_empty() && function.results().is_empty(),
+        None => false,
     }
-    true
+}
+
+// Whether there are one or two types, each of functions that take and give nothing.
+fn has_empty_types(module: &Module) -> bool {
+    let mut types = module.types.iter();
+    match (types.next(), types.next(), types.next()) {
+        (Some(first), None, None) => is_empty(first),
+        (Some(first), Some(second), None) => is_empty(first) && is_empty(second),
+        _ => false,
+    }
 }
 
 fn exports_a_and_b(module: &Module) -> bool {

@@ -6,7 +6,7 @@ use std::test::Fail;
 use walrus_parts_tests::demands::{add_bytes, demand};
 
 // Inputs and what they come to, in hexadecimal.
-const ROWS: [(&str, &str); 6] = [
+const ROWS: [(&str, &str); 8] = [
     // the header alone
     ("00 61 73 6D 01 00 00 00", "00 61 73 6D 01 00 00 00"),
     // two empty functions, of which the second is exported
@@ -33,6 +33,16 @@ const ROWS: [(&str, &str); 6] = [
     (
         "00 61 73 6D 01 00 00 00 01 09 02 60 01 7F 01 7E 60 00 00 03 02 01 01 07 05 01 01 66 00 00 0A 04 01 02 00 0B",
         "00 61 73 6D 01 00 00 00 01 04 01 60 00 00 03 02 01 00 07 05 01 01 66 00 00 0A 04 01 02 00 0B",
+    ),
+    // of two declared locals the first isn't used, so the second becomes the one that is declared; a block
+    (
+        "00 61 73 6D 01 00 00 00 01 04 01 60 00 00 03 02 01 00 07 05 01 01 66 00 00 0A 0C 01 0A 01 02 7F 20 01 1A 02 40 0B 0B",
+        "00 61 73 6D 01 00 00 00 01 04 01 60 00 00 03 02 01 00 07 05 01 01 66 00 00 0A 0C 01 0A 01 01 7F 20 00 1A 02 40 0B 0B",
+    ),
+    // a reference to a function that is exported
+    (
+        "00 61 73 6D 01 00 00 00 01 04 01 60 00 00 03 02 01 00 07 05 01 01 66 00 00 0A 07 01 05 00 D2 00 1A 0B",
+        "00 61 73 6D 01 00 00 00 01 04 01 60 00 00 03 02 01 00 07 05 01 01 66 00 00 0A 07 01 05 00 D2 00 1A 0B",
     ),
 ];
 

@@ -3,15 +3,16 @@
 ghost use Rattle.std.specs.Prelude.{◌≡◌, map, IfErr, IfOk, OnErr, OnOk};
 ghost use Rattle.walrus_base.specs.Arena.{entries};
 ghost use Rattle.walrus_base.specs.Id.{place};
-ghost use Rattle.walrus_base.specs.ModuleTypes.{func_types};
-ghost use Rattle.walrus_ir.specs.Operators.{Item, Functions, Types};
+ghost use Rattle.walrus_types.specs.ModuleTypes.{type_slots};
+ghost use Rattle.walrus_types.specs.Operators.{Item, Functions, Types};
+ghost use Rattle.walrus_types.specs.TypeSlots.{cleared};
 ghost use Rattle.walrus_items.specs.Functions.{functions};
 ghost use Rattle.walrus_model.specs.Kept.{Kept};
 ghost use Rattle.walrus_model.specs.Live.{IsLive};
 ghost use Rattle.walrus_model.specs.Pipeline.{Collected};
 ghost use Rattle.walrus_module.specs.Settings.{settings};
 ghost use Rattle.walrus_module.specs.View.{view};
-ghost use Rattle.walrus.specs.Collected.{KeepsOnly, unused_among, without};
+ghost use Rattle.walrus.specs.Collected.{KeepsOnly, unused_among, without_groups};
 ghost use Rattle.walrus.specs.Marked.{ReachesSound, ReachesUnsound};
 ghost use Rattle.walrus.specs.Used.{IsRefusal};
 
@@ -29,7 +30,7 @@ pub fn run(alloc: Global, module: &mut Module) -> Result<()>
     ensures functions { OnOk result (KeepsOnly (λ i. Kept (view «module».old) (Functions, i))
         (functions «module».old.funcs) (functions «module».new.funcs)) }
     ensures types { OnOk result (KeepsOnly (λ t. Kept (view «module».old) (Types, t))
-        (func_types «module».old.types) (func_types «module».new.types)) }
+        (type_slots «module».old.types) (type_slots «module».new.types)) }
     ensures sound { OnOk result (ReachesSound (view «module».old)) }
     ensures settled { OnOk result ((x : Item) → IsLive (view «module».new) x → Kept (view «module».new) x) }
     ensures refused { IfErr result (IsRefusal (ReachesUnsound (view «module».old))) }
@@ -40,6 +41,7 @@ pub fn run(alloc: Global, module: &mut Module) -> Result<()>
     let used = Used::new(alloc, module)?;
     let functions = unused_functions(alloc, &module.funcs, &used.funcs)?;
     let types = unused_types(alloc, &module.types, &used.types)?;
+    module.types.groups_are_whole();
     delete_functions(&mut module.funcs, &functions);
     delete_types(&mut module.types, &types);
     Ok(())
@@ -69,7 +71,7 @@ fn unused_types(
     used: &IdHashSet<TypeKey>,
 ) -> Result<Vec<TypeId>>
     ensures value { IfOk result (λ unused. map place unused.items
-        ≡ unused_among used.now (entries (func_types types.now))) }
+        ≡ unused_among used.now (entries (type_slots types.now))) }
     ensures refused { IfErr result (IsRefusal ⊥) }
 {
     let mut unused = Vec::new(alloc);
@@ -82,7 +84,7 @@ fn unused_types(
 }
 
 fn delete_functions(funcs: &mut ModuleFunctions, unused: &[FunctionId])
-    ensures { functions funcs.new ≡ without (map place unused.now) (functions funcs.old) }
+    ensures { functions funcs.new ≡ cleared (map place unused.now) (functions funcs.old) }
 {
     for id in unused {
         if funcs.contains(*id) {
@@ -91,8 +93,9 @@ fn delete_functions(funcs: &mut ModuleFunctions, unused: &[FunctionId])
     }
 }
 
+// A type goes with its group, so that others of these may be gone once it is their turn.
 fn delete_types(types: &mut ModuleTypes, unused: &[TypeId])
-    ensures { func_types types.new ≡ without (map place unused.now) (func_types types.old) }
+    ensures { type_slots types.new ≡ without_groups (map place unused.now) (type_slots types.old) }
 {
     for id in unused {
         if types.contains(*id) {

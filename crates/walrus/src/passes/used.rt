@@ -1,39 +1,28 @@
 //! What a module uses: all that its roots reach.
 
-ghost use Rattle.std.specs.Prelude.{ℕ, ◌↔◌, ◌⊎◌, [], ◌∷◌, flat_map, map, IfErr, IfOk, OnOk, MatchResult};
-ghost use Rattle.walrus_base.specs.Arena.{IsLive};
-ghost use Rattle.walrus_base.specs.Id.{place};
-ghost use Rattle.walrus_base.specs.IdSet.{HasId, Adds};
-ghost use Rattle.walrus_base.specs.ModuleTypes.{func_types};
-ghost use Rattle.walrus_ir.specs.Code.{arg_of, args_of, ops_of};
-ghost use Rattle.walrus_ir.specs.Operators.{arg_names, function_item, names_of};
-ghost use Rattle.walrus_items.specs.Exports.{exported};
-ghost use Rattle.walrus_items.specs.Functions.{functions};
+ghost use Rattle.std.specs.Prelude.{◌≡◌, ◌↔◌, ◌⊎◌, [], ◌∷◌, IfErr, IfOk, IsTrue, MatchResult, OnOk, map, not};
+ghost use Rattle.walrus_code.specs.Code.{item_of};
+ghost use Rattle.walrus_model.specs.Live.{IsLive};
 ghost use Rattle.walrus_module.specs.View.{view};
-ghost use Rattle.walrus.specs.Marked.{MarksKept, ReachesSound, ReachesUnsound};
+ghost use Rattle.walrus.specs.Marked.{IsSound, MarksKept, ReachesSound, ReachesUnsound};
+ghost use Rattle.walrus.specs.Named.{all_names, items_in, parts_view};
 ghost use Rattle.walrus.specs.Used.{
-  AreFound,
   Enters,
   Followed,
-  IsExported,
-  IsInitialised,
+  Follows,
   IsNothing,
   IsRefusal,
-  IsWaiting,
-  IsWhole,
+  Marks,
   NamesDead,
-  Reaches,
-  ReachesBroken,
-  ReachesType,
-  export_names,
-  kind_names,
+  has_mark,
 };
 
-use std::alloc::Global;
+use crate::passes::names::{Parts, push_export_names, push_item_names};
+use std::alloc::{AllocError, Global};
+use std::result;
 use walrus_module::{
-    Arg, Args, DataKey, ElementKey, Error, ExportItem, FunctionId, FunctionKey, FunctionKind,
-    GlobalKey, IdHashSet, MemoryKey, Module, ModuleExports, ModuleFunctions, ModuleTypes, Operator,
-    Result, TableKey, TagKey, TypeId, TypeKey,
+    DataKey, ElementKey, Error, FunctionKey, GlobalKey, IdHashSet, ItemId, MemoryKey, Module,
+    Result, TableKey, TagKey, TypeKey,
 };
 
 /// The items that the roots of a module reach, by kind. Its roots are its exports so far.
@@ -81,211 +70,135 @@ impl Used {
     }
 
     /// What the module's roots reach, and the memory that stays with data. Refused with `DeadItem` where an item reached isn't
-    /// live, or a function reached is uninitialised, and with `Memory`.
+    /// live, where a function reached is uninitialised or uses a local that isn't there, and with `Memory`.
     pub fn new(alloc: Global, module: &Module) -> Result<Used>
         ensures kept { IfOk result (λ used. MarksKept (view «module».now) used) }
         ensures sound { OnOk result (ReachesSound (view «module».now)) }
         ensures refused { IfErr result (IsRefusal (ReachesUnsound (view «module».now))) }
     {
-        Used::search(alloc, module)
+        let parts = Parts {
+            types: &module.types,
+            locals: &module.locals,
+            funcs: &module.funcs,
+            exports: &module.exports,
+        };
+        Used::search(alloc, parts)
     }
 
-    // The same over slots.
-    fn search(alloc: Global, module: &Module) -> Result<Used>
-        ensures funcs { IfOk result (λ used. (i : ℕ) → HasId used.funcs i
-            ↔ Reaches (IsExported «module».now.exports) (functions «module».now.funcs) i) }
-        ensures types { IfOk result (λ used. (t : ℕ) → HasId used.types t
-            ↔ ReachesType (IsExported «module».now.exports) (functions «module».now.funcs) t) }
-        ensures whole { OnOk result ((i : ℕ) → Reaches (IsExported «module».now.exports) (functions «module».now.funcs) i
-            → IsWhole (functions «module».now.funcs) (func_types «module».now.types) i) }
-        ensures others { IfOk result (λ used. IsNothing used.tables × IsNothing used.globals × IsNothing used.memories
-            × IsNothing used.tags × IsNothing used.elements × IsNothing used.data_) }
-        ensures refused { IfErr result (IsRefusal (ReachesBroken
-            (IsExported «module».now.exports) (functions «module».now.funcs) (func_types «module».now.types))) }
+    // The same over the parts of a module.
+    fn search(alloc: Global, parts: Parts<'_>) -> Result<Used>
+        ensures { MatchResult result (Followed (parts_view parts.entry)) (IsRefusal (ReachesUnsound (parts_view parts.entry))) }
     {
         let mut used = Used::nothing(alloc);
         let mut found = Vec::new(alloc);
-        enter_exports(&module.exports, &module.funcs, &mut used.funcs, &mut found)?;
-        follow(
-            &module.types,
-            &module.funcs,
-            &mut used.types,
-            &mut used.funcs,
-            &mut found,
-        )?;
+        let mut roots = Vec::new(alloc);
+        push_export_names(parts.exports, &mut roots)?;
+        enter_all(parts, roots.as_slice(), &mut used, &mut found)?;
+        follow(alloc, parts, &mut used, &mut found)?;
         Ok(used)
     }
 }
 
-// Marks a function, and enters it where it wasn't marked.
-fn enter(
-    id: FunctionId,
-    funcs: &ModuleFunctions,
-    marks: &mut IdHashSet<FunctionKey>,
-    found: &mut Vec<FunctionId>,
-) -> Result<()>
+// Marks what each item entered names, those that are entered on the way too.
+fn follow(alloc: Global, parts: Parts<'_>, used: &mut Used, found: &mut Vec<ItemId>) -> Result<()>
+    requires { Follows (parts_view parts) used.old (items_in found.old) 0 }
     ensures { MatchResult result
-        (λ _. Enters (functions funcs.now) (function_item (place id) ∷ []) marks.old marks.new found.old.items found.new.items)
-        (IsRefusal (NamesDead (functions funcs.now) (function_item (place id) ∷ []))) }
+        (λ _. Followed (parts_view parts.entry) used.new)
+        (IsRefusal (ReachesUnsound (parts_view parts.entry))) }
 {
-    if !funcs.contains(id) {
-        let dead = Error::DeadItem;
-        return Err(dead);
-    }
-    if marks.insert(id)? {
-        found.push(id)?;
-    }
-    Ok(())
-}
-
-fn enter_exports(
-    exports: &ModuleExports,
-    funcs: &ModuleFunctions,
-    marks: &mut IdHashSet<FunctionKey>,
-    found: &mut Vec<FunctionId>,
-) -> Result<()>
-    ensures { MatchResult result
-        (λ _. Enters (functions funcs.now) (export_names exports.now) marks.old marks.new found.old.items found.new.items)
-        (IsRefusal (NamesDead (functions funcs.now) (export_names exports.now))) }
-{
-    for export in exports.iter() {
-        enter_export(export.item, funcs, marks, found)?;
-    }
-    Ok(())
-}
-
-fn enter_export(
-    item: ExportItem,
-    funcs: &ModuleFunctions,
-    marks: &mut IdHashSet<FunctionKey>,
-    found: &mut Vec<FunctionId>,
-) -> Result<()>
-    ensures { MatchResult result
-        (λ _. Enters (functions funcs.now) (exported item ∷ []) marks.old marks.new found.old.items found.new.items)
-        (IsRefusal (NamesDead (functions funcs.now) (exported item ∷ []))) }
-{
-    match item {
-        ExportItem::Function(id) => enter(id, funcs, marks, found),
-    }
-}
-
-// Marks what each function found names, those that are found on the way too.
-fn follow(
-    types: &ModuleTypes,
-    funcs: &ModuleFunctions,
-    type_marks: &mut IdHashSet<TypeKey>,
-    marks: &mut IdHashSet<FunctionKey>,
-    found: &mut Vec<FunctionId>,
-) -> Result<()>
-    requires waiting { (j : ℕ) → HasId marks.old j → IsWaiting 0 found.old.items j }
-    requires found { AreFound (functions funcs.now) marks.old found.old.items }
-    requires no_types { IsNothing type_marks.old }
-    ensures { MatchResult result
-        (λ _. Followed (HasId marks.old) (functions funcs.now) (func_types types.now) type_marks.new marks.new)
-        (IsRefusal (ReachesBroken (HasId marks.old) (functions funcs.now) (func_types types.now))) }
-{
+    let mut named = Vec::new(alloc);
     for taken in 0..usize::MAX {
         if taken >= found.len() {
             break;
         }
-        let function = funcs.get(found[taken]);
-        enter_type(function.ty(), types, type_marks)?;
-        enter_kind(&function.kind, funcs, marks, found)?;
+        let item = found[taken];
+        follow_item(alloc, parts, item, &mut named, used, found)?;
     }
     Ok(())
 }
 
-fn enter_type(id: TypeId, types: &ModuleTypes, marks: &mut IdHashSet<TypeKey>) -> Result<()>
+// Enters all that a live item names. What was in `named` is let go.
+fn follow_item(
+    alloc: Global,
+    parts: Parts<'_>,
+    item: ItemId,
+    named: &mut Vec<ItemId>,
+    used: &mut Used,
+    found: &mut Vec<ItemId>,
+) -> Result<()>
+    requires { IsLive (parts_view parts) (item_of item) }
     ensures { MatchResult result
-        (λ _. IsLive (func_types types.now) (place id) × Adds marks.old marks.new (place id))
-        (IsRefusal (IsLive (func_types types.now) (place id) → ⊥)) }
+        (λ _. IsSound (parts_view parts.entry) (item_of item) × Enters (parts_view parts.entry)
+        (all_names (parts_view parts.entry) (item_of item)) used.old used.new (items_in found.old) (items_in found.new))
+        (IsRefusal ((IsSound (parts_view parts.entry) (item_of item) → ⊥)
+        ⊎ NamesDead (parts_view parts.entry) (all_names (parts_view parts.entry) (item_of item)))) }
 {
-    if !types.contains(id) {
+    named.clear();
+    push_item_names(alloc, parts, item, named)?;
+    enter_all(parts, named.as_slice(), used, found)
+}
+
+// Marks live items, and enters each that wasn't marked.
+fn enter_all(
+    parts: Parts<'_>,
+    items: &[ItemId],
+    used: &mut Used,
+    found: &mut Vec<ItemId>,
+) -> Result<()>
+    ensures { MatchResult result
+        (λ _. Enters (parts_view parts.entry) (map item_of items.now) used.old used.new (items_in found.old) (items_in found.new))
+        (IsRefusal (NamesDead (parts_view parts.entry) (map item_of items.now))) }
+{
+    for item in items {
+        enter(parts, *item, used, found)?;
+    }
+    Ok(())
+}
+
+// The same for one item.
+fn enter(parts: Parts<'_>, item: ItemId, used: &mut Used, found: &mut Vec<ItemId>) -> Result<()>
+    ensures { MatchResult result
+        (λ _. Enters (parts_view parts.entry) (item_of item ∷ []) used.old used.new (items_in found.old) (items_in found.new))
+        (IsRefusal (IsLive (parts_view parts.entry) (item_of item) → ⊥)) }
+{
+    if !is_live(parts, item) {
         return Err(Error::DeadItem);
     }
-    marks.insert(id)?;
-    Ok(())
-}
-
-fn enter_kind(
-    kind: &FunctionKind,
-    funcs: &ModuleFunctions,
-    marks: &mut IdHashSet<FunctionKey>,
-    found: &mut Vec<FunctionId>,
-) -> Result<()>
-    ensures { MatchResult result
-        (λ _. IsInitialised kind.now
-        × Enters (functions funcs.now) (kind_names kind.now) marks.old marks.new found.old.items found.new.items)
-        (IsRefusal (NamesDead (functions funcs.now) (kind_names kind.now) ⊎ (IsInitialised kind.now → ⊥))) }
-{
-    match kind {
-        FunctionKind::Import(_) => Ok(()),
-        FunctionKind::Local(local) => enter_operators(&local.operators, funcs, marks, found),
-        FunctionKind::Uninitialized(_) => Err(Error::DeadItem),
-    }
-}
-
-fn enter_operators(
-    operators: &[Operator],
-    funcs: &ModuleFunctions,
-    marks: &mut IdHashSet<FunctionKey>,
-    found: &mut Vec<FunctionId>,
-) -> Result<()>
-    ensures { MatchResult result
-        (λ _. Enters (functions funcs.now) (names_of (ops_of operators.now)) marks.old marks.new found.old.items found.new.items)
-        (IsRefusal (NamesDead (functions funcs.now) (names_of (ops_of operators.now)))) }
-{
-    for operator in operators {
-        enter_args(&operator.args, funcs, marks, found)?;
+    if mark(item, used)? {
+        found.push(item)?;
     }
     Ok(())
 }
 
-fn enter_args(
-    args: &Args,
-    funcs: &ModuleFunctions,
-    marks: &mut IdHashSet<FunctionKey>,
-    found: &mut Vec<FunctionId>,
-) -> Result<()>
-    ensures { MatchResult result
-        (λ _. Enters (functions funcs.now) (flat_map arg_names (args_of args.now)) marks.old marks.new found.old.items found.new.items)
-        (IsRefusal (NamesDead (functions funcs.now) (flat_map arg_names (args_of args.now)))) }
+// Whether the item is there. A module has types and functions so far.
+fn is_live(parts: Parts<'_>, item: ItemId) -> bool
+    ensures { IsTrue result ↔ IsLive (parts_view parts.entry) (item_of item) }
 {
-    match args {
-        Args::None => Ok(()),
-        Args::One(arg) => enter_arg(arg, funcs, marks, found),
-        Args::Several(args) => enter_each(args, funcs, marks, found),
+    match item {
+        ItemId::Type(id) => parts.types.contains(id),
+        ItemId::Function(id) => parts.funcs.contains(id),
+        ItemId::Table(_)
+        | ItemId::Memory(_)
+        | ItemId::Tag(_)
+        | ItemId::Global(_)
+        | ItemId::Element(_)
+        | ItemId::Data(_) => false,
     }
 }
 
-fn enter_each(
-    args: &[Arg],
-    funcs: &ModuleFunctions,
-    marks: &mut IdHashSet<FunctionKey>,
-    found: &mut Vec<FunctionId>,
-) -> Result<()>
-    ensures { MatchResult result
-        (λ _. Enters (functions funcs.now) (flat_map arg_names (map arg_of args.now)) marks.old marks.new found.old.items found.new.items)
-        (IsRefusal (NamesDead (functions funcs.now) (flat_map arg_names (map arg_of args.now)))) }
+// Marks an item, and answers whether it wasn't marked.
+fn mark(item: ItemId, used: &mut Used) -> result::Result<bool, AllocError>
+    ensures { IfOk result (λ is_new. (is_new ≡ not (has_mark used.old (item_of item)))
+        × Marks used.old used.new (item_of item)) }
 {
-    for arg in args {
-        enter_arg(arg, funcs, marks, found)?;
-    }
-    Ok(())
-}
-
-fn enter_arg(
-    arg: &Arg,
-    funcs: &ModuleFunctions,
-    marks: &mut IdHashSet<FunctionKey>,
-    found: &mut Vec<FunctionId>,
-) -> Result<()>
-    ensures { MatchResult result
-        (λ _. Enters (functions funcs.now) (arg_names (arg_of arg.now)) marks.old marks.new found.old.items found.new.items)
-        (IsRefusal (NamesDead (functions funcs.now) (arg_names (arg_of arg.now)))) }
-{
-    match arg {
-        Arg::Function(id) => enter(*id, funcs, marks, found),
-        Arg::S32(_) => Ok(()),
+    match item {
+        ItemId::Type(id) => used.types.insert(id),
+        ItemId::Function(id) => used.funcs.insert(id),
+        ItemId::Table(id) => used.tables.insert(id),
+        ItemId::Memory(id) => used.memories.insert(id),
+        ItemId::Tag(id) => used.tags.insert(id),
+        ItemId::Global(id) => used.globals.insert(id),
+        ItemId::Element(id) => used.elements.insert(id),
+        ItemId::Data(id) => used.data_.insert(id),
     }
 }

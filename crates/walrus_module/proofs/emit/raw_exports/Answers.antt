@@ -6,7 +6,7 @@ use Rattle.walrus_model.specs.Handled.{widened_export}
 use Rattle.walrus_module.specs.Sections.{export_record}
 use Rattle.wasm_entries.specs.declared.record.RawExport.{RawExport}
 use Rattle.walrus_base.specs.Arena.{items}
-use Rattle.walrus_ir.specs.Indices.{index_of}
+use Rattle.walrus_code.specs.Indices.{index_of}
 use Rattle.walrus_items.specs.Exports.{exports, exports_left}
 use Rattle.walrus_module.specs.Parts.{export_with_index}
 use Rattle.walrus_module.proofs.Refusing.{next_has}

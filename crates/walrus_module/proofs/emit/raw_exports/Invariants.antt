@@ -5,7 +5,7 @@ use Rattle.wasm_entries.specs.Record.{export_entry}
 use Rattle.walrus_model.specs.Handled.{widened_export}
 use Rattle.walrus_module.specs.Sections.{export_record}
 use Rattle.walrus_base.specs.Arena.{items}
-use Rattle.walrus_ir.specs.Indices.{index_of}
+use Rattle.walrus_code.specs.Indices.{index_of}
 use Rattle.walrus_items.specs.Exports.{exports, exports_left}
 use Rattle.walrus_module.specs.Parts.{export_with_index}
 use Rattle.walrus_module.proofs.emit.raw_exports.Given as goal

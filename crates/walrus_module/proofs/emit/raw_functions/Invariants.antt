@@ -1,6 +1,6 @@
 use Rattle.std.proofs.Common.{◌≡◌, ◌++◌, map, drop, Some}
 use Rattle.walrus_base.specs.Id.{place}
-use Rattle.walrus_ir.specs.Indices.{index_of}
+use Rattle.walrus_code.specs.Indices.{index_of}
 use Rattle.walrus_items.specs.Functions.{functions}
 use Rattle.walrus_module.specs.Parts.{type_index}
 use Rattle.walrus_module.proofs.emit.raw_functions.Given as goal

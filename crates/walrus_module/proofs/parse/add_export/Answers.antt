@@ -1,5 +1,5 @@
 use Rattle.std.proofs.Common.{ap, ◌∙◌}
-use Rattle.walrus_ir.specs.Operators.{Functions}
+use Rattle.walrus_types.specs.Operators.{Functions}
 use Rattle.walrus_module.specs.Sections.{export_record}
 use Rattle.walrus_module.proofs.Taking.{exports_push, some_same}
 use Rattle.walrus_module.proofs.parse.add_export.Goals as goal

@@ -1,7 +1,7 @@
 use Rattle.std.proofs.Common.{◌≡◌, sym, ◌∙◌}
 use Rattle.std.specs.Prelude.{Some}
-use Rattle.walrus_ir.specs.Indices.{ids_at}
-use Rattle.walrus_ir.specs.Operators.{Functions}
+use Rattle.walrus_code.specs.Indices.{ids_at}
+use Rattle.walrus_types.specs.Operators.{Functions}
 use Rattle.walrus_model.specs.Reads.{export_of}
 use Rattle.walrus_model.proofs.Lists.{map-map}
 use Rattle.walrus_model.specs.Handled.{Export}

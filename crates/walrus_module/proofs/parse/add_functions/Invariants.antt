@@ -1,14 +1,20 @@
-use Rattle.std.proofs.Common.{◌≡◌, map, take, length}
-use Rattle.std.specs.List.{range_with_len}
-use Rattle.walrus_ir.specs.Indices.{places_in}
-use Rattle.walrus_ir.specs.Operators.{Types, Functions}
-use Rattle.walrus_module.specs.Taken.{locals_held, empty_body}
+use Rattle.std.proofs.Common.{map, take}
+use Rattle.std.specs.Prelude.{zip}
+use Rattle.std.specs.List.{AllZip}
+use Rattle.walrus_base.specs.Arena.{item_at}
+use Rattle.walrus_types.specs.Locals.{locals}
+use Rattle.walrus_types.specs.ModuleTypes.{type_slots}
+use Rattle.walrus_code.specs.Indices.{ids_at}
+use Rattle.walrus_bodies.specs.Body.{context}
+use Rattle.walrus_bodies.specs.FunctionTypes.{is_function_at}
+use Rattle.walrus_functions.specs.EmittedBody.{types_of as local_types}
+use Rattle.walrus_items.specs.Functions.{functions}
+use Rattle.walrus_module.specs.Taken.{IsTaken, IsLocated}
+use Rattle.wasm_frames.specs.Record.{body_record}
 use Rattle.walrus_module.proofs.parse.add_functions.Given as goal
 
-abbrev pub invariant-loop-index : goal.invariant-loop-index
-invariant-loop-index l = record {
-  added : locals_held l.funcs ≡ map empty_body (take l.index-index l.raw);
-  counted : length (locals_held l.funcs) ≡ l.index-index;
-  numbered : places_in l.indices Functions ≡ range_with_len 0 l.index-index;
-  others : places_in l.indices Types ≡ places_in l.initial.indices Types;
+abbrev pub invariant-loop-place : goal.invariant-loop-place
+invariant-loop-place l = record {
+  taken : AllZip (IsTaken (context (ids_at l.indices) (is_function_at l.types) l.features) (item_at (type_slots l.types)) (local_types (locals l.all))) (take l.place (zip l.of_types (map body_record l.bodies))) (functions l.funcs);
+  located : AllZip IsLocated (take l.place (map body_record l.bodies)) (functions l.funcs);
 }

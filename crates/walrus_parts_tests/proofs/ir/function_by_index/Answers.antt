@@ -1,5 +1,5 @@
 use Rattle.std.proofs.Common.{arith, lit<}
-use Rattle.walrus_ir.specs.Operators.{Functions}
+use Rattle.walrus_types.specs.Operators.{Functions}
 use Rattle.walrus_parts_tests.proofs.ir.function_by_index.Goals as goal
 
 pub push_func-requires-clause-is_new : goal.push_func-requires-clause-is_new

@@ -1,4 +1,4 @@
-use Rattle.walrus_ir.specs.Operators.{Types}
+use Rattle.walrus_types.specs.Operators.{Types}
 use Rattle.walrus_parts_tests.proofs.ir.gives_type_0.Goals as goal
 
 pub push_type-requires-clause-is_new : goal.push_type-requires-clause-is_new

@@ -1,5 +1,5 @@
 use Rattle.std.proofs.Common.{arith, lit<}
-use Rattle.walrus_ir.specs.Operators.{Types}
+use Rattle.walrus_types.specs.Operators.{Types}
 use Rattle.walrus_parts_tests.proofs.ir.has_type_at_0.Goals as goal
 
 pub push_type-requires-clause-is_new : goal.push_type-requires-clause-is_new

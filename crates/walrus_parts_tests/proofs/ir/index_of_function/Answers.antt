@@ -1,4 +1,4 @@
-use Rattle.walrus_ir.specs.Operators.{Functions}
+use Rattle.walrus_types.specs.Operators.{Functions}
 use Rattle.walrus_parts_tests.proofs.ir.index_of_function.Goals as goal
 
 pub push_func-requires-clause-is_new : goal.push_func-requires-clause-is_new

@@ -1,16 +1,16 @@
 use Rattle.std.proofs.Common.{List, map, ap, ◌∙◌}
 use Rattle.walrus_base.specs.Id.{place}
-use Rattle.walrus_base.specs.ModuleTypes.{func_types}
 use Rattle.walrus_base.specs.declared.id.Id.{Id}
 use Rattle.walrus_base.specs.declared.keys.FunctionKey.{FunctionKey}
 use Rattle.walrus_base.specs.declared.keys.TypeKey.{TypeKey}
-use Rattle.walrus_ir.specs.Operators.{Functions, Types}
+use Rattle.walrus_types.specs.ModuleTypes.{type_slots}
+use Rattle.walrus_types.specs.Operators.{Functions, Types}
 use Rattle.walrus_items.specs.Functions.{functions}
 use Rattle.walrus_model.specs.Kept.{Kept}
 use Rattle.walrus_model.proofs.PipelineCollected.{stays_collected_lem}
 use Rattle.walrus_module.specs.View.{view, view_of}
-use Rattle.walrus.proofs.CollectedLemmas.{is_collected}
-use Rattle.walrus.proofs.Dropped.{collected}
+use Rattle.walrus.proofs.CollectedLemmas.{is_collected, keeps_groups}
+use Rattle.walrus.proofs.Dropped.{collected, groups_collected}
 use Rattle.walrus.proofs.passes.gc.run.Goals as goal
 
 pub returns-clause-functions : goal.returns-clause-functions
@@ -23,7 +23,9 @@ returns-clause-functions g c =
 pub returns-clause-types : goal.returns-clause-types
 returns-clause-types g c =
     let old = c.args.module.now in
-    collected c.in_ok-used.used.types (λ t. Kept (view old) (Types, t)) (λ t. c.in_ok-used.ensures.kept (Types, t)) (func_types old.types) (func_types c.delete_types.new.types) (map place c.deref-2.result.now)
+    groups_collected (type_slots old.types) c.groups_are_whole.ensures c.in_ok-used.used.types (λ t. Kept (view old) (Types, t)) (λ t. c.in_ok-used.ensures.kept (Types, t))
+    (keeps_groups old.types old.locals old.funcs old.exports)
+    (type_slots c.delete_types.new.types) (map place c.deref-2.result.now)
     (ap (λ (ids : List (Id TypeKey)). map place ids) c.deref-2.ensures.value ∙ c.in_ok-types.ensures.value)
     c.delete_types.ensures
 

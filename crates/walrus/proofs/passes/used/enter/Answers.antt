@@ -1,18 +1,26 @@
-use Rattle.std.proofs.Common.{rules}
-use Rattle.walrus_base.specs.Arena.{IsLive}
-use Rattle.walrus_base.specs.Id.{place}
-use Rattle.walrus_base.specs.IdSet.{has_id}
-use Rattle.walrus_items.specs.Functions.{functions}
-use Rattle.walrus.proofs.Entered.{enters_new, enters_again, was_in}
+use Rattle.std.proofs.Common.{rules, ◌≡◌, [], ◌∷◌, ◌++◌, List, sym, subst}
+use Rattle.std.proofs.lemmas.List.{map-append}
+use Rattle.walrus_code.specs.Code.{item_of}
+use Rattle.walrus_types.specs.Operators.{Item}
+use Rattle.walrus_model.specs.Live.{IsLive}
+use Rattle.walrus.specs.Named.{items_in, parts_view}
+use Rattle.walrus.specs.Used.{Enters}
+use Rattle.walrus.proofs.Entered.{enters_marked, enters_new}
 use Rattle.walrus.proofs.passes.used.enter.Goals as goal
 use Rattle.walrus.proofs.passes.used.enter.Goals.{then-branch+in_ok-push, else-branch}
 
 pub returns : goal.returns
 returns c =
-    let live : IsLive (functions c.args.funcs.now) (place c.args.id) = search rules in
-    let adds = c.in_ok-insert.ensures.1 in
-    let is_new = c.in_ok-insert.ensures.0 in
+    let v = parts_view c.args.parts in
+    let x = item_of c.args.item in
+    let old = c.args.used.now in
+    let new = c.mark.new.used in
+    let before = items_in c.args.found.now in
+    let live : IsLive v x = search rules in
+    let m = c.in_ok-mark.ensures in
     elim c.if-branch.branch [
-      | then-branch+in_ok-push w ↦ rw (w.found-is, w.in_ok-push.ensures.items) (enters_new (functions c.args.funcs.now) c.args.id c.args.marks.now c.insert.new.self adds c.args.found.now.items live)
-      | else-branch w ↦ rw w.found-is (enters_again (functions c.args.funcs.now) (place c.args.id) c.args.marks.now c.insert.new.self adds c.args.found.now.items live (was_in (has_id c.args.marks.now (place c.args.id)) c.in_ok-insert.field-0 is_new w.if-branch.false))
+      | then-branch+in_ok-push w ↦
+          let grown : items_in c.if-branch.found ≡ before ++ x ∷ [] = rw (w.found-is, w.in_ok-push.ensures.items) (map-append item_of c.args.found.now.items (c.args.item ∷ [])) in
+          subst (λ (t : List Item). Enters v (x ∷ []) old new before t) (sym grown) (enters_new v x old new m.1 live before)
+      | else-branch w ↦ rw w.found-is (enters_marked v x old new m.1 live before c.in_ok-mark.field-0 m.0 w.if-branch.false)
     ]

@@ -1,30 +1,48 @@
-use Rattle.std.proofs.Common.{refl, false}
-use Rattle.std.specs.Prelude.{Bool}
+use Rattle.std.proofs.Common.{◌≡◌, refl, true, false, subst}
+use Rattle.std.specs.Prelude.{Bool, Result, Ok, Err, IfOk}
+use Rattle.std.specs.Global.{Vec}
 use Rattle.walrus_base.specs.Arena.{items}
-use Rattle.walrus_base.specs.ModuleTypes.{func_types}
+use Rattle.walrus_bodies.specs.declared.features.Features.{Features}
 use Rattle.walrus_items.specs.Exports.{exports}
 use Rattle.walrus_items.specs.Functions.{functions}
-use Rattle.walrus_module.specs.Emitted.{IsEmitted}
+use Rattle.walrus_model.specs.Placed.{Placed}
+use Rattle.walrus_model.specs.Reads.{features_of}
+use Rattle.walrus_module.specs.Emitted.{IsEmitted, RefusesDeclared}
 use Rattle.walrus_module.specs.Flags.{config_of}
+use Rattle.walrus_module.specs.Parts.{Held, held_in}
+use Rattle.walrus_module.specs.References.{refs_are_exported}
 use Rattle.walrus_module.specs.Settings.{settings}
 use Rattle.walrus_module.specs.Spells.{Spells}
 use Rattle.walrus_module.specs.View.{view}
-use Rattle.walrus_module.proofs.EmittedLemmas.{if_ok_both, records_written, spelled_is_emitted}
+use Rattle.walrus_module.proofs.EmittedLemmas.{if_ok_both, records_written, spelled_is_emitted, emitted_ok}
+use Rattle.walrus_module.proofs.PlacedLemmas.{placed_as_spelled}
 use Rattle.walrus_module.proofs.RefusedLemmas.{refuses_lem}
+use Rattle.walrus_module.proofs.ThereLemmas.{there, there_back}
 use Rattle.walrus_module.proofs.module.Module.emit_wasm.Goals as goal
 
 pub returns-clause-emitted : goal.returns-clause-emitted
-returns-clause-emitted g c differ =
+returns-clause-emitted g c = λ differ.
+    let m = c.args.self.now in
+    let features = c.features-features.ensures in
+    emitted_ok (config_of (settings m)) (refl {A = Bool} {a = false}) (refl {A = Bool} {a = false}) m.types m.locals m.funcs m.exports (λ bytes. bytes.items) c.emit_items.result differ
+    (subst (λ (f : Features). IfOk c.emit_items.result (λ bytes. Spells (held_in m.types m.locals m.funcs) f (items (exports m.exports)) bytes.items)) features c.emit_items.ensures.spells)
+    (subst (λ (f : Features). RefusesDeclared (held_in m.types m.locals m.funcs) f (items (exports m.exports)) c.emit_items.result) features c.emit_items.ensures.refused)
+
+pub returns-clause-placed : goal.returns-clause-placed
+returns-clause-placed g c =
     let m = c.args.self.now in
     if_ok_both c.emit_items.result
-    (λ bytes. Spells (func_types m.types) (functions m.funcs) (items (exports m.exports)) bytes.items)
-    (λ bytes. IsEmitted (config_of (settings m)) (view m) bytes.items)
-    (λ bytes s. spelled_is_emitted (config_of (settings m)) (refl {A = Bool} {a = false}) (refl {A = Bool} {a = false}) m.types m.locals m.funcs m.exports bytes.items s differ)
+    (λ bytes. Spells (held_in m.types m.locals m.funcs) c.features-features.result (items (exports m.exports)) bytes.items)
+    (λ bytes. Placed bytes.items)
+    (λ bytes s. placed_as_spelled (held_in m.types m.locals m.funcs) c.features-features.result (items (exports m.exports)) bytes.items s)
     c.emit_items.ensures.spells
 
 pub returns-clause-refused : goal.returns-clause-refused
 returns-clause-refused g c =
     let m = c.args.self.now in
-    refuses_lem (config_of (settings m)) m.types m.locals m.funcs m.exports c.emit_items.result
-    (records_written (config_of (settings m)) (refl {A = Bool} {a = false}) (refl {A = Bool} {a = false}) m.types m.locals m.funcs m.exports)
-    c.emit_items.ensures.refused
+    refuses_lem (config_of (settings m)) m.types m.locals m.funcs m.exports
+    (λ declared r. records_written (config_of (settings m)) (refl {A = Bool} {a = false}) (refl {A = Bool} {a = false}) m.types m.locals m.funcs m.exports declared r)
+    (there m.types m.locals m.funcs m.exports c.groups_are_whole.ensures)
+    (there_back m.types m.locals m.funcs m.exports)
+    c.emit_items.result
+    (subst (λ (f : Features). RefusesDeclared (held_in m.types m.locals m.funcs) f (items (exports m.exports)) c.emit_items.result) c.features-features.ensures c.emit_items.ensures.refused)

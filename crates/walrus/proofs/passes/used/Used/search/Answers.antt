@@ -1,57 +1,42 @@
+use Rattle.std.proofs.Common.{◌≡◌, [], List, ◌++◌, ap, map, ◌∙◌, subst}
 use Rattle.std.proofs.lemmas.Result.{err_from_is_err_and}
-use Rattle.walrus_base.specs.IdSet.{HasId}
-use Rattle.walrus_base.specs.ModuleTypes.{func_types}
-use Rattle.walrus_items.specs.Functions.{functions}
-use Rattle.walrus.specs.Used.{IsExported, NamesDead, ReachesBroken, export_names}
-use Rattle.walrus.proofs.Entered.{refusal_map}
-use Rattle.walrus.proofs.Followed.{broken_from, broken_named, followed_from, first_named, first_waiting, first_found}
+use Rattle.walrus_code.specs.Code.{item_of}
+use Rattle.walrus_code.specs.declared.items.ItemId.{ItemId}
+use Rattle.walrus_types.specs.Operators.{Item}
+use Rattle.walrus.specs.Marked.{ReachesUnsound}
+use Rattle.walrus.specs.Named.{export_names, items_in, parts_view}
+use Rattle.walrus.specs.Used.{Enters, NamesDead}
+use Rattle.walrus.proofs.Entered.{nothing_agrees}
+use Rattle.walrus.proofs.Followed.{follows_init, unsound_root}
+use Rattle.walrus.proofs.NamedLemmas.{refusal_map}
+use Rattle.walrus.proofs.ReachedLemmas.{roots_are}
 use Rattle.walrus.proofs.passes.used.Used.search.Goals as goal
 
+pub returns-in_err-enter_all : goal.returns-in_err-enter_all
+returns-in_err-enter_all c =
+    let p = err_from_is_err_and c.from_residual-in_err-enter_all.result c.from_residual-in_err-enter_all.ensures.1 in
+    let parts = c.args.parts in
+    let v = parts_view parts in
+    let names = export_names parts.exports.now in
+    let roots : map item_of c.as_slice.result.now ≡ names = ap (λ (ids : List ItemId). map item_of ids) c.as_slice.ensures.value ∙ c.in_ok-push_export_names.ensures ∙ ap (λ (ids : List ItemId). map item_of ids ++ names) c.new-roots.ensures.items in
+    rw (p.1, p.2) (refusal_map (NamesDead v (map item_of c.as_slice.result.now)) (ReachesUnsound v)
+    (λ dead. unsound_root v names (roots_are parts.types.now parts.locals.now parts.funcs.now parts.exports.now) (subst (λ (xs : List Item). NamesDead v xs) roots dead))
+    c.in_err-enter_all.field-0.0 c.in_err-enter_all.ensures)
+
 pub follow-requires : goal.follow-requires
-follow-requires g c =
-    let funcs = functions c.args.module.now.funcs in
-    let names = export_names c.args.module.now.exports in
-    let e = c.in_ok-enter_exports.ensures in
-    let none = c.nothing-used.ensures.funcs in
-    let nil = c.new-found.ensures.items in
-    record {
-      waiting = first_waiting funcs names c.nothing-used.result.funcs c.enter_exports.new.marks c.new-found.result.items c.enter_exports.new.found.items none nil e;
-      found = first_found funcs names c.nothing-used.result.funcs c.enter_exports.new.marks c.new-found.result.items c.enter_exports.new.found.items none nil e;
-      no_types = c.nothing-used.ensures.types;
-    }
-
-pub returns : goal.returns
-returns g c =
-    let funcs = functions c.args.module.now.funcs in
-    let types = func_types c.args.module.now.types in
-    let names = export_names c.args.module.now.exports in
-    let e = c.in_ok-enter_exports.ensures in
+follow-requires c =
+    let parts = c.args.parts in
+    let v = parts_view parts in
+    let names = export_names parts.exports.now in
     let none = c.nothing-used.ensures in
-    let nil = c.new-found.ensures.items in
-    let f = followed_from (HasId c.enter_exports.new.marks) (IsExported c.args.module.now.exports) funcs types (first_named funcs names c.nothing-used.result.funcs c.enter_exports.new.marks c.new-found.result.items c.enter_exports.new.found.items none.funcs nil e) e.marked c.follow.new.type_marks c.follow.new.marks c.in_ok-follow.ensures in
-    record {
-      funcs = f.reached;
-      types = f.reached_types;
-      whole = f.whole;
-      others = (none.tables, none.globals, none.memories, none.tags, none.elements, none.data_segments);
-      refused = tt;
-    }
-
-pub returns-in_err-enter_exports-clause-refused : goal.returns-in_err-enter_exports-clause-refused
-returns-in_err-enter_exports-clause-refused g c =
-    let p = err_from_is_err_and c.from_residual.result c.from_residual.ensures.1 in
-    let funcs = functions c.args.module.now.funcs in
-    let types = func_types c.args.module.now.types in
-    let roots = IsExported c.args.module.now.exports in
-    rw (p.1, p.2) (refusal_map (NamesDead funcs (export_names c.args.module.now.exports)) (ReachesBroken roots funcs types) (λ h. broken_named roots funcs types h.0 h.1 h.2) c.in_err-enter_exports.field-0.0 c.in_err-enter_exports.ensures)
-
-pub returns-in_err-follow-clause-refused : goal.returns-in_err-follow-clause-refused
-returns-in_err-follow-clause-refused g c =
-    let p = err_from_is_err_and c.from_residual-in_err-follow.result c.from_residual-in_err-follow.ensures.1 in
-    let funcs = functions c.args.module.now.funcs in
-    let types = func_types c.args.module.now.types in
-    let names = export_names c.args.module.now.exports in
-    let before = HasId c.enter_exports.new.marks in
-    let roots = IsExported c.args.module.now.exports in
-    let named = first_named funcs names c.nothing-used.result.funcs c.enter_exports.new.marks c.new-found.result.items c.enter_exports.new.found.items c.nothing-used.ensures.funcs c.new-found.ensures.items c.in_ok-enter_exports.ensures in
-    rw (p.1, p.2) (refusal_map (ReachesBroken before funcs types) (ReachesBroken roots funcs types) (λ h. broken_from before roots funcs types named h) c.in_err-follow.field-0.0 c.in_err-follow.ensures)
+    let u0 = c.nothing-used.result in
+    let u1 = c.enter_all.new.used in
+    let f0 = items_in c.new-found.result in
+    let f1 = items_in c.enter_all.new.found in
+    let roots : map item_of c.as_slice.result.now ≡ names = ap (λ (ids : List ItemId). map item_of ids) c.as_slice.ensures.value ∙ c.in_ok-push_export_names.ensures ∙ ap (λ (ids : List ItemId). map item_of ids ++ names) c.new-roots.ensures.items in
+    let first : f0 ≡ [] = ap (λ (ids : List ItemId). map item_of ids) c.new-found.ensures.items in
+    let named = subst (λ (xs : List Item). Enters v xs u0 u1 f0 f1) roots c.in_ok-enter_all.ensures in
+    follows_init v u0 u1 names f1
+    (nothing_agrees u0 none.types none.funcs none.tables none.globals none.memories none.tags none.elements none.data_segments)
+    (subst (λ (before : List Item). Enters v names u0 u1 before f1) first named)
+    (roots_are parts.types.now parts.locals.now parts.funcs.now parts.exports.now)

@@ -1,0 +1,90 @@
+#!/usr/bin/env bash
+# Runs the built program wasm_bodies on made modules and on the modules of ../shared/samples, and prints a table: the bytes of their
+# code sections; the megabytes a second of the file that `cat` copies, and that `dd` copies by one buffer of the file's size; the
+# megabytes of code a second of a run that reads all bodies (--read), of one that also writes them (--write), and of writing alone,
+# from the difference of the two; the peak memory of both runs, and that memory for each byte of code. Each time is the best of five.
+# Below it stand the bytes that an operator and an argument take in memory.
+# bench/bodies.sh [MEGABYTES..], 10 25 50 where none are given. No part of the gate.
+set -eu
+here=$(cd "$(dirname "$0")" && pwd)
+program=$here/../crates/wasm_bodies/out/wasm_bodies
+[ -x "$program" ] || { (cd "$here/../crates/wasm_bodies" && rt run < stdin > /dev/null) || true; }
+[ -x "$program" ] || { echo "bench/bodies.sh: the program isn't built" >&2; exit 1; }
+files=$(mktemp -d)
+trap 'rm -rf "$files"' EXIT
+[ $# -gt 0 ] || set -- 10 25 50
+
+# a line of the table for the modules behind $1 (a kind) and $2 (megabytes)
+line() {
+  python3 - "$program" "$files/out" "$@" <<'PY'
+import os, sys, time
+
+ROUNDS = 5
+
+
+def number(data, at):
+    value, shift = 0, 0
+    while True:
+        byte = data[at]
+        at += 1
+        value |= (byte & 0x7F) << shift
+        shift += 7
+        if byte < 0x80:
+            return value, at
+
+
+# the size of a module's code section
+def code_size(module):
+    data, at, size = open(module, "rb").read(), 8, 0
+    while at < len(data):
+        kind = data[at]
+        length, at = number(data, at + 1)
+        size += length if kind == 10 else 0
+        at += length
+    return size
+
+
+# the least seconds of some rounds, and the peak bytes, of a command on each of the modules
+def measure(command_for, modules, sink):
+    total, most = 0.0, 0
+    for module in modules:
+        command, best = command_for(module), None
+        for _ in range(ROUNDS):
+            begin = time.monotonic()
+            pid = os.fork()
+            if pid == 0:
+                os.dup2(os.open(module, os.O_RDONLY), 0)
+                os.dup2(os.open(sink, os.O_WRONLY | os.O_CREAT | os.O_TRUNC, 0o644), 1)
+                os.execvp(command[0], command)
+            _, status, usage = os.wait4(pid, 0)
+            seconds = time.monotonic() - begin
+            if status != 0:
+                sys.exit(f"bench/bodies.sh: {command} answers {os.waitstatus_to_exitcode(status)} on {module}")
+            best = seconds if best is None else min(best, seconds)
+            most = max(most, usage.ru_maxrss * 1024)
+        total += best
+    return total, most
+
+
+program, sink, kind, size, modules = *sys.argv[1:5], sys.argv[5:]
+count = sum(os.path.getsize(module) for module in modules)
+code, most_code = sum(map(code_size, modules)), max(map(code_size, modules))
+cat, _ = measure(lambda _: ["cat"], modules, sink)
+dd, _ = measure(lambda module: ["dd", f"bs={os.path.getsize(module)}", "iflag=fullblock", "status=none"], modules, sink)
+read, read_peak = measure(lambda _: [program, "--read"], modules, sink)
+both, both_peak = measure(lambda _: [program, "--write"], modules, sink)
+rate = lambda size, seconds: f"{size / 1e6 / max(seconds, 1e-6):8.1f}"
+print(f"{kind:8} {size:>4} {code:10} {rate(count, cat)} {rate(count, dd)} {rate(code, read)} {rate(code, both)} {rate(code, both - read)}"
+      f" {read_peak / 1e6:9.1f} {both_peak / 1e6:9.1f} {read_peak / most_code:9.1f} {both_peak / most_code:9.1f}", flush=True)
+PY
+}
+
+echo "MB/s, and peak memory in MB"
+printf '%-8s %4s %10s %8s %8s %8s %8s %8s %9s %9s %9s %9s\n' kind MB code cat dd read both write read-peak both-peak read/byte both/byte
+for megabytes in "$@"; do
+  python3 "$here/make.py" bodies "$megabytes" > "$files/in.wasm"
+  line bodies "$megabytes" "$files/in.wasm"
+done
+samples=$here/../../shared/samples
+[ ! -d "$samples" ] || line samples - "$samples"/*.wasm
+"$program" --sizes

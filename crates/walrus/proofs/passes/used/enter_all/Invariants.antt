@@ -1,0 +1,9 @@
+use Rattle.std.proofs.Common.{map, take}
+use Rattle.walrus_code.specs.Code.{item_of}
+use Rattle.walrus.specs.Named.{items_in, parts_view}
+use Rattle.walrus.specs.Used.{Enters}
+use Rattle.walrus.proofs.passes.used.enter_all.Given as goal
+
+-- the items before are entered
+abbrev pub invariant-loop-item : goal.invariant-loop-item
+invariant-loop-item l = Enters (parts_view l.parts) (map item_of (take l.item-index l.items)) l.fn.used l.used (items_in l.fn.found) (items_in l.found)

@@ -1,0 +1,75 @@
+-- Whether a function's type takes what its parameters hold, and what the locals hold that it declares.
+use Rattle.std.proofs.Common.{◌≡◌, ◌↔◌, ℕ, zero, suc, ◌<◌, Bool, true, IsTrue, Decides, List, [], ◌∷◌, length, map, Option, Some, None, Result, Ok, Err, refl, sym, ap, ap₂, ◌∙◌, subst, arith}
+use Rattle.std.specs.Prelude.{All, Contains, IsSome}
+use Rattle.std.proofs.lemmas.List.Elements.{All-head, All-tail, Contains-append_right}
+use Rattle.wasm_forms.specs.declared.types.RawVal.{RawVal}
+use Rattle.walrus_base.specs.Arena.{item_at}
+use Rattle.walrus_base.specs.Types.{ValType}
+use Rattle.walrus_types.specs.TypeDef.{TypeDef}
+use Rattle.walrus_code.specs.Names.{Lookup, named_val}
+use Rattle.walrus_code.specs.Results.{val_is_exact}
+use Rattle.walrus_code.specs.declared.error.IrError.{IrError}
+use Rattle.walrus_code.specs.declared.error.IrError.TheVariants.{Malformed, Memory, NoIndex, NotWritable, TooLarge}
+use Rattle.walrus_functions.specs.Declaring.{AreRuns, Declares}
+use Rattle.walrus_functions.specs.EmittedBody.{takes}
+use Rattle.walrus_functions.specs.Writing.{HasSignature, HasOneOf, DeclaresLocals}
+use Rattle.walrus_functions.proofs.RunLemmas.{type_among}
+
+some_same : {T : Type 0} (x y : T) → Some x ≡ Some y → x ≡ y
+some_same x y h = cc
+
+head_same : {T : Type 0} (x y : T) (xs ys : List T) → x ∷ xs ≡ y ∷ ys → x ≡ y
+head_same x y xs ys h = cc
+
+tail_same : {T : Type 0} (x y : T) (xs ys : List T) → x ∷ xs ≡ y ∷ ys → xs ≡ ys
+tail_same x y xs ys h = cc
+
+-- lists that are the same where each element is there
+pub all_same : {T : Type 0} (xs ys : List T) → map Some xs ≡ map Some ys → xs ≡ ys
+all_same [] [] h = refl
+all_same [] (y ∷ ys) h = absurd cc
+all_same (x ∷ xs) [] h = absurd cc
+all_same {T} (x ∷ xs) (y ∷ ys) h = ap₂ (λ (z : T) (zs : List T). z ∷ zs) (some_same x y (head_same _ _ _ _ h)) (all_same xs ys (tail_same _ _ _ _ h))
+
+pub fit : (def : Option TypeDef) (slots : List (Option (ValType ℕ))) (parameters : List ℕ) (held wanted : List (ValType ℕ)) (r : Bool) → takes def ≡ Some wanted → map (item_at slots) parameters ≡ map Some held → Decides r (held ≡ wanted) → IsTrue r ↔ HasSignature def slots parameters
+fit def slots parameters held wanted r taken are same = (
+  λ h. (wanted, (taken, are ∙ ap (map Some) (same.0 h))),
+  λ s. same.1 (all_same held s.0 (sym are ∙ s.1.1) ∙ some_same s.0 wanted (sym s.1.0 ∙ taken)),
+)
+
+-- ---- locals that are there
+
+there : {T : Type 0} (o : Option T) → IsSome o → (x : T) × (o ≡ Some x)
+there None h = absurd cc
+there (Some x) h = (x, refl)
+
+pub held_by : {A : Type 0} (f : A → ℕ) (slots : List (Option (ValType ℕ))) (ids : List A) → All (λ id. IsSome (item_at slots (f id))) ids → (types : List (ValType ℕ)) × (map (item_at slots) (map f ids) ≡ map Some types)
+held_by f slots [] h = ([], refl)
+held_by {A} f slots (id ∷ ids) h =
+    let first = there (item_at slots (f id)) (All-head (λ (id : A). IsSome (item_at slots (f id))) id ids h) in
+    let rest = held_by f slots ids (All-tail (λ (id : A). IsSome (item_at slots (f id))) id ids h) in
+    (first.0 ∷ rest.0, ap₂ (λ (o : Option (ValType ℕ)) (os : List (Option (ValType ℕ))). o ∷ os) first.1 rest.1)
+
+-- the local of a type that is held
+holder : (slots : List (Option (ValType ℕ))) (order : List ℕ) (types : List (ValType ℕ)) (v : ValType ℕ) → map (item_at slots) order ≡ map Some types → Contains types v → (x : ℕ) × (Contains order x × (item_at slots x ≡ Some v))
+holder slots [] [] v are (k, low, is) = absurd (omega arith)
+holder slots [] (t ∷ types) v are among = absurd cc
+holder slots (x ∷ order) [] v are among = absurd cc
+holder slots (x ∷ order) (t ∷ types) v are (zero, low, is) = (x, ((zero, omega arith, refl), head_same _ _ _ _ are ∙ ap (λ (w : ValType ℕ). Some w) is))
+holder slots (x ∷ order) (t ∷ types) v are (suc k, low, is) =
+    let lower : k < length types = omega (arith, low) in
+    let rest = holder slots order types v (tail_same _ _ _ _ are) (k, lower, is) in
+    (rest.0, (Contains-append_right (x ∷ []) order rest.0 rest.1.0, rest.1.1))
+
+one_of : (slots : List (Option (ValType ℕ))) (order : List ℕ) (types : List (ValType ℕ)) (groups : List (ℕ × ValType ℕ)) (P : ValType ℕ → Type 0) → map (item_at slots) order ≡ map Some types → AreRuns types groups → (g : ℕ × ValType ℕ) → Contains groups g → P g.1 → HasOneOf slots order P
+one_of slots order types groups P typed runs g among p =
+    let x = holder slots order types g.1 typed (subst (λ (ts : List (ValType ℕ)). Contains ts g.1) runs.all (type_among groups runs.filled g among)) in
+    (x.0, (g.1, (x.1.0, x.1.1, p)))
+
+pub declares_locals : {X : Type 0} (names : Lookup) (slots : List (Option (ValType ℕ))) (order : List ℕ) (types : List (ValType ℕ)) (groups : List (ℕ × ValType ℕ)) (view : X → List (ℕ × RawVal)) (result : Result X IrError) → map (item_at slots) order ≡ map Some types → AreRuns types groups → Declares names groups view result → DeclaresLocals names slots order view result
+declares_locals names slots order types groups view (Ok x) typed runs is = record { types = types; typed = typed; groups = groups; runs = runs; indexed = is }
+declares_locals names slots order types groups view (Err NoIndex) typed runs is = one_of slots order types groups (λ v. named_val names v ≡ None) typed runs is.0 is.1.0 is.1.1
+declares_locals names slots order types groups view (Err NotWritable) typed runs is = one_of slots order types groups (λ v. val_is_exact v ≡ true) typed runs is.0 is.1.0 is.1.1
+declares_locals names slots order types groups view (Err (Memory e)) typed runs is = tt
+declares_locals names slots order types groups view (Err Malformed) typed runs is = is
+declares_locals names slots order types groups view (Err TooLarge) typed runs is = is

@@ -1,0 +1,26 @@
+mod HandlerLemmas
+mod LawSpelled
+mod LawTags
+mod ParameterLemmas
+pub mod ApartLemmas
+pub mod CountLemmas
+pub mod DeclarationLemmas
+pub mod DistinctLemmas
+pub mod FitLemmas
+pub mod LawMoves
+pub mod LawNamed
+pub mod LawOnce
+pub mod LawOrder
+pub mod LawWritable
+pub mod LowestLemmas
+pub mod NestLemmas
+pub mod NumberedLemmas
+pub mod OnceLemmas
+pub mod OrderLemmas
+pub mod RunLemmas
+pub mod SpellingLemmas
+pub mod StrictLemmas
+pub mod Turns
+pub mod TypedLemmas
+pub mod ValueLemmas
+pub mod WrittenLemmas

@@ -1,0 +1,59 @@
+use Rattle.std.proofs.Common.{ℕ, ◌+◌, List, [], ◌∷◌, ◌++◌, sym, ap, subst, ◌∙◌, map, take, inl, inr, nat_eq}
+use Rattle.std.specs.HashSet as set
+use Rattle.walrus_base.specs.Id.{place}
+use Rattle.walrus_base.specs.Arena.{item_at}
+use Rattle.walrus_types.specs.Locals.{locals}
+use Rattle.walrus_types.specs.Value.{val_type}
+use Rattle.walrus_functions.specs.Declaring.{typed, AreTyped, same_local}
+use Rattle.walrus_functions.specs.EmittedBody.{types_of}
+use Rattle.walrus_functions.proofs.Turns.{map_more, map_snoc, split_at}
+use Rattle.std.specs.List.{IsDistinct, list_any}
+use Rattle.walrus_types.specs.declared.value.ValType.{ValType as DeclaredValType}
+use Rattle.walrus_functions.proofs.DistinctLemmas.{not_before}
+use Rattle.walrus_functions.proofs.OnceLemmas.{new-distinct, none-distinct, none-typed}
+use Rattle.walrus_functions.proofs.TypedLemmas.{typed-skip, typed-more}
+use Rattle.walrus_functions.proofs.declared.typed_locals.Goals as goal
+use Rattle.walrus_functions.proofs.declared.typed_locals.Goals.{in-Some+in_ok-push, in_default}
+
+pub loop-id-preserved-then-contains : goal.loop-id-preserved-then-contains
+loop-id-preserved-then-contains c = record {
+  so_far = typed-skip (types_of (locals c.args.module_locals.now)) (set.contains nat_eq c.args.parameters.now) (map place (take c.loop-id.id-index c.args.named.now)) (map place (take (c.loop-id.id-index + 1) c.args.named.now)) c.index.result (map typed c.loop-id.found.items)
+      (map_more place c.args.named.now c.loop-id.id-index _ c.loop-id-test.true ∙ ap (λ (p : ℕ). map place (take c.loop-id.id-index c.args.named.now) ++ p ∷ []) (sym c.index.ensures))
+      (inl (sym c.contains.ensures ∙ c.if-contains.true)) c.loop-id.invariant.so_far;
+  distinct = c.loop-id.invariant.distinct;
+}
+
+pub loop-id-preserved : goal.loop-id-preserved
+loop-id-preserved c =
+    let slots = types_of (locals c.args.module_locals.now) in
+    let is_parameter = set.contains nat_eq c.args.parameters.now in
+    let done = map place (take c.loop-id.id-index c.args.named.now) in
+    let all = map place (take (c.loop-id.id-index + 1) c.args.named.now) in
+    let had = c.loop-id.found.items in
+    let next = map_more place c.args.named.now c.loop-id.id-index _ c.loop-id-test.true in
+    let parts = split_at place c.args.named.now c.loop-id.id-index _ c.loop-id-test.true in
+    elim c.match-type_at.branch [
+      | in-Some+in_ok-push w ↦ record {
+        so_far = typed-more slots is_parameter done all w.index-in-Some.result (val_type w.in-Some.ty) (map typed had) (map typed c.match-type_at.found.items)
+            (next ∙ ap (λ (p : ℕ). done ++ p ∷ []) (sym w.index-in-Some.ensures))
+            (ap (λ f. map typed f.items) w.found-is ∙ ap (map typed) w.in_ok-push.ensures.items ∙ map_snoc typed had (w.index-in-Some.result, w.in-Some.ty))
+            (ap is_parameter (w.index-in-Some.ensures ∙ sym c.index.ensures) ∙ sym c.contains.ensures ∙ c.if-contains.false)
+            (ap (item_at slots) w.index-in-Some.ensures ∙ sym w.in-Some.ensures)
+            c.loop-id.invariant.so_far;
+        distinct =
+            let fresh = not_before done _ parts.0 (subst (λ (ps : List ℕ). IsDistinct nat_eq ps) parts.1 c.requires) in
+            subst (λ (es : List (ℕ × DeclaredValType)). IsDistinct same_local es) (sym (ap (λ f. f.items) w.found-is ∙ w.in_ok-push.ensures.items))
+            (new-distinct slots is_parameter done w.index-in-Some.result w.in-Some.ty had c.loop-id.invariant.so_far (ap (λ (p : ℕ). list_any (nat_eq p) done) w.index-in-Some.ensures ∙ fresh) c.loop-id.invariant.distinct);
+      }
+      | in_default w ↦ record {
+        so_far = subst (λ f. AreTyped slots all is_parameter (map typed f.items)) (sym w.found-is)
+            (typed-skip slots is_parameter done all c.index.result (map typed had) (next ∙ ap (λ (p : ℕ). done ++ p ∷ []) (sym c.index.ensures)) (inr (ap (item_at slots) c.index.ensures ∙ sym w.in_default.ensures)) c.loop-id.invariant.so_far);
+        distinct = subst (λ f. IsDistinct same_local f.items) (sym w.found-is) c.loop-id.invariant.distinct;
+      }
+    ]
+
+pub loop-id-init : goal.loop-id-init
+loop-id-init c = record {
+  so_far = none-typed (types_of (locals c.args.module_locals.now)) (set.contains nat_eq c.args.parameters.now) c.new-found.result.items c.new-found.ensures.items;
+  distinct = none-distinct c.new-found.result.items c.new-found.ensures.items;
+}

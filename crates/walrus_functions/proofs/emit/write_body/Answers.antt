@@ -1,0 +1,15 @@
+use Rattle.std.proofs.Common.{◌≡◌, ℕ, List, ◌++◌, map, ap, ◌∙◌, subst}
+use Rattle.wasm_forms.specs.Spelling.{vector_bytes}
+use Rattle.walrus_code.specs.Code.{ops_of}
+use Rattle.walrus_code.specs.Indices.{index_of, local_index}
+use Rattle.walrus_bodies.specs.Declarations.{declarations_of, spelling}
+use Rattle.walrus_bodies.specs.Emitting.{OperatorsWritten}
+use Rattle.walrus_functions.specs.EmittedBody.{declarations_bytes}
+use Rattle.walrus_functions.proofs.SpellingLemmas.{spelled_same}
+use Rattle.walrus_functions.proofs.emit.write_body.Goals as goal
+
+pub returns-clause-written : goal.returns-clause-written
+returns-clause-written c =
+    let ds = c.args.declarations.now in
+    let old : c.write_vector.new.to.items ≡ declarations_bytes (declarations_of ds) = c.in_ok-write_vector.ensures.adds.0 ∙ ap (λ (bytes : List ℕ). bytes ++ vector_bytes spelling ds) c.new-bytes.ensures.items ∙ spelled_same ds in
+    subst (λ (bytes : List ℕ). OperatorsWritten (index_of c.args.indices.now) (local_index c.args.locals) c.args.features.now (ops_of c.args.operators.now) bytes c.emit_operators.new.to.items (map (λ p. p.1) c.in_ok-places.places.items)) old c.in_ok-places.ensures.written

@@ -1,0 +1,42 @@
+use Rattle.std.proofs.Common.{◌≡◌, ◌<◌, [], ℕ, List, Option, ◌+◌, length, map, option_map, drop, get_or, ap, ◌∙◌, sym, subst, rules, arith}
+use Rattle.walrus_base.specs.Arena.{item_at}
+use Rattle.walrus_base.specs.Id.{place}
+use Rattle.walrus_types.specs.ModuleTypes.{type_slots}
+use Rattle.walrus_types.specs.Operators.{BlockType, Op}
+use Rattle.walrus_types.specs.TypeDef.{TypeDef}
+use Rattle.walrus_code.specs.Code.{block_of, op_of, ops_of}
+use Rattle.walrus_functions.specs.ReadFunction.{AddsTypes}
+use Rattle.walrus_functions.specs.Signatures.{handler_in, opened, slots_of, tag_places, types_below}
+use Rattle.walrus_functions.proofs.HandlerLemmas.{SoFar, below_all, next_op, so_far_none, so_far_more}
+use Rattle.walrus_functions.proofs.handlers.add_handler_types.Goals as goal
+
+pub loop-operator-init : goal.loop-operator-init
+loop-operator-init c =
+    let types = item_at (type_slots c.args.types.now) in
+    let tags = tag_places c.args.tag_types.now in
+    let old = slots_of c.args.types.now in
+    let all = ops_of c.args.operators.now in
+    let none : map place c.new-ids.result.items ≡ [] = ap (map place) c.new-ids.ensures.items in
+    subst (λ (ps : List ℕ). SoFar types tags old old (opened c.in_ok-blocks.blocks) all all ps) (sym none) (so_far_none types tags old (opened c.in_ok-blocks.blocks) all c.in_ok-blocks.ensures)
+
+pub loop-operator-preserved : goal.loop-operator-preserved
+loop-operator-preserved c =
+    let xs = c.args.operators.now in
+    let i = c.loop-operator.operator-index in
+    let x = c.operator-item.result in
+    let below : i < length xs = omega arith in
+    let item : get_or xs i x ≡ x = search rules in
+    let types = item_at (type_slots c.args.types.now) in
+    let tags = tag_places c.args.tag_types.now in
+    let old = slots_of c.args.types.now in
+    let now = slots_of c.loop-operator.types in
+    let next = slots_of c.add_needed.new.types in
+    let blocks = opened c.loop-operator.blocks in
+    let left = ops_of (drop (i + 1) xs) in
+    let so_far = subst (λ (os : List Op). SoFar types tags old now blocks os (ops_of xs) (map place c.loop-operator.ids.items)) (next_op xs i x below item) c.loop-operator.invariant in
+    let types_are : types_below c.in_ok-bound.bound (type_slots c.loop-operator.types) ≡ types =
+    ap (λ (n : ℕ). types_below n (type_slots c.loop-operator.types)) c.in_ok-bound.ensures ∙ below_all (type_slots c.args.types.now) (type_slots c.loop-operator.types) c.loop-operator.invariant.stays in
+    let added = c.in_ok-add_needed.ensures.added in
+    let under_types = subst (λ (ts : ℕ → Option TypeDef). AddsTypes (handler_in ts tags (option_map block_of c.innermost_try-block.result) (op_of x)) now next added.0) types_are added.1.1 in
+    let under_block = subst (λ (b : Option BlockType). AddsTypes (handler_in types tags b (op_of x)) now next added.0) c.innermost_try-block.ensures under_types in
+    so_far_more types tags old now next blocks (opened c.step.new.self) (op_of x) left (ops_of xs) (map place c.loop-operator.ids.items) added.0 (map place c.add_needed.new.ids.items) so_far under_block c.in_ok-add_needed.ensures.stays c.in_ok-step.ensures added.1.0

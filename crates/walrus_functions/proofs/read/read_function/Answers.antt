@@ -1,0 +1,66 @@
+use Rattle.std.proofs.Common.{◌≡◌, ℕ, ◌+◌, ◌++◌, List, Option, length, map, ap, ◌∙◌, sym, subst, Vec, Global, Err}
+use Rattle.std.specs.Fn.{FnReturnsAt}
+use Rattle.walrus_base.specs.Arena.{item_at}
+use Rattle.walrus_base.specs.Id.{place}
+use Rattle.walrus_base.specs.declared.id.Id.{Id}
+use Rattle.walrus_base.specs.declared.keys.LocalKey.{LocalKey}
+use Rattle.walrus_types.specs.Locals.{locals}
+use Rattle.walrus_types.specs.ModuleTypes.{type_slots}
+use Rattle.walrus_types.specs.Value.{val_type}
+use Rattle.walrus_code.specs.Code.{ops_of}
+use Rattle.walrus_code.specs.Indices.{ids_at}
+use Rattle.walrus_code.specs.declared.operator.Operator.{Operator}
+use Rattle.walrus_bodies.specs.Body.{Context, BodyReads, context}
+use Rattle.walrus_bodies.specs.BodyRead.{BodyIsRead, BodyLocated, ReadsBody}
+use Rattle.walrus_bodies.specs.FunctionTypes.{is_function_at}
+use Rattle.walrus_bodies.specs.Results.{locations}
+use Rattle.walrus_functions.specs.Handlers.{handlers_of, params_of}
+use Rattle.walrus_functions.specs.ReadFunction.{AddsTypes, locals_from}
+use Rattle.walrus_functions.specs.Signatures.{slots_of, tag_places}
+use Rattle.walrus_functions.proofs.ParameterLemmas.{adds_others, no_body, one_range}
+use Rattle.walrus_functions.proofs.read.read_function.Goals as goal
+
+pub returns-in_err-body-clause-read : goal.returns-in_err-body-clause-read
+returns-in_err-body-clause-read g c =
+    let d : Context = context (ids_at c.args.indices.now) (is_function_at c.args.types.now) c.args.features.now in
+    let takes = c.params.ensures ∙ ap params_of (sym c.get.ensures.value) in
+    let types = slots_of c.args.types.now in
+    let middle = locals c.add_locals.new.module_locals in
+    let none = subst (λ (ids : List (Id LocalKey)). ReadsBody d (map place ids) middle (locals c.read_body.new.module_locals) c.args.bytes.now (Err c.in_err-body.field-0.0)) c.as_slice.ensures.value c.in_err-body.ensures.read in
+    no_body d (tag_places c.args.tag_types.now) (place c.args.ty) types types (locals c.args.module_locals.now) middle (locals c.read_body.new.module_locals) c.in_ok-args.args.items c.params.result.now c.args.bytes.now c.from_residual-in_err-body.result c.in_err-body.field-0.0 c.in_ok-args.ensures.added takes c.from_residual-in_err-body.ensures.1 none
+
+pub returns-clause-read : goal.returns-clause-read
+returns-clause-read g c =
+    let d : Context = context (ids_at c.args.indices.now) (is_function_at c.args.types.now) c.args.features.now in
+    let bytes = c.args.bytes.now in
+    let old = locals c.args.module_locals.now in
+    let middle = locals c.add_locals.new.module_locals in
+    let new = locals c.read_body.new.module_locals in
+    let args = c.in_ok-args.args.items in
+    let params = c.params.result.now in
+    let body = c.in_ok-body.body in
+    let f = c.new-function.result in
+    let added = c.in_ok-args.ensures.added in
+    let read : BodyIsRead d (map place args) middle new bytes body = subst (λ (ids : List (Id LocalKey)). BodyIsRead d (map place ids) middle new bytes body) c.as_slice.ensures.value c.in_ok-body.ensures.read in
+    let args_are : f.args.items ≡ args = ap (λ (v : Vec (Id LocalKey) Global). v.items) c.new-function.ensures.args in
+    let ops_are : f.operators.items ≡ body.operators.items = ap (λ (v : Vec Operator Global). v.items) c.new-function.ensures.operators in
+    let old_types = item_at (type_slots c.args.types.now) in
+    let handler_places = map place c.in_ok-handler_types.handler_types.items in
+    record {
+      own_type = ap place c.new-function.ensures.ty;
+      unnamed = c.new-function.ensures.name;
+      params = params;
+      declared = read.types;
+      takes = c.params.ensures ∙ ap params_of (sym c.get.ensures.value);
+      parameters = ap (map place) args_are ∙ added.places;
+      ids = args ++ body.declared.items;
+      added = adds_others old middle args params added new body.declared.items read.types read.added;
+      reads = subst (λ (os : List Operator). BodyReads d (locals_from (length old) (length params + length read.types)) bytes (map val_type read.types) (ops_of os)) (sym ops_are)
+          (subst (λ (l : ℕ → Option ℕ). BodyReads d l bytes (map val_type read.types) (ops_of body.operators.items)) (one_range old middle args params added (length read.types)) read.reads);
+      handlers = subst (λ (os : List Operator). AddsTypes (handlers_of old_types (tag_places c.args.tag_types.now) (ops_of os)) (slots_of c.args.types.now) (slots_of c.add_handler_types.new.types) handler_places) (c.as_slice-2.ensures.value ∙ sym ops_are) c.in_ok-handler_types.ensures.added;
+    }
+
+pub returns-clause-located : goal.returns-clause-located
+returns-clause-located g c =
+    let ops_are : c.new-function.result.operators.items ≡ c.in_ok-body.body.operators.items = ap (λ (v : Vec Operator Global). v.items) c.new-function.ensures.operators in
+    subst (λ (os : List Operator). BodyLocated (FnReturnsAt g.L.Fn c.args.locate.now) c.args.start c.args.bytes.now (locations os)) (sym ops_are) c.in_ok-body.ensures.located

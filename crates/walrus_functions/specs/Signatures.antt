@@ -1,0 +1,105 @@
+-- For the functions that find the types of handlers.
+use Rattle.std.specs.Borrow.{Bor}
+use Rattle.std.specs.Prelude.{◌≡◌, ℕ, List, [], ◌∷◌, map, option_map, Option, Some, None, reverse, slice_get, take, ◌==◌, if◌then◌else◌}
+use Rattle.walrus_base.specs.Arena.{item_at}
+use Rattle.walrus_base.specs.Id.{place}
+use Rattle.walrus_base.specs.declared.id.Id.{Id}
+use Rattle.walrus_base.specs.declared.keys.TypeKey.{TypeKey}
+use Rattle.walrus_types.specs.Composite.{FunctionType, function_type}
+use Rattle.walrus_types.specs.ModuleTypes.{type_slots, type_names}
+use Rattle.walrus_types.specs.Operators.{BlockType, NoResult, Arg, Index, Label, Local, Number, Count, Byte, S32, S64, Bits32, Bits64, Value, Heap, Block, Access, Op}
+use Rattle.walrus_types.specs.TypeDef.{TypeDef}
+use Rattle.walrus_types.specs.declared.composite.FunctionType.{FunctionType as DeclaredFunctionType}
+use Rattle.walrus_types.specs.declared.module_types.ModuleTypes.{ModuleTypes}
+use Rattle.walrus_code.specs.Code.{block_of}
+use Rattle.walrus_functions.specs.Handlers.{OpenBlock, Try, OtherBlock, opens_other, closes, block_results, handler_at, params_of, results_of}
+use Rattle.walrus_functions.specs.ReadFunction.{Slots}
+use Rattle.walrus_functions.specs.declared.blocks.Opened.{Opened}
+use Rattle.walrus_functions.specs.declared.blocks.Opened.TheVariants as declared
+use Rattle.walrus_functions.specs.declared.blocks.OpenBlocks.{OpenBlocks}
+use Rattle.walrus_functions.specs.declared.handlers.Signatures.{Signatures}
+
+abbrev pub slots_of : ModuleTypes → Slots
+slots_of types = record { types = type_slots types; names = type_names types }
+
+-- the types at the places below a bound
+abbrev pub types_below : ℕ → List (Option TypeDef) → ℕ → Option TypeDef
+types_below bound slots p = item_at (take bound slots) p
+
+-- the place of the type of a tag, by the tag's place
+abbrev pub tag_places : List (Id TypeKey) → ℕ → Option ℕ
+tag_places ids tag = option_map place (slice_get ids tag)
+
+abbrev pub types_in : Signatures → ℕ → Option TypeDef
+types_in s = types_below s.bound (type_slots s.types.now)
+
+abbrev pub tags_in : Signatures → ℕ → Option ℕ
+tags_in s = tag_places s.tag_types.now
+
+-- the function type that a type is, and none where it is none
+abbrev pub IsFunctionOf : Option TypeDef → Option (Bor DeclaredFunctionType) → Type 0
+IsFunctionOf def (Some f) = (params_of def ≡ (function_type f.now).params) × (results_of def ≡ (function_type f.now).results)
+IsFunctionOf def None = (params_of def ≡ []) × (results_of def ≡ [])
+
+-- the number of an item that an argument names by its index alone
+abbrev pub arg_place : Arg → Option ℕ
+arg_place (Index x) = Some x.1
+arg_place (Label n) = None
+arg_place (Local n) = None
+arg_place (Number n) = None
+arg_place (Count n) = None
+arg_place (Byte n) = None
+arg_place (S32 z) = None
+arg_place (S64 z) = None
+arg_place (Bits32 n) = None
+arg_place (Bits64 n) = None
+arg_place (Value v) = None
+arg_place (Heap h) = None
+arg_place (Block b) = None
+arg_place (Access flags memory offset) = None
+
+-- that of the first one
+abbrev pub first_place : List Arg → Option ℕ
+first_place [] = None
+first_place (arg ∷ args) = arg_place arg
+
+-- ---- open blocks: the type of a try, or none for another block
+
+abbrev pub try_type : Opened → Option BlockType
+try_type (declared.Try b) = Some (block_of b)
+try_type declared.Other = None
+
+-- the innermost block first
+abbrev pub opened : OpenBlocks → List (Option BlockType)
+opened blocks = map try_type (reverse blocks.blocks.items)
+
+-- the type of the block that an operator opens
+abbrev pub opened_type : List Arg → BlockType
+opened_type (Block b ∷ args) = b
+opened_type args = NoResult
+
+-- what the innermost block is
+abbrev pub first_opened : List (Option BlockType) → Option BlockType
+first_opened [] = None
+first_opened (b ∷ around) = b
+
+abbrev pub without_first : List (Option BlockType) → List (Option BlockType)
+without_first [] = []
+without_first (b ∷ around) = around
+
+abbrev pub opened_after : List (Option BlockType) → Op → List (Option BlockType)
+opened_after blocks o =
+    if o.op == 0x06 then Some (opened_type o.args) ∷ blocks
+    else (if opens_other o.op then None ∷ blocks
+    else (if closes o.op then without_first blocks
+    else blocks))
+
+module _ (types : ℕ → Option TypeDef) (tags : ℕ → Option ℕ) where
+  -- a try with its results
+  abbrev pub with_results : Option BlockType → OpenBlock
+  with_results (Some b) = Try (block_results types tags b)
+  with_results None = OtherBlock
+
+  -- the type that an operator needs directly in such a block, if it needs one
+  abbrev pub handler_in : Option BlockType → Op → List FunctionType
+  handler_in block o = handler_at types tags (with_results block ∷ []) o

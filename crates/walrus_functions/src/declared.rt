@@ -1,0 +1,210 @@
+//! The locals that a body declares when it is written, in their order (Binary Format > Modules > Code Section).
+ghost use Rattle.std.specs.Prelude.{◌≡◌, ℕ, map, option_map, IfOk, MatchOption, Contains, if◌then◌else◌, Some, ◌↔◌};
+ghost use Rattle.std.specs.List.{IsDistinct};
+ghost use Rattle.std.specs.Prelude.{nat_eq};
+ghost use Rattle.std.specs.HashSet as set;
+ghost use Rattle.walrus_base.specs.Arena.{item_at};
+ghost use Rattle.walrus_base.specs.Id.{place};
+ghost use Rattle.walrus_types.specs.Locals.{locals};
+ghost use Rattle.walrus_types.specs.Operators.{locals_of};
+ghost use Rattle.walrus_types.specs.Value.{val_type};
+ghost use Rattle.walrus_types.specs.contracts.value.ValTypePartialEq.TheImpl as equality;
+ghost use Rattle.walrus_code.specs.Code.{ops_of};
+ghost use Rattle.walrus_functions.specs.DeclaredLocals.{rank};
+ghost use Rattle.walrus_functions.specs.Declaring.{HasPlaces, AreTyped, same_local, typed, AreLowest, number_at, lower, key_of, AreTypes, AreInOrder, AreOrdered};
+ghost use Rattle.walrus_functions.specs.EmittedBody.{types_of};
+
+use std::alloc::{AllocError, Global};
+use std::collections::{HashMap, HashSet};
+use walrus_base::LocalId;
+use walrus_code::{Operator, push_locals};
+use walrus_types::{ModuleLocals, ValType};
+
+// The places of locals; none where one stands among them twice.
+pub(crate) fn distinct_places(
+    alloc: Global,
+    ids: &[LocalId],
+) -> Result<Option<HashSet<usize>>, AllocError>
+    ensures { IfOk result (λ found. MatchOption found (IsDistinct nat_eq (map place ids.now) → ⊥) (λ places. HasPlaces (map place ids.now) (set.contains nat_eq places))) }
+{
+    let mut places = HashSet::new(alloc);
+    for id in ids {
+        if !places.insert(id.index())? {
+            return Ok(None);
+        }
+    }
+    Ok(Some(places))
+}
+
+// The type of a local, if it is there.
+pub(crate) fn type_at(module_locals: &ModuleLocals, id: LocalId) -> Option<ValType>
+    ensures { option_map val_type result ≡ item_at (types_of (locals module_locals.now)) (place id) }
+{
+    if module_locals.contains(id) {
+        Some(module_locals.get(id).ty())
+    } else {
+        None
+    }
+}
+
+// The types of locals; none where one of them isn't there.
+pub(crate) fn types_at(
+    alloc: Global,
+    module_locals: &ModuleLocals,
+    ids: &[LocalId],
+) -> Result<Option<Vec<ValType>>, AllocError>
+    ensures { IfOk result (λ found. AreTypes (types_of (locals module_locals.now)) (map place ids.now) (option_map (λ types. map val_type types.items) found)) }
+{
+    let mut types = Vec::new(alloc);
+    for id in ids {
+        let Some(ty) = type_at(module_locals, *id) else {
+            return Ok(None);
+        };
+        types.push(ty)?;
+    }
+    Ok(Some(types))
+}
+
+// The locals that operators name, in order.
+fn named_locals(alloc: Global, operators: &[Operator]) -> Result<Vec<LocalId>, AllocError>
+    ensures { IfOk result (λ named. map place named.items ≡ locals_of (ops_of operators.now)) }
+{
+    let mut named = Vec::new(alloc);
+    for operator in operators {
+        push_locals(&mut named, operator)?;
+    }
+    Ok(named)
+}
+
+// Takes each of these locals once, by rising place.
+fn take_once(named: &mut Vec<LocalId>)
+    ensures same { (x : ℕ) → Contains (map place named.new.items) x ↔ Contains (map place named.old.items) x }
+    ensures distinct { IsDistinct nat_eq (map place named.new.items) }
+{
+    named.sort_unstable();
+    named.dedup();
+}
+
+// Those of these locals that are no parameters and that are there, by their places, with their types.
+fn typed_locals(
+    alloc: Global,
+    named: &[LocalId],
+    parameters: &HashSet<usize>,
+    module_locals: &ModuleLocals,
+) -> Result<Vec<(usize, ValType)>, AllocError>
+    requires { IsDistinct nat_eq (map place named.now) }
+    ensures typed { IfOk result (λ found. AreTyped (types_of (locals module_locals.now)) (map place named.now) (set.contains nat_eq parameters.now) (map typed found.items)) }
+    ensures distinct { IfOk result (λ found. IsDistinct same_local found.items) }
+{
+    let mut found = Vec::new(alloc);
+    for id in named {
+        if parameters.contains(&id.index()) {
+            continue;
+        }
+        if let Some(ty) = type_at(module_locals, *id) {
+            found.push((id.index(), ty))?;
+        }
+    }
+    Ok(found)
+}
+
+// For each type the lowest of these locals that has it.
+fn lowest_locals(
+    alloc: Global,
+    found: &[(usize, ValType)],
+) -> Result<HashMap<ValType, usize>, AllocError>
+    ensures { IfOk result (λ lowest. AreLowest found.now (number_at lowest)) }
+{
+    let mut lowest = HashMap::new(alloc);
+    for (local, ty) in found {
+        note_lower(&mut lowest, *local, *ty)?;
+    }
+    Ok(lowest)
+}
+
+// Takes a local as the lowest one of its type, unless a lower one is there.
+fn note_lower(
+    lowest: &mut HashMap<ValType, usize>,
+    local: usize,
+    ty: ValType,
+) -> Result<(), AllocError>
+    ensures { IfOk result (λ _. (v : _) → number_at lowest.new v ≡ (if (equality.ghosts).eq ty v then Some (lower local (number_at lowest.old ty)) else number_at lowest.old v)) }
+{
+    let low = match lowest.get(&ty) {
+        Some(other) => local.min(*other),
+        None => local,
+    };
+    lowest.insert(ty, low)?;
+    Ok(())
+}
+
+// Where types go in the order of declarations: the number types and the vector type by their bytes, then references.
+fn rank(ty: ValType) -> u8
+    ensures { result ≡ rank (val_type ty) }
+{
+    match ty {
+        ValType::I32 => 0,
+        ValType::I64 => 1,
+        ValType::F32 => 2,
+        ValType::F64 => 3,
+        ValType::V128 => 4,
+        ValType::Ref(_) => 5,
+    }
+}
+
+// What these locals are ordered by: the rank of the type, the lowest local of the type, and the local.
+fn keys(
+    alloc: Global,
+    found: &[(usize, ValType)],
+    lowest: &HashMap<ValType, usize>,
+) -> Result<Vec<(u8, usize, usize)>, AllocError>
+    ensures { IfOk result (λ keys. keys.items ≡ map (key_of (number_at lowest.now)) found.now) }
+{
+    let mut keys = Vec::with_capacity(alloc, found.len())?;
+    for (local, ty) in found {
+        let low = lowest.get(ty).copied().unwrap_or(*local);
+        keys.push((rank(*ty), low, *local))?;
+    }
+    Ok(keys)
+}
+
+// The keys of these locals, in order.
+fn in_order(
+    alloc: Global,
+    found: &[(usize, ValType)],
+) -> Result<Vec<(u8, usize, usize)>, AllocError>
+    requires { IsDistinct same_local found.now }
+    ensures { IfOk result (λ keys. AreInOrder found.now keys.items) }
+{
+    let lowest = lowest_locals(alloc, found)?;
+    let mut keys = keys(alloc, found, &lowest)?;
+    keys.sort_unstable();
+    Ok(keys)
+}
+
+// The locals of keys.
+fn ids_of(alloc: Global, keys: &[(u8, usize, usize)]) -> Result<Vec<LocalId>, AllocError>
+    ensures { IfOk result (λ ids. map place ids.items ≡ map (λ key. key.2) keys.now) }
+{
+    let mut ids = Vec::with_capacity(alloc, keys.len())?;
+    for (_, _, local) in keys {
+        ids.push(LocalId::at(*local))?;
+    }
+    Ok(ids)
+}
+
+// The locals that the operators name beside parameters and that are there, each once, in the order in which they are declared.
+pub(crate) fn order_declared(
+    alloc: Global,
+    operators: &[Operator],
+    parameters: &HashSet<usize>,
+    module_locals: &ModuleLocals,
+) -> Result<Vec<LocalId>, AllocError>
+    ensures { IfOk result (λ ids. AreOrdered (types_of (locals module_locals.now)) (locals_of (ops_of operators.now)) (set.contains nat_eq parameters.now) (map place ids.items)) }
+{
+    let mut named = named_locals(alloc, operators)?;
+    take_once(&mut named);
+    let found = typed_locals(alloc, named.as_slice(), parameters, module_locals)?;
+    let keys = in_order(alloc, found.as_slice())?;
+    ids_of(alloc, keys.as_slice())
+}

@@ -1,0 +1,182 @@
+//! Writing the body of a function (Binary Format > Modules > Code Section).
+ghost use Rattle.std.specs.Prelude.{◌≡◌, ◌≤◌, ◌<◌, ◌++◌, ◌↔◌, ◌^◌, ℕ, length, map, All, IfOk, IsSome, IsTrue};
+ghost use Rattle.walrus_base.specs.Arena.{item_at};
+ghost use Rattle.walrus_base.specs.Id.{place};
+ghost use Rattle.walrus_types.specs.Operators.{locals_of};
+ghost use Rattle.walrus_types.specs.Locals.{locals};
+ghost use Rattle.walrus_types.specs.ModuleTypes.{type_slots};
+ghost use Rattle.walrus_code.specs.Function.{function_type, body_of};
+ghost use Rattle.walrus_code.specs.Indices.{index_of, local_index};
+ghost use Rattle.walrus_code.specs.Code.{ops_of};
+ghost use Rattle.walrus_bodies.specs.Body.{most_locals};
+ghost use Rattle.walrus_bodies.specs.Declarations.{declarations_of};
+ghost use Rattle.walrus_bodies.specs.FunctionTypes.{is_function_at};
+ghost use Rattle.walrus_bodies.specs.Results.{locations};
+ghost use Rattle.walrus_functions.specs.EmittedBody.{EmitsBody, types_of};
+ghost use Rattle.walrus_functions.specs.Writing.{HasSignature, FindsDeclared, DeclaresLocals, WritesBehind};
+
+use crate::declared::{distinct_places, order_declared, types_at};
+use crate::groups::{declarations, number_locals, runs};
+use std::alloc::{AllocError, Global};
+use walrus_base::LocalId;
+use walrus_bodies::{Declaration, Features, MOST_LOCALS, blocks_hold, emit_operators};
+use walrus_code::{IdsToIndices, InstrLocId, IrError, LocalFunction, LocalNumbers, Operator};
+use walrus_types::{ModuleLocals, ModuleTypes};
+use wasm_forms::write_vector;
+
+/// The body of a function as it is written.
+#[derive(Drop)]
+pub struct EmittedBody {
+    /// Its bytes: the declarations of locals and the operators, without the size that stands before them in the code section.
+    pub bytes: Vec<u8>,
+    /// The location of each operator, with the place of its first byte, counted from the front of `bytes`.
+    pub places: Vec<(InstrLocId, usize)>,
+    /// The index of each parameter and of each local that the body uses.
+    pub locals: LocalNumbers,
+}
+
+/// The bytes of a function's body, with numbers in their shortest spelling. It declares the locals that it uses beside its parameters, one
+/// declaration a type: i32, i64, f32, f64, v128, then references by their lowest local; locals of one type by their ids.
+///
+/// # Errors
+///
+/// [`IrError::NoIndex`] where an item or a local that its operators name, or an item in the type of a declared local, has no index.
+/// [`IrError::NotWritable`] where the body isn't well formed: its operators don't close each block and at last the function, use a proposal
+/// that `features` doesn't allow, or one of them is spelled by no bytes; the type of a block is no function type; the parameters aren't distinct locals,
+/// one for each parameter of the function's type and of its value type; it uses more than 50,000 locals beside them, or one of an exact type.
+/// [`IrError::TooLarge`] where it has more than 2^32 locals, and [`IrError::Memory`].
+pub fn emit_body(
+    alloc: Global,
+    function: &LocalFunction,
+    types: &ModuleTypes,
+    module_locals: &ModuleLocals,
+    indices: &IdsToIndices,
+    features: &Features,
+) -> Result<EmittedBody, IrError>
+    ensures written { EmitsBody (record {
+      names = index_of indices.now;
+      slots = types_of (locals module_locals.now);
+      def = item_at (type_slots types.now) (place (function_type function.now));
+      is_function_type = is_function_at types.now;
+      features = features.now;
+      parameters = map place function.now.args.items;
+      ops = body_of function.now;
+    }) (λ body. body.bytes.items) (λ body. map (λ p. p.1) body.places.items) (λ body. local_index body.locals) result }
+    ensures located { IfOk result (λ body. map (λ p. p.0) body.places.items ≡ locations function.now.operators.items) }
+{
+    let fits = parameters_fit(alloc, function, types, module_locals)?;
+    if !fits {
+        return Err(IrError::NotWritable);
+    }
+    let hold = blocks_hold(types, function.operators.as_slice());
+    if !hold {
+        return Err(IrError::NotWritable);
+    }
+    let declared = find_declared(alloc, function, module_locals)?;
+    if declared.len() > MOST_LOCALS as usize {
+        return Err(IrError::NotWritable);
+    }
+    let all = joined(alloc, function.args.as_slice(), declared.as_slice())?;
+    if all.len() > 1 << 32 {
+        return Err(IrError::TooLarge);
+    }
+    let declarations = declare(alloc, declared.as_slice(), module_locals, indices)?;
+    let locals = number_locals(alloc, all.as_slice())?;
+    let operators = function.operators.as_slice();
+    write_body(
+        alloc,
+        operators,
+        declarations.as_slice(),
+        locals,
+        indices,
+        features,
+    )
+}
+
+// Whether the function's type takes what its parameters hold.
+fn parameters_fit(
+    alloc: Global,
+    function: &LocalFunction,
+    types: &ModuleTypes,
+    module_locals: &ModuleLocals,
+) -> Result<bool, AllocError>
+    ensures { IfOk result (λ fit. IsTrue fit ↔ HasSignature (item_at (type_slots types.now) (place (function_type function.now))) (types_of (locals module_locals.now)) (map place function.now.args.items)) }
+{
+    if !types.contains(function.ty()) {
+        return Ok(false);
+    }
+    let Some(signature) = types.get(function.ty()).as_function() else {
+        return Ok(false);
+    };
+    let Some(held) = types_at(alloc, module_locals, function.args.as_slice())? else {
+        return Ok(false);
+    };
+    Ok(held.as_slice() == signature.params())
+}
+
+// The locals that the function declares, in their order, where its parameters differ.
+fn find_declared(
+    alloc: Global,
+    function: &LocalFunction,
+    module_locals: &ModuleLocals,
+) -> Result<Vec<LocalId>, IrError>
+    ensures { FindsDeclared (types_of (locals module_locals.now)) (locals_of (body_of function.now)) (map place function.now.args.items) (λ ids. map place ids.items) result }
+{
+    let Some(parameters) = distinct_places(alloc, function.args.as_slice())? else {
+        return Err(IrError::NotWritable);
+    };
+    let operators = function.operators.as_slice();
+    Ok(order_declared(alloc, operators, &parameters, module_locals)?)
+}
+
+// The parameters and then the declared locals.
+fn joined(alloc: Global, args: &[LocalId], declared: &[LocalId]) -> Result<Vec<LocalId>, AllocError>
+    ensures { IfOk result (λ all. all.items ≡ args.now ++ declared.now) }
+{
+    let mut all = Vec::new(alloc);
+    all.extend_from_slice(args)?;
+    all.extend_from_slice(declared)?;
+    Ok(all)
+}
+
+// The declarations of locals in this order.
+fn declare(
+    alloc: Global,
+    declared: &[LocalId],
+    module_locals: &ModuleLocals,
+    indices: &IdsToIndices,
+) -> Result<Vec<Declaration>, IrError>
+    requires there { All (λ id. IsSome (item_at (types_of (locals module_locals.now)) (place id))) declared.now }
+    requires few { length declared.now ≤ most_locals }
+    ensures { DeclaresLocals (index_of indices.now) (types_of (locals module_locals.now)) (map place declared.now) (λ ds. declarations_of ds.items) result }
+{
+    let Some(held) = types_at(alloc, module_locals, declared)? else {
+        unreachable!()
+    };
+    let groups = runs(alloc, held.as_slice())?;
+    declarations(alloc, groups.as_slice(), indices)
+}
+
+// Writes declarations, and the operators behind them.
+fn write_body(
+    alloc: Global,
+    operators: &[Operator],
+    declarations: &[Declaration],
+    locals: LocalNumbers,
+    indices: &IdsToIndices,
+    features: &Features,
+) -> Result<EmittedBody, IrError>
+    requires { length declarations.now < 2 ^ 32 }
+    ensures written { WritesBehind (index_of indices.now) (local_index locals) features.now (ops_of operators.now) (declarations_of declarations.now) (λ body. body.bytes.items) (λ body. map (λ p. p.1) body.places.items) result }
+    ensures located { IfOk result (λ body. (map (λ p. p.0) body.places.items ≡ locations operators.now)) }
+    ensures numbered { IfOk result (λ body. body.locals ≡ locals) }
+{
+    let mut bytes = Vec::new(alloc);
+    write_vector(&mut bytes, declarations)?;
+    let places = emit_operators(alloc, &mut bytes, operators, indices, &locals, features)?;
+    Ok(EmittedBody {
+        bytes,
+        places,
+        locals,
+    })
+}

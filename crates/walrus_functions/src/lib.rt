@@ -1,0 +1,15 @@
+//! Whole functions, read from and written to the binary format (Binary Format > Modules > Code Section): parameters, declared
+//! locals, operators, and the types of legacy exception handlers.
+#![tactic(auto)]
+
+mod blocks;
+mod declared;
+mod emit;
+mod groups;
+mod handlers;
+mod law;
+mod read;
+
+pub use emit::{EmittedBody, emit_body};
+pub use law::{bodies_read_once, declared_in_one_order, locals_move, unwritable_is_ill_formed};
+pub use read::read_function;

@@ -1,0 +1,83 @@
+//! Reading a whole function (Binary Format > Modules > Code Section).
+ghost use Rattle.std.specs.Prelude.{◌≡◌, true, IfOk, option_map, slice_get};
+ghost use Rattle.std.specs.Fn.{FnReturnsAt};
+ghost use Rattle.walrus_base.specs.Id.{place};
+ghost use Rattle.walrus_types.specs.Locals.{locals};
+ghost use Rattle.walrus_types.specs.ModuleTypes.{type_slots, type_names};
+ghost use Rattle.walrus_code.specs.Indices.{ids_at};
+ghost use Rattle.walrus_bodies.specs.Body.{context};
+ghost use Rattle.walrus_bodies.specs.BodyRead.{AddsLocals, BodyLocated};
+ghost use Rattle.walrus_bodies.specs.FunctionTypes.{is_function_at};
+ghost use Rattle.walrus_bodies.specs.Results.{locations};
+ghost use Rattle.walrus_functions.specs.ReadFunction.{ReadsFunction, StaysInFront};
+
+use crate::handlers::add_handler_types;
+use std::alloc::{AllocError, Global};
+use walrus_base::{LocalId, TypeId};
+use walrus_bodies::{Features, read_body};
+use walrus_code::{IndicesToIds, InstrLocId, IrError, LocalFunction};
+use walrus_types::{ModuleLocals, ModuleTypes, ValType};
+
+/// Reads a function of a type from the bytes of its body, which begin at `start` of the input. Its parameters and then its declared locals
+/// are added to `module_locals`, `locate` gives each operator its location by the place of its first byte. The types of its legacy
+/// exception handlers are found among the types, or added to them: for a `catch` of a tag with parameters p in a `try` with results r the type p
+/// to r, unless p is empty and r has at most one; for a `catch_all` the type of nothing to r, where r has more than one. `tag_types` are
+/// the types of the tags, by their places.
+///
+/// Refused as [`IrError::Malformed`] where the bytes are no body. Locals may be added then; what was there stays.
+pub fn read_function<L: Fn(&usize) -> InstrLocId>(
+    alloc: Global,
+    bytes: &[u8],
+    start: usize,
+    features: &Features,
+    ty: TypeId,
+    tag_types: &[TypeId],
+    indices: &IndicesToIds,
+    types: &mut ModuleTypes,
+    module_locals: &mut ModuleLocals,
+    locate: &L,
+) -> Result<LocalFunction, IrError>
+    requires typed { is_function_at types.old (place ty) ≡ true }
+    requires callable { L.IsAlwaysCallable locate.now }
+    ensures read { ReadsFunction (context (ids_at indices.now) (is_function_at types.old) features.now)
+        (λ tag. option_map place (slice_get tag_types.now tag)) (place ty)
+        (record { types = type_slots types.old; names = type_names types.old }) (record { types = type_slots types.new; names = type_names types.new })
+        (locals module_locals.old) (locals module_locals.new) bytes.now result }
+    ensures located { IfOk result (λ f. BodyLocated (FnReturnsAt L.Fn locate.now) start bytes.now (locations f.operators.items)) }
+    ensures types_stay { StaysInFront (type_slots types.old) (type_slots types.new) }
+    ensures locals_stay { StaysInFront (locals module_locals.old) (locals module_locals.new) }
+{
+    let args = add_locals(alloc, types.get(ty).params(), module_locals)?;
+    let body = read_body(
+        alloc,
+        bytes,
+        start,
+        features,
+        indices,
+        types,
+        args.as_slice(),
+        module_locals,
+        locate,
+    )?;
+    let handler_types = add_handler_types(alloc, types, tag_types, body.operators.as_slice())?;
+    let mut function = LocalFunction::new(alloc, ty, args, body.operators);
+    function.handler_types = handler_types;
+    Ok(function)
+}
+
+// Adds a local of each type, in order.
+fn add_locals(
+    alloc: Global,
+    types: &[ValType],
+    module_locals: &mut ModuleLocals,
+) -> Result<Vec<LocalId>, AllocError>
+    ensures added { IfOk result (λ ids. AddsLocals (locals module_locals.old) (locals module_locals.new) ids.items types.now) }
+    ensures stays { StaysInFront (locals module_locals.old) (locals module_locals.new) }
+{
+    let mut ids = Vec::new(alloc);
+    for ty in types {
+        let id = module_locals.add(*ty)?;
+        ids.push(id)?;
+    }
+    Ok(ids)
+}

@@ -1,4 +1,0 @@
-mod BackLemmas
-mod BodyLemmas
-mod EmitLemmas
-mod ReadLemmas

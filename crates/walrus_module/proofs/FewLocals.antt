@@ -1,0 +1,130 @@
+-- A function that was taken in has at most 2 ^ 32 parameters and further locals that it uses.
+use Rattle.std.proofs.Common.{◌≡◌, ◌≢◌, ℕ, zero, suc, ◌+◌, ◌-◌, ◌<◌, ◌≤◌, ◌^◌, Bool, true, false, List, [], ◌∷◌, ◌++◌, length, map, get_or, refl, sym, ap, subst, ◌∙◌, arith, length-append}
+use Rattle.std.specs.Prelude.{Option, Some, None, Contains, All, AllPairs, ◌||◌, ◌==◌, slice_get, nat_lt, option_map, zip}
+use Rattle.std.specs.List.{range_with_len, list_any}
+use Rattle.std.proofs.lemmas.List.{get_or-map, length-map}
+use Rattle.std.proofs.lemmas.List.FromFn.{length-range_with_len, get_or-range_with_len}
+use Rattle.std.proofs.lemmas.Bool.Decides.{Decides-eqb}
+use Rattle.std.proofs.lemmas.Map.Made.{IsDistinct-from_AllPairs}
+use Rattle.std.proofs.lemmas.Map.Steps.{length-le_from_distinct_below}
+use borrow.Author.Tests.{ltb-false, ltb-true}
+use Rattle.walrus_base.specs.Types.{ValType}
+use Rattle.walrus_types.specs.Operators.{Op, locals_of}
+use Rattle.walrus_types.specs.declared.locals.ModuleLocals.{ModuleLocals}
+use Rattle.walrus_types.specs.declared.module_types.ModuleTypes.{ModuleTypes}
+use Rattle.walrus_bodies.specs.Body.{BodyReads}
+use Rattle.walrus_functions.specs.Handlers.{params_of}
+use Rattle.walrus_functions.specs.Laws.{moved_op}
+use Rattle.walrus_functions.specs.ReadFunction.{locals_from}
+use Rattle.walrus_functions.proofs.LawMoves.{there}
+use Rattle.walrus_items.specs.declared.exports.ModuleExports.{ModuleExports}
+use Rattle.walrus_items.specs.declared.functions.ModuleFunctions.{ModuleFunctions}
+use Rattle.walrus_model.specs.Abstract.{Body}
+use Rattle.walrus_model.specs.Config.{Config}
+use Rattle.walrus_model.specs.Handled as handled
+use Rattle.walrus_model.specs.Reads.{value_type, lone_type, types_of, context_of, arity, ReadsBody}
+use Rattle.walrus_module.specs.Parsed.{TakenFrom}
+use Rattle.walrus_module.specs.Refused.{HasManyLocals}
+use Rattle.walrus_module.specs.Taken.{HasTaken}
+use Rattle.walrus_module.specs.View.{view_of}
+use Rattle.walrus_module.proofs.FewParams.{few_params}
+use Rattle.walrus_module.proofs.ParsedWhole.{body_at, body_there}
+use Rattle.walrus_module.proofs.SmallLocals.{used_small}
+use Rattle.walrus_module.proofs.WholeLists.{zip_third}
+
+-- ---- distinct numbers
+
+any_below : (n q : ℕ) (xs : List ℕ) → All (λ (x : ℕ). x < n) xs → list_any (λ y. q == y) xs ≡ true → q < n
+any_below n q [] below e = absurd cc
+any_below n q (x ∷ xs) below e = by (q == x) refl e (any_below n q xs (λ k d lt. below (suc k) d (omega (arith, lt)))) where
+  by : (t : Bool) → (q == x) ≡ t → (t || list_any (λ y. q == y) xs) ≡ true → (list_any (λ y. q == y) xs ≡ true → q < n) → q < n
+  by true same h rest = let e : q ≡ x = (Decides-eqb q x).0 same in let lt : x < n = below 0 0 (omega arith) in omega (arith, e, lt)
+  by false same h rest = rest h
+
+few_below : (n : ℕ) (xs : List ℕ) → AllPairs (λ (x : ℕ) (y : ℕ). x ≢ y) xs → All (λ (x : ℕ). x < n) xs → length xs ≤ n
+few_below n xs apart below = length-le_from_distinct_below xs n (IsDistinct-from_AllPairs Decides-eqb xs apart) (λ q h. any_below n q xs below h)
+
+-- distinct numbers from one on, below so many more
+few_from : (low n : ℕ) (xs : List ℕ) → AllPairs (λ (x : ℕ) (y : ℕ). x ≢ y) xs → All (λ (x : ℕ). (low ≤ x) × (x < low + n)) xs → length xs ≤ n
+few_from low n xs apart ranged =
+    let less : ℕ → ℕ = λ x. x - low in
+    let pairs : AllPairs (λ (x : ℕ) (y : ℕ). x ≢ y) (map less xs) = λ i j d before last same.
+    (let within : j < length xs = omega (arith, last, length-map xs less) in
+    let first : i < length xs = omega (arith, before, within) in
+    let a = ranged i 0 first in
+    let b = ranged j 0 within in
+    let e : get_or xs i 0 ≡ get_or xs j 0 = omega (arith, a.0, b.0, same, get_or-map less xs i 0 d first, get_or-map less xs j 0 d within) in
+    apart i j 0 before within e) in
+    let below : All (λ (x : ℕ). x < n) (map less xs) = λ k d lt.
+    (let within : k < length xs = omega (arith, lt, length-map xs less) in
+    let a = ranged k 0 within in
+    omega (arith, a.0, a.1, get_or-map less xs k 0 d within)) in
+    let few : length (map less xs) ≤ n = few_below n (map less xs) pairs below in
+    omega (arith, few, length-map xs less)
+
+range_got : (a n i x : ℕ) → slice_get (range_with_len a n) i ≡ Some x → x ≡ a + i
+range_got a zero i x e = absurd cc
+range_got a (suc n) zero x e = let q : a ≡ x = cc in omega (arith, q)
+range_got a (suc n) (suc i) x e = let q : x ≡ a + 1 + i = range_got (a + 1) n i x e in omega (arith, q)
+
+-- what isn't among the first stands behind them
+past_by : (a n i : ℕ) (t : Bool) → nat_lt i n ≡ t → (Contains (range_with_len a n) (a + i) → ⊥) → n ≤ i
+past_by a n i true e h =
+    let lt : i < n = ltb-true i n e in
+    let within : i < length (range_with_len a n) = omega (arith, lt, length-range_with_len a n) in
+    absurd (h (i, within, get_or-range_with_len a n i (a + i) lt))
+past_by a n i false e h = ltb-false i n e
+
+-- ---- how many locals
+
+got_contained : {A : Type 0} (xs : List A) (i : ℕ) (x : A) → slice_get xs i ≡ Some x → Contains xs x
+got_contained [] i x e = absurd cc
+got_contained {A} (y ∷ xs) zero x e = let q : y ≡ x = cc in (0, omega arith, q)
+got_contained (y ∷ xs) (suc i) x e = let h = got_contained xs i x e in let lt : h.0 < length xs = h.1 in (suc h.0, omega (arith, lt), h.2)
+
+too_many : (most n : ℕ) (ps fs : List ℕ) → length ps ≡ n → n < most → length fs ≤ most - n → most < length (ps ++ fs) → ⊥
+too_many most n ps fs long lt few many = omega (arith, long, lt, few, many, length-append ps fs)
+
+module _ (c : Config) (r : handled.Module) (types : ModuleTypes) (all : ModuleLocals) (funcs : ModuleFunctions) (es : ModuleExports) (taken : HasTaken c r types all funcs es)
+    (few_params : (t : handled.FuncType) → Contains r.types t → length t.params < 2 ^ 32) where
+  few_by : (ty : ℕ) (o : Option handled.FuncType) → slice_get r.types ty ≡ o → length (params_of (option_map (lone_type ty) o)) < 2 ^ 32
+  few_by ty None e = omega arith
+  few_by ty (Some t) e =
+      let lt : length t.params < 2 ^ 32 = few_params t (got_contained r.types ty t e) in
+      omega (arith, lt, length-map t.params value_type)
+
+  -- a used local that is no parameter has an index behind theirs, of 32 bits
+  index_of : (first n count : ℕ) (bytes : List ℕ) (kinds : List (ValType ℕ)) (ops : List Op) → BodyReads (context_of c r) (locals_from first count) bytes kinds ops → n < 2 ^ 32
+      → (x : ℕ) → Contains (locals_of ops) x → (Contains (range_with_len first n) x → ⊥) → (first + n ≤ x) × (x < first + n + (2 ^ 32 - n))
+  index_of first n count bytes kinds ops body small x used new =
+      let at = used_small (context_of c r) (locals_from first count) bytes kinds ops body x used in
+      let is : x ≡ first + at.0 = range_got first count at.0 x at.1.1 in
+      let past : n ≤ at.0 = past_by first n at.0 (nat_lt at.0 n) refl (λ inside. new (subst (Contains (range_with_len first n)) {x = first + at.0} {y = x} (sym is) inside)) in
+      let low : at.0 < 2 ^ 32 = at.1.0 in
+      (omega (arith, is, past), omega (arith, is, low, small))
+
+  -- no function has more than 2 ^ 32 parameters and further locals that it uses
+  pub few_locals : HasManyLocals (view_of types all funcs es) → ⊥
+  few_locals (i, (b, (further, (is, apart, used, new, many)))) =
+      let stands = body_there ((view_of types all funcs es).functions i) b is in
+      let at = body_at c r types all funcs es taken i stands.0 b stands.1.0 stands.1.1 in
+      let p = at.said in
+      let first = at.held.first in
+      let n = arity r p.0 in
+      let found = zip_third (ReadsBody c r) r.functions r.bodies taken.bodies i p taken.read at.stands in
+      let count = n + length p.1.0 in
+      let ops : b.operators ≡ map (moved_op first) p.1.1 = ap (λ (x : Body). x.operators) at.is ∙ at.held.operators in
+      let params : b.parameters ≡ range_with_len first n = ap (λ (x : Body). x.parameters) at.is ∙ at.held.parameters in
+      let moved : BodyReads (context_of c r) (locals_from first count) found.0.bytes p.1.0 b.operators =
+      subst (BodyReads (context_of c r) (locals_from first count) found.0.bytes p.1.0) {x = map (moved_op first) p.1.1} {y = b.operators} (sym ops)
+      (there (context_of c r) first count found.0.bytes p.1.0 p.1.1 found.1) in
+      let small : n < 2 ^ 32 = few_by p.0 (slice_get r.types p.0) refl in
+      let ranged : All (λ (x : ℕ). (first + n ≤ x) × (x < first + n + (2 ^ 32 - n))) further = λ k d lt.
+      (let x = get_or further k d in
+      index_of first n count found.0.bytes p.1.0 b.operators moved small x (used k d lt) (λ inside. new k d lt (subst (λ (l : List ℕ). Contains l x) {x = range_with_len first n} {y = b.parameters} (sym params) inside))) in
+      let few : length further ≤ 2 ^ 32 - n = few_from (first + n) (2 ^ 32 - n) further apart ranged in
+      too_many (2 ^ 32) n b.parameters further (ap length params ∙ length-range_with_len first n) small few many
+
+-- the same for what was taken in from bytes
+pub few_taken : (c : Config) (bytes : List ℕ) (types : ModuleTypes) (all : ModuleLocals) (funcs : ModuleFunctions) (es : ModuleExports) → TakenFrom c bytes types all funcs es → HasManyLocals (view_of types all funcs es) → ⊥
+few_taken c bytes types all funcs es t = few_locals c t.sections types all funcs es t.taken (few_params bytes t.sections t.framed)

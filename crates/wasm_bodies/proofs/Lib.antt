@@ -1,0 +1,10 @@
+mod Alls
+mod Args
+mod Copies
+mod Each
+mod Groups
+mod Named
+mod Numbering
+mod OpLemmas
+mod Ranges
+mod TypeLemmas

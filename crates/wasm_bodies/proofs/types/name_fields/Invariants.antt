@@ -1,0 +1,10 @@
+use Rattle.std.proofs.Common.{◌≡◌, map, drop}
+use Rattle.walrus_types.specs.Composite.{field_type}
+use Rattle.walrus_code.specs.Indices.{ids_at}
+use Rattle.wasm_bodies.specs.Types.{field_of, named_fields}
+use Rattle.wasm_bodies.proofs.Each.{behind}
+use Rattle.wasm_bodies.proofs.types.name_fields.Given as goal
+
+-- what was found so far and what is left are what is found for all
+abbrev pub invariant-loop-field : goal.invariant-loop-field
+invariant-loop-field l = behind (map field_type l.fields.items) (named_fields (ids_at l.indices) (map field_of (drop l.field-index l.raw))) ≡ named_fields (ids_at l.indices) (map field_of l.raw)

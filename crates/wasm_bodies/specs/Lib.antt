@@ -1,0 +1,5 @@
+pub mod Comparing
+pub mod Spaces
+pub mod Status
+pub mod Types
+pub mod Words
