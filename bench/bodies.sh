@@ -16,8 +16,9 @@ trap 'rm -rf "$files"' EXIT
 
 # a line of the table for the modules behind $1 (a kind) and $2 (megabytes)
 line() {
-  python3 - "$program" "$files/out" "$@" <<'PY'
-import os, sys, time
+  PYTHONPATH=$here PYTHONDONTWRITEBYTECODE=1 python3 - "$program" "$files/out" "$@" <<'PY'
+import os, sys
+from measuring import measure, whole_copy
 
 ROUNDS = 5
 
@@ -44,35 +45,13 @@ def code_size(module):
     return size
 
 
-# the least seconds of some rounds, and the peak bytes, of a command on each of the modules
-def measure(command_for, modules, sink):
-    total, most = 0.0, 0
-    for module in modules:
-        command, best = command_for(module), None
-        for _ in range(ROUNDS):
-            begin = time.monotonic()
-            pid = os.fork()
-            if pid == 0:
-                os.dup2(os.open(module, os.O_RDONLY), 0)
-                os.dup2(os.open(sink, os.O_WRONLY | os.O_CREAT | os.O_TRUNC, 0o644), 1)
-                os.execvp(command[0], command)
-            _, status, usage = os.wait4(pid, 0)
-            seconds = time.monotonic() - begin
-            if status != 0:
-                sys.exit(f"bench/bodies.sh: {command} answers {os.waitstatus_to_exitcode(status)} on {module}")
-            best = seconds if best is None else min(best, seconds)
-            most = max(most, usage.ru_maxrss * 1024)
-        total += best
-    return total, most
-
-
 program, sink, kind, size, modules = *sys.argv[1:5], sys.argv[5:]
 count = sum(os.path.getsize(module) for module in modules)
 code, most_code = sum(map(code_size, modules)), max(map(code_size, modules))
-cat, _ = measure(lambda _: ["cat"], modules, sink)
-dd, _ = measure(lambda module: ["dd", f"bs={os.path.getsize(module)}", "iflag=fullblock", "status=none"], modules, sink)
-read, read_peak = measure(lambda _: [program, "--read"], modules, sink)
-both, both_peak = measure(lambda _: [program, "--write"], modules, sink)
+cat, _ = measure(lambda _: ["cat"], modules, sink, ROUNDS)
+dd, _ = measure(whole_copy, modules, sink, ROUNDS)
+read, read_peak = measure(lambda _: [program, "--read"], modules, sink, ROUNDS)
+both, both_peak = measure(lambda _: [program, "--write"], modules, sink, ROUNDS)
 rate = lambda size, seconds: f"{size / 1e6 / max(seconds, 1e-6):8.1f}"
 print(f"{kind:8} {size:>4} {code:10} {rate(count, cat)} {rate(count, dd)} {rate(code, read)} {rate(code, both)} {rate(code, both - read)}"
       f" {read_peak / 1e6:9.1f} {both_peak / 1e6:9.1f} {read_peak / most_code:9.1f} {both_peak / most_code:9.1f}", flush=True)
