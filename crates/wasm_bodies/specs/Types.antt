@@ -1,5 +1,5 @@
 -- The types of a module over indices as types of the standard, and these with the places of the items for their indices.
-use Rattle.std.specs.Prelude.{◌≡◌, ℕ, List, [], ◌∷◌, ◌++◌, length, map, Option, Some, None}
+use Rattle.std.specs.Prelude.{slice_get, ◌≡◌, ℕ, List, [], ◌∷◌, ◌++◌, length, map, Option, Some, None}
 use Rattle.std.specs.List.{range_with_len}
 use Rattle.wasm_forms.specs.Reading.{◌>>=◌}
 use Rattle.wasm_entries.specs.declared.record.RawStorage.{RawStorage}
@@ -85,3 +85,12 @@ pub record GroupIsAdded (names : Lookup) (raw : List RawSub) (old new : List (Op
   pub members : List (SubType ℕ)
   pub named : named_subs names (map sub_of raw) ≡ Some members
   pub added : new ≡ old ++ group_of (length old) members
+
+-- the same, where an index names the type at its place among those that are there then
+abbrev pub AddsGroup : List RawSub → (old new : List (Option TypeDef)) → Type 0
+AddsGroup raw old new = (names : Lookup) × (((t : ℕ) → names Types t ≡ slice_get (range_with_len 0 (length new)) t) × GroupIsAdded names raw old new)
+
+-- groups one behind another
+abbrev pub AddsGroups : List (List RawSub) → (old new : List (Option TypeDef)) → Type 0
+AddsGroups [] old new = new ≡ old
+AddsGroups (raw ∷ rest) old new = (middle : List (Option TypeDef)) × (AddsGroup raw old middle × AddsGroups rest middle new)

@@ -11,7 +11,7 @@ ghost use Rattle.walrus_code.specs.FromRaw.{val_of};
 ghost use Rattle.walrus_code.specs.Indices.{places_in, ids_at};
 ghost use Rattle.walrus_code.specs.Results.{Finds};
 ghost use Rattle.wasm_bodies.specs.Spaces.{TypesInPlace, OnlyTypesChange};
-ghost use Rattle.wasm_bodies.specs.Types.{storage_of, field_of, comp_of, sub_of, named_vals, named_storage, named_field, named_fields, named_function, named_comp, named_supertypes, named_sub, named_subs, GroupIsAdded};
+ghost use Rattle.wasm_bodies.specs.Types.{storage_of, field_of, comp_of, sub_of, named_vals, named_storage, named_field, named_fields, named_function, named_comp, named_supertypes, named_sub, named_subs, GroupIsAdded, AddsGroups};
 
 use std::alloc::Global;
 use walrus_base::TypeId;
@@ -35,6 +35,7 @@ pub fn add_types(
     types: &mut ModuleTypes,
 ) -> Result<(), IrError>
     requires in_place { TypesInPlace indices.old (type_slots types.old) }
+    ensures added { OnOk result (AddsGroups (map (λ g. g.items) groups.now) (type_slots types.old) (type_slots types.new)) }
     ensures in_place { OnOk result (TypesInPlace indices.new (type_slots types.new)) }
     ensures only_types { OnOk result (OnlyTypesChange indices.old indices.new) }
 {
