@@ -1,7 +1,7 @@
 -- How what the parts of an item name comes together.
 use Rattle.std.proofs.Common.{◌≡◌, ℕ, zero, suc, ◌+◌, ◌<◌, ◌≤◌, ⊎_elim, List, [], ◌∷◌, ◌++◌, Option, Some, length, map, take, drop, get_or, ap, sym, ◌∙◌, subst, refl, arith, add-one, append_assoc, drop-cons}
 use Rattle.std.specs.Prelude.{Contains, IsSome, option_map, flat_map, Result, Ok, Err, MatchResult}
-use Rattle.std.proofs.lemmas.List.{append-nil, drop_all, map_more}
+use Rattle.std.proofs.lemmas.List.{append-nil, drop_all, map-append, map_more}
 use Rattle.std.proofs.lemmas.List.Elements.{Contains-push_cases}
 use Rattle.std.specs.Global.{Vec}
 use Rattle.walrus_base.specs.Arena.{item_at}
@@ -58,6 +58,18 @@ module _ {X Z : Type 0} (value : X → Z) where
       → before ++ flat_map names (map value (drop i xs)) ≡ all → before ≡ all
   row_end {Y = Y} names xs i before all le so_far =
       sym (append-nil before) ∙ ap (λ (t : List X). before ++ flat_map names (map value t)) (sym (drop_all i xs le)) ∙ so_far
+
+  -- a step where each puts one
+  pub map_step : {W Y : Type 0} (f : W → Y) (g : Z → Y) (put : List W) (one : W) (xs : List X) (i : ℕ) (d : X) (all : List Y) → i < length xs
+      → map f put ++ map g (map value (drop i xs)) ≡ all → f one ≡ g (value (get_or xs i d))
+      → map f (put ++ one ∷ []) ++ map g (map value (drop (i + 1) xs)) ≡ all
+  map_step {Y = Y} f g put one xs i d all lt so_far same =
+      let x = get_or xs i d in
+      let rest = map g (map value (drop (i + 1) xs)) in
+      let whole : drop i xs ≡ x ∷ drop (i + 1) xs = rw add-one (drop-cons xs i d lt) in
+      ap (λ (t : List Y). t ++ rest) (map-append f put (one ∷ [])) ∙ append_assoc (map f put) (f one ∷ []) rest
+      ∙ ap (λ (y : Y). map f put ++ y ∷ rest) same
+      ∙ ap (λ (t : List X). map f put ++ map g (map value t)) (sym whole) ∙ so_far
 
 -- ---- locals
 

@@ -1,12 +1,6 @@
 pub mod Arena
-pub mod FuncTypes
 pub mod Id
 pub mod IdSet
 pub mod Lends
-pub mod LendsLocal
 pub mod LendsSome
-pub mod Locals
-pub mod ModuleTypes
-pub mod OwnIds
 pub mod Types
-pub mod TypesLeft

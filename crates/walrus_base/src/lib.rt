@@ -1,12 +1,10 @@
-//! Ids, arenas, sets of ids, types and locals: what the items of a module are kept in.
+//! Ids, arenas and sets of ids: what the items of a module are kept in.
 #![tactic(auto)]
 
 mod arena;
 mod id;
 mod keys;
-mod locals;
 mod set;
-mod types;
 
 pub use arena::{ArenaIter, TombstoneArena};
 pub use id::Id;
@@ -15,6 +13,4 @@ pub use keys::{
     FunctionKey, GlobalId, GlobalKey, ImportId, ImportKey, LocalId, LocalKey, MemoryId, MemoryKey,
     TableId, TableKey, TagId, TagKey, TypeId, TypeKey, UntypedCustomSectionId,
 };
-pub use locals::{Local, LocalIter, ModuleLocals};
 pub use set::IdHashSet;
-pub use types::{ModuleTypes, Type, TypeIter, ValType};

@@ -18,5 +18,5 @@ pub use walrus_parts::{
     Local, LocalFunction, LocalId, LocalIter, LocalKey, LocalNumbers, MemoryId, MemoryKey,
     ModuleLocals, ModuleTypes, NewType, Operator, RawCustomSection, RefType, Result, Roots,
     StorageType, StructType, TableId, TableKey, TagId, TagKey, TombstoneArena, Type, TypeId,
-    TypeIter, TypeKey, UntypedCustomSectionId, ValType, Value, emit_body, read_function,
+    TypeIter, TypeKey, UntypedCustomSectionId, ValType, Value,
 };

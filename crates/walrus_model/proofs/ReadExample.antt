@@ -301,7 +301,7 @@ abbrev code_part : PlacedSection
 code_part = record { id = 10; name = []; content = vector_bytes sized_text (end_text ∷ []) }
 
 end_declares_once : All DeclaresOnce (end_text ∷ [])
-end_declares_once = All-cons DeclaresOnce end_text [] (λ i j d less at. absurd (omega arith)) (All-nil DeclaresOnce)
+end_declares_once = All-cons DeclaresOnce end_text [] ((λ i j d less at. absurd (omega arith)), All-nil _) (All-nil DeclaresOnce)
 
 abbrev placed_sections : List PlacedSection
 placed_sections = type_part ∷ function_part ∷ export_part ∷ code_part ∷ []

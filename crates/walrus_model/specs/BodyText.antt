@@ -1,5 +1,5 @@
 -- A body over indices, as it is spelled ("Binary Format > Modules > Code Section"): its declarations, each a count and a type, and its operators.
-use Rattle.std.specs.Prelude.{ℕ, List, ◌++◌, flat_map, map, replicate, AllPairs, ◌≢◌}
+use Rattle.std.specs.Prelude.{ℕ, List, ◌++◌, flat_map, map, replicate, All, AllPairs, ◌≢◌}
 use Rattle.wasm_forms.specs.declared.types.RawVal.{RawVal}
 use Rattle.wasm_forms.specs.Spelling.{block_bytes, row_bytes}
 use Rattle.wasm_operators.specs.Operators as wire
@@ -13,9 +13,9 @@ pub record BodyText : Type 0 where
   pub declarations : List (ℕ × RawVal)
   pub operators : List wire.Op
 
--- no type is declared twice
+-- no type is declared twice, and none for no local
 abbrev pub DeclaresOnce : BodyText → Type 0
-DeclaresOnce t = AllPairs (λ (d : ℕ × RawVal) (e : ℕ × RawVal). d.1 ≢ e.1) t.declarations
+DeclaresOnce t = AllPairs (λ (d : ℕ × RawVal) (e : ℕ × RawVal). d.1 ≢ e.1) t.declarations × All (λ (d : ℕ × RawVal). d.0 ≢ 0) t.declarations
 
 abbrev pub text_bytes : BodyText → List ℕ
 text_bytes t = declarations_bytes t.declarations ++ row_bytes op_bytes t.operators

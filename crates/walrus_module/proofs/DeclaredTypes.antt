@@ -1,8 +1,8 @@
 -- A body declares each type once: the look-up of types tells them apart.
-use Rattle.std.proofs.Common.{◌≡◌, ℕ, zero, suc, ◌<◌, List, [], ◌∷◌, map, length, Some, refl, sym, ap, ◌∙◌, arith}
-use Rattle.std.specs.Prelude.{Option, All, slice_get, slice_index_or}
+use Rattle.std.proofs.Common.{◌≡◌, ◌≢◌, ℕ, zero, suc, ◌<◌, List, [], ◌∷◌, map, length, Some, refl, sym, ap, ◌∙◌, arith}
+use Rattle.std.specs.Prelude.{Option, All, AllPairs, slice_get, slice_index_or}
 use Rattle.std.specs.List.{AllZip}
-use Rattle.std.proofs.lemmas.List.Elements.{All-nil, All-cons}
+use Rattle.std.proofs.lemmas.List.Elements.{All-nil, All-cons, All-head, All-tail}
 use Rattle.wasm_forms.specs.declared.types.RawVal.{RawVal}
 use Rattle.wasm_forms.proofs.Bind.{bind_some, some_same}
 use Rattle.walrus_base.specs.Types.{HeapType, OfHeap, Concrete, Exact, ValType, I32, I64, F32, F64, V128, Ref}
@@ -56,6 +56,17 @@ at_same {A} {B} {C} f g (x ∷ xs) (y ∷ ys) (suc k) d e same low =
     let rest = at_same f g xs ys k d e tail (omega (arith, low)) in
     (omega (arith, rest.0), rest.1)
 
+filled_same : (names : Lookup) (ds : List (ℕ × RawVal)) (gs : List (ℕ × ValType ℕ)) → map spelled_as ds ≡ map (looked_up names) gs → All (λ (g : ℕ × ValType ℕ). 0 < g.0) gs → All (λ (d : ℕ × RawVal). d.0 ≢ 0) ds
+filled_same names [] gs same filled = All-nil (λ (d : ℕ × RawVal). d.0 ≢ 0)
+filled_same names (d ∷ ds) [] same filled = absurd cc
+filled_same names (d ∷ ds) (g ∷ gs) same filled =
+    let one : spelled_as d ≡ looked_up names g = cc in
+    let count : d.0 ≡ g.0 = ap (λ (p : ℕ × Option (ValType ℕ)). p.0) one in
+    let tail : map spelled_as ds ≡ map (looked_up names) gs = cc in
+    let some : 0 < g.0 = All-head (λ (g : ℕ × ValType ℕ). 0 < g.0) g gs filled in
+    let rest = filled_same names ds gs tail (All-tail (λ (g : ℕ × ValType ℕ). 0 < g.0) g gs filled) in
+    All-cons (λ (d : ℕ × RawVal). d.0 ≢ 0) d ds (λ none. absurd (omega (arith, some, count, none))) rest
+
 types_by : List ℕ → Lookup
 types_by types space i = slice_get types i
 
@@ -64,8 +75,8 @@ module _ (names : Lookup) (types order : List ℕ) (numbered : AreNumbered names
   unfolding types_by
   types_lead t k e = found_at types t k (sym (numbered.types_are t) ∙ e)
 
-  declared_once : (s : Source) (bytes places : List ℕ) (numbers : ℕ → Option ℕ) → s.names ≡ names → (w : BodyWritten s bytes places numbers) → DeclaresOnce (record { declarations = w.declarations; operators = w.texts })
-  declared_once s bytes places numbers same w i j d less low is =
+  declared_apart : (s : Source) (bytes places : List ℕ) (numbers : ℕ → Option ℕ) → s.names ≡ names → (w : BodyWritten s bytes places numbers) → AllPairs (λ (d : ℕ × RawVal) (e : ℕ × RawVal). d.1 ≢ e.1) w.declarations
+  declared_apart s bytes places numbers same w i j d less low is =
       let first = at_same spelled_as (looked_up s.names) w.declarations w.groups i d (0, I32) w.typed (omega (arith, less, low)) in
       let second = at_same spelled_as (looked_up s.names) w.declarations w.groups j d (0, I32) w.typed low in
       let g = slice_index_or w.groups i (0, I32) in
@@ -74,6 +85,9 @@ module _ (names : Lookup) (types order : List ℕ) (numbered : AreNumbered names
       let one : named_val names g.1 ≡ Some x = ap (λ (n : Lookup). named_val n g.1) (sym same) ∙ sym (ap (λ (p : ℕ × Option (ValType ℕ)). p.1) first.1) in
       let other : named_val names h.1 ≡ Some x = ap (λ (n : Lookup). named_val n h.1) (sym same) ∙ sym (ap (λ (p : ℕ × Option (ValType ℕ)). p.1) second.1) ∙ ap (λ (v : RawVal). Some (val_of v)) (sym is) in
       w.grouped.apart i j (0, I32) less second.0 (one_val names (types_by types) types_lead g.1 h.1 x one other)
+
+  declared_once : (s : Source) (bytes places : List ℕ) (numbers : ℕ → Option ℕ) → s.names ≡ names → (w : BodyWritten s bytes places numbers) → DeclaresOnce (record { declarations = w.declarations; operators = w.texts })
+  declared_once s bytes places numbers same w = (declared_apart s bytes places numbers same w, filled_same s.names w.declarations w.groups w.typed w.grouped.filled)
 
   module _ (h : Held) (features : Features) where
     pub texts_declare : (places : List ℕ) (bodies : List (List ℕ)) (a : AllZip (HasBytes h names features) places bodies) → All DeclaresOnce (texts_in h names features places bodies a)

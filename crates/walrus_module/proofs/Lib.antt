@@ -60,3 +60,4 @@ pub mod WrittenLemmas
 pub mod MovedRefs
 pub mod WholeLists
 pub mod Locating
+mod Rows

@@ -20,6 +20,5 @@ pub use walrus_ir::{
     IndicesToIds, InstrLocId, InstrSeqBuilder, IrError, ItemId, Local, LocalFunction, LocalId,
     LocalIter, LocalKey, LocalNumbers, MemoryId, MemoryKey, ModuleLocals, ModuleTypes, NewType,
     Operator, RefType, StorageType, StructType, TableId, TableKey, TagId, TagKey, TombstoneArena,
-    Type, TypeId, TypeIter, TypeKey, UntypedCustomSectionId, ValType, Value, emit_body,
-    read_function,
+    Type, TypeId, TypeIter, TypeKey, UntypedCustomSectionId, ValType, Value,
 };

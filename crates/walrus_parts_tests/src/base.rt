@@ -1,11 +1,9 @@
-//! Arenas, sets of ids, types and locals.
+//! Arenas and sets of ids.
 
-use crate::demands::{demand, is_text};
+use crate::demands::demand;
 use std::alloc::Global;
 use std::test::Fail;
-use walrus_base::{
-    FunctionId, FunctionKey, Id, IdHashSet, ModuleLocals, ModuleTypes, TombstoneArena, ValType,
-};
+use walrus_base::{FunctionId, FunctionKey, Id, IdHashSet, TombstoneArena};
 
 type Numbers = TombstoneArena<FunctionKey, usize>;
 
@@ -71,44 +69,5 @@ fn set_knows_its_ids(rt: HostRuntime) -> Result<(), Fail> {
     demand(
         takes_once(&mut set, id) && loses(&mut set, id, some_id(rt.alloc())),
         "one of two",
-    )
-}
-
-fn has_a_type(types: &mut ModuleTypes) -> bool {
-    match types.add(&[ValType::I32], &[ValType::F64, ValType::V128]) {
-        Ok(id) => {
-            types.get(id).params() == [ValType::I32].as_slice()
-                && types.get(id).results() == [ValType::F64, ValType::V128].as_slice()
-        }
-        Err(_) => false,
-    }
-}
-
-#[test]
-fn types_are_added(rt: HostRuntime) -> Result<(), Fail> {
-    let mut types = ModuleTypes::new(rt.alloc());
-    demand(
-        types.reserve(1).is_ok() && has_a_type(&mut types),
-        "the type",
-    )
-}
-
-fn has_a_local(locals: &mut ModuleLocals, name: String) -> bool {
-    match locals.add(ValType::I64) {
-        Ok(id) => {
-            locals.get_mut(id).name = Some(name);
-            locals.get(id).ty() == ValType::I64 && locals.len() == 1
-        }
-        Err(_) => false,
-    }
-}
-
-#[test]
-fn locals_are_added(rt: HostRuntime) -> Result<(), Fail> {
-    let mut locals = ModuleLocals::new(rt.alloc());
-    let name = String::from_str(rt.alloc(), "x")?;
-    demand(
-        locals.reserve(1).is_ok() && has_a_local(&mut locals, name),
-        "the local",
     )
 }

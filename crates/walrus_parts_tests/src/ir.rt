@@ -1,10 +1,10 @@
-//! Bodies and indices.
+//! Bodies.
 
 use crate::base::some_id;
 use crate::demands::{add_bytes, are, demand};
 use std::alloc::{AllocError, Global};
 use std::test::Fail;
-use walrus_base::{FunctionId, TypeId};
+use walrus_base::FunctionId;
 use walrus_bodies::FunctionTypes;
 use walrus_ir::{
     Features, IdsToIndices, IndicesToIds, InstrLocId, LocalFunction, ModuleLocals, ModuleTypes,
@@ -105,24 +105,5 @@ fn a_body_is_read_and_written(rt: HostRuntime) -> Result<(), Fail> {
     demand(
         add_bytes(&mut bytes, BODY) && comes_back(rt.alloc(), some_id(rt.alloc()), &bytes),
         BODY,
-    )
-}
-
-fn has_type_at_0(alloc: Global, ty: TypeId) -> bool {
-    let mut ids = IndicesToIds::new(alloc);
-    ids.push_type(ty).is_ok() && ids.get_type(0) == Some(ty)
-}
-
-fn gives_type_0(alloc: Global, ty: TypeId) -> bool {
-    let mut indices = IdsToIndices::new(alloc);
-    indices.push_type(ty).is_ok() && indices.get_type_index(ty) == Some(0)
-}
-
-#[test]
-fn types_get_indices(rt: HostRuntime) -> Result<(), Fail> {
-    let ty = some_id(rt.alloc());
-    demand(
-        has_type_at_0(rt.alloc(), ty) && gives_type_0(rt.alloc(), ty),
-        "the index of a type",
     )
 }

@@ -139,26 +139,30 @@ const ROWS: [(&str, &str); 32] = [
     ),
 ];
 
-fn add_length(lengths: &mut Vec<u8>, section: &Section<'_>) -> bool {
-    match measure(section) {
-        Ok(length) => match u8::try_from(length) {
-            Ok(byte) => lengths.push(byte).is_ok(),
-            Err(_) => false,
-        },
+fn push_length(lengths: &mut Vec<u8>, length: usize) -> bool {
+    match u8::try_from(length) {
+        Ok(byte) => lengths.push(byte).is_ok(),
+        Err(_) => false,
+    }
+}
+
+fn add_length(lengths: &mut Vec<u8>, section: Section<'_>) -> bool {
+    match measure(&section) {
+        Ok(length) => push_length(lengths, length),
         Err(_) => false,
     }
 }
 
 fn add_start(lengths: &mut Vec<u8>, start: Option<u32>) -> bool {
     match start {
-        Some(function) => add_length(lengths, &Section::Start(function)),
+        Some(function) => add_length(lengths, Section::Start(function)),
         None => lengths.push(0).is_ok(),
     }
 }
 
 fn add_data_count(lengths: &mut Vec<u8>, count: Option<u32>) -> bool {
     match count {
-        Some(segments) => add_length(lengths, &Section::DataCount(segments)),
+        Some(segments) => add_length(lengths, Section::DataCount(segments)),
         None => lengths.push(0).is_ok(),
     }
 }
@@ -174,7 +178,7 @@ fn add_bodies(lengths: &mut Vec<usize>, bodies: &[RawBody<'_>]) -> bool {
 
 fn add_code(alloc: Global, lengths: &mut Vec<u8>, bodies: &[RawBody<'_>]) -> bool {
     let mut sizes = Vec::new(alloc);
-    add_bodies(&mut sizes, bodies) && add_length(lengths, &Section::Code(&sizes))
+    add_bodies(&mut sizes, bodies) && add_length(lengths, Section::Code(&sizes))
 }
 
 fn add_customs(lengths: &mut Vec<u8>, customs: &[RawCustom<'_>]) -> bool {
@@ -183,7 +187,7 @@ fn add_customs(lengths: &mut Vec<u8>, customs: &[RawCustom<'_>]) -> bool {
             name: custom.name,
             len: custom.bytes.len(),
         };
-        if !add_length(lengths, &section) {
+        if !add_length(lengths, section) {
             return false;
         }
     }
@@ -191,33 +195,37 @@ fn add_customs(lengths: &mut Vec<u8>, customs: &[RawCustom<'_>]) -> bool {
 }
 
 fn add_first(lengths: &mut Vec<u8>, raw: &Raw<'_>) -> bool {
-    add_length(lengths, &Section::Types(&raw.types))
-        && add_length(lengths, &Section::Imports(&raw.imports))
-        && add_length(lengths, &Section::Functions(&raw.functions))
-        && add_length(lengths, &Section::Tables(&raw.tables))
-        && add_length(lengths, &Section::Memories(&raw.memories))
-        && add_length(lengths, &Section::Tags(&raw.tags))
-        && add_length(lengths, &Section::Globals(&raw.globals))
+    add_length(lengths, Section::Types(&raw.types))
+        && add_length(lengths, Section::Imports(&raw.imports))
+        && add_length(lengths, Section::Functions(&raw.functions))
+        && add_length(lengths, Section::Tables(&raw.tables))
+        && add_length(lengths, Section::Memories(&raw.memories))
+        && add_length(lengths, Section::Tags(&raw.tags))
+        && add_length(lengths, Section::Globals(&raw.globals))
 }
 
 fn add_last(alloc: Global, lengths: &mut Vec<u8>, raw: &Raw<'_>) -> bool {
-    add_length(lengths, &Section::Exports(&raw.exports))
+    add_length(lengths, Section::Exports(&raw.exports))
         && add_start(lengths, raw.start)
-        && add_length(lengths, &Section::Elements(&raw.elements))
+        && add_length(lengths, Section::Elements(&raw.elements))
         && add_data_count(lengths, raw.data_count)
         && add_code(alloc, lengths, &raw.bodies)
-        && add_length(lengths, &Section::Data(&raw.data_))
+        && add_length(lengths, Section::Data(&raw.data_))
         && add_customs(lengths, &raw.customs)
 }
 
-fn are_measured(alloc: Global, bytes: &[u8], wanted: &str) -> bool {
-    let Ok(raw) = read_module(alloc, bytes) else {
-        return false;
-    };
+fn has_lengths(alloc: Global, raw: &Raw<'_>, wanted: &str) -> bool {
     let mut lengths = Vec::new(alloc);
-    add_first(&mut lengths, &raw)
-        && add_last(alloc, &mut lengths, &raw)
+    add_first(&mut lengths, raw)
+        && add_last(alloc, &mut lengths, raw)
         && are(alloc, &lengths, wanted)
+}
+
+fn are_measured(alloc: Global, bytes: &[u8], wanted: &str) -> bool {
+    match read_module(alloc, bytes) {
+        Ok(raw) => has_lengths(alloc, &raw, wanted),
+        Err(_) => false,
+    }
 }
 
 fn is_row_measured(alloc: Global, module: &str, wanted: &str) -> bool {
@@ -225,12 +233,16 @@ fn is_row_measured(alloc: Global, module: &str, wanted: &str) -> bool {
     add_bytes(&mut bytes, module) && are_measured(alloc, &bytes, wanted)
 }
 
-#[test]
-fn sections_of_modules(rt: HostRuntime) -> Result<(), Fail> {
-    for (module, wanted) in &ROWS {
-        demand(is_row_measured(rt.alloc(), module, wanted), module)?;
+fn each_is_measured(alloc: Global, rows: &[(&str, &str)]) -> Result<(), Fail> {
+    for (module, wanted) in rows {
+        demand(is_row_measured(alloc, module, wanted), module)?;
     }
     Ok(())
+}
+
+#[test]
+fn sections_of_modules(rt: HostRuntime) -> Result<(), Fail> {
+    each_is_measured(rt.alloc(), &ROWS)
 }
 
 fn add_twos(sizes: &mut Vec<usize>) -> bool {

@@ -131,11 +131,16 @@ fn a_section_of_a_caller(rt: HostRuntime) -> Result<(), Fail> {
     )
 }
 
-fn ask_for_each(alloc: Global, roots: &mut Roots) -> Result<(), Error> {
+fn ask_for_first(alloc: Global, roots: &mut Roots) -> Result<(), Error> {
     roots
         .push_func(some_id(alloc))?
         .push_table(some_id(alloc))?
-        .push_memory(some_id(alloc))?
+        .push_memory(some_id(alloc))?;
+    Ok(())
+}
+
+fn ask_for_last(alloc: Global, roots: &mut Roots) -> Result<(), Error> {
+    roots
         .push_global(some_id(alloc))?
         .push_tag(some_id(alloc))?
         .push_func(some_id(alloc))?;
@@ -152,7 +157,8 @@ fn has_first_items(alloc: Global, roots: &Roots) -> bool {
 #[test]
 fn roots_of_each_kind(rt: HostRuntime) -> Result<(), Fail> {
     let mut roots = Roots::new(rt.alloc());
-    let are_taken = ask_for_each(rt.alloc(), &mut roots).is_ok();
+    let are_taken = ask_for_first(rt.alloc(), &mut roots).is_ok()
+        && ask_for_last(rt.alloc(), &mut roots).is_ok();
     demand(
         are_taken && roots.funcs().len() == 2 && has_first_items(rt.alloc(), &roots),
         "six items",

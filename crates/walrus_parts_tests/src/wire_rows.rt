@@ -4,7 +4,7 @@ use crate::demands::{add_bytes, demand};
 use crate::wire::{Answer, each_is_answered, is_written_as};
 use std::alloc::Global;
 use std::test::Fail;
-use wasm_wire::{check, read_module};
+use wasm_wire::{Raw, check, read_module};
 
 // An empty function, exported as `f`, of the one type without parameters and results.
 const WRITTEN: &str =
@@ -57,12 +57,16 @@ fn types(rt: HostRuntime) -> Result<(), Fail> {
 
 // Whether these bytes are a module whose groups of types, but for the empty first one, are written with the rest as the text says.
 fn loses_its_first_group(alloc: Global, bytes: &[u8], text: &str) -> bool {
-    let Ok(mut raw) = read_module(alloc, bytes) else {
-        return false;
-    };
-    let is_checked = check(alloc, &raw).is_ok();
+    match read_module(alloc, bytes) {
+        Ok(mut raw) => check(alloc, &raw).is_ok()
+            && is_written_without_empty_groups(alloc, &mut raw, text),
+        Err(_) => false,
+    }
+}
+
+fn is_written_without_empty_groups(alloc: Global, raw: &mut Raw<'_>, text: &str) -> bool {
     raw.types.retain(|group| !group.is_empty());
-    is_checked && raw.types.len() == 1 && is_written_as(alloc, &raw, text)
+    raw.types.len() == 1 && is_written_as(alloc, raw, text)
 }
 
 // An empty group gives no type an index. The writer spells each group that it is given, so that a caller leaves this one out.

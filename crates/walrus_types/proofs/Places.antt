@@ -1,5 +1,5 @@
 -- The places of a group.
-use Rattle.std.proofs.Common.{◌≡◌, ℕ, zero, suc, ◌+◌, ◌-◌, ◌<◌, ◌≤◌, List, [], ◌∷◌, ◌++◌, map, refl, ap, sym, ◌∙◌, arith, append_assoc}
+use Rattle.std.proofs.Common.{◌≡◌, ℕ, zero, suc, ◌+◌, ◌-◌, ◌<◌, ◌≤◌, List, [], ◌∷◌, ◌++◌, map, refl, ap, sym, ◌∙◌, arith, append_assoc, append-nil}
 use Rattle.std.proofs.lemmas.List.{map-append}
 use Rattle.walrus_base.specs.Id.{place}
 use Rattle.walrus_base.specs.declared.id.Id.{Id}
@@ -40,3 +40,8 @@ next_id_step ids now id a b all lt is more so_far =
     ∙ append_assoc (map (λ x. place x) ids) (place id ∷ []) (places_between (a + 1) b)
     ∙ ap (λ n. map (λ x. place x) ids ++ (n ∷ places_between (a + 1) b)) is
     ∙ ap (λ ps. map (λ x. place x) ids ++ ps) (sym (between_more a b lt)) ∙ so_far
+
+-- all ids are there
+pub next_ids_done : (ids : List (Id TypeKey)) (first now end count all : ℕ) → end ≤ now → end ≡ first + count → first ≡ all → map (λ x. place x) ids ++ places_between now end ≡ places_between first end → map (λ x. place x) ids ≡ range_with_len all count
+next_ids_done ids first now end count all h e f so_far =
+    sym (append-nil (map (λ x. place x) ids)) ∙ sym (ap (λ ps. map (λ x. place x) ids ++ ps) (between_done now end h)) ∙ so_far ∙ between_count first end count e ∙ ap (λ k. range_with_len k count) f

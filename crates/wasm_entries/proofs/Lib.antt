@@ -5,3 +5,6 @@ pub mod Turns
 pub mod Constants
 pub mod Entries
 pub mod Segments
+pub mod Steps
+pub mod DataSteps
+pub mod Widths

@@ -1,4 +1,6 @@
 pub mod Results
 pub mod Bodies
+pub mod Contents
+pub mod Added
 pub mod Sections
 pub mod Modules

@@ -194,6 +194,9 @@ access_stands flags memory offset b f m o = access_at flags memory offset (bit_d
 
 -- ---- an argument of a kind that is one
 
+untrue : false ≡ true → ⊥
+untrue e = cc
+
 pub one_stands : (kind : Kind) (arg : RawArg) → is_of kind arg ≡ true → ArgHeld arg → Is (arg_form kind) (arg_bytes arg) (arg ∷ [])
 unfolding arg_form
 one_stands kinds.Block (args.Block b) s h = (b, (refl, block_stands b s h))
@@ -215,4 +218,4 @@ one_stands kinds.S32 (args.S32 z) s h = (z, (refl, integer_stands z h))
 one_stands kinds.S64 (args.S64 z) s h = (z, (refl, long_integer_stands z h))
 one_stands kinds.F32 (args.F32 bits) s h = (bits, (refl, f32_stands bits h))
 one_stands kinds.F64 (args.F64 bits) s h = (bits, (refl, f64_stands bits h))
-one_stands kind arg s h = cc
+one_stands kind arg s h = absurd (untrue s)

@@ -8,6 +8,7 @@ use Rattle.walrus_types.specs.declared.value.ValType.TheVariants.{I32}
 use Rattle.walrus_bodies.specs.Body.{most_locals}
 use Rattle.walrus_bodies.specs.BodyRead.{AddsLocals, Grows}
 use Rattle.walrus_bodies.proofs.BodyLemmas.{adds-more, grows-some, grows-one}
+use Rattle.std.proofs.lemmas.Result.{err_from_is_err_and}
 use Rattle.walrus_bodies.proofs.body.add_locals.Goals as goal
 
 pub loop-ty-preserved : goal.loop-ty-preserved
@@ -45,3 +46,9 @@ returns-clause-stays c =
     let short = length-take i types in
     let few : length (take i types) ≤ most_locals = omega (arith, short, c.requires) in
     grows-some (locals c.args.module_locals.now) (locals c.loop-ty.module_locals) c.loop-ty.ids.items (take i types) c.loop-ty.invariant few
+
+pub returns-in_err-id-clause-added : goal.returns-in_err-id-clause-added
+returns-in_err-id-clause-added c = let p = err_from_is_err_and c.from_residual.result c.from_residual.ensures.1 in rw p.1 tt
+
+pub returns-in_err-push-clause-added : goal.returns-in_err-push-clause-added
+returns-in_err-push-clause-added c = let p = err_from_is_err_and c.from_residual-in_err-push.result c.from_residual-in_err-push.ensures.1 in rw p.1 tt

@@ -12,6 +12,7 @@ use Rattle.walrus_bodies.specs.Body.{Context, context}
 use Rattle.walrus_bodies.specs.Declarations.{declarations_of}
 use Rattle.walrus_bodies.specs.Results.{locations}
 use Rattle.walrus_bodies.proofs.BodyLemmas.{Found, not_declared, no_operators, all_read, begins}
+use Rattle.std.proofs.lemmas.Result.{err_from_is_err_and}
 use Rattle.walrus_bodies.proofs.body.read_body.Goals as goal
 
 pub returns-in_err-declared-clause-read : goal.returns-in_err-declared-clause-read
@@ -57,3 +58,30 @@ returns-clause-located g c =
     let found : Found bytes (declarations_of c.in_ok-declarations.declarations.items) rest = c.in_ok-declarations.ensures.found in
     let begin_is : c.saturating_add-begin.result ≡ min (c.args.start + (length bytes - length rest)) (2 ^ 64 - 1) = c.saturating_add-begin.ensures ∙ ap (λ (n : ℕ). min (c.args.start + n) (2 ^ 64 - 1)) c.saturating_sub-offset.ensures in
     (found.0, (rest, (declarations_of c.in_ok-declarations.declarations.items, (found.1.0, found.1.1, begins (FnReturnsAt g.L.Fn c.args.locate.now) c.args.start c.saturating_add-begin.result bytes found.0 rest (locations c.in_ok-operators.operators.items) found.1.0 begin_is c.in_ok-operators.ensures.located))))
+
+pub returns-in_err-declarations-clause-located : goal.returns-in_err-declarations-clause-located
+returns-in_err-declarations-clause-located g c = let p = err_from_is_err_and c.from_residual.result c.from_residual.ensures.1 in rw p.1 tt
+
+pub returns-in_err-declared-clause-located : goal.returns-in_err-declared-clause-located
+returns-in_err-declared-clause-located g c = let p = err_from_is_err_and c.from_residual-in_err-declared.result c.from_residual-in_err-declared.ensures.1 in rw p.1 tt
+
+pub returns-in_err-all-clause-read : goal.returns-in_err-all-clause-read
+returns-in_err-all-clause-read g c = let p = err_from_is_err_and c.from_residual-in_err-all.result c.from_residual-in_err-all.ensures.1 in rw (p.1, p.2) tt
+
+pub returns-in_err-all-clause-located : goal.returns-in_err-all-clause-located
+returns-in_err-all-clause-located g c = let p = err_from_is_err_and c.from_residual-in_err-all.result c.from_residual-in_err-all.ensures.1 in rw p.1 tt
+
+pub returns-in_err-operators-clause-located : goal.returns-in_err-operators-clause-located
+returns-in_err-operators-clause-located g c = let p = err_from_is_err_and c.from_residual-in_err-operators.result c.from_residual-in_err-operators.ensures.1 in rw p.1 tt
+
+pub returns-in_err-all-clause-stays : goal.returns-in_err-all-clause-stays
+returns-in_err-all-clause-stays g c = c.declare.ensures.stays
+
+pub returns-in_err-operators-clause-stays : goal.returns-in_err-operators-clause-stays
+returns-in_err-operators-clause-stays g c = c.declare.ensures.stays
+
+pub returns-in_err-declared-clause-stays : goal.returns-in_err-declared-clause-stays
+returns-in_err-declared-clause-stays g c = c.declare.ensures.stays
+
+pub returns-clause-stays : goal.returns-clause-stays
+returns-clause-stays g c = c.declare.ensures.stays

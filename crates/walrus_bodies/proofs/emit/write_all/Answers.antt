@@ -1,5 +1,5 @@
-use Rattle.std.proofs.Common.{◌≡◌, ◌<◌, ℕ, List, [], ◌∷◌, ◌++◌, ◌+◌, suc, length, map, take, drop, get_or, ap, ◌∙◌, subst, sym, rules, arith}
-use Rattle.std.proofs.lemmas.List.{map-append}
+use Rattle.std.proofs.Common.{◌≡◌, ◌<◌, ◌≤◌, ℕ, List, [], ◌∷◌, ◌++◌, ◌+◌, suc, length, map, take, drop, get_or, ap, ◌∙◌, subst, sym, rules, arith}
+use Rattle.std.proofs.lemmas.List.{map-append, take_all}
 use Rattle.walrus_types.specs.Operators.{Op}
 use Rattle.walrus_code.specs.Code.{op_of, ops_of}
 use Rattle.walrus_code.specs.Indices.{index_of, local_index}
@@ -8,6 +8,7 @@ use Rattle.walrus_code.specs.declared.operator.Operator.{Operator}
 use Rattle.walrus_bodies.specs.Results.{locations}
 use Rattle.walrus_bodies.specs.Writer.{AppendsAll}
 use Rattle.walrus_bodies.proofs.EmitLemmas.{appends-more, passed-all, ops_of-at, take-next}
+use Rattle.std.proofs.lemmas.Result.{err_from_is_err_and}
 use Rattle.walrus_bodies.proofs.emit.write_all.Goals as goal
 
 pub returns-in_err-write_one-clause-written : goal.returns-in_err-write_one-clause-written
@@ -40,3 +41,24 @@ loop-operator-preserved c =
           (subst (λ (os : List Op). AppendsAll names locals os c.args.to.now.items c.write_one.new.to.items (map (λ (p : InstrLocId × ℕ). p.1) had ++ length c.loop-operator.to.items ∷ [])) ops_next more);
       located = ap (map (λ (p : InstrLocId × ℕ). p.0)) c.in_ok-push.ensures.items ∙ map-append (λ (p : InstrLocId × ℕ). p.0) had (pushed ∷ []) ∙ ap (λ (ls : List InstrLocId). ls ++ x.loc ∷ []) c.loop-operator.invariant.located ∙ sym (ap locations next ∙ map-append (λ (o : Operator). o.loc) (take i xs) (x ∷ []));
     }
+
+pub returns-in_err-push-clause-written : goal.returns-in_err-push-clause-written
+returns-in_err-push-clause-written c = let p = err_from_is_err_and c.from_residual.result c.from_residual.ensures.1 in rw (p.1, p.2) tt
+
+pub returns-in_err-push-clause-located : goal.returns-in_err-push-clause-located
+returns-in_err-push-clause-located c = let p = err_from_is_err_and c.from_residual.result c.from_residual.ensures.1 in rw p.1 tt
+
+pub returns-in_err-write_one-clause-located : goal.returns-in_err-write_one-clause-located
+returns-in_err-write_one-clause-located c = let p = err_from_is_err_and c.from_residual-in_err-write_one.result c.from_residual-in_err-write_one.ensures.1 in rw p.1 tt
+
+pub returns-clause-written : goal.returns-clause-written
+returns-clause-written c =
+    let xs = c.args.operators.now in
+    let past : length xs ≤ c.loop-operator.operator-index = omega arith in
+    subst (λ (os : List Operator). AppendsAll (index_of c.args.indices.now) (local_index c.args.locals.now) (ops_of os) c.args.to.now.items c.loop-operator.to.items (map (λ (p : InstrLocId × ℕ). p.1) c.loop-operator.placed.items)) (take_all c.loop-operator.operator-index xs past) c.loop-operator.invariant.appended
+
+pub returns-clause-located : goal.returns-clause-located
+returns-clause-located c =
+    let xs = c.args.operators.now in
+    let past : length xs ≤ c.loop-operator.operator-index = omega arith in
+    c.loop-operator.invariant.located ∙ ap locations (take_all c.loop-operator.operator-index xs past)

@@ -16,6 +16,7 @@ use Rattle.walrus_bodies.specs.Reader.{next_at, ops_at, ended}
 use Rattle.walrus_bodies.specs.Results.{locations}
 use Rattle.walrus_bodies.proofs.ReadLemmas.{step_more, step_last, step_none, step_out, refused, passed_on, same_given}
 use Rattle.walrus_bodies.proofs.LocatedLemmas.{Front, front_of, shorter, grown, when_ended}
+use Rattle.std.proofs.lemmas.Result.{err_from_is_err_and}
 use Rattle.walrus_bodies.proofs.read.read_all.Goals as goal
 
 pub returns-in_err-operator-clause-read : goal.returns-in_err-operator-clause-read
@@ -76,3 +77,21 @@ pub returns-clause-read : goal.returns-clause-read
 returns-clause-read g c =
     let d : Context = context (ids_at c.args.indices.now) (g.T.FunctionTypes.function_types c.args.types.now) c.args.features.now in
     step_out d (locals_at c.args.locals.now) _ (ops_of c.loop-turn.operators.items) (length c.args.bytes.now) c.loop-turn._turn (opened c.loop-turn.blocks) c.loop-turn.rest.now c.loop-turn.invariant.so_far (omega arith)
+
+pub returns-in_err-blocks-clause-read : goal.returns-in_err-blocks-clause-read
+returns-in_err-blocks-clause-read g c = let p = err_from_is_err_and c.from_residual.result c.from_residual.ensures.1 in rw (p.1, p.2) tt
+
+pub returns-in_err-blocks-clause-located : goal.returns-in_err-blocks-clause-located
+returns-in_err-blocks-clause-located g c = let p = err_from_is_err_and c.from_residual.result c.from_residual.ensures.1 in rw p.1 tt
+
+pub returns-in_err-operator-clause-located : goal.returns-in_err-operator-clause-located
+returns-in_err-operator-clause-located g c = let p = err_from_is_err_and c.from_residual-in_err-operator.result c.from_residual-in_err-operator.ensures.1 in rw p.1 tt
+
+pub returns-in_err-push-clause-read : goal.returns-in_err-push-clause-read
+returns-in_err-push-clause-read g c = let p = err_from_is_err_and c.from_residual-in_err-push.result c.from_residual-in_err-push.ensures.1 in rw (p.1, p.2) tt
+
+pub returns-in_err-push-clause-located : goal.returns-in_err-push-clause-located
+returns-in_err-push-clause-located g c = let p = err_from_is_err_and c.from_residual-in_err-push.result c.from_residual-in_err-push.ensures.1 in rw p.1 tt
+
+pub returns-clause-located : goal.returns-clause-located
+returns-clause-located g c = tt

@@ -27,6 +27,7 @@ use Rattle.walrus_bodies.specs.declared.features.Features.{Features}
 use Rattle.walrus_functions.specs.EmittedBody.{Source, types_of}
 use Rattle.walrus_functions.specs.Writing.{DeclaresLocals, LocalsDeclared}
 use Rattle.walrus_functions.proofs.WrittenLemmas.{emitted, refused_declared, refused_found, all_there, all_differ, few_declarations, fits_type}
+use Rattle.std.proofs.lemmas.Result.{err_from_is_err_and}
 use Rattle.walrus_functions.proofs.emit.emit_body.Goals as goal
 
 abbrev source : IdsToIndices → ModuleLocals → ModuleTypes → LocalFunction → Features → Source
@@ -119,3 +120,39 @@ returns-clause-written c =
     (λ body. body.bytes.items) (λ body. map (λ p. p.1) body.places.items) (λ body. local_index body.locals) c.write_body.result
     (if_ok (λ body. body.locals ≡ c.in_ok-locals.locals) (λ body. local_index body.locals ≡ numbers) (λ body same. ap local_index same) c.write_body.result c.write_body.ensures.numbered)
     (rw (c.as_slice-operators.ensures.value, c.as_slice-6.ensures.value) at c.write_body.ensures.written)
+
+pub returns-in_err-fits-clause-written : goal.returns-in_err-fits-clause-written
+returns-in_err-fits-clause-written c = let p = err_from_is_err_and c.from_residual.result c.from_residual.ensures.1 in rw (p.1, p.2) tt
+
+pub returns-in_err-fits-clause-located : goal.returns-in_err-fits-clause-located
+returns-in_err-fits-clause-located c = let p = err_from_is_err_and c.from_residual.result c.from_residual.ensures.1 in rw p.1 tt
+
+pub returns-in_err-all-clause-written : goal.returns-in_err-all-clause-written
+returns-in_err-all-clause-written c = let p = err_from_is_err_and c.from_residual-in_err-all.result c.from_residual-in_err-all.ensures.1 in rw (p.1, p.2) tt
+
+pub returns-in_err-all-clause-located : goal.returns-in_err-all-clause-located
+returns-in_err-all-clause-located c = let p = err_from_is_err_and c.from_residual-in_err-all.result c.from_residual-in_err-all.ensures.1 in rw p.1 tt
+
+pub returns-in_err-locals-clause-written : goal.returns-in_err-locals-clause-written
+returns-in_err-locals-clause-written c = let p = err_from_is_err_and c.from_residual-in_err-locals.result c.from_residual-in_err-locals.ensures.1 in rw (p.1, p.2) tt
+
+pub returns-in_err-locals-clause-located : goal.returns-in_err-locals-clause-located
+returns-in_err-locals-clause-located c = let p = err_from_is_err_and c.from_residual-in_err-locals.result c.from_residual-in_err-locals.ensures.1 in rw p.1 tt
+
+pub returns-in_err-declared-clause-located : goal.returns-in_err-declared-clause-located
+returns-in_err-declared-clause-located c = let p = err_from_is_err_and c.from_residual-in_err-declared.result c.from_residual-in_err-declared.ensures.1 in rw p.1 tt
+
+pub returns-in_err-declarations-clause-located : goal.returns-in_err-declarations-clause-located
+returns-in_err-declarations-clause-located c = let p = err_from_is_err_and c.from_residual-in_err-declarations.result c.from_residual-in_err-declarations.ensures.1 in rw p.1 tt
+
+pub returns-then-not-fits-clause-located : goal.returns-then-not-fits-clause-located
+returns-then-not-fits-clause-located c = tt
+
+pub returns-then-not-hold-clause-located : goal.returns-then-not-hold-clause-located
+returns-then-not-hold-clause-located c = tt
+
+pub returns-then-len-clause-located : goal.returns-then-len-clause-located
+returns-then-len-clause-located c = tt
+
+pub returns-then-len-2-clause-located : goal.returns-then-len-2-clause-located
+returns-then-len-2-clause-located c = tt

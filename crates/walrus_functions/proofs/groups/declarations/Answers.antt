@@ -1,4 +1,4 @@
-use Rattle.std.proofs.Common.{ℕ, List, [], ◌∷◌, ◌++◌, get_or, map, take, sym, ap, ◌∙◌, subst}
+use Rattle.std.proofs.Common.{ℕ, ◌≤◌, length, List, [], ◌∷◌, ◌++◌, get_or, map, take, sym, ap, ◌∙◌, subst, arith}
 use Rattle.wasm_forms.specs.declared.types.RawVal.{RawVal}
 use Rattle.walrus_base.specs.Types.{ValType}
 use Rattle.walrus_types.specs.Value.{val_type}
@@ -10,6 +10,8 @@ use Rattle.walrus_bodies.specs.Declarations.{declaration, declarations_of}
 use Rattle.walrus_functions.specs.Declaring.{AreDeclarations, group_of}
 use Rattle.walrus_functions.proofs.Turns.{split_at, map_more, map_snoc}
 use Rattle.walrus_functions.proofs.DeclarationLemmas.{declared-more, declares-refused}
+use Rattle.std.proofs.lemmas.List.{take_all}
+use Rattle.std.proofs.lemmas.Result.{err_from_is_err_and}
 use Rattle.walrus_functions.proofs.groups.declarations.Goals as goal
 
 pub returns-in_err-value : goal.returns-in_err-value
@@ -29,3 +31,14 @@ loop-count-preserved c =
     subst (λ (gs : List (ℕ × ValType ℕ)). AreDeclarations names gs (declarations_of c.push.new.self.items)) (sym (map_more group_of c.args.groups.now i zero c.loop-count-test.true))
     (subst (λ (ds : List (ℕ × RawVal)). AreDeclarations names (done ++ group_of x ∷ []) ds) (sym (ap declarations_of c.in_ok-push.ensures.items ∙ map_snoc declaration c.loop-count.declarations.items one))
     (declared-more names done had x.0 (val_type x.1) c.in_ok-value.value c.loop-count.invariant c.in_ok-value.ensures.indexed.0 c.in_ok-value.ensures.spelled))
+
+pub returns-in_err-declarations : goal.returns-in_err-declarations
+returns-in_err-declarations c = let p = err_from_is_err_and c.from_residual.result c.from_residual.ensures.1 in rw (p.1, p.2) tt
+
+pub returns-in_err-push : goal.returns-in_err-push
+returns-in_err-push c = let p = err_from_is_err_and c.from_residual-in_err-push.result c.from_residual-in_err-push.ensures.1 in rw (p.1, p.2) tt
+
+pub returns : goal.returns
+returns c =
+    let past : length c.args.groups.now ≤ c.loop-count.count-index = omega arith in
+    subst (λ (gs : List (ℕ × DeclaredValType)). AreDeclarations (index_of c.args.indices.now) (map group_of gs) (declarations_of c.loop-count.declarations.items)) (take_all c.loop-count.count-index c.args.groups.now past) c.loop-count.invariant

@@ -1,4 +1,6 @@
-use Rattle.std.proofs.Common.{◌≡◌, ◌<◌, [], ℕ, List, Option, ◌+◌, length, map, option_map, drop, get_or, ap, ◌∙◌, sym, subst, rules, arith}
+use Rattle.std.proofs.Common.{◌≡◌, ◌<◌, ◌≤◌, [], ℕ, List, Option, ◌+◌, length, map, option_map, drop, get_or, ap, ◌∙◌, sym, subst, refl, rules, arith}
+use Rattle.std.proofs.lemmas.List.{drop_all}
+use Rattle.std.proofs.lemmas.Result.{err_from_is_err_and}
 use Rattle.walrus_base.specs.Arena.{item_at}
 use Rattle.walrus_base.specs.Id.{place}
 use Rattle.walrus_types.specs.ModuleTypes.{type_slots}
@@ -7,7 +9,7 @@ use Rattle.walrus_types.specs.TypeDef.{TypeDef}
 use Rattle.walrus_code.specs.Code.{block_of, op_of, ops_of}
 use Rattle.walrus_functions.specs.ReadFunction.{AddsTypes}
 use Rattle.walrus_functions.specs.Signatures.{handler_in, opened, slots_of, tag_places, types_below}
-use Rattle.walrus_functions.proofs.HandlerLemmas.{SoFar, below_all, next_op, so_far_none, so_far_more}
+use Rattle.walrus_functions.proofs.HandlerLemmas.{SoFar, below_all, next_op, so_far_all, so_far_none, so_far_more, stays_same, stays_trans}
 use Rattle.walrus_functions.proofs.handlers.add_handler_types.Goals as goal
 
 pub loop-operator-init : goal.loop-operator-init
@@ -40,3 +42,37 @@ loop-operator-preserved c =
     let under_types = subst (λ (ts : ℕ → Option TypeDef). AddsTypes (handler_in ts tags (option_map block_of c.innermost_try-block.result) (op_of x)) now next added.0) types_are added.1.1 in
     let under_block = subst (λ (b : Option BlockType). AddsTypes (handler_in types tags b (op_of x)) now next added.0) c.innermost_try-block.ensures under_types in
     so_far_more types tags old now next blocks (opened c.step.new.self) (op_of x) left (ops_of xs) (map place c.loop-operator.ids.items) added.0 (map place c.add_needed.new.ids.items) so_far under_block c.in_ok-add_needed.ensures.stays c.in_ok-step.ensures added.1.0
+
+pub returns-in_err-bound-clause-added : goal.returns-in_err-bound-clause-added
+returns-in_err-bound-clause-added c = let p = err_from_is_err_and c.from_residual.result c.from_residual.ensures.1 in rw p.1 tt
+
+pub returns-in_err-bound-clause-stays : goal.returns-in_err-bound-clause-stays
+returns-in_err-bound-clause-stays c = stays_same (type_slots c.args.types.now) (type_slots c.args.types.now) refl
+
+pub returns-in_err-blocks-clause-added : goal.returns-in_err-blocks-clause-added
+returns-in_err-blocks-clause-added c = let p = err_from_is_err_and c.from_residual-in_err-blocks.result c.from_residual-in_err-blocks.ensures.1 in rw p.1 tt
+
+pub returns-in_err-blocks-clause-stays : goal.returns-in_err-blocks-clause-stays
+returns-in_err-blocks-clause-stays c = stays_same (type_slots c.args.types.now) (type_slots c.args.types.now) refl
+
+pub returns-in_err-add_needed-clause-added : goal.returns-in_err-add_needed-clause-added
+returns-in_err-add_needed-clause-added c = let p = err_from_is_err_and c.from_residual-in_err-add_needed.result c.from_residual-in_err-add_needed.ensures.1 in rw p.1 tt
+
+pub returns-in_err-add_needed-clause-stays : goal.returns-in_err-add_needed-clause-stays
+returns-in_err-add_needed-clause-stays c = stays_trans (type_slots c.args.types.now) (type_slots c.loop-operator.types) (type_slots c.add_needed.new.types) c.loop-operator.invariant.stays c.add_needed.ensures.stays
+
+pub returns-in_err-step-clause-added : goal.returns-in_err-step-clause-added
+returns-in_err-step-clause-added c = let p = err_from_is_err_and c.from_residual-in_err-step.result c.from_residual-in_err-step.ensures.1 in rw p.1 tt
+
+pub returns-in_err-step-clause-stays : goal.returns-in_err-step-clause-stays
+returns-in_err-step-clause-stays c = stays_trans (type_slots c.args.types.now) (type_slots c.loop-operator.types) (type_slots c.add_needed.new.types) c.loop-operator.invariant.stays c.add_needed.ensures.stays
+
+pub returns-clause-added : goal.returns-clause-added
+returns-clause-added c =
+    let xs = c.args.operators.now in
+    let i = c.loop-operator.operator-index in
+    let past : length xs ≤ i = omega arith in
+    so_far_all (item_at (type_slots c.args.types.now)) (tag_places c.args.tag_types.now) (slots_of c.args.types.now) (slots_of c.loop-operator.types) (opened c.loop-operator.blocks) (ops_of (drop i xs)) (ops_of xs) (map place c.loop-operator.ids.items) (ap ops_of (drop_all i xs past)) c.loop-operator.invariant
+
+pub returns-clause-stays : goal.returns-clause-stays
+returns-clause-stays c = c.loop-operator.invariant.stays

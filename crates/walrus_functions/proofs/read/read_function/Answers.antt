@@ -1,4 +1,5 @@
-use Rattle.std.proofs.Common.{◌≡◌, ℕ, ◌+◌, ◌++◌, List, Option, length, map, ap, ◌∙◌, sym, subst, Vec, Global, Err}
+use Rattle.std.proofs.Common.{◌≡◌, ℕ, ◌+◌, ◌++◌, List, Option, length, map, ap, ◌∙◌, sym, subst, refl, Vec, Global, Err}
+use Rattle.std.proofs.lemmas.Result.{err_from_is_err_and}
 use Rattle.std.specs.Fn.{FnReturnsAt}
 use Rattle.walrus_base.specs.Arena.{item_at}
 use Rattle.walrus_base.specs.Id.{place}
@@ -17,7 +18,8 @@ use Rattle.walrus_bodies.specs.Results.{locations}
 use Rattle.walrus_functions.specs.Handlers.{handlers_of, params_of}
 use Rattle.walrus_functions.specs.ReadFunction.{AddsTypes, locals_from}
 use Rattle.walrus_functions.specs.Signatures.{slots_of, tag_places}
-use Rattle.walrus_functions.proofs.ParameterLemmas.{adds_others, no_body, one_range}
+use Rattle.walrus_functions.proofs.HandlerLemmas.{stays_same, stays_trans}
+use Rattle.walrus_functions.proofs.ParameterLemmas.{adds_others, grown_stays, no_body, one_range}
 use Rattle.walrus_functions.proofs.read.read_function.Goals as goal
 
 pub returns-in_err-body-clause-read : goal.returns-in_err-body-clause-read
@@ -64,3 +66,42 @@ pub returns-clause-located : goal.returns-clause-located
 returns-clause-located g c =
     let ops_are : c.new-function.result.operators.items ≡ c.in_ok-body.body.operators.items = ap (λ (v : Vec Operator Global). v.items) c.new-function.ensures.operators in
     subst (λ (os : List Operator). BodyLocated (FnReturnsAt g.L.Fn c.args.locate.now) c.args.start c.args.bytes.now (locations os)) (sym ops_are) c.in_ok-body.ensures.located
+
+pub returns-in_err-args-clause-read : goal.returns-in_err-args-clause-read
+returns-in_err-args-clause-read g c = let p = err_from_is_err_and c.from_residual.result c.from_residual.ensures.1 in rw (p.1, p.2) tt
+
+pub returns-in_err-args-clause-located : goal.returns-in_err-args-clause-located
+returns-in_err-args-clause-located g c = let p = err_from_is_err_and c.from_residual.result c.from_residual.ensures.1 in rw p.1 tt
+
+pub returns-in_err-args-clause-types_stay : goal.returns-in_err-args-clause-types_stay
+returns-in_err-args-clause-types_stay g c = stays_same (type_slots c.args.types.now) (type_slots c.args.types.now) refl
+
+pub returns-in_err-args-clause-locals_stay : goal.returns-in_err-args-clause-locals_stay
+returns-in_err-args-clause-locals_stay g c = c.add_locals.ensures.stays
+
+pub returns-in_err-body-clause-located : goal.returns-in_err-body-clause-located
+returns-in_err-body-clause-located g c = let p = err_from_is_err_and c.from_residual-in_err-body.result c.from_residual-in_err-body.ensures.1 in rw p.1 tt
+
+pub returns-in_err-body-clause-types_stay : goal.returns-in_err-body-clause-types_stay
+returns-in_err-body-clause-types_stay g c = stays_same (type_slots c.args.types.now) (type_slots c.args.types.now) refl
+
+pub returns-in_err-body-clause-locals_stay : goal.returns-in_err-body-clause-locals_stay
+returns-in_err-body-clause-locals_stay g c = stays_trans (locals c.args.module_locals.now) (locals c.add_locals.new.module_locals) (locals c.read_body.new.module_locals) c.add_locals.ensures.stays (grown_stays (locals c.add_locals.new.module_locals) (locals c.read_body.new.module_locals) c.read_body.ensures.stays)
+
+pub returns-in_err-handler_types-clause-read : goal.returns-in_err-handler_types-clause-read
+returns-in_err-handler_types-clause-read g c = let p = err_from_is_err_and c.from_residual-in_err-handler_types.result c.from_residual-in_err-handler_types.ensures.1 in rw (p.1, p.2) tt
+
+pub returns-in_err-handler_types-clause-located : goal.returns-in_err-handler_types-clause-located
+returns-in_err-handler_types-clause-located g c = let p = err_from_is_err_and c.from_residual-in_err-handler_types.result c.from_residual-in_err-handler_types.ensures.1 in rw p.1 tt
+
+pub returns-in_err-handler_types-clause-types_stay : goal.returns-in_err-handler_types-clause-types_stay
+returns-in_err-handler_types-clause-types_stay g c = c.add_handler_types.ensures.stays
+
+pub returns-in_err-handler_types-clause-locals_stay : goal.returns-in_err-handler_types-clause-locals_stay
+returns-in_err-handler_types-clause-locals_stay g c = stays_trans (locals c.args.module_locals.now) (locals c.add_locals.new.module_locals) (locals c.read_body.new.module_locals) c.add_locals.ensures.stays (grown_stays (locals c.add_locals.new.module_locals) (locals c.read_body.new.module_locals) c.read_body.ensures.stays)
+
+pub returns-clause-types_stay : goal.returns-clause-types_stay
+returns-clause-types_stay g c = c.add_handler_types.ensures.stays
+
+pub returns-clause-locals_stay : goal.returns-clause-locals_stay
+returns-clause-locals_stay g c = stays_trans (locals c.args.module_locals.now) (locals c.add_locals.new.module_locals) (locals c.read_body.new.module_locals) c.add_locals.ensures.stays (grown_stays (locals c.add_locals.new.module_locals) (locals c.read_body.new.module_locals) c.read_body.ensures.stays)

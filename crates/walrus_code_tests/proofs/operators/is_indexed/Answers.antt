@@ -1,0 +1,5 @@
+use Rattle.walrus_types.specs.Operators.{Functions}
+use Rattle.walrus_code_tests.proofs.operators.is_indexed.Goals as goal
+
+pub push_func-requires-clause-is_new : goal.push_func-requires-clause-is_new
+push_func-requires-clause-is_new c = c.new-indices.ensures.indices Functions _

@@ -1,0 +1,67 @@
+//! Builders of functions.
+
+use crate::ids::{demand, first_id};
+use std::alloc::{AllocError, Global};
+use std::test::Fail;
+use walrus_builder::{FunctionBuilder, InstrSeqBuilder};
+use walrus_code::{Arg, Args, LocalFunction, Operator};
+use walrus_types::{ModuleTypes, ValType};
+
+// unreachable, i32.const 5, drop, call of the first function, local.get of the first local, nop
+fn build(alloc: Global, body: &mut InstrSeqBuilder) -> Result<(), AllocError> {
+    body.unreachable()?
+        .i32_const(5)?
+        .drop_()?
+        .call(first_id(alloc))?
+        .local_get(first_id(alloc))?
+        .instr(Operator::new(0x01, Args::None))?;
+    Ok(())
+}
+
+fn is(operator: &Operator, op: u32, arguments: &[Arg]) -> bool {
+    operator.op == op && operator.args.as_slice() == arguments
+}
+
+fn are_built(alloc: Global, operators: &[Operator]) -> bool {
+    let [trap, number, drop_, call, get, nop, end] = operators else {
+        return false;
+    };
+    is(trap, 0x00, &[])
+        && is(number, 0x41, &[Arg::S32(5)])
+        && is(drop_, 0x1A, &[])
+        && is(call, 0x10, &[Arg::Function(first_id(alloc))])
+        && is(get, 0x20, &[Arg::Local(first_id(alloc))])
+        && is(nop, 0x01, &[])
+        && is(end, 0x0B, &[])
+}
+
+fn function(alloc: Global, types: &mut ModuleTypes) -> Result<LocalFunction, AllocError> {
+    let mut builder = FunctionBuilder::new(alloc, types, &[], &[ValType::I32])?;
+    builder.name(String::from_str(alloc, "f")?);
+    build(alloc, builder.func_body())?;
+    builder.local_func(Vec::new(alloc))
+}
+
+fn is_f(name: &Option<String>) -> bool {
+    match name {
+        Some(name) => name.as_str() == "f",
+        None => false,
+    }
+}
+
+fn is_built(alloc: Global) -> bool {
+    let mut types = ModuleTypes::new(alloc);
+    match function(alloc, &mut types) {
+        Ok(function) => {
+            is_f(&function.name)
+                && types.len() == 1
+                && are_built(alloc, function.operators.as_slice())
+        }
+        Err(_) => false,
+    }
+}
+
+#[test]
+fn a_function_is_built(rt: HostRuntime) -> Result<(), Fail> {
+    demand(is_built(rt.alloc()), "a function of seven operators")
+}

@@ -1,0 +1,98 @@
+//! Operators over ids and over indices, and what they name.
+
+use crate::ids::{demand, first_id, second_id};
+use std::alloc::{AllocError, Global};
+use std::test::Fail;
+use walrus_base::{FunctionId, LocalId, TypeId};
+use walrus_code::{
+    Arg, Args, IdsToIndices, IndicesToIds, InstrLocId, ItemId, LocalFunction, LocalNumbers,
+    Operator, index_operator, name_operator, push_locals, push_names,
+};
+use wasm_operators::{RawArg, RawArgs, RawOperator};
+
+// `call_indirect` of the second type over the first table, with a local in it that no such operator has.
+fn arguments(alloc: Global, ty: TypeId, local: LocalId) -> Result<Args, AllocError> {
+    let mut arguments = Vec::new(alloc);
+    arguments.push(Arg::Type(ty))?;
+    arguments.push(Arg::Table(first_id(alloc)))?;
+    arguments.push(Arg::Local(local))?;
+    Ok(Args::from_vec(arguments))
+}
+
+fn names_are_listed(alloc: Global) -> bool {
+    let (ty, local) = (second_id(alloc), second_id(alloc));
+    let Ok(arguments) = arguments(alloc, ty, local) else {
+        return false;
+    };
+    let operator = Operator::new(0x11, arguments);
+    let (mut names, mut locals) = (Vec::new(alloc), Vec::new(alloc));
+    push_names(&mut names, &operator).is_ok()
+        && push_locals(&mut locals, &operator).is_ok()
+        && names.as_slice() == [ItemId::Type(ty), ItemId::Table(first_id(alloc))].as_slice()
+        && locals.as_slice() == [local].as_slice()
+}
+
+#[test]
+fn an_operators_names_are_listed(rt: HostRuntime) -> Result<(), Fail> {
+    demand(names_are_listed(rt.alloc()), "a type, a table and a local")
+}
+
+// `call` of the function with the index 0.
+const CALL: RawOperator = RawOperator {
+    op: 0x10,
+    args: RawArgs::One(RawArg::Function(0)),
+};
+
+fn is_named(alloc: Global, id: FunctionId) -> bool {
+    let mut ids = IndicesToIds::new(alloc);
+    if ids.push_func(id).is_err() {
+        return false;
+    }
+    match name_operator(alloc, &CALL, InstrLocId::new(7), &ids, &[]) {
+        Ok(operator) => {
+            operator.op == 0x10
+                && operator.args.as_slice() == [Arg::Function(id)].as_slice()
+                && operator.loc.value() == 7
+        }
+        Err(_) => false,
+    }
+}
+
+fn is_indexed(alloc: Global, id: FunctionId) -> bool {
+    let mut indices = IdsToIndices::new(alloc);
+    if indices.push_func(id).is_err() {
+        return false;
+    }
+    let operator = Operator::new(0x10, Args::One(Arg::Function(id)));
+    match index_operator(alloc, &operator, &indices, &LocalNumbers::new(alloc)) {
+        Ok(raw) => raw.op == 0x10 && raw.args.as_slice() == [RawArg::Function(0)].as_slice(),
+        Err(_) => false,
+    }
+}
+
+#[test]
+fn an_operator_is_named_and_indexed(rt: HostRuntime) -> Result<(), Fail> {
+    let id = second_id(rt.alloc());
+    demand(
+        is_named(rt.alloc(), id) && is_indexed(rt.alloc(), id),
+        "a call",
+    )
+}
+
+fn has_its_parts(alloc: Global) -> bool {
+    let mut operators = Vec::new(alloc);
+    if operators
+        .push(Operator::new(Operator::END, Args::None))
+        .is_err()
+    {
+        return false;
+    }
+    let ty = second_id(alloc);
+    let function = LocalFunction::new(alloc, ty, Vec::new(alloc), operators);
+    function.ty() == ty && function.size() == 1 && function.handler_types.is_empty()
+}
+
+#[test]
+fn a_function_has_its_parts(rt: HostRuntime) -> Result<(), Fail> {
+    demand(has_its_parts(rt.alloc()), "a function")
+}

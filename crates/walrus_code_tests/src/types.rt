@@ -1,0 +1,162 @@
+//! Types, constant expressions and locals.
+
+use crate::ids::demand;
+use std::alloc::{AllocError, Global};
+use std::test::Fail;
+use walrus_base::TypeId;
+use walrus_types::{
+    AbstractHeapType, ArrayType, CompositeType, ConstExpr, ConstOp, FieldType, FunctionType,
+    HeapType, ModuleLocals, ModuleTypes, NewType, RefType, StorageType, StructType, ValType,
+    push_names,
+};
+
+const ANY: HeapType = HeapType::Abstract(AbstractHeapType::Any);
+
+fn reference_to(id: TypeId) -> ValType {
+    ValType::Ref(RefType {
+        nullable: true,
+        heap_type: HeapType::Concrete(id),
+    })
+}
+
+// A struct with one field, which refers to the type, and an array of bytes.
+fn members(alloc: Global, id: TypeId) -> Result<Vec<NewType>, AllocError> {
+    let mut fields = Vec::new(alloc);
+    fields.push(FieldType {
+        element_type: StorageType::Val(reference_to(id)),
+        mutable: false,
+    })?;
+    let mut members = Vec::new(alloc);
+    members.push(NewType {
+        is_final: true,
+        supertype: None,
+        comp: CompositeType::Struct(StructType { fields }),
+    })?;
+    members.push(NewType {
+        is_final: false,
+        supertype: None,
+        comp: CompositeType::Array(ArrayType {
+            field: FieldType {
+                element_type: StorageType::I8,
+                mutable: true,
+            },
+        }),
+    })?;
+    Ok(members)
+}
+
+// Whether the struct names the array alone.
+fn names_it(alloc: Global, types: &ModuleTypes, first: TypeId, second: TypeId) -> bool {
+    let mut names = Vec::new(alloc);
+    types.contains(first)
+        && push_names(&mut names, types.get(first)).is_ok()
+        && names.as_slice() == [second].as_slice()
+}
+
+// Whether both types are of one group, of which the second is no final type.
+fn are_of_one_group(types: &ModuleTypes, first: TypeId, second: TypeId) -> bool {
+    if !types.contains(second) {
+        return false;
+    }
+    let mut group = types.group(second);
+    group.next() == Some(first)
+        && group.next() == Some(second)
+        && group.next().is_none()
+        && !types.get(second).is_final()
+        && types.len() == 2
+}
+
+fn group_is_added(alloc: Global) -> bool {
+    let mut types = ModuleTypes::new(alloc);
+    let Ok(ids) = types.next_ids(alloc, 2) else {
+        return false;
+    };
+    let [first, second] = ids.as_slice() else {
+        return false;
+    };
+    let Ok(members) = members(alloc, *second) else {
+        return false;
+    };
+    types.add_group(members).is_ok()
+        && names_it(alloc, &types, *first, *second)
+        && are_of_one_group(&types, *first, *second)
+}
+
+#[test]
+fn a_group_is_added(rt: HostRuntime) -> Result<(), Fail> {
+    demand(group_is_added(rt.alloc()), "a group of two types")
+}
+
+fn has_its_parts(types: &ModuleTypes, id: TypeId) -> bool {
+    if !types.contains(id) {
+        return false;
+    }
+    match types.get(id).as_function() {
+        Some(function) => {
+            function.params() == [ValType::I32].as_slice()
+                && function.results() == [ValType::F64, ValType::V128].as_slice()
+        }
+        None => false,
+    }
+}
+
+// Added twice, it is one type.
+fn is_added_once(types: &mut ModuleTypes) -> bool {
+    let Ok(id) = types.add(&[ValType::I32], &[ValType::F64, ValType::V128]) else {
+        return false;
+    };
+    let again = types.add(&[ValType::I32], &[ValType::F64, ValType::V128]);
+    matches!(again, Ok(found) if found == id) && has_its_parts(types, id) && types.len() == 1
+}
+
+#[test]
+fn function_types_are_added(rt: HostRuntime) -> Result<(), Fail> {
+    let mut types = ModuleTypes::new(rt.alloc());
+    demand(is_added_once(&mut types), "a function type")
+}
+
+fn function_is_cloned(alloc: Global) -> bool {
+    let mut params = Vec::new(alloc);
+    if params.push(ValType::F32).is_err() {
+        return false;
+    }
+    let function = FunctionType::new(params, Vec::new(alloc));
+    matches!(function.try_clone(alloc), Ok(copy) if copy == function)
+}
+
+fn expression_is_cloned(alloc: Global) -> bool {
+    let mut operators = Vec::new(alloc);
+    if operators.push(ConstOp::RefNull(ANY)).is_err() {
+        return false;
+    }
+    let expression = ConstExpr::Extended(operators);
+    matches!(expression.try_clone(alloc), Ok(copy) if copy == expression)
+}
+
+#[test]
+fn clones_are_equal(rt: HostRuntime) -> Result<(), Fail> {
+    demand(
+        function_is_cloned(rt.alloc()) && expression_is_cloned(rt.alloc()),
+        "a function type and an expression",
+    )
+}
+
+fn has_a_local(locals: &mut ModuleLocals, name: String) -> bool {
+    match locals.add(ValType::I64) {
+        Ok(id) => {
+            locals.get_mut(id).name = Some(name);
+            locals.get(id).ty() == ValType::I64 && locals.len() == 1
+        }
+        Err(_) => false,
+    }
+}
+
+#[test]
+fn locals_are_added(rt: HostRuntime) -> Result<(), Fail> {
+    let mut locals = ModuleLocals::new(rt.alloc());
+    let name = String::from_str(rt.alloc(), "x")?;
+    demand(
+        locals.reserve(1).is_ok() && has_a_local(&mut locals, name),
+        "the local",
+    )
+}
