@@ -58,11 +58,12 @@ impl<K> IdHashSet<K> {
         ensures was_in { result ≡ has_id self.old (place id) }
         ensures removes { Removes self.old self.new (place id) }
     {
-        if id.index() >= self.marks.len() {
+        let place = id.index();
+        if place >= self.marks.len() {
             return false;
         }
-        let was_in = self.marks[id.index()];
-        self.marks[id.index()] = false;
+        let was_in = self.marks[place];
+        self.marks[place] = false;
         was_in
     }
 }
