@@ -1,0 +1,3 @@
+//! The types of a module, there and back: groups over indices, as type sections list them, and types by their ids
+//! (Binary Format > Modules > Type Section).
+#![tactic(auto)]
