@@ -1,0 +1,4 @@
+mod Each
+mod Kept
+mod Ranges
+mod GroupLemmas
