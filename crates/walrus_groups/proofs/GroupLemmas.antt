@@ -5,7 +5,7 @@ use Rattle.std.specs.Global.{Vec}
 use Rattle.std.specs.List.{range_with_len}
 use Rattle.std.proofs.lemmas.List.{drop_all, append-nil, length-map, length-append, map-append}
 use Rattle.std.proofs.lemmas.List.FromFn.{length-range_with_len}
-use Rattle.wasm_entries.specs.Record.{Sub, Group, sub, group}
+use Rattle.wasm_entries.specs.Record.{Group, sub, group}
 use Rattle.wasm_entries.specs.declared.record.RawSub.{RawSub}
 use Rattle.walrus_base.specs.Id.{place}
 use Rattle.walrus_base.specs.Types.{SubType}
@@ -82,8 +82,8 @@ group-read indices g old new members in_place found added =
     record {
       declared = (same.0, tt);
       added =
-        added
-        ∙ ap (λ slots. old ++ slots) (new_stood (length old) members ∙ ap (λ subs. stood (length old) subs) same.1 ∙ sym (members_stood (length old) g) ∙ ap (λ xs. map Some xs) (sym (append-nil (members_of (length old) g))));
+          added
+          ∙ ap (λ slots. old ++ slots) (new_stood (length old) members ∙ ap (λ subs. stood (length old) subs) same.1 ∙ sym (members_stood (length old) g) ∙ ap (λ xs. map Some xs) (sym (append-nil (members_of (length old) g))));
     }
 
 -- as many types as members are added
@@ -134,9 +134,9 @@ group-then g gs old middle new (Ok u) first rest =
     record {
       declared = (first.declared.0, subst (λ (n : ℕ). AreDeclared n gs) m rest.declared);
       added =
-        rest.added ∙ ap₂ (λ a n. a ++ map Some (types_from n gs)) short m
-        ∙ append_assoc old (map Some (members_of (length old) g)) (map Some (types_from (length old + length g) gs))
-        ∙ ap (λ xs. old ++ xs) (sym (map-append (λ x. Some x) (members_of (length old) g) (types_from (length old + length g) gs)));
+          rest.added ∙ ap₂ (λ a n. a ++ map Some (types_from n gs)) short m
+          ∙ append_assoc old (map Some (members_of (length old) g)) (map Some (types_from (length old + length g) gs))
+          ∙ ap (λ xs. old ++ xs) (sym (map-append (λ x. Some x) (members_of (length old) g) (types_from (length old + length g) gs)));
     }
 group-then g gs old middle new (Err Malformed) first rest = λ declared. rest (subst (λ (n : ℕ). AreDeclared n gs) (sym (group-long g old middle first)) declared.1)
 group-then g gs old middle new (Err TooLarge) first rest =

@@ -1,6 +1,6 @@
 -- Types looked up where each number below an end leads to itself, and no other leads anywhere: the same types, exactly where they
 -- name only such as stand below the end.
-use Rattle.std.proofs.Common.{◌≡◌, ℕ, ◌+◌, ◌<◌, ◌≤◌, ◌⊎◌, ⊎_elim, List, [], ◌∷◌, ◌++◌, length, get_or, map, flat_map, Option, Some, None, refl, sym, ap, ap₂, ◌∙◌, subst, arith}
+use Rattle.std.proofs.Common.{◌≡◌, ℕ, ◌<◌, ◌≤◌, ⊎_elim, List, [], ◌∷◌, ◌++◌, length, get_or, map, flat_map, Option, Some, None, refl, sym, ap, ap₂, ◌∙◌, subst, arith}
 use Rattle.std.specs.Prelude.{All, slice_get}
 use Rattle.std.specs.List.{range_with_len}
 use Rattle.std.proofs.lemmas.Bool.{cases_lt}
@@ -10,7 +10,7 @@ use Rattle.std.proofs.lemmas.List.FromFn.{length-range_with_len, get_or-range_wi
 use Rattle.std.proofs.lemmas.Option.{slice_get-get_or, slice_get_past}
 use Rattle.wasm_forms.specs.Reading.{◌>>=◌}
 use Rattle.wasm_entries.specs.Record.{Sub}
-use Rattle.walrus_base.specs.Types.{HeapType, OfHeap, Concrete, Exact, ValType, I32, I64, F32, F64, V128, Ref, StorageType, Unpacked, I8, I16, FieldType, CompType, Func, Struct, Array, SubType, val_heaps, storage_heaps, field_heaps, comp_heaps, heap_names, comp_names, sub_names}
+use Rattle.walrus_base.specs.Types.{HeapType, OfHeap, Concrete, Exact, ValType, I32, I64, F32, F64, V128, Ref, StorageType, Unpacked, I8, I16, FieldType, CompType, Func, Struct, Array, SubType, val_heaps, storage_heaps, field_heaps, heap_names, comp_names}
 use Rattle.walrus_types.specs.Operators.{Types}
 use Rattle.walrus_code.specs.Names.{Lookup, named_heap, named_val}
 use Rattle.walrus_groups.specs.Groups.{sub_of, NamesBelow}
@@ -89,7 +89,7 @@ module _ (names : Lookup) (end : ℕ) (here : (t : ℕ) → t < end → names Ty
   kept-val : (v : ValType ℕ) → Kept (Below (in_heaps (val_heaps v))) (named_val names v) v
   kept-val (Ref r) =
       kept-one (Below (in_heaps (r.heap ∷ []))) (λ h. Ref (record { nullable = r.nullable; heap = h })) (named_heap names r.heap) r.heap
-        (kept-iff _ _ (λ (b : Below (heap_names r.heap)). All-append (λ t. t < end) (heap_names r.heap) [] b (All-nil (λ t. t < end))) (λ b. All-front (λ t. t < end) (heap_names r.heap) [] b) (kept-heap r.heap))
+      (kept-iff _ _ (λ (b : Below (heap_names r.heap)). All-append (λ t. t < end) (heap_names r.heap) [] b (All-nil (λ t. t < end))) (λ b. All-front (λ t. t < end) (heap_names r.heap) [] b) (kept-heap r.heap))
   kept-val I32 = kept-none I32
   kept-val I64 = kept-none I64
   kept-val F32 = kept-none F32
@@ -115,8 +115,8 @@ module _ (names : Lookup) (end : ℕ) (here : (t : ℕ) → t < end → names Ty
   kept-comp : (c : CompType ℕ) → Kept (Below (comp_names c)) (named_comp names c) c
   kept-comp (Func params results) =
       subst (λ (ts : List ℕ). Kept (Below ts) (named_comp names (Func params results)) (Func params results)) (sym (flat_map-append heap_names (flat_map val_heaps params) (flat_map val_heaps results)))
-        (kept-append (λ takes gives. Func takes gives) (named_vals names params) params (named_vals names results) results (in_heaps (flat_map val_heaps params)) (in_heaps (flat_map val_heaps results))
-          (kept-all (named_val names) val_heaps kept-val params) (kept-all (named_val names) val_heaps kept-val results))
+      (kept-append (λ takes gives. Func takes gives) (named_vals names params) params (named_vals names results) results (in_heaps (flat_map val_heaps params)) (in_heaps (flat_map val_heaps results))
+      (kept-all (named_val names) val_heaps kept-val params) (kept-all (named_val names) val_heaps kept-val results))
   kept-comp (Struct fields) = kept-one (Below (in_heaps (flat_map field_heaps fields))) (λ fs. Struct fs) (named_fields names fields) fields (kept-all (named_field names) field_heaps kept-field fields)
   kept-comp (Array element) = kept-one (Below (in_heaps (field_heaps element))) (λ f. Array f) (named_field names element) element (kept-field element)
 
@@ -128,18 +128,18 @@ module _ (names : Lookup) (end : ℕ) (here : (t : ℕ) → t < end → names Ty
   pub kept-sub : (s : SubType ℕ) → Kept (NamesBelow end s) (read_sub names s) s
   kept-sub s =
       kept-iff _ _
-        (λ (b : ((length s.supertypes ≤ 1) × Below s.supertypes) × Below (comp_names s.comp)). record { one_supertype = b.0.0; names = All-append (λ t. t < end) s.supertypes (comp_names s.comp) b.0.1 b.1 })
-        (λ b. ((b.one_supertype, All-front (λ t. t < end) s.supertypes (comp_names s.comp) b.names), All-back (λ t. t < end) s.supertypes (comp_names s.comp) b.names))
-        (kept-two ((length s.supertypes ≤ 1) × Below s.supertypes) (Below (comp_names s.comp)) (λ supertypes comp. record { is_final = s.is_final; supertypes = supertypes; comp = comp }) (one_supertype names s.supertypes) s.supertypes (named_comp names s.comp) s.comp (kept-supertypes s.supertypes) (kept-comp s.comp))
+      (λ (b : ((length s.supertypes ≤ 1) × Below s.supertypes) × Below (comp_names s.comp)). record { one_supertype = b.0.0; names = All-append (λ t. t < end) s.supertypes (comp_names s.comp) b.0.1 b.1 })
+      (λ b. ((b.one_supertype, All-front (λ t. t < end) s.supertypes (comp_names s.comp) b.names), All-back (λ t. t < end) s.supertypes (comp_names s.comp) b.names))
+      (kept-two ((length s.supertypes ≤ 1) × Below s.supertypes) (Below (comp_names s.comp)) (λ supertypes comp. record { is_final = s.is_final; supertypes = supertypes; comp = comp }) (one_supertype names s.supertypes) s.supertypes (named_comp names s.comp) s.comp (kept-supertypes s.supertypes) (kept-comp s.comp))
 
   -- the same of the members of a group
   pub kept-subs : (g : List Sub) → Kept (All (λ s. NamesBelow end (sub_of s)) g) (each (read_sub names) (map sub_of g)) (map sub_of g)
   kept-subs [] = record { stays = λ p. refl; holds = λ y h. All-nil (λ s. NamesBelow end (sub_of s)) }
   kept-subs (s ∷ g) =
       kept-iff _ _
-        (λ (b : NamesBelow end (sub_of s) × All (λ s. NamesBelow end (sub_of s)) g). All-cons (λ s. NamesBelow end (sub_of s)) s g b.0 b.1)
-        (λ b. (All-head (λ s. NamesBelow end (sub_of s)) s g b, All-tail (λ s. NamesBelow end (sub_of s)) s g b))
-        (kept-two (NamesBelow end (sub_of s)) (All (λ s. NamesBelow end (sub_of s)) g) (λ x xs. x ∷ xs) (read_sub names (sub_of s)) (sub_of s) (each (read_sub names) (map sub_of g)) (map sub_of g) (kept-sub (sub_of s)) (kept-subs g))
+      (λ (b : NamesBelow end (sub_of s) × All (λ s. NamesBelow end (sub_of s)) g). All-cons (λ s. NamesBelow end (sub_of s)) s g b.0 b.1)
+      (λ b. (All-head (λ s. NamesBelow end (sub_of s)) s g b, All-tail (λ s. NamesBelow end (sub_of s)) s g b))
+      (kept-two (NamesBelow end (sub_of s)) (All (λ s. NamesBelow end (sub_of s)) g) (λ x xs. x ∷ xs) (read_sub names (sub_of s)) (sub_of s) (each (read_sub names) (map sub_of g)) (map sub_of g) (kept-sub (sub_of s)) (kept-subs g))
 
 -- ---- a range of numbers from 0 on, looked up by its places
 

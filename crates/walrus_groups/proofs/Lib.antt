@@ -1,4 +1,4 @@
 mod Each
 mod Kept
-mod Ranges
+pub mod Ranges
 mod GroupLemmas

@@ -30,8 +30,7 @@ use wasm_entries::{RawComp, RawFieldType, RawFuncType, RawGroup, RawStorage, Raw
 /// # Errors
 ///
 /// [`IrError::Malformed`] where a type names one that isn't declared before the end of its group, or has two supertypes,
-/// [`IrError::TooLarge`] where there are more than 2^32 types, and [`IrError::Memory`]. The types of the groups before the one that
-/// is refused are there then, and of that one some may have an index.
+/// [`IrError::TooLarge`] where there are more than 2^32 types, and [`IrError::Memory`]. Some of the types may be there then.
 pub fn read_types(
     alloc: Global,
     groups: &[RawGroup],
