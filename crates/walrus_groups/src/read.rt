@@ -1,7 +1,8 @@
-//! The types of a module by their ids (Structure > Types).
+//! Types as type sections list them, read as types by their ids.
 
-ghost use Rattle.std.specs.Prelude.{◌≡◌, ◌+◌, map, length, option_map, OnOk};
+ghost use Rattle.std.specs.Prelude.{◌≡◌, ◌+◌, ◌<◌, ◌^◌, ◌∷◌, [], map, length, option_map, OnOk};
 ghost use Rattle.std.specs.List.{range_with_len};
+ghost use Rattle.wasm_entries.specs.Record.{comp, sub, group};
 ghost use Rattle.walrus_base.specs.Id.{place};
 ghost use Rattle.walrus_types.specs.Operators.{Types};
 ghost use Rattle.walrus_types.specs.Value.{val_type};
@@ -10,8 +11,9 @@ ghost use Rattle.walrus_types.specs.ModuleTypes.{type_slots};
 ghost use Rattle.walrus_code.specs.FromRaw.{val_of};
 ghost use Rattle.walrus_code.specs.Indices.{places_in, ids_at};
 ghost use Rattle.walrus_code.specs.Results.{Finds};
-ghost use Rattle.wasm_bodies.specs.Spaces.{TypesInPlace, OnlyTypesChange};
-ghost use Rattle.wasm_bodies.specs.Types.{storage_of, field_of, comp_of, sub_of, named_vals, named_storage, named_field, named_fields, named_function, named_comp, named_supertypes, named_sub, named_subs, GroupIsAdded, AddsGroups};
+ghost use Rattle.walrus_groups.specs.Groups.{storage_of, field_of, comp_of, sub_of, ReadsTypes};
+ghost use Rattle.walrus_groups.specs.Named.{each, named_vals, named_storage, named_field, named_fields, named_function, named_comp};
+ghost use Rattle.walrus_groups.specs.Reading.{one_supertype, read_sub, TypesInPlace, OnlyTypesChange, RefusedAsTooMany};
 
 use std::alloc::Global;
 use walrus_base::TypeId;
@@ -20,46 +22,47 @@ use walrus_types::{
     ArrayType, CompositeType, FieldType, FunctionType, ModuleTypes, NewType, StorageType,
     StructType, ValType,
 };
-use wasm_wire::{RawComp, RawFieldType, RawFuncType, RawGroup, RawStorage, RawSub, RawVal};
+use wasm_entries::{RawComp, RawFieldType, RawFuncType, RawGroup, RawStorage, RawSub, RawVal};
 
-/// Adds the types of groups to those that are there, and gives each the next index (Binary Format > Modules > Type Section).
+/// Reads the types of a type section (Binary Format > Modules > Type Section): adds them behind those that are there, a group at a
+/// time (Structure > Types > Recursive Types), and gives each the next index.
 ///
 /// # Errors
 ///
 /// [`IrError::Malformed`] where a type names one that isn't declared before the end of its group, or has two supertypes,
-/// [`IrError::TooLarge`] where there are more than 2^32 types, and [`IrError::Memory`].
-pub fn add_types(
+/// [`IrError::TooLarge`] where there are more than 2^32 types, and [`IrError::Memory`]. Some of the types may be there then.
+pub fn read_types(
     alloc: Global,
     groups: &[RawGroup],
     indices: &mut IndicesToIds,
     types: &mut ModuleTypes,
 ) -> Result<(), IrError>
     requires in_place { TypesInPlace indices.old (type_slots types.old) }
-    ensures added { OnOk result (AddsGroups (map (λ g. g.items) groups.now) (type_slots types.old) (type_slots types.new)) }
+    ensures read { ReadsTypes (map group groups.now) (type_slots types.old) (type_slots types.new) result }
     ensures in_place { OnOk result (TypesInPlace indices.new (type_slots types.new)) }
     ensures only_types { OnOk result (OnlyTypesChange indices.old indices.new) }
 {
-    for group in groups {
-        add_group(alloc, group, indices, types)?;
+    for members in groups {
+        read_group(alloc, members, indices, types)?;
     }
     Ok(())
 }
 
 // The same for one group.
-fn add_group(
+fn read_group(
     alloc: Global,
-    group: &[RawSub],
+    raw: &[RawSub],
     indices: &mut IndicesToIds,
     types: &mut ModuleTypes,
 ) -> Result<(), IrError>
     requires in_place { TypesInPlace indices.old (type_slots types.old) }
-    ensures added { OnOk result (GroupIsAdded (ids_at indices.new) group.now (type_slots types.old) (type_slots types.new)) }
+    ensures read { ReadsTypes (map sub raw.now ∷ []) (type_slots types.old) (type_slots types.new) result }
     ensures in_place { OnOk result (TypesInPlace indices.new (type_slots types.new)) }
     ensures only_types { OnOk result (OnlyTypesChange indices.old indices.new) }
 {
-    let ids = types.next_ids(alloc, group.len())?;
+    let ids = types.next_ids(alloc, raw.len())?;
     give_indices(indices, ids.as_slice())?;
-    let members = name_subs(alloc, group, indices)?;
+    let members = name_subs(alloc, raw, indices)?;
     types.add_group(members)?;
     Ok(())
 }
@@ -69,6 +72,7 @@ fn give_indices(indices: &mut IndicesToIds, ids: &[TypeId]) -> Result<(), IrErro
     requires in_place { places_in indices.old Types ≡ range_with_len 0 (length (places_in indices.old Types)) }
     requires behind { map (λ id. place id) ids.now ≡ range_with_len (length (places_in indices.old Types)) (length ids.now) }
     ensures in_place { OnOk result (places_in indices.new Types ≡ range_with_len 0 (length (places_in indices.old Types) + length ids.now)) }
+    ensures refused { RefusedAsTooMany result (2 ^ 32 < length (places_in indices.old Types) + length ids.now) }
     ensures only_types { OnOk result (OnlyTypesChange indices.old indices.new) }
 {
     for id in ids {
@@ -82,18 +86,18 @@ fn give_indices(indices: &mut IndicesToIds, ids: &[TypeId]) -> Result<(), IrErro
 
 // The members of a group.
 fn name_subs(alloc: Global, raw: &[RawSub], indices: &IndicesToIds) -> Result<Vec<NewType>, IrError>
-    ensures { Finds (λ members. map new_sub members.items) result (named_subs (ids_at indices.now) (map sub_of raw.now)) }
+    ensures { Finds (λ members. map new_sub members.items) result (each (read_sub (ids_at indices.now)) (map sub_of (map sub raw.now))) }
 {
     let mut members = Vec::new(alloc);
-    for sub in raw {
-        members.push(name_sub(alloc, sub, indices)?)?;
+    for member in raw {
+        members.push(name_sub(alloc, member, indices)?)?;
     }
     Ok(members)
 }
 
 // A member of a group (Structure > Types > Recursive Types).
 fn name_sub(alloc: Global, raw: &RawSub, indices: &IndicesToIds) -> Result<NewType, IrError>
-    ensures { Finds new_sub result (named_sub (ids_at indices.now) (sub_of raw.now)) }
+    ensures { Finds new_sub result (read_sub (ids_at indices.now) (sub_of (sub raw.now))) }
 {
     let supertype = name_supertype(raw.supers.as_slice(), indices)?;
     let comp = name_comp(alloc, &raw.comp, indices)?;
@@ -106,7 +110,7 @@ fn name_sub(alloc: Global, raw: &RawSub, indices: &IndicesToIds) -> Result<NewTy
 
 // The supertype, of which there is one at most.
 fn name_supertype(raw: &[u32], indices: &IndicesToIds) -> Result<Option<TypeId>, IrError>
-    ensures { Finds supertypes result (named_supertypes (ids_at indices.now) raw.now) }
+    ensures { Finds supertypes result (one_supertype (ids_at indices.now) raw.now) }
 {
     match raw {
         [] => Ok(None),
@@ -120,7 +124,7 @@ fn name_supertype(raw: &[u32], indices: &IndicesToIds) -> Result<Option<TypeId>,
 
 // A composite type.
 fn name_comp(alloc: Global, raw: &RawComp, indices: &IndicesToIds) -> Result<CompositeType, IrError>
-    ensures { Finds comp_type result (named_comp (ids_at indices.now) (comp_of raw.now)) }
+    ensures { Finds comp_type result (named_comp (ids_at indices.now) (comp_of (comp raw.now))) }
 {
     match raw {
         RawComp::Func(function) => {

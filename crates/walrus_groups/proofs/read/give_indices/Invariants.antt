@@ -2,8 +2,8 @@ use Rattle.std.proofs.Common.{◌≡◌, ◌+◌, length}
 use Rattle.std.specs.List.{range_with_len}
 use Rattle.walrus_types.specs.Operators.{Types}
 use Rattle.walrus_code.specs.Indices.{places_in}
-use Rattle.wasm_bodies.specs.Spaces.{OnlyTypesChange}
-use Rattle.wasm_bodies.proofs.types.give_indices.Given as goal
+use Rattle.walrus_groups.specs.Reading.{OnlyTypesChange}
+use Rattle.walrus_groups.proofs.read.give_indices.Given as goal
 
 -- the types so far have the places of their indices
 abbrev pub invariant-loop-id : goal.invariant-loop-id

@@ -2,8 +2,8 @@ use Rattle.std.proofs.Common.{◌≡◌, ◌+◌, length, sym, ap, ◌∙◌, ar
 use Rattle.std.proofs.lemmas.List.FromFn.{length-range_with_len}
 use Rattle.walrus_types.specs.Operators.{Types}
 use Rattle.walrus_code.specs.Indices.{places_in}
-use Rattle.wasm_bodies.proofs.Ranges.{counted-on, not-in-range, place-in-range}
-use Rattle.wasm_bodies.proofs.types.give_indices.Goals as goal
+use Rattle.walrus_groups.proofs.Ranges.{counted-on, not-in-range, place-in-range}
+use Rattle.walrus_groups.proofs.read.give_indices.Goals as goal
 
 pub push_type-requires-clause-is_new : goal.push_type-requires-clause-is_new
 push_type-requires-clause-is_new c =
@@ -25,3 +25,9 @@ loop-id-preserved c =
       in_place = counted-on _ _ _ (n + c.loop-id.id-index) _ c.in_ok-push_type.ensures.pushed c.loop-id.invariant.in_place (sym c.index.ensures ∙ at) (omega arith);
       only_types = λ other differs. c.in_ok-push_type.ensures.others other differs ∙ c.loop-id.invariant.only_types other differs;
     }
+
+pub returns-then-index-clause-refused : goal.returns-then-index-clause-refused
+returns-then-index-clause-refused c =
+    let n = length (places_in c.args.indices.now Types) in
+    let at : c.index.result ≡ n + c.loop-id.id-index = c.index.ensures ∙ place-in-range c.args.ids.now n c.loop-id.id-index _ c.requires.behind c.loop-id-test.true in
+    omega (arith, at, c.if-index.true, c.loop-id-test.true)

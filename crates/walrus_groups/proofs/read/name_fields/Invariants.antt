@@ -1,9 +1,10 @@
 use Rattle.std.proofs.Common.{◌≡◌, map, drop}
 use Rattle.walrus_types.specs.Composite.{field_type}
 use Rattle.walrus_code.specs.Indices.{ids_at}
-use Rattle.wasm_bodies.specs.Types.{field_of, named_fields}
-use Rattle.wasm_bodies.proofs.Each.{behind}
-use Rattle.wasm_bodies.proofs.types.name_fields.Given as goal
+use Rattle.walrus_groups.specs.Groups.{field_of}
+use Rattle.walrus_groups.specs.Named.{named_fields}
+use Rattle.walrus_groups.proofs.Each.{behind}
+use Rattle.walrus_groups.proofs.read.name_fields.Given as goal
 
 -- what was found so far and what is left are what is found for all
 abbrev pub invariant-loop-field : goal.invariant-loop-field

@@ -1,7 +1,7 @@
 -- What the loops keep that look up one by one.
 use Rattle.std.proofs.Common.{◌≡◌, suc, List, [], ◌∷◌, ◌++◌, length, Option, Some, None, refl, ap, ◌∙◌}
 use Rattle.wasm_forms.specs.Reading.{◌>>=◌}
-use Rattle.wasm_bodies.specs.Types.{each}
+use Rattle.walrus_groups.specs.Named.{each}
 
 -- what was found so far, and what is left to find
 abbrev pub behind : {Y : Type 0} → List Y → Option (List Y) → Option (List Y)

@@ -1,0 +1,4 @@
+mod Each
+mod Kept
+pub mod Ranges
+mod GroupLemmas

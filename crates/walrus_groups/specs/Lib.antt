@@ -1,0 +1,4 @@
+pub mod Groups
+pub mod Named
+pub mod Reading
+pub mod Indexed
