@@ -1,0 +1,6 @@
+mod WrittenEach
+mod WrittenLists
+mod WrittenCauses
+mod WrittenWalk
+mod WrittenTurns
+mod WrittenWhole

@@ -1,3 +1,4 @@
 pub mod Groups
 pub mod Named
 pub mod Indexed
+pub mod Written

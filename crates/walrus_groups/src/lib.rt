@@ -1,3 +1,7 @@
 //! The types of a module, there and back: groups over indices, as type sections list them, and types by their ids
 //! (Binary Format > Modules > Type Section).
 #![tactic(auto)]
+
+mod write;
+
+pub use write::index_types;
