@@ -210,9 +210,9 @@ module _ (names : Lookup) (slots : List (Option TypeDef)) (whole : AreWhole slot
   step_some q x rest later idx behind end [] G R gs at count named next starts b e apart zip =
       let here : item_at slots q ≡ Some x = from_here q (Some x) rest at in
       let is : end ≡ q = omega (arith, e) in
-      let open : Apart q = subst Apart is apart in
-      let first = first_here q x here open in
-      opened q x rest later idx behind first.0 gs at count (omega (arith, b)) first.1.0 first.1.1 open
+      let reaching : Apart q = subst Apart is apart in
+      let first = first_here q x here reaching in
+      opened q x rest later idx behind first.0 gs at count (omega (arith, b)) first.1.0 first.1.1 reaching
         (zip_first true q x (entries_from (q + 1) rest) gs (ap (λ g. starts_at g q) first.1.0 ∙ starts_row q first.0 first.1.1) zip)
     where
       starts_row : (q n : ℕ) → 0 < n → starts_at (range_with_len q n) q ≡ true
