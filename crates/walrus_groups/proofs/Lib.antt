@@ -1,3 +1,4 @@
+mod OrderWhole
 mod WrittenEach
 mod WrittenLists
 mod WrittenCauses

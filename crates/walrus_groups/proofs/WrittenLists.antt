@@ -1,5 +1,5 @@
 -- Lists of places, and what stands at places.
-use Rattle.std.proofs.Common.{◌≡◌, ◌≢◌, ℕ, zero, suc, ◌+◌, ◌-◌, ◌<◌, ◌≤◌, ◌==◌, ◌||◌, ◌⊎◌, inl, inr, Bool, true, false, List, [], ◌∷◌, ◌++◌, length, map, Option, Some, None, option_map, IsTrue, refl, sym, ap, ◌∙◌, arith, add-zero, eq-eqb, eqb-true, ⊎_elim, subst}
+use Rattle.std.proofs.Common.{◌≡◌, ◌≢◌, ℕ, zero, suc, ◌+◌, ◌-◌, ◌<◌, ◌≤◌, ◌==◌, ◌||◌, ◌⊎◌, inl, inr, Bool, true, false, List, [], ◌∷◌, ◌++◌, length, map, Option, Some, None, option_map, IsTrue, refl, sym, ap, ap₂, ◌∙◌, arith, add-zero, eq-eqb, eqb-true, ⊎_elim, subst}
 use Rattle.std.specs.Prelude.{Contains}
 use Rattle.std.specs.List.{range_with_len}
 use Rattle.walrus_base.specs.Arena.{item_at, entries_from, entries, items}
@@ -87,3 +87,15 @@ item_contained k (None ∷ rest) zero x h = absurd cc
 item_contained {T} k (Some y ∷ rest) zero x h = subst (λ (z : T). Contains (y ∷ map (λ e. e.1) (entries_from (k + 1) rest)) z) (some_inside _ _ h) (Contains-head y _)
 item_contained k (None ∷ rest) (suc t) x h = item_contained (k + 1) rest t x h
 item_contained k (Some y ∷ rest) (suc t) x h = Contains-tail y x _ (item_contained (k + 1) rest t x h)
+
+entry_from : {T : Type 0} (k : ℕ) (slots : List (Option T)) (t p : ℕ) (x : T) → p ≡ k + t → item_at slots t ≡ Some x → Contains (entries_from k slots) (p, x)
+entry_from k [] t p x is h = absurd cc
+entry_from k (None ∷ rest) zero p x is h = absurd cc
+entry_from {T} k (Some y ∷ rest) zero p x is h =
+    let here : (k, y) ≡ (p, x) = ap₂ (λ (n : ℕ) (z : T). (n, z)) (sym (is ∙ add-zero k)) (some_inside _ _ h) in
+    subst (λ (e : ℕ × T). Contains ((k, y) ∷ entries_from (k + 1) rest) e) here (Contains-head (k, y) _)
+entry_from k (None ∷ rest) (suc t) p x is h = entry_from (k + 1) rest t p x (omega (arith, is)) h
+entry_from k (Some y ∷ rest) (suc t) p x is h = Contains-tail (k, y) (p, x) _ (entry_from (k + 1) rest t p x (omega (arith, is)) h)
+
+pub entry_contained : {T : Type 0} (slots : List (Option T)) (t : ℕ) (x : T) → item_at slots t ≡ Some x → Contains (entries slots) (t, x)
+entry_contained slots t x h = entry_from 0 slots t t x (omega arith) h

@@ -108,17 +108,19 @@ module _ (names : Lookup) (slots : List (Option TypeDef)) (whole : AreWhole slot
   next_of q G [] (suc n) (s ∷ g) at zip groups = absurd (none_some _ zip.0.0 (ap (item_at slots) (sym (add-zero q)) ∙ at 0) zip.0.1.0)
   next_of q G (None ∷ rest) (suc n) (s ∷ g) at zip groups = absurd (none_some _ zip.0.0 (from_here q None rest at) zip.0.1.0)
   next_of q G (Some y ∷ rest) (suc n) (s ∷ g) at zip groups =
-      let same : zip.0.0 ≡ y = some_inside _ _ (sym zip.0.1.0 ∙ from_here q (Some y) rest at) in
-      (groups q y (from_here q (Some y) rest at) (omega arith) (omega arith), subst (λ (z : TypeDef). IsWritten names z s) same zip.0.1.1,
-      next_of (q + 1) G rest n g (from_next q (Some y) rest at) zip.1 (λ p z here low high. groups p z here (omega (arith, low)) (omega (arith, high))))
+      let same : zip.0.0 ≡ y = some_inside _ _ (sym zip.0.1.0 ∙ from_here q (Some y) rest at) in (
+        groups q y (from_here q (Some y) rest at) (omega arith) (omega arith),
+        subst (λ (z : TypeDef). IsWritten names z s) same zip.0.1.1,
+        next_of (q + 1) G rest n g (from_next q (Some y) rest at) zip.1 (λ p z here low high. groups p z here (omega (arith, low)) (omega (arith, high))),
+      )
 
   -- ---- one type after another
 
   one_named : (G R : List ℕ) (y : TypeDef) (s : Sub) → named_types names G ≡ Some R → y.group ≡ G → IsWritten names y s → IsNamed names y (in_group R s)
   one_named G R y s named same written = (
     ap (λ (g : List ℕ). named_types names g >>= λ group. named_sub names y.sub >>= λ sub. Some (record { group = group; sub = sub })) same
-    ∙ ap (λ (o : Option (List ℕ)). o >>= λ group. named_sub names y.sub >>= λ sub. Some (record { group = group; sub = sub })) named
-    ∙ ap (λ o. o >>= λ sub. Some (record { group = R; sub = sub })) written.named,
+        ∙ ap (λ (o : Option (List ℕ)). o >>= λ group. named_sub names y.sub >>= λ sub. Some (record { group = group; sub = sub })) named
+        ∙ ap (λ o. o >>= λ sub. Some (record { group = R; sub = sub })) written.named,
     written.plain,
   )
 
@@ -179,16 +181,17 @@ module _ (names : Lookup) (slots : List (Option TypeDef)) (whole : AreWhole slot
       let zipped : AllZip (StandsFor names slots) (range_with_len q n) (s ∷ left) = subst (λ (G : List ℕ). AllZip (StandsFor names slots) G (s ∷ left)) row zip.0 in
       let long : suc (length left) ≡ n = AllZip-long (StandsFor names slots) (range_with_len q n) (s ∷ left) zipped ∙ length-range_with_len q n in
       let next : AreNext x.group (Some x ∷ rest) (s ∷ left) = next_of q x.group (Some x ∷ rest) n (s ∷ left) at zipped
-        (λ p y there low high. same_group p q p y x there here (whole.own p y there) (ap (λ g. has g p) row ∙ row-has q n p low high)) in
+      (λ p y there low high. same_group p q p y x there here (whole.own p y there) (ap (λ g. has g p) row ∙ row-has q n p low high)) in
       let R : List ℕ = range_with_len behind (suc (length left)) in
       let named : named_types names x.group ≡ Some R =
-        ap (named_types names) (row ∙ ap (range_with_len q) (sym long))
-        ∙ row_named q idx x.group (Some x ∷ rest) (s ∷ left) count next
-        ∙ ap (λ i. Some (range_with_len i (suc (length left)))) (sym b) in
-      (one_named x.group R x s named refl next.1,
-      later (idx + 1) (behind + suc (length left)) (q + n) left x.group R gs (from_next q (Some x) rest at) (counts_some q idx x rest count) named next.2
-        (λ p l. ap (λ g. starts_at g p) (row ∙ ap (range_with_len q) (sym long)) ∙ not_equal q p (λ e. absurd (omega (arith, l, e))))
-        (omega (arith, b)) (omega (arith, long)) (apart_behind q n x apart here row) zip.1)
+      ap (named_types names) (row ∙ ap (range_with_len q) (sym long))
+      ∙ row_named q idx x.group (Some x ∷ rest) (s ∷ left) count next
+      ∙ ap (λ i. Some (range_with_len i (suc (length left)))) (sym b) in (
+        one_named x.group R x s named refl next.1,
+        later (idx + 1) (behind + suc (length left)) (q + n) left x.group R gs (from_next q (Some x) rest at) (counts_some q idx x rest count) named next.2
+            (λ p l. ap (λ g. starts_at g p) (row ∙ ap (range_with_len q) (sym long)) ∙ not_equal q p (λ e. absurd (omega (arith, l, e))))
+            (omega (arith, b)) (omega (arith, long)) (apart_behind q n x apart here row) zip.1,
+      )
 
   -- the first place of a group that no group reaches over
   first_here : (q : ℕ) (x : TypeDef) → item_at slots q ≡ Some x → Apart q → (n : ℕ) × ((x.group ≡ range_with_len q n) × (0 < n))
@@ -202,18 +205,19 @@ module _ (names : Lookup) (slots : List (Option TypeDef)) (whole : AreWhole slot
       (row.1.0, (row.1.1 ∙ ap (λ f. range_with_len f row.1.0) same, omega (arith, high, same)))
 
   step_some : (q : ℕ) (x : TypeDef) (rest : List (Option TypeDef)) → Walk (q + 1) rest → Walk q (Some x ∷ rest)
-  step_some q x rest later idx behind end (s ∷ left) G R gs at count named next starts b e apart zip =
-      (one_named G R x s named next.0 next.1,
-      later (idx + 1) behind end left G R gs (from_next q (Some x) rest at) (counts_some q idx x rest count) named next.2 (λ p l. starts p (omega (arith, l)))
+  step_some q x rest later idx behind end (s ∷ left) G R gs at count named next starts b e apart zip = (
+    one_named G R x s named next.0 next.1,
+    later (idx + 1) behind end left G R gs (from_next q (Some x) rest at) (counts_some q idx x rest count) named next.2 (λ p l. starts p (omega (arith, l)))
         (omega (arith, b)) (omega (arith, e)) apart
-        (zip_first false q x (entries_from (q + 1) rest) gs (ap (λ g. starts_at g q) next.0 ∙ starts q (omega arith)) zip))
+        (zip_first false q x (entries_from (q + 1) rest) gs (ap (λ g. starts_at g q) next.0 ∙ starts q (omega arith)) zip),
+  )
   step_some q x rest later idx behind end [] G R gs at count named next starts b e apart zip =
       let here : item_at slots q ≡ Some x = from_here q (Some x) rest at in
       let is : end ≡ q = omega (arith, e) in
       let reaching : Apart q = subst Apart is apart in
       let first = first_here q x here reaching in
       opened q x rest later idx behind first.0 gs at count (omega (arith, b)) first.1.0 first.1.1 reaching
-        (zip_first true q x (entries_from (q + 1) rest) gs (ap (λ g. starts_at g q) first.1.0 ∙ starts_row q first.0 first.1.1) zip)
+      (zip_first true q x (entries_from (q + 1) rest) gs (ap (λ g. starts_at g q) first.1.0 ∙ starts_row q first.0 first.1.1) zip)
     where
       starts_row : (q n : ℕ) → 0 < n → starts_at (range_with_len q n) q ≡ true
       starts_row q zero h = absurd (omega (arith, h))
@@ -227,7 +231,7 @@ module _ (names : Lookup) (slots : List (Option TypeDef)) (whole : AreWhole slot
   pub walked : (gs : List Group) → NumbersTypes names slots → AllZip (GroupStandsFor names slots) (firsts (entries slots)) gs → AllZip (IsNamed names) (items slots) (types_from 0 gs)
   walked gs numbered zip =
       walk 0 slots 0 0 0 [] [] [] gs (λ j. let e : 0 + j ≡ j = omega arith in ap (item_at slots) e) (λ t l. numbered t ∙ unchanged (place_in (map (λ e. e.0) (entries slots)) t)) refl tt (λ p l. refl) refl refl
-        (λ t x here l p inside. omega arith) zip
+      (λ t x here l p inside. omega arith) zip
     where
       unchanged : (o : Option ℕ) → o ≡ option_map (λ k. 0 + k) o
       unchanged None = refl

@@ -65,9 +65,11 @@ module _ (names : Lookup) where
   pub written : (places : List (Option «Type»)) (gs : List Group) → AreWhole (defs places) → NumbersTypes names (defs places) → AllZip (GroupStandsFor names (defs places)) (firsts (entries (defs places))) gs
       → AreIndexed names (items (defs places)) gs × (HasExact (items (defs places)) → ⊥)
   written places gs whole numbered zip =
-      let all = walked names (defs places) whole (group-row places) gs numbered zip in
-      (record {
-        read = all_named (items (defs places)) (types_from 0 gs) all;
-        none_empty = none_empty (defs places) (entries (defs places)) gs zip;
-        stand = all_stand (defs places) (firsts (entries (defs places))) gs zip;
-      }, none_exact (items (defs places)) (all_plain (items (defs places)) (types_from 0 gs) all))
+      let all = walked names (defs places) whole (group-row places) gs numbered zip in (
+        record {
+          read = all_named (items (defs places)) (types_from 0 gs) all;
+          none_empty = none_empty (defs places) (entries (defs places)) gs zip;
+          stand = all_stand (defs places) (firsts (entries (defs places))) gs zip;
+        },
+        none_exact (items (defs places)) (all_plain (items (defs places)) (types_from 0 gs) all),
+      )

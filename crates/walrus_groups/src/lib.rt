@@ -2,6 +2,8 @@
 //! (Binary Format > Modules > Type Section).
 #![tactic(auto)]
 
+mod order;
 mod write;
 
+pub use order::are_in_order;
 pub use write::index_types;

@@ -131,11 +131,7 @@ fn index_supertype(
 }
 
 // A composite type.
-fn index_comp(
-    alloc: Global,
-    ty: &CompositeType,
-    indices: &IdsToIndices,
-) -> Result<RawComp, IrError>
+fn index_comp(alloc: Global, ty: &CompositeType, indices: &IdsToIndices) -> Result<RawComp, IrError>
     ensures indexed { IndexesIn (λ raw. comp_of (comp raw)) result (comp_is_exact (comp_type ty.now)) (named_comp (index_of indices.now) (comp_type ty.now)) }
     ensures spelled { IfOk result (λ raw. CompStands (comp raw)) }
 {

@@ -12,8 +12,7 @@ use Rattle.walrus_groups.proofs.write.index_group.Goals as goal
 pub loop-member-init : goal.loop-member-init
 loop-member-init c =
     let same = ap ids_left c.into_iter-member-iterator.ensures.into_iter_gives ∙ c.group-member-items.ensures in
-    let slots = type_slots c.args.types.now in
-    (
+    let slots = type_slots c.args.types.now in (
       tt,
       tt,
       subst (AllLive slots) (sym same) (group_live slots (place c.args.id) c.groups_are_whole.ensures),
@@ -22,8 +21,7 @@ loop-member-init c =
 
 pub loop-member-preserved : goal.loop-member-preserved
 loop-member-preserved c =
-    let slots = type_slots c.args.types.now in
-    (
+    let slots = type_slots c.args.types.now in (
       tt,
       tt,
       live_after slots _ _ (place c.in-Some.member) c.in-Some.ensures.steps c.loop-member.invariant.2,

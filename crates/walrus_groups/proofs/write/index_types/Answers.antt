@@ -13,8 +13,7 @@ use Rattle.walrus_groups.proofs.write.index_types.Goals as goal
 pub loop-ty-init : goal.loop-ty-init
 loop-ty-init c =
     let same = ap types_left c.into_iter-ty-iterator.ensures.into_iter_gives ∙ c.iter-ty-items.ensures in
-    let slots = type_slots c.args.types.now in
-    (
+    let slots = type_slots c.args.types.now in (
       tt,
       tt,
       subst (AllThere slots) (sym same) (entries_there slots),
