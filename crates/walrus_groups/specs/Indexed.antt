@@ -2,15 +2,20 @@
 use Rattle.std.specs.Prelude.{ℕ, ◌≡◌, ◌≢◌, ◌<◌, ◌⊎◌, ⊤, List, [], map, All, Contains, Option, Some, None, Result, Ok, Err}
 use Rattle.wasm_entries.specs.Record.{Group}
 use Rattle.wasm_entries.specs.TypeSpelling.{GroupStands}
-use Rattle.walrus_base.specs.Arena.{item_at}
+use Rattle.walrus_base.specs.Arena.{item_at, entries}
 use Rattle.walrus_base.specs.Types.{HeapType, IsNotExact, comp_heaps, comp_names, sub_names}
 use Rattle.walrus_types.specs.Operators.{Types}
+use Rattle.walrus_types.specs.Shape.{place_in}
 use Rattle.walrus_types.specs.TypeDef.{TypeDef}
 use Rattle.walrus_code.specs.Names.{Lookup}
 use Rattle.walrus_code.specs.declared.error.IrError.{IrError}
 use Rattle.walrus_code.specs.declared.error.IrError.TheVariants.{Malformed, Memory, NoIndex, NotWritable, TooLarge}
 use Rattle.walrus_groups.specs.Groups.{types_from}
 use Rattle.walrus_groups.specs.Named.{named_def}
+
+-- each type has the number of types in front of it as its index, and nothing else has one
+abbrev pub NumbersTypes : Lookup → List (Option TypeDef) → Type 0
+NumbersTypes names slots = (t : ℕ) → names Types t ≡ place_in (map (λ e. e.0) (entries slots)) t
 
 -- the groups read as these types under their indices, none is empty, and each can be spelled
 pub record AreIndexed (names : Lookup) (defs : List TypeDef) (groups : List Group) : Type 0 where

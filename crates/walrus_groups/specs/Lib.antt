@@ -2,3 +2,5 @@ pub mod Groups
 pub mod Named
 pub mod Reading
 pub mod Indexed
+pub mod Written
+pub mod Ordered

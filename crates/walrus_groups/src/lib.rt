@@ -2,6 +2,10 @@
 //! (Binary Format > Modules > Type Section).
 #![tactic(auto)]
 
+mod order;
 mod read;
+mod write;
 
+pub use order::are_in_order;
 pub use read::read_types;
+pub use write::index_types;
