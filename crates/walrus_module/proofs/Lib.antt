@@ -41,6 +41,7 @@ pub mod RefusedLemmas
 pub mod Refusing
 pub mod Renamed
 pub mod Rooms
+pub mod TypeRooms
 pub mod SameBodies
 pub mod SmallLocals
 pub mod Somes
