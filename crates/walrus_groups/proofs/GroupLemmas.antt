@@ -32,10 +32,10 @@ use Rattle.walrus_groups.proofs.Kept.{kept-subs, range-here, range-none}
 pub counted : (ps : List ℕ) (n : ℕ) → ps ≡ range_with_len 0 n → ps ≡ range_with_len 0 (length ps)
 counted ps n h = h ∙ ap (λ k. range_with_len 0 k) (sym (ap length h ∙ length-range_with_len 0 n))
 
-pub known : (ps : List ℕ) (n : ℕ) → ps ≡ range_with_len 0 n → length ps ≡ n
+known : (ps : List ℕ) (n : ℕ) → ps ≡ range_with_len 0 n → length ps ≡ n
 known ps n h = ap length h ∙ length-range_with_len 0 n
 
-pub long : (ids : List (Id TypeKey)) (first count : ℕ) → map (λ id. place id) ids ≡ range_with_len first count → length ids ≡ count
+long : (ids : List (Id TypeKey)) (first count : ℕ) → map (λ id. place id) ids ≡ range_with_len first count → length ids ≡ count
 long ids first count h = sym (length-map ids (λ id. place id)) ∙ ap length h ∙ length-range_with_len first count
 
 pub ids-behind-types : (ps : List ℕ) (slots : List (Option TypeDef)) (ids : List (Id TypeKey)) (count : ℕ) → ps ≡ range_with_len 0 (length slots) → map (λ id. place id) ids ≡ range_with_len (length slots) count → map (λ id. place id) ids ≡ range_with_len (length ps) (length ids)
@@ -92,7 +92,7 @@ group-long g old new r =
     ap length r.added ∙ length-append old (map Some (types_from (length old) (g ∷ [])))
     ∙ ap (λ n. length old + n) (length-map (types_from (length old) (g ∷ [])) (λ x. Some x) ∙ ap length (append-nil (members_of (length old) g)) ∙ length-map g _)
 
-pub group-malformed : (indices : IndicesToIds) (g : Group) (first : ℕ) → places_in indices Types ≡ range_with_len 0 (first + length g) → each (read_sub (ids_at indices)) (map sub_of g) ≡ None → AreDeclared first (g ∷ []) → ⊥
+group-malformed : (indices : IndicesToIds) (g : Group) (first : ℕ) → places_in indices Types ≡ range_with_len 0 (first + length g) → each (read_sub (ids_at indices)) (map sub_of g) ≡ None → AreDeclared first (g ∷ []) → ⊥
 group-malformed indices g first in_place found declared =
     let kept = kept-subs (ids_at indices) (first + length g) (range-here (places_in indices Types) (first + length g) in_place) (range-none (places_in indices Types) (first + length g) in_place) g in
     let here = kept.stays declared.0 in

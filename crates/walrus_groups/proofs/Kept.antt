@@ -30,17 +30,17 @@ All-back : {Z : Type 0} (P : Z → Type 0) (xs ys : List Z) → All P (xs ++ ys)
 All-back P [] ys h = h
 All-back P (x ∷ xs) ys h = All-back P xs ys (All-tail P x (xs ++ ys) h)
 
-pub kept-iff : {X : Type 0} {P Q : Type 0} (found : Option X) (x : X) → (P → Q) → (Q → P) → Kept P found x → Kept Q found x
+kept-iff : {X : Type 0} {P Q : Type 0} (found : Option X) (x : X) → (P → Q) → (Q → P) → Kept P found x → Kept Q found x
 kept-iff found x there back k = record { stays = λ q. k.stays (back q); holds = λ y h. there (k.holds y h) }
 
-pub kept-one : {X Y : Type 0} (P : Type 0) (C : X → Y) (found : Option X) (x : X) → Kept P found x → Kept P (found >>= λ a. Some (C a)) (C x)
+kept-one : {X Y : Type 0} (P : Type 0) (C : X → Y) (found : Option X) (x : X) → Kept P found x → Kept P (found >>= λ a. Some (C a)) (C x)
 kept-one {X} {Y} P C found x k = record { stays = λ p. ap (λ f. f >>= λ a. Some (C a)) (k.stays p); holds = λ y h. holds_at found k.holds y h }
   where
     holds_at : (found : Option X) → ((a : X) → found ≡ Some a → P) → (y : Y) → (found >>= λ a. Some (C a)) ≡ Some y → P
     holds_at None k y h = absurd cc
     holds_at (Some a) k y h = k a refl
 
-pub kept-two : {X Y Z : Type 0} (P Q : Type 0) (C : X → Y → Z) (f : Option X) (x : X) (g : Option Y) (y : Y) → Kept P f x → Kept Q g y → Kept (P × Q) (f >>= λ a. g >>= λ b. Some (C a b)) (C x y)
+kept-two : {X Y Z : Type 0} (P Q : Type 0) (C : X → Y → Z) (f : Option X) (x : X) (g : Option Y) (y : Y) → Kept P f x → Kept Q g y → Kept (P × Q) (f >>= λ a. g >>= λ b. Some (C a b)) (C x y)
 kept-two {X} {Y} {Z} P Q C f x g y kf kg = record {
   stays = λ pq. ap₂ (λ u v. u >>= λ a. v >>= λ b. Some (C a b)) (kf.stays pq.0) (kg.stays pq.1);
   holds = λ z h. holds_at f g kf.holds kg.holds z h;
@@ -54,6 +54,7 @@ kept-two {X} {Y} {Z} P Q C f x g y kf kg = record {
 -- ---- each number below the end leads to itself
 
 module _ (names : Lookup) (end : ℕ) (here : (t : ℕ) → t < end → names Types t ≡ Some t) (none : (t : ℕ) → end ≤ t → names Types t ≡ None) where
+  -- all of these stand below the end
   abbrev Below : List ℕ → Type 0
   Below ts = All (λ t. t < end) ts
 
