@@ -1,5 +1,5 @@
 -- Types with each number of a type looked up: places for indices, or back.
-use Rattle.std.specs.Prelude.{ℕ, List, [], ◌∷◌, Option, Some, None}
+use Rattle.std.specs.Prelude.{ℕ, List, [], ◌∷◌, Option, Some}
 use Rattle.wasm_forms.specs.Reading.{◌>>=◌}
 use Rattle.walrus_base.specs.Types.{ValType, StorageType, Unpacked, I8, I16, FieldType, CompType, Func, Struct, Array, SubType}
 use Rattle.walrus_types.specs.Operators.{Types}
