@@ -1,12 +1,12 @@
 -- Types in an order in which they may be written.
-use Rattle.std.proofs.Common.{◌≡◌, ℕ, zero, suc, ◌+◌, ◌-◌, ◌<◌, ◌≤◌, ◌&&◌, ◌⊎◌, inl, inr, Bool, true, false, List, [], ◌∷◌, ◌++◌, length, map, flat_map, get_or, Option, Some, refl, sym, ap, ap₂, ◌∙◌, ⊎_elim, subst, arith, IsTrue}
+use Rattle.std.proofs.Common.{◌≡◌, ℕ, zero, suc, ◌+◌, ◌-◌, ◌<◌, ◌≤◌, ◌&&◌, ◌⊎◌, inl, inr, Bool, true, false, List, [], ◌∷◌, length, flat_map, Option, Some, refl, sym, ap, ap₂, ◌∙◌, ⊎_elim, subst, arith, IsTrue}
 use Rattle.std.specs.Prelude.{Contains, ◌↔◌, nat_le, nat_lt}
 use Rattle.std.specs.List.{list_all, range_with_len}
 use Rattle.std.proofs.lemmas.Bool.{ltb-true, lt-ltb, leb-true, le-leb, ltb-false}
 use Rattle.std.proofs.lemmas.List.Folds.{list_all-append}
 use Rattle.std.proofs.lemmas.List.FromFn.{length-range_with_len, get_or-range_with_len}
 use Rattle.walrus_base.specs.Arena.{item_at, entries}
-use Rattle.walrus_base.specs.Types.{HeapType, OfHeap, Concrete, Exact, ValType, I32, I64, F32, F64, V128, Ref, StorageType, Unpacked, I8, I16, FieldType, CompType, Func, Struct, Array, heap_names, val_heaps, storage_heaps, field_heaps, comp_heaps, comp_names}
+use Rattle.walrus_base.specs.Types.{HeapType, OfHeap, Concrete, Exact, ValType, I32, I64, F32, F64, V128, Ref, StorageType, Unpacked, I8, I16, CompType, Func, Struct, Array, heap_names, val_heaps, storage_heaps, field_heaps, comp_heaps, comp_names}
 use Rattle.walrus_types.specs.PlaceList.{has}
 use Rattle.walrus_types.specs.TypeDef.{TypeDef}
 use Rattle.walrus_types.specs.TypeSlots.{defs}

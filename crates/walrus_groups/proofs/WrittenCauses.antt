@@ -1,11 +1,11 @@
 -- Why a type isn't written.
-use Rattle.std.proofs.Common.{◌≡◌, ℕ, zero, suc, ◌<◌, length, arith, ◌||◌, ◌⊎◌, inl, inr, Bool, true, false, List, [], ◌∷◌, ◌++◌, map, flat_map, Option, Some, None, refl, sym, ap, ap₂, ◌∙◌, ⊎_elim, subst}
+use Rattle.std.proofs.Common.{◌≡◌, ℕ, zero, suc, ◌<◌, length, arith, ◌||◌, ◌⊎◌, inl, inr, Bool, true, false, List, [], ◌∷◌, flat_map, Option, Some, None, refl, sym, ap, ap₂, ◌∙◌, ⊎_elim, subst}
 use Rattle.std.specs.Prelude.{Contains, Result, Ok, Err, IfOk}
 use Rattle.std.specs.List.{list_any}
-use Rattle.std.proofs.lemmas.List.Elements.{Contains-append_left, Contains-append_right, Contains-append_cases}
+use Rattle.std.proofs.lemmas.List.Elements.{Contains-append_left, Contains-append_right}
 use Rattle.std.proofs.lemmas.List.Folds.{list_any-append}
 use Rattle.wasm_forms.specs.Reading.{◌>>=◌}
-use Rattle.wasm_entries.specs.Record.{Sub, sub}
+use Rattle.wasm_entries.specs.Record.{sub}
 use Rattle.wasm_entries.specs.TypeSpelling.{SubStands}
 use Rattle.wasm_entries.specs.declared.record.RawSub.{RawSub}
 use Rattle.walrus_base.specs.Arena.{item_at, items}
@@ -18,9 +18,9 @@ use Rattle.walrus_code.specs.Results.{heap_is_exact, val_is_exact, IndexesIn}
 use Rattle.walrus_code.specs.declared.error.IrError.{IrError}
 use Rattle.walrus_code.specs.declared.error.IrError.TheVariants.{Malformed, Memory, NoIndex, NotWritable, TooLarge}
 use Rattle.walrus_groups.specs.Groups.{sub_of}
-use Rattle.walrus_groups.specs.Indexed.{LacksAnIndex, HasExact}
+use Rattle.walrus_groups.specs.Indexed.{HasExact}
 use Rattle.walrus_groups.specs.Named.{each, named_vals, named_storage, named_field, named_fields, named_comp, named_types, named_sub}
-use Rattle.walrus_groups.specs.Written.{vals_are_exact, storage_is_exact, field_is_exact, fields_are_exact, comp_is_exact, sub_is_exact, IsWritten, StandsFor, UnlessRefused}
+use Rattle.walrus_groups.specs.Written.{vals_are_exact, storage_is_exact, field_is_exact, comp_is_exact, sub_is_exact, StandsFor, UnlessRefused}
 use Rattle.walrus_groups.proofs.WrittenLists.{item_contained}
 
 -- ---- lists

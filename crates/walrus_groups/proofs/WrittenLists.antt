@@ -1,10 +1,10 @@
 -- Lists of places, and what stands at places.
-use Rattle.std.proofs.Common.{◌≡◌, ◌≢◌, ℕ, zero, suc, ◌+◌, ◌-◌, ◌<◌, ◌≤◌, ◌==◌, ◌||◌, ◌⊎◌, inl, inr, Bool, true, false, List, [], ◌∷◌, ◌++◌, length, map, Option, Some, None, option_map, IsTrue, refl, sym, ap, ap₂, ◌∙◌, arith, add-zero, eq-eqb, eqb-true, ⊎_elim, subst}
+use Rattle.std.proofs.Common.{◌≡◌, ℕ, zero, suc, ◌+◌, ◌-◌, ◌<◌, ◌≤◌, ◌==◌, ◌||◌, ◌⊎◌, inl, inr, Bool, true, false, List, [], ◌∷◌, map, Option, Some, None, refl, sym, ap, ap₂, ◌∙◌, arith, add-zero, eq-eqb, eqb-true, ⊎_elim, subst}
 use Rattle.std.specs.Prelude.{Contains}
 use Rattle.std.specs.List.{range_with_len}
-use Rattle.walrus_base.specs.Arena.{item_at, entries_from, entries, items}
+use Rattle.walrus_base.specs.Arena.{item_at, entries_from, entries}
 use Rattle.walrus_types.specs.PlaceList.{has}
-use Rattle.walrus_types.specs.TypeDef.{TypeDef, type_def}
+use Rattle.walrus_types.specs.TypeDef.{TypeDef}
 use Rattle.walrus_types.specs.TypeSlots.{defs}
 use Rattle.walrus_types.specs.declared.types.Type.{«Type»}
 use Rattle.walrus_types.proofs.Lists.{Contains-head, Contains-tail}

@@ -1,5 +1,5 @@
 -- Groups that stand for the types of a module, one behind another, read as these types.
-use Rattle.std.proofs.Common.{◌≡◌, ℕ, zero, suc, ◌+◌, ◌<◌, ◌≤◌, ◌==◌, Bool, true, false, List, [], ◌∷◌, ◌++◌, length, map, Option, Some, None, option_map, IsTrue, refl, sym, ap, ap₂, ◌∙◌, arith, add-zero, eq-eqb, subst}
+use Rattle.std.proofs.Common.{◌≡◌, ℕ, zero, suc, ◌+◌, ◌<◌, ◌≤◌, ◌==◌, Bool, true, false, List, [], ◌∷◌, ◌++◌, length, map, Option, Some, None, option_map, refl, sym, ap, ◌∙◌, arith, add-zero, eq-eqb, subst}
 use Rattle.std.specs.List.{range_with_len, AllZip}
 use Rattle.std.proofs.lemmas.Bool.{ltb-true, ltb-false, eqb-true, eqb-false}
 use Rattle.std.proofs.lemmas.Slice.Zip.{AllZip-long}
@@ -14,9 +14,9 @@ use Rattle.walrus_types.specs.Shape.{place_in}
 use Rattle.walrus_types.specs.TypeDef.{TypeDef}
 use Rattle.walrus_types.specs.Whole.{AreWhole}
 use Rattle.walrus_code.specs.Names.{Lookup}
-use Rattle.walrus_groups.specs.Groups.{sub_of, members_of, types_from}
+use Rattle.walrus_groups.specs.Groups.{sub_of, types_from}
 use Rattle.walrus_groups.specs.Indexed.{NumbersTypes}
-use Rattle.walrus_groups.specs.Named.{each, named_types, named_sub, named_def}
+use Rattle.walrus_groups.specs.Named.{named_types, named_sub, named_def}
 use Rattle.walrus_groups.specs.Written.{IsWritten, StandsFor, GroupStandsFor, starts_at, firsts, sub_is_exact}
 use Rattle.walrus_groups.proofs.WrittenLists.{some_inside, none_some, not_equal, IsRow, row-has, has-row}
 

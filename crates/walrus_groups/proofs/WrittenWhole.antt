@@ -1,11 +1,11 @@
 -- Groups that stand for the types of a module are those of its type section.
-use Rattle.std.proofs.Common.{◌≡◌, ◌≢◌, ℕ, zero, suc, ◌<◌, Bool, true, false, List, [], ◌∷◌, ◌++◌, length, map, Option, Some, refl, sym, ap, ap₂, ◌∙◌, arith, subst, All}
+use Rattle.std.proofs.Common.{◌≡◌, ◌≢◌, ℕ, zero, suc, ◌<◌, Bool, true, false, List, [], ◌∷◌, length, map, Option, Some, refl, sym, ap₂, arith, subst, All}
 use Rattle.std.specs.Prelude.{Contains}
 use Rattle.std.specs.List.{AllZip}
 use Rattle.std.proofs.lemmas.List.Elements.{All-nil, All-cons}
 use Rattle.wasm_entries.specs.Record.{Sub, Group}
 use Rattle.wasm_entries.specs.TypeSpelling.{SubStands, GroupStands}
-use Rattle.walrus_base.specs.Arena.{item_at, entries, items}
+use Rattle.walrus_base.specs.Arena.{entries, items}
 use Rattle.walrus_types.specs.TypeDef.{TypeDef}
 use Rattle.walrus_types.specs.TypeSlots.{defs}
 use Rattle.walrus_types.specs.Whole.{AreWhole}

@@ -1,5 +1,5 @@
 -- What stands for a type, and for its group, while types are written.
-use Rattle.std.specs.Prelude.{ℕ, ◌≡◌, ◌==◌, ◌||◌, Bool, true, false, ⊤, List, [], ◌∷◌, Option, Some, Result, Ok, Err, if◌then◌else◌}
+use Rattle.std.specs.Prelude.{ℕ, ◌≡◌, ◌==◌, ◌||◌, Bool, false, ⊤, List, [], ◌∷◌, Option, Some, Result, Ok, Err, if◌then◌else◌}
 use Rattle.std.specs.List.{list_any, AllZip}
 use Rattle.wasm_entries.specs.Record.{Sub, Group}
 use Rattle.wasm_entries.specs.TypeSpelling.{SubStands}

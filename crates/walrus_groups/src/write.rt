@@ -14,7 +14,7 @@ ghost use Rattle.walrus_types.specs.Value.{val_type};
 ghost use Rattle.std.specs.List.{AllZip};
 ghost use Rattle.walrus_code.specs.FromRaw.{val_of};
 ghost use Rattle.walrus_code.specs.Indices.{index_of};
-ghost use Rattle.walrus_code.specs.Results.{IndexesIn, NeedsNoMemory};
+ghost use Rattle.walrus_code.specs.Results.{IndexesIn};
 ghost use Rattle.walrus_groups.specs.Groups.{storage_of, field_of, comp_of, sub_of};
 ghost use Rattle.walrus_groups.specs.Indexed.{NumbersTypes, IndexesTypes};
 ghost use Rattle.walrus_groups.specs.Named.{named_vals, named_storage, named_field, named_fields, named_comp, named_types, named_sub};
