@@ -26,6 +26,7 @@ pub mod Lookups
 pub mod Named
 pub mod NamedAll
 pub mod NamedFound
+pub mod NamedTypes
 pub mod Numbering
 pub mod OneOrder
 pub mod OneText
@@ -55,6 +56,7 @@ pub mod TextsStand
 pub mod ThereLemmas
 pub mod Turns
 pub mod TypeRefusals
+pub mod WireTypes
 pub mod WrittenAs
 pub mod WrittenLemmas
 pub mod MovedRefs
