@@ -56,6 +56,8 @@ pub mod TextsStand
 pub mod ThereLemmas
 pub mod Turns
 pub mod TypeRefusals
+pub mod TypeSizes
+pub mod TypesBack
 pub mod WireTypes
 pub mod WrittenAs
 pub mod WrittenLemmas
