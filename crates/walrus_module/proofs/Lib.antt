@@ -27,6 +27,7 @@ pub mod Named
 pub mod NamedAll
 pub mod NamedFound
 pub mod Numbering
+pub mod OneGroup
 pub mod OneOrder
 pub mod OneText
 pub mod ParsedWhole
