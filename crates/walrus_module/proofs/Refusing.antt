@@ -18,7 +18,7 @@ use Rattle.walrus_base.specs.declared.keys.FunctionKey.{FunctionKey}
 use Rattle.walrus_code.specs.Names.{Lookup}
 use Rattle.walrus_bodies.specs.declared.features.Features.{Features}
 use Rattle.walrus_items.specs.Exports.{ExportValue}
-use Rattle.walrus_groups.specs.Indexed.{AreIndexed}
+use Rattle.walrus_groups.specs.Indexed.{AreIndexed, AreInOrder}
 use Rattle.walrus_items.specs.Functions.{local_functions}
 use Rattle.walrus_model.proofs.Lists.{map-map}
 use Rattle.walrus_module.specs.Emitted.{is_there_in, RefusesCounts, RefusesTypes, RefusesBodies, RefusesSections, RefusesItems}
@@ -63,7 +63,7 @@ module _ (h : Held) (features : Features) (exports : List ExportValue) where
 
   pub types_refused : (X : Type 0) (e : Error) → is_there_in h exports ≡ true → RefusesTypes h.types e → RefusesItems {X = X} h features exports (Err e)
   types_refused X (Parts.Memory m) there r = tt
-  types_refused X Parts.NotWritable there r = (there, inr r)
+  types_refused X Parts.NotWritable there r = (there, inr (λ ordered. r))
   types_refused X _ there r = absurd r
 
   pub bodies_refused : (X : Type 0) (e : Error) → is_there_in h exports ≡ true → RefusesBodies h features e → RefusesItems {X = X} h features exports (Err e)
@@ -76,13 +76,13 @@ module _ (h : Held) (features : Features) (exports : List ExportValue) where
 
   abbrev pub records_of : (names : Lookup) (ids : List (Id FunctionKey)) (raws : List (Vec RawSub)) (raw_functions : List ℕ) (exported : List RawExport) (bodies : List (Vec ℕ)) → all_local (items h.funcs) ≡ true → IsOrder h.funcs (map place ids)
       → AreNumbered names (map (λ e. e.0) (entries h.types)) (map place ids) → NamesNoOthers names
-      → AreIndexed names (items h.types) (map group raws)
+      → AreIndexed names (items h.types) (map group raws) → AreInOrder h.types
       → map Some raw_functions ≡ map (λ id. type_index h.funcs names (place id)) ids
       → map (λ e. Some (export_record e)) exported ≡ map (export_with_index names) exports
       → All (λ e. IsUtf8 e.name.now) exported
       → AllZip (λ id bytes. HasBytes h names features (place id) bytes.items) ids bodies
       → Records h features exports
-  records_of names ids raws raw_functions exported bodies local ordered numbered no_others types_are functions_are exports_are texts bodies_are = record {
+  records_of names ids raws raw_functions exported bodies local ordered numbered no_others types_are in_order functions_are exports_are texts bodies_are = record {
     all_are_local = local;
     order = map place ids;
     ordered = ordered;
@@ -91,6 +91,7 @@ module _ (h : Held) (features : Features) (exports : List ExportValue) where
     no_others = no_others;
     raw_types = map group raws;
     types_are = types_are;
+    in_order = in_order;
     raw_functions = raw_functions;
     functions_are = functions_are ∙ sym (map-map (type_index h.funcs names) place ids);
     raw_exports = map export_record exported;

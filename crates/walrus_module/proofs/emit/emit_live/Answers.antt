@@ -10,6 +10,7 @@ use Rattle.walrus_base.specs.Id.{place}
 use Rattle.walrus_types.specs.ModuleTypes.{type_slots}
 use Rattle.walrus_code.specs.Indices.{index_of}
 use Rattle.walrus_items.specs.Exports.{exports}
+use Rattle.walrus_groups.specs.Indexed.{AreInOrder}
 use Rattle.walrus_items.specs.Functions.{functions}
 use Rattle.walrus_model.proofs.Lists.{map-map}
 use Rattle.walrus_module.specs.Numbered.{AreNumbered}
@@ -82,11 +83,12 @@ returns-in_err-bytes-clause-refused c =
     let held = held_in c.args.types.now c.args.locals.now c.args.funcs.now in
     let names = index_of c.in_ok-indices.indices in
     let local : all_local (items (functions c.args.funcs.now)) ≡ true = search rules in
+    let in_order : AreInOrder (type_slots c.args.types.now) = search rules in
     let records = records_of held c.args.features.now (items (exports c.args.all_exports.now)) names c.in_ok-order.order.items c.in_ok-raws.raws.items c.in_ok-functions.functions.items c.in_ok-exported.exported.items c.in_ok-bodies.bodies.items
     local c.in_ok-order.ensures.value
     (subst (λ ids. AreNumbered names (map (λ e. e.0) (entries (type_slots c.args.types.now))) (map place ids)) c.as_slice.ensures.value c.in_ok-indices.ensures.value)
     c.in_ok-indices.ensures.no_others
-    c.in_ok-raws.ensures.value
+    c.in_ok-raws.ensures.value in_order
     (c.in_ok-functions.ensures.value ∙ ap (map (λ id. type_index (functions c.args.funcs.now) names (place id))) c.as_slice-2.ensures.value)
     c.in_ok-exported.ensures.value c.in_ok-exported.ensures.text
     (subst (λ ids. AllZip (λ id bytes. HasBytes held names c.args.features.now (place id) bytes.items) ids c.in_ok-bodies.bodies.items) c.as_slice-3.ensures.value c.in_ok-bodies.ensures.value) in
@@ -102,12 +104,13 @@ returns-clause-spells c =
     let held = held_in c.args.types.now c.args.locals.now c.args.funcs.now in
     let names = index_of c.in_ok-indices.indices in
     let local : all_local (items (functions c.args.funcs.now)) ≡ true = search rules in
+    let in_order : AreInOrder (type_slots c.args.types.now) = search rules in
     record {
       records = records_of held c.args.features.now (items (exports c.args.all_exports.now)) names c.in_ok-order.order.items c.in_ok-raws.raws.items c.in_ok-functions.functions.items c.in_ok-exported.exported.items c.in_ok-bodies.bodies.items
           local c.in_ok-order.ensures.value
           (subst (λ ids. AreNumbered names (map (λ e. e.0) (entries (type_slots c.args.types.now))) (map place ids)) c.as_slice.ensures.value c.in_ok-indices.ensures.value)
           c.in_ok-indices.ensures.no_others
-          c.in_ok-raws.ensures.value
+          c.in_ok-raws.ensures.value in_order
           (c.in_ok-functions.ensures.value ∙ ap (map (λ id. type_index (functions c.args.funcs.now) names (place id))) c.as_slice-2.ensures.value)
           c.in_ok-exported.ensures.value c.in_ok-exported.ensures.text
           (subst (λ ids. AllZip (λ id bytes. HasBytes held names c.args.features.now (place id) bytes.items) ids c.in_ok-bodies.bodies.items) c.as_slice-3.ensures.value c.in_ok-bodies.ensures.value);
