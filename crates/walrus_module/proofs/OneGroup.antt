@@ -32,14 +32,14 @@ map_back f g P back [] h = refl
 map_back f g P back (x ∷ xs) h = ap₂ ◌∷◌ (back x (All-head P x xs h)) (map_back f g P back xs (All-tail P x xs h))
 
 -- two lists of two parts, of which the first ones are as long
-split_same : {A : Type 0} (as bs cs ds : List A) → length as ≡ length bs → as ++ cs ≡ bs ++ ds → (as ≡ bs) × (cs ≡ ds)
+split_same : {A : Type 0} (xs ys cs ds : List A) → length xs ≡ length ys → xs ++ cs ≡ ys ++ ds → (xs ≡ ys) × (cs ≡ ds)
 split_same [] [] cs ds long e = (refl, e)
-split_same [] (b ∷ bs) cs ds long e = absurd (omega (arith, long))
-split_same (a ∷ as) [] cs ds long e = absurd (omega (arith, long))
-split_same {A} (a ∷ as) (b ∷ bs) cs ds long e =
-    let first : a ≡ b = cc in
-    let rest : as ++ cs ≡ bs ++ ds = cc in
-    let parts = split_same as bs cs ds (omega (arith, long)) rest in
+split_same [] (y ∷ ys) cs ds long e = absurd (omega (arith, long))
+split_same (x ∷ xs) [] cs ds long e = absurd (omega (arith, long))
+split_same (x ∷ xs) (y ∷ ys) cs ds long e =
+    let first : x ≡ y = cc in
+    let rest : xs ++ cs ≡ ys ++ ds = cc in
+    let parts = split_same xs ys cs ds (omega (arith, long)) rest in
     (ap₂ ◌∷◌ first parts.0, parts.1)
 
 -- ---- a type back as it is spelled
