@@ -8,7 +8,6 @@ pub mod DeclaredTypes
 pub mod Differ
 pub mod EmittedLemmas
 pub mod Entries
-pub mod EntryLemmas
 pub mod ExportedRefs
 pub mod FewLocals
 pub mod FewParams
