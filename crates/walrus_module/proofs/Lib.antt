@@ -61,3 +61,4 @@ pub mod MovedRefs
 pub mod WholeLists
 pub mod Locating
 mod Rows
+pub mod TypeLists
