@@ -1,8 +1,9 @@
 -- A function type that is framed has fewer than 2 ^ 32 parameters: their count is a number of 32 bits.
-use Rattle.std.proofs.Common.{◌≡◌, ℕ, zero, suc, ◌+◌, ◌<◌, ◌^◌, Bool, true, false, List, [], ◌∷◌, ◌++◌, length, map, refl, sym, ap, subst, arith, inl, inr}
-use Rattle.std.specs.Prelude.{slice_get, nat_eq}
-use Rattle.std.specs.List.{AllByRecursion, range_with_len}
+use Rattle.std.proofs.Common.{◌≡◌, ℕ, ◌+◌, ◌<◌, ◌^◌, Bool, true, false, List, [], ◌∷◌, ◌++◌, length, map, refl, sym, ap, subst, arith, inl, inr}
+use Rattle.std.specs.Prelude.{Contains, nat_eq}
+use Rattle.std.specs.List.{AllByRecursion}
 use Rattle.std.proofs.lemmas.List.{length-map}
+use Rattle.std.proofs.lemmas.List.Elements.{All-contains, All-from_recursion}
 use Rattle.wasm_forms.specs.Grammar.{Form, Is, IsRow, Fails, ◌then◌, Made, Vector, U32}
 use Rattle.wasm_forms.specs.Types.{value_type}
 use Rattle.wasm_entries.specs.Record as entries
@@ -11,13 +12,9 @@ use Rattle.wasm_frames.specs.Frames.{Section, Types, IsContent, AreSections, wit
 use Rattle.wasm_frames.specs.Record.{Module, no_sections}
 use Rattle.wasm_operators.proofs.OneRead.{chosen}
 use Rattle.walrus_functions.proofs.LawNamed.{each_append}
-use Rattle.walrus_types.specs.TypeDef.{TypeDef, type_params}
-use Rattle.walrus_code.specs.FromRaw.{val_of}
-use Rattle.walrus_functions.specs.Handlers.{params_of}
-use Rattle.walrus_groups.specs.Groups.{comp_of, sub_of, members_of, types_from}
+use Rattle.walrus_model.proofs.Lists.{Contains-map}
 use Rattle.walrus_model.specs.Handled as handled
-use Rattle.walrus_model.specs.Handled.{widened}
-use Rattle.walrus_model.specs.Reads.{types_of}
+use Rattle.walrus_model.specs.Handled.{widened_value, widened_type, widened}
 
 -- ---- lists behind a count
 
@@ -118,28 +115,10 @@ sections_few (s ∷ ss) m place bytes are few =
 all_few : (bytes : List ℕ) (m : Module) → Frames bytes m → AreFew m.types
 all_few bytes m f = subst (λ (n : Module). AreFew n.types) (sym f.holds) (sections_few f.parts no_sections 8 f.rest f.framed tt)
 
-few_of : (c : entries.Comp) → FewComp c → length (type_params (comp_of c)) < 2 ^ 32
-few_of (entries.Function t) few = subst (λ (n : ℕ). n < 2 ^ 32) (sym (length-map t.params val_of)) few
-few_of (entries.Struct fields) few = omega arith
-few_of (entries.Array field) few = omega arith
-
--- a type takes few parameters
-abbrev FewDef : TypeDef → Type 0
-FewDef x = length (type_params x.sub.comp) < 2 ^ 32
-
-members_few : (first n : ℕ) (g : entries.Group) → FewGroup g → AllByRecursion FewDef (map (λ s. record { group = range_with_len first n; sub = sub_of s }) g)
-members_few first n [] few = tt
-members_few first n (s ∷ g) few = (few_of s.comp few.0, members_few first n g few.1)
-
-types_few : (first : ℕ) (gs : List entries.Group) → AreFew gs → AllByRecursion FewDef (types_from first gs)
-types_few first [] few = tt
-types_few first (g ∷ gs) few = each_append FewDef (members_of first g) (types_from (first + length g) gs) (members_few first (length g) g few.0) (types_few (first + length g) gs few.1)
-
-found_few : (xs : List TypeDef) (t : ℕ) → AllByRecursion FewDef xs → length (params_of (slice_get xs t)) < 2 ^ 32
-found_few [] t few = omega arith
-found_few (x ∷ xs) zero few = few.0
-found_few (x ∷ xs) (suc t) few = found_few xs t few.1
-
 -- a function type that is framed has fewer than 2 ^ 32 parameters
-pub few_params : (bytes : List ℕ) (r : handled.Module) → Frames bytes (widened r) → (t : ℕ) → length (params_of (types_of r t)) < 2 ^ 32
-few_params bytes r f t = found_few (types_from 0 r.types) t (types_few 0 r.types (all_few bytes (widened r) f))
+pub few_params : (bytes : List ℕ) (r : handled.Module) → Frames bytes (widened r) → (t : handled.FuncType) → Contains r.types t → length t.params < 2 ^ 32
+few_params bytes r f t h =
+    let all = All-from_recursion FewGroup (map widened_type r.types) (all_few bytes (widened r) f) in
+    let one : FewGroup (widened_type t) = All-contains FewGroup (map widened_type r.types) (widened_type t) all (Contains-map widened_type t r.types h) in
+    let few : length (map widened_value t.params) < 2 ^ 32 = one.0 in
+    omega (arith, few, length-map t.params widened_value)
