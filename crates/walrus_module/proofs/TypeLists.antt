@@ -200,7 +200,7 @@ all_apart : {A B : Type 0} (Q : B → Type 0) (h : A → List B) (xs : List A) �
 all_apart Q h [] a = tt
 all_apart Q h (x ∷ xs) a = let p = all_parts Q (h x) (flat_map h xs) a in (p.0, all_apart Q h xs p.1)
 
-one_of : {A : Type 0} (P : A → Type 0) (xs : List A) (k : ℕ) (x : A) → AllByRecursion P xs → slice_get xs k ≡ Some x → P x
+pub one_of : {A : Type 0} (P : A → Type 0) (xs : List A) (k : ℕ) (x : A) → AllByRecursion P xs → slice_get xs k ≡ Some x → P x
 one_of P [] k x a e = cc
 one_of P (y ∷ xs) zero x a e = let same : y ≡ x = cc in subst P same a.0
 one_of P (y ∷ xs) (suc k) x a e = one_of P xs k x a.1 e
