@@ -25,6 +25,7 @@ pub mod Lookups
 pub mod Named
 pub mod NamedAll
 pub mod NamedFound
+pub mod NamedTypes
 pub mod Numbering
 pub mod OneGroup
 pub mod OneOrder
@@ -57,6 +58,7 @@ pub mod Turns
 pub mod TypesTaken
 pub mod TypesRead
 pub mod TypeRefusals
+pub mod WireTypes
 pub mod WrittenAs
 pub mod WrittenLemmas
 pub mod MovedRefs
