@@ -8,7 +8,6 @@ pub mod DeclaredTypes
 pub mod Differ
 pub mod EmittedLemmas
 pub mod Entries
-pub mod EntryLemmas
 pub mod ExportedRefs
 pub mod FewLocals
 pub mod FewParams
@@ -28,6 +27,7 @@ pub mod NamedAll
 pub mod NamedFound
 pub mod NamedTypes
 pub mod Numbering
+pub mod OneGroup
 pub mod OneOrder
 pub mod OneText
 pub mod ParsedWhole
@@ -55,6 +55,8 @@ pub mod Taking
 pub mod TextsStand
 pub mod ThereLemmas
 pub mod Turns
+pub mod TypesTaken
+pub mod TypesRead
 pub mod TypeRefusals
 pub mod TypeSizes
 pub mod TypesBack

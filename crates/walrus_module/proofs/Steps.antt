@@ -1,4 +1,4 @@
--- Lists place by place, the look-ups of indices, and the types that were added.
+-- Lists place by place, the look-ups of indices, and the types that are added.
 use Rattle.std.proofs.Common.{◌≡◌, ℕ, zero, suc, ◌+◌, ◌<◌, ◌≤◌, Bool, true, false, List, [], ◌∷◌, ◌++◌, length, map, take, get_or, refl, sym, ap, ◌∙◌, arith}
 use Rattle.std.specs.Prelude.{Option, Some, None, slice_get, zip, nat_lt, if◌then◌else◌, ◌≢◌}
 use Rattle.std.specs.List.{AllZip, range_with_len}
@@ -99,17 +99,27 @@ own_index n i lt = sym (below_by n i (nat_lt i n) refl) ∙ get_own n i lt
 
 -- ---- types
 
-item_mapped : (xs : List TypeDef) (i : ℕ) → item_at (map Some xs) i ≡ slice_get xs i
-item_mapped [] i = refl
-item_mapped (x ∷ xs) zero = refl
-item_mapped (x ∷ xs) (suc i) = item_mapped xs i
+-- a place of a list all of whose slots are filled
+pub item_there : {A : Type 0} (xs : List A) (i : ℕ) → item_at (map Some xs) i ≡ slice_get xs i
+item_there [] i = refl
+item_there (x ∷ xs) zero = refl
+item_there (x ∷ xs) (suc i) = item_there xs i
 
 module _ (r : handled.Module) (ts : ModuleTypes) (typed : type_slots ts ≡ map Some (types_from 0 r.types)) where
   pub type_there : (i : ℕ) → item_at (type_slots ts) i ≡ types_of r i
-  type_there i = ap (λ (l : List (Option TypeDef)). item_at l i) typed ∙ item_mapped (types_from 0 r.types) i
+  type_there i = ap (λ (l : List (Option TypeDef)). item_at l i) typed ∙ item_there (types_from 0 r.types) i
 
   pub same_types : item_at (type_slots ts) ≡ types_of r
   same_types = fun_ext type_there
 
   pub same_functions : is_function_at ts ≡ is_function r
   same_functions = fun_ext (λ i. ap is_function_def (type_there i))
+
+function_within : (xs : List TypeDef) (i : ℕ) → is_function_def (slice_get xs i) ≡ true → i < length xs
+function_within [] i h = absurd cc
+function_within (x ∷ xs) zero h = omega arith
+function_within (x ∷ xs) (suc i) h = let lt : i < length xs = function_within xs i h in omega (arith, lt)
+
+-- each type that is a function type is declared
+pub function_declared : (r : handled.Module) (i : ℕ) → is_function r i ≡ true → i < length (types_from 0 r.types)
+function_declared r i h = function_within (types_from 0 r.types) i h

@@ -15,9 +15,10 @@ use Rattle.wasm_entries.specs.declared.record.RawStorage.TheVariants as storages
 use Rattle.wasm_entries.specs.declared.record.RawFieldType.{RawFieldType}
 use Rattle.wasm_entries.specs.Record.{Comp, Function, Struct, Array, Sub, Group}
 use Rattle.wasm_wire.specs.Indices.{HeapHolds, ValueHolds, StorageHolds, FieldHolds, CompHolds, SubRefers, GroupRefers, TypesRefer}
-use Rattle.walrus_base.specs.Types.{HeapType, heap_names, val_heaps, storage_heaps, field_heaps, comp_names}
+use Rattle.walrus_base.specs.Types.{HeapType, ValType, CompType, Func, heap_names, val_names, val_heaps, storage_heaps, field_heaps, comp_names}
+use Rattle.walrus_base.specs.Types as types
 use Rattle.walrus_code.specs.FromRaw.{heap_of, val_of}
-use Rattle.walrus_types.specs.TypeDef.{TypeDef}
+use Rattle.walrus_types.specs.TypeDef.{TypeDef, type_params}
 use Rattle.walrus_groups.specs.Groups.{storage_of, field_of, comp_of, sub_of, members_of, types_from, NamesBelow, AreDeclared}
 use Rattle.walrus_module.proofs.Lookups.{mapped_some, got_map, got_in}
 
@@ -199,6 +200,11 @@ all_apart : {A B : Type 0} (Q : B → Type 0) (h : A → List B) (xs : List A) �
 all_apart Q h [] a = tt
 all_apart Q h (x ∷ xs) a = let p = all_parts Q (h x) (flat_map h xs) a in (p.0, all_apart Q h xs p.1)
 
+pub one_of : {A : Type 0} (P : A → Type 0) (xs : List A) (k : ℕ) (x : A) → AllByRecursion P xs → slice_get xs k ≡ Some x → P x
+one_of P [] k x a e = cc
+one_of P (y ∷ xs) zero x a e = let same : y ≡ x = cc in subst P same a.0
+one_of P (y ∷ xs) (suc k) x a e = one_of P xs k x a.1 e
+
 module _ (end : ℕ) where
   abbrev Below : ℕ → Type 0
   Below t = t < end
@@ -277,6 +283,14 @@ module _ (end : ℕ) where
   comp_holds (Struct fields) a = All-from_recursion (FieldHolds end) fields (all_unflat (FieldHolds end) HeapBelow field_of field_heaps field_holds fields (heaps_below (flat_map field_heaps (map field_of fields)) a))
   comp_holds (Array field) a = field_holds field (heaps_below (field_heaps (field_of field)) a)
 
+  -- so is what a parameter names
+  pub params_below : (c : CompType ℕ) → All (λ t. t < end) (comp_names c) → (k : ℕ) (v : ValType ℕ) → slice_get (type_params c) k ≡ Some v → All (λ t. t < end) (val_names v)
+  params_below (Func params results) a k v e =
+      let p = all_parts HeapBelow (flat_map val_heaps params) (flat_map val_heaps results) (heaps_below (flat_map val_heaps params ++ flat_map val_heaps results) a) in
+      names_below (val_heaps v) (one_of (λ w. HeapsBelow (val_heaps w)) params k v (all_apart HeapBelow val_heaps params p.0) e)
+  params_below (types.Struct fields) a k v e = cc
+  params_below (types.Array field) a k v e = cc
+
 -- ---- what is declared
 
 sub_declared : (end index : ℕ) (s : Sub) → index < end → SubRefers end index s → NamesBelow end (sub_of s)
@@ -302,3 +316,23 @@ declared_from first (g ∷ gs) h =
 
 pub types_declared : (gs : List Group) → TypesRefer gs → AreDeclared 0 gs
 types_declared gs h = declared_from 0 gs (λ i d lt. let same : count (take i gs) ≡ 0 + count (take i gs) = omega arith in subst (λ (n : ℕ). GroupRefers n (get_or gs i d)) same (h i d lt))
+
+-- ---- what a member of a group names
+
+-- a group ends before all the types do
+pub group_fits : (gs : List Group) (number : ℕ) (g : Group) → slice_get gs number ≡ Some g → count (take number gs) + length g ≤ count gs
+group_fits [] number g e = cc
+group_fits (y ∷ gs) zero g e =
+    let same : length y ≡ length g = ap length (let p : y ≡ g = cc in p) in
+    omega (arith, same, count_more y gs)
+group_fits (y ∷ gs) (suc number) g e =
+    let fits = group_fits gs number g e in
+    omega (arith, fits, count_more y gs, count_more y (take number gs))
+
+pub member_refers : (gs : List Group) → TypesRefer gs → (i : ℕ) (x : TypeDef) (m : IsMember 0 gs i x) → SubRefers (count (take m.number gs) + length m.group) i m.sub
+member_refers gs h i x m =
+    let g = got_in gs m.number m.group m.group_there in
+    let s = got_in m.group m.at m.sub m.sub_there in
+    let refers : GroupRefers (count (take m.number gs)) m.group = subst (λ (y : Group). GroupRefers (count (take m.number gs)) y) (g.1 m.group) (h m.number m.group g.0) in
+    subst (λ (n : ℕ). SubRefers (count (take m.number gs) + length m.group) n m.sub) (sym m.index)
+    (subst (λ (y : Sub). SubRefers (count (take m.number gs) + length m.group) (count (take m.number gs) + m.at) y) (s.1 m.sub) (refers m.at m.sub s.0))
