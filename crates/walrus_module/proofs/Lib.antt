@@ -54,6 +54,8 @@ pub mod Taking
 pub mod TextsStand
 pub mod ThereLemmas
 pub mod Turns
+pub mod TypesTaken
+pub mod TypesRead
 pub mod TypeRefusals
 pub mod WrittenAs
 pub mod WrittenLemmas
