@@ -1,5 +1,5 @@
 -- Bytes that are accepted frame sections that keep the rules, and the other way round.
-use Rattle.std.proofs.Common.{inl, inr, true, false, sym, ap₂, ◌≡◌, ◌≢◌, ℕ, zero, suc, ◌+◌, ◌<◌, List, [], ◌∷◌, length, map, get_or, take, refl, ap, subst, ◌∙◌, arith}
+use Rattle.std.proofs.Common.{inl, inr, true, sym, ap₂, ◌≡◌, ◌≢◌, ℕ, zero, suc, ◌+◌, ◌<◌, List, [], ◌∷◌, length, map, get_or, take, refl, ap, subst, ◌∙◌, arith}
 use Rattle.std.specs.Prelude.{Err, Option, Some, IsSome, Contains, All, AllPairs, slice_get, zip, option_map}
 use Rattle.std.proofs.lemmas.List.{get_or-map, length-map}
 use Rattle.std.proofs.lemmas.List.Elements.{Contains-get_or}
