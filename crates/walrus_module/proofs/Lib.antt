@@ -8,7 +8,6 @@ pub mod DeclaredTypes
 pub mod Differ
 pub mod EmittedLemmas
 pub mod Entries
-pub mod EntryLemmas
 pub mod ExportedRefs
 pub mod FewLocals
 pub mod FewParams
@@ -26,7 +25,9 @@ pub mod Lookups
 pub mod Named
 pub mod NamedAll
 pub mod NamedFound
+pub mod NamedTypes
 pub mod Numbering
+pub mod OneGroup
 pub mod OneOrder
 pub mod OneText
 pub mod ParsedWhole
@@ -55,10 +56,16 @@ pub mod Taking
 pub mod TextsStand
 pub mod ThereLemmas
 pub mod Turns
+pub mod TypesTaken
+pub mod TypesRead
 pub mod TypeRefusals
+pub mod TypeSizes
+pub mod TypesBack
+pub mod WireTypes
 pub mod WrittenAs
 pub mod WrittenLemmas
 pub mod MovedRefs
 pub mod WholeLists
 pub mod Locating
 mod Rows
+pub mod TypeLists

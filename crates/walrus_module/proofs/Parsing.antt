@@ -4,26 +4,29 @@ use Rattle.std.specs.Prelude.{Option, Some, None, IsSome, Contains, All, AllPair
 use Rattle.std.specs.List.{AllZip, AllByRecursion}
 use Rattle.std.proofs.lemmas.List.{get_or-map, length-map}
 use Rattle.std.proofs.Common.{length-append, Bool, ◌+◌}
-use Rattle.std.proofs.lemmas.List.Elements.{Contains-append_cases, All-contains, All-map}
-use Rattle.walrus_base.specs.Types.{ValType, comp_names, val_heaps, heap_names}
+use Rattle.std.proofs.lemmas.List.Elements.{Contains-append_cases, All-contains, All-map, recursion_from_All}
+use Rattle.walrus_base.specs.Types.{ValType, CompType, Func, Struct, Array, comp_names, sub_names, val_heaps, val_names}
 use Rattle.walrus_types.specs.Operators.{Types, Functions, Tables, Memories, Tags, Globals, Elements, DataSegments, Item, Op, Block, OfType, type_item, names_of, locals_of}
 use Rattle.walrus_model.specs.Abstract.{Abstract, TypeDef, Body, Function, Export}
 use Rattle.walrus_model.specs.Live.{Has, IsLive}
 use Rattle.walrus_functions.specs.Handlers.{params_of}
 use Rattle.walrus_functions.specs.ReadFunction.{locals_from}
 use Rattle.walrus_functions.proofs.LawNamed.{HasIndex, each_append, ops_found}
-use Rattle.walrus_bodies.specs.FunctionTypes.{is_function_def}
+use Rattle.walrus_types.specs.TypeDef.{type_params}
+use Rattle.walrus_bodies.specs.FunctionTypes.{is_function_comp, is_function_def}
+use Rattle.walrus_groups.specs.Groups.{types_from}
 use Rattle.walrus_code.specs.FromRaw.{ops_of}
 use Rattle.walrus_model.specs.Config.{Config}
 use Rattle.walrus_model.specs.Names.{body_of, body_of_function, body_of_kind}
-use Rattle.walrus_model.specs.Reads.{Said, value_type, function_type, lone_type, types_of, function_with, body_with, space_of, export_of, module_of, below, declared, is_function, arity, ReadsBody}
+use Rattle.walrus_model.specs.Reads.{Said, types_of, function_with, body_with, space_of, export_of, module_of, below, declared, is_function, arity, ReadsBody}
 use Rattle.walrus_model.specs.Refers.{named_by, type_names, function_names, written_in, IsUsed, local_names}
-use Rattle.walrus_model.specs.Rules.{TypesRefer, IndicesHold, FunctionTypesHold, RulesHold, IsFunctionType}
-use Rattle.walrus_model.proofs.Lists.{Contains-uncons, Contains-none}
+use Rattle.walrus_model.specs.Rules.{TypesRefer, IndicesHold, FunctionTypesHold, RulesHold, IsFunctionComp, IsFunctionType}
+use Rattle.walrus_model.proofs.Lists.{Contains-head, Contains-tail, Contains-uncons, Contains-none}
 use Rattle.walrus_module.specs.Sections.{Rules}
 use Rattle.walrus_module.proofs.BodyNames.{each_in, in_flat, block_typed, ValNamed, ops_named, types_named, local_named, declared_long}
-use Rattle.walrus_module.proofs.Steps.{zip_length, pairs_long}
+use Rattle.walrus_module.proofs.Steps.{zip_length, pairs_long, function_declared}
 use Rattle.walrus_module.proofs.Taking.{get_own, get_past}
+use Rattle.walrus_module.proofs.TypesRead.{types_refer, group_there, names_there, all_there, params_named}
 use Rattle.wasm_frames.specs.Record as wire
 use Rattle.wasm_forms.proofs.Bind.{if_some, some_same}
 use borrow.Author.Tests.{ltb-true, ltb-false}
@@ -66,20 +69,15 @@ still_some f None h = h
 pub there_mapped : {A B : Type 0} (f : A → B) (xs : List A) (i : ℕ) → i < length xs → IsSome (slice_get (map f xs) i)
 there_mapped f xs i lt = there (map f xs) i (omega (arith, length-map xs f))
 
--- ---- value types name nothing
-
-no_heaps : (vs : List handled.Value) → flat_map val_heaps (map value_type vs) ≡ []
-no_heaps [] = refl
-no_heaps (handled.I32 ∷ vs) = no_heaps vs
-no_heaps (handled.I64 ∷ vs) = no_heaps vs
-no_heaps (handled.F32 ∷ vs) = no_heaps vs
-no_heaps (handled.F64 ∷ vs) = no_heaps vs
-no_heaps (handled.V128 ∷ vs) = no_heaps vs
-
-pub names_nothing : (t : handled.FuncType) → comp_names (function_type t) ≡ []
-names_nothing t = ap₂ (λ a b. flat_map heap_names (a ++ b)) (no_heaps t.params) (no_heaps t.results)
-
 -- ---- small steps
+
+mapped_in : {A B : Type 0} (f : A → B) (xs : List A) (y : B) → Contains (map f xs) y → (x : A) × (Contains xs x × (y ≡ f x))
+mapped_in f [] y c = absurd (Contains-none y c)
+mapped_in {A} {B} f (x ∷ xs) y c =
+    ⊎_elim {C = (z : A) × (Contains (x ∷ xs) z × (y ≡ f z))}
+    (λ (e : f x ≡ y). (x, (Contains-head x xs, sym e)))
+    (λ (d : Contains (map f xs) y). let r = mapped_in f xs y d in (r.0, (Contains-tail x r.0 xs r.1.0, r.1.1)))
+    (Contains-uncons (f x) y (map f xs) c)
 
 pub none_there : false ≡ true → ⊥
 none_there h = cc
@@ -104,12 +102,6 @@ pairs_map R f (x ∷ xs) h = λ i j d less within.
 
 pub kind_is : (k : handled.ExportKind) → Functions ≡ space_of k
 kind_is handled.Function = refl
-
-type_written : (i : ℕ) (o : Option handled.FuncType) (y : Item) → Contains (named_by type_names (option_map (lone_type i) o)) y → IsSome o × (y ≡ type_item i)
-type_written i None y c = absurd (Contains-none y c)
-type_written i (Some t) y c =
-    let c' : Contains (type_item i ∷ []) y = subst (λ l. Contains (type_item i ∷ map type_item l) y) (names_nothing t) c in
-    ⊎_elim (λ (e : type_item i ≡ y). let p : IsSome (Some t) × (y ≡ type_item i) = (refl, sym e) in p) (λ (n : Contains [] y). absurd (Contains-none y n)) (Contains-uncons (type_item i) y [] c')
 
 body_from : (o : Option Function) (b : Body) → body_of_function o ≡ Some b → (f : Function) × (o ≡ Some f) × (body_of_kind f.kind ≡ Some b)
 body_from (Some f) b e = (f, refl, e)
@@ -150,8 +142,8 @@ module _ (c : Config) (r : handled.Module) (bodies : List Said) (rules : Rules r
   many : length bodies ≡ length r.functions
   many = sym (zip_length (ReadsBody c r) (zip r.functions r.bodies) bodies read) ∙ pairs_long r.functions r.bodies rules.as_many_bodies
 
-  has_type : (t : ℕ) → t < length r.types → IsSome (M.types t)
-  has_type t lt = still_some (lone_type t) (slice_get r.types t) (there r.types t lt)
+  has_type : (t : ℕ) → t < length (types_from 0 r.types) → IsSome (M.types t)
+  has_type t lt = there (types_from 0 r.types) t lt
 
   has_function : (f : ℕ) → f < length r.functions → IsSome (M.functions f)
   has_function f lt = there_mapped (function_with r) (zip r.functions bodies) f (omega (arith, lt, zip_long r.functions bodies many))
@@ -161,7 +153,7 @@ module _ (c : Config) (r : handled.Module) (bodies : List Said) (rules : Rules r
   found_below n i found e = let b = if_some (nat_lt i n) i found e in (ltb-true i n b.0, b.1)
 
   declared_live : (x : Item) (found : ℕ) → declared r x.0 x.1 ≡ Some found → IsLive M (x.0, found)
-  declared_live (Types, i) found e = let b = found_below (length r.types) i found e in subst (λ n. IsLive M (Types, n)) b.1 (has_type i b.0)
+  declared_live (Types, i) found e = let b = found_below (length (types_from 0 r.types)) i found e in subst (λ n. IsLive M (Types, n)) b.1 (has_type i b.0)
   declared_live (Functions, i) found e = let b = found_below (length r.functions) i found e in subst (λ n. IsLive M (Functions, n)) b.1 (has_function i b.0)
   declared_live (Tables, i) found e = absurd cc
   declared_live (Memories, i) found e = absurd cc
@@ -175,7 +167,7 @@ module _ (c : Config) (r : handled.Module) (bodies : List Said) (rules : Rules r
     pub at_type : ℕ
     pub said : Said
     pub is : f ≡ function_with r (at_type, said)
-    pub below_types : at_type < length r.types
+    pub function : is_function r at_type ≡ true
     pub body : wire.Body
     pub reads : ReadsBody c r (at_type, body) said
 
@@ -188,7 +180,7 @@ module _ (c : Config) (r : handled.Module) (bodies : List Said) (rules : Rules r
         at_type = m.0.0;
         said = m.0.1;
         is = m.2;
-        below_types = all_got (λ t. t < length r.types) r.functions i m.0.0 rules.indices_hold.0 z.0;
+        function = all_got (λ t. is_function r t ≡ true) r.functions i m.0.0 rules.function_types z.0;
         body = b.0;
         reads = b.1;
       }
@@ -209,49 +201,58 @@ module _ (c : Config) (r : handled.Module) (bodies : List Said) (rules : Rules r
 
   -- ---- the rules
 
-  types_refer : TypesRefer (λ space i j. i < j) M
-  types_refer = record {
-    one_supertype = λ t x e.
-        let m = mapped_some (lone_type t) (slice_get r.types t) x e in
-        subst (λ (z : TypeDef). length z.sub.supertypes ≤ 1) (sym m.2) (omega arith);
-    supertypes = λ t u x e c.
-        let m = mapped_some (lone_type t) (slice_get r.types t) x e in
-        absurd (Contains-none u (subst (λ (z : TypeDef). Contains z.sub.supertypes u) m.2 c));
-    others = λ t u x e c.
-        let m = mapped_some (lone_type t) (slice_get r.types t) x e in
-        absurd (Contains-none u (subst (λ l. Contains l u) (ap (λ (z : TypeDef). comp_names z.sub.comp) m.2 ∙ names_nothing m.0) c));
-  }
+  refers : TypesRefer (λ space i j. i < j) M
+  refers = types_refer r.types rules.types_refer M (λ t. refl) (λ space i j. i < j) (λ i j lt. lt)
+
+  type_live : (ns : List ℕ) (y : Item) → ((u : ℕ) → Contains ns u → u < length (types_from 0 r.types)) → Contains (map type_item ns) y → IsLive M y
+  type_live ns y below c =
+      let u = mapped_in type_item ns y c in
+      subst (IsLive M) (sym u.1.1) (has_type u.0 (below u.0 u.1.0))
+
+  def_live : (t : ℕ) (x : TypeDef) (y : Item) → slice_get (types_from 0 r.types) t ≡ Some x → Contains (type_names x) y → IsLive M y
+  def_live t x y e c =
+      ⊎_elim (λ (d : Contains (map type_item x.group) y). type_live x.group y (group_there r.types rules.types_refer t x e) d)
+      (λ (d : Contains (map type_item (sub_names x.sub)) y). type_live (sub_names x.sub) y (names_there r.types rules.types_refer t x e) d)
+      (Contains-append_cases (map type_item x.group) (map type_item (sub_names x.sub)) y c)
+
+  defs_live : (t : ℕ) (o : Option TypeDef) (y : Item) → slice_get (types_from 0 r.types) t ≡ o → Contains (named_by type_names o) y → IsLive M y
+  defs_live t None y e c = absurd (Contains-none y c)
+  defs_live t (Some x) y e c = def_live t x y e c
 
   type_names_live : (i : ℕ) (y : Item) → Contains (named_by type_names (M.types i)) y → IsLive M y
-  type_names_live i y c =
-      let w = type_written i (slice_get r.types i) y c in
-      subst (IsLive M) (sym w.1) (still_some (lone_type i) (slice_get r.types i) w.0)
+  type_names_live i y c = defs_live i (types_of r i) y refl c
 
   abbrev Live : ValType ℕ → Type 0
   Live v = ValNamed (declared r) (IsLive M) declared_live v
 
-  params_live : (vs : List handled.Value) → AllByRecursion Live (map value_type vs)
-  params_live [] = tt
-  params_live (handled.I32 ∷ vs) = (tt, params_live vs)
-  params_live (handled.I64 ∷ vs) = (tt, params_live vs)
-  params_live (handled.F32 ∷ vs) = (tt, params_live vs)
-  params_live (handled.F64 ∷ vs) = (tt, params_live vs)
-  params_live (handled.V128 ∷ vs) = (tt, params_live vs)
+  mapped_live : (ns : List ℕ) → AllByRecursion (λ n. n < length (types_from 0 r.types)) ns → AllByRecursion (IsLive M) (map type_item ns)
+  mapped_live [] h = tt
+  mapped_live (n ∷ ns) h = (has_type n h.0, mapped_live ns h.1)
 
-  takes_live : (k : ℕ) (o : Option handled.FuncType) → AllByRecursion Live (params_of (option_map (lone_type k) o))
-  takes_live k None = tt
-  takes_live k (Some t) = params_live t.params
+  params_live : (vs : List (ValType ℕ)) → AllByRecursion (λ v. AllByRecursion (λ n. n < length (types_from 0 r.types)) (val_names v)) vs → AllByRecursion Live vs
+  params_live [] h = tt
+  params_live (v ∷ vs) h = (mapped_live (val_names v) h.0, params_live vs h.1)
+
+  comp_live : (c : CompType ℕ) → All (λ n. n < length (types_from 0 r.types)) (comp_names c) → AllByRecursion Live (type_params c)
+  comp_live (Func params results) h =
+      params_live params (params_named (λ n. n < length (types_from 0 r.types)) params (flat_map val_heaps results) (recursion_from_All (λ n. n < length (types_from 0 r.types)) (comp_names (Func params results)) h))
+  comp_live (Struct fields) h = tt
+  comp_live (Array element) h = tt
+
+  takes_live : (t : ℕ) (o : Option TypeDef) → slice_get (types_from 0 r.types) t ≡ o → AllByRecursion Live (params_of o)
+  takes_live t None e = tt
+  takes_live t (Some x) e = comp_live x.sub.comp (all_there r.types rules.types_refer t x e)
 
   locals_live : (f : Function) (a : At f) → AllByRecursion Live (params_of (types_of r a.at_type) ++ a.said.0)
   locals_live f a =
-      each_append Live (params_of (types_of r a.at_type)) a.said.0 (takes_live a.at_type (slice_get r.types a.at_type))
+      each_append Live (params_of (types_of r a.at_type)) a.said.0 (takes_live a.at_type (types_of r a.at_type) refl)
       (types_named (declared r) (IsLive M) declared_live a.reads.declared a.said.0 a.reads.typed)
 
   named_live : (f : Function) (y : Item) → At f → Contains (function_names f) y → IsLive M y
   named_live f y a c =
       let c' : Contains (function_names (function_with r (a.at_type, a.said))) y = subst (λ g. Contains (function_names g) y) a.is c in
       let b = body_with (params_of (types_of r a.at_type)) a.said in
-      ⊎_elim (λ (e : type_item a.at_type ≡ y). subst (IsLive M) e (has_type a.at_type a.below_types))
+      ⊎_elim (λ (e : type_item a.at_type ≡ y). subst (IsLive M) e (has_type a.at_type (function_declared r a.at_type a.function)))
       (λ (d : Contains (names_of a.said.1 ++ flat_map (local_names b) (locals_of a.said.1)) y).
       ⊎_elim (λ (n : Contains (names_of a.said.1) y). each_in (IsLive M) (names_of a.said.1) y (ops_named (declared r) (IsLive M) declared_live (locals_from 0 (arity r a.at_type + length a.said.0)) (ops_of a.reads.operators.texts) a.said.1 a.reads.operators.named) n)
       (λ (n : Contains (flat_map (local_names b) (locals_of a.said.1)) y).
@@ -278,7 +279,7 @@ module _ (c : Config) (r : handled.Module) (bodies : List Said) (rules : Rules r
   export_live e lt = subst (λ s. Has M s e.index) (kind_is e.kind) (has_function e.index lt)
 
   exports_live : All (λ (e : Export). IsLive M e.item) (map export_of r.exports)
-  exports_live = All-map (λ (e : Export). IsLive M e.item) export_of r.exports (λ k d lt. export_live (get_or r.exports k d) (rules.indices_hold.1 k d lt))
+  exports_live = All-map (λ (e : Export). IsLive M e.item) export_of r.exports (λ k d lt. export_live (get_or r.exports k d) (rules.exports_hold k d lt))
 
   local_there : (b : Body) (x : ℕ) → BodyAt b → IsUsed b x → IsSome (b.local_type x)
   local_there b x a used =
@@ -297,20 +298,22 @@ module _ (c : Config) (r : handled.Module) (bodies : List Said) (rules : Rules r
     globals = λ i g x ops e. cc;
   }
 
-  function_type_holds : (f : Function) → At f → IsFunctionType M f.ty
-  function_type_holds f a =
-      let s = some_of (slice_get r.types a.at_type) (there r.types a.at_type a.below_types) in
-      let h : IsFunctionType M a.at_type = (lone_type a.at_type s.0, ap (option_map (lone_type a.at_type)) s.1, tt) in
-      subst (λ (g : Function). IsFunctionType M g.ty) (sym a.is) h
+  function_comp : (c : CompType ℕ) → is_function_comp c ≡ true → IsFunctionComp c
+  function_comp (Func params results) h = tt
+  function_comp (Struct fields) h = none_there h
+  function_comp (Array element) h = none_there h
 
-  lone_function : (t : ℕ) (o : Option handled.FuncType) → slice_get r.types t ≡ o → is_function_def (option_map (lone_type t) o) ≡ true → IsFunctionType M t
-  lone_function t (Some s) e h = (lone_type t s, ap (option_map (lone_type t)) e, tt)
-  lone_function t None e h = absurd (none_there h)
+  function_holds : (t : ℕ) (o : Option TypeDef) → types_of r t ≡ o → is_function_def o ≡ true → IsFunctionType M t
+  function_holds t (Some x) e h = (x, e, function_comp x.sub.comp h)
+  function_holds t None e h = absurd (none_there h)
+
+  function_type_holds : (f : Function) → At f → IsFunctionType M f.ty
+  function_type_holds f a = subst (λ (g : Function). IsFunctionType M g.ty) (sym a.is) (function_holds a.at_type (types_of r a.at_type) refl a.function)
 
   block_holds : (b : Body) (o : Op) (t : ℕ) → BodyAt b → Contains b.operators o → Contains o.args (Block (OfType t)) → IsFunctionType M t
   block_holds b o t a stands names =
       let stands' : Contains a.said.1 o = subst (λ (z : Body). Contains z.operators o) a.is stands in
-      lone_function t (slice_get r.types t) refl (block_typed (is_function r) a.said.1 o t a.reads.operators.blocks stands' names)
+      function_holds t (types_of r t) refl (block_typed (is_function r) a.said.1 o t a.reads.operators.blocks stands' names)
 
   function_types_hold : FunctionTypesHold M
   function_types_hold = record {
@@ -328,7 +331,7 @@ module _ (c : Config) (r : handled.Module) (bodies : List Said) (rules : Rules r
 
   pub holds : RulesHold (λ space i j. i < j) M
   holds = record {
-    types = types_refer;
+    types = refers;
     indices = indices_hold;
     function_types = function_types_hold;
     limits = record { tables = λ i t e. cc; memories = λ i x e. cc };

@@ -1,7 +1,7 @@
--- Each list that is numbered has fewer than 2 ^ 32 entries: a section has, and each section stands at most once.
-use Rattle.std.proofs.Common.{◌≡◌, ℕ, zero, suc, ◌+◌, ◌<◌, ◌^◌, List, [], ◌∷◌, ◌++◌, length, map, get_or, refl, sym, ap, subst, ◌∙◌, arith, inl, inr, ◌⊎◌, length-append}
+-- A module has fewer than 2 ^ 32 functions: a section has, and each section stands at most once.
+use Rattle.std.proofs.Common.{◌≡◌, ℕ, zero, suc, ◌+◌, ◌<◌, ◌^◌, List, [], ◌∷◌, ◌++◌, length, get_or, refl, sym, ap, subst, ◌∙◌, arith, inl, inr, ◌⊎◌, length-append}
 use Rattle.std.specs.Prelude.{Contains, AllPairs}
-use Rattle.std.proofs.lemmas.List.{append-nil, append_assoc, get_or-append-add, length-map}
+use Rattle.std.proofs.lemmas.List.{append-nil, append_assoc, get_or-append-add}
 use Rattle.std.proofs.lemmas.List.Elements.{Contains-append_left, Contains-push}
 use Rattle.walrus_model.specs.Handled as handled
 use Rattle.walrus_model.specs.Handled.{widened}
@@ -139,22 +139,6 @@ types_added m (DataSegments ds) = sym (append-nil m.types)
 types_added m (DataCount n) = sym (append-nil m.types)
 types_added m (Tags ts) = sym (append-nil m.types)
 
-types_few : (place : ℕ) (bytes : List ℕ) (s : Section) → IsSection place bytes s → (types_in s ≡ []) ⊎ ((ids_in s ≡ 1 ∷ []) × (length (types_in s) < 2 ^ 32))
-types_few place bytes (CustomSection c) h = inl refl
-types_few place bytes (Types gs) h = let u = h.used in let lt : length gs < 2 ^ 32 = omega (arith, u.1.1.1.2.1, u.1.1.1.1.small) in inr (refl, lt)
-types_few place bytes (Imports is) h = inl refl
-types_few place bytes (Functions fs) h = inl refl
-types_few place bytes (Tables ts) h = inl refl
-types_few place bytes (Memories ms) h = inl refl
-types_few place bytes (Globals gs) h = inl refl
-types_few place bytes (Exports es) h = inl refl
-types_few place bytes (Start f) h = inl refl
-types_few place bytes (Elements es) h = inl refl
-types_few place bytes (Code bs) h = inl refl
-types_few place bytes (DataSegments ds) h = inl refl
-types_few place bytes (DataCount n) h = inl refl
-types_few place bytes (Tags ts) h = inl refl
-
 abbrev functions_in : Section → List ℕ
 functions_in (CustomSection c) = []
 functions_in (Types gs) = []
@@ -203,7 +187,7 @@ functions_few place bytes (DataSegments ds) h = inl refl
 functions_few place bytes (DataCount n) h = inl refl
 functions_few place bytes (Tags ts) h = inl refl
 
--- the lists of a module whose sections stand in order
+-- the functions of a module whose sections stand in order
 pub fits_indices : (bytes : List ℕ) (m : handled.Module) → Frames bytes (widened m) → AllPairs StandsBefore m.order → FitsIndices m
 fits_indices bytes m f h =
     let h' : AllPairs StandsBefore (gathered_onto no_sections f.parts).order = subst (λ (x : Module). AllPairs StandsBefore x.order) f.holds h in
