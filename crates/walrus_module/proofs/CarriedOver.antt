@@ -1,6 +1,6 @@
 -- The records that a module is written as hold all of it, under the indices that are given.
-use Rattle.std.proofs.Common.{◌≡◌, ℕ, List, [], ◌∷◌, ◌++◌, map, refl, sym, ap, ap₂, subst, ◌∙◌, inl, Bool, true}
-use Rattle.std.specs.Prelude.{Option, Some, None, IsSome, slice_get, zip, option_map, option_and_then, unwrap_or}
+use Rattle.std.proofs.Common.{◌≡◌, ℕ, suc, List, [], ◌∷◌, ◌++◌, map, refl, sym, ap, ap₂, subst, ◌∙◌, inl, Bool, true}
+use Rattle.std.specs.Prelude.{Option, Some, None, IsSome, slice_get, zip, option_map, option_and_then, unwrap_or, if◌then◌else◌}
 use Rattle.walrus_base.specs.Arena.{item_at, entries, items}
 use Rattle.walrus_base.specs.Id.{place}
 use Rattle.walrus_types.specs.Locals.{locals}
@@ -34,14 +34,32 @@ use Rattle.walrus_model.specs.Same.{SameType, SameFunction, BothAnd}
 use Rattle.walrus_module.specs.Parts.{Held, local_in, type_index, export_with_index, HasBytes}
 use Rattle.walrus_module.specs.Spells.{Records}
 use Rattle.walrus_module.specs.View.{body, kind_of, function, export_of as export_seen, view_of}
-use Rattle.walrus_module.proofs.BodiesBack.{Entered, EnteredAs, type_entry, entry_of, types_apart}
+use Rattle.walrus_module.proofs.BodiesBack.{new_types, Entered, type_entry, entry_of, types_apart}
 use Rattle.walrus_module.proofs.Lookups.{none_there, some_of, was_some, mapped_some, then_some, got_map, got_zip, got_both, heads}
 use Rattle.walrus_module.proofs.Named.{some_inj}
-use Rattle.walrus_module.proofs.NamedTypes.{each_place, group_renamed, same_in_group}
+use Rattle.walrus_module.proofs.NamedTypes.{each_place, same_in_group, group_renamed}
 use Rattle.walrus_module.proofs.SameBodies.{spelled_as_text, same_body}
 use Rattle.walrus_module.proofs.Standing.{entered, entry_found, local_is, ordered_at, order_found}
 use Rattle.walrus_module.proofs.WrittenAs.{sections_of, texts_of, written_as, renaming_of}
 use Rattle.walrus_model.specs.Handled as handled
+
+-- ---- types
+
+-- what has an index is the type of that index, where the renaming follows the indices
+module _ {h : Held} {features : Features} {exports : List ExportValue} (r : Records h features exports) (f : ℕ → ℕ) (follows : (u j : ℕ) → r.names Types u ≡ Some j → j ≡ f u) where
+  same_type : (i k : ℕ) → r.names Types i ≡ Some k → (z : Entered r i k) → SameType f i z.old z.new
+  same_type i k named z = record {
+    group = group_renamed r.names f follows (types_apart r) z.old z.new z.named;
+    position = ap (place_in z.new.group) (sym (follows i k named)) ∙ each_place (r.names Types) (types_apart r) z.old.group z.new.group z.named.group i k named;
+    sub = same_in_group r.names f follows (types_apart r) z.old z.new z.named;
+  }
+
+  both_types : (i k : ℕ) → r.names Types i ≡ Some k → BothAnd (SameType f i) (item_at h.types i) (slice_get (new_types r) (f i))
+  both_types i k named =
+      let z = type_entry r i k named in
+      subst (λ (o : Option TypeDef). BothAnd (SameType f i) o (slice_get (new_types r) (f i))) (sym z.is)
+      (subst (λ (j : ℕ). BothAnd (SameType f i) (Some z.old) (slice_get (new_types r) j)) (follows i k named)
+      (subst (λ (o : Option TypeDef). BothAnd (SameType f i) (Some z.old) o) (sym z.at) (same_type i k named z)))
 
 -- ---- exports
 
@@ -95,31 +113,17 @@ module _ (types : ModuleTypes) (all : ModuleLocals) (funcs : ModuleFunctions) (e
 
   -- ---- types
 
-  same_type : (i k : ℕ) → r.names Types i ≡ Some k → (z : Entered r i k) → SameType (renaming.numbers Types) i z.old z.new
-  same_type i k named z = record {
-    group = group_renamed r.names (renaming.numbers Types) (number_is Types) (types_apart r) z.old z.new z.named;
-    position = each_place (r.names Types) (types_apart r) z.old.group z.new.group z.named.group i (renaming.numbers Types i) (named ∙ ap (λ (j : ℕ). Some j) (number_is Types i k named));
-    sub = same_in_group r.names (renaming.numbers Types) (number_is Types) (types_apart r) z.old z.new z.named;
-  }
-
-  both_types : (i k : ℕ) → r.names Types i ≡ Some k → BothAnd (SameType (renaming.numbers Types) i) (before.types i) (after.types (renaming.numbers Types i))
-  both_types i k named =
-      let z : Entered r i k = type_entry r i k named in
-      let at : after.types (renaming.numbers Types i) ≡ Some z.new = ap (λ (j : ℕ). after.types j) (sym (number_is Types i k named)) ∙ z.at in
-      subst (λ (o : Option TypeDef). BothAnd (SameType (renaming.numbers Types) i) o (after.types (renaming.numbers Types i))) (sym z.is)
-      (subst (λ (o : Option TypeDef). BothAnd (SameType (renaming.numbers Types) i) (Some z.old) o) (sym at) (same_type i k named z))
-
   type_carried : (i : ℕ) → IsSome (before.types i) → BothAnd (SameType (renaming.numbers Types) i) (before.types i) (after.types (renaming.numbers Types i))
   type_carried i live =
       let t : (t : TypeDef) × (item_at (type_slots types) i ≡ Some t) = some_of (item_at (type_slots types) i) live in
       let k : (k : ℕ) × (slice_get (entries (type_slots types)) k ≡ Some (i, t.0)) = entered (type_slots types) i t.0 t.1 in
-      both_types i k.0 (r.numbered.types_are i ∙ entry_found (type_slots types) k.0 (i, t.0) k.1)
+      both_types r (renaming.numbers Types) (number_is Types) i k.0 (r.numbered.types_are i ∙ entry_found (type_slots types) k.0 (i, t.0) k.1)
 
   type_there : (j : ℕ) → IsSome (after.types j) → (i : ℕ) × IsSome (before.types i) × (renaming.numbers Types i ≡ j)
   type_there j live =
-      let y : (y : TypeDef) × (after.types j ≡ Some y) = some_of (after.types j) live in
-      let e : EnteredAs r j = entry_of r j y.0 y.1 in
-      (e.place, subst (λ (o : Option TypeDef). IsSome o) (sym e.entered.is) (refl {A = Bool} {a = true}), sym (number_is Types e.place j e.named))
+      let w : (w : TypeDef) × (slice_get (new_types r) j ≡ Some w) = some_of (slice_get (new_types r) j) live in
+      let z = entry_of r j w.0 w.1 in
+      (z.place, subst (λ (o : Option TypeDef). IsSome o) (sym z.entered.is) (refl {A = Bool} {a = true}), sym (number_is Types z.place j z.named))
 
   -- ---- functions
 

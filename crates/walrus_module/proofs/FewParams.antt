@@ -1,9 +1,9 @@
 -- A function type that is framed has fewer than 2 ^ 32 parameters: their count is a number of 32 bits.
-use Rattle.std.proofs.Common.{◌≡◌, ℕ, ◌+◌, ◌<◌, ◌^◌, Bool, true, false, List, [], ◌∷◌, length, refl, sym, ap, subst, arith, inl, inr}
+use Rattle.std.proofs.Common.{◌≡◌, ℕ, ◌+◌, ◌<◌, ◌^◌, Bool, true, false, List, [], ◌∷◌, length, refl, sym, subst, arith, inl, inr}
 use Rattle.std.specs.Prelude.{Option, Some, None, slice_get, nat_eq}
 use Rattle.std.specs.List.{AllByRecursion}
 use Rattle.std.proofs.lemmas.List.{length-map}
-use Rattle.wasm_forms.specs.Grammar.{Form, Is, IsRow, Fails, ◌then◌, Made, Vector, U32}
+use Rattle.wasm_forms.specs.Grammar.{Form, Is, IsRow, Fails, Made, Vector}
 use Rattle.wasm_forms.specs.Types.{value_type}
 use Rattle.wasm_entries.specs.Record as entries
 use Rattle.wasm_entries.specs.TypeForms.{field_type, signature, comp_from, composite_type, sub_with, sub_from, sub_type, group_from, group_form}

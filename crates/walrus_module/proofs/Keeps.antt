@@ -1,6 +1,6 @@
 -- What sections read as keeps the rules of a module.
 use Rattle.std.proofs.Common.{inl, inr, ◌≡◌, ◌≢◌, ◌⊎◌, ⊎_elim, ℕ, zero, suc, ◌+◌, ◌-◌, ◌<◌, ◌≤◌, Bool, true, false, List, [], ◌∷◌, ◌++◌, length, map, get_or, take, refl, sym, ap, ap₂, subst, ◌∙◌, arith}
-use Rattle.std.specs.Prelude.{Option, Some, None, IsSome, Contains, All, slice_get, zip, flat_map, replicate, option_map, nat_lt, ◌&&◌, if◌then◌else◌}
+use Rattle.std.specs.Prelude.{Option, Some, None, IsSome, Contains, All, slice_get, zip, flat_map, replicate, nat_lt, ◌&&◌, if◌then◌else◌}
 use Rattle.std.specs.List.{AllZip, list_all, range_with_len}
 use Rattle.std.proofs.lemmas.Bool.{ltb-true, cases_lt}
 use Rattle.std.proofs.lemmas.List.{length-append, length-replicate}
@@ -8,15 +8,14 @@ use Rattle.std.proofs.lemmas.List.Elements.{Contains-append_cases, Contains-get_
 use Rattle.wasm_forms.specs.Reading.{◌>>=◌}
 use Rattle.wasm_forms.specs.declared.types.RawVal.{RawVal}
 use Rattle.wasm_entries.specs.Record.{Group}
-use Rattle.wasm_frames.specs.Record as wire
 use Rattle.wasm_wire.specs.Indices as wire_indices
 use Rattle.walrus_base.specs.Types.{ValType, CompType, Func, Struct, Array, SubType, comp_names, sub_names, val_names}
 use Rattle.walrus_types.specs.TypeDef.{type_params}
 use Rattle.walrus_groups.specs.Groups.{types_from}
-use Rattle.walrus_types.specs.Operators.{Space, Types, Functions, Tables, Memories, Tags, Globals, Elements, DataSegments, Item, BlockType, OfType, Arg, Block, Op, type_item, names_of, locals_of}
+use Rattle.walrus_types.specs.Operators.{Space, Types, Functions, Tables, Memories, Tags, Globals, Elements, DataSegments, Item, OfType, Block, Op, type_item, names_of, locals_of}
 use Rattle.walrus_code.specs.FromRaw.{val_of, ops_of}
 use Rattle.walrus_code.specs.Names.{Lookup, named_val, named_ops}
-use Rattle.walrus_bodies.specs.Blocks.{block_holds, args_hold, blocks_hold}
+use Rattle.walrus_bodies.specs.Blocks.{block_holds, args_hold}
 use Rattle.walrus_bodies.specs.Body.{BodyReads, declared_types, how_many}
 use Rattle.walrus_bodies.specs.FunctionTypes.{is_function_comp, is_function_def}
 use Rattle.walrus_functions.specs.Handlers.{params_of}

@@ -58,6 +58,8 @@ pub mod Turns
 pub mod TypesTaken
 pub mod TypesRead
 pub mod TypeRefusals
+pub mod TypeSizes
+pub mod TypesBack
 pub mod WireTypes
 pub mod WrittenAs
 pub mod WrittenLemmas

@@ -7,9 +7,10 @@ use Rattle.wasm_forms.specs.Reading.{◌>>=◌}
 use Rattle.walrus_base.specs.Types.{HeapType, OfHeap, Concrete, Exact, ValType, I32, I64, F32, F64, V128, Ref, StorageType, Unpacked, I8, I16, FieldType, CompType, Func, Struct, Array, map_heap, map_val, map_storage, map_field, map_comp, map_sub, heap_names, val_heaps, storage_heaps, field_heaps, comp_heaps, comp_names}
 use Rattle.walrus_types.specs.Operators.{Types}
 use Rattle.walrus_types.specs.Shape.{Own, Other, place_in, seen_at, seen_from, others_through, in_its_group}
-use Rattle.walrus_types.specs.TypeDef.{TypeDef}
+use Rattle.walrus_types.specs.TypeDef.{TypeDef, type_params}
 use Rattle.walrus_code.specs.Names.{Lookup, named_heap, named_val}
 use Rattle.walrus_bodies.specs.FunctionTypes.{is_function_comp}
+use Rattle.walrus_functions.specs.EmittedBody.{comp_takes}
 use Rattle.walrus_groups.specs.Named.{each, named_vals, named_storage, named_field, named_fields, named_comp, named_types, named_sub, named_def}
 use Rattle.walrus_model.proofs.Lists.{Contains-head, Contains-tail, Contains-uncons, Contains-none}
 use Rattle.walrus_module.proofs.Lookups.{map_after}
@@ -142,6 +143,14 @@ module _ (f : Lookup) where
   function_named (Func params results) b e = two_found (λ c. is_function_comp c ≡ true) (named_vals f params) (named_vals f results) (λ takes gives. Func takes gives) b (λ takes gives at_takes at_gives. refl) e
   function_named (Struct fields) b e = one_found (λ c. is_function_comp c ≡ false) (named_fields f fields) (λ found. Struct found) b (λ found at. refl) e
   function_named (Array element) b e = one_found (λ c. is_function_comp c ≡ false) (named_field f element) (λ found. Array found) b (λ found at. refl) e
+
+  -- what a function takes, looked up
+  pub params_named : (a b : CompType ℕ) → named_comp f a ≡ Some b → (types : List (ValType ℕ)) → comp_takes a ≡ Some types → map Some (type_params b) ≡ map (named_val f) types
+  params_named (Func params results) b e types taken =
+      two_found (λ c. map Some (type_params c) ≡ map (named_val f) types) (named_vals f params) (named_vals f results) (λ takes gives. Func takes gives) b
+      (λ takes gives at_takes at_gives. each_map (named_val f) (λ v. Some v) (named_val f) (λ x y at. sym at) params takes at_takes ∙ ap (map (named_val f)) (some_inj params types taken)) e
+  params_named (Struct fields) b e types taken = absurd (cc)
+  params_named (Array element) b e types taken = absurd (cc)
 
   -- the parts of a type with its group, looked up
   pub record NamedDef (x y : TypeDef) : Type 0 where
