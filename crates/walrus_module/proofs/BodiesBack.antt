@@ -170,6 +170,7 @@ module _ {h : Held} {features : Features} {exports : List ExportValue} (r : Reco
 
       pub as_many_params : arity sections t ≡ length (map place b.local.args.items)
       as_many_params = as_long (λ v. Some v) (typed_by r.names h.slots) (params_of (types_of sections t)) (map place b.local.args.items) params_typed
+
 -- ---- all bodies
 
 module _ (c : Config) {h : Held} {exports : List ExportValue} (r : Records h (features_of c) exports) (sections : handled.Module) (types_same : sections.types ≡ r.raw_types) (functions_same : sections.functions ≡ r.raw_functions) where

@@ -305,8 +305,7 @@ group_declared first g h = λ k d lt. sub_declared (first + length g) (first + k
 declared_from : (first : ℕ) (gs : List Group) → ((i : ℕ) (d : Group) → i < length gs → GroupRefers (first + count (take i gs)) (get_or gs i d)) → AreDeclared first gs
 declared_from first [] h = tt
 declared_from first (g ∷ gs) h =
-    let start : first + 0 ≡ first = omega arith in
-    (
+    let start : first + 0 ≡ first = omega arith in (
       group_declared first g (subst (λ (n : ℕ). GroupRefers n g) start (h 0 g (omega arith))),
       declared_from (first + length g) gs (λ i d lt.
           let more : count (g ∷ take i gs) ≡ length g + count (take i gs) = count_more g (take i gs) in

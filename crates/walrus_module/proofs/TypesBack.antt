@@ -63,8 +63,8 @@ module _ {h : Held} {features : Features} {exports : List ExportValue} (r : Reco
               ⊎_elim
               (λ (own : Contains e.old.group b.0). inl (each_there (r.names Types) e.old.group e.new.group e.named.group b.0 u own b.1.1))
               (λ (before : (q : ℕ) → Contains e.old.group q → b.0 < q). inr (λ t member.
-                  let m = each_back (r.names Types) e.old.group e.new.group e.named.group t member in
-                  rises b.0 m.0 u t b.1.1 m.1.1 (before m.0 m.1.0)))
+              let m = each_back (r.names Types) e.old.group e.new.group e.named.group t member in
+              rises b.0 m.0 u t b.1.1 m.1.1 (before m.0 m.1.0)))
               (r.in_order.others z.place b.0 e.old e.is b.1.0);
         }
 

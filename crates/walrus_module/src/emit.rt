@@ -134,11 +134,7 @@ fn emit_live(
 }
 
 // The groups of the type section.
-fn raw_types(
-    alloc: Global,
-    types: &ModuleTypes,
-    indices: &IdsToIndices,
-) -> Result<Vec<RawGroup>>
+fn raw_types(alloc: Global, types: &ModuleTypes, indices: &IdsToIndices) -> Result<Vec<RawGroup>>
     requires numbered { NumbersTypes (index_of indices.now) (type_slots types.now) }
     requires indexed { LacksAnIndex (index_of indices.now) (items (type_slots types.now)) → ⊥ }
     ensures value { IfOk result (λ raw. AreIndexed (index_of indices.now) (items (type_slots types.now)) (map group raw.items)) }
