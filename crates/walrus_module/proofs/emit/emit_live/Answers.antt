@@ -83,7 +83,7 @@ returns-in_err-bytes-clause-refused c =
     let held = held_in c.args.types.now c.args.locals.now c.args.funcs.now in
     let names = index_of c.in_ok-indices.indices in
     let local : all_local (items (functions c.args.funcs.now)) ≡ true = search rules in
-    let in_order : AreInOrder (type_slots c.args.types.now) = search rules in
+    let in_order : AreInOrder (type_slots c.args.types.now) = search (c.are_in_order.ensures.0) in
     let records = records_of held c.args.features.now (items (exports c.args.all_exports.now)) names c.in_ok-order.order.items c.in_ok-raws.raws.items c.in_ok-functions.functions.items c.in_ok-exported.exported.items c.in_ok-bodies.bodies.items
     local c.in_ok-order.ensures.value
     (subst (λ ids. AreNumbered names (map (λ e. e.0) (entries (type_slots c.args.types.now))) (map place ids)) c.as_slice.ensures.value c.in_ok-indices.ensures.value)
@@ -104,7 +104,7 @@ returns-clause-spells c =
     let held = held_in c.args.types.now c.args.locals.now c.args.funcs.now in
     let names = index_of c.in_ok-indices.indices in
     let local : all_local (items (functions c.args.funcs.now)) ≡ true = search rules in
-    let in_order : AreInOrder (type_slots c.args.types.now) = search rules in
+    let in_order : AreInOrder (type_slots c.args.types.now) = search (c.are_in_order.ensures.0) in
     record {
       records = records_of held c.args.features.now (items (exports c.args.all_exports.now)) names c.in_ok-order.order.items c.in_ok-raws.raws.items c.in_ok-functions.functions.items c.in_ok-exported.exported.items c.in_ok-bodies.bodies.items
           local c.in_ok-order.ensures.value
