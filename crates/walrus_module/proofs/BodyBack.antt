@@ -92,8 +92,9 @@ module _ (s : Source) (bytes places : List ℕ) (numbers : ℕ → Option ℕ) (
     pub types_again : declared_types g w.declarations ≡ Some types_in
     types_again = declared_again s.names g again w.declarations w.groups w.typed
 
-    -- and so the bytes are these, where indices lead to function types alone
-    pub reads_again : (is_function : ℕ → Bool) → ((p j : ℕ) → s.names Types p ≡ Some j → is_function j ≡ true) → BodyReads (record { names = g; is_function_type = is_function; features = s.features }) (locals_from 0 total) bytes types_in (ops_of w.texts)
+    -- and so the bytes are these, where indices lead to function types as the types themselves are such
+    pub reads_again : (is_function : ℕ → Bool) → ((p j : ℕ) → s.names Types p ≡ Some j → is_function j ≡ s.is_function_type p)
+        → BodyReads (record { names = g; is_function_type = is_function; features = s.features }) (locals_from 0 total) bytes types_in (ops_of w.texts)
     reads_again is_function H =
         w.reads (record { names = g; is_function_type = is_function; features = s.features }) (locals_from 0 total) (ops_of w.texts) types_in refl types_again operators_again
-        (blocks_found s.names (index_in s w.order) is_function H s.ops (ops_of w.texts) w.named)
+        (blocks_found s.names (index_in s w.order) is_function s.is_function_type H s.ops (ops_of w.texts) w.named ∙ w.blocks)

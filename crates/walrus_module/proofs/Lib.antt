@@ -7,7 +7,6 @@ pub mod DeclaredTypes
 pub mod Differ
 pub mod EmittedLemmas
 pub mod Entries
-pub mod EntryLemmas
 pub mod ExportedRefs
 pub mod FewLocals
 pub mod FewParams
@@ -25,7 +24,9 @@ pub mod Lookups
 pub mod Named
 pub mod NamedAll
 pub mod NamedFound
+pub mod NamedTypes
 pub mod Numbering
+pub mod OneGroup
 pub mod OneOrder
 pub mod OneText
 pub mod ParsedWhole
@@ -56,6 +57,9 @@ pub mod Turns
 pub mod TypesTaken
 pub mod TypesRead
 pub mod TypeRefusals
+pub mod TypeSizes
+pub mod TypesBack
+pub mod WireTypes
 pub mod WrittenAs
 pub mod WrittenLemmas
 pub mod MovedRefs

@@ -7,7 +7,7 @@ use Rattle.walrus_base.specs.Arena.{entries, items}
 use Rattle.walrus_code.specs.Names.{Lookup}
 use Rattle.walrus_bodies.specs.declared.features.Features.{Features}
 use Rattle.walrus_items.specs.Exports.{ExportValue}
-use Rattle.walrus_groups.specs.Indexed.{AreIndexed}
+use Rattle.walrus_groups.specs.Indexed.{AreIndexed, AreInOrder}
 use Rattle.walrus_model.specs.Handled as handled
 use Rattle.walrus_model.specs.Handled.{widened_export}
 use Rattle.walrus_module.specs.Numbered.{AreNumbered, NamesNoOthers}
@@ -29,6 +29,8 @@ pub record Records (h : Held) (features : Features) (exports : List ExportValue)
   -- the entries of the sections
   pub raw_types : List Group
   pub types_are : AreIndexed names (items h.types) raw_types
+  -- each type names only such as may stand before it, or in its group
+  pub in_order : AreInOrder h.types
   pub raw_functions : List ℕ
   pub functions_are : map Some raw_functions ≡ map (type_index h.funcs names) order
   pub raw_exports : List handled.Export
