@@ -39,7 +39,9 @@ use Rattle.walrus_model.specs.Rules as rules
 use Rattle.walrus_module.specs.Parsed.{IsParsed, TakenFrom, AreModule, RefusesModule, RefusesBytes}
 use Rattle.walrus_module.specs.View.{view_of}
 use Rattle.walrus_module.proofs.Carrying.{parsed}
-use Rattle.walrus_module.proofs.Parsing.{got_map, kind_is, zip_long, holds}
+use Rattle.walrus_module.proofs.Keeps.{keeps}
+use Rattle.walrus_module.proofs.Lookups.{got_map, zip_long}
+use Rattle.walrus_module.proofs.Parsing.{kind_is}
 use Rattle.walrus_module.proofs.Steps.{zip_length, pairs_long}
 use Rattle.walrus_parts.specs.declared.error.Error.{Error}
 use Rattle.walrus_parts.specs.declared.error.Error.TheVariants as Parts
@@ -64,7 +66,7 @@ is_parsed c bytes ts all fs es t refs =
     record {
       module_read = module_of t.sections t.taken.bodies;
       reads = found;
-      holds = holds c t.sections t.taken.bodies t.rules t.taken.read;
+      holds = keeps c t.sections t.taken.bodies t.rules t.taken.read;
       simple = simple_read c bytes (module_of t.sections t.taken.bodies) found;
       parsed = parsed c t.sections ts all fs es t.rules.as_many_bodies t.taken;
       bodies = well_formed c t.sections ts all fs es t.taken t.rules;

@@ -1,21 +1,19 @@
 -- The bodies that records hold read back as what their texts say.
-use Rattle.std.proofs.Common.{◌≡◌, ◌≢◌, ℕ, suc, ◌+◌, ◌<◌, Bool, true, false, List, [], ◌∷◌, length, map, refl, sym, ap, ap₂, subst, ◌∙◌, arith, Some, None}
+use Rattle.std.proofs.Common.{◌≡◌, ◌≢◌, ℕ, ◌+◌, ◌<◌, Bool, true, false, List, [], ◌∷◌, length, map, refl, sym, ap, subst, ◌∙◌, arith, Some, None}
 use Rattle.std.specs.Prelude.{All, Option, nat_lt, option_map, option_and_then, slice_get, zip, if◌then◌else◌}
 use Rattle.std.specs.List.{AllZip}
 use Rattle.std.proofs.lemmas.Bool.{ltb-false}
 use Rattle.std.proofs.lemmas.List.Elements.{All-nil, All-cons}
 use Rattle.wasm_entries.specs.Record.{Group}
-use Rattle.wasm_frames.specs.Record as wire
 use Rattle.wasm_frames.specs.Spelling.{body_bytes}
 use Rattle.wasm_writer.specs.Spelling.{placed_bodies}
 use Rattle.walrus_base.specs.Arena.{item_at, entries}
 use Rattle.walrus_base.specs.Id.{place}
 use Rattle.walrus_base.specs.Types.{ValType, CompType, Func, Struct, Array}
 use Rattle.walrus_types.specs.Operators.{Space, Types, Functions, Tables, Memories, Tags, Globals, Elements, DataSegments}
-use Rattle.walrus_types.specs.Shape.{place_in}
 use Rattle.walrus_types.specs.TypeDef.{TypeDef}
 use Rattle.walrus_code.specs.Function.{function_type}
-use Rattle.walrus_code.specs.Names.{Lookup, named_val}
+use Rattle.walrus_code.specs.Names.{named_val}
 use Rattle.walrus_code.specs.declared.function.LocalFunction.{LocalFunction}
 use Rattle.walrus_bodies.specs.FunctionTypes.{is_function_comp, is_function_def}
 use Rattle.walrus_bodies.specs.declared.features.Features.{Features}
@@ -24,10 +22,10 @@ use Rattle.walrus_functions.specs.Handlers.{params_of}
 use Rattle.walrus_groups.specs.Groups.{types_from}
 use Rattle.walrus_groups.specs.Named.{named_def}
 use Rattle.walrus_items.specs.Exports.{ExportValue}
-use Rattle.walrus_model.specs.BodyText.{BodyText, said}
+use Rattle.walrus_model.specs.BodyText.{said}
 use Rattle.walrus_model.specs.Config.{Config}
-use Rattle.walrus_model.specs.Reads.{Said, ReadsBody, below, declared, types_of, is_function, arity, features_of}
-use Rattle.walrus_module.specs.Parts.{Held, local_in, type_index, HasBytes, source, unplaced}
+use Rattle.walrus_model.specs.Reads.{ReadsBody, below, declared, types_of, is_function, arity, features_of}
+use Rattle.walrus_module.specs.Parts.{Held, type_index, HasBytes, source, unplaced}
 use Rattle.walrus_module.specs.Spells.{Records}
 use Rattle.walrus_module.proofs.BodyBack.{types_in, typed_by, reads_again}
 use Rattle.walrus_module.proofs.Leads.{found_at}

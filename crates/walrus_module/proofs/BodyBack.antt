@@ -1,18 +1,15 @@
 -- A body that is written, over indices: the types of its locals, and its operators, which name what has an index.
-use Rattle.std.proofs.Common.{◌≡◌, ℕ, zero, suc, ◌+◌, ◌<◌, ◌≤◌, Bool, true, List, [], ◌∷◌, ◌++◌, length, map, refl, sym, ap, ap₂, subst, ◌∙◌, arith, Some, None}
-use Rattle.std.specs.Prelude.{Option, IsSome, flat_map, replicate, option_and_then, slice_get}
-use Rattle.std.specs.List.{range_with_len}
-use Rattle.std.proofs.lemmas.List.{length-map, length-append}
+use Rattle.std.proofs.Common.{◌≡◌, ℕ, zero, suc, ◌+◌, ◌<◌, Bool, List, [], ◌∷◌, ◌++◌, length, map, refl, sym, ap, ap₂, ◌∙◌, arith, Some}
+use Rattle.std.specs.Prelude.{Option, flat_map, replicate, option_and_then}
+use Rattle.std.proofs.lemmas.List.{length-append}
 use Rattle.wasm_forms.specs.Reading.{◌>>=◌}
 use Rattle.wasm_forms.specs.declared.types.RawVal.{RawVal}
 use Rattle.walrus_base.specs.Arena.{item_at}
 use Rattle.walrus_base.specs.Types.{ValType}
 use Rattle.walrus_types.specs.Operators.{Space, Types}
-use Rattle.walrus_types.specs.Shape.{place_in}
 use Rattle.walrus_code.specs.FromRaw.{val_of, ops_of}
 use Rattle.walrus_code.specs.Names.{Lookup, named_val, named_ops}
-use Rattle.walrus_bodies.specs.Body.{Context, BodyReads, declared_types, most_locals}
-use Rattle.walrus_bodies.specs.Blocks.{blocks_hold}
+use Rattle.walrus_bodies.specs.Body.{BodyReads, declared_types}
 use Rattle.walrus_functions.specs.EmittedBody.{Source, BodyWritten, spelled_as, looked_up, index_in}
 use Rattle.walrus_functions.specs.ReadFunction.{locals_from}
 use Rattle.walrus_module.proofs.Leads.{found_at}

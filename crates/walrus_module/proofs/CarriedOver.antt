@@ -1,6 +1,6 @@
 -- The records that a module is written as hold all of it, under the indices that are given.
-use Rattle.std.proofs.Common.{◌≡◌, ℕ, suc, List, [], ◌∷◌, ◌++◌, map, refl, sym, ap, ap₂, subst, ◌∙◌, inl, Bool, true}
-use Rattle.std.specs.Prelude.{Option, Some, None, IsSome, slice_get, zip, option_map, option_and_then, unwrap_or, if◌then◌else◌}
+use Rattle.std.proofs.Common.{◌≡◌, ℕ, List, [], ◌∷◌, ◌++◌, map, refl, sym, ap, ap₂, subst, ◌∙◌, inl, Bool, true}
+use Rattle.std.specs.Prelude.{Option, Some, None, IsSome, slice_get, zip, option_map, option_and_then, unwrap_or}
 use Rattle.walrus_base.specs.Arena.{item_at, entries, items}
 use Rattle.walrus_base.specs.Id.{place}
 use Rattle.walrus_types.specs.Locals.{locals}
@@ -24,7 +24,7 @@ use Rattle.walrus_items.specs.declared.functions.FunctionKind.{FunctionKind}
 use Rattle.walrus_items.specs.declared.functions.FunctionKind.TheVariants as kind
 use Rattle.walrus_items.specs.declared.functions.ModuleFunctions.{ModuleFunctions}
 use Rattle.walrus_model.specs.Abstract.{Abstract}
-use Rattle.walrus_model.specs.BodyText.{BodyText, said}
+use Rattle.walrus_model.specs.BodyText.{said}
 use Rattle.walrus_model.specs.Carried.{Carries, Carried, KeepsApart}
 use Rattle.walrus_model.specs.Live.{IsLive}
 use Rattle.walrus_model.specs.Out.{IsTheSegment}

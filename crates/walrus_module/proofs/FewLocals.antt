@@ -1,6 +1,6 @@
 -- A function that was taken in has at most 2 ^ 32 parameters and further locals that it uses.
 use Rattle.std.proofs.Common.{◌≡◌, ◌≢◌, ℕ, zero, suc, ◌+◌, ◌-◌, ◌<◌, ◌≤◌, ◌^◌, Bool, true, false, List, [], ◌∷◌, ◌++◌, length, map, get_or, refl, sym, ap, subst, ◌∙◌, arith, length-append}
-use Rattle.std.specs.Prelude.{Option, Some, None, Contains, All, AllPairs, ◌||◌, ◌==◌, slice_get, nat_lt, option_map, zip}
+use Rattle.std.specs.Prelude.{Some, Contains, All, AllPairs, ◌||◌, ◌==◌, slice_get, nat_lt}
 use Rattle.std.specs.List.{range_with_len, list_any}
 use Rattle.std.proofs.lemmas.List.{get_or-map, length-map}
 use Rattle.std.proofs.lemmas.List.FromFn.{length-range_with_len, get_or-range_with_len}

@@ -1,7 +1,6 @@
 pub mod Accepting
 pub mod BodiesBack
 pub mod BodyBack
-pub mod BodyNames
 pub mod CarriedOver
 pub mod Carrying
 pub mod DeclaredTypes

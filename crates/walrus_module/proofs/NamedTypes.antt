@@ -1,12 +1,12 @@
 -- Types put through a look-up: what they name is put through it, and nothing else changes.
-use Rattle.std.proofs.Common.{inl, inr, ◌≡◌, ◌⊎◌, ℕ, suc, ◌+◌, ◌<◌, ◌≤◌, Bool, true, false, List, [], ◌∷◌, ◌++◌, length, map, refl, sym, ap, ap₂, subst, ◌∙◌, arith, Some, None}
+use Rattle.std.proofs.Common.{inl, inr, ◌≡◌, ◌⊎◌, ℕ, suc, Bool, true, false, List, [], ◌∷◌, ◌++◌, length, map, refl, sym, ap, ap₂, subst, ◌∙◌, Some, None}
 use Rattle.std.specs.Prelude.{◌≢◌, Option, Contains, flat_map, nat_eq, option_map, if◌then◌else◌}
 use Rattle.std.proofs.lemmas.Bool.{ne_eqb}
 use Rattle.std.proofs.lemmas.Bool.Decides.{eqb_tells}
 use Rattle.wasm_forms.specs.Reading.{◌>>=◌}
 use Rattle.walrus_base.specs.Types.{HeapType, OfHeap, Concrete, Exact, ValType, I32, I64, F32, F64, V128, Ref, StorageType, Unpacked, I8, I16, FieldType, CompType, Func, Struct, Array, map_heap, map_val, map_storage, map_field, map_comp, map_sub, heap_names, val_heaps, storage_heaps, field_heaps, comp_heaps, comp_names}
 use Rattle.walrus_types.specs.Operators.{Types}
-use Rattle.walrus_types.specs.Shape.{Own, Other, place_in, seen_at, seen_from, others_through, in_its_group}
+use Rattle.walrus_types.specs.Shape.{Other, place_in, seen_at, seen_from, others_through, in_its_group}
 use Rattle.walrus_types.specs.TypeDef.{TypeDef, type_params}
 use Rattle.walrus_code.specs.Names.{Lookup, named_heap, named_val}
 use Rattle.walrus_bodies.specs.FunctionTypes.{is_function_comp}

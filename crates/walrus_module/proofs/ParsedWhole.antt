@@ -1,26 +1,21 @@
 -- A module in memory that took in the sections is well formed, its types can be written, and its references are those of the sections.
-use Rattle.std.proofs.Common.{◌≡◌, ◌≢◌, ℕ, zero, suc, ◌+◌, ◌<◌, List, [], ◌∷◌, ◌++◌, length, map, get_or, refl, sym, ap, ap₂, subst, ◌∙◌, arith, ⊎_elim, inl, Bool, true}
+use Rattle.std.proofs.Common.{◌≡◌, ◌≢◌, ℕ, ◌+◌, List, ◌++◌, length, map, refl, sym, ap, ap₂, subst, ◌∙◌, arith, ⊎_elim, inl, Bool, true}
 use Rattle.std.specs.Prelude.{Option, Some, None, is_some, Contains, AllPairs, slice_get, zip, option_map, ◌⊎◌}
-use Rattle.std.specs.List.{AllZip, range_with_len}
-use Rattle.std.proofs.lemmas.List.{get_or-map, length-map, map-append}
-use Rattle.std.proofs.lemmas.List.FromFn.{length-range_with_len, get_or-range_with_len}
-use mathlib.Core.Path.{fun_ext}
+use Rattle.std.specs.List.{range_with_len}
 use Rattle.walrus_base.specs.Arena.{item_at}
 use Rattle.walrus_base.specs.Id.{place}
 use Rattle.walrus_base.specs.Types.{ValType, CompType, Func, Struct, Array}
-use Rattle.walrus_types.specs.ModuleTypes.{type_slots}
 use Rattle.walrus_types.specs.Locals.{locals}
-use Rattle.walrus_types.specs.Operators.{Functions, Item, function_item, Arg, Index, Label, Local, Number, Count, Byte, S32, S64, Bits32, Bits64, Value, Heap, Block, Access, Op}
+use Rattle.walrus_types.specs.Operators.{Item, function_item, Op}
 use Rattle.walrus_types.specs.TypeDef.{TypeDef}
 use Rattle.walrus_types.specs.declared.locals.ModuleLocals.{ModuleLocals}
 use Rattle.walrus_types.specs.declared.module_types.ModuleTypes.{ModuleTypes}
-use Rattle.walrus_code.specs.Function.{function_type}
 use Rattle.walrus_code.specs.declared.function.LocalFunction.{LocalFunction}
 use Rattle.walrus_bodies.specs.Body.{Context, context, BodyReads}
 use Rattle.walrus_bodies.specs.FunctionTypes.{is_function_comp, is_function_def}
 use Rattle.walrus_functions.specs.EmittedBody.{types_of as local_types}
 use Rattle.walrus_functions.specs.Handlers.{params_of}
-use Rattle.walrus_functions.specs.Laws.{moved_arg, moved_op}
+use Rattle.walrus_functions.specs.Laws.{moved_op}
 use Rattle.walrus_functions.specs.ReadFunction.{locals_from}
 use Rattle.walrus_functions.proofs.LawMoves.{there}
 use Rattle.walrus_items.specs.Functions.{FunctionValue, functions, kind_type}
@@ -33,21 +28,19 @@ use Rattle.walrus_model.specs.Config.{Config}
 use Rattle.walrus_model.specs.Declared.{ref_func, IsRefInBody, IsRefInGlobal, IsUndeclared, NothingUndeclared}
 use Rattle.walrus_model.specs.Handled as handled
 use Rattle.walrus_model.specs.Live.{IsLive}
-use Rattle.walrus_model.specs.Names.{body_of as model_body, body_of_function, body_of_kind}
-use Rattle.walrus_model.specs.Order.{ByImport}
-use Rattle.walrus_model.specs.Reads.{Said, types_of, function_with, body_with, export_of, module_of, declared, is_function, features_of, context_of, arity, ReadsBody}
+use Rattle.walrus_model.specs.Names.{body_of_function, body_of_kind}
+use Rattle.walrus_model.specs.Reads.{Said, types_of, function_with, body_with, module_of, declared, is_function, features_of, context_of, arity, ReadsBody}
 use Rattle.walrus_model.specs.Rules.{IsFunctionComp, IsFunctionType}
 use Rattle.walrus_model.specs.WellMade.{IsWellFormed}
-use Rattle.walrus_model.proofs.Lists.{Contains-map, Contains-head, Contains-tail, Contains-uncons, Contains-none}
 use Rattle.walrus_module.specs.Refused.{AreWellFormed, AreWritable}
 use Rattle.walrus_module.specs.Sections.{Rules}
 use Rattle.walrus_module.specs.Taken.{HoldsBody, HoldsFunction, HasTaken}
 use Rattle.walrus_module.specs.View.{body, kind_of, function, view_of}
 use Rattle.walrus_module.proofs.MovedRefs.{ref_there, ref_back}
 use Rattle.walrus_module.proofs.Steps.{type_there, same_functions}
-use Rattle.walrus_module.proofs.TypesRead.{types_refer, not_exact}
+use Rattle.walrus_module.proofs.TypesRead.{not_exact}
+use Rattle.walrus_module.proofs.Keeps.{keeps}
 use Rattle.walrus_module.proofs.WholeLists.{mapped_some, got_map, got_first, got_front, got_behind, longer, longer_behind, zip_found, zip_there, zip_third, range_joined, range_apart, range_typed}
-use Rattle.wasm_frames.specs.Record as wire
 
 -- ---- one body that was taken in
 
@@ -103,12 +96,18 @@ module _ (c : Config) (r : handled.Module) (types : ModuleTypes) (all : ModuleLo
   same_context : context_of c r ≡ context (declared r) (λ t. is_function_def (v.types t)) (features_of c)
   same_context = ap (λ (f : ℕ → Bool). context (declared r) f (features_of c)) (sym (same_functions r types taken.types))
 
-  -- the types can be written
+  -- the types can be written, as they keep the rules
   pub writable : Rules r → AreWritable v
-  writable rules = record {
-    refer = types_refer r.types rules.types_refer v typed_at (ByImport v) (λ i j lt. lt);
-    heaps = λ t x h e c. not_exact r.types rules.types_refer t x (sym (typed_at t) ∙ e) h c;
-  }
+  writable rules =
+      let h = (keeps c r taken.bodies rules taken.read).types in
+      record {
+        refer = record {
+          one_supertype = λ t x e. h.one_supertype t x (sym (typed_at t) ∙ e);
+          supertypes = λ t u x e n. h.supertypes t u x (sym (typed_at t) ∙ e) n;
+          others = λ t u x e n. h.others t u x (sym (typed_at t) ∙ e) n;
+        };
+        heaps = λ t x k e n. not_exact r.types t x (sym (typed_at t) ∙ e) k n;
+      }
 
   -- the function at a place, and the body that was read for it
   pub record BodyAt (i : ℕ) (ty : ℕ) (b : abstract.Body) : Type 0 where

@@ -1,6 +1,6 @@
 -- A body that is written is the same body, under the indices that its items and locals are given.
-use Rattle.std.proofs.Common.{inl, inr, ◌≡◌, ◌⊎◌, ⊎_elim, ℕ, suc, ◌+◌, ◌<◌, ◌≤◌, Bool, true, false, List, [], ◌∷◌, ◌++◌, length, map, refl, sym, ap, ap₂, subst, ◌∙◌, arith, Some, None}
-use Rattle.std.specs.Prelude.{◌≢◌, Option, IsSome, Contains, nat_eq, option_map, option_and_then, slice_get, unwrap_or, if◌then◌else◌}
+use Rattle.std.proofs.Common.{inl, inr, ◌≡◌, ◌⊎◌, ℕ, suc, ◌+◌, ◌<◌, ◌≤◌, Bool, true, false, List, [], ◌∷◌, ◌++◌, length, map, refl, sym, ap, ap₂, subst, ◌∙◌, arith, Some}
+use Rattle.std.specs.Prelude.{◌≢◌, Option, Contains, nat_eq, option_map, slice_get, unwrap_or, if◌then◌else◌}
 use Rattle.std.specs.List.{AllZip, range_with_len}
 use Rattle.std.proofs.lemmas.Bool.Decides.{eqb_tells}
 use Rattle.walrus_base.specs.Arena.{item_at}
@@ -8,17 +8,14 @@ use Rattle.walrus_base.specs.Id.{place}
 use Rattle.walrus_base.specs.Types.{ValType, map_val}
 use Rattle.walrus_types.specs.Operators.{Space, Types, locals_of}
 use Rattle.walrus_types.specs.Shape.{place_in}
-use Rattle.walrus_types.specs.TypeDef.{TypeDef}
 use Rattle.walrus_code.specs.FromRaw.{ops_of}
-use Rattle.walrus_code.specs.Function.{function_type, body_of}
+use Rattle.walrus_code.specs.Function.{body_of}
 use Rattle.walrus_code.specs.Names.{Lookup, named_val}
-use Rattle.walrus_code.specs.declared.function.LocalFunction.{LocalFunction}
 use Rattle.walrus_bodies.specs.declared.features.Features.{Features}
 use Rattle.walrus_functions.specs.EmittedBody.{Source, index_in}
 use Rattle.walrus_functions.specs.Handlers.{params_of}
 use Rattle.walrus_items.specs.Exports.{ExportValue}
 use Rattle.walrus_model.specs.Abstract.{Body}
-use Rattle.walrus_model.specs.BodyText.{BodyText, said}
 use Rattle.walrus_model.specs.Reads.{types_of, body_with}
 use Rattle.walrus_model.specs.Refers.{IsUsed}
 use Rattle.walrus_model.specs.Renaming.{Renaming, renamed_ops}
@@ -28,13 +25,12 @@ use Rattle.walrus_module.specs.Spells.{Records}
 use Rattle.walrus_module.proofs.BodiesBack.{params_typed}
 use Rattle.walrus_module.proofs.BodyBack.{types_in, typed_by, further_typed}
 use Rattle.walrus_module.proofs.Leads.{found_at}
-use Rattle.walrus_module.proofs.Lookups.{some_of, then_some, mapped_some, got_map, mapped_append, map_after, as_long, where_placed, place_range, place_past, Stands}
+use Rattle.walrus_module.proofs.Lookups.{some_of, then_some, mapped_some, got_map, mapped_append, as_long, where_placed, place_range, place_past, Stands}
 use Rattle.walrus_module.proofs.Named.{some_inj}
 use Rattle.walrus_module.proofs.NamedFound.{locals_found}
 use Rattle.walrus_module.proofs.Placing.{self_eq}
 use Rattle.walrus_module.proofs.Renamed.{val_renamed, ops_renamed}
-use Rattle.walrus_module.proofs.WrittenAs.{texts_in, local_in_order, sections_of, texts_of, renaming_of}
-use Rattle.walrus_model.specs.Handled as handled
+use Rattle.walrus_module.proofs.WrittenAs.{texts_in, local_in_order, sections_of, renaming_of}
 
 -- ---- the body of a function among the texts
 

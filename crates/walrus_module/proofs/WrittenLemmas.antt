@@ -1,7 +1,7 @@
 -- The module of indices that records make is what a module in memory is written as: the larger functions first, no function that is
 -- left to be declared, and an index for each item that is live.
 use Rattle.std.proofs.Common.{inl, inr, ◌≡◌, ℕ, zero, suc, ◌<◌, ◌≤◌, Bool, true, false, List, [], ◌∷◌, length, get_or, refl, sym, ap, ap₂, ◌∙◌, subst, arith}
-use Rattle.std.specs.Prelude.{Option, Some, None, IsSome, unwrap_or, option_map, nat_lt, ◌⊎◌, AllPairs, Contains, ◌↔◌}
+use Rattle.std.specs.Prelude.{Option, Some, None, IsSome, unwrap_or, option_map, nat_lt, ◌⊎◌, Contains}
 use Rattle.std.specs.Cmp.{IsTotalOrder}
 use Rattle.std.specs.Ordering.{nat_cmp, ordering_then, is_lt}
 use Rattle.std.specs.declared.cmp.Ordering.{Ordering}
@@ -186,21 +186,21 @@ module _ (types : ModuleTypes) (all : ModuleLocals) (funcs : ModuleFunctions) (e
 
 -- ---- types in memory have one supertype at most
 
-place_of : (o : Option (Id TypeKey)) → length (supertypes o) ≤ 1
-place_of None = omega arith
-place_of (Some id) = omega arith
+few_supertypes : (o : Option (Id TypeKey)) → length (supertypes o) ≤ 1
+few_supertypes None = omega arith
+few_supertypes (Some id) = omega arith
 
-slot_of : (s : Option «Type») (x : TypeDef) → option_map type_def s ≡ Some x → length x.sub.supertypes ≤ 1
-slot_of None x e = absurd (cc)
-slot_of (Some ty) x e = subst (λ (y : TypeDef). length y.sub.supertypes ≤ 1) (some_inj (type_def ty) x e) (place_of ty.supertype)
+one_in_slot : (s : Option «Type») (x : TypeDef) → option_map type_def s ≡ Some x → length x.sub.supertypes ≤ 1
+one_in_slot None x e = absurd (cc)
+one_in_slot (Some ty) x e = subst (λ (y : TypeDef). length y.sub.supertypes ≤ 1) (some_inj (type_def ty) x e) (few_supertypes ty.supertype)
 
-one_in : (slots : List (Option «Type»)) (p : ℕ) (x : TypeDef) → item_at (defs slots) p ≡ Some x → length x.sub.supertypes ≤ 1
-one_in [] p x e = absurd (cc)
-one_in (s ∷ slots) zero x e = slot_of s x e
-one_in (s ∷ slots) (suc p) x e = one_in slots p x e
+one_in_slots : (slots : List (Option «Type»)) (p : ℕ) (x : TypeDef) → item_at (defs slots) p ≡ Some x → length x.sub.supertypes ≤ 1
+one_in_slots [] p x e = absurd (cc)
+one_in_slots (s ∷ slots) zero x e = one_in_slot s x e
+one_in_slots (s ∷ slots) (suc p) x e = one_in_slots slots p x e
 
 one_supertype : (types : ModuleTypes) (p : ℕ) (x : TypeDef) → item_at (type_slots types) p ≡ Some x → length x.sub.supertypes ≤ 1
-one_supertype types p x e = one_in types.places.items p x e
+one_supertype types p x e = one_in_slots types.places.items p x e
 
 -- ---- what is written
 

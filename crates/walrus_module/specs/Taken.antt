@@ -1,5 +1,5 @@
 -- What the fields of a module hold of the sections that were read.
-use Rattle.std.specs.Prelude.{ℕ, suc, ◌+◌, List, [], ◌∷◌, ◌++◌, map, zip, Option, Some, length, slice_get, ◌≡◌, ◌<◌, ◌^◌, Result, Ok, Err}
+use Rattle.std.specs.Prelude.{ℕ, ◌+◌, List, [], ◌∷◌, ◌++◌, map, zip, Option, Some, length, slice_get, ◌≡◌, ◌<◌, ◌^◌, Result, Ok, Err}
 use Rattle.std.specs.List.{AllZip, range_with_len}
 use Rattle.walrus_base.specs.Arena.{item_at}
 use Rattle.walrus_base.specs.Id.{place}
