@@ -40,7 +40,7 @@ use Rattle.walrus_module.specs.Emitted.{NamesDiffer, IsEmitted}
 use Rattle.walrus_module.specs.Flags.{Flags, config_of}
 use Rattle.walrus_module.specs.Parsed.{IsParsed}
 use Rattle.walrus_module.specs.Refused.{IsThere, HasImported, AreWellFormed, HasIllFormed, HasUnwritableType, HasUndeclared, HasTooMany, HasManyLocals, WritesTooLarge, RefusesToWrite}
-use Rattle.walrus_module.proofs.Parsing.{mapped_some, got_map, zip_long}
+use Rattle.walrus_module.proofs.Lookups.{mapped_some, got_map, zip_long}
 use Rattle.walrus_module.proofs.Rooms.{fits_indices}
 use Rattle.walrus_module.proofs.Steps.{zip_length, pairs_long}
 use Rattle.walrus_parts.specs.declared.error.Error.{Error}
