@@ -23,7 +23,9 @@ use Rattle.walrus_model.specs.Live.{Has, IsLive}
 use Rattle.walrus_model.specs.Names.{body_of, body_of_function, body_of_kind}
 use Rattle.walrus_model.specs.Pipeline.{ParsedAs, Collected}
 use Rattle.walrus_model.specs.Reached.{Reached, root, step}
-use Rattle.walrus_model.specs.Reads.{Said, features_of, types_of, lone_type, body_with, function_with, module_of, ReadsBody}
+use Rattle.walrus_groups.specs.Groups.{types_from}
+use Rattle.walrus_module.proofs.TypeRooms.{types_fit}
+use Rattle.walrus_model.specs.Reads.{Said, features_of, types_of, body_with, function_with, module_of, ReadsBody}
 use Rattle.walrus_model.specs.Refers.{named_by, kind_names, local_names, used_locals, IsUsed, type_names, function_names, table_names, memory_names, tag_names, global_names, element_names, data_names, written_in}
 use Rattle.walrus_model.specs.Renaming.{Renaming}
 use Rattle.walrus_model.specs.Roots.{exported}
@@ -37,8 +39,8 @@ use Rattle.walrus_model.proofs.PipelineRead.{live_read, accepted_comes_out_lem}
 use Rattle.walrus_module.specs.Emitted.{NamesDiffer, IsEmitted}
 use Rattle.walrus_module.specs.Flags.{Flags, config_of}
 use Rattle.walrus_module.specs.Parsed.{IsParsed}
-use Rattle.walrus_module.specs.Refused.{IsThere, HasImported, AreWellFormed, HasIllFormed, HasOtherType, HasUndeclared, HasTooMany, HasManyLocals, WritesTooLarge, RefusesToWrite}
-use Rattle.walrus_module.proofs.Parsing.{mapped_some, got_map, zip_long}
+use Rattle.walrus_module.specs.Refused.{IsThere, HasImported, AreWellFormed, HasIllFormed, HasUnwritableType, HasUndeclared, HasTooMany, HasManyLocals, WritesTooLarge, RefusesToWrite}
+use Rattle.walrus_module.proofs.Lookups.{mapped_some, got_map, zip_long}
 use Rattle.walrus_module.proofs.Rooms.{fits_indices}
 use Rattle.walrus_module.proofs.Steps.{zip_length, pairs_long}
 use Rattle.walrus_parts.specs.declared.error.Error.{Error}
@@ -422,8 +424,16 @@ module _ (c : Config) (bytes : List ℕ) (v w : Abstract) (parsed : IsParsed c b
   none_ill_formed : HasIllFormed c w → ⊥
   none_ill_formed (i, (f, (b, (at, kind, ill)))) = ill (well_formed_left c v w parsed.bodies (reaches_sound c bytes v parsed) collected i f b at kind)
 
-  none_other : HasOtherType w → ⊥
-  none_other (t, (x, (at, other))) = let alone = parsed.types t x (collected.types.left t x at).1 in other alone.0 alone.1
+  -- the types that gc leaves stand as they stood
+  none_other : HasUnwritableType w → ⊥
+  none_other unwritable = unwritable (record {
+    refer = record {
+      one_supertype = λ t x at. parsed.types.refer.one_supertype t x (collected.types.left t x at).1;
+      supertypes = λ t u x at has. parsed.types.refer.supertypes t u x (collected.types.left t x at).1 has;
+      others = λ t u x at has. parsed.types.refer.others t u x (collected.types.left t x at).1 has;
+    };
+    heaps = λ t x h at has. parsed.types.heaps t x h (collected.types.left t x at).1 has;
+  })
 
   named_before : (f : ℕ) → IsRefInBody (IsLive w) w f ⊎ IsRefInGlobal (IsLive w) w f → IsRefInBody (IsLive v) v f ⊎ IsRefInGlobal (IsLive v) v f
   named_before f (inl (i, b, live, at, has)) = inl (i, b, live_before (Functions, i) live, body_before v w i b collected at, has)
@@ -441,8 +451,8 @@ module _ (c : Config) (bytes : List ℕ) (v w : Abstract) (parsed : IsParsed c b
 
   -- ---- each index space has room
 
-  types_within : (i : ℕ) → Has w Types i → i < length read.types
-  types_within i h = within read.types i (was_there (lone_type i) (slice_get read.types i) (live_in_read (Types, i) h))
+  types_within : (i : ℕ) → Has w Types i → i < length (types_from 0 read.types)
+  types_within i h = within (types_from 0 read.types) i (live_in_read (Types, i) h)
 
   functions_within : (i : ℕ) → Has w Functions i → i < length read.functions
   functions_within i h =
@@ -455,8 +465,8 @@ module _ (c : Config) (bytes : List ℕ) (v w : Abstract) (parsed : IsParsed c b
 
   too_many : (space : Space) (numbers : List ℕ) → AllPairs (λ i j. i < j) numbers → All (Has w space) numbers → 2 ^ 32 ≤ length numbers → ⊥
   too_many Types numbers rise all many =
-      let most = few (length read.types) numbers rise (λ k d lt. types_within (get_or numbers k d) (all k d lt)) in
-      omega (arith, most, many, (fits_indices bytes read parsed.reads.framed parsed.reads.in_order).types)
+      let most = few (length (types_from 0 read.types)) numbers rise (λ k d lt. types_within (get_or numbers k d) (all k d lt)) in
+      omega (arith, most, many, types_fit bytes read parsed.reads.framed parsed.reads.in_order)
   too_many Functions numbers rise all many =
       let most = few (length read.functions) numbers rise (λ k d lt. functions_within (get_or numbers k d) (all k d lt)) in
       omega (arith, most, many, (fits_indices bytes read parsed.reads.framed parsed.reads.in_order).functions)
@@ -473,7 +483,7 @@ module _ (c : Config) (bytes : List ℕ) (v w : Abstract) (parsed : IsParsed c b
 pub no_imported : (c : Config) (bytes : List ℕ) (v w : Abstract) → IsParsed c bytes v → Collected v w → HasImported w → ⊥
 no_imported c bytes v w parsed collected = none_imported c bytes v w parsed collected
 
-pub none_unwritable : (c : Config) (bytes : List ℕ) (v w : Abstract) → IsParsed c bytes v → Collected v w → HasIllFormed c w ⊎ (HasOtherType w ⊎ HasUndeclared w) → ⊥
+pub none_unwritable : (c : Config) (bytes : List ℕ) (v w : Abstract) → IsParsed c bytes v → Collected v w → HasIllFormed c w ⊎ (HasUnwritableType w ⊎ HasUndeclared w) → ⊥
 none_unwritable c bytes v w parsed collected (inl ill) = none_ill_formed c bytes v w parsed collected ill
 none_unwritable c bytes v w parsed collected (inr (inl other)) = none_other c bytes v w parsed collected other
 none_unwritable c bytes v w parsed collected (inr (inr undeclared)) = none_undeclared c bytes v w parsed collected undeclared

@@ -92,7 +92,7 @@ impl<K, T> TombstoneArena<K, T> {
         requires { IsLive (slots self.now) (place id) }
         ensures { item_at (slots self.now) (place id) ≡ Some result.now }
     {
-        match &self.places[id.place] {
+        match &self.places[id.index()] {
             Some(item) => item,
             None => unreachable!(),
         }
@@ -104,14 +104,14 @@ impl<K, T> TombstoneArena<K, T> {
         ensures* writes_back { sem 𝓛 (LendsItem K.row T.row self.entry (place id) result) }
         ensures value { item_at (slots self.old) (place id) ≡ Some result.now }
     {
-        some_mut(&mut self.places[id.place])
+        some_mut(&mut self.places[id.index()])
     }
 
     /// Whether the item of the id is there.
     pub fn contains(&self, id: Id<K>) -> bool
         ensures { IsTrue result ↔ IsLive (slots self.now) (place id) }
     {
-        match self.places.get(id.place) {
+        match self.places.get(id.index()) {
             Some(slot) => slot.is_some(),
             None => false,
         }
@@ -123,7 +123,7 @@ impl<K, T> TombstoneArena<K, T> {
         ensures item { item_at (slots self.old) (place id) ≡ Some result }
         ensures left { slots self.new ≡ slice_set (slots self.old) (place id) None }
     {
-        match self.places[id.place].take() {
+        match self.places[id.index()].take() {
             Some(item) => item,
             None => unreachable!(),
         }

@@ -31,7 +31,7 @@ impl<K> IdHashSet<K> {
             (λ is_new. (is_new ≡ not (has_id self.old (place id))) × Adds self.old self.new (place id))
             (λ _. SameIds self.old self.new) }
     {
-        let place = id.place;
+        let place = id.index();
         if place >= self.marks.len() {
             let Some(len) = place.checked_add(1) else {
                 return Err(AllocError);
@@ -47,7 +47,7 @@ impl<K> IdHashSet<K> {
     pub fn contains(&self, id: Id<K>) -> bool
         ensures { result ≡ has_id self.now (place id) }
     {
-        match self.marks.get(id.place) {
+        match self.marks.get(id.index()) {
             Some(mark) => *mark,
             None => false,
         }
@@ -58,11 +58,12 @@ impl<K> IdHashSet<K> {
         ensures was_in { result ≡ has_id self.old (place id) }
         ensures removes { Removes self.old self.new (place id) }
     {
-        if id.place >= self.marks.len() {
+        let place = id.index();
+        if place >= self.marks.len() {
             return false;
         }
-        let was_in = self.marks[id.place];
-        self.marks[id.place] = false;
+        let was_in = self.marks[place];
+        self.marks[place] = false;
         was_in
     }
 }

@@ -111,10 +111,10 @@ impl Args {
 pub struct Operator {
     /// The byte of the operator, or its prefix byte times 65,536 and its number.
     pub op: u32,
-    /// Its arguments.
-    pub args: Args,
     /// Where it stood in the input.
     pub loc: InstrLocId,
+    /// Its arguments.
+    pub args: Args,
 }
 
 impl Operator {
@@ -131,8 +131,8 @@ impl Operator {
     {
         Operator {
             op,
-            args,
             loc: InstrLocId::DEFAULT,
+            args,
         }
     }
 }

@@ -2,6 +2,7 @@
 
 use crate::ids::{demand, first_id, second_id};
 use std::alloc::{AllocError, Global};
+use std::mem::size_of;
 use std::test::Fail;
 use walrus_base::{FunctionId, LocalId, TypeId};
 use walrus_code::{
@@ -9,6 +10,12 @@ use walrus_code::{
     Operator, index_operator, name_operator, push_locals, push_names,
 };
 use wasm_operators::{RawArg, RawArgs, RawOperator};
+
+// A body is a list of operators, so that its memory follows their size.
+const _: () = prove!(size_of::<Operator>() == 48);
+
+// An id takes no more room behind a tag than its eight bytes.
+const _: () = prove!(size_of::<Arg>() == 32);
 
 // `call_indirect` of the second type over the first table, with a local in it that no such operator has.
 fn arguments(alloc: Global, ty: TypeId, local: LocalId) -> Result<Args, AllocError> {

@@ -9,7 +9,7 @@ use Rattle.std.specs.declared.cmp.Ordering.{Ordering}
 use Rattle.std.proofs.lemmas.Bool.{eqb-true}
 use Rattle.std.proofs.lemmas.Cmp.{nat_cmp_total, nat_eq_equiv, on_total}
 use Rattle.std.proofs.lemmas.List.Elements.{All-contains}
-use Rattle.std.proofs.lemmas.List.Kept.{Contains-dedup, Contains-from_dedup, IsStrictlySortedBy-dedup}
+use Rattle.std.proofs.lemmas.List.Kept.{Any-dedup, Contains-from_dedup, IsStrictlySortedBy-dedup}
 use Rattle.std.proofs.lemmas.List.Sorted.{Contains-permutation, IsPermutation-sym}
 use Rattle.std.proofs.lemmas.Map.Keys.{IsDistinct-from_sorted, IsDistinct-push}
 use Rattle.std.proofs.lemmas.Map.Views.{Contains-from_any, list_any-from_Contains}
@@ -19,8 +19,10 @@ use Rattle.walrus_base.specs.Types.{ValType}
 use Rattle.walrus_base.specs.declared.id.Id.{Id}
 use Rattle.walrus_base.specs.declared.keys.LocalKey.{LocalKey}
 use Rattle.walrus_types.specs.declared.value.ValType.{ValType as DeclaredValType}
-use Rattle.walrus_functions.specs.Declaring.{AreTyped, AreInOrder, AreOrdered, typed, same_local}
-use Rattle.walrus_functions.proofs.OrderLemmas.{contains_map, from_map}
+use Rattle.walrus_types.specs.Value.{val_type}
+use Rattle.walrus_functions.specs.DeclaredLocals.{AreDeclared}
+use Rattle.walrus_functions.specs.Declaring.{AreTyped, AreInOrder, typed, same_local}
+use Rattle.walrus_functions.proofs.OrderLemmas.{contains_map, from_map, in_declared_order}
 
 eq_nat : (x y : ℕ) → is_eq (nat_cmp x y) ≡ nat_eq x y
 eq_nat x y = go (ltb x y) (eqb x y) refl refl
@@ -53,13 +55,6 @@ same_id_laws = record {
   congr = λ a b c. nat_eq_equiv.congr (place a) (place b) (place c);
 }
 
-local_at : ℕ → Local
-local_at p = record { place = p; kind = record {} }
-
-same_ids : (a b : Local) → same_id a b ≡ true → a ≡ b
-unfolding local_at
-same_ids a b h = ap local_at (eqb-true (place a) (place b) h)
-
 once-distinct : (ids : List Local) → IsDistinct (eq_by_cmp by_place) ids → IsDistinct nat_eq (map place ids)
 unfolding IsDistinct
 once-distinct [] h = tt
@@ -76,7 +71,10 @@ once old up new moved sorted is = (
     λ h. let f = from_map place new x h in
         subst (λ (p : ℕ). Contains (map place old) p) f.1.1 (contains_map place old f.0 (Contains-permutation up old f.0 (IsPermutation-sym old up moved) (Contains-from_dedup same_id up f.0 (subst (λ (ids : List Local). Contains ids f.0) is f.1.0)))),
     λ h. let f = from_map place old x h in
-        subst (λ (p : ℕ). Contains (map place new) p) f.1.1 (contains_map place new f.0 (subst (λ (ids : List Local). Contains ids f.0) (sym is) (Contains-dedup same_id_laws same_ids up f.0 (Contains-permutation old up f.0 moved f.1.0)))),
+        let kept = Any-dedup same_id_laws up f.0 (Contains-permutation old up f.0 moved f.1.0) in
+        let there : Contains (dedup same_id up) kept.1 = (kept.0, kept.2, kept.3) in
+        let same : place kept.1 ≡ x = sym (eqb-true (place f.0) (place kept.1) kept.4) ∙ f.1.1 in
+        subst (λ (p : ℕ). Contains (map place new) p) same (contains_map place new kept.1 (subst (λ (ids : List Local). Contains ids kept.1) (sym is) there)),
   ),
   once-distinct new (IsDistinct-from_sorted by_place new (subst (λ (ids : List Local). IsStrictlySortedBy by_place ids) (sym is) (IsStrictlySortedBy-dedup by_place_total ties up sorted))),
 )
@@ -125,6 +123,7 @@ none-typed slots is_parameter found is = subst (λ (es : List (ℕ × DeclaredVa
 
 -- ---- the locals in their order
 
-pub ordered_ids : {X E : Type 0} (view : X → List ℕ) (result : Result X E) (slots : List (Option (ValType ℕ))) (used : List ℕ) (is_parameter : ℕ → Bool) (found : List (ℕ × DeclaredValType)) (keys : List (ℕ × ℕ × ℕ)) → IfOk result (λ x. view x ≡ map (λ key. key.2) keys) → AreTyped slots used is_parameter (map typed found) → AreInOrder found keys → IfOk result (λ x. AreOrdered slots used is_parameter (view x))
-ordered_ids view (Ok x) slots used is_parameter found keys are typed_so order = (found, (keys, (typed_so, order, are)))
-ordered_ids view (Err e) slots used is_parameter found keys are typed_so order = tt
+pub ordered_ids : {X E : Type 0} (view : X → List ℕ) (result : Result X E) (slots : List (Option (ValType ℕ))) (used : List ℕ) (is_parameter : ℕ → Bool) (found : List (ℕ × DeclaredValType)) (keys : List (ℕ × ℕ × ℕ)) → IfOk result (λ x. view x ≡ map (λ key. key.2) keys) → AreTyped slots used is_parameter (map typed found) → (order : AreInOrder found keys) → ((v w : DeclaredValType) → val_type v ≡ val_type w → order.lowest v ≡ order.lowest w) → IfOk result (λ x. (parameters : List ℕ) → ((p : ℕ) → is_parameter p ≡ list_any (nat_eq p) parameters) → AreDeclared slots used parameters (view x))
+ordered_ids view (Ok x) slots used is_parameter found keys are typed_so order alike = λ parameters taken.
+    subst (λ (xs : List ℕ). AreDeclared slots used parameters xs) (sym are) (in_declared_order slots used parameters is_parameter taken found keys typed_so order alike)
+ordered_ids view (Err e) slots used is_parameter found keys are typed_so order alike = tt

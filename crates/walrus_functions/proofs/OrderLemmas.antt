@@ -18,8 +18,7 @@ use Rattle.walrus_base.specs.Types.{ValType}
 use Rattle.walrus_types.specs.Value.{val_type}
 use Rattle.walrus_types.specs.declared.value.ValType.{ValType as DeclaredValType}
 use Rattle.walrus_functions.specs.DeclaredLocals.{rank, IsDeclared, TypeGoesBefore, GoesBefore, AreDeclared}
-use Rattle.walrus_functions.specs.Declaring.{AreTyped, AreInOrder, AreOrdered, typed, key_of, by_key}
-use Rattle.walrus_functions.proofs.ValueLemmas.{same_type}
+use Rattle.walrus_functions.specs.Declaring.{AreTyped, AreInOrder, typed, key_of, by_key}
 
 abbrev Key : Type 0
 Key = ℕ × ℕ × ℕ
@@ -66,7 +65,8 @@ nat_same : (x y : ℕ) → nat_cmp x y ≡ Equal → x ≡ y
 nat_same x y e = ranked x y Equal (sym e)
 
 module _ (slots : List (Option (ValType ℕ))) (used parameters : List ℕ) (is_parameter : ℕ → Bool) (are : (x : ℕ) → is_parameter x ≡ list_any (nat_eq x) parameters)
-    (found : List (ℕ × DeclaredValType)) (keys : List Key) (all : AreTyped slots used is_parameter (map typed found)) (order : AreInOrder found keys) where
+    (found : List (ℕ × DeclaredValType)) (keys : List Key) (all : AreTyped slots used is_parameter (map typed found)) (order : AreInOrder found keys)
+    (alike : (v w : DeclaredValType) → val_type v ≡ val_type w → order.lowest v ≡ order.lowest w) where
   abbrev Entry : ℕ → ValType ℕ → Type 0
   Entry x v = Contains (map typed found) (x, v)
 
@@ -118,10 +118,10 @@ module _ (slots : List (Option (ValType ℕ))) (used parameters : List ℕ) (is_
         there = subst (λ (n : ℕ). Entry n (val_type e.1)) (sym at) (order.least.there e.1 low.0 low.1.0);
         least = λ y other.
             let f = from_map typed found (y, val_type e.1) other in
-            let types : f.0.1 ≡ e.1 = same_type f.0.1 e.1 (ap (λ (p : ℕ × ValType ℕ). p.1) f.1.1) in
+            let types : val_type f.0.1 ≡ val_type e.1 = ap (λ (p : ℕ × ValType ℕ). p.1) f.1.1 in
             let place : f.0.0 ≡ y = ap (λ (p : ℕ × ValType ℕ). p.0) f.1.1 in
             let lowest = All-contains (λ (e : ℕ × DeclaredValType). (n : ℕ) × ((order.lowest e.1 ≡ Some n) × (n ≤ e.0))) found f.0 order.least.low f.1.0 in
-            let same : lowest.0 ≡ low.0 = some_same lowest.0 low.0 (sym lowest.1.0 ∙ ap order.lowest types ∙ low.1.0) in
+            let same : lowest.0 ≡ low.0 = some_same lowest.0 low.0 (sym lowest.1.0 ∙ alike f.0.1 e.1 types ∙ low.1.0) in
             let below = lowest.1.1 in
             omega (arith, at, place, same, below);
       }
@@ -173,6 +173,3 @@ module _ (slots : List (Option (ValType ℕ))) (used parameters : List ℕ) (is_
     );
     sorted = rises keys (each_key keys key_among) order.sorted;
   }
-
-pub ordered : (slots : List (Option (ValType ℕ))) (used parameters order : List ℕ) (is_parameter : ℕ → Bool) → ((x : ℕ) → is_parameter x ≡ list_any (nat_eq x) parameters) → AreOrdered slots used is_parameter order → AreDeclared slots used parameters order
-ordered slots used parameters order is_parameter are h = subst (λ (xs : List ℕ). AreDeclared slots used parameters xs) (sym h.1.1.2) (in_declared_order slots used parameters is_parameter are h.0 h.1.0 h.1.1.0 h.1.1.1)

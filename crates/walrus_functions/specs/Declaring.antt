@@ -78,10 +78,6 @@ pub record AreInOrder (found : List (ℕ × DeclaredValType)) (keys : List (ℕ 
   pub which : (k : ℕ × ℕ × ℕ) → Contains keys k ↔ Contains (map (key_of lowest) found) k
   pub sorted : IsStrictlySortedBy by_key keys
 
--- these are the locals that are declared, in their order
-abbrev pub AreOrdered : List (Option (ValType ℕ)) → List ℕ → (ℕ → Bool) → List ℕ → Type 0
-AreOrdered slots used is_parameter order = (found : List (ℕ × DeclaredValType)) × ((keys : List (ℕ × ℕ × ℕ)) × (AreTyped slots used is_parameter (map typed found) × AreInOrder found keys × (order ≡ map (λ key. key.2) keys)))
-
 -- ---- groups of locals of one type
 
 -- how many, and their type

@@ -1,6 +1,6 @@
 //! The locals that a body declares when it is written, in their order (Binary Format > Modules > Code Section).
-ghost use Rattle.std.specs.Prelude.{◌≡◌, ℕ, map, option_map, IfOk, MatchOption, Contains, if◌then◌else◌, Some, ◌↔◌};
-ghost use Rattle.std.specs.List.{IsDistinct};
+ghost use Rattle.std.specs.Prelude.{◌≡◌, ℕ, List, map, option_map, IfOk, MatchOption, Contains, if◌then◌else◌, Some, ◌↔◌};
+ghost use Rattle.std.specs.List.{IsDistinct, list_any};
 ghost use Rattle.std.specs.Prelude.{nat_eq};
 ghost use Rattle.std.specs.HashSet as set;
 ghost use Rattle.walrus_base.specs.Arena.{item_at};
@@ -10,8 +10,8 @@ ghost use Rattle.walrus_types.specs.Operators.{locals_of};
 ghost use Rattle.walrus_types.specs.Value.{val_type};
 ghost use Rattle.walrus_types.specs.contracts.value.ValTypePartialEq.TheImpl as equality;
 ghost use Rattle.walrus_code.specs.Code.{ops_of};
-ghost use Rattle.walrus_functions.specs.DeclaredLocals.{rank};
-ghost use Rattle.walrus_functions.specs.Declaring.{HasPlaces, AreTyped, same_local, typed, AreLowest, number_at, lower, key_of, AreTypes, AreInOrder, AreOrdered};
+ghost use Rattle.walrus_functions.specs.DeclaredLocals.{rank, AreDeclared};
+ghost use Rattle.walrus_functions.specs.Declaring.{HasPlaces, AreTyped, same_local, typed, AreLowest, number_at, lower, key_of, AreTypes, AreInOrder};
 ghost use Rattle.walrus_functions.specs.EmittedBody.{types_of};
 
 use std::alloc::{AllocError, Global};
@@ -174,7 +174,8 @@ fn in_order(
     found: &[(usize, ValType)],
 ) -> Result<Vec<(u8, usize, usize)>, AllocError>
     requires { IsDistinct same_local found.now }
-    ensures { IfOk result (λ keys. AreInOrder found.now keys.items) }
+    ensures { IfOk result (λ keys. (order : AreInOrder found.now keys.items)
+        × ((v w : _) → val_type v ≡ val_type w → order.lowest v ≡ order.lowest w)) }
 {
     let lowest = lowest_locals(alloc, found)?;
     let mut keys = keys(alloc, found, &lowest)?;
@@ -200,7 +201,8 @@ pub(crate) fn order_declared(
     parameters: &HashSet<usize>,
     module_locals: &ModuleLocals,
 ) -> Result<Vec<LocalId>, AllocError>
-    ensures { IfOk result (λ ids. AreOrdered (types_of (locals module_locals.now)) (locals_of (ops_of operators.now)) (set.contains nat_eq parameters.now) (map place ids.items)) }
+    ensures { IfOk result (λ ids. (those : List ℕ) → ((p : ℕ) → set.contains nat_eq parameters.now p ≡ list_any (nat_eq p) those)
+        → AreDeclared (types_of (locals module_locals.now)) (locals_of (ops_of operators.now)) those (map place ids.items)) }
 {
     let mut named = named_locals(alloc, operators)?;
     take_once(&mut named);

@@ -1,21 +1,25 @@
 -- The rules hold of the worked module with two functions.
-use Rattle.std.proofs.Common.{◌≡◌, ℕ, zero, suc, ◌≤◌, [], ◌∷◌, length, refl, sym, subst, arith}
+use Rattle.std.proofs.Common.{◌≡◌, ℕ, zero, suc, ◌≤◌, [], ◌∷◌, length, refl, sym, subst, arith, true}
 use Rattle.std.specs.Prelude.{Some, Contains, ◌≢◌}
 use Rattle.std.proofs.lemmas.List.Elements.{All-nil}
 use Rattle.std.proofs.lemmas.List.Kept.{AllPairs-cons}
-use Rattle.walrus_base.specs.Types.{comp_names}
+use Rattle.walrus_base.specs.Types.{Func, comp_names}
 use Rattle.walrus_types.specs.Operators.{Types, Functions, Tables, Memories, Tags, Globals, Elements, DataSegments, Item, Block, OfType, Op}
 use Rattle.walrus_model.specs.Abstract.{TypeDef, Function, Body, Export}
 use Rattle.walrus_model.specs.Live.{IsLive}
 use Rattle.walrus_model.specs.Refers.{written_in, IsUsed}
 use Rattle.walrus_model.specs.Names.{body_of}
 use Rattle.walrus_model.specs.Rules.{IsFunctionType, Holds}
-use Rattle.walrus_model.specs.Reads.{lone_type, function_with, body_with, export_of}
-use Rattle.walrus_model.specs.Examples.{two_functions_sections, two_functions, no_values, just_end, export_f}
+use Rattle.walrus_model.specs.Reads.{function_with, body_with, export_of}
+use Rattle.walrus_model.specs.Examples.{two_functions_sections, two_functions, just_end, export_f}
 use Rattle.walrus_model.proofs.Lists.{Contains-none}
 use Rattle.walrus_model.proofs.Examples.{only_one}
 
-type_is : (t : ℕ) (x : TypeDef) → two_functions.types t ≡ Some x → lone_type 0 no_values ≡ x
+-- the type of functions with no parameters and no results, alone in its group
+abbrev empty_type : TypeDef
+empty_type = record { group = 0 ∷ []; sub = record { is_final = true; supertypes = []; comp = Func [] [] } }
+
+type_is : (t : ℕ) (x : TypeDef) → two_functions.types t ≡ Some x → empty_type ≡ x
 type_is zero x e = cc
 type_is (suc t) x e = absurd (cc)
 
@@ -46,7 +50,7 @@ written_live (Elements, i) y at = absurd (Contains-none y at)
 written_live (DataSegments, i) y at = absurd (Contains-none y at)
 
 function_type_holds : (i : ℕ) (f : Function) → two_functions.functions i ≡ Some f → IsFunctionType two_functions f.ty
-function_type_holds i f e = subst (λ (g : Function). IsFunctionType two_functions g.ty) (function_is i f e) (lone_type 0 no_values, refl, tt)
+function_type_holds i f e = subst (λ (g : Function). IsFunctionType two_functions g.ty) (function_is i f e) (empty_type, refl, tt)
 
 no_block : (f t : ℕ) (b : Body) (o : Op) → body_of two_functions f ≡ Some b → Contains b.operators o → Contains o.args (Block (OfType t)) → IsFunctionType two_functions t
 no_block f t b o e at block =

@@ -21,7 +21,7 @@ use Rattle.wasm_operators.specs.Table.{kinds_of}
 use Rattle.walrus_bodies.specs.Body.{declarations, BodyReads}
 use Rattle.walrus_functions.specs.ReadFunction.{locals_from}
 use Rattle.walrus_model.specs.Handled as handled
-use Rattle.walrus_model.specs.Handled.{widened, widened_type, widened_export}
+use Rattle.walrus_model.specs.Handled.{widened, widened_export}
 use Rattle.walrus_model.specs.Reads.{Reads, context_of, body_with}
 use Rattle.walrus_model.specs.Abstract.{Body}
 use Rattle.walrus_model.specs.Declared.{ref_func, NothingUndeclared}
@@ -48,7 +48,7 @@ one_byte n less = record { spelled = (less, refl); short = omega arith; small = 
 -- the one group of types, and the one export, as sections hold them
 
 abbrev one_group : entries.Group
-one_group = widened_type no_values
+one_group = no_values
 
 abbrev entry_f : ℕ → entries.Export
 entry_f index = widened_export (export_f index)

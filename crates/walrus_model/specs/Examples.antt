@@ -1,5 +1,6 @@
 -- Small modules, worked out.
 use Rattle.std.specs.Prelude.{ℕ, List, [], ◌∷◌, ◌++◌, Some, None, codes, decimal, slice_get, true, false, pos, ◌≡◌}
+use Rattle.wasm_entries.specs.Record as entries
 use Rattle.wasm_frames.specs.Record as wire
 use Rattle.walrus_base.specs.Types.{Func, Struct, ValType, I32, Ref, Concrete, SubType, Unpacked}
 use Rattle.walrus_types.specs.Operators.{Types, Tags, Functions, Index, Block, OneResult, S32, Op}
@@ -38,8 +39,9 @@ one_function_bytes =
     ∷ 0x07 ∷ 0x05 ∷ 0x01 ∷ 0x01 ∷ 0x66 ∷ 0x00 ∷ 0x00
     ∷ 0x0A ∷ 0x04 ∷ 0x01 ∷ 0x02 ∷ 0x00 ∷ 0x0B ∷ []
 
-abbrev pub no_values : handled.FuncType
-no_values = record { params = []; results = [] }
+-- a type of functions with no parameters and no results, alone in its group
+abbrev pub no_values : entries.Group
+no_values = record { is_final = true; supers = []; comp = entries.Function (record { params = []; results = [] }) } ∷ []
 
 -- an export "f" of the function with this index
 abbrev pub export_f : ℕ → handled.Export

@@ -5,13 +5,14 @@ use Rattle.std.specs.List.{AllZip, range_with_len}
 use Rattle.wasm_frames.specs.Record as wire
 use Rattle.wasm_frames.specs.Frames.{Frames}
 use Rattle.wasm_frames.specs.Order.{InOrder}
-use Rattle.walrus_base.specs.Types.{ValType, I32, I64, F32, F64, V128, CompType, Func}
+use Rattle.walrus_base.specs.Types.{ValType}
 use Rattle.walrus_types.specs.Operators.{Space, Types, Functions, Op}
 use Rattle.walrus_code.specs.Names.{Lookup}
 use Rattle.walrus_bodies.specs.declared.features.Features.{Features}
 use Rattle.walrus_bodies.specs.Body.{Context, context, BodyReads}
 use Rattle.walrus_bodies.specs.FunctionTypes.{is_function_def}
 use Rattle.walrus_functions.specs.Handlers.{params_of}
+use Rattle.walrus_groups.specs.Groups.{types_from}
 use Rattle.walrus_functions.specs.ReadFunction.{locals_from}
 use Rattle.walrus_model.specs.Abstract.{Abstract, TypeDef, Body, LocalFunction, Function, Export}
 use Rattle.walrus_model.specs.Handled as handled
@@ -22,22 +23,9 @@ use Rattle.walrus_model.specs.Rules.{Holds}
 
 -- ---- types
 
-abbrev pub value_type : handled.Value → ValType ℕ
-value_type handled.I32 = I32
-value_type handled.I64 = I64
-value_type handled.F32 = F32
-value_type handled.F64 = F64
-value_type handled.V128 = V128
-
-abbrev pub function_type : handled.FuncType → CompType ℕ
-function_type t = Func (map value_type t.params) (map value_type t.results)
-
--- an entry of the type section, alone in its group, final, with no supertype; this is its index
-abbrev pub lone_type : ℕ → handled.FuncType → TypeDef
-lone_type i t = record { group = i ∷ []; sub = record { is_final = true; supertypes = []; comp = function_type t } }
-
+-- the type of each index: the members of the groups, one behind another
 abbrev pub types_of : handled.Module → ℕ → Option TypeDef
-types_of r i = option_map (lone_type i) (slice_get r.types i)
+types_of r i = slice_get (types_from 0 r.types) i
 
 -- ---- functions
 
@@ -92,7 +80,7 @@ below count i = if nat_lt i count then Some i else None
 
 -- the declared items of each space ("Validation > Conventions > Contexts"): types and functions
 abbrev pub declared : handled.Module → Lookup
-declared r Types = below (length r.types)
+declared r Types = below (length (types_from 0 r.types))
 declared r Functions = below (length r.functions)
 declared r space = λ i. None
 

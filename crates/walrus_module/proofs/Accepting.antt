@@ -1,7 +1,15 @@
 -- Bytes that are accepted frame sections that keep the rules, and the other way round.
-use Rattle.std.proofs.Common.{true, false, sym, ap₂, ◌≡◌, ◌≢◌, ℕ, zero, suc, ◌<◌, List, [], ◌∷◌, length, map, get_or, refl, ap, subst, ◌∙◌, arith}
-use Rattle.std.specs.Prelude.{Err, Some, IsSome, Contains, All, AllPairs, slice_get, zip, option_map}
+use Rattle.std.proofs.Common.{inl, inr, true, sym, ap₂, ◌≡◌, ◌≢◌, ℕ, zero, suc, ◌+◌, ◌<◌, List, [], ◌∷◌, length, map, get_or, take, refl, ap, subst, ◌∙◌, arith}
+use Rattle.std.specs.Prelude.{Err, Option, Some, IsSome, Contains, All, AllPairs, slice_get, zip, option_map}
 use Rattle.std.proofs.lemmas.List.{get_or-map, length-map}
+use Rattle.std.proofs.lemmas.List.Elements.{Contains-get_or}
+use Rattle.std.proofs.lemmas.Option.{slice_get-get_or}
+use Rattle.wasm_entries.specs.Record.{Group, Sub}
+use Rattle.wasm_wire.specs.Indices.{SubRefers, TypesRefer}
+use Rattle.walrus_base.specs.Types.{CompType, Func, Struct, Array, comp_names}
+use Rattle.walrus_types.specs.TypeDef.{TypeDef}
+use Rattle.walrus_bodies.specs.FunctionTypes.{is_function_comp, is_function_def}
+use Rattle.walrus_groups.specs.Groups.{comp_of, sub_of}
 use Rattle.walrus_types.specs.declared.locals.ModuleLocals.{ModuleLocals}
 use Rattle.walrus_types.specs.declared.module_types.ModuleTypes.{ModuleTypes}
 use Rattle.walrus_items.specs.declared.exports.ModuleExports.{ModuleExports}
@@ -19,17 +27,21 @@ use Rattle.walrus_model.proofs.Handled.{widened_once}
 use Rattle.wasm_frames.proofs.Modules.{one_record_lem}
 use Rattle.walrus_model.specs.Handled.{widened}
 use Rattle.walrus_module.proofs.ExportedRefs.{nothing_undeclared, one_undeclared}
-use Rattle.walrus_module.proofs.ParsedWhole.{lone, well_formed, references_read, references_seen}
+use Rattle.walrus_module.proofs.ParsedWhole.{writable, well_formed, references_read, references_seen}
 use Rattle.walrus_module.proofs.FewLocals.{few_locals}
 use Rattle.walrus_module.proofs.FewParams.{few_params}
-use Rattle.std.specs.List.{AllZip}
+use Rattle.walrus_module.proofs.TypeLists.{count, in_range, range_bounds, member_there, comp_holds}
+use Rattle.std.specs.List.{AllZip, range_with_len}
 use Rattle.walrus_model.specs.Live.{Has}
-use Rattle.walrus_model.specs.Reads.{Said, Reads, Accepts, ReadsBody, SectionsInOrder, lone_type, function_with, export_of, module_of}
-use Rattle.walrus_model.specs.Rules.{Holds}
+use Rattle.walrus_model.specs.Reads.{Said, Reads, Accepts, ReadsBody, SectionsInOrder, types_of, is_function, function_with, export_of, module_of}
+use Rattle.walrus_model.specs.Rules.{Holds, IsEarlier, IsFunctionComp}
+use Rattle.walrus_model.specs.Rules as rules
 use Rattle.walrus_module.specs.Parsed.{IsParsed, TakenFrom, AreModule, RefusesModule, RefusesBytes}
 use Rattle.walrus_module.specs.View.{view_of}
 use Rattle.walrus_module.proofs.Carrying.{parsed}
-use Rattle.walrus_module.proofs.Parsing.{mapped_some, got_map, got_in, kind_is, zip_long, holds}
+use Rattle.walrus_module.proofs.Keeps.{keeps}
+use Rattle.walrus_module.proofs.Lookups.{got_map, zip_long}
+use Rattle.walrus_module.proofs.Parsing.{kind_is}
 use Rattle.walrus_module.proofs.Steps.{zip_length, pairs_long}
 use Rattle.walrus_parts.specs.declared.error.Error.{Error}
 use Rattle.walrus_parts.specs.declared.error.Error.TheVariants as Parts
@@ -54,11 +66,11 @@ is_parsed c bytes ts all fs es t refs =
     record {
       module_read = module_of t.sections t.taken.bodies;
       reads = found;
-      holds = holds c t.sections t.taken.bodies t.rules t.taken.read;
+      holds = keeps c t.sections t.taken.bodies t.rules t.taken.read;
       simple = simple_read c bytes (module_of t.sections t.taken.bodies) found;
       parsed = parsed c t.sections ts all fs es t.rules.as_many_bodies t.taken;
       bodies = well_formed c t.sections ts all fs es t.taken t.rules;
-      types = lone c t.sections ts all fs es t.taken;
+      types = writable c t.sections ts all fs es t.taken t.rules;
       references = declared;
       few_locals = few_locals c t.sections ts all fs es t.taken (few_params bytes t.sections t.framed);
     }
@@ -76,13 +88,49 @@ some_within [] k h = cc
 some_within (x ∷ xs) zero h = omega arith
 some_within (x ∷ xs) (suc k) h = let lt : k < length xs = some_within xs k h in omega (arith, lt)
 
+function_comp : (k : CompType ℕ) → IsFunctionComp k → is_function_comp k ≡ true
+function_comp (Func params results) h = refl
+function_comp (Struct fields) h = absurd h
+function_comp (Array element) h = absurd h
+
+function_def : (o : Option TypeDef) → (x : TypeDef) × (o ≡ Some x) × IsFunctionComp x.sub.comp → is_function_def o ≡ true
+function_def o (x, is, h) = ap is_function_def is ∙ function_comp x.sub.comp h
+
+-- ---- types that refer as they may
+
+-- what is of an earlier group or of the own one stands before the end of it
+before_end : (first n i u : ℕ) (group : List ℕ) → group ≡ range_with_len first n → i < n → IsEarlier (λ a b. a < b) group u → u < first + n
+before_end first n i u group is lt (inl own) = (range_bounds first n u (subst (λ (l : List ℕ). Contains l u) is own)).1
+before_end first n i u group is lt (inr earlier) =
+    let before : u < first + i = earlier (first + i) (subst (λ (l : List ℕ). Contains l (first + i)) (sym is) (in_range first n i lt)) in
+    omega (arith, before, lt)
+
+module _ (r : handled.Module) (bodies : List Said) (refer : rules.TypesRefer (λ space i j. i < j) (module_of r bodies)) where
+  -- a member of a group
+  member_at : (number : ℕ) (g : Group) (at : ℕ) (s : Sub) → slice_get r.types number ≡ Some g → slice_get g at ≡ Some s → at < length g → SubRefers (count (take number r.types) + length g) (count (take number r.types) + at) s
+  member_at number g at s g_there s_there lt =
+      let first : ℕ = count (take number r.types) in
+      let index : ℕ = first + at in
+      let x : TypeDef = record { group = range_with_len (0 + first) (length g); sub = sub_of s } in
+      let is : types_of r index ≡ Some x = member_there 0 r.types number g at s g_there s_there in
+      let whole : range_with_len (0 + first) (length g) ≡ range_with_len first (length g) = ap (λ (n : ℕ). range_with_len n (length g)) (let p : 0 + first ≡ first = omega arith in p) in
+      record {
+        one_supertype = refer.one_supertype index x is;
+        supertypes = λ k d l. refer.supertypes index (get_or s.supers k d) x is (Contains-get_or s.supers k d l);
+        others = comp_holds (first + length g) s.comp (λ k d l.
+            let u : ℕ = get_or (comp_names (comp_of s.comp)) k d in
+            before_end first (length g) at u x.group whole lt (refer.others index u x is (Contains-get_or (comp_names (comp_of s.comp)) k d l)));
+      }
+
+  types_refer : TypesRefer r.types
+  types_refer = λ i d lt. λ j e l. member_at i (get_or r.types i d) j (get_or (get_or r.types i d) j e) (slice_get-get_or r.types i d lt) (slice_get-get_or (get_or r.types i d) j e l) l
+
 module _ (r : handled.Module) (bodies : List Said) (many : length bodies ≡ length r.functions) (h : Holds (module_of r bodies)) where
-  types_declared : All (λ t. t < length r.types) r.functions
-  types_declared = λ k d lt.
+  function_types : All (λ t. is_function r t ≡ true) r.functions
+  function_types = λ k d lt.
       let q = got_pair r.functions bodies k d many lt in
       let f = h.function_types.functions k (function_with r (get_or r.functions k d, q.0)) (got_map (function_with r) (zip r.functions bodies) k ∙ ap (option_map (function_with r)) q.1) in
-      let m = mapped_some (lone_type (get_or r.functions k d)) (slice_get r.types (get_or r.functions k d)) f.0 f.1 in
-      (got_in r.types (get_or r.functions k d) m.0 m.1).0
+      function_def (types_of r (get_or r.functions k d)) f
 
   function_within : (f : ℕ) → IsSome ((module_of r bodies).functions f) → f < length r.functions
   function_within f s =
@@ -108,7 +156,14 @@ module _ (r : handled.Module) (bodies : List Said) (many : length bodies ≡ len
       subst (λ (x : Export). x.name ≢ (export_of (get_or r.exports j d)).name) a (subst (λ (x : Export). (get_or (map export_of r.exports) i (export_of d)).name ≢ x.name) b s)
 
   keeps_rules : SectionsInOrder r → length r.bodies ≡ length r.functions → Rules r
-  keeps_rules ordered as_many = record { sections_in_order = ordered; indices_hold = (types_declared, exports_declared); as_many_bodies = as_many; names_differ = names_differ }
+  keeps_rules ordered as_many = record {
+    sections_in_order = ordered;
+    types_refer = types_refer r bodies h.types;
+    function_types = function_types;
+    exports_hold = exports_declared;
+    as_many_bodies = as_many;
+    names_differ = names_differ;
+  }
 
 are_module : (c : Config) (bytes : List ℕ) → Accepts c bytes → AreModule c bytes
 are_module c bytes a =

@@ -1,18 +1,15 @@
 -- A body that is written, over indices: the types of its locals, and its operators, which name what has an index.
-use Rattle.std.proofs.Common.{◌≡◌, ℕ, zero, suc, ◌+◌, ◌<◌, ◌≤◌, Bool, true, List, [], ◌∷◌, ◌++◌, length, map, refl, sym, ap, ap₂, subst, ◌∙◌, arith, Some, None}
-use Rattle.std.specs.Prelude.{Option, IsSome, flat_map, replicate, option_and_then, slice_get}
-use Rattle.std.specs.List.{range_with_len}
-use Rattle.std.proofs.lemmas.List.{length-map, length-append}
+use Rattle.std.proofs.Common.{◌≡◌, ℕ, zero, suc, ◌+◌, ◌<◌, Bool, List, [], ◌∷◌, ◌++◌, length, map, refl, sym, ap, ap₂, ◌∙◌, arith, Some}
+use Rattle.std.specs.Prelude.{Option, flat_map, replicate, option_and_then}
+use Rattle.std.proofs.lemmas.List.{length-append}
 use Rattle.wasm_forms.specs.Reading.{◌>>=◌}
 use Rattle.wasm_forms.specs.declared.types.RawVal.{RawVal}
 use Rattle.walrus_base.specs.Arena.{item_at}
 use Rattle.walrus_base.specs.Types.{ValType}
 use Rattle.walrus_types.specs.Operators.{Space, Types}
-use Rattle.walrus_types.specs.Shape.{place_in}
 use Rattle.walrus_code.specs.FromRaw.{val_of, ops_of}
 use Rattle.walrus_code.specs.Names.{Lookup, named_val, named_ops}
-use Rattle.walrus_bodies.specs.Body.{Context, BodyReads, declared_types, most_locals}
-use Rattle.walrus_bodies.specs.Blocks.{blocks_hold}
+use Rattle.walrus_bodies.specs.Body.{BodyReads, declared_types}
 use Rattle.walrus_functions.specs.EmittedBody.{Source, BodyWritten, spelled_as, looked_up, index_in}
 use Rattle.walrus_functions.specs.ReadFunction.{locals_from}
 use Rattle.walrus_module.proofs.Leads.{found_at}
@@ -92,8 +89,9 @@ module _ (s : Source) (bytes places : List ℕ) (numbers : ℕ → Option ℕ) (
     pub types_again : declared_types g w.declarations ≡ Some types_in
     types_again = declared_again s.names g again w.declarations w.groups w.typed
 
-    -- and so the bytes are these, where indices lead to function types alone
-    pub reads_again : (is_function : ℕ → Bool) → ((p j : ℕ) → s.names Types p ≡ Some j → is_function j ≡ true) → BodyReads (record { names = g; is_function_type = is_function; features = s.features }) (locals_from 0 total) bytes types_in (ops_of w.texts)
+    -- and so the bytes are these, where indices lead to function types as the types themselves are such
+    pub reads_again : (is_function : ℕ → Bool) → ((p j : ℕ) → s.names Types p ≡ Some j → is_function j ≡ s.is_function_type p)
+        → BodyReads (record { names = g; is_function_type = is_function; features = s.features }) (locals_from 0 total) bytes types_in (ops_of w.texts)
     reads_again is_function H =
         w.reads (record { names = g; is_function_type = is_function; features = s.features }) (locals_from 0 total) (ops_of w.texts) types_in refl types_again operators_again
-        (blocks_found s.names (index_in s w.order) is_function H s.ops (ops_of w.texts) w.named)
+        (blocks_found s.names (index_in s w.order) is_function s.is_function_type H s.ops (ops_of w.texts) w.named ∙ w.blocks)

@@ -1,13 +1,12 @@
 -- The records that a module is written as hold all of it, under the indices that are given.
-use Rattle.std.proofs.Common.{◌≡◌, ℕ, suc, List, [], ◌∷◌, ◌++◌, map, refl, sym, ap, ap₂, subst, ◌∙◌, inl, Bool, true}
-use Rattle.std.specs.Prelude.{Option, Some, None, IsSome, slice_get, zip, option_map, option_and_then, unwrap_or, if◌then◌else◌}
+use Rattle.std.proofs.Common.{◌≡◌, ℕ, List, [], ◌∷◌, ◌++◌, map, refl, sym, ap, ap₂, subst, ◌∙◌, inl, Bool, true}
+use Rattle.std.specs.Prelude.{Option, Some, None, IsSome, slice_get, zip, option_map, option_and_then, unwrap_or}
 use Rattle.walrus_base.specs.Arena.{item_at, entries, items}
 use Rattle.walrus_base.specs.Id.{place}
-use Rattle.walrus_base.specs.Types.{Func, map_val}
 use Rattle.walrus_types.specs.Locals.{locals}
 use Rattle.walrus_types.specs.ModuleTypes.{type_slots}
 use Rattle.walrus_types.specs.Operators.{Space, Types, Functions, Tables, Memories, Tags, Globals, Elements, DataSegments}
-use Rattle.walrus_types.specs.Shape.{place_in, seen_from, others_through}
+use Rattle.walrus_types.specs.Shape.{place_in}
 use Rattle.walrus_types.specs.TypeDef.{TypeDef}
 use Rattle.walrus_types.specs.declared.locals.ModuleLocals.{ModuleLocals}
 use Rattle.walrus_types.specs.declared.module_types.ModuleTypes.{ModuleTypes}
@@ -25,54 +24,42 @@ use Rattle.walrus_items.specs.declared.functions.FunctionKind.{FunctionKind}
 use Rattle.walrus_items.specs.declared.functions.FunctionKind.TheVariants as kind
 use Rattle.walrus_items.specs.declared.functions.ModuleFunctions.{ModuleFunctions}
 use Rattle.walrus_model.specs.Abstract.{Abstract}
-use Rattle.walrus_model.specs.BodyText.{BodyText, said}
+use Rattle.walrus_model.specs.BodyText.{said}
 use Rattle.walrus_model.specs.Carried.{Carries, Carried, KeepsApart}
 use Rattle.walrus_model.specs.Live.{IsLive}
 use Rattle.walrus_model.specs.Out.{IsTheSegment}
-use Rattle.walrus_model.specs.Reads.{Said, value_type, lone_type, function_with, export_of}
+use Rattle.walrus_model.specs.Reads.{Said, function_with, export_of}
 use Rattle.walrus_model.specs.Renaming.{Renaming, renamed_export}
 use Rattle.walrus_model.specs.Same.{SameType, SameFunction, BothAnd}
 use Rattle.walrus_module.specs.Parts.{Held, local_in, type_index, export_with_index, HasBytes}
-use Rattle.walrus_module.specs.Spells.{Records, IsEntry}
+use Rattle.walrus_module.specs.Spells.{Records}
 use Rattle.walrus_module.specs.View.{body, kind_of, function, export_of as export_seen, view_of}
-use Rattle.walrus_module.proofs.Lookups.{none_there, some_of, was_some, mapped_some, then_some, got_map, got_zip, got_both, zip_left, zip_right, heads}
+use Rattle.walrus_module.proofs.BodiesBack.{new_types, Entered, type_entry, entry_of, types_apart}
+use Rattle.walrus_module.proofs.Lookups.{none_there, some_of, was_some, mapped_some, then_some, got_map, got_zip, got_both, heads}
 use Rattle.walrus_module.proofs.Named.{some_inj}
-use Rattle.walrus_module.proofs.Placing.{self_eq}
+use Rattle.walrus_module.proofs.NamedTypes.{each_place, same_in_group, group_renamed}
 use Rattle.walrus_module.proofs.SameBodies.{spelled_as_text, same_body}
-use Rattle.walrus_module.proofs.Standing.{entered, entry_is, entry_found, local_is, ordered_at, order_found}
+use Rattle.walrus_module.proofs.Standing.{entered, entry_found, local_is, ordered_at, order_found}
 use Rattle.walrus_module.proofs.WrittenAs.{sections_of, texts_of, written_as, renaming_of}
 use Rattle.walrus_model.specs.Handled as handled
 
 -- ---- types
 
--- value types name no type
-vals_seen : {R S : Type 0} (p : ℕ → S) (q : R → S) (s : ℕ → R) (vs : List handled.Value) → map (map_val p) (map value_type vs) ≡ map (map_val q) (map (map_val s) (map value_type vs))
-vals_seen p q s [] = refl
-vals_seen p q s (handled.I32 ∷ vs) = ap₂ ◌∷◌ refl (vals_seen p q s vs)
-vals_seen p q s (handled.I64 ∷ vs) = ap₂ ◌∷◌ refl (vals_seen p q s vs)
-vals_seen p q s (handled.F32 ∷ vs) = ap₂ ◌∷◌ refl (vals_seen p q s vs)
-vals_seen p q s (handled.F64 ∷ vs) = ap₂ ◌∷◌ refl (vals_seen p q s vs)
-vals_seen p q s (handled.V128 ∷ vs) = ap₂ ◌∷◌ refl (vals_seen p q s vs)
+-- what has an index is the type of that index, where the renaming follows the indices
+module _ {h : Held} {features : Features} {exports : List ExportValue} (r : Records h features exports) (f : ℕ → ℕ) (follows : (u j : ℕ) → r.names Types u ≡ Some j → j ≡ f u) where
+  same_type : (i k : ℕ) → r.names Types i ≡ Some k → (z : Entered r i k) → SameType f i z.old z.new
+  same_type i k named z = record {
+    group = group_renamed r.names f follows (types_apart r) z.old z.new z.named;
+    position = ap (place_in z.new.group) (sym (follows i k named)) ∙ each_place (r.names Types) (types_apart r) z.old.group z.new.group z.named.group i k named;
+    sub = same_in_group r.names f follows (types_apart r) z.old z.new z.named;
+  }
 
-alone : (t : ℕ) → place_in (t ∷ []) t ≡ Some 0
-alone t = ap (λ (b : Bool). if b then Some 0 else option_map suc (place_in [] t)) (self_eq t)
-
--- the entry for a type is that type, alone in its group
-same_entry : (f : ℕ → ℕ) (i : ℕ) (t : handled.FuncType) → SameType f i (lone_type i t) (lone_type (f i) t)
-same_entry f i t = record {
-  group = refl;
-  position = alone (f i) ∙ sym (alone i);
-  sub = ap₂ (λ ps rs. record { is_final = true; supertypes = []; comp = Func ps rs })
-      (vals_seen (seen_from (f i ∷ [])) (others_through f) (seen_from (i ∷ [])) t.params)
-      (vals_seen (seen_from (f i ∷ [])) (others_through f) (seen_from (i ∷ [])) t.results);
-}
-
--- both are there, and the same
-both_types : (ss : List (Option TypeDef)) (ts : List handled.FuncType) (f : ℕ → ℕ) (i : ℕ) (t : handled.FuncType) → item_at ss i ≡ Some (lone_type i t) → slice_get ts (f i) ≡ Some t
-    → BothAnd (SameType f i) (item_at ss i) (option_map (lone_type (f i)) (slice_get ts (f i)))
-both_types ss ts f i t e h =
-    subst (λ (o : Option TypeDef). BothAnd (SameType f i) o (option_map (lone_type (f i)) (slice_get ts (f i)))) (sym e)
-    (subst (λ (o : Option handled.FuncType). BothAnd (SameType f i) (Some (lone_type i t)) (option_map (lone_type (f i)) o)) (sym h) (same_entry f i t))
+  both_types : (i k : ℕ) → r.names Types i ≡ Some k → BothAnd (SameType f i) (item_at h.types i) (slice_get (new_types r) (f i))
+  both_types i k named =
+      let z = type_entry r i k named in
+      subst (λ (o : Option TypeDef). BothAnd (SameType f i) o (slice_get (new_types r) (f i))) (sym z.is)
+      (subst (λ (j : ℕ). BothAnd (SameType f i) (Some z.old) (slice_get (new_types r) j)) (follows i k named)
+      (subst (λ (o : Option TypeDef). BothAnd (SameType f i) (Some z.old) o) (sym z.at) (same_type i k named z)))
 
 -- ---- exports
 
@@ -126,22 +113,17 @@ module _ (types : ModuleTypes) (all : ModuleLocals) (funcs : ModuleFunctions) (e
 
   -- ---- types
 
-  type_found : (k : ℕ) (e : ℕ × TypeDef) → slice_get (entries (type_slots types)) k ≡ Some e → k ≡ renaming.numbers Types e.0
-  type_found k e h = number_is Types e.0 k (r.numbered.types_are e.0 ∙ entry_found (type_slots types) k e h)
-
   type_carried : (i : ℕ) → IsSome (before.types i) → BothAnd (SameType (renaming.numbers Types) i) (before.types i) (after.types (renaming.numbers Types i))
   type_carried i live =
       let t : (t : TypeDef) × (item_at (type_slots types) i ≡ Some t) = some_of (item_at (type_slots types) i) live in
       let k : (k : ℕ) × (slice_get (entries (type_slots types)) k ≡ Some (i, t.0)) = entered (type_slots types) i t.0 t.1 in
-      let w : (w : handled.FuncType) × (slice_get r.raw_types k.0 ≡ Some w) × IsEntry (i, t.0) w = zip_right IsEntry (entries (type_slots types)) r.raw_types k.0 (i, t.0) r.types_are k.1 in
-      both_types (type_slots types) r.raw_types (renaming.numbers Types) i w.0 (t.1 ∙ ap (λ (s : TypeDef). Some s) w.2)
-      (ap (λ (j : ℕ). slice_get r.raw_types j) (sym (type_found k.0 (i, t.0) k.1)) ∙ w.1)
+      both_types r (renaming.numbers Types) (number_is Types) i k.0 (r.numbered.types_are i ∙ entry_found (type_slots types) k.0 (i, t.0) k.1)
 
   type_there : (j : ℕ) → IsSome (after.types j) → (i : ℕ) × IsSome (before.types i) × (renaming.numbers Types i ≡ j)
   type_there j live =
-      let w : (w : handled.FuncType) × (slice_get r.raw_types j ≡ Some w) = was_some (lone_type j) (slice_get r.raw_types j) live in
-      let e : (e : ℕ × TypeDef) × (slice_get (entries (type_slots types)) j ≡ Some e) × IsEntry e w.0 = zip_left IsEntry (entries (type_slots types)) r.raw_types j w.0 r.types_are w.1 in
-      (e.0.0, subst (λ (o : Option TypeDef). IsSome o) (sym (entry_is (type_slots types) j e.0 e.1)) (refl {A = Bool} {a = true}), sym (type_found j e.0 e.1))
+      let w : (w : TypeDef) × (slice_get (new_types r) j ≡ Some w) = some_of (slice_get (new_types r) j) live in
+      let z = entry_of r j w.0 w.1 in
+      (z.place, subst (λ (o : Option TypeDef). IsSome o) (sym z.entered.is) (refl {A = Bool} {a = true}), sym (number_is Types z.place j z.named))
 
   -- ---- functions
 

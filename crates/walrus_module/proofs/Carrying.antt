@@ -23,7 +23,7 @@ use Rattle.walrus_model.specs.Abstract.{TypeDef, Function}
 use Rattle.walrus_model.specs.Carried.{Carries}
 use Rattle.walrus_model.specs.Config.{Config}
 use Rattle.walrus_model.specs.Pipeline.{ParsedAs}
-use Rattle.walrus_model.specs.Reads.{Said, lone_type, function_with, body_with, types_of, module_of, arity, ReadsBody}
+use Rattle.walrus_model.specs.Reads.{Said, function_with, body_with, types_of, module_of, arity, ReadsBody}
 use Rattle.walrus_model.specs.Renaming.{Renaming, renamed_arg, renamed_op, renamed_ops, renamed_export}
 use Rattle.walrus_model.specs.Same.{SameType, SameBody, SameFunction, BothAnd}
 use Rattle.walrus_types.specs.Shape.{Seen, Own, Other, in_its_group, others_through, place_in}
@@ -31,7 +31,8 @@ use Rattle.walrus_model.proofs.Lists.{map-itself, map-same}
 use Rattle.walrus_model.proofs.TypeMaps.{sub-itself, val-itself, heap-itself}
 use Rattle.walrus_module.specs.Taken.{HoldsBody, HoldsFunction, HasTaken}
 use Rattle.walrus_module.specs.View.{body, kind_of, kind_handlers, handlers_at, function, view_of}
-use Rattle.walrus_module.proofs.Parsing.{got_map, there, still_some, none_there, read_at, used_below}
+use Rattle.walrus_module.proofs.Lookups.{got_map, there, still_some, none_there}
+use Rattle.walrus_module.proofs.Parsing.{read_at, used_below}
 use Rattle.walrus_module.proofs.Steps.{type_there, zip_length}
 use Rattle.wasm_frames.specs.Record as wire
 use Rattle.walrus_model.specs.Handled as handled
@@ -42,15 +43,15 @@ others_same : (s : Seen) → others_through (λ k. k) s ≡ s
 others_same (Own k) = refl
 others_same (Other t) = refl
 
-same_lone : (i : ℕ) (t : handled.FuncType) → SameType (λ k. k) i (lone_type i t) (lone_type i t)
-same_lone i t = record {
-  group = refl;
+same_type : (i : ℕ) (x : TypeDef) → SameType (λ k. k) i x x
+same_type i x = record {
+  group = sym (map-itself (λ (k : ℕ). k) x.group (λ k. refl));
   position = refl;
-  sub = sym (sub-itself (others_through (λ k. k)) others_same (in_its_group (lone_type i t)));
+  sub = sym (sub-itself (others_through (λ k. k)) others_same (in_its_group x));
 }
 
-both_types : (i : ℕ) (o : Option handled.FuncType) → IsSome (option_map (lone_type i) o) → BothAnd (SameType (λ k. k) i) (option_map (lone_type i) o) (option_map (lone_type i) o)
-both_types i (Some t) h = same_lone i t
+both_types : (i : ℕ) (o : Option TypeDef) → IsSome o → BothAnd (SameType (λ k. k) i) o o
+both_types i (Some x) h = same_type i x
 both_types i None h = absurd (none_there h)
 
 -- ---- a range of numbers further on
@@ -235,7 +236,7 @@ module _ (c : Config) (r : handled.Module) (ts : ModuleTypes) (all : ModuleLocal
     renaming = moving moved;
     carried = record {
       types = record {
-        same = λ i live. subst (λ o. BothAnd (SameType (λ k. k) i) (option_map (lone_type i) (slice_get r.types i)) o) (sym (type_there r ts h.types i)) (both_types i (slice_get r.types i) live);
+        same = λ i live. subst (λ o. BothAnd (SameType (λ k. k) i) (types_of r i) o) (sym (type_there r ts h.types i)) (both_types i (types_of r i) live);
         onto = λ j live. inl (j, subst (λ o. IsSome o) (type_there r ts h.types j) live, refl);
       };
       imports = record { same = λ i x. (let e = x.1 in cc); onto = λ j live. absurd (none_there live) };

@@ -1,6 +1,6 @@
 -- A function that was taken in has at most 2 ^ 32 parameters and further locals that it uses.
 use Rattle.std.proofs.Common.{◌≡◌, ◌≢◌, ℕ, zero, suc, ◌+◌, ◌-◌, ◌<◌, ◌≤◌, ◌^◌, Bool, true, false, List, [], ◌∷◌, ◌++◌, length, map, get_or, refl, sym, ap, subst, ◌∙◌, arith, length-append}
-use Rattle.std.specs.Prelude.{Option, Some, None, Contains, All, AllPairs, ◌||◌, ◌==◌, slice_get, nat_lt, option_map, zip}
+use Rattle.std.specs.Prelude.{Some, Contains, All, AllPairs, ◌||◌, ◌==◌, slice_get, nat_lt}
 use Rattle.std.specs.List.{range_with_len, list_any}
 use Rattle.std.proofs.lemmas.List.{get_or-map, length-map}
 use Rattle.std.proofs.lemmas.List.FromFn.{length-range_with_len, get_or-range_with_len}
@@ -22,7 +22,7 @@ use Rattle.walrus_items.specs.declared.functions.ModuleFunctions.{ModuleFunction
 use Rattle.walrus_model.specs.Abstract.{Body}
 use Rattle.walrus_model.specs.Config.{Config}
 use Rattle.walrus_model.specs.Handled as handled
-use Rattle.walrus_model.specs.Reads.{value_type, lone_type, types_of, context_of, arity, ReadsBody}
+use Rattle.walrus_model.specs.Reads.{types_of, context_of, arity, ReadsBody}
 use Rattle.walrus_module.specs.Parsed.{TakenFrom}
 use Rattle.walrus_module.specs.Refused.{HasManyLocals}
 use Rattle.walrus_module.specs.Taken.{HasTaken}
@@ -77,22 +77,11 @@ past_by a n i false e h = ltb-false i n e
 
 -- ---- how many locals
 
-got_contained : {A : Type 0} (xs : List A) (i : ℕ) (x : A) → slice_get xs i ≡ Some x → Contains xs x
-got_contained [] i x e = absurd cc
-got_contained {A} (y ∷ xs) zero x e = let q : y ≡ x = cc in (0, omega arith, q)
-got_contained (y ∷ xs) (suc i) x e = let h = got_contained xs i x e in let lt : h.0 < length xs = h.1 in (suc h.0, omega (arith, lt), h.2)
-
 too_many : (most n : ℕ) (ps fs : List ℕ) → length ps ≡ n → n < most → length fs ≤ most - n → most < length (ps ++ fs) → ⊥
 too_many most n ps fs long lt few many = omega (arith, long, lt, few, many, length-append ps fs)
 
 module _ (c : Config) (r : handled.Module) (types : ModuleTypes) (all : ModuleLocals) (funcs : ModuleFunctions) (es : ModuleExports) (taken : HasTaken c r types all funcs es)
-    (few_params : (t : handled.FuncType) → Contains r.types t → length t.params < 2 ^ 32) where
-  few_by : (ty : ℕ) (o : Option handled.FuncType) → slice_get r.types ty ≡ o → length (params_of (option_map (lone_type ty) o)) < 2 ^ 32
-  few_by ty None e = omega arith
-  few_by ty (Some t) e =
-      let lt : length t.params < 2 ^ 32 = few_params t (got_contained r.types ty t e) in
-      omega (arith, lt, length-map t.params value_type)
-
+    (few_params : (t : ℕ) → length (params_of (types_of r t)) < 2 ^ 32) where
   -- a used local that is no parameter has an index behind theirs, of 32 bits
   index_of : (first n count : ℕ) (bytes : List ℕ) (kinds : List (ValType ℕ)) (ops : List Op) → BodyReads (context_of c r) (locals_from first count) bytes kinds ops → n < 2 ^ 32
       → (x : ℕ) → Contains (locals_of ops) x → (Contains (range_with_len first n) x → ⊥) → (first + n ≤ x) × (x < first + n + (2 ^ 32 - n))
@@ -118,7 +107,7 @@ module _ (c : Config) (r : handled.Module) (types : ModuleTypes) (all : ModuleLo
       let moved : BodyReads (context_of c r) (locals_from first count) found.0.bytes p.1.0 b.operators =
       subst (BodyReads (context_of c r) (locals_from first count) found.0.bytes p.1.0) {x = map (moved_op first) p.1.1} {y = b.operators} (sym ops)
       (there (context_of c r) first count found.0.bytes p.1.0 p.1.1 found.1) in
-      let small : n < 2 ^ 32 = few_by p.0 (slice_get r.types p.0) refl in
+      let small : n < 2 ^ 32 = few_params p.0 in
       let ranged : All (λ (x : ℕ). (first + n ≤ x) × (x < first + n + (2 ^ 32 - n))) further = λ k d lt.
       (let x = get_or further k d in
       index_of first n count found.0.bytes p.1.0 b.operators moved small x (used k d lt) (λ inside. new k d lt (subst (λ (l : List ℕ). Contains l x) {x = range_with_len first n} {y = b.parameters} (sym params) inside))) in

@@ -1,10 +1,9 @@
 -- A function type that is framed has fewer than 2 ^ 32 parameters: their count is a number of 32 bits.
-use Rattle.std.proofs.Common.{◌≡◌, ℕ, ◌+◌, ◌<◌, ◌^◌, Bool, true, false, List, [], ◌∷◌, ◌++◌, length, map, refl, sym, ap, subst, arith, inl, inr}
-use Rattle.std.specs.Prelude.{Contains, nat_eq}
+use Rattle.std.proofs.Common.{◌≡◌, ℕ, ◌+◌, ◌<◌, ◌^◌, Bool, true, false, List, [], ◌∷◌, length, refl, sym, subst, arith, inl, inr}
+use Rattle.std.specs.Prelude.{Option, Some, None, slice_get, nat_eq}
 use Rattle.std.specs.List.{AllByRecursion}
 use Rattle.std.proofs.lemmas.List.{length-map}
-use Rattle.std.proofs.lemmas.List.Elements.{All-contains, All-from_recursion}
-use Rattle.wasm_forms.specs.Grammar.{Form, Is, IsRow, Fails, ◌then◌, Made, Vector, U32}
+use Rattle.wasm_forms.specs.Grammar.{Form, Is, IsRow, Fails, Made, Vector}
 use Rattle.wasm_forms.specs.Types.{value_type}
 use Rattle.wasm_entries.specs.Record as entries
 use Rattle.wasm_entries.specs.TypeForms.{field_type, signature, comp_from, composite_type, sub_with, sub_from, sub_type, group_from, group_form}
@@ -12,9 +11,15 @@ use Rattle.wasm_frames.specs.Frames.{Section, Types, IsContent, AreSections, wit
 use Rattle.wasm_frames.specs.Record.{Module, no_sections}
 use Rattle.wasm_operators.proofs.OneRead.{chosen}
 use Rattle.walrus_functions.proofs.LawNamed.{each_append}
-use Rattle.walrus_model.proofs.Lists.{Contains-map}
+use Rattle.walrus_base.specs.Types.{SubType}
+use Rattle.walrus_types.specs.TypeDef.{TypeDef, type_params}
+use Rattle.walrus_code.specs.FromRaw.{val_of}
+use Rattle.walrus_groups.specs.Groups.{comp_of, types_from}
+use Rattle.walrus_functions.specs.Handlers.{params_of}
 use Rattle.walrus_model.specs.Handled as handled
-use Rattle.walrus_model.specs.Handled.{widened_value, widened_type, widened}
+use Rattle.walrus_model.specs.Handled.{widened}
+use Rattle.walrus_model.specs.Reads.{types_of, arity}
+use Rattle.walrus_module.proofs.TypeLists.{type_is_member, one_of}
 
 -- ---- lists behind a count
 
@@ -115,10 +120,19 @@ sections_few (s ∷ ss) m place bytes are few =
 all_few : (bytes : List ℕ) (m : Module) → Frames bytes m → AreFew m.types
 all_few bytes m f = subst (λ (n : Module). AreFew n.types) (sym f.holds) (sections_few f.parts no_sections 8 f.rest f.framed tt)
 
+params_few : (k : entries.Comp) → FewComp k → length (type_params (comp_of k)) < 2 ^ 32
+params_few (entries.Function t) few = omega (arith, few, length-map t.params val_of)
+params_few (entries.Struct fields) few = omega arith
+params_few (entries.Array field) few = omega arith
+
+few_by : (gs : List entries.Group) → AreFew gs → (ty : ℕ) (o : Option TypeDef) → slice_get (types_from 0 gs) ty ≡ o → length (params_of o) < 2 ^ 32
+few_by gs few ty None e = omega arith
+few_by gs few ty (Some x) e =
+    let m = type_is_member gs ty x e in
+    let one : FewGroup m.group = one_of FewGroup gs m.number m.group few m.group_there in
+    let sub : FewSub m.sub = one_of FewSub m.group m.at m.sub one m.sub_there in
+    subst (λ (s : SubType ℕ). length (type_params s.comp) < 2 ^ 32) (sym m.sub_is) (params_few m.sub.comp sub)
+
 -- a function type that is framed has fewer than 2 ^ 32 parameters
-pub few_params : (bytes : List ℕ) (r : handled.Module) → Frames bytes (widened r) → (t : handled.FuncType) → Contains r.types t → length t.params < 2 ^ 32
-few_params bytes r f t h =
-    let all = All-from_recursion FewGroup (map widened_type r.types) (all_few bytes (widened r) f) in
-    let one : FewGroup (widened_type t) = All-contains FewGroup (map widened_type r.types) (widened_type t) all (Contains-map widened_type t r.types h) in
-    let few : length (map widened_value t.params) < 2 ^ 32 = one.0 in
-    omega (arith, few, length-map t.params widened_value)
+pub few_params : (bytes : List ℕ) (r : handled.Module) → Frames bytes (widened r) → (ty : ℕ) → arity r ty < 2 ^ 32
+few_params bytes r f ty = few_by r.types (all_few bytes (widened r) f) ty (types_of r ty) refl

@@ -4,16 +4,15 @@ use Rattle.std.specs.Prelude.{All}
 use Rattle.std.specs.Str.{IsUtf8}
 use Rattle.std.proofs.lemmas.List.{append-nil}
 use Rattle.std.proofs.lemmas.List.Elements.{All-nil, All-cons, All-append, All-head, All-tail}
-use Rattle.wasm_forms.specs.Types.{ValueStands}
 use Rattle.wasm_entries.specs.Record.{Group, Export}
-use Rattle.wasm_entries.specs.TypeSpelling.{SubStands, GroupStands}
+use Rattle.wasm_entries.specs.TypeSpelling.{GroupStands}
 use Rattle.wasm_entries.specs.Spelling.{ExportStands}
 use Rattle.wasm_frames.specs.Record.{Body, Module, no_sections}
 use Rattle.wasm_frames.specs.Frames.{Section, Types, Functions, Exports, Code, header, Frames, gathered_onto, gathered}
 use Rattle.wasm_writer.specs.Spelling.{spelled, listed, all_spelled, SectionFits, CanBeWritten, placed_bodies, first_body, placed, all_placed}
 use Rattle.wasm_writer.proofs.WrittenModule.{written_frames_lem}
 use Rattle.walrus_model.specs.Handled as handled
-use Rattle.walrus_model.specs.Handled.{widened_value, widened_type, widened_export, widened}
+use Rattle.walrus_model.specs.Handled.{widened_export, widened}
 use Rattle.walrus_module.specs.Spelled.{module_bytes}
 
 -- ---- sections that stand where they have entries
@@ -136,24 +135,6 @@ module _ (gs : List Group) (fs : List ℕ) (es : List Export) (bs : List Body) w
 
 -- ---- what is handled can be written
 
-value_stands : (v : handled.Value) → ValueStands (widened_value v)
-value_stands handled.I32 = tt
-value_stands handled.I64 = tt
-value_stands handled.F32 = tt
-value_stands handled.F64 = tt
-value_stands handled.V128 = tt
-
-values_stand : (vs : List handled.Value) → All ValueStands (map widened_value vs)
-values_stand [] = All-nil ValueStands
-values_stand (v ∷ vs) = All-cons ValueStands (widened_value v) (map widened_value vs) (value_stands v) (values_stand vs)
-
-types_stand : (ts : List handled.FuncType) → All GroupStands (map widened_type ts)
-types_stand [] = All-nil GroupStands
-types_stand (t ∷ ts) =
-    All-cons GroupStands (widened_type t) (map widened_type ts)
-    (All-cons SubStands _ [] (All-nil (λ (n : ℕ). n < 2 ^ 32), (values_stand t.params, values_stand t.results)) (All-nil SubStands))
-    (types_stand ts)
-
 exports_stand : (es : List handled.Export) → All (λ e. IsUtf8 e.name) es → All (λ e. e.index < 2 ^ 32) es → All ExportStands (map widened_export es)
 exports_stand [] text small = All-nil ExportStands
 exports_stand (e ∷ es) text small =
@@ -161,9 +142,10 @@ exports_stand (e ∷ es) text small =
     (record { name = All-head (λ (x : handled.Export). IsUtf8 x.name) e es text; index = All-head (λ (x : handled.Export). x.index < 2 ^ 32) e es small })
     (exports_stand es (All-tail (λ (x : handled.Export). IsUtf8 x.name) e es text) (All-tail (λ (x : handled.Export). x.index < 2 ^ 32) e es small))
 
--- records that can be written: all fits, indices are below 2 ^ 32, and names are UTF-8
-pub record HandledCanBeWritten (ts : List handled.FuncType) (fs : List ℕ) (es : List handled.Export) (bs : List Body) : Type 0 where
-  pub types_fit : SectionFits (Types (map widened_type ts))
+-- records that can be written: all fits, types have bytes, indices are below 2 ^ 32, and names are UTF-8
+pub record HandledCanBeWritten (ts : List Group) (fs : List ℕ) (es : List handled.Export) (bs : List Body) : Type 0 where
+  pub types_fit : SectionFits (Types ts)
+  pub types_stand : All GroupStands ts
   pub functions_fit : SectionFits (Functions fs)
   pub exports_fit : SectionFits (Exports (map widened_export es))
   pub bodies_fit : SectionFits (Code bs)
@@ -172,20 +154,20 @@ pub record HandledCanBeWritten (ts : List handled.FuncType) (fs : List ℕ) (es 
   pub names_are_text : All (λ e. IsUtf8 e.name) es
 
 -- the place of the first body of a module of these
-abbrev pub first_place : List handled.FuncType → List ℕ → List handled.Export → List Body → ℕ
-first_place ts fs es bs = first_in (map widened_type ts) fs (map widened_export es) bs
+abbrev pub first_place : List Group → List ℕ → List handled.Export → List Body → ℕ
+first_place ts fs es bs = first_in ts fs (map widened_export es) bs
 
 -- what a module of these bytes holds
-abbrev pub written_module : List handled.FuncType → List ℕ → List handled.Export → List Body → handled.Module
+abbrev pub written_module : List Group → List ℕ → List handled.Export → List Body → handled.Module
 written_module ts fs es bs = record {
-  order = order_in (map widened_type ts) fs (map widened_export es) bs;
+  order = order_in ts fs (map widened_export es) bs;
   types = ts;
   functions = fs;
   exports = es;
   bodies = placed_bodies (first_place ts fs es bs) bs;
 }
 
-pub handled_frames : (ts : List handled.FuncType) (fs : List ℕ) (es : List handled.Export) (bs : List Body) → HandledCanBeWritten ts fs es bs → Frames (module_bytes (map widened_type ts) fs (map widened_export es) bs) (widened (written_module ts fs es bs))
+pub handled_frames : (ts : List Group) (fs : List ℕ) (es : List handled.Export) (bs : List Body) → HandledCanBeWritten ts fs es bs → Frames (module_bytes ts fs (map widened_export es) bs) (widened (written_module ts fs es bs))
 handled_frames ts fs es bs can =
-    parts_frame (map widened_type ts) fs (map widened_export es) bs
-    (can.types_fit, types_stand ts) (can.functions_fit, can.type_indices) (can.exports_fit, exports_stand es can.names_are_text can.exported_indices) (can.bodies_fit, tt)
+    parts_frame ts fs (map widened_export es) bs
+    (can.types_fit, can.types_stand) (can.functions_fit, can.type_indices) (can.exports_fit, exports_stand es can.names_are_text can.exported_indices) (can.bodies_fit, tt)

@@ -1,20 +1,16 @@
 -- The test on sections passes exactly where they hold only what is handled so far.
-use Rattle.std.proofs.Common.{◌≡◌, ℕ, ◌&&◌, Bool, true, false, List, [], ◌∷◌, map, length, refl, sym, ap, ap₂, subst, ◌∙◌, arith, eqb-true}
-use Rattle.std.specs.Prelude.{Option, Some, None, All, is_none}
+use Rattle.std.proofs.Common.{◌≡◌, ◌&&◌, Bool, true, false, List, [], ◌∷◌, map, length, refl, sym, ap, ap₂, subst, ◌∙◌, arith, eqb-true}
+use Rattle.std.specs.Prelude.{Option, Some, None, is_none}
 use Rattle.std.specs.List.{list_all}
-use Rattle.std.proofs.lemmas.List.Sums.{AllPass-from_list_all}
-use Rattle.wasm_forms.specs.declared.types.RawVal.{RawVal}
-use Rattle.wasm_forms.specs.declared.types.RawVal.TheVariants as vals
 use Rattle.wasm_entries.specs.declared.record.RawExportKind.{RawExportKind}
 use Rattle.wasm_entries.specs.declared.record.RawExportKind.TheVariants as kinds
-use Rattle.wasm_entries.specs.Record.{Comp, Function, Struct, Array, Sub, Group, FuncType, Export, group, export_entry}
+use Rattle.wasm_entries.specs.Record.{Export, group, export_entry}
 use Rattle.wasm_frames.specs.Record as wire
 use Rattle.wasm_frames.specs.declared.record.Raw.{Raw}
-use Rattle.wasm_wire.proofs.Checked.{all_unmapped}
 use Rattle.walrus_model.proofs.Handled.{narrowed_widened}
 use Rattle.walrus_model.specs.Handled as handled
-use Rattle.walrus_model.specs.Handled.{widened_value, widened_type, widened_kind, widened_export, widened, narrowed_value, narrowed_comp, narrowed_type, narrowed_export, narrowed}
-use Rattle.walrus_module.specs.HandledOnly.{is_number, are_numbers, takes_numbers, is_empty, is_lone, is_function, has_no_others, holds_handled}
+use Rattle.walrus_model.specs.Handled.{widened_kind, widened_export, widened, narrowed_export, narrowed}
+use Rattle.walrus_module.specs.HandledOnly.{is_empty, is_function, has_no_others, holds_handled}
 use Rattle.walrus_module.specs.Sections.{IsHandled, sections}
 
 -- ---- tests
@@ -44,40 +40,9 @@ absent (Some x) e = absurd (failed e)
 
 -- ---- what passes is what its handled part makes
 
-value_kept : (v : RawVal) → is_number v ≡ true → v ≡ widened_value (narrowed_value v)
-value_kept vals.I32 e = refl
-value_kept vals.I64 e = refl
-value_kept vals.F32 e = refl
-value_kept vals.F64 e = refl
-value_kept vals.V128 e = refl
-value_kept (vals.Ref r) e = absurd (failed e)
-
 all_kept : {A B : Type 0} (test : A → Bool) (wide : B → A) (narrow : A → B) → ((x : A) → test x ≡ true → x ≡ wide (narrow x)) → (xs : List A) → list_all test xs ≡ true → xs ≡ map wide (map narrow xs)
 all_kept test wide narrow kept [] e = refl
 all_kept test wide narrow kept (x ∷ xs) e = let p = both (test x) (list_all test xs) e in ap₂ ◌∷◌ (kept x p.0) (all_kept test wide narrow kept xs p.1)
-
-type_with : List RawVal → List RawVal → FuncType
-type_with params results = record { params = params; results = results }
-
-comp_kept : (c : Comp) → takes_numbers c ≡ true → c ≡ Function (record { params = map widened_value (narrowed_comp c).params; results = map widened_value (narrowed_comp c).results })
-unfolding type_with
-comp_kept (Function t) e =
-    let p = both (are_numbers t.params) (are_numbers t.results) e in
-    ap Function (ap₂ type_with (all_kept is_number widened_value narrowed_value value_kept t.params p.0) (all_kept is_number widened_value narrowed_value value_kept t.results p.1))
-comp_kept (Struct fields) e = absurd (failed e)
-comp_kept (Array field) e = absurd (failed e)
-
-sub_with : Bool → List ℕ → Comp → Sub
-sub_with is_final supers comp = record { is_final = is_final; supers = supers; comp = comp }
-
-group_kept : (g : Group) → is_lone g ≡ true → g ≡ widened_type (narrowed_type g)
-unfolding sub_with
-group_kept [] e = absurd (failed e)
-group_kept (s ∷ []) e =
-    let p = both (s.is_final && is_empty s.supers) (takes_numbers s.comp) e in
-    let q = both s.is_final (is_empty s.supers) p.0 in
-    ap (λ x. x ∷ []) (ap (λ b. sub_with b s.supers s.comp) q.0 ∙ ap₂ (sub_with true) (nothing s.supers q.1) (comp_kept s.comp p.1))
-group_kept (s ∷ t ∷ rest) e = absurd (failed e)
 
 kind_kept : (k : RawExportKind) → is_function k ≡ true → k ≡ kinds.Function
 kind_kept kinds.Function e = refl
@@ -143,11 +108,10 @@ those_alone m h =
 
 pub handled_from_test : (m : wire.Module) → holds_handled m ≡ true → IsHandled m
 handled_from_test m e =
-    let p = both (list_all is_lone m.types && list_all (λ x. is_function x.kind) m.exports) (has_no_others m) e in
-    let q = both (list_all is_lone m.types) (list_all (λ x. is_function x.kind) m.exports) p.0 in
+    let p = both (list_all (λ x. is_function x.kind) m.exports) (has_no_others m) e in
     those_alone m (no_others m p.1)
-    ∙ ap₂ (λ types exports. record wire.no_sections { order = m.order; types = types; functions = m.functions; exports = exports; bodies = m.bodies })
-    (all_kept is_lone widened_type narrowed_type group_kept m.types q.0) (all_kept (λ x. is_function x.kind) widened_export narrowed_export export_kept m.exports q.1)
+    ∙ ap (λ exports. record wire.no_sections { order = m.order; types = m.types; functions = m.functions; exports = exports; bodies = m.bodies })
+    (all_kept (λ x. is_function x.kind) widened_export narrowed_export export_kept m.exports p.0)
 
 -- ---- what is handled passes
 
@@ -155,25 +119,11 @@ all_pass : {A B : Type 0} (test : A → Bool) (wide : B → A) → ((x : B) → 
 all_pass test wide passes [] = refl
 all_pass test wide passes (x ∷ xs) = each (test (wide x)) (list_all test (map wide xs)) (passes x) (all_pass test wide passes xs)
 
-value_passes : (v : handled.Value) → is_number (widened_value v) ≡ true
-value_passes handled.I32 = refl
-value_passes handled.I64 = refl
-value_passes handled.F32 = refl
-value_passes handled.F64 = refl
-value_passes handled.V128 = refl
-
-type_passes : (t : handled.FuncType) → is_lone (widened_type t) ≡ true
-type_passes t = each (are_numbers (map widened_value t.params)) (are_numbers (map widened_value t.results)) (all_pass is_number widened_value value_passes t.params) (all_pass is_number widened_value value_passes t.results)
-
 kind_passes : (k : handled.ExportKind) → is_function (widened_kind k) ≡ true
 kind_passes handled.Function = refl
 
 widened_passes : (m : handled.Module) → holds_handled (widened m) ≡ true
-widened_passes m =
-    each (list_all is_lone (map widened_type m.types) && list_all (λ x. is_function x.kind) (map widened_export m.exports)) true
-    (each (list_all is_lone (map widened_type m.types)) (list_all (λ x. is_function x.kind) (map widened_export m.exports))
-    (all_pass is_lone widened_type type_passes m.types) (all_pass (λ x. is_function x.kind) widened_export (λ x. kind_passes x.kind) m.exports))
-    refl
+widened_passes m = each (list_all (λ x. is_function x.kind) (map widened_export m.exports)) true (all_pass (λ x. is_function x.kind) widened_export (λ x. kind_passes x.kind) m.exports) refl
 
 pub test_from_handled : (m : wire.Module) → IsHandled m → holds_handled m ≡ true
 test_from_handled m h = subst (λ (x : wire.Module). holds_handled x ≡ true) (sym h) (widened_passes (narrowed m))
@@ -188,20 +138,12 @@ mapped_twice : {A B C : Type 0} (f : B → C) (g : A → B) (xs : List A) → ma
 mapped_twice f g [] = refl
 mapped_twice f g (x ∷ xs) = ap (λ l. f (g x) ∷ l) (mapped_twice f g xs)
 
-with_entries : Raw → List handled.FuncType → List handled.Export → handled.Module
-with_entries r types exports = record { order = r.order.items; types = types; functions = r.functions.items; exports = exports; bodies = map wire.body_record r.bodies.items }
+with_exports : Raw → List handled.Export → handled.Module
+with_exports r exports = record { order = r.order.items; types = map group r.types.items; functions = r.functions.items; exports = exports; bodies = map wire.body_record r.bodies.items }
 
 narrowed_sections : (r : Raw) → narrowed (wire.sections r) ≡ sections r
-unfolding with_entries
-narrowed_sections r = ap₂ (with_entries r) (mapped_twice narrowed_type group r.types.items) (mapped_twice narrowed_export export_entry r.exports.items)
+unfolding with_exports
+narrowed_sections r = ap (with_exports r) (mapped_twice narrowed_export export_entry r.exports.items)
 
 pub sections_widened : (r : Raw) → IsHandled (wire.sections r) → wire.sections r ≡ widened (sections r)
 sections_widened r h = h ∙ ap widened (narrowed_sections r)
-
--- each group in memory is one type alone
-pub lone_groups : (r : Raw) → IsHandled (wire.sections r) → All (λ g. is_lone (group g) ≡ true) r.types.items
-lone_groups r h =
-    let w = wire.sections r in
-    let p = both (list_all is_lone w.types && list_all (λ x. is_function x.kind) w.exports) (has_no_others w) (test_from_handled w h) in
-    let q = both (list_all is_lone w.types) (list_all (λ x. is_function x.kind) w.exports) p.0 in
-    all_unmapped (λ g. is_lone g ≡ true) group r.types.items (AllPass-from_list_all is_lone (map group r.types.items) q.0)

@@ -1,6 +1,6 @@
 -- The rules on what is handled are the rules on sections that hold it.
-use Rattle.std.proofs.Common.{◌≡◌, ◌≢◌, ℕ, zero, suc, ◌+◌, ◌<◌, ◌≤◌, true, List, [], ◌∷◌, map, length, get_or, take, refl, sym, ap, ap₂, subst, ◌∙◌, arith}
-use Rattle.std.specs.Prelude.{All, AllPairs, slice_get, flat_map, sum_by, sum, zip}
+use Rattle.std.proofs.Common.{◌≡◌, ◌≢◌, ℕ, ◌+◌, ◌<◌, ◌≤◌, true, List, [], ◌∷◌, map, length, get_or, refl, sym, ap, ap₂, subst, ◌∙◌, arith}
+use Rattle.std.specs.Prelude.{Option, Some, None, is_some, All, AllPairs, slice_get, flat_map, option_map, sum, zip}
 use Rattle.std.specs.List.{AllZip}
 use Rattle.std.proofs.lemmas.List.{get_or-map, length-map}
 use Rattle.std.proofs.lemmas.List.Elements.{All-nil, All-cons}
@@ -12,31 +12,69 @@ use Rattle.wasm_wire.specs.declared.rules.counts.Counts.{Counts}
 use Rattle.wasm_wire.specs.Context.{context_of, counts_of}
 use Rattle.wasm_frames.specs.declared.record.Raw.{Raw}
 use Rattle.wasm_frames.specs.Frames.{Frames}
-use Rattle.wasm_wire.specs.Indices.{ValueHolds, SubRefers, GroupRefers, TypesRefer, IndicesHold, ExportHolds, count_of}
+use Rattle.wasm_wire.specs.Indices.{IndicesHold, ExportHolds, count_of}
 use Rattle.wasm_frames.specs.Record as wire
 use Rattle.wasm_wire.specs.Rules as wire_rules
-use Rattle.wasm_wire.proofs.Checked.{all_mapped, all_unmapped, each_mapped}
+use Rattle.wasm_wire.proofs.Checked.{all_mapped, all_unmapped}
+use Rattle.walrus_base.specs.Types.{SubType}
+use Rattle.walrus_types.specs.TypeDef.{TypeDef}
+use Rattle.walrus_groups.specs.Groups.{comp_of, sub_of, types_from}
+use Rattle.walrus_bodies.specs.FunctionTypes.{is_function_comp, is_function_def}
 use Rattle.walrus_bodies.specs.Body.{declarations, how_many, most_locals}
 use Rattle.walrus_model.specs.Config.{Config}
 use Rattle.walrus_model.specs.Handled as handled
-use Rattle.walrus_model.specs.Handled.{widened_value, widened_type, widened_kind, widened_export, widened}
-use Rattle.walrus_model.specs.Reads.{Said, ReadsBody}
+use Rattle.walrus_model.specs.Handled.{widened_kind, widened_export, widened}
+use Rattle.walrus_model.specs.Reads.{Said, ReadsBody, types_of, is_function}
 use Rattle.walrus_module.specs.Sections.{Rules, IsHandled, sections}
 use Rattle.walrus_module.proofs.HandledOnly.{sections_widened}
-use Rattle.walrus_module.proofs.Parsing.{pairs_map}
+use Rattle.walrus_module.proofs.Lookups.{none_there, got_in, got_map, pairs_map}
+use Rattle.walrus_module.proofs.Named.{some_inj}
+use Rattle.walrus_module.proofs.TypeLists.{types_subs}
 
 -- ---- types by index
 
--- the type that is alone in its group
-abbrev lone : handled.FuncType → entries.Sub
-lone t = record { is_final = true; supers = []; comp = entries.Function (record { params = map widened_value t.params; results = map widened_value t.results }) }
+abbrev flat : handled.Module → List entries.Sub
+flat m = flat_map (λ g. g) m.types
 
-each_alone : (ts : List handled.FuncType) → flat_map (λ g. g) (map widened_type ts) ≡ map lone ts
-each_alone [] = refl
-each_alone (t ∷ ts) = ap (λ l. lone t ∷ l) (each_alone ts)
+-- the type of an index is the same in both lists
+same_at : (m : handled.Module) (t : ℕ) → option_map (λ (x : TypeDef). x.sub) (types_of m t) ≡ option_map sub_of (slice_get (flat m) t)
+same_at m t =
+    sym (got_map (λ (x : TypeDef). x.sub) (types_from 0 m.types) t)
+    ∙ ap (λ l. slice_get l t) (types_subs 0 m.types)
+    ∙ got_map sub_of (flat m) t
 
-as_many : (ts : List handled.FuncType) → length (flat_map (λ g. g) (map widened_type ts)) ≡ length ts
-as_many ts = ap length (each_alone ts) ∙ length-map ts lone
+comp_function : (c : entries.Comp) → wire_rules.IsFunctionComp c → is_function_comp (comp_of c) ≡ true
+comp_function (entries.Function t) h = refl
+comp_function (entries.Struct fields) h = absurd h
+comp_function (entries.Array field) h = absurd h
+
+function_comp : (c : entries.Comp) → is_function_comp (comp_of c) ≡ true → wire_rules.IsFunctionComp c
+function_comp (entries.Function t) e = tt
+function_comp (entries.Struct fields) e = absurd (none_there e)
+function_comp (entries.Array field) e = absurd (none_there e)
+
+function_by : (o : Option TypeDef) (s : Option entries.Sub) → option_map (λ (x : TypeDef). x.sub) o ≡ option_map sub_of s → wire_rules.IsFunction s → is_function_def o ≡ true
+function_by None None e h = absurd h
+function_by (Some x) None e h = absurd h
+function_by None (Some s) e h = absurd (cc)
+function_by (Some x) (Some s) e h =
+    let same : x.sub ≡ sub_of s = some_inj x.sub (sub_of s) e in
+    ap (λ (y : SubType ℕ). is_function_comp y.comp) same ∙ comp_function s.comp h
+
+by_function : (o : Option TypeDef) (s : Option entries.Sub) → option_map (λ (x : TypeDef). x.sub) o ≡ option_map sub_of s → is_function_def o ≡ true → wire_rules.IsFunction s
+by_function None s e h = absurd (none_there h)
+by_function (Some x) None e h = absurd (cc)
+by_function (Some x) (Some s) e h =
+    let same : x.sub ≡ sub_of s = some_inj x.sub (sub_of s) e in
+    function_comp s.comp (ap (λ (y : SubType ℕ). is_function_comp y.comp) (sym same) ∙ h)
+
+got_within : {A : Type 0} (xs : List A) (i : ℕ) (s : Option A) → slice_get xs i ≡ s → is_some s ≡ true → i < length xs
+got_within xs i None e h = absurd (none_there h)
+got_within xs i (Some x) e h = (got_in xs i x e).0
+
+function_some : (s : Option entries.Sub) → wire_rules.IsFunction s → is_some s ≡ true
+function_some None h = absurd h
+function_some (Some s) h = refl
 
 -- ---- from sections to what is handled
 
@@ -53,48 +91,21 @@ index_within c handled.Function i h = h
 pub narrow_rules : (m : handled.Module) → wire_rules.Rules (widened m) → Rules m
 narrow_rules m h = record {
   sections_in_order = h.in_order;
-  indices_hold = (
-    subst (λ n. All (λ t. t < n) m.functions) (as_many m.types) h.indices.functions,
-    λ i d lt. index_within (counts_of (context_of (widened m))) (get_or m.exports i d).kind (get_or m.exports i d).index
-        (all_unmapped (ExportHolds (counts_of (context_of (widened m)))) widened_export m.exports h.indices.exports i d lt),
-  );
+  types_refer = h.types;
+  function_types = λ i d lt. function_by (types_of m (get_or m.functions i d)) (slice_get (flat m) (get_or m.functions i d)) (same_at m (get_or m.functions i d)) (h.function_types i d lt);
+  exports_hold = λ i d lt. index_within (counts_of (context_of (widened m))) (get_or m.exports i d).kind (get_or m.exports i d).index
+      (all_unmapped (ExportHolds (counts_of (context_of (widened m)))) widened_export m.exports h.indices.exports i d lt);
   as_many_bodies = h.as_many_bodies;
   names_differ = pairs_unmapped (λ (a b : entries.Export). a.name ≢ b.name) widened_export m.exports h.names_differ;
 }
 
 -- ---- from what is handled to sections
 
-value_holds : (end : ℕ) (v : handled.Value) → ValueHolds end (widened_value v)
-value_holds end handled.I32 = tt
-value_holds end handled.I64 = tt
-value_holds end handled.F32 = tt
-value_holds end handled.F64 = tt
-value_holds end handled.V128 = tt
+function_types : (m : handled.Module) → All (λ t. is_function m t ≡ true) m.functions → wire_rules.AreFunctionTypes (flat m) m.functions
+function_types m h = λ i d lt. by_function (types_of m (get_or m.functions i d)) (slice_get (flat m) (get_or m.functions i d)) (same_at m (get_or m.functions i d)) (h i d lt)
 
-values_hold : (end : ℕ) (vs : List handled.Value) → All (ValueHolds end) (map widened_value vs)
-values_hold end vs = all_mapped (ValueHolds end) widened_value vs (λ i d lt. value_holds end (get_or vs i d))
-
-lone_refers : (end index : ℕ) (t : handled.FuncType) → SubRefers end index (lone t)
-lone_refers end index t = record {
-  one_supertype = omega arith;
-  supertypes = All-nil (λ u. u < index);
-  others = (values_hold end t.params, values_hold end t.results);
-}
-
-group_refers : (first : ℕ) (t : handled.FuncType) → GroupRefers first (widened_type t)
-group_refers first t zero d lt = lone_refers (first + 1) (first + 0) t
-group_refers first t (suc i) d lt = absurd (omega (arith, lt))
-
-types_refer : (ts : List handled.FuncType) → TypesRefer (map widened_type ts)
-types_refer ts = each_mapped (λ k. GroupRefers (sum_by (λ (g : entries.Group). length g) (take k (map widened_type ts)))) widened_type ts (λ k d lt. group_refers _ (get_or ts k d))
-
-lone_at : (ts : List handled.FuncType) (t : ℕ) → t < length ts → wire_rules.IsFunction (slice_get (map lone ts) t)
-lone_at [] t lt = absurd (omega (arith, lt))
-lone_at (x ∷ ts) zero lt = tt
-lone_at (x ∷ ts) (suc t) lt = lone_at ts t (omega (arith, lt))
-
-function_types : (m : handled.Module) → All (λ t. t < length m.types) m.functions → wire_rules.AreFunctionTypes (context_of (widened m)).types m.functions
-function_types m h = subst (λ types. wire_rules.AreFunctionTypes types m.functions) (sym (each_alone m.types)) (λ i d lt. lone_at m.types (get_or m.functions i d) (h i d lt))
+types_within : (m : handled.Module) → wire_rules.AreFunctionTypes (flat m) m.functions → All (λ t. t < length (flat m)) m.functions
+types_within m h = λ i d lt. got_within (flat m) (get_or m.functions i d) (slice_get (flat m) (get_or m.functions i d)) refl (function_some (slice_get (flat m) (get_or m.functions i d)) (h i d lt))
 
 within_index : (c : Counts) (k : handled.ExportKind) (i : ℕ) → i < c.functions → i < count_of c (widened_kind k)
 within_index c handled.Function i h = h
@@ -102,12 +113,12 @@ within_index c handled.Function i h = h
 indices_hold : (m : handled.Module) → Rules m → IndicesHold (counts_of (context_of (widened m))) (widened m)
 indices_hold m h = record {
   imports = λ i d lt. absurd (omega (arith, lt));
-  functions = subst (λ n. All (λ t. t < n) m.functions) (sym (as_many m.types)) h.indices_hold.0;
+  functions = types_within m (function_types m h.function_types);
   tables = λ i d lt. absurd (omega (arith, lt));
   tags = λ i d lt. absurd (omega (arith, lt));
   globals = λ i d lt. absurd (omega (arith, lt));
   exports = all_mapped (ExportHolds (counts_of (context_of (widened m)))) widened_export m.exports
-      (λ i d lt. within_index (counts_of (context_of (widened m))) (get_or m.exports i d).kind (get_or m.exports i d).index (h.indices_hold.1 i d lt));
+      (λ i d lt. within_index (counts_of (context_of (widened m))) (get_or m.exports i d).kind (get_or m.exports i d).index (h.exports_hold i d lt));
   start = tt;
   elements = λ i d lt. absurd (omega (arith, lt));
   data_segments = λ i d lt. absurd (omega (arith, lt));
@@ -139,9 +150,9 @@ bodies_hold c m (f ∷ fs) (b ∷ bs) (said ∷ bodies) same read = All-cons wir
 pub widen_rules : (c : Config) (m : handled.Module) (bodies : List Said) → Rules m → AllZip (ReadsBody c m) (zip m.functions m.bodies) bodies → wire_rules.Rules (widened m)
 widen_rules c m bodies h read = record {
   in_order = h.sections_in_order;
-  types = types_refer m.types;
+  types = h.types_refer;
   indices = indices_hold m h;
-  function_types = function_types m h.indices_hold.0;
+  function_types = function_types m h.function_types;
   tag_types = λ i d lt. absurd (omega (arith, lt));
   tables = λ i d lt. absurd (omega (arith, lt));
   memories = λ i d lt. absurd (omega (arith, lt));

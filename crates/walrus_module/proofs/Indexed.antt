@@ -6,7 +6,7 @@ use Rattle.std.proofs.lemmas.List.{get_or-map, length-map}
 use Rattle.std.proofs.lemmas.List.Elements.{All-cons}
 use Rattle.walrus_base.specs.Arena.{item_at, entries, items}
 use Rattle.walrus_base.specs.Id.{place}
-use Rattle.walrus_base.specs.Types.{ValType, val_names}
+use Rattle.walrus_base.specs.Types.{ValType, val_names, sub_names}
 use Rattle.walrus_base.specs.declared.id.Id.{Id}
 use Rattle.walrus_base.specs.declared.keys.FunctionKey.{FunctionKey}
 use Rattle.walrus_code.specs.Function.{function_type, body_of}
@@ -23,13 +23,14 @@ use Rattle.walrus_items.specs.Exports.{ExportValue, exported}
 use Rattle.walrus_items.specs.Functions.{FunctionValue, local_at}
 use Rattle.walrus_items.specs.declared.functions.FunctionKind.{FunctionKind}
 use Rattle.walrus_items.specs.declared.functions.FunctionKind.TheVariants as kind
+use Rattle.walrus_groups.specs.Indexed.{LacksAnIndex as TypesLackAnIndex}
 use Rattle.walrus_parts.specs.Errors.{error_of_ir}
 use Rattle.walrus_model.proofs.Lists.{Contains-map, Contains-uncons, Contains-none, Contains-append_2}
 use Rattle.walrus_module.specs.Emitted.{is_there_in, RefusesBodies}
 use Rattle.walrus_module.specs.Numbered.{AreNumbered}
 use Rattle.walrus_module.specs.Parts.{Held, local_in, type_index, export_with_index, source, IsIndexed}
 use Rattle.walrus_module.specs.Sizes.{IsOrder}
-use Rattle.walrus_module.specs.Whole.{is_there, is_live, are_live, is_local_whole, is_val_whole, is_whole, all_types_whole, all_functions_whole, all_exports_live, is_local, all_local}
+use Rattle.walrus_module.specs.Whole.{is_there, is_live, are_live, is_type_whole, is_local_whole, is_val_whole, is_whole, all_types_whole, all_functions_whole, all_exports_live, is_local, all_local}
 use Rattle.walrus_module.proofs.Entries.{both_pass, item_passes, entry_placed, contains_placed, LocalAt, order_live, order_placed}
 use Rattle.walrus_module.proofs.NamedAll.{val_named, ops_named}
 use Rattle.walrus_module.proofs.Somes.{none_there, some_inj, some_of, still_some}
@@ -103,6 +104,18 @@ module _ (h : Held) (exports : List ExportValue) (there : is_there_in h exports 
   functions_whole =
       let front = both_pass (all_types_whole h.types h.slots h.funcs && all_functions_whole h.types h.slots h.funcs) (all_exports_live h.types h.slots h.funcs exports) there in
       (both_pass (all_types_whole h.types h.slots h.funcs) (all_functions_whole h.types h.slots h.funcs) front.0).1
+
+  types_whole : all_types_whole h.types h.slots h.funcs ≡ true
+  types_whole =
+      let front = both_pass (all_types_whole h.types h.slots h.funcs && all_functions_whole h.types h.slots h.funcs) (all_exports_live h.types h.slots h.funcs exports) there in
+      (both_pass (all_types_whole h.types h.slots h.funcs) (all_functions_whole h.types h.slots h.funcs) front.0).0
+
+  -- each type that a type names has an index
+  pub no_type_lacks : TypesLackAnIndex names (items h.types) → ⊥
+  no_type_lacks (x, (t, (has, named, none))) =
+      let items_in = map type_item (sub_names x.sub) in
+      let whole : are_live h.types h.slots h.funcs items_in ≡ true = all_pass (is_type_whole h.types h.slots h.funcs) (items h.types) x types_whole has in
+      none_there (subst (λ (o : Option ℕ). IsSome o) none (items_named items_in whole (Types, t) (Contains-map type_item t (sub_names x.sub) named)))
 
   exports_live : all_exports_live h.types h.slots h.funcs exports ≡ true
   exports_live = (both_pass (all_types_whole h.types h.slots h.funcs && all_functions_whole h.types h.slots h.funcs) (all_exports_live h.types h.slots h.funcs exports) there).1

@@ -1,18 +1,21 @@
 -- What sections read as keeps the rules of a module.
-use Rattle.std.proofs.Common.{inl, inr, ◌≡◌, ◌≢◌, ◌⊎◌, ⊎_elim, ℕ, zero, suc, ◌+◌, ◌<◌, ◌≤◌, Bool, true, false, List, [], ◌∷◌, ◌++◌, length, map, get_or, refl, sym, ap, ap₂, subst, ◌∙◌, arith}
-use Rattle.std.specs.Prelude.{Option, Some, None, IsSome, Contains, All, slice_get, zip, flat_map, replicate, option_map, nat_lt, ◌&&◌, if◌then◌else◌}
-use Rattle.std.specs.List.{AllZip, list_all}
-use Rattle.std.proofs.lemmas.Bool.{ltb-true}
+use Rattle.std.proofs.Common.{inl, inr, ◌≡◌, ◌≢◌, ◌⊎◌, ⊎_elim, ℕ, zero, suc, ◌+◌, ◌-◌, ◌<◌, ◌≤◌, Bool, true, false, List, [], ◌∷◌, ◌++◌, length, map, get_or, take, refl, sym, ap, ap₂, subst, ◌∙◌, arith}
+use Rattle.std.specs.Prelude.{Option, Some, None, IsSome, Contains, All, slice_get, zip, flat_map, replicate, nat_lt, ◌&&◌, if◌then◌else◌}
+use Rattle.std.specs.List.{AllZip, list_all, range_with_len}
+use Rattle.std.proofs.lemmas.Bool.{ltb-true, cases_lt}
 use Rattle.std.proofs.lemmas.List.{length-append, length-replicate}
-use Rattle.std.proofs.lemmas.List.Elements.{Contains-append_cases, All-contains, All-map}
+use Rattle.std.proofs.lemmas.List.Elements.{Contains-append_cases, Contains-get_or, All-contains, All-append, All-map}
 use Rattle.wasm_forms.specs.Reading.{◌>>=◌}
 use Rattle.wasm_forms.specs.declared.types.RawVal.{RawVal}
-use Rattle.wasm_frames.specs.Record as wire
-use Rattle.walrus_base.specs.Types.{ValType, CompType, Func, Struct, Array, comp_names, val_heaps, val_names, heap_names}
-use Rattle.walrus_types.specs.Operators.{Space, Types, Functions, Tables, Memories, Tags, Globals, Elements, DataSegments, Item, BlockType, OfType, Arg, Block, Op, type_item, names_of, locals_of}
+use Rattle.wasm_entries.specs.Record.{Group}
+use Rattle.wasm_wire.specs.Indices as wire_indices
+use Rattle.walrus_base.specs.Types.{ValType, CompType, Func, Struct, Array, SubType, comp_names, sub_names, val_names}
+use Rattle.walrus_types.specs.TypeDef.{type_params}
+use Rattle.walrus_groups.specs.Groups.{types_from}
+use Rattle.walrus_types.specs.Operators.{Space, Types, Functions, Tables, Memories, Tags, Globals, Elements, DataSegments, Item, OfType, Block, Op, type_item, names_of, locals_of}
 use Rattle.walrus_code.specs.FromRaw.{val_of, ops_of}
 use Rattle.walrus_code.specs.Names.{Lookup, named_val, named_ops}
-use Rattle.walrus_bodies.specs.Blocks.{block_holds, args_hold, blocks_hold}
+use Rattle.walrus_bodies.specs.Blocks.{block_holds, args_hold}
 use Rattle.walrus_bodies.specs.Body.{BodyReads, declared_types, how_many}
 use Rattle.walrus_bodies.specs.FunctionTypes.{is_function_comp, is_function_def}
 use Rattle.walrus_functions.specs.Handlers.{params_of}
@@ -21,12 +24,13 @@ use Rattle.walrus_model.specs.Abstract.{Abstract, TypeDef, Body, Function, Expor
 use Rattle.walrus_model.specs.Config.{Config}
 use Rattle.walrus_model.specs.Live.{Has, IsLive}
 use Rattle.walrus_model.specs.Names.{body_of, body_of_function, body_of_kind}
-use Rattle.walrus_model.specs.Reads.{value_type, function_type, lone_type, types_of, function_with, body_with, space_of, export_of, module_of, Said, ReadsBody, below, declared, arity, context_of, is_function}
+use Rattle.walrus_model.specs.Reads.{types_of, function_with, body_with, space_of, export_of, module_of, Said, ReadsBody, below, declared, arity, context_of, is_function}
 use Rattle.walrus_model.specs.Refers.{named_by, type_names, function_names, written_in, IsUsed, local_names}
-use Rattle.walrus_model.specs.Rules.{TypesRefer, IndicesHold, FunctionTypesHold, RulesHold, IsFunctionType, IsFunctionComp}
+use Rattle.walrus_model.specs.Rules.{TypesRefer, IsEarlier, IndicesHold, FunctionTypesHold, RulesHold, IsFunctionType, IsFunctionComp}
 use Rattle.walrus_model.proofs.Lists.{Contains-uncons, Contains-none}
 use Rattle.walrus_module.specs.Sections.{Rules}
-use Rattle.walrus_module.proofs.Lookups.{none_there, some_of, still_some, mapped_some, got_map, got_zip, there, there_mapped, all_got, zip_long, zip_length, zip_left, pairs_map, range_within}
+use Rattle.walrus_module.proofs.Lookups.{none_there, some_of, mapped_some, got_map, got_zip, got_in, there, there_mapped, all_got, zip_long, zip_length, zip_left, pairs_map, range_within}
+use Rattle.walrus_module.proofs.TypeLists.{IsMember, type_is_member, member_refers, group_fits, types_count as type_count, count, in_range, range_bounds, comp_below, params_below}
 use Rattle.walrus_module.proofs.Named.{through, some_inj, val_again, ops_again}
 use Rattle.walrus_module.proofs.NamedFound.{val_found, names_found, locals_found}
 use Rattle.walrus_model.specs.Handled as handled
@@ -56,26 +60,6 @@ passes p (y ∷ xs) x h c =
     parts : (a b : Bool) → (a && b) ≡ true → (a ≡ true) × (b ≡ true)
     parts true b e = (refl, e)
     parts false b e = absurd (none_there e)
-
--- ---- value types name nothing
-
-value_names : (u : handled.Value) → val_names (value_type u) ≡ []
-value_names handled.I32 = refl
-value_names handled.I64 = refl
-value_names handled.F32 = refl
-value_names handled.F64 = refl
-value_names handled.V128 = refl
-
-no_heaps : (vs : List handled.Value) → flat_map val_heaps (map value_type vs) ≡ []
-no_heaps [] = refl
-no_heaps (handled.I32 ∷ vs) = no_heaps vs
-no_heaps (handled.I64 ∷ vs) = no_heaps vs
-no_heaps (handled.F32 ∷ vs) = no_heaps vs
-no_heaps (handled.F64 ∷ vs) = no_heaps vs
-no_heaps (handled.V128 ∷ vs) = no_heaps vs
-
-names_nothing : (t : handled.FuncType) → comp_names (function_type t) ≡ []
-names_nothing t = ap₂ (λ a b. flat_map heap_names (a ++ b)) (no_heaps t.params) (no_heaps t.results)
 
 -- ---- what was declared
 
@@ -116,7 +100,7 @@ below_same count i j false e h = absurd (let p : None ≡ Some j = sym (ap (λ (
 
 -- what an index leads to is that index
 declared_same : (r : handled.Module) (space : Space) (p j : ℕ) → declared r space p ≡ Some j → p ≡ j
-declared_same r Types p j e = below_same (length r.types) p j (nat_lt p (length r.types)) refl e
+declared_same r Types p j e = below_same (length (types_from 0 r.types)) p j (nat_lt p (length (types_from 0 r.types))) refl e
 declared_same r Functions p j e = below_same (length r.functions) p j (nat_lt p (length r.functions)) refl e
 declared_same r Tables p j e = absurd (cc)
 declared_same r Memories p j e = absurd (cc)
@@ -141,12 +125,6 @@ locals_same a n k x z e =
 kind_is : (k : handled.ExportKind) → Functions ≡ space_of k
 kind_is handled.Function = refl
 
-type_written : (i : ℕ) (o : Option handled.FuncType) (y : Item) → Contains (named_by type_names (option_map (lone_type i) o)) y → IsSome o × (y ≡ type_item i)
-type_written i None y c = absurd (Contains-none y c)
-type_written i (Some t) y c =
-    let c' : Contains (type_item i ∷ []) y = subst (λ l. Contains (type_item i ∷ map type_item l) y) (names_nothing t) c in
-    ⊎_elim (λ (e : type_item i ≡ y). let p : IsSome (Some t) × (y ≡ type_item i) = (refl, sym e) in p) (λ (n : Contains [] y). absurd (Contains-none y n)) (Contains-uncons (type_item i) y [] c')
-
 body_from : (o : Option Function) (b : Body) → body_of_function o ≡ Some b → (f : Function) × (o ≡ Some f) × (body_of_kind f.kind ≡ Some b)
 body_from (Some f) b e = (f, refl, e)
 body_from None b e = cc
@@ -164,12 +142,76 @@ type_is : (o : Option TypeDef) → is_function_def o ≡ true → (x : TypeDef) 
 type_is None e = absurd (none_there e)
 type_is (Some x) e = (x, refl, comp_is x.sub.comp e)
 
--- parameters are numbers and vectors
-params_plain : (o : Option handled.FuncType) (i k : ℕ) (v : ValType ℕ) → slice_get (params_of (option_map (lone_type i) o)) k ≡ Some v → val_names v ≡ []
-params_plain None i k v e = absurd (cc)
-params_plain (Some t) i k v e =
-    let m = mapped_some value_type (slice_get t.params k) v (sym (got_map value_type t.params k) ∙ e) in
-    ap (λ u. val_names u) m.2 ∙ value_names m.0
+-- parameters are those of a type
+params_from : (o : Option TypeDef) (k : ℕ) (v : ValType ℕ) → slice_get (params_of o) k ≡ Some v → (x : TypeDef) × (o ≡ Some x) × (slice_get (type_params x.sub.comp) k ≡ Some v)
+params_from None k v e = absurd (cc)
+params_from (Some x) k v e = (x, refl, e)
+
+-- ---- what types name
+
+-- a group of numbers one behind another, and a number before its end
+earlier_by : (start n u : ℕ) (group : List ℕ) → group ≡ range_with_len start n → u < start + n → (u < start) ⊎ (start ≤ u) → IsEarlier (λ i j. i < j) group u
+earlier_by start n u group is within (inl before) =
+    inr (λ t c. let b = range_bounds start n t (subst (λ (l : List ℕ). Contains l t) is c) in omega (arith, before, b.0))
+earlier_by start n u group is within (inr behind) =
+    let place : start + (u - start) ≡ u = omega (arith, behind) in
+    inl (subst (λ (l : List ℕ). Contains l u) (sym is) (subst (λ (p : ℕ). Contains (range_with_len start n) p) place (in_range start n (u - start) (omega (arith, within, behind)))))
+
+module _ (gs : List Group) (refer : wire_indices.TypesRefer gs) (t : ℕ) (x : TypeDef) (e : slice_get (types_from 0 gs) t ≡ Some x) where
+  m : IsMember 0 gs t x
+  m = type_is_member gs t x e
+
+  start : ℕ
+  start = count (take m.number gs)
+
+  end : ℕ
+  end = start + length m.group
+
+  is_refering : wire_indices.SubRefers end t m.sub
+  unfolding start end
+  is_refering = member_refers gs refer t x m
+
+  one_at : length x.sub.supertypes ≤ 1
+  one_at = subst (λ (s : SubType ℕ). length s.supertypes ≤ 1) (sym m.sub_is) is_refering.one_supertype
+
+  supertypes_at : All (λ u. u < t) x.sub.supertypes
+  supertypes_at = subst (λ (s : SubType ℕ). All (λ u. u < t) s.supertypes) (sym m.sub_is) is_refering.supertypes
+
+  names_at : All (λ u. u < end) (comp_names x.sub.comp)
+  names_at = subst (λ (s : SubType ℕ). All (λ u. u < end) (comp_names s.comp)) (sym m.sub_is) (comp_below end m.sub.comp is_refering.others)
+
+  group_at : x.group ≡ range_with_len start (length m.group)
+  unfolding start
+  group_at = m.group_is ∙ ap (λ (n : ℕ). range_with_len n (length m.group)) (let p : 0 + count (take m.number gs) ≡ count (take m.number gs) = omega arith in p)
+
+  earlier_at : (u : ℕ) → Contains (comp_names x.sub.comp) u → IsEarlier (λ i j. i < j) x.group u
+  unfolding end
+  earlier_at u c =
+      let within : u < start + length m.group = All-contains (λ n. n < end) (comp_names x.sub.comp) u names_at c in
+      earlier_by start (length m.group) u x.group group_at within (cases_lt u start)
+
+  end_fits : end ≤ length (types_from 0 gs)
+  unfolding start end
+  end_fits =
+      let fits : count (take m.number gs) + length m.group ≤ count gs = group_fits gs m.number m.group m.group_there in
+      omega (arith, fits, type_count 0 gs)
+
+  -- all that a type names is among the types
+  group_live : All (λ u. u < length (types_from 0 gs)) x.group
+  unfolding end
+  group_live = subst (λ (l : List ℕ). All (λ u. u < length (types_from 0 gs)) l) (sym group_at) (λ k d lt.
+      let b = range_bounds start (length m.group) (get_or (range_with_len start (length m.group)) k d) (Contains-get_or (range_with_len start (length m.group)) k d lt) in
+      omega (arith, b.1, end_fits))
+
+  subs_live : All (λ u. u < length (types_from 0 gs)) (sub_names x.sub)
+  subs_live = All-append (λ u. u < length (types_from 0 gs)) x.sub.supertypes (comp_names x.sub.comp)
+      (λ k d lt. let a = supertypes_at k d lt in omega (arith, a, (got_in (types_from 0 gs) t x e).0))
+      (λ k d lt. let a = names_at k d lt in omega (arith, a, end_fits))
+
+  params_live : (k : ℕ) (v : ValType ℕ) → slice_get (type_params x.sub.comp) k ≡ Some v → All (λ u. u < length (types_from 0 gs)) (val_names v)
+  params_live k v g = λ i d lt.
+      let a = params_below end x.sub.comp names_at k v g i d lt in
+      omega (arith, a, end_fits)
 
 -- ---- the module that was read
 
@@ -180,15 +222,19 @@ module _ (c : Config) (r : handled.Module) (bodies : List Said) (rules : Rules r
   many : length bodies ≡ length r.functions
   many = sym (zip_length (ReadsBody c r) (zip r.functions r.bodies) bodies read) ∙ zip_long r.functions r.bodies rules.as_many_bodies
 
-  has_type : (t : ℕ) → t < length r.types → IsSome (M.types t)
-  has_type t lt = still_some (lone_type t) (slice_get r.types t) (there r.types t lt)
+  has_type : (t : ℕ) → t < length (types_from 0 r.types) → IsSome (M.types t)
+  has_type t lt = there (types_from 0 r.types) t lt
+
+  -- so are all types that are declared
+  are_live : (ts : List ℕ) → All (λ u. u < length (types_from 0 r.types)) ts → (y : Item) → Contains (map type_item ts) y → IsLive M y
+  are_live ts all y c = All-contains (IsLive M) (map type_item ts) y (All-map (IsLive M) type_item ts (λ k d lt. has_type (get_or ts k d) (all k d lt))) c
 
   has_function : (f : ℕ) → f < length r.functions → IsSome (M.functions f)
   has_function f lt = there_mapped (function_with r) (zip r.functions bodies) f (omega (arith, lt, zip_long r.functions bodies many))
 
   -- what is declared is there
   declared_live : (space : Space) (i : ℕ) → IsSome (declared r space i) → Has M space i
-  declared_live Types i h = has_type i (below_some (length r.types) i (nat_lt i (length r.types)) refl h)
+  declared_live Types i h = has_type i (below_some (length (types_from 0 r.types)) i (nat_lt i (length (types_from 0 r.types))) refl h)
   declared_live Functions i h = has_function i (below_some (length r.functions) i (nat_lt i (length r.functions)) refl h)
   declared_live Tables i h = absurd (none_there h)
   declared_live Memories i h = absurd (none_there h)
@@ -196,6 +242,9 @@ module _ (c : Config) (r : handled.Module) (bodies : List Said) (rules : Rules r
   declared_live Globals i h = absurd (none_there h)
   declared_live Elements i h = absurd (none_there h)
   declared_live DataSegments i h = absurd (none_there h)
+
+  type_within : (t : ℕ) → is_function r t ≡ true → t < length (types_from 0 r.types)
+  type_within t h = let x = type_is (types_of r t) h in (got_in (types_from 0 r.types) t x.0 x.1).0
 
   -- ---- function by function
 
@@ -208,7 +257,7 @@ module _ (c : Config) (r : handled.Module) (bodies : List Said) (rules : Rules r
     said : Said
     bytes : List ℕ
     is : f ≡ function_with r (at_type, said)
-    below : at_type < length r.types
+    takes : is_function r at_type ≡ true
     reads : BodyReads (context_of c r) (locals_from 0 (arity r at_type + length said.0)) bytes said.0 said.1
 
   function_at : (i : ℕ) (f : Function) → M.functions i ≡ Some f → At f
@@ -223,7 +272,7 @@ module _ (c : Config) (r : handled.Module) (bodies : List Said) (rules : Rules r
         said = m.0.1;
         bytes = b.0.1.bytes;
         is = m.2;
-        below = all_got (λ t. t < length r.types) r.functions i m.0.0 rules.indices_hold.0 z.0;
+        takes = all_got (λ t. is_function r t ≡ true) r.functions i m.0.0 rules.function_types z.0;
         reads = subst (λ (t : ℕ). BodyReads (context_of c r) (locals_from 0 (arity r t + length m.0.1.0)) b.0.1.bytes m.0.1.0 m.0.1.1) same b.2;
       }
 
@@ -256,18 +305,23 @@ module _ (c : Config) (r : handled.Module) (bodies : List Said) (rules : Rules r
       let here : named_val d v ≡ Some v = types_hold d (λ w. named_val d w ≡ Some w) again a.reads.declared a.said.0 a.reads.typed k v e in
       declared_live y.0 y.1 (val_found d v v here y n)
 
+  param_live : (t k : ℕ) (v : ValType ℕ) → slice_get (params_at t) k ≡ Some v → (y : Item) → Contains (map type_item (val_names v)) y → IsLive M y
+  param_live t k v e y n =
+      let p = params_from (types_of r t) k v e in
+      are_live (val_names v) (params_live r.types rules.types_refer t p.0 p.1 k v p.2) y n
+
   local_live : (f : Function) (a : At f) (x : ℕ) (y : Item) → Contains (local_names (body_with (params_at a.at_type) a.said) x) y → IsLive M y
   local_live f a x y n =
       named_if (λ v. map type_item (val_names v)) (slice_get (params_at a.at_type ++ a.said.0) x) (IsLive M)
       (λ v e z m.
       got_append (λ w. (u : Item) → Contains (map type_item (val_names w)) u → IsLive M u) (params_at a.at_type) a.said.0
-      (λ k w g u o. absurd (Contains-none u (subst (λ (l : List ℕ). Contains (map type_item l) u) (params_plain (slice_get r.types a.at_type) a.at_type k w g) o)))
+      (param_live a.at_type)
       (λ k w g u o. declared_found f a k w g u o) x v e z m) y n
 
   names_live : (f : Function) (a : At f) (y : Item) → Contains (function_names (function_with r (a.at_type, a.said))) y → IsLive M y
   names_live f a y n =
       let b = body_with (params_at a.at_type) a.said in
-      ⊎_elim (λ (e : type_item a.at_type ≡ y). subst (IsLive M) e (has_type a.at_type a.below))
+      ⊎_elim (λ (e : type_item a.at_type ≡ y). subst (IsLive M) e (has_type a.at_type (type_within a.at_type a.takes)))
       (λ (d : Contains (names_of a.said.1 ++ flat_map (local_names b) (locals_of a.said.1)) y).
       ⊎_elim (λ (m : Contains (names_of a.said.1) y). declared_live y.0 y.1 (names_found (declared r) (locals_from 0 (arity r a.at_type + length a.said.0)) a.said.1 a.said.1 (operators_found f a) y m))
       (λ (m : Contains (flat_map (local_names b) (locals_of a.said.1)) y). in_flat_map (local_names b) (IsLive M) (locals_of a.said.1) (local_live f a) y m)
@@ -278,21 +332,16 @@ module _ (c : Config) (r : handled.Module) (bodies : List Said) (rules : Rules r
 
   types_refer : TypesRefer (λ space i j. i < j) M
   types_refer = record {
-    one_supertype = λ t x e.
-        let m = mapped_some (lone_type t) (slice_get r.types t) x e in
-        subst (λ (z : TypeDef). length z.sub.supertypes ≤ 1) (sym m.2) (omega arith);
-    supertypes = λ t u x e n.
-        let m = mapped_some (lone_type t) (slice_get r.types t) x e in
-        absurd (Contains-none u (subst (λ (z : TypeDef). Contains z.sub.supertypes u) m.2 n));
-    others = λ t u x e n.
-        let m = mapped_some (lone_type t) (slice_get r.types t) x e in
-        absurd (Contains-none u (subst (λ l. Contains l u) (ap (λ (z : TypeDef). comp_names z.sub.comp) m.2 ∙ names_nothing m.0) n));
+    one_supertype = λ t x e. one_at r.types rules.types_refer t x e;
+    supertypes = λ t u x e n. All-contains (λ v. v < t) x.sub.supertypes u (supertypes_at r.types rules.types_refer t x e) n;
+    others = λ t u x e n. earlier_at r.types rules.types_refer t x e u n;
   }
 
   type_names_live : (i : ℕ) (y : Item) → Contains (written_in M (Types, i)) y → IsLive M y
   type_names_live i y n =
-      let w = type_written i (slice_get r.types i) y n in
-      subst (IsLive M) (sym w.1) (still_some (lone_type i) (slice_get r.types i) w.0)
+      named_if type_names (types_of r i) (IsLive M)
+      (λ x e z c. ⊎_elim (are_live x.group (group_live r.types rules.types_refer i x e) z) (are_live (sub_names x.sub) (subs_live r.types rules.types_refer i x e) z)
+      (Contains-append_cases (map type_item x.group) (map type_item (sub_names x.sub)) z c)) y n
 
   function_live : (i : ℕ) (f : Function) → M.functions i ≡ Some f → (y : Item) → Contains (function_names f) y → IsLive M y
   function_live i f e y n = let a = function_at i f e in names_live f a y (subst (λ g. Contains (function_names g) y) a.is n)
@@ -311,7 +360,7 @@ module _ (c : Config) (r : handled.Module) (bodies : List Said) (rules : Rules r
   export_live e lt = subst (λ s. Has M s e.index) (kind_is e.kind) (has_function e.index lt)
 
   exports_live : All (λ (e : Export). IsLive M e.item) (map export_of r.exports)
-  exports_live = All-map (λ (e : Export). IsLive M e.item) export_of r.exports (λ k d lt. export_live (get_or r.exports k d) (rules.indices_hold.1 k d lt))
+  exports_live = All-map (λ (e : Export). IsLive M e.item) export_of r.exports (λ k d lt. export_live (get_or r.exports k d) (rules.exports_hold k d lt))
 
   -- a local that is used is one of the parameters or a declared one
   local_typed : (f : Function) (a : At f) (x : ℕ) → IsUsed (body_with (params_at a.at_type) a.said) x → IsSome ((body_with (params_at a.at_type) a.said).local_type x)
@@ -335,8 +384,7 @@ module _ (c : Config) (r : handled.Module) (bodies : List Said) (rules : Rules r
 
   function_type_holds : (f : Function) → At f → IsFunctionType M f.ty
   function_type_holds f a =
-      let s = some_of (slice_get r.types a.at_type) (there r.types a.at_type a.below) in
-      let h : IsFunctionType M a.at_type = (lone_type a.at_type s.0, ap (option_map (lone_type a.at_type)) s.1, tt) in
+      let h : IsFunctionType M a.at_type = type_is (types_of r a.at_type) a.takes in
       subst (λ (g : Function). IsFunctionType M g.ty) (sym a.is) h
 
   block_holds_at : (f : Function) (a : At f) (o : Op) (t : ℕ) → Contains a.said.1 o → Contains o.args (Block (OfType t)) → IsFunctionType M t

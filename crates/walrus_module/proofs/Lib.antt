@@ -1,14 +1,12 @@
 pub mod Accepting
 pub mod BodiesBack
 pub mod BodyBack
-pub mod BodyNames
 pub mod CarriedOver
 pub mod Carrying
 pub mod DeclaredTypes
 pub mod Differ
 pub mod EmittedLemmas
 pub mod Entries
-pub mod EntryLemmas
 pub mod ExportedRefs
 pub mod FewLocals
 pub mod FewParams
@@ -26,7 +24,9 @@ pub mod Lookups
 pub mod Named
 pub mod NamedAll
 pub mod NamedFound
+pub mod NamedTypes
 pub mod Numbering
+pub mod OneGroup
 pub mod OneOrder
 pub mod OneText
 pub mod ParsedWhole
@@ -41,6 +41,7 @@ pub mod RefusedLemmas
 pub mod Refusing
 pub mod Renamed
 pub mod Rooms
+pub mod TypeRooms
 pub mod SameBodies
 pub mod SmallLocals
 pub mod Somes
@@ -54,10 +55,16 @@ pub mod Taking
 pub mod TextsStand
 pub mod ThereLemmas
 pub mod Turns
+pub mod TypesTaken
+pub mod TypesRead
 pub mod TypeRefusals
+pub mod TypeSizes
+pub mod TypesBack
+pub mod WireTypes
 pub mod WrittenAs
 pub mod WrittenLemmas
 pub mod MovedRefs
 pub mod WholeLists
 pub mod Locating
 mod Rows
+pub mod TypeLists

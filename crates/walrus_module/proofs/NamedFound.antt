@@ -1,11 +1,10 @@
 -- What operators name that were looked up and found.
-use Rattle.std.proofs.Common.{inl, inr, ◌≡◌, ℕ, Bool, true, false, List, [], ◌∷◌, ◌++◌, map, refl, sym, ap, ap₂, ◌∙◌, subst, ⊎_elim, Some, None}
+use Rattle.std.proofs.Common.{◌≡◌, ℕ, Bool, true, false, List, [], ◌∷◌, ◌++◌, map, refl, sym, ap, ap₂, ◌∙◌, subst, ⊎_elim, Some}
 use Rattle.std.specs.Prelude.{Option, IsSome, Contains, flat_map, ◌&&◌}
-use Rattle.std.specs.List.{list_all}
 use Rattle.std.proofs.lemmas.List.Elements.{Contains-append_cases}
 use Rattle.wasm_forms.specs.Reading.{◌>>=◌}
 use Rattle.walrus_base.specs.Types.{HeapType, OfHeap, Concrete, Exact, ValType, I32, I64, F32, F64, V128, Ref, heap_names, val_names}
-use Rattle.walrus_types.specs.Operators.{Space, Item, Types, Memories, BlockType, NoResult, OneResult, OfType, Arg, Index, Label, Local, Number, Count, Byte, S32, S64, Bits32, Bits64, Value, Heap, Block, Access, Op, type_item, block_names, arg_names, arg_locals, op_names, op_locals, names_of, locals_of}
+use Rattle.walrus_types.specs.Operators.{Item, Types, Memories, BlockType, NoResult, OneResult, OfType, Arg, Index, Label, Local, Number, Count, Byte, S32, S64, Bits32, Bits64, Value, Heap, Block, Access, Op, type_item, block_names, arg_names, arg_locals, op_names, op_locals, names_of, locals_of}
 use Rattle.walrus_code.specs.Names.{Lookup, named_heap, named_val, named_block, named_arg, named_args, named_op, named_ops}
 use Rattle.walrus_bodies.specs.Blocks.{block_holds, args_hold, blocks_hold}
 use Rattle.walrus_model.proofs.Lists.{Contains-uncons, Contains-none}
@@ -152,10 +151,10 @@ module _ (f : Lookup) where
         let s = op_split x q.0 q.1 in
         ⊎_elim (λ (d : Contains (op_locals x) y). arg_locals_found x.args s.0 s.1 y d) (λ (d : Contains (locals_of rest) y). locals_found rest q.2.0 q.2.1 y d) (Contains-append_cases (op_locals x) (locals_of rest) y c)
 
-    -- ---- blocks: what a block's type was found as passes a test that all found types pass
+    -- ---- blocks: what a block's type was found as passes a test as the type passes one itself
 
-    module _ (test : ℕ → Bool) (H : (p j : ℕ) → f Types p ≡ Some j → test j ≡ true) where
-      arg_holds : (a b : Arg) → named_arg f l a ≡ Some b → block_holds test b ≡ true
+    module _ (test before : ℕ → Bool) (H : (p j : ℕ) → f Types p ≡ Some j → test j ≡ before p) where
+      arg_holds : (a b : Arg) → named_arg f l a ≡ Some b → block_holds test b ≡ block_holds before a
       arg_holds (Index x) b e =
           let q : (j : ℕ) × (f x.0 x.1 ≡ Some j) × (Some (Index (x.0, j)) ≡ Some b) = through (f x.0 x.1) (λ found. Some (Index (x.0, found))) b e in
           subst (λ (c : Arg). block_holds test c ≡ true) (some_inj (Index (x.0, q.0)) b q.2) refl
@@ -173,7 +172,7 @@ module _ (f : Lookup) where
       arg_holds (Block (OfType t)) b e =
           let q : (w : BlockType) × (named_block f (OfType t) ≡ Some w) × (Some (Block w) ≡ Some b) = through (named_block f (OfType t)) (λ found. Some (Block found)) b e in
           let s : (j : ℕ) × (f Types t ≡ Some j) × (Some (OfType j) ≡ Some q.0) = through (f Types t) (λ found. Some (OfType found)) q.0 q.1 in
-          subst (λ (c : Arg). block_holds test c ≡ true) (ap (λ (w : BlockType). Block w) (some_inj (OfType s.0) q.0 s.2) ∙ some_inj (Block q.0) b q.2) (H t s.0 s.1)
+          subst (λ (c : Arg). block_holds test c ≡ before t) (ap (λ (w : BlockType). Block w) (some_inj (OfType s.0) q.0 s.2) ∙ some_inj (Block q.0) b q.2) (H t s.0 s.1)
       arg_holds (Access flags memory offset) b e =
           let q : (j : ℕ) × (f Memories memory ≡ Some j) × (Some (Access flags j offset) ≡ Some b) = through (f Memories memory) (λ found. Some (Access flags found offset)) b e in
           subst (λ (c : Arg). block_holds test c ≡ true) (some_inj (Access flags q.0 offset) b q.2) refl
@@ -189,16 +188,16 @@ module _ (f : Lookup) where
       arg_holds (Bits32 n) b e = subst (λ (c : Arg). block_holds test c ≡ true) (some_inj (Bits32 n) b e) refl
       arg_holds (Bits64 n) b e = subst (λ (c : Arg). block_holds test c ≡ true) (some_inj (Bits64 n) b e) refl
 
-      args_are : (a b : List Arg) → named_args f l a ≡ Some b → args_hold test b ≡ true
+      args_are : (a b : List Arg) → named_args f l a ≡ Some b → args_hold test b ≡ args_hold before a
       args_are [] b e = subst (λ (c : List Arg). args_hold test c ≡ true) (some_inj [] b e) refl
       args_are (x ∷ rest) b e =
           let q = args_split x rest b e in
-          subst (λ (c : List Arg). args_hold test c ≡ true) q.2.2 (both_hold (block_holds test q.0) (args_hold test q.2.0) (arg_holds x q.0 q.1) (args_are rest q.2.0 q.2.1))
+          subst (λ (c : List Arg). args_hold test c ≡ args_hold before (x ∷ rest)) q.2.2 (ap₂ (λ (s t : Bool). s && t) (arg_holds x q.0 q.1) (args_are rest q.2.0 q.2.1))
 
-      pub blocks_found : (a b : List Op) → named_ops f l a ≡ Some b → blocks_hold test b ≡ true
+      pub blocks_found : (a b : List Op) → named_ops f l a ≡ Some b → blocks_hold test b ≡ blocks_hold before a
       blocks_found [] b e = subst (λ (c : List Op). blocks_hold test c ≡ true) (some_inj [] b e) refl
       blocks_found (x ∷ rest) b e =
           let q = ops_split x rest b e in
           let s = op_split x q.0 q.1 in
-          let first : args_hold test q.0.args ≡ true = subst (λ (o : Op). args_hold test o.args ≡ true) s.2 (args_are x.args s.0 s.1) in
-          subst (λ (c : List Op). blocks_hold test c ≡ true) q.2.2 (both_hold (args_hold test q.0.args) (blocks_hold test q.2.0) first (blocks_found rest q.2.0 q.2.1))
+          let first : args_hold test q.0.args ≡ args_hold before x.args = subst (λ (o : Op). args_hold test o.args ≡ args_hold before x.args) s.2 (args_are x.args s.0 s.1) in
+          subst (λ (c : List Op). blocks_hold test c ≡ blocks_hold before (x ∷ rest)) q.2.2 (ap₂ (λ (s t : Bool). s && t) first (blocks_found rest q.2.0 q.2.1))

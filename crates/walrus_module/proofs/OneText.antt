@@ -22,7 +22,7 @@ use Rattle.walrus_module.proofs.TextsStand.{ArgGood, ArgsGood}
 
 -- ---- heap types
 
-abbrev byte_of : AbstractHeap → ℕ
+abbrev pub byte_of : AbstractHeap → ℕ
 byte_of ExnHeap = 0x69
 byte_of ArrayHeap = 0x6A
 byte_of StructHeap = 0x6B
@@ -64,7 +64,7 @@ byte_back b is =
     tell b 0x72 NoExternHeap _ refl l (λ l.
     tell b 0x73 NoFuncHeap NoExnHeap refl l last))))))))))
 
-abbrev raw_heap_of : HeapType ℕ → RawHeap
+abbrev pub raw_heap_of : HeapType ℕ → RawHeap
 raw_heap_of (OfHeap h) = raw_heap.Abstract (byte_of h)
 raw_heap_of (Concrete t) = raw_heap.Index t
 raw_heap_of (Exact t) = raw_heap.Index t
@@ -75,7 +75,7 @@ heap_back (raw_heap.Index t) is = refl
 
 -- ---- value types
 
-abbrev raw_val_of : ValType ℕ → RawVal
+abbrev pub raw_val_of : ValType ℕ → RawVal
 raw_val_of I32 = raw_val.I32
 raw_val_of I64 = raw_val.I64
 raw_val_of F32 = raw_val.F32
@@ -83,7 +83,7 @@ raw_val_of F64 = raw_val.F64
 raw_val_of V128 = raw_val.V128
 raw_val_of (Ref r) = raw_val.Ref (record { nullable = r.nullable; heap = raw_heap_of r.heap })
 
-val_back : (v : RawVal) → value_spells v ≡ true → raw_val_of (val_of v) ≡ v
+pub val_back : (v : RawVal) → value_spells v ≡ true → raw_val_of (val_of v) ≡ v
 val_back raw_val.I32 is = refl
 val_back raw_val.I64 is = refl
 val_back raw_val.F32 is = refl

@@ -1,26 +1,21 @@
--- A module in memory that took in the sections is well formed, its types are alone, and its references are those of the sections.
-use Rattle.std.proofs.Common.{◌≡◌, ◌≢◌, ℕ, zero, suc, ◌+◌, ◌<◌, List, [], ◌∷◌, ◌++◌, length, map, get_or, refl, sym, ap, ap₂, subst, ◌∙◌, arith, ⊎_elim, inl, inr, Bool}
+-- A module in memory that took in the sections is well formed, its types can be written, and its references are those of the sections.
+use Rattle.std.proofs.Common.{◌≡◌, ◌≢◌, ℕ, ◌+◌, List, ◌++◌, length, map, refl, sym, ap, ap₂, subst, ◌∙◌, arith, ⊎_elim, inl, Bool, true}
 use Rattle.std.specs.Prelude.{Option, Some, None, is_some, Contains, AllPairs, slice_get, zip, option_map, ◌⊎◌}
-use Rattle.std.specs.List.{AllZip, range_with_len}
-use Rattle.std.proofs.lemmas.List.{get_or-map, length-map, map-append}
-use Rattle.std.proofs.lemmas.List.FromFn.{length-range_with_len, get_or-range_with_len}
-use mathlib.Core.Path.{fun_ext}
+use Rattle.std.specs.List.{range_with_len}
 use Rattle.walrus_base.specs.Arena.{item_at}
 use Rattle.walrus_base.specs.Id.{place}
-use Rattle.walrus_base.specs.Types.{ValType}
-use Rattle.walrus_types.specs.ModuleTypes.{type_slots}
+use Rattle.walrus_base.specs.Types.{ValType, CompType, Func, Struct, Array}
 use Rattle.walrus_types.specs.Locals.{locals}
-use Rattle.walrus_types.specs.Operators.{Functions, Item, function_item, Arg, Index, Label, Local, Number, Count, Byte, S32, S64, Bits32, Bits64, Value, Heap, Block, Access, Op}
+use Rattle.walrus_types.specs.Operators.{Item, function_item, Op}
 use Rattle.walrus_types.specs.TypeDef.{TypeDef}
 use Rattle.walrus_types.specs.declared.locals.ModuleLocals.{ModuleLocals}
 use Rattle.walrus_types.specs.declared.module_types.ModuleTypes.{ModuleTypes}
-use Rattle.walrus_code.specs.Function.{function_type}
 use Rattle.walrus_code.specs.declared.function.LocalFunction.{LocalFunction}
 use Rattle.walrus_bodies.specs.Body.{Context, context, BodyReads}
-use Rattle.walrus_bodies.specs.FunctionTypes.{is_function_def}
+use Rattle.walrus_bodies.specs.FunctionTypes.{is_function_comp, is_function_def}
 use Rattle.walrus_functions.specs.EmittedBody.{types_of as local_types}
 use Rattle.walrus_functions.specs.Handlers.{params_of}
-use Rattle.walrus_functions.specs.Laws.{moved_arg, moved_op}
+use Rattle.walrus_functions.specs.Laws.{moved_op}
 use Rattle.walrus_functions.specs.ReadFunction.{locals_from}
 use Rattle.walrus_functions.proofs.LawMoves.{there}
 use Rattle.walrus_items.specs.Functions.{FunctionValue, functions, kind_type}
@@ -33,19 +28,19 @@ use Rattle.walrus_model.specs.Config.{Config}
 use Rattle.walrus_model.specs.Declared.{ref_func, IsRefInBody, IsRefInGlobal, IsUndeclared, NothingUndeclared}
 use Rattle.walrus_model.specs.Handled as handled
 use Rattle.walrus_model.specs.Live.{IsLive}
-use Rattle.walrus_model.specs.Names.{body_of as model_body, body_of_function, body_of_kind}
-use Rattle.walrus_model.specs.Reads.{Said, lone_type, types_of, function_with, body_with, export_of, module_of, declared, is_function, features_of, context_of, arity, ReadsBody}
-use Rattle.walrus_model.specs.Rules.{IsFunctionType}
+use Rattle.walrus_model.specs.Names.{body_of_function, body_of_kind}
+use Rattle.walrus_model.specs.Reads.{Said, types_of, function_with, body_with, module_of, declared, is_function, features_of, context_of, arity, ReadsBody}
+use Rattle.walrus_model.specs.Rules.{IsFunctionComp, IsFunctionType}
 use Rattle.walrus_model.specs.WellMade.{IsWellFormed}
-use Rattle.walrus_model.proofs.Lists.{Contains-map, Contains-head, Contains-tail, Contains-uncons, Contains-none}
-use Rattle.walrus_module.specs.Refused.{AreWellFormed, AreLone}
+use Rattle.walrus_module.specs.Refused.{AreWellFormed, AreWritable}
 use Rattle.walrus_module.specs.Sections.{Rules}
 use Rattle.walrus_module.specs.Taken.{HoldsBody, HoldsFunction, HasTaken}
 use Rattle.walrus_module.specs.View.{body, kind_of, function, view_of}
 use Rattle.walrus_module.proofs.MovedRefs.{ref_there, ref_back}
 use Rattle.walrus_module.proofs.Steps.{type_there, same_functions}
-use Rattle.walrus_module.proofs.WholeLists.{mapped_some, got_map, got_first, got_within, got_front, got_behind, longer, longer_behind, zip_found, zip_there, zip_third, range_joined, range_apart, range_typed}
-use Rattle.wasm_frames.specs.Record as wire
+use Rattle.walrus_module.proofs.TypesRead.{not_exact}
+use Rattle.walrus_module.proofs.Keeps.{keeps}
+use Rattle.walrus_module.proofs.WholeLists.{mapped_some, got_map, got_first, got_front, got_behind, longer, longer_behind, zip_found, zip_there, zip_third, range_joined, range_apart, range_typed}
 
 -- ---- one body that was taken in
 
@@ -101,11 +96,18 @@ module _ (c : Config) (r : handled.Module) (types : ModuleTypes) (all : ModuleLo
   same_context : context_of c r ≡ context (declared r) (λ t. is_function_def (v.types t)) (features_of c)
   same_context = ap (λ (f : ℕ → Bool). context (declared r) f (features_of c)) (sym (same_functions r types taken.types))
 
-  -- every type is alone
-  pub lone : AreLone v
-  lone t x e =
-      let m = mapped_some (lone_type t) (slice_get r.types t) x (sym (typed_at t) ∙ e) in
-      (m.0, m.1.1)
+  -- the types can be written, as they keep the rules
+  pub writable : Rules r → AreWritable v
+  writable rules =
+      let h = (keeps c r taken.bodies rules taken.read).types in
+      record {
+        refer = record {
+          one_supertype = λ t x e. h.one_supertype t x (sym (typed_at t) ∙ e);
+          supertypes = λ t u x e n. h.supertypes t u x (sym (typed_at t) ∙ e) n;
+          others = λ t u x e n. h.others t u x (sym (typed_at t) ∙ e) n;
+        };
+        heaps = λ t x k e n. not_exact r.types t x (sym (typed_at t) ∙ e) k n;
+      }
 
   -- the function at a place, and the body that was read for it
   pub record BodyAt (i : ℕ) (ty : ℕ) (b : abstract.Body) : Type 0 where
@@ -135,21 +137,28 @@ module _ (c : Config) (r : handled.Module) (types : ModuleTypes) (all : ModuleLo
         is = kind_body m.0.kind h.local b of_kind (sym (ap (λ (x : abstract.Function). x.kind) m.1.1) ∙ is);
       }
 
-  function_typed : (t : ℕ) → t < length r.types → IsFunctionType v t
-  function_typed t lt =
-      let x = got_within r.types t lt in
-      (lone_type t x.0, typed_at t ∙ ap (option_map (lone_type t)) x.1, tt)
+  function_comp : (k : CompType ℕ) → is_function_comp k ≡ true → IsFunctionComp k
+  function_comp (Func params results) h = tt
+  function_comp (Struct fields) h = cc
+  function_comp (Array element) h = cc
+
+  function_def : (t : ℕ) (o : Option TypeDef) → types_of r t ≡ o → is_function_def o ≡ true → IsFunctionType v t
+  function_def t (Some x) e h = (x, typed_at t ∙ e, function_comp x.sub.comp h)
+  function_def t None e h = cc
+
+  function_typed : (t : ℕ) → is_function r t ≡ true → IsFunctionType v t
+  function_typed t h = function_def t (types_of r t) refl h
 
   one_formed : (i : ℕ) (p : ℕ × Said) (g : LocalFunction) → Rules r → slice_get (zip r.functions taken.bodies) i ≡ Some p → HoldsBody slots_of p.0 (params_of (types_of r p.0)) p.1 g → IsWellFormed c v p.0 (body all g)
   one_formed i p g rules at h =
       let at_first = got_first r.functions taken.bodies i p at in
-      let below : p.0 < length r.types = subst (λ (t : ℕ). t < length r.types) (at_first.1 p.0) (rules.indices_hold.0 i p.0 at_first.0) in
+      let function : is_function r p.0 ≡ true = subst (λ (t : ℕ). is_function r t ≡ true) (at_first.1 p.0) (rules.function_types i p.0 at_first.0) in
       let found = zip_third (ReadsBody c r) r.functions r.bodies taken.bodies i p taken.read at in
       let count = arity r p.0 + length p.1.0 in
       let moved : BodyReads (context_of c r) (locals_from h.first count) found.0.bytes p.1.0 (map (moved_op h.first) p.1.1) =
       there (context_of c r) h.first count found.0.bytes p.1.0 p.1.1 found.1 in
       record {
-        function_type = function_typed p.0 below;
+        function_type = function_typed p.0 function;
         distinct = params_apart r slots_of p g h;
         typed = params_typed r slots_of p g h ∙ ap (λ (o : Option TypeDef). map Some (params_of o)) (sym (typed_at p.0));
         names = declared r;

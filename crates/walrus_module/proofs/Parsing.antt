@@ -1,119 +1,30 @@
--- The sections that were taken in are the module that was read.
-use Rattle.std.proofs.Common.{◌≡◌, ◌≢◌, ℕ, zero, suc, ◌<◌, ◌≤◌, List, [], ◌∷◌, ◌++◌, length, map, get_or, refl, sym, ap, ap₂, subst, ◌∙◌, arith, ⊎_elim, false, true}
-use Rattle.std.specs.Prelude.{Option, Some, None, IsSome, Contains, All, AllPairs, slice_get, zip, flat_map, option_map, nat_lt}
+-- Where exports lead, the bodies that were read, and the locals that these use.
+use Rattle.std.proofs.Common.{◌≡◌, ℕ, zero, suc, ◌+◌, ◌<◌, ⊎_elim, Bool, true, false, List, [], ◌∷◌, length, refl, sym, subst, ◌∙◌, arith}
+use Rattle.std.specs.Prelude.{Option, Some, None, Contains, slice_get, zip, nat_lt}
 use Rattle.std.specs.List.{AllZip, AllByRecursion}
-use Rattle.std.proofs.lemmas.List.{get_or-map, length-map}
-use Rattle.std.proofs.Common.{length-append, Bool, ◌+◌}
-use Rattle.std.proofs.lemmas.List.Elements.{Contains-append_cases, All-contains, All-map}
-use Rattle.walrus_base.specs.Types.{ValType, comp_names, val_heaps, heap_names}
-use Rattle.walrus_types.specs.Operators.{Types, Functions, Tables, Memories, Tags, Globals, Elements, DataSegments, Item, Op, Block, OfType, type_item, names_of, locals_of}
-use Rattle.walrus_model.specs.Abstract.{Abstract, TypeDef, Body, Function, Export}
-use Rattle.walrus_model.specs.Live.{Has, IsLive}
-use Rattle.walrus_functions.specs.Handlers.{params_of}
-use Rattle.walrus_functions.specs.ReadFunction.{locals_from}
-use Rattle.walrus_functions.proofs.LawNamed.{HasIndex, each_append, ops_found}
-use Rattle.walrus_bodies.specs.FunctionTypes.{is_function_def}
-use Rattle.walrus_code.specs.FromRaw.{ops_of}
-use Rattle.walrus_model.specs.Config.{Config}
-use Rattle.walrus_model.specs.Names.{body_of, body_of_function, body_of_kind}
-use Rattle.walrus_model.specs.Reads.{Said, value_type, function_type, lone_type, types_of, function_with, body_with, space_of, export_of, module_of, below, declared, is_function, arity, ReadsBody}
-use Rattle.walrus_model.specs.Refers.{named_by, type_names, function_names, written_in, IsUsed, local_names}
-use Rattle.walrus_model.specs.Rules.{TypesRefer, IndicesHold, FunctionTypesHold, RulesHold, IsFunctionType}
-use Rattle.walrus_model.proofs.Lists.{Contains-uncons, Contains-none}
-use Rattle.walrus_module.specs.Sections.{Rules}
-use Rattle.walrus_module.proofs.BodyNames.{each_in, in_flat, block_typed, ValNamed, ops_named, types_named, local_named, declared_long}
-use Rattle.walrus_module.proofs.Steps.{zip_length, pairs_long}
-use Rattle.walrus_module.proofs.Taking.{get_own, get_past}
-use Rattle.wasm_frames.specs.Record as wire
-use Rattle.wasm_forms.proofs.Bind.{if_some, some_same}
 use borrow.Author.Tests.{ltb-true, ltb-false}
+use Rattle.wasm_forms.proofs.Bind.{some_same}
+use Rattle.wasm_frames.specs.Record as wire
+use Rattle.walrus_types.specs.Operators.{Functions, locals_of}
+use Rattle.walrus_code.specs.FromRaw.{ops_of}
+use Rattle.walrus_functions.specs.ReadFunction.{locals_from}
+use Rattle.walrus_functions.proofs.LawNamed.{HasIndex, ops_found}
+use Rattle.walrus_model.specs.Config.{Config}
 use Rattle.walrus_model.specs.Handled as handled
+use Rattle.walrus_model.specs.Reads.{Said, space_of, declared, arity, ReadsBody}
+use Rattle.walrus_model.proofs.Lists.{Contains-uncons, Contains-none}
+use Rattle.walrus_module.proofs.Taking.{get_own, get_past}
 
--- ---- look-ups
+-- ---- lists
 
-pub mapped_some : {A B : Type 0} (f : A → B) (o : Option A) (y : B) → option_map f o ≡ Some y → (x : A) × (o ≡ Some x) × (y ≡ f x)
-mapped_some f (Some x) y e = (x, refl, (let p : f x ≡ y = cc in sym p))
-mapped_some f None y e = cc
+pub each_in : {X : Type 0} (P : X → Type 0) (xs : List X) (y : X) → AllByRecursion P xs → Contains xs y → P y
+each_in P [] y all c = absurd (Contains-none y c)
+each_in P (x ∷ xs) y all c = ⊎_elim (λ (e : x ≡ y). subst P e all.0) (λ (d : Contains xs y). each_in P xs y all.1 d) (Contains-uncons x y xs c)
 
-pub got_map : {A B : Type 0} (f : A → B) (xs : List A) (i : ℕ) → slice_get (map f xs) i ≡ option_map f (slice_get xs i)
-got_map f [] i = refl
-got_map f (x ∷ xs) zero = refl
-got_map f (x ∷ xs) (suc i) = got_map f xs i
-
-pub got_zip : {A B : Type 0} (xs : List A) (ys : List B) (i : ℕ) (p : A × B) → slice_get (zip xs ys) i ≡ Some p → (slice_get xs i ≡ Some p.0) × (slice_get ys i ≡ Some p.1)
-got_zip [] ys i p e = cc
-got_zip (x ∷ xs) [] i p e = cc
-got_zip (x ∷ xs) (y ∷ ys) zero p e = let q : (x, y) ≡ p = cc in (ap (λ z. Some z.0) q, ap (λ z. Some z.1) q)
-got_zip (x ∷ xs) (y ∷ ys) (suc i) p e = got_zip xs ys i p e
-
-pub got_in : {A : Type 0} (xs : List A) (i : ℕ) (x : A) → slice_get xs i ≡ Some x → (i < length xs) × ((d : A) → get_or xs i d ≡ x)
-got_in [] i x e = cc
-got_in (y ∷ xs) zero x e = (omega arith, λ d. let p : y ≡ x = cc in p)
-got_in (y ∷ xs) (suc i) x e = let r = got_in xs i x e in let lt : i < length xs = r.0 in (omega (arith, lt), r.1)
-
-pub there : {A : Type 0} (xs : List A) (i : ℕ) → i < length xs → IsSome (slice_get xs i)
-there [] i lt = absurd (omega arith)
-there (x ∷ xs) zero lt = refl
-there (x ∷ xs) (suc i) lt = there xs i (omega arith)
-
-pub all_got : {A : Type 0} (P : A → Type 0) (xs : List A) (i : ℕ) (x : A) → All P xs → slice_get xs i ≡ Some x → P x
-all_got P xs i x h e = let g = got_in xs i x e in subst P (g.1 x) (h i x g.0)
-
-pub still_some : {A B : Type 0} (f : A → B) (o : Option A) → IsSome o → IsSome (option_map f o)
-still_some f (Some x) h = refl
-still_some f None h = h
-
-pub there_mapped : {A B : Type 0} (f : A → B) (xs : List A) (i : ℕ) → i < length xs → IsSome (slice_get (map f xs) i)
-there_mapped f xs i lt = there (map f xs) i (omega (arith, length-map xs f))
-
--- ---- value types name nothing
-
-no_heaps : (vs : List handled.Value) → flat_map val_heaps (map value_type vs) ≡ []
-no_heaps [] = refl
-no_heaps (handled.I32 ∷ vs) = no_heaps vs
-no_heaps (handled.I64 ∷ vs) = no_heaps vs
-no_heaps (handled.F32 ∷ vs) = no_heaps vs
-no_heaps (handled.F64 ∷ vs) = no_heaps vs
-no_heaps (handled.V128 ∷ vs) = no_heaps vs
-
-pub names_nothing : (t : handled.FuncType) → comp_names (function_type t) ≡ []
-names_nothing t = ap₂ (λ a b. flat_map heap_names (a ++ b)) (no_heaps t.params) (no_heaps t.results)
-
--- ---- small steps
-
-pub none_there : false ≡ true → ⊥
-none_there h = cc
-
-pub some_of : {A : Type 0} (o : Option A) → IsSome o → (x : A) × (o ≡ Some x)
-some_of (Some x) h = (x, refl)
-some_of None h = absurd (none_there h)
-
-pub zip_long : {A B : Type 0} (xs : List A) (ys : List B) → length ys ≡ length xs → length (zip xs ys) ≡ length xs
-zip_long [] [] e = refl
-zip_long [] (y ∷ ys) e = refl
-zip_long (x ∷ xs) [] e = absurd (omega arith)
-zip_long (x ∷ xs) (y ∷ ys) e = ap suc (zip_long xs ys (omega arith))
-
-pub pairs_map : {A B : Type 0} (R : B → B → Type 0) (f : A → B) (xs : List A) → AllPairs (λ a b. R (f a) (f b)) xs → AllPairs R (map f xs)
-pairs_map R f [] h = λ i j d less within. let w : j < 0 = within in absurd (omega (arith, w))
-pairs_map R f (x ∷ xs) h = λ i j d less within.
-    let w : j < length (x ∷ xs) = omega (arith, within, length-map (x ∷ xs) f) in
-    let v : i < length (x ∷ xs) = omega (arith, w, less) in
-    let s : R (f (get_or (x ∷ xs) i x)) (f (get_or (x ∷ xs) j x)) = h i j x less w in
-    subst (λ z. R z (get_or (map f (x ∷ xs)) j d)) (sym (get_or-map f (x ∷ xs) i x d v)) (subst (λ z. R (f (get_or (x ∷ xs) i x)) z) (sym (get_or-map f (x ∷ xs) j x d w)) s)
+-- ---- exports
 
 pub kind_is : (k : handled.ExportKind) → Functions ≡ space_of k
 kind_is handled.Function = refl
-
-type_written : (i : ℕ) (o : Option handled.FuncType) (y : Item) → Contains (named_by type_names (option_map (lone_type i) o)) y → IsSome o × (y ≡ type_item i)
-type_written i None y c = absurd (Contains-none y c)
-type_written i (Some t) y c =
-    let c' : Contains (type_item i ∷ []) y = subst (λ l. Contains (type_item i ∷ map type_item l) y) (names_nothing t) c in
-    ⊎_elim (λ (e : type_item i ≡ y). let p : IsSome (Some t) × (y ≡ type_item i) = (refl, sym e) in p) (λ (n : Contains [] y). absurd (Contains-none y n)) (Contains-uncons (type_item i) y [] c')
-
-body_from : (o : Option Function) (b : Body) → body_of_function o ≡ Some b → (f : Function) × (o ≡ Some f) × (body_of_kind f.kind ≡ Some b)
-body_from (Some f) b e = (f, refl, e)
-body_from None b e = cc
 
 -- ---- bodies that were read
 
@@ -140,199 +51,3 @@ used_below c r f said x read used =
     let all = ops_found (declared r) (locals_from 0 count) (ops_of read.operators.texts) said.1 read.operators.named in
     let h = each_in (HasIndex (declared r) (locals_from 0 count)) (locals_of said.1) x all used in
     index_below count h.0 x (nat_lt h.0 count) refl h.1
-
--- ---- the module that was read
-
-module _ (c : Config) (r : handled.Module) (bodies : List Said) (rules : Rules r) (read : AllZip (ReadsBody c r) (zip r.functions r.bodies) bodies) where
-  abbrev pub M : Abstract
-  M = module_of r bodies
-
-  many : length bodies ≡ length r.functions
-  many = sym (zip_length (ReadsBody c r) (zip r.functions r.bodies) bodies read) ∙ pairs_long r.functions r.bodies rules.as_many_bodies
-
-  has_type : (t : ℕ) → t < length r.types → IsSome (M.types t)
-  has_type t lt = still_some (lone_type t) (slice_get r.types t) (there r.types t lt)
-
-  has_function : (f : ℕ) → f < length r.functions → IsSome (M.functions f)
-  has_function f lt = there_mapped (function_with r) (zip r.functions bodies) f (omega (arith, lt, zip_long r.functions bodies many))
-
-  -- what is declared is there
-  found_below : (n i found : ℕ) → below n i ≡ Some found → (i < n) × (i ≡ found)
-  found_below n i found e = let b = if_some (nat_lt i n) i found e in (ltb-true i n b.0, b.1)
-
-  declared_live : (x : Item) (found : ℕ) → declared r x.0 x.1 ≡ Some found → IsLive M (x.0, found)
-  declared_live (Types, i) found e = let b = found_below (length r.types) i found e in subst (λ n. IsLive M (Types, n)) b.1 (has_type i b.0)
-  declared_live (Functions, i) found e = let b = found_below (length r.functions) i found e in subst (λ n. IsLive M (Functions, n)) b.1 (has_function i b.0)
-  declared_live (Tables, i) found e = absurd cc
-  declared_live (Memories, i) found e = absurd cc
-  declared_live (Tags, i) found e = absurd cc
-  declared_live (Globals, i) found e = absurd cc
-  declared_live (Elements, i) found e = absurd cc
-  declared_live (DataSegments, i) found e = absurd cc
-
-  -- function i as its type and what its body says
-  pub record At (f : Function) : Type 0 where
-    pub at_type : ℕ
-    pub said : Said
-    pub is : f ≡ function_with r (at_type, said)
-    pub below_types : at_type < length r.types
-    pub body : wire.Body
-    pub reads : ReadsBody c r (at_type, body) said
-
-  function_at : (i : ℕ) (f : Function) → M.functions i ≡ Some f → At f
-  function_at i f e =
-      let m = mapped_some (function_with r) (slice_get (zip r.functions bodies) i) f (sym (got_map (function_with r) (zip r.functions bodies) i) ∙ e) in
-      let z = got_zip r.functions bodies i m.0 m.1 in
-      let b = read_at (ReadsBody c r) r.functions r.bodies bodies i m.0 rules.as_many_bodies read m.1 in
-      record {
-        at_type = m.0.0;
-        said = m.0.1;
-        is = m.2;
-        below_types = all_got (λ t. t < length r.types) r.functions i m.0.0 rules.indices_hold.0 z.0;
-        body = b.0;
-        reads = b.1;
-      }
-
-  pub record BodyAt (b : Body) : Type 0 where
-    pub at_type : ℕ
-    pub said : Said
-    pub is : b ≡ body_with (params_of (types_of r at_type)) said
-    pub body : wire.Body
-    pub reads : ReadsBody c r (at_type, body) said
-
-  body_at : (i : ℕ) (b : Body) → body_of M i ≡ Some b → BodyAt b
-  body_at i b e =
-      let f = body_from (M.functions i) b e in
-      let a = function_at i f.0 f.1 in
-      let p : Some (body_with (params_of (types_of r a.at_type)) a.said) ≡ Some b = sym (ap (λ g. body_of_kind g.kind) a.is) ∙ f.2 in
-      record { at_type = a.at_type; said = a.said; is = sym (some_same _ _ p); body = a.body; reads = a.reads }
-
-  -- ---- the rules
-
-  types_refer : TypesRefer (λ space i j. i < j) M
-  types_refer = record {
-    one_supertype = λ t x e.
-        let m = mapped_some (lone_type t) (slice_get r.types t) x e in
-        subst (λ (z : TypeDef). length z.sub.supertypes ≤ 1) (sym m.2) (omega arith);
-    supertypes = λ t u x e c.
-        let m = mapped_some (lone_type t) (slice_get r.types t) x e in
-        absurd (Contains-none u (subst (λ (z : TypeDef). Contains z.sub.supertypes u) m.2 c));
-    others = λ t u x e c.
-        let m = mapped_some (lone_type t) (slice_get r.types t) x e in
-        absurd (Contains-none u (subst (λ l. Contains l u) (ap (λ (z : TypeDef). comp_names z.sub.comp) m.2 ∙ names_nothing m.0) c));
-  }
-
-  type_names_live : (i : ℕ) (y : Item) → Contains (named_by type_names (M.types i)) y → IsLive M y
-  type_names_live i y c =
-      let w = type_written i (slice_get r.types i) y c in
-      subst (IsLive M) (sym w.1) (still_some (lone_type i) (slice_get r.types i) w.0)
-
-  abbrev Live : ValType ℕ → Type 0
-  Live v = ValNamed (declared r) (IsLive M) declared_live v
-
-  params_live : (vs : List handled.Value) → AllByRecursion Live (map value_type vs)
-  params_live [] = tt
-  params_live (handled.I32 ∷ vs) = (tt, params_live vs)
-  params_live (handled.I64 ∷ vs) = (tt, params_live vs)
-  params_live (handled.F32 ∷ vs) = (tt, params_live vs)
-  params_live (handled.F64 ∷ vs) = (tt, params_live vs)
-  params_live (handled.V128 ∷ vs) = (tt, params_live vs)
-
-  takes_live : (k : ℕ) (o : Option handled.FuncType) → AllByRecursion Live (params_of (option_map (lone_type k) o))
-  takes_live k None = tt
-  takes_live k (Some t) = params_live t.params
-
-  locals_live : (f : Function) (a : At f) → AllByRecursion Live (params_of (types_of r a.at_type) ++ a.said.0)
-  locals_live f a =
-      each_append Live (params_of (types_of r a.at_type)) a.said.0 (takes_live a.at_type (slice_get r.types a.at_type))
-      (types_named (declared r) (IsLive M) declared_live a.reads.declared a.said.0 a.reads.typed)
-
-  named_live : (f : Function) (y : Item) → At f → Contains (function_names f) y → IsLive M y
-  named_live f y a c =
-      let c' : Contains (function_names (function_with r (a.at_type, a.said))) y = subst (λ g. Contains (function_names g) y) a.is c in
-      let b = body_with (params_of (types_of r a.at_type)) a.said in
-      ⊎_elim (λ (e : type_item a.at_type ≡ y). subst (IsLive M) e (has_type a.at_type a.below_types))
-      (λ (d : Contains (names_of a.said.1 ++ flat_map (local_names b) (locals_of a.said.1)) y).
-      ⊎_elim (λ (n : Contains (names_of a.said.1) y). each_in (IsLive M) (names_of a.said.1) y (ops_named (declared r) (IsLive M) declared_live (locals_from 0 (arity r a.at_type + length a.said.0)) (ops_of a.reads.operators.texts) a.said.1 a.reads.operators.named) n)
-      (λ (n : Contains (flat_map (local_names b) (locals_of a.said.1)) y).
-      let x = in_flat (local_names b) (locals_of a.said.1) y n in
-      local_named (declared r) (IsLive M) declared_live (params_of (types_of r a.at_type) ++ a.said.0) x.0 y (locals_live f a) x.1.1)
-      (Contains-append_cases (names_of a.said.1) (flat_map (local_names b) (locals_of a.said.1)) y d))
-      (Contains-uncons (type_item a.at_type) y (names_of a.said.1 ++ flat_map (local_names b) (locals_of a.said.1)) c')
-
-  functions_named : (o : Option Function) (y : Item) → ((f : Function) → o ≡ Some f → At f) → Contains (named_by function_names o) y → IsLive M y
-  functions_named None y at c = absurd (Contains-none y c)
-  functions_named (Some f) y at c = named_live f y (at f refl) c
-
-  written_live : (x y : Item) → Contains (written_in M x) y → IsLive M y
-  written_live (Types, i) y c = type_names_live i y c
-  written_live (Functions, i) y c = functions_named (M.functions i) y (function_at i) c
-  written_live (Tables, i) y c = absurd (Contains-none y c)
-  written_live (Memories, i) y c = absurd (Contains-none y c)
-  written_live (Tags, i) y c = absurd (Contains-none y c)
-  written_live (Globals, i) y c = absurd (Contains-none y c)
-  written_live (Elements, i) y c = absurd (Contains-none y c)
-  written_live (DataSegments, i) y c = absurd (Contains-none y c)
-
-  export_live : (e : handled.Export) → e.index < length r.functions → IsLive M (export_of e).item
-  export_live e lt = subst (λ s. Has M s e.index) (kind_is e.kind) (has_function e.index lt)
-
-  exports_live : All (λ (e : Export). IsLive M e.item) (map export_of r.exports)
-  exports_live = All-map (λ (e : Export). IsLive M e.item) export_of r.exports (λ k d lt. export_live (get_or r.exports k d) (rules.indices_hold.1 k d lt))
-
-  local_there : (b : Body) (x : ℕ) → BodyAt b → IsUsed b x → IsSome (b.local_type x)
-  local_there b x a used =
-      let used' : Contains (locals_of a.said.1) x = subst (λ (z : Body). IsUsed z x) a.is used in
-      let small : x < arity r a.at_type + length a.said.0 = used_below c r (a.at_type, a.body) a.said x a.reads used' in
-      let long : length (params_of (types_of r a.at_type) ++ a.said.0) ≡ arity r a.at_type + length a.said.0 = length-append (params_of (types_of r a.at_type)) a.said.0 in
-      subst (λ (z : Body). IsSome (z.local_type x)) (sym a.is) (there (params_of (types_of r a.at_type) ++ a.said.0) x (omega (arith, small, long)))
-
-  indices_hold : IndicesHold (λ space i j. i < j) M
-  indices_hold = record {
-    written = written_live;
-    locals = λ f b x e u. local_there b x (body_at f b e) u;
-    exports = λ e c. All-contains (λ (x : Export). IsLive M x.item) (map export_of r.exports) e exports_live c;
-    start = λ f e. cc;
-    tables = λ i g t ops e. cc;
-    globals = λ i g x ops e. cc;
-  }
-
-  function_type_holds : (f : Function) → At f → IsFunctionType M f.ty
-  function_type_holds f a =
-      let s = some_of (slice_get r.types a.at_type) (there r.types a.at_type a.below_types) in
-      let h : IsFunctionType M a.at_type = (lone_type a.at_type s.0, ap (option_map (lone_type a.at_type)) s.1, tt) in
-      subst (λ (g : Function). IsFunctionType M g.ty) (sym a.is) h
-
-  lone_function : (t : ℕ) (o : Option handled.FuncType) → slice_get r.types t ≡ o → is_function_def (option_map (lone_type t) o) ≡ true → IsFunctionType M t
-  lone_function t (Some s) e h = (lone_type t s, ap (option_map (lone_type t)) e, tt)
-  lone_function t None e h = absurd (none_there h)
-
-  block_holds : (b : Body) (o : Op) (t : ℕ) → BodyAt b → Contains b.operators o → Contains o.args (Block (OfType t)) → IsFunctionType M t
-  block_holds b o t a stands names =
-      let stands' : Contains a.said.1 o = subst (λ (z : Body). Contains z.operators o) a.is stands in
-      lone_function t (slice_get r.types t) refl (block_typed (is_function r) a.said.1 o t a.reads.operators.blocks stands' names)
-
-  function_types_hold : FunctionTypesHold M
-  function_types_hold = record {
-    functions = λ i f e. function_type_holds f (function_at i f e);
-    tags = λ i t e. cc;
-    blocks = λ f t b o e c d. block_holds b o t (body_at f b e) c d;
-  }
-
-  few_locals : (b : Body) → BodyAt b → b.declared ≤ 50_000
-  few_locals b a =
-      let long = declared_long (declared r) a.reads.declared a.said.0 a.reads.typed in
-      let few = a.reads.few in
-      let h : length a.said.0 ≤ 50_000 = omega (arith, long, few) in
-      subst (λ (x : Body). x.declared ≤ 50_000) (sym a.is) h
-
-  pub holds : RulesHold (λ space i j. i < j) M
-  holds = record {
-    types = types_refer;
-    indices = indices_hold;
-    function_types = function_types_hold;
-    limits = record { tables = λ i t e. cc; memories = λ i x e. cc };
-    exports = record { distinct = pairs_map (λ (d : Export) (e : Export). d.name ≢ e.name) export_of r.exports rules.names_differ; start = λ i f e. cc };
-    offsets = record { elements = λ i table e t offset p. cc; data_segments = λ i memory d x offset p. cc };
-    locals = λ f b e. few_locals b (body_at f b e);
-  }

@@ -1,5 +1,5 @@
 -- What is written reads back as the module of indices that its records make, and keeps the rules.
-use Rattle.std.proofs.Common.{◌≡◌, ◌≢◌, ℕ, suc, ◌+◌, ◌<◌, ◌^◌, List, [], ◌∷◌, ◌++◌, length, map, get_or, refl, sym, ap, subst, ◌∙◌, arith, Some, None}
+use Rattle.std.proofs.Common.{◌≡◌, ◌≢◌, ℕ, suc, ◌+◌, ◌<◌, ◌≤◌, ◌^◌, List, [], ◌∷◌, ◌++◌, length, map, get_or, refl, sym, ap, subst, ◌∙◌, arith, Some}
 use Rattle.std.specs.Prelude.{Option, All, AllPairs, slice_get, zip}
 use Rattle.std.specs.List.{AllZip}
 use Rattle.std.proofs.lemmas.List.{append-nil, length-map, get_or-map}
@@ -10,10 +10,12 @@ use Rattle.wasm_frames.specs.Frames.{Frames}
 use Rattle.wasm_frames.specs.Order.{standard_order, StandsBefore}
 use Rattle.wasm_frames.specs.Spelling.{body_bytes}
 use Rattle.wasm_writer.specs.Spelling.{placed_bodies}
+use Rattle.walrus_base.specs.Arena.{item_at}
 use Rattle.walrus_base.specs.Id.{place}
 use Rattle.walrus_code.specs.Function.{function_type}
 use Rattle.walrus_code.specs.declared.function.LocalFunction.{LocalFunction}
-use Rattle.walrus_types.specs.Operators.{Types, Functions}
+use Rattle.walrus_types.specs.Operators.{Types}
+use Rattle.walrus_types.specs.TypeDef.{TypeDef}
 use Rattle.walrus_items.specs.Exports.{ExportValue, exported}
 use Rattle.walrus_items.specs.declared.exports.ExportItem.{ExportItem}
 use Rattle.walrus_items.specs.declared.exports.ExportItem.TheVariants as item
@@ -28,13 +30,15 @@ use Rattle.walrus_module.specs.Sections.{Rules}
 use Rattle.walrus_module.specs.Spelled.{IsWritten}
 use Rattle.walrus_module.specs.Spells.{Records, Spells}
 use Rattle.walrus_module.specs.View.{export_of}
-use Rattle.walrus_module.proofs.BodiesBack.{less, as_many_functions, as_many_bodies, type_below, function_below, texts_read}
+use Rattle.walrus_module.proofs.BodiesBack.{as_many_functions, as_many_bodies, new_types, type_below, function_below, texts_read, all_functions_typed}
 use Rattle.walrus_module.proofs.HandledFrames.{id_if_any, HandledCanBeWritten, first_place, written_module, handled_frames}
 use Rattle.walrus_module.proofs.Keeps.{keeps}
 use Rattle.walrus_module.proofs.Lookups.{then_some, mapped_some, pairs_map, map_after}
+use Rattle.walrus_module.proofs.TypeSizes.{types_fewer}
+use Rattle.walrus_module.proofs.TypesBack.{types_keep_rules}
 use Rattle.walrus_module.proofs.WrittenAs.{texts_of, written_as}
 use Rattle.walrus_model.specs.Handled as handled
-use Rattle.walrus_model.specs.Handled.{widened_type, widened_export, widened}
+use Rattle.walrus_model.specs.Handled.{widened_export, widened}
 
 -- ---- the sections stand in order
 
@@ -85,9 +89,6 @@ same_found f g k (x ∷ xs) (y ∷ ys) e h =
     let rest : map Some ys ≡ map f xs = cc in
     ap (λ c. c ∷ map g ys) (h x y (sym first)) ∙ ap (λ l. k x ∷ l) (same_found f g k xs ys rest h)
 
-less_by : {a b c : ℕ} → a ≡ b → a < c → b < c
-less_by e h = omega (arith, h, e)
-
 small : (a b c : ℕ) → a < b → b < c → a < c
 small a b c h g = omega (arith, h, g)
 
@@ -118,13 +119,13 @@ module _ (c : Config) {h : Held} {exports : List ExportValue} (r : Records h (fe
   many_bodies : length (placed_bodies first (map unplaced r.bodies)) ≡ length r.raw_functions
   many_bodies = placed_count first (map unplaced r.bodies) ∙ length-map r.bodies unplaced ∙ sym (as_many_bodies r) ∙ sym (as_many_functions r)
 
-  type_declared : (number t : ℕ) → type_index h.funcs r.names number ≡ Some t → t < length r.raw_types
+  type_declared : (number t : ℕ) → type_index h.funcs r.names number ≡ Some t → t < length (new_types r)
   type_declared number t e =
       let f = then_some (λ (f : ℕ × LocalFunction). r.names Types (place (function_type f.1))) (local_in h.funcs number) t e in
       type_below r (place (function_type f.0.1)) t f.2
 
-  types_declared : All (λ t. t < length r.raw_types) r.raw_functions
-  types_declared = all_found (λ t. t < length r.raw_types) (type_index h.funcs r.names) r.order r.raw_functions r.functions_are type_declared
+  types_declared : All (λ t. t < length (new_types r)) r.raw_functions
+  types_declared = all_found (λ t. t < length (new_types r)) (type_index h.funcs r.names) r.order r.raw_functions r.functions_are type_declared
 
   index_declared : (x : ExportItem) (index : ℕ) → r.names (exported x).0 (exported x).1 ≡ Some index → index < length r.raw_functions
   index_declared (item.Function f) index e = function_below r (place f) index e
@@ -151,25 +152,26 @@ module _ (c : Config) {h : Held} {exports : List ExportValue} (r : Records h (fe
   unfolding wire_module
   read_back = texts_read c r wire_module refl refl first
 
-  can_be_written : (bytes : List ℕ) → IsWritten (map widened_type r.raw_types) r.raw_functions (map widened_export r.raw_exports) (map unplaced r.bodies) bytes → HandledCanBeWritten r.raw_types r.raw_functions r.raw_exports (map unplaced r.bodies)
+  can_be_written : (bytes : List ℕ) → IsWritten r.raw_types r.raw_functions (map widened_export r.raw_exports) (map unplaced r.bodies) bytes → HandledCanBeWritten r.raw_types r.raw_functions r.raw_exports (map unplaced r.bodies)
   can_be_written bytes w =
-      let few_types : length r.raw_types < 2 ^ 32 = less_by (length-map r.raw_types widened_type) w.types_fit.0.0 in
+      let few_types : length (new_types r) < 2 ^ 32 = types_fewer r.raw_types w.types_fit in
       record {
         types_fit = w.types_fit;
+        types_stand = r.types_are.stand;
         functions_fit = w.functions_fit;
         exports_fit = w.exports_fit;
         bodies_fit = w.bodies_fit;
-        type_indices = all_small (λ t. t) (length r.raw_types) (2 ^ 32) r.raw_functions few_types types_declared;
+        type_indices = all_small (λ t. t) (length (new_types r)) (2 ^ 32) r.raw_functions few_types types_declared;
         exported_indices = all_small (λ (e : handled.Export). e.index) (length r.raw_functions) (2 ^ 32) r.raw_exports w.functions_fit.0 exports_declared;
         names_are_text = r.texts;
       }
 
-  reads_as : (bytes : List ℕ) → IsWritten (map widened_type r.raw_types) r.raw_functions (map widened_export r.raw_exports) (map unplaced r.bodies) bytes → NothingUndeclared (written_as r) → Reads c bytes (written_as r)
+  reads_as : (bytes : List ℕ) → IsWritten r.raw_types r.raw_functions (map widened_export r.raw_exports) (map unplaced r.bodies) bytes → NothingUndeclared (written_as r) → Reads c bytes (written_as r)
   unfolding wire_module
   reads_as bytes w declared = record {
     sections = wire_module;
     framed = subst (λ b. Frames b (widened wire_module)) (sym w.is) (handled_frames r.raw_types r.raw_functions r.raw_exports (map unplaced r.bodies) (can_be_written bytes w));
-    in_order = in_order (map widened_type r.raw_types) r.raw_functions (map widened_export r.raw_exports) (map unplaced r.bodies);
+    in_order = in_order r.raw_types r.raw_functions (map widened_export r.raw_exports) (map unplaced r.bodies);
     as_many_bodies = many_bodies;
     bodies = map said (texts_of r);
     read = read_back;
@@ -177,18 +179,21 @@ module _ (c : Config) {h : Held} {exports : List ExportValue} (r : Records h (fe
     references = declared;
   }
 
-  rules_of : AllPairs (λ (d : Export) (e : Export). d.name ≢ e.name) (map export_of exports) → Rules wire_module
-  unfolding wire_module
-  rules_of g = record {
-    sections_in_order = in_order (map widened_type r.raw_types) r.raw_functions (map widened_export r.raw_exports) (map unplaced r.bodies);
-    indices_hold = (types_declared, exports_declared);
-    as_many_bodies = many_bodies;
-    names_differ = names_differ g;
-  }
+  module _ (one : (p : ℕ) (x : TypeDef) → item_at h.types p ≡ Some x → length x.sub.supertypes ≤ 1) where
+    rules_of : AllPairs (λ (d : Export) (e : Export). d.name ≢ e.name) (map export_of exports) → Rules wire_module
+    unfolding wire_module
+    rules_of g = record {
+      sections_in_order = in_order r.raw_types r.raw_functions (map widened_export r.raw_exports) (map unplaced r.bodies);
+      types_refer = types_keep_rules r one;
+      function_types = all_functions_typed c r wire_module refl refl;
+      exports_hold = exports_declared;
+      as_many_bodies = many_bodies;
+      names_differ = names_differ g;
+    }
 
-  keeps_rules : AllPairs (λ (d : Export) (e : Export). d.name ≢ e.name) (map export_of exports) → Holds (written_as r)
-  unfolding wire_module
-  keeps_rules g = keeps c wire_module (map said (texts_of r)) (rules_of g) read_back
+    keeps_rules : AllPairs (λ (d : Export) (e : Export). d.name ≢ e.name) (map export_of exports) → Holds (written_as r)
+    unfolding wire_module
+    keeps_rules g = keeps c wire_module (map said (texts_of r)) (rules_of g) read_back
 
 -- ---- both, of what is spelled
 
@@ -196,6 +201,7 @@ module _ (c : Config) {h : Held} {exports : List ExportValue} (r : Records h (fe
 pub reads_back : (c : Config) {h : Held} {exports : List ExportValue} (bytes : List ℕ) (s : Spells h (features_of c) exports bytes) → NothingUndeclared (written_as s.records) → Reads c bytes (written_as s.records)
 reads_back c bytes s declared = reads_as c s.records bytes s.written declared
 
--- and it keeps the rules, where no two exports have one name
-pub holds_back : (c : Config) {h : Held} {exports : List ExportValue} (r : Records h (features_of c) exports) → AllPairs (λ (d : Export) (e : Export). d.name ≢ e.name) (map export_of exports) → Holds (written_as r)
-holds_back c r g = keeps_rules c r g
+-- and it keeps the rules, where no two exports have one name, and no type has two supertypes
+pub holds_back : (c : Config) {h : Held} {exports : List ExportValue} (r : Records h (features_of c) exports) → ((p : ℕ) (x : TypeDef) → item_at h.types p ≡ Some x → length x.sub.supertypes ≤ 1)
+    → AllPairs (λ (d : Export) (e : Export). d.name ≢ e.name) (map export_of exports) → Holds (written_as r)
+holds_back c r one g = keeps_rules c r one g

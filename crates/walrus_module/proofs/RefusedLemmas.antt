@@ -26,6 +26,7 @@ use Rattle.walrus_functions.specs.Laws as laws
 use Rattle.walrus_functions.proofs.LawOrder.{turn}
 use Rattle.walrus_functions.proofs.LawWritable.{ill_formed}
 use Rattle.walrus_items.specs.Exports.{ExportValue, exports}
+use Rattle.walrus_groups.specs.Indexed.{AreInOrder, HasExact}
 use Rattle.walrus_items.specs.Functions.{FunctionValue, functions, local_at, local_functions}
 use Rattle.walrus_items.specs.declared.exports.ModuleExports.{ModuleExports}
 use Rattle.walrus_items.specs.declared.functions.FunctionKind.{FunctionKind}
@@ -43,7 +44,7 @@ use Rattle.walrus_model.specs.WellMade.{IsWellFormed}
 use Rattle.walrus_module.specs.Emitted.{HasUnwritable, HasTooManyIn, HasOther, DoesNotFit, PassesLimits, RefusesDeclared}
 use Rattle.walrus_module.specs.Parts.{Held, local_in, source, HasBytes, unplaced}
 use Rattle.walrus_module.specs.References.{refs_are_exported}
-use Rattle.walrus_module.specs.Refused.{IsThere, HasImported, HasIllFormed, HasOtherType, HasUndeclared, HasTooMany, HasManyLocals, WritesTooLarge, RefusesToWrite}
+use Rattle.walrus_module.specs.Refused.{IsThere, HasImported, HasIllFormed, AreWritable, HasUnwritableType, HasUndeclared, HasTooMany, HasManyLocals, WritesTooLarge, RefusesToWrite}
 use Rattle.walrus_module.specs.Spells.{Records}
 use Rattle.walrus_module.specs.View.{body, kind_of, function, functions_of, view_of}
 use Rattle.walrus_module.specs.Whole.{is_whole, all_types_whole, all_functions_whole, all_exports_live, is_local, all_local, is_all_there}
@@ -78,31 +79,17 @@ has_local funcs n f e = local_case funcs n f (item_at funcs n) refl e
 
 -- ---- entries
 
--- the place is the i-th from k on, and x is there
-abbrev Entered : {T : Type 0} → ℕ → List (Option T) → ℕ → T → Type 0
-Entered k slots n x = (i : ℕ) × (n ≡ k + i) × (item_at slots i ≡ Some x)
+item_later : {T : Type 0} (s : Option T) (rest : List (Option T)) (x : T) → (i : ℕ) × (item_at rest i ≡ Some x) → (i : ℕ) × (item_at (s ∷ rest) i ≡ Some x)
+item_later s rest x (i, at) = (suc i, at)
 
-entered_later : {T : Type 0} (k : ℕ) (s : Option T) (rest : List (Option T)) (n : ℕ) (x : T) → Entered (k + 1) rest n x → Entered k (s ∷ rest) n x
-entered_later k s rest n x (i, e, at) = (suc i, (let f : n ≡ k + 1 + i = e in omega (arith, f)), at)
-
-entered_here : {T : Type 0} (k : ℕ) (y : T) (rest : List (Option T)) (n : ℕ) (x : T) → ◌≡◌ {A = ℕ × T} (k, y) (n, x) → Entered k (Some y ∷ rest) n x
-entered_here {T} k y rest n x e =
-    let number : k ≡ n = ap (λ (p : ℕ × T). p.0) e in
-    (0, omega (arith, number), ap (λ (p : ℕ × T). Some p.1) e)
-
-entered : {T : Type 0} (k : ℕ) (slots : List (Option T)) (n : ℕ) (x : T) → Contains (entries_from k slots) (n, x) → Entered k slots n x
-entered k [] n x c = absurd (Contains-none (n, x) c)
-entered k (None ∷ rest) n x c = entered_later k None rest n x (entered (k + 1) rest n x c)
-entered k (Some y ∷ rest) n x c = elim (Contains-uncons (k, y) (n, x) (entries_from (k + 1) rest) c) as (λ _. Entered k (Some y ∷ rest) n x) [
-  | inl e ↦ entered_here k y rest n x e
-  | inr d ↦ entered_later k (Some y) rest n x (entered (k + 1) rest n x d)
+-- what is an item is at a place
+item_seen : {T : Type 0} (k : ℕ) (slots : List (Option T)) (x : T) → Contains (map (λ e. e.1) (entries_from k slots)) x → (i : ℕ) × (item_at slots i ≡ Some x)
+item_seen k [] x c = absurd (Contains-none x c)
+item_seen k (None ∷ rest) x c = item_later None rest x (item_seen (k + 1) rest x c)
+item_seen {T} k (Some y ∷ rest) x c = elim (Contains-uncons y x (map (λ (e : ℕ × T). e.1) (entries_from (k + 1) rest)) c) as (λ _. (i : ℕ) × (item_at (Some y ∷ rest) i ≡ Some x)) [
+  | inl e ↦ (0, ap (λ (z : T). Some z) e)
+  | inr d ↦ item_later (Some y) rest x (item_seen (k + 1) rest x d)
 ]
-
-entry_at : {T : Type 0} (slots : List (Option T)) (n : ℕ) (x : T) → Contains (entries slots) (n, x) → item_at slots n ≡ Some x
-entry_at slots n x c =
-    let (i, e, at) = entered 0 slots n x c in
-    let same : i ≡ n = (let f : n ≡ 0 + i = e in omega (arith, f)) in
-    subst (λ m. item_at slots m ≡ Some x) same at
 
 -- ---- declared locals
 
@@ -204,10 +191,16 @@ module _ (c : Config) (types : ModuleTypes) (all : ModuleLocals) (funcs : Module
       let seen : function all h.value ≡ record { ty = place f.ty; kind = abstract.LocalFunction (body all f) } = ap (λ (k : FunctionKind). function all (record h.value { kind = k })) h.kind_is in
       (n, (record { ty = place f.ty; kind = abstract.LocalFunction (body all f) }, (body all f, (found ∙ ap (λ (g : abstract.Function). Some g) seen, refl, formed))))
 
-  -- ---- a type that isn't written so far
+  -- ---- a type that can't be written
 
-  other_type : HasOther H → HasOtherType V
-  other_type (t, (x, (has, other))) = (t, (x, (entry_at T t x has, other)))
+  in_order : AreWritable V → AreInOrder T
+  in_order w = record { supertypes = w.refer.supertypes; others = w.refer.others }
+
+  unwritable : HasOther H → HasUnwritableType V
+  unwritable other w =
+      let exact : HasExact (items T) = other (in_order w) in
+      let seen = item_seen 0 T exact.0 exact.1.1.0 in
+      exact.1.1.2 (w.heaps seen.0 exact.0 exact.1.0 seen.1 exact.1.1.1)
 
   -- ---- too many items, and what can't be spelled
 
@@ -242,6 +235,7 @@ module _ (c : Config) (types : ModuleTypes) (all : ModuleLocals) (funcs : Module
           written declared r,
           record {
             sections = sections_of r;
+            no_empty_group = r.types_are.none_empty;
             texts = texts_of r;
             declared_once = texts_declare r.names (map (λ e. e.0) (entries T)) r.order r.numbered H (features_of c) r.order r.bodies r.bodies_are;
             is = refl;
@@ -265,9 +259,9 @@ module _ (c : Config) (types : ModuleTypes) (all : ModuleLocals) (funcs : Module
           (there h.0, imported (whole (both_pass _ (all_exports_live T L F E) h.0).0).1 h.1)
       refuses_lem (Err NotWritable) h = (there h.0, refused h.1)
         where
-          refused : (HasUnwritable H (features_of c) ⊎ HasOther H) ⊎ (refs_are_exported (items F) E ≡ false) → HasIllFormed c V ⊎ (HasOtherType V ⊎ HasUndeclared V)
+          refused : (HasUnwritable H (features_of c) ⊎ HasOther H) ⊎ (refs_are_exported (items F) E ≡ false) → HasIllFormed c V ⊎ (HasUnwritableType V ⊎ HasUndeclared V)
           refused (inl (inl u)) = inl (not_formed u)
-          refused (inl (inr o)) = inr (inl (other_type o))
+          refused (inl (inr o)) = inr (inl (unwritable o))
           refused (inr u) = inr (inr (one_undeclared types all funcs es u))
       refuses_lem (Err TooLarge) h = (there h.0, passes h.1.0 h.1.1)
       refuses_lem (Err (Memory e)) h = tt

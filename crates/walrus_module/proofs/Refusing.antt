@@ -7,10 +7,10 @@ use Rattle.std.specs.Str.{IsUtf8}
 use Rattle.std.proofs.lemmas.List.{length-map}
 use Rattle.std.proofs.lemmas.List.Elements.{All-map}
 use Rattle.wasm_frames.specs.Record as wire
-use Rattle.walrus_module.specs.Sections.{type_record, export_record}
+use Rattle.walrus_module.specs.Sections.{export_record}
 use Rattle.wasm_entries.specs.declared.record.RawExport.{RawExport}
 use Rattle.wasm_entries.specs.declared.record.RawSub.{RawSub}
-use Rattle.wasm_entries.specs.Record.{Group, Export}
+use Rattle.wasm_entries.specs.Record.{Group, Export, group}
 use Rattle.walrus_base.specs.Arena.{entries, items}
 use Rattle.walrus_base.specs.Id.{place}
 use Rattle.walrus_base.specs.declared.id.Id.{Id}
@@ -18,13 +18,14 @@ use Rattle.walrus_base.specs.declared.keys.FunctionKey.{FunctionKey}
 use Rattle.walrus_code.specs.Names.{Lookup}
 use Rattle.walrus_bodies.specs.declared.features.Features.{Features}
 use Rattle.walrus_items.specs.Exports.{ExportValue}
+use Rattle.walrus_groups.specs.Indexed.{AreIndexed, AreInOrder}
 use Rattle.walrus_items.specs.Functions.{local_functions}
 use Rattle.walrus_model.proofs.Lists.{map-map}
 use Rattle.walrus_module.specs.Emitted.{is_there_in, RefusesCounts, RefusesTypes, RefusesBodies, RefusesSections, RefusesItems}
 use Rattle.walrus_module.specs.Numbered.{AreNumbered, NamesNoOthers}
 use Rattle.walrus_module.specs.Parts.{Held, type_index, export_with_index, HasBytes, unplaced}
 use Rattle.walrus_module.specs.Sizes.{IsOrder}
-use Rattle.walrus_module.specs.Spells.{IsEntry, Records}
+use Rattle.walrus_module.specs.Spells.{Records}
 use Rattle.walrus_module.specs.Whole.{all_local}
 use Rattle.walrus_module.proofs.Entries.{order_length}
 use Rattle.walrus_module.proofs.Somes.{none_there}
@@ -32,7 +33,7 @@ use Rattle.walrus_module.proofs.SpellsLemmas.{zip_seen}
 use Rattle.walrus_parts.specs.declared.error.Error.{Error}
 use Rattle.walrus_parts.specs.declared.error.Error.TheVariants as Parts
 use Rattle.walrus_model.specs.Handled as handled
-use Rattle.walrus_model.specs.Handled.{widened_type, widened_export}
+use Rattle.walrus_model.specs.Handled.{widened_export}
 
 -- ---- what is still to come
 
@@ -62,7 +63,7 @@ module _ (h : Held) (features : Features) (exports : List ExportValue) where
 
   pub types_refused : (X : Type 0) (e : Error) → is_there_in h exports ≡ true → RefusesTypes h.types e → RefusesItems {X = X} h features exports (Err e)
   types_refused X (Parts.Memory m) there r = tt
-  types_refused X Parts.NotWritable there r = (there, inr r)
+  types_refused X Parts.NotWritable there r = (there, inr (λ ordered. r))
   types_refused X _ there r = absurd r
 
   pub bodies_refused : (X : Type 0) (e : Error) → is_there_in h exports ≡ true → RefusesBodies h features e → RefusesItems {X = X} h features exports (Err e)
@@ -75,21 +76,22 @@ module _ (h : Held) (features : Features) (exports : List ExportValue) where
 
   abbrev pub records_of : (names : Lookup) (ids : List (Id FunctionKey)) (raws : List (Vec RawSub)) (raw_functions : List ℕ) (exported : List RawExport) (bodies : List (Vec ℕ)) → all_local (items h.funcs) ≡ true → IsOrder h.funcs (map place ids)
       → AreNumbered names (map (λ e. e.0) (entries h.types)) (map place ids) → NamesNoOthers names
-      → AllZip IsEntry (entries h.types) (map type_record raws)
+      → AreIndexed names (items h.types) (map group raws) → AreInOrder h.types
       → map Some raw_functions ≡ map (λ id. type_index h.funcs names (place id)) ids
       → map (λ e. Some (export_record e)) exported ≡ map (export_with_index names) exports
       → All (λ e. IsUtf8 e.name.now) exported
       → AllZip (λ id bytes. HasBytes h names features (place id) bytes.items) ids bodies
       → Records h features exports
-  records_of names ids raws raw_functions exported bodies local ordered numbered no_others types_are functions_are exports_are texts bodies_are = record {
+  records_of names ids raws raw_functions exported bodies local ordered numbered no_others types_are in_order functions_are exports_are texts bodies_are = record {
     all_are_local = local;
     order = map place ids;
     ordered = ordered;
     names = names;
     numbered = numbered;
     no_others = no_others;
-    raw_types = map type_record raws;
+    raw_types = map group raws;
     types_are = types_are;
+    in_order = in_order;
     raw_functions = raw_functions;
     functions_are = functions_are ∙ sym (map-map (type_index h.funcs names) place ids);
     raw_exports = map export_record exported;
@@ -102,16 +104,16 @@ module _ (h : Held) (features : Features) (exports : List ExportValue) where
   -- ---- records that can't be spelled
 
   pub sections_refused : (X : Type 0) (r : Records h features exports) (ts : List Group) (fs : List ℕ) (es : List Export) (bs : List wire.Body) (e : Error) → is_there_in h exports ≡ true
-      → ts ≡ map widened_type r.raw_types → fs ≡ r.raw_functions → es ≡ map widened_export r.raw_exports → bs ≡ map unplaced r.bodies → RefusesSections ts fs es bs e → RefusesItems {X = X} h features exports (Err e)
+      → ts ≡ r.raw_types → fs ≡ r.raw_functions → es ≡ map widened_export r.raw_exports → bs ≡ map unplaced r.bodies → RefusesSections ts fs es bs e → RefusesItems {X = X} h features exports (Err e)
   sections_refused X r ts fs es bs (Parts.Memory m) there t f x b refused = tt
   sections_refused X r ts fs es bs Parts.TooLarge there t f x b refused = (
     there,
     inr (inr (inr (record {
       records = r;
       too_large =
-          subst (λ u. RefusesSections (map widened_type r.raw_types) r.raw_functions (map widened_export r.raw_exports) u Parts.TooLarge) b
-          (subst (λ u. RefusesSections (map widened_type r.raw_types) r.raw_functions u bs Parts.TooLarge) x
-          (subst (λ u. RefusesSections (map widened_type r.raw_types) u es bs Parts.TooLarge) f
+          subst (λ u. RefusesSections r.raw_types r.raw_functions (map widened_export r.raw_exports) u Parts.TooLarge) b
+          (subst (λ u. RefusesSections r.raw_types r.raw_functions u bs Parts.TooLarge) x
+          (subst (λ u. RefusesSections r.raw_types u es bs Parts.TooLarge) f
           (subst (λ u. RefusesSections u fs es bs Parts.TooLarge) t refused)));
     }))),
   )

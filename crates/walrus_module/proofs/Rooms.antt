@@ -1,10 +1,10 @@
--- Each list that is numbered has fewer than 2 ^ 32 entries: a section has, and each section stands at most once.
-use Rattle.std.proofs.Common.{◌≡◌, ℕ, zero, suc, ◌+◌, ◌<◌, ◌^◌, List, [], ◌∷◌, ◌++◌, length, map, get_or, refl, sym, ap, subst, ◌∙◌, arith, inl, inr, ◌⊎◌, length-append}
+-- A module has fewer than 2 ^ 32 functions: a section has, and each section stands at most once.
+use Rattle.std.proofs.Common.{◌≡◌, ℕ, zero, suc, ◌+◌, ◌<◌, ◌^◌, List, [], ◌∷◌, ◌++◌, length, get_or, refl, sym, ap, subst, ◌∙◌, arith, inl, inr, ◌⊎◌, length-append}
 use Rattle.std.specs.Prelude.{Contains, AllPairs}
-use Rattle.std.proofs.lemmas.List.{append-nil, append_assoc, get_or-append-add, length-map}
+use Rattle.std.proofs.lemmas.List.{append-nil, append_assoc, get_or-append-add}
 use Rattle.std.proofs.lemmas.List.Elements.{Contains-append_left, Contains-push}
 use Rattle.walrus_model.specs.Handled as handled
-use Rattle.walrus_model.specs.Handled.{widened_type, widened}
+use Rattle.walrus_model.specs.Handled.{widened}
 use Rattle.wasm_entries.specs.Record.{Group}
 use Rattle.wasm_frames.specs.Record.{Module, no_sections}
 use Rattle.wasm_frames.specs.Order.{StandsBefore}
@@ -15,7 +15,7 @@ use Rattle.walrus_module.specs.Taken.{FitsIndices}
 -- ---- the order of sections
 
 -- what a section adds to the order: its id, unless it is custom
-abbrev ids_in : Section → List ℕ
+abbrev pub ids_in : Section → List ℕ
 ids_in (CustomSection c) = []
 ids_in (Types gs) = 1 ∷ []
 ids_in (Imports is) = 2 ∷ []
@@ -98,7 +98,7 @@ module _ {X : Type 0} (list : Module → List X) (id : ℕ) (entries : Section �
   step m s ss lt (inl e) h (inr p) = (filled m s e p.1, inr (now_there m s p.0))
   step m s ss lt (inr c) h (inr p) = absurd (no_second m s ss id p.0 c h)
 
-  room : (place : ℕ) (bytes : List ℕ) (m : Module) (ss : List Section) → AreSections place bytes ss → length (list m) < 2 ^ 32 → (list m ≡ []) ⊎ Contains m.order id
+  pub room : (place : ℕ) (bytes : List ℕ) (m : Module) (ss : List Section) → AreSections place bytes ss → length (list m) < 2 ^ 32 → (list m ≡ []) ⊎ Contains m.order id
       → AllPairs StandsBefore (gathered_onto m ss).order → length (list (gathered_onto m ss)) < 2 ^ 32
   room place bytes m [] f lt e h = lt
   room place bytes m (s ∷ ss) f lt e h =
@@ -107,7 +107,7 @@ module _ {X : Type 0} (list : Module → List X) (id : ℕ) (entries : Section �
 
 -- ---- types and functions
 
-abbrev types_in : Section → List Group
+abbrev pub types_in : Section → List Group
 types_in (CustomSection c) = []
 types_in (Types gs) = gs
 types_in (Imports is) = []
@@ -123,7 +123,7 @@ types_in (DataSegments ds) = []
 types_in (DataCount n) = []
 types_in (Tags ts) = []
 
-types_added : (m : Module) (s : Section) → (with_section m s).types ≡ m.types ++ types_in s
+pub types_added : (m : Module) (s : Section) → (with_section m s).types ≡ m.types ++ types_in s
 types_added m (CustomSection c) = sym (append-nil m.types)
 types_added m (Types gs) = refl
 types_added m (Imports is) = sym (append-nil m.types)
@@ -138,22 +138,6 @@ types_added m (Code bs) = sym (append-nil m.types)
 types_added m (DataSegments ds) = sym (append-nil m.types)
 types_added m (DataCount n) = sym (append-nil m.types)
 types_added m (Tags ts) = sym (append-nil m.types)
-
-types_few : (place : ℕ) (bytes : List ℕ) (s : Section) → IsSection place bytes s → (types_in s ≡ []) ⊎ ((ids_in s ≡ 1 ∷ []) × (length (types_in s) < 2 ^ 32))
-types_few place bytes (CustomSection c) h = inl refl
-types_few place bytes (Types gs) h = let u = h.used in let lt : length gs < 2 ^ 32 = omega (arith, u.1.1.1.2.1, u.1.1.1.1.small) in inr (refl, lt)
-types_few place bytes (Imports is) h = inl refl
-types_few place bytes (Functions fs) h = inl refl
-types_few place bytes (Tables ts) h = inl refl
-types_few place bytes (Memories ms) h = inl refl
-types_few place bytes (Globals gs) h = inl refl
-types_few place bytes (Exports es) h = inl refl
-types_few place bytes (Start f) h = inl refl
-types_few place bytes (Elements es) h = inl refl
-types_few place bytes (Code bs) h = inl refl
-types_few place bytes (DataSegments ds) h = inl refl
-types_few place bytes (DataCount n) h = inl refl
-types_few place bytes (Tags ts) h = inl refl
 
 abbrev functions_in : Section → List ℕ
 functions_in (CustomSection c) = []
@@ -203,14 +187,11 @@ functions_few place bytes (DataSegments ds) h = inl refl
 functions_few place bytes (DataCount n) h = inl refl
 functions_few place bytes (Tags ts) h = inl refl
 
--- the lists of a module whose sections stand in order
+-- the functions of a module whose sections stand in order
 pub fits_indices : (bytes : List ℕ) (m : handled.Module) → Frames bytes (widened m) → AllPairs StandsBefore m.order → FitsIndices m
 fits_indices bytes m f h =
     let h' : AllPairs StandsBefore (gathered_onto no_sections f.parts).order = subst (λ (x : Module). AllPairs StandsBefore x.order) f.holds h in
-    let types : length (map widened_type m.types) < 2 ^ 32 = subst (λ (x : Module). length x.types < 2 ^ 32) (sym f.holds)
-    (room (λ x. x.types) 1 types_in types_added types_few 8 f.rest no_sections f.parts f.framed (omega arith) (inl refl) h') in
     record {
-      types = omega (arith, types, length-map m.types widened_type);
       functions = subst (λ (x : Module). length x.functions < 2 ^ 32) (sym f.holds)
           (room (λ x. x.functions) 3 functions_in functions_added functions_few 8 f.rest no_sections f.parts f.framed (omega arith) (inl refl) h');
     }

@@ -1,6 +1,6 @@
 -- A body that is written is the same body, under the indices that its items and locals are given.
-use Rattle.std.proofs.Common.{inl, inr, ◌≡◌, ◌⊎◌, ⊎_elim, ℕ, suc, ◌+◌, ◌<◌, ◌≤◌, Bool, true, false, List, [], ◌∷◌, ◌++◌, length, map, refl, sym, ap, ap₂, subst, ◌∙◌, arith, Some, None}
-use Rattle.std.specs.Prelude.{◌≢◌, Option, IsSome, Contains, nat_eq, option_map, option_and_then, slice_get, unwrap_or, if◌then◌else◌}
+use Rattle.std.proofs.Common.{inl, inr, ◌≡◌, ◌⊎◌, ℕ, suc, ◌+◌, ◌<◌, ◌≤◌, Bool, true, false, List, [], ◌∷◌, ◌++◌, length, map, refl, sym, ap, ap₂, subst, ◌∙◌, arith, Some}
+use Rattle.std.specs.Prelude.{◌≢◌, Option, Contains, nat_eq, option_map, slice_get, unwrap_or, if◌then◌else◌}
 use Rattle.std.specs.List.{AllZip, range_with_len}
 use Rattle.std.proofs.lemmas.Bool.Decides.{eqb_tells}
 use Rattle.walrus_base.specs.Arena.{item_at}
@@ -8,33 +8,29 @@ use Rattle.walrus_base.specs.Id.{place}
 use Rattle.walrus_base.specs.Types.{ValType, map_val}
 use Rattle.walrus_types.specs.Operators.{Space, Types, locals_of}
 use Rattle.walrus_types.specs.Shape.{place_in}
-use Rattle.walrus_types.specs.TypeDef.{TypeDef}
 use Rattle.walrus_code.specs.FromRaw.{ops_of}
-use Rattle.walrus_code.specs.Function.{function_type, body_of}
+use Rattle.walrus_code.specs.Function.{body_of}
 use Rattle.walrus_code.specs.Names.{Lookup, named_val}
-use Rattle.walrus_code.specs.declared.function.LocalFunction.{LocalFunction}
 use Rattle.walrus_bodies.specs.declared.features.Features.{Features}
 use Rattle.walrus_functions.specs.EmittedBody.{Source, index_in}
 use Rattle.walrus_functions.specs.Handlers.{params_of}
 use Rattle.walrus_items.specs.Exports.{ExportValue}
 use Rattle.walrus_model.specs.Abstract.{Body}
-use Rattle.walrus_model.specs.BodyText.{BodyText, said}
-use Rattle.walrus_model.specs.Reads.{value_type, types_of, body_with}
+use Rattle.walrus_model.specs.Reads.{types_of, body_with}
 use Rattle.walrus_model.specs.Refers.{IsUsed}
 use Rattle.walrus_model.specs.Renaming.{Renaming, renamed_ops}
 use Rattle.walrus_model.specs.Same.{SameBody}
 use Rattle.walrus_module.specs.Parts.{Held, type_index, HasBytes, source}
 use Rattle.walrus_module.specs.Spells.{Records}
-use Rattle.walrus_module.proofs.BodiesBack.{type_at, own_type, params_typed}
+use Rattle.walrus_module.proofs.BodiesBack.{params_typed}
 use Rattle.walrus_module.proofs.BodyBack.{types_in, typed_by, further_typed}
 use Rattle.walrus_module.proofs.Leads.{found_at}
-use Rattle.walrus_module.proofs.Lookups.{some_of, then_some, mapped_some, got_map, mapped_append, map_after, as_long, where_placed, place_range, place_past, Stands}
+use Rattle.walrus_module.proofs.Lookups.{some_of, then_some, mapped_some, got_map, mapped_append, as_long, where_placed, place_range, place_past, Stands}
 use Rattle.walrus_module.proofs.Named.{some_inj}
 use Rattle.walrus_module.proofs.NamedFound.{locals_found}
 use Rattle.walrus_module.proofs.Placing.{self_eq}
 use Rattle.walrus_module.proofs.Renamed.{val_renamed, ops_renamed}
-use Rattle.walrus_module.proofs.WrittenAs.{texts_in, local_in_order, sections_of, texts_of, renaming_of}
-use Rattle.walrus_model.specs.Handled as handled
+use Rattle.walrus_module.proofs.WrittenAs.{texts_in, local_in_order, sections_of, renaming_of}
 
 -- ---- the body of a function among the texts
 
@@ -79,15 +75,6 @@ module _ (h : Held) (names : Lookup) (features : Features) where
 
 -- ---- the types of its locals
 
--- numbers and vectors stay under each look-up
-plain_named : (names : Lookup) (us : List handled.Value) → map (named_val names) (map value_type us) ≡ map Some (map value_type us)
-plain_named names [] = refl
-plain_named names (handled.I32 ∷ us) = ap₂ ◌∷◌ refl (plain_named names us)
-plain_named names (handled.I64 ∷ us) = ap₂ ◌∷◌ refl (plain_named names us)
-plain_named names (handled.F32 ∷ us) = ap₂ ◌∷◌ refl (plain_named names us)
-plain_named names (handled.F64 ∷ us) = ap₂ ◌∷◌ refl (plain_named names us)
-plain_named names (handled.V128 ∷ us) = ap₂ ◌∷◌ refl (plain_named names us)
-
 module _ {h : Held} {features : Features} {exports : List ExportValue} (r : Records h features exports) (i t : ℕ) (bytes : List ℕ) (b : HasBytes h r.names features i bytes) (e : type_index h.funcs r.names i ≡ Some t)
     (found_locals : (x : ℕ) → (renaming_of r).locals i x ≡ unwrap_or (place_in (map place b.local.args.items ++ b.written.order) x) 0) where
   abbrev S : Source
@@ -111,21 +98,8 @@ module _ {h : Held} {features : Features} {exports : List ExportValue} (r : Reco
   abbrev ren : Renaming
   ren = renaming_of r
 
-  own_params : map Some params ≡ map (item_at h.slots) parameters
-  own_params = params_typed r (sections_of r) refl refl i t bytes b e
-
-  params_named : map (named_val r.names) params ≡ map Some params
-  params_named =
-      let z = type_at r (sections_of r) refl refl (place (function_type b.local)) t (own_type r (sections_of r) refl refl i t bytes b e) in
-      let p : params ≡ map value_type z.0.params = ap (λ (o : Option TypeDef). params_of o) z.1 in
-      ap (map (named_val r.names)) p ∙ plain_named r.names z.0.params ∙ sym (ap (λ (l : List (ValType ℕ)). map Some l) p)
-
   params_looked_up : map Some params ≡ map (typed_by r.names h.slots) parameters
-  params_looked_up =
-      sym params_named
-      ∙ map_after (λ v. Some v) (λ (o : Option (ValType ℕ)). option_and_then (named_val r.names) o) params
-      ∙ ap (map (λ (o : Option (ValType ℕ)). option_and_then (named_val r.names) o)) own_params
-      ∙ sym (map_after (item_at h.slots) (λ (o : Option (ValType ℕ)). option_and_then (named_val r.names) o) parameters)
+  params_looked_up = params_typed r (sections_of r) refl refl i t bytes b e
 
   locals_typed : map Some (params ++ further) ≡ map (typed_by r.names h.slots) all_locals
   locals_typed =
@@ -167,7 +141,7 @@ module _ {h : Held} {features : Features} {exports : List ExportValue} (r : Reco
       ap (λ (n : ℕ). slice_get (params ++ further) n) p.is ∙ w.1 ∙ ap (λ (y : ValType ℕ). Some y) renamed ∙ sym (ap (option_map (map_val (ren.numbers Types))) v.1)
 
   many : length params ≡ length parameters
-  many = as_long (λ v. Some v) (item_at h.slots) params parameters own_params
+  many = as_long (λ v. Some v) (typed_by r.names h.slots) params parameters params_looked_up
 
   place_by : (x k : ℕ) → Stands parameters x k → place_in (range_with_len 0 (length params)) k ≡ place_in parameters x
   place_by x k (inl s) = let lt : k < length params = omega (arith, s.1, many) in place_range 0 (length params) k k (omega arith) lt ∙ sym s.0

@@ -1,5 +1,5 @@
 -- The locals that a body uses have indices of 32 bits.
-use Rattle.std.proofs.Common.{◌≡◌, ℕ, ◌+◌, ◌*◌, ◌<◌, ◌≤◌, ◌^◌, Bool, true, false, List, [], ◌∷◌, ◌++◌, length, map, refl, sym, ap, ap₂, subst, ◌∙◌, arith, inl, inr}
+use Rattle.std.proofs.Common.{◌≡◌, ℕ, ◌+◌, ◌*◌, ◌<◌, ◌≤◌, ◌^◌, Bool, true, false, List, [], ◌∷◌, map, refl, sym, ap, ap₂, subst, ◌∙◌, arith, inl, inr}
 use Rattle.std.specs.Prelude.{Option, Some, None, Contains, flat_map, nat_lt, if◌then◌else◌}
 use Rattle.std.specs.List.{AllByRecursion}
 use Rattle.std.proofs.lemmas.List.Elements.{All-contains, All-from_recursion}
@@ -7,7 +7,6 @@ use borrow.Author.Tests.{ltb-true, ltb-false}
 use Rattle.wasm_forms.specs.Reading.{◌>>=◌}
 use Rattle.wasm_forms.specs.Grammar.{Form, Is, IsRow, Fails, ◌then◌, Led, Made, Where, U32}
 use Rattle.wasm_forms.specs.Types.{value_type}
-use Rattle.wasm_forms.proofs.Bind.{bind_some}
 use Rattle.wasm_operators.specs.declared.kind.Kind.{Kind}
 use Rattle.wasm_operators.specs.declared.kind.Kind.TheVariants as kinds
 use Rattle.wasm_operators.specs.declared.operator.RawArg.{RawArg}

@@ -8,9 +8,10 @@ use Rattle.wasm_forms.specs.Grammar.{Is}
 use Rattle.wasm_forms.specs.Spelling.{row_bytes}
 use Rattle.wasm_forms.specs.declared.types.RawVal.{RawVal}
 use Rattle.wasm_operators.specs.Operators as wire
+use Rattle.wasm_entries.specs.Record.{Group}
 use Rattle.wasm_operators.specs.Spelling.{op_bytes}
-use Rattle.walrus_base.specs.Arena.{entries}
-use Rattle.walrus_base.specs.Types.{ValType, I32, I64, F32, F64, V128, Ref, CompType, Func, Struct, Array}
+use Rattle.walrus_base.specs.Arena.{entries, items}
+use Rattle.walrus_base.specs.Types.{ValType}
 use Rattle.walrus_types.specs.TypeDef.{TypeDef}
 use Rattle.walrus_code.specs.FromRaw.{val_of, ops_of}
 use Rattle.walrus_code.specs.Names.{Lookup, named_ops}
@@ -23,16 +24,18 @@ use Rattle.walrus_functions.specs.DeclaredLocals.{AreGrouped}
 use Rattle.walrus_functions.specs.EmittedBody.{Source, index_in, BodyWritten, declarations_bytes, spelled_as, looked_up}
 use Rattle.walrus_functions.proofs.LawOrder.{declared_once, grouped_once}
 use Rattle.walrus_items.specs.Exports.{ExportValue}
-use Rattle.walrus_model.specs.Reads.{value_type, function_type, lone_type}
+use Rattle.walrus_groups.specs.Groups.{types_from}
+use Rattle.walrus_groups.specs.Indexed.{AreIndexed}
 use Rattle.walrus_module.specs.Numbered.{AreNumbered, NamesNoOthers}
 use Rattle.walrus_module.specs.Parts.{Held, type_index, export_with_index, source, HasBytes, unplaced}
 use Rattle.walrus_module.specs.Spelled.{module_bytes}
-use Rattle.walrus_module.specs.Spells.{IsEntry, Records, SpelledOnce}
+use Rattle.walrus_module.specs.Spells.{Records, SpelledOnce}
+use Rattle.walrus_module.proofs.OneGroup.{one_grouping}
 use Rattle.walrus_module.proofs.OneOrder.{one_order}
 use Rattle.walrus_module.proofs.OneText.{OpGood, one_text, one_val}
 use Rattle.walrus_module.proofs.TextsStand.{TypeGood, operator_good, declarations_good}
 use Rattle.walrus_model.specs.Handled as handled
-use Rattle.walrus_model.specs.Handled.{widened_type, widened_export}
+use Rattle.walrus_model.specs.Handled.{widened_export}
 
 -- ---- lists
 
@@ -50,50 +53,8 @@ map_one f one (x ∷ xs) (y ∷ ys) e =
 
 -- ---- types
 
-raw_value : ValType ℕ → handled.Value
-raw_value I32 = handled.I32
-raw_value I64 = handled.I64
-raw_value F32 = handled.F32
-raw_value F64 = handled.F64
-raw_value V128 = handled.V128
-raw_value (Ref r) = handled.I32
-
-raw_value_back : (v : handled.Value) → raw_value (value_type v) ≡ v
-unfolding raw_value
-raw_value_back handled.I32 = refl
-raw_value_back handled.I64 = refl
-raw_value_back handled.F32 = refl
-raw_value_back handled.F64 = refl
-raw_value_back handled.V128 = refl
-
-one_value : (v w : handled.Value) → value_type v ≡ value_type w → v ≡ w
-one_value v w e = sym (raw_value_back v) ∙ ap raw_value e ∙ raw_value_back w
-
-abbrev params_in : CompType ℕ → List (ValType ℕ)
-params_in (Func params results) = params
-params_in (Struct fields) = []
-params_in (Array element) = []
-
-abbrev results_in : CompType ℕ → List (ValType ℕ)
-results_in (Func params results) = results
-results_in (Struct fields) = []
-results_in (Array element) = []
-
-one_shape : (t u : handled.FuncType) → function_type t ≡ function_type u → t ≡ u
-one_shape t u e =
-    let params : t.params ≡ u.params = map_one value_type one_value t.params u.params (ap params_in e) in
-    let results : t.results ≡ u.results = map_one value_type one_value t.results u.results (ap results_in e) in
-    ap₂ (λ (p r : List handled.Value). record { params = p; results = r }) params results
-
-one_types : (es : List (ℕ × TypeDef)) (ts us : List handled.FuncType) → AllZip IsEntry es ts → AllZip IsEntry es us → ts ≡ us
-one_types [] [] [] h g = refl
-one_types [] [] (u ∷ us) h g = elim g [ ]
-one_types [] (t ∷ ts) us h g = elim h [ ]
-one_types (e ∷ es) [] us h g = elim h [ ]
-one_types (e ∷ es) (t ∷ ts) [] h g = elim g [ ]
-one_types (e ∷ es) (t ∷ ts) (u ∷ us) h g =
-    let same : lone_type e.0 t ≡ lone_type e.0 u = sym h.0 ∙ g.0 in
-    ap₂ ◌∷◌ (one_shape t u (ap (λ (x : TypeDef). x.sub.comp) same)) (one_types es ts us h.1 g.1)
+one_types : (names : Lookup) (defs : List TypeDef) (gs hs : List Group) → AreIndexed names defs gs → AreIndexed names defs hs → gs ≡ hs
+one_types names defs gs hs a b = one_grouping 0 gs hs a.none_empty b.none_empty a.stand b.stand (map_one Some some_same (types_from 0 gs) (types_from 0 hs) (a.read ∙ sym b.read))
 
 -- ---- indices
 
@@ -128,13 +89,13 @@ one_declarations (x ∷ xs) (y ∷ ys) h g e =
 
 -- ---- all of it
 
-same_bytes : (ts us : List handled.FuncType) (fs gs : List ℕ) (es ds : List handled.Export) (bs cs : List (List ℕ)) → ts ≡ us → fs ≡ gs → es ≡ ds → bs ≡ cs
-    → module_bytes (map widened_type ts) fs (map widened_export es) (map unplaced bs) ≡ module_bytes (map widened_type us) gs (map widened_export ds) (map unplaced cs)
+same_bytes : (ts us : List Group) (fs gs : List ℕ) (es ds : List handled.Export) (bs cs : List (List ℕ)) → ts ≡ us → fs ≡ gs → es ≡ ds → bs ≡ cs
+    → module_bytes ts fs (map widened_export es) (map unplaced bs) ≡ module_bytes us gs (map widened_export ds) (map unplaced cs)
 same_bytes ts us fs gs es ds bs cs t f e b =
-    ap (λ x. module_bytes (map widened_type x) fs (map widened_export es) (map unplaced bs)) t
-    ∙ ap (λ x. module_bytes (map widened_type us) x (map widened_export es) (map unplaced bs)) f
-    ∙ ap (λ x. module_bytes (map widened_type us) gs (map widened_export x) (map unplaced bs)) e
-    ∙ ap (λ x. module_bytes (map widened_type us) gs (map widened_export ds) (map unplaced x)) b
+    ap (λ x. module_bytes x fs (map widened_export es) (map unplaced bs)) t
+    ∙ ap (λ x. module_bytes us x (map widened_export es) (map unplaced bs)) f
+    ∙ ap (λ x. module_bytes us gs (map widened_export x) (map unplaced bs)) e
+    ∙ ap (λ x. module_bytes us gs (map widened_export ds) (map unplaced x)) b
 
 -- what is written of a body stands as it is spelled
 abbrev pub TextsStand : Type 0
@@ -175,16 +136,17 @@ module _ (stand : TextsStand) where
   -- ---- records
 
   module _ (h : Held) (features : Features) (exports : List ExportValue) where
-    one_records : (r s : Records h features exports) → module_bytes (map widened_type r.raw_types) r.raw_functions (map widened_export r.raw_exports) (map unplaced r.bodies) ≡ module_bytes (map widened_type s.raw_types) s.raw_functions (map widened_export s.raw_exports) (map unplaced s.bodies)
+    one_records : (r s : Records h features exports) → module_bytes r.raw_types r.raw_functions (map widened_export r.raw_exports) (map unplaced r.bodies) ≡ module_bytes s.raw_types s.raw_functions (map widened_export s.raw_exports) (map unplaced s.bodies)
     one_records r s =
         let order : r.order ≡ s.order = one_order h.funcs r.order s.order r.ordered s.ordered in
         let numbered : AreNumbered r.names (map (λ e. e.0) (entries h.types)) s.order = subst (λ o. AreNumbered r.names (map (λ e. e.0) (entries h.types)) o) order r.numbered in
         let names : r.names ≡ s.names = one_naming r.names s.names (map (λ e. e.0) (entries h.types)) s.order numbered s.numbered r.no_others s.no_others in
+        let types : AreIndexed s.names (items h.types) r.raw_types = subst (λ n. AreIndexed n (items h.types) r.raw_types) names r.types_are in
         let functions : map Some r.raw_functions ≡ map Some s.raw_functions = r.functions_are ∙ ap (λ n. map (type_index h.funcs n) r.order) names ∙ ap (map (type_index h.funcs s.names)) order ∙ sym s.functions_are in
         let exported : map Some r.raw_exports ≡ map Some s.raw_exports = r.exports_are ∙ ap (λ n. map (export_with_index n) exports) names ∙ sym s.exports_are in
         let bodies : AllZip (HasBytes h s.names features) s.order r.bodies = subst (λ n. AllZip (HasBytes h n features) s.order r.bodies) names (subst (λ o. AllZip (HasBytes h r.names features) o r.bodies) order r.bodies_are) in
         same_bytes r.raw_types s.raw_types r.raw_functions s.raw_functions r.raw_exports s.raw_exports r.bodies s.bodies
-        (one_types (entries h.types) r.raw_types s.raw_types r.types_are s.types_are)
+        (one_types s.names (items h.types) r.raw_types s.raw_types types s.types_are)
         (map_one Some some_same r.raw_functions s.raw_functions functions)
         (map_one Some some_same r.raw_exports s.raw_exports exported)
         (one_row h s.names features s.order r.bodies s.bodies bodies s.bodies_are)

@@ -1,8 +1,8 @@
 -- Lists place by place, the look-ups of indices, and the types that are added.
-use Rattle.std.proofs.Common.{◌≡◌, ℕ, zero, suc, ◌+◌, ◌<◌, ◌≤◌, Bool, true, false, List, [], ◌∷◌, ◌++◌, length, map, take, get_or, refl, sym, ap, ap₂, ◌∙◌, arith}
-use Rattle.std.specs.Prelude.{Option, Some, None, slice_get, zip, nat_lt, option_map, if◌then◌else◌, ◌≢◌}
+use Rattle.std.proofs.Common.{◌≡◌, ℕ, zero, suc, ◌+◌, ◌<◌, ◌≤◌, Bool, true, false, List, [], ◌∷◌, ◌++◌, length, map, take, get_or, refl, sym, ap, ◌∙◌, arith}
+use Rattle.std.specs.Prelude.{Option, Some, None, slice_get, zip, nat_lt, if◌then◌else◌, ◌≢◌}
 use Rattle.std.specs.List.{AllZip, range_with_len}
-use Rattle.std.proofs.lemmas.List.{take_more, take_all, map-append}
+use Rattle.std.proofs.lemmas.List.{take_more, take_all}
 use mathlib.Core.Path.{fun_ext}
 use borrow.Author.Tests.{ltb-true, ltb-false}
 use Rattle.walrus_base.specs.Arena.{item_at}
@@ -13,8 +13,8 @@ use Rattle.walrus_types.specs.declared.module_types.ModuleTypes.{ModuleTypes}
 use Rattle.walrus_code.specs.Indices.{places_in, ids_at}
 use Rattle.walrus_code.specs.declared.indices.IndicesToIds.{IndicesToIds}
 use Rattle.walrus_bodies.specs.FunctionTypes.{is_function_def, is_function_at}
-use Rattle.walrus_model.specs.Reads.{declared, lone_type, types_of, is_function}
-use Rattle.walrus_module.specs.Taken.{taken_types}
+use Rattle.walrus_groups.specs.Groups.{types_from}
+use Rattle.walrus_model.specs.Reads.{declared, types_of, is_function}
 use Rattle.walrus_module.proofs.Taking.{get_own, get_past}
 use Rattle.walrus_model.specs.Handled as handled
 
@@ -78,10 +78,10 @@ below_by n i false e = get_past 0 n i (ltb-false i n e)
 nothing_at : (xs : List ℕ) (i : ℕ) → xs ≡ [] → slice_get xs i ≡ None
 nothing_at xs i none = ap (λ (l : List ℕ). slice_get l i) none
 
-module _ (r : handled.Module) (indices : IndicesToIds) (types : places_in indices Types ≡ range_with_len 0 (length r.types)) (functions : places_in indices Functions ≡ range_with_len 0 (length r.functions))
+module _ (r : handled.Module) (indices : IndicesToIds) (types : places_in indices Types ≡ range_with_len 0 (length (types_from 0 r.types))) (functions : places_in indices Functions ≡ range_with_len 0 (length r.functions))
     (others : (space : Space) → space ≢ Types → space ≢ Functions → places_in indices space ≡ []) where
   names_at : (space : Space) (i : ℕ) → ids_at indices space i ≡ declared r space i
-  names_at Types i = ap (λ l. slice_get l i) types ∙ below_by (length r.types) i (nat_lt i (length r.types)) refl
+  names_at Types i = ap (λ l. slice_get l i) types ∙ below_by (length (types_from 0 r.types)) i (nat_lt i (length (types_from 0 r.types))) refl
   names_at Functions i = ap (λ l. slice_get l i) functions ∙ below_by (length r.functions) i (nat_lt i (length r.functions)) refl
   names_at Tables i = nothing_at (places_in indices Tables) i (others Tables (λ (e : Tables ≡ Types). cc) (λ (e : Tables ≡ Functions). cc))
   names_at Memories i = nothing_at (places_in indices Memories) i (others Memories (λ (e : Memories ≡ Types). cc) (λ (e : Memories ≡ Functions). cc))
@@ -99,35 +99,15 @@ own_index n i lt = sym (below_by n i (nat_lt i n) refl) ∙ get_own n i lt
 
 -- ---- types
 
-pub taken_length : (k : ℕ) (ts : List handled.FuncType) → length (taken_types k ts) ≡ length ts
-taken_length k [] = refl
-taken_length k (t ∷ ts) = ap suc (taken_length (suc k) ts)
+-- a place of a list all of whose slots are filled
+pub item_there : {A : Type 0} (xs : List A) (i : ℕ) → item_at (map Some xs) i ≡ slice_get xs i
+item_there [] i = refl
+item_there (x ∷ xs) zero = refl
+item_there (x ∷ xs) (suc i) = item_there xs i
 
-taken_push : (k : ℕ) (ts : List handled.FuncType) (t : handled.FuncType) → taken_types k (ts ++ t ∷ []) ≡ taken_types k ts ++ Some (lone_type (k + length ts) t) ∷ []
-taken_push k [] t = let e : k ≡ k + 0 = omega arith in ap (λ n. Some (lone_type n t) ∷ []) e
-taken_push k (x ∷ ts) t =
-    let e : suc k + length ts ≡ k + suc (length ts) = omega arith in
-    ap (λ l. Some (lone_type k x) ∷ l) (taken_push (suc k) ts t ∙ ap (λ n. taken_types (suc k) ts ++ Some (lone_type n t) ∷ []) e)
-
-pub types_grown : {A : Type 0} (f : A → handled.FuncType) (xs : List A) (i : ℕ) (x : A) (old new : List (Option TypeDef)) → i < length xs → x ≡ get_or xs i x
-    → old ≡ taken_types 0 (map f (take i xs)) → new ≡ old ++ Some (lone_type (length old) (f x)) ∷ [] → new ≡ taken_types 0 (map f (take (i + 1) xs))
-types_grown f xs i x old new lt is before push =
-    let long : length old ≡ length (map f (take i xs)) = ap length before ∙ taken_length 0 (map f (take i xs)) in
-    let n : length old ≡ 0 + length (map f (take i xs)) = omega (arith, long) in
-    let last : Some (lone_type (length old) (f x)) ≡ Some (lone_type (0 + length (map f (take i xs))) (f (get_or xs i x))) = ap₂ (λ k y. Some (lone_type k (f y))) n is in
-    push ∙ ap₂ (λ l y. l ++ y ∷ []) before last ∙ sym (taken_push 0 (map f (take i xs)) (f (get_or xs i x)))
-    ∙ ap (taken_types 0) (sym (map-append f (take i xs) (get_or xs i x ∷ [])) ∙ sym (ap (map f) (take_more xs i x lt)))
-
-taken_at : (k : ℕ) (ts : List handled.FuncType) (i : ℕ) → item_at (taken_types k ts) i ≡ option_map (lone_type (k + i)) (slice_get ts i)
-taken_at k [] i = refl
-taken_at k (t ∷ ts) zero = let e : k ≡ k + 0 = omega arith in ap (λ n. Some (lone_type n t)) e
-taken_at k (t ∷ ts) (suc i) = let e : suc k + i ≡ k + suc i = omega arith in taken_at (suc k) ts i ∙ ap (λ n. option_map (lone_type n) (slice_get ts i)) e
-
-module _ (r : handled.Module) (ts : ModuleTypes) (typed : type_slots ts ≡ taken_types 0 r.types) where
+module _ (r : handled.Module) (ts : ModuleTypes) (typed : type_slots ts ≡ map Some (types_from 0 r.types)) where
   pub type_there : (i : ℕ) → item_at (type_slots ts) i ≡ types_of r i
-  type_there i =
-      let e : 0 + i ≡ i = omega arith in
-      ap (λ (l : List (Option TypeDef)). item_at l i) typed ∙ taken_at 0 r.types i ∙ ap (λ n. option_map (lone_type n) (slice_get r.types i)) e
+  type_there i = ap (λ (l : List (Option TypeDef)). item_at l i) typed ∙ item_there (types_from 0 r.types) i
 
   pub same_types : item_at (type_slots ts) ≡ types_of r
   same_types = fun_ext type_there
@@ -135,11 +115,11 @@ module _ (r : handled.Module) (ts : ModuleTypes) (typed : type_slots ts ≡ take
   pub same_functions : is_function_at ts ≡ is_function r
   same_functions = fun_ext (λ i. ap is_function_def (type_there i))
 
-lone_is_function : (ts : List handled.FuncType) (i k : ℕ) → i < length ts → is_function_def (option_map (lone_type k) (slice_get ts i)) ≡ true
-lone_is_function [] i k lt = absurd (omega arith)
-lone_is_function (t ∷ ts) zero k lt = refl
-lone_is_function (t ∷ ts) (suc i) k lt = lone_is_function ts i k (omega arith)
+function_within : (xs : List TypeDef) (i : ℕ) → is_function_def (slice_get xs i) ≡ true → i < length xs
+function_within [] i h = absurd cc
+function_within (x ∷ xs) zero h = omega arith
+function_within (x ∷ xs) (suc i) h = let lt : i < length xs = function_within xs i h in omega (arith, lt)
 
--- each type that was declared is a function type
-pub declared_function : (r : handled.Module) (i : ℕ) → i < length r.types → is_function r i ≡ true
-declared_function r i lt = lone_is_function r.types i i lt
+-- each type that is a function type is declared
+pub function_declared : (r : handled.Module) (i : ℕ) → is_function r i ≡ true → i < length (types_from 0 r.types)
+function_declared r i h = function_within (types_from 0 r.types) i h

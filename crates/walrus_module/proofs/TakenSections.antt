@@ -16,13 +16,14 @@ use Rattle.walrus_types.specs.Locals.{locals}
 use Rattle.walrus_items.specs.Functions.{functions}
 use Rattle.walrus_items.specs.declared.exports.ModuleExports.{ModuleExports}
 use Rattle.walrus_items.specs.declared.functions.ModuleFunctions.{ModuleFunctions}
+use Rattle.walrus_groups.specs.Groups.{types_from}
 use Rattle.walrus_model.specs.Config.{Config}
 use Rattle.walrus_model.specs.Handled as handled
 use Rattle.walrus_model.specs.Reads.{declared, is_function, features_of, context_of, types_of, export_of}
 use Rattle.walrus_module.specs.Sections.{export_record}
-use Rattle.walrus_module.specs.Taken.{taken_types, TakesFunctions, TakesSections}
+use Rattle.walrus_module.specs.Taken.{TakesFunctions, TakesSections}
 use Rattle.walrus_module.specs.View.{exports_of}
-use Rattle.walrus_module.proofs.Steps.{own_index, same_types, same_functions, declared_function}
+use Rattle.walrus_module.proofs.Steps.{own_index, same_types, same_functions, function_declared}
 use Rattle.walrus_module.proofs.TakenBody.{saids_of}
 use Rattle.walrus_parts.specs.Errors.{out_of_memory}
 use Rattle.walrus_parts.specs.declared.error.Error.{Error}
@@ -30,15 +31,16 @@ use Rattle.walrus_parts.specs.declared.error.Error.TheVariants as Parts
 use Rattle.wasm_entries.specs.declared.record.RawExport.{RawExport}
 use Rattle.wasm_frames.specs.Record as wire
 
-module _ (c : Config) (r : handled.Module) (indices : IndicesToIds) (ts : ModuleTypes) (names : ids_at indices ≡ declared r) (typed : type_slots ts ≡ taken_types 0 r.types) where
+module _ (c : Config) (r : handled.Module) (indices : IndicesToIds) (ts : ModuleTypes) (names : ids_at indices ≡ declared r) (typed : type_slots ts ≡ map Some (types_from 0 r.types)) where
   -- what functions and exports name is declared
-  pub types_named : (fs : List ℕ) → fs ≡ r.functions → All (λ t. t < length r.types) r.functions → All (λ t. ids_at indices Types t ≡ Some t) fs
+  pub types_named : (fs : List ℕ) → fs ≡ r.functions → All (λ t. is_function r t ≡ true) r.functions → All (λ t. ids_at indices Types t ≡ Some t) fs
   types_named fs same h = λ k d lt.
-      ap (λ n. n Types (get_or fs k d)) names ∙ own_index (length r.types) (get_or fs k d) (subst (λ (l : List ℕ). All (λ t. t < length r.types) l) (sym same) h k d lt)
+      let function : is_function r (get_or fs k d) ≡ true = subst (λ (l : List ℕ). All (λ t. is_function r t ≡ true) l) (sym same) h k d lt in
+      ap (λ n. n Types (get_or fs k d)) names ∙ own_index (length (types_from 0 r.types)) (get_or fs k d) (function_declared r (get_or fs k d) function)
 
-  pub types_are_functions : (fs : List ℕ) → fs ≡ r.functions → All (λ t. t < length r.types) r.functions → All (λ t. is_function_at ts t ≡ true) fs
+  pub types_are_functions : (fs : List ℕ) → fs ≡ r.functions → All (λ t. is_function r t ≡ true) r.functions → All (λ t. is_function_at ts t ≡ true) fs
   types_are_functions fs same h = λ k d lt.
-      ap (λ p. p (get_or fs k d)) (same_functions r ts typed) ∙ declared_function r (get_or fs k d) (subst (λ (l : List ℕ). All (λ t. t < length r.types) l) (sym same) h k d lt)
+      ap (λ p. p (get_or fs k d)) (same_functions r ts typed) ∙ subst (λ (l : List ℕ). All (λ t. is_function r t ≡ true) l) (sym same) h k d lt
 
   pub exports_named : (x : List RawExport) → map export_record x ≡ r.exports → All (λ e. e.index < length r.functions) r.exports → All (λ e. ids_at indices Functions e.index ≡ Some e.index) (map export_record x)
   exports_named x same all = λ k d lt.

@@ -2,7 +2,7 @@
 use Rattle.std.proofs.Common.{◌≡◌, ℕ, zero, suc, ◌+◌, ◌<◌, ◌≤◌, List, [], ◌∷◌, ◌++◌, length, map, take, get_or, refl, sym, ap, ap₂, subst, ◌∙◌, arith}
 use Rattle.std.specs.Prelude.{Option, Some, None, Contains, slice_get, All}
 use Rattle.std.specs.List.{range_with_len}
-use Rattle.std.proofs.lemmas.List.{take_more, take_all, map-append, get_or-map, length-map}
+use Rattle.std.proofs.lemmas.List.{take_all, map-append, get_or-map, length-map}
 use Rattle.std.proofs.lemmas.List.FromFn.{length-range_with_len, get_or-range_with_len}
 use Rattle.walrus_base.specs.Arena.{entries_from, items}
 use Rattle.walrus_types.specs.Operators.{Functions}
@@ -11,18 +11,7 @@ use Rattle.walrus_model.specs.Reads.{space_of}
 use Rattle.walrus_module.specs.View.{export_of}
 use Rattle.walrus_model.specs.Handled as handled
 
--- ---- lists that grow with a loop
-
-pub grown : {A B : Type 0} (f : A → B) (xs : List A) (i : ℕ) (x : A) (done more : List B) → i < length xs → x ≡ get_or xs i x
-    → done ≡ map f (take i xs) → more ≡ done ++ f x ∷ [] → more ≡ map f (take (i + 1) xs)
-grown f xs i x done more lt is before push =
-    push ∙ ap (λ l. l ++ f x ∷ []) before ∙ ap (λ y. map f (take i xs) ++ f y ∷ []) is
-    ∙ sym (map-append f (take i xs) (get_or xs i x ∷ [])) ∙ sym (ap (map f) (take_more xs i x lt))
-
-pub grown_by : {A B C : Type 0} (g : C → B) (f : A → B) (xs : List A) (i : ℕ) (x : A) (done more : List C) (y : C) → i < length xs → x ≡ get_or xs i x
-    → map g done ≡ map f (take i xs) → more ≡ done ++ y ∷ [] → g y ≡ f x → map g more ≡ map f (take (i + 1) xs)
-grown_by g f xs i x done more y lt is before push same =
-    grown f xs i x (map g done) (map g more) lt is before (ap (map g) push ∙ map-append g done (y ∷ []) ∙ ap (λ z. map g done ++ z ∷ []) same)
+-- ---- lists that are taken whole
 
 pub whole : {A B : Type 0} (f : A → B) (xs : List A) (i : ℕ) → length xs ≤ i → map f (take i xs) ≡ map f xs
 whole f xs i le = ap (map f) (take_all i xs le)
@@ -72,33 +61,14 @@ items_push k (Some x ∷ rest) v = ap (λ l. x ∷ l) (items_push (k + 1) rest v
 
 -- ---- more of these
 
-pub grown_at : {A B : Type 0} (f : A → B) (xs : List A) (i : ℕ) (d : A) (done more : List B) → i < length xs
-    → done ≡ map f (take i xs) → more ≡ done ++ f (get_or xs i d) ∷ [] → more ≡ map f (take (i + 1) xs)
-grown_at f xs i d done more lt before push =
-    push ∙ ap (λ l. l ++ f (get_or xs i d) ∷ []) before ∙ sym (map-append f (take i xs) (get_or xs i d ∷ [])) ∙ sym (ap (map f) (take_more xs i d lt))
-
 pub mapped_all : {A B : Type 0} (P : B → Type 0) (f : A → B) (xs : List A) (i : ℕ) (d : A) → All P (map f xs) → i < length xs → P (f (get_or xs i d))
 mapped_all P f xs i d h lt = subst P (get_or-map f xs i d (f d) lt) (h i (f d) (omega (arith, length-map xs f)))
 
 pub placed_more : {X : Type 0} (g : X → ℕ) (a n : ℕ) (done more : List X) (y : X) → map g done ≡ range_with_len a n → more ≡ done ++ y ∷ [] → g y ≡ a + n → map g more ≡ range_with_len a (n + 1)
 placed_more g a n done more y is push at = ap (map g) push ∙ map-append g done (y ∷ []) ∙ ap₂ (λ l k. l ++ k ∷ []) is at ∙ sym (range_more a n)
 
-pub own_at : (xs : List ℕ) (n i : ℕ) → xs ≡ range_with_len 0 n → i < n → slice_get xs i ≡ Some i
-own_at xs n i is lt = ap (λ l. slice_get l i) is ∙ get_own n i lt
-
 pub some_same : (a b : ℕ) → Some a ≡ Some b → a ≡ b
 some_same a b e = cc
-
-pub own_found : (xs : List ℕ) (n i p : ℕ) → xs ≡ range_with_len 0 n → i < n → Some p ≡ slice_get xs i → p ≡ i
-own_found xs n i p is lt e = some_same p i (e ∙ own_at xs n i is lt)
-
-pub own_missed : (xs : List ℕ) (n i : ℕ) → xs ≡ range_with_len 0 n → i < n → None ≡ slice_get xs i → ⊥
-own_missed xs n i is lt e = let f : ◌≡◌ {A = Option ℕ} None (Some i) = e ∙ own_at xs n i is lt in cc
-
-pub item_map : {A B : Type 0} (h : Option A → Option B) → h None ≡ None → (xs : List (Option A)) (i : ℕ) → get_or (map h xs) i None ≡ h (get_or xs i None)
-item_map h e [] i = sym e
-item_map h e (x ∷ xs) zero = refl
-item_map h e (x ∷ xs) (suc i) = item_map h e xs i
 
 -- ---- exports
 

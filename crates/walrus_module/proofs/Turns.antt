@@ -46,10 +46,6 @@ zip_snoc R (a ∷ xs) (b ∷ ys) x y h r = (h.0, zip_snoc R xs ys x y h.1 r)
 pub zip_turn : {A B : Type 0} (R : A → B → Type 0) (xs : List A) (i : ℕ) (d : A) (ys : List B) (y : B) → i < length xs → AllZip R (take i xs) ys → R (slice_index_or xs i d) y → AllZip R (take (i + 1) xs) (ys ++ y ∷ [])
 zip_turn R xs i d ys y h zip r = subst (λ l. AllZip R l (ys ++ y ∷ [])) (sym (one_more xs i d h)) (zip_snoc R (take i xs) ys (slice_index_or xs i d) y zip r)
 
--- pairs with what is made of what comes
-pub zip_made : {A B C : Type 0} (R : A → C → Type 0) (f : B → C) (xs : List A) (ys : List B) (x : A) (y : B) → AllZip R xs (map f ys) → R x (f y) → AllZip R (xs ++ x ∷ []) (map f (ys ++ y ∷ []))
-zip_made R f xs ys x y zip r = subst (λ l. AllZip R (xs ++ x ∷ []) l) (sym (map_snoc f ys y)) (zip_snoc R xs (map f ys) x (f y) zip r)
-
 -- places that are done, one, and those to come
 pub places_turn : {A : Type 0} (done : List ℕ) (left after : List (ℕ × A)) (e : ℕ × A) (all : List ℕ) (p : ℕ)
     → done ++ map (λ e. e.0) left ≡ all → left ≡ e ∷ after → p ≡ e.0 → done ++ p ∷ map (λ e. e.0) after ≡ all

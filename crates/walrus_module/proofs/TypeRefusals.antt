@@ -1,14 +1,18 @@
--- Types that can't be written so far.
-use Rattle.std.proofs.Common.{◌≡◌, ℕ, zero, suc, ◌<◌, List, [], ◌∷◌, map, length, arith}
-use Rattle.std.specs.Prelude.{◌≢◌, slice_index_or}
-use Rattle.walrus_types.specs.Value.{val_type}
-use Rattle.walrus_types.specs.declared.value.ValType.{ValType}
-use Rattle.walrus_model.specs.Handled as handled
-use Rattle.walrus_model.specs.Reads.{value_type}
+-- Why types are refused where each type that one names has an index.
+use Rattle.wasm_entries.specs.Record.{Group}
+use Rattle.std.specs.Prelude.{Option, List, Err}
+use Rattle.walrus_base.specs.Arena.{items}
+use Rattle.walrus_types.specs.TypeDef.{TypeDef}
+use Rattle.walrus_code.specs.Names.{Lookup}
+use Rattle.walrus_code.specs.declared.error.IrError.{IrError}
+use Rattle.walrus_code.specs.declared.error.IrError.TheVariants as Ir
+use Rattle.walrus_groups.specs.Indexed.{LacksAnIndex, IndexesTypes}
+use Rattle.walrus_parts.specs.Errors.{error_of_ir}
+use Rattle.walrus_module.specs.Emitted.{RefusesTypes}
 
--- where one value type is no number and no vector, they aren't all such
-pub no_values : (types : List ValType) (i : ℕ) (d : ValType) → i < length types → ((v : handled.Value) → value_type v ≢ val_type (slice_index_or types i d)) → (values : List handled.Value) → map value_type values ≢ map val_type types
-no_values [] i d lt h values e = absurd (omega (arith, lt))
-no_values (t ∷ types) i d lt h [] e = absurd (cc)
-no_values (t ∷ types) zero d lt h (v ∷ values) e = let p : value_type v ≡ val_type t = cc in h v p
-no_values (t ∷ types) (suc i) d lt h (v ∷ values) e = let p : map value_type values ≡ map val_type types = cc in no_values types i d (omega (arith, lt)) h values p
+pub index_refused : {X : Type 0} (view : X → List Group) (names : Lookup) (types : List (Option TypeDef)) (e : IrError) → (LacksAnIndex names (items types) → ⊥) → IndexesTypes view names (items types) (Err e) → RefusesTypes types (error_of_ir e)
+index_refused view names types Ir.NoIndex indexed lacks = absurd (indexed lacks)
+index_refused view names types Ir.NotWritable indexed exact = exact
+index_refused view names types Ir.TooLarge indexed u = absurd u
+index_refused view names types (Ir.Memory m) indexed u = tt
+index_refused view names types Ir.Malformed indexed u = absurd u

@@ -1,7 +1,7 @@
 -- The module of indices that records make is what a module in memory is written as: the larger functions first, no function that is
 -- left to be declared, and an index for each item that is live.
 use Rattle.std.proofs.Common.{inl, inr, ◌≡◌, ℕ, zero, suc, ◌<◌, ◌≤◌, Bool, true, false, List, [], ◌∷◌, length, get_or, refl, sym, ap, ap₂, ◌∙◌, subst, arith}
-use Rattle.std.specs.Prelude.{Option, Some, None, IsSome, unwrap_or, option_map, nat_lt, ◌⊎◌, AllPairs, Contains, ◌↔◌}
+use Rattle.std.specs.Prelude.{Option, Some, None, IsSome, unwrap_or, option_map, nat_lt, ◌⊎◌, Contains}
 use Rattle.std.specs.Cmp.{IsTotalOrder}
 use Rattle.std.specs.Ordering.{nat_cmp, ordering_then, is_lt}
 use Rattle.std.specs.declared.cmp.Ordering.{Ordering}
@@ -13,6 +13,13 @@ use Rattle.std.proofs.lemmas.List.MinMax.{ranks_by}
 use Rattle.std.proofs.lemmas.List.Sorted.{sorted_far}
 use Rattle.std.specs.Cmp.{nat_cmp_is}
 use Rattle.walrus_base.specs.Arena.{item_at, items}
+use Rattle.walrus_base.specs.declared.id.Id.{Id}
+use Rattle.walrus_base.specs.declared.keys.TypeKey.{TypeKey}
+use Rattle.walrus_types.specs.Composite.{supertypes}
+use Rattle.walrus_types.specs.ModuleTypes.{type_slots}
+use Rattle.walrus_types.specs.TypeDef.{TypeDef, type_def}
+use Rattle.walrus_types.specs.TypeSlots.{defs}
+use Rattle.walrus_types.specs.declared.types.Type.{«Type»}
 use Rattle.walrus_types.specs.declared.locals.ModuleLocals.{ModuleLocals}
 use Rattle.walrus_types.specs.declared.module_types.ModuleTypes.{ModuleTypes}
 use Rattle.walrus_types.specs.Operators.{Space, Types, Functions, Tables, Memories, Tags, Globals, Elements, DataSegments}
@@ -46,6 +53,7 @@ use Rattle.walrus_module.specs.View.{body, function, kind_of, view_of}
 use Rattle.walrus_module.proofs.CarriedOver.{held_of, carried_over}
 use Rattle.walrus_module.proofs.InOrder.{StandsIn, stands_in, function_there, type_named, type_there}
 use Rattle.walrus_module.proofs.Lookups.{none_there, was_some, still_some}
+use Rattle.walrus_module.proofs.Named.{some_inj}
 use Rattle.walrus_module.proofs.ReadBack.{reads_back, holds_back}
 use Rattle.walrus_module.proofs.RefsCarried.{none_undeclared_in}
 use Rattle.walrus_module.proofs.WrittenAs.{written_as, renaming_of}
@@ -176,6 +184,24 @@ module _ (types : ModuleTypes) (all : ModuleLocals) (funcs : ModuleFunctions) (e
   pub indexed : AreIndices V (renaming_of r) (λ x. r.names x.0 x.1)
   indexed = record { live = λ x l. live_indexed x.0 x.1 l; dead = λ x d. dead_unnamed x.0 x.1 d }
 
+-- ---- types in memory have one supertype at most
+
+few_supertypes : (o : Option (Id TypeKey)) → length (supertypes o) ≤ 1
+few_supertypes None = omega arith
+few_supertypes (Some id) = omega arith
+
+one_in_slot : (s : Option «Type») (x : TypeDef) → option_map type_def s ≡ Some x → length x.sub.supertypes ≤ 1
+one_in_slot None x e = absurd (cc)
+one_in_slot (Some ty) x e = subst (λ (y : TypeDef). length y.sub.supertypes ≤ 1) (some_inj (type_def ty) x e) (few_supertypes ty.supertype)
+
+one_in_slots : (slots : List (Option «Type»)) (p : ℕ) (x : TypeDef) → item_at (defs slots) p ≡ Some x → length x.sub.supertypes ≤ 1
+one_in_slots [] p x e = absurd (cc)
+one_in_slots (s ∷ slots) zero x e = one_in_slot s x e
+one_in_slots (s ∷ slots) (suc p) x e = one_in_slots slots p x e
+
+one_supertype : (types : ModuleTypes) (p : ℕ) (x : TypeDef) → item_at (type_slots types) p ≡ Some x → length x.sub.supertypes ≤ 1
+one_supertype types p x e = one_in_slots types.places.items p x e
+
 -- ---- what is written
 
 -- A module in memory is written as this, where each function that ref.func names in a body is exported: nothing else is written so far
@@ -205,7 +231,7 @@ pub emitted_lem : (c : Config) → c.writes_names ≡ false → c.writes_produce
 emitted_lem c no_names no_producers types all funcs es no_undeclared differ bytes s placed = record {
   module_written = written_as s.records;
   reads = reads_back c bytes s (none_undeclared_in (renaming_of s.records) (view_of types all funcs es) (written_as s.records) (carried_over types all funcs es (features_of c) s.records) (λ i. refl) (λ i. refl) no_undeclared);
-  holds = holds_back c s.records differ;
+  holds = holds_back c s.records (one_supertype types) differ;
   written = written_lem c no_names no_producers types all funcs es no_undeclared s.records;
   placed = placed;
 }

@@ -8,19 +8,18 @@ use Rattle.walrus_code.specs.Names.{Lookup}
 use Rattle.walrus_code.specs.declared.function.LocalFunction.{LocalFunction}
 use Rattle.walrus_bodies.specs.declared.features.Features.{Features}
 use Rattle.walrus_functions.specs.EmittedBody.{CantBeWritten, HasTooManyLocals}
-use Rattle.walrus_types.specs.Composite.{FunctionType}
 use Rattle.walrus_types.specs.TypeDef.{TypeDef}
 use Rattle.walrus_items.specs.Exports.{ExportValue}
 use Rattle.walrus_items.specs.Functions.{local_functions}
 use Rattle.walrus_model.specs.Abstract.{Abstract, Export}
 use Rattle.walrus_model.specs.Config.{Config}
-use Rattle.walrus_model.specs.Handled.{widened_type, widened_export}
+use Rattle.walrus_groups.specs.Indexed.{AreInOrder, HasExact}
+use Rattle.walrus_model.specs.Handled.{widened_export}
 use Rattle.walrus_model.specs.Out.{Written}
 use Rattle.walrus_model.specs.Placed.{Placed}
-use Rattle.walrus_model.specs.Reads.{Reads, lone_type, value_type}
-use Rattle.walrus_model.specs.Handled as handled
+use Rattle.walrus_model.specs.Reads.{Reads}
 use Rattle.walrus_model.specs.Rules.{Holds}
-use Rattle.walrus_module.specs.Parts.{Held, raw_shape, local_in, source, unplaced}
+use Rattle.walrus_module.specs.Parts.{Held, local_in, source, unplaced}
 use Rattle.walrus_module.specs.Spelled.{DoesNotSpell}
 use Rattle.walrus_module.specs.Spells.{Records}
 use Rattle.walrus_module.specs.References.{refs_are_exported}
@@ -54,17 +53,14 @@ HasUnwritable h features = (names : Lookup) × ((number : ℕ) × ((local : Loca
 abbrev pub HasTooManyIn : Held → Features → Type 0
 HasTooManyIn h features = (names : Lookup) × ((number : ℕ) × ((local : LocalFunction) × ((local_in h.funcs number ≡ Some (number, local)) × HasTooManyLocals (source h names features local))))
 
--- a type isn't a final function type of numbers and vectors, alone in its group
-abbrev pub HasOtherAmong : List (Option TypeDef) → Type 0
-HasOtherAmong types = (t : ℕ) × ((x : TypeDef) × (Contains (entries types) (t, x) × ((f : handled.FuncType) → x ≢ lone_type t f)))
-
+-- a type names one of a later group, or a supertype that isn't before it, or an exact heap type stands in it
 abbrev pub HasOther : Held → Type 0
-HasOther h = HasOtherAmong h.types
+HasOther h = AreInOrder h.types → HasExact (items h.types)
 
 -- the records can't be spelled: a count or a size passes 32 bits
 pub record DoesNotFit (h : Held) (features : Features) (exports : List ExportValue) : Type 0 where
   pub records : Records h features exports
-  pub too_large : DoesNotSpell (map widened_type records.raw_types) records.raw_functions (map widened_export records.raw_exports) (map unplaced records.bodies)
+  pub too_large : DoesNotSpell records.raw_types records.raw_functions (map widened_export records.raw_exports) (map unplaced records.bodies)
 
 -- a count or a size passes 32 bits: the types, the functions, the locals of one, or what is written
 abbrev pub PassesLimits : Held → Features → List ExportValue → Type 0
@@ -104,28 +100,10 @@ RefusesCounts types functions (Memory e) = ⊤
 RefusesCounts types functions TooLarge = (2 ^ 32 ≤ types) ⊎ (2 ^ 32 ≤ functions)
 RefusesCounts types functions _ = ⊥
 
--- value types are spelled: they aren't all numbers and vectors
-abbrev pub RefusesValues : List (ValType ℕ) → Error → Type 0
-RefusesValues types (Memory e) = ⊤
-RefusesValues types NotWritable = (values : List handled.Value) → map value_type values ≢ types
-RefusesValues types _ = ⊥
-
--- a function type is spelled: what it takes and gives isn't all numbers and vectors
-abbrev pub RefusesShape : FunctionType → Error → Type 0
-RefusesShape shape (Memory e) = ⊤
-RefusesShape shape NotWritable = (f : handled.FuncType) → raw_shape f ≢ shape
-RefusesShape shape _ = ⊥
-
--- the type at a place is spelled: it isn't such a function type, final, and alone in its group
-abbrev pub RefusesType : ℕ → TypeDef → Error → Type 0
-RefusesType t x (Memory e) = ⊤
-RefusesType t x NotWritable = (f : handled.FuncType) → x ≢ lone_type t f
-RefusesType t x _ = ⊥
-
--- types are spelled
+-- types are spelled: an exact heap type stands in one
 abbrev pub RefusesTypes : List (Option TypeDef) → Error → Type 0
 RefusesTypes types (Memory e) = ⊤
-RefusesTypes types NotWritable = HasOtherAmong types
+RefusesTypes types NotWritable = HasExact (items types)
 RefusesTypes types _ = ⊥
 
 -- bodies are spelled

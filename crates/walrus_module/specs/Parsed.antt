@@ -13,7 +13,7 @@ use Rattle.walrus_types.specs.declared.locals.ModuleLocals.{ModuleLocals}
 use Rattle.walrus_types.specs.declared.module_types.ModuleTypes.{ModuleTypes}
 use Rattle.walrus_items.specs.declared.exports.ModuleExports.{ModuleExports}
 use Rattle.walrus_items.specs.declared.functions.ModuleFunctions.{ModuleFunctions}
-use Rattle.walrus_module.specs.Refused.{AreWellFormed, AreLone, HasManyLocals}
+use Rattle.walrus_module.specs.Refused.{AreWellFormed, AreWritable, HasManyLocals}
 use Rattle.walrus_items.specs.Functions.{functions}
 use Rattle.walrus_module.specs.Taken.{HasTaken, IsLocated}
 use Rattle.walrus_module.specs.Sections.{Rules}
@@ -22,7 +22,7 @@ use Rattle.walrus_parts.specs.declared.error.Error.{Error}
 use Rattle.walrus_parts.specs.declared.error.Error.TheVariants.{Memory, InvalidWasm}
 
 -- The bytes read as a module that keeps the rules, and v is that module in memory. Its bodies are well formed, and it can be written: its types
--- are such as are handled, no segment has to declare what ref.func names, and no function has too many locals.
+-- name only such as come before the end of their groups, no segment has to declare what ref.func names, and no function has too many locals.
 pub record IsParsed (c : Config) (bytes : List ℕ) (v : Abstract) : Type 0 where
   pub module_read : Abstract
   pub reads : Reads c bytes module_read
@@ -30,7 +30,7 @@ pub record IsParsed (c : Config) (bytes : List ℕ) (v : Abstract) : Type 0 wher
   pub simple : IsSimple module_read
   pub parsed : ParsedAs module_read v
   pub bodies : AreWellFormed c v
-  pub types : AreLone v
+  pub types : AreWritable v
   pub references : NothingUndeclared v
   pub few_locals : HasManyLocals v → ⊥
 

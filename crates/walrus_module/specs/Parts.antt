@@ -4,7 +4,6 @@ use Rattle.wasm_frames.specs.Record as wire
 use Rattle.walrus_base.specs.Arena.{item_at}
 use Rattle.walrus_base.specs.Id.{place}
 use Rattle.walrus_base.specs.Types.{ValType}
-use Rattle.walrus_types.specs.Composite.{FunctionType}
 use Rattle.walrus_types.specs.Locals.{locals}
 use Rattle.walrus_types.specs.ModuleTypes.{type_slots}
 use Rattle.walrus_types.specs.Operators.{Types}
@@ -21,11 +20,6 @@ use Rattle.walrus_items.specs.Exports.{ExportValue, exported}
 use Rattle.walrus_items.specs.Functions.{FunctionValue, functions, local_at}
 use Rattle.walrus_items.specs.declared.functions.ModuleFunctions.{ModuleFunctions}
 use Rattle.walrus_model.specs.Handled as handled
-use Rattle.walrus_model.specs.Reads.{value_type}
-
--- a function type as it is read
-abbrev pub raw_shape : handled.FuncType → FunctionType
-raw_shape t = record { params = map value_type t.params; results = map value_type t.results }
 
 -- what a module holds that bodies are written by: the types, the types of locals, and the functions, by their places
 pub record Held : Type 0 where

@@ -1,5 +1,6 @@
 -- Why a module in memory can't be written.
-use Rattle.std.specs.Prelude.{ℕ, List, map, length, Some, IsSome, All, AllPairs, Contains, ◌++◌, ◌≡◌, ◌≢◌, ◌<◌, ◌≤◌, ◌^◌, ◌⊎◌, ⊤, Result, Ok, Err}
+use Rattle.std.specs.Prelude.{ℕ, List, [], map, length, Some, IsSome, All, AllPairs, Contains, ◌++◌, ◌≡◌, ◌≢◌, ◌<◌, ◌≤◌, ◌^◌, ◌⊎◌, ⊤, Result, Ok, Err}
+use Rattle.walrus_base.specs.Types.{HeapType, IsNotExact, comp_heaps}
 use Rattle.walrus_types.specs.Operators.{Space}
 use Rattle.walrus_model.specs.Abstract.{Abstract, TypeDef, Body, ImportedFunction, LocalFunction, Uninitialised, Function, Export}
 use Rattle.walrus_model.specs.BodyText.{BodyText, DeclaresOnce, said, text_bytes}
@@ -11,8 +12,10 @@ use Rattle.walrus_model.specs.Handled.{widened}
 use Rattle.walrus_model.specs.Live.{Has, IsLive}
 use Rattle.walrus_model.specs.Names.{body_of}
 use Rattle.walrus_model.specs.Out.{Written}
-use Rattle.walrus_model.specs.Reads.{lone_type, module_of}
+use Rattle.walrus_model.specs.Order.{ByImport}
+use Rattle.walrus_model.specs.Reads.{module_of}
 use Rattle.walrus_model.specs.Refers.{IsUsed}
+use Rattle.walrus_model.specs.Rules.{TypesRefer}
 use Rattle.walrus_model.specs.WellMade.{IsWellFormed}
 use Rattle.walrus_module.specs.Parts.{unplaced}
 use Rattle.walrus_module.specs.Spelled.{DoesNotSpell}
@@ -37,12 +40,14 @@ AreWellFormed c v = (i : ℕ) (f : Function) (b : Body) → v.functions i ≡ So
 abbrev pub HasIllFormed : Config → Abstract → Type 0
 HasIllFormed c v = (i : ℕ) × ((f : Function) × ((b : Body) × ((v.functions i ≡ Some f) × (f.kind ≡ LocalFunction b) × (IsWellFormed c v f.ty b → ⊥))))
 
--- each type is a final function type of numbers and vectors, alone in its group, and one isn't, which can't be written so far
-abbrev pub AreLone : Abstract → Type 0
-AreLone v = (t : ℕ) (x : TypeDef) → v.types t ≡ Some x → (f : handled.FuncType) × (x ≡ lone_type t f)
+-- A supertype comes before its subtype, every other type that is named is of an earlier group or of the own one, and no exact heap type
+-- stands in a type; and not so, in which case the types can't be written.
+pub record AreWritable (v : Abstract) : Type 0 where
+  pub refer : TypesRefer (ByImport v) v
+  pub heaps : (t : ℕ) (x : TypeDef) (h : HeapType ℕ) → v.types t ≡ Some x → Contains (comp_heaps x.sub.comp) h → IsNotExact h
 
-abbrev pub HasOtherType : Abstract → Type 0
-HasOtherType v = (t : ℕ) × ((x : TypeDef) × ((v.types t ≡ Some x) × ((f : handled.FuncType) → x ≢ lone_type t f)))
+abbrev pub HasUnwritableType : Abstract → Type 0
+HasUnwritableType v = AreWritable v → ⊥
 
 -- ref.func names a function that isn't exported: a segment would have to declare it, which can't be written so far
 abbrev pub HasUndeclared : Abstract → Type 0
@@ -56,9 +61,10 @@ HasTooMany v = (space : Space) × (numbers : List ℕ) × AllPairs (λ i j. i < 
 abbrev pub HasManyLocals : Abstract → Type 0
 HasManyLocals v = (i : ℕ) × ((b : Body) × ((further : List ℕ) × ((body_of v i ≡ Some b) × AllPairs (λ (x : ℕ) (y : ℕ). x ≢ y) further × All (IsUsed b) further × All (λ (x : ℕ). Contains b.parameters x → ⊥) further × (2 ^ 32 < length (b.parameters ++ further)))))
 
--- the sections of a module of indices, spelled as they are written, have a count or a size past 32 bits
+-- the sections of a module of indices, spelled as they are written, with no empty group, have a count or a size past 32 bits
 pub record IsTooLarge (n : Abstract) : Type 0 where
   pub sections : handled.Module
+  pub no_empty_group : All (λ g. g ≢ []) sections.types
   pub texts : List BodyText
   pub declared_once : All DeclaresOnce texts
   pub is : n ≡ module_of sections (map said texts)
@@ -73,7 +79,7 @@ abbrev pub RefusesToWrite : {X : Type 0} → Config → Abstract → Result X Er
 RefusesToWrite c v (Ok x) = IsThere v
 RefusesToWrite c v (Err DeadItem) = IsThere v → ⊥
 RefusesToWrite c v (Err NoIndex) = IsThere v × HasImported v
-RefusesToWrite c v (Err NotWritable) = IsThere v × (HasIllFormed c v ⊎ (HasOtherType v ⊎ HasUndeclared v))
+RefusesToWrite c v (Err NotWritable) = IsThere v × (HasIllFormed c v ⊎ (HasUnwritableType v ⊎ HasUndeclared v))
 RefusesToWrite c v (Err TooLarge) = IsThere v × (HasTooMany v ⊎ (HasManyLocals v ⊎ WritesTooLarge c v))
 RefusesToWrite c v (Err (Memory e)) = ⊤
 RefusesToWrite c v (Err _) = ⊥

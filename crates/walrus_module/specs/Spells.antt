@@ -2,23 +2,19 @@
 use Rattle.std.specs.Prelude.{ℕ, true, List, Option, Some, All, map, ◌≡◌}
 use Rattle.std.specs.List.{AllZip}
 use Rattle.std.specs.Str.{IsUtf8}
+use Rattle.wasm_entries.specs.Record.{Group}
 use Rattle.walrus_base.specs.Arena.{entries, items}
-use Rattle.walrus_types.specs.TypeDef.{TypeDef}
 use Rattle.walrus_code.specs.Names.{Lookup}
 use Rattle.walrus_bodies.specs.declared.features.Features.{Features}
 use Rattle.walrus_items.specs.Exports.{ExportValue}
+use Rattle.walrus_groups.specs.Indexed.{AreIndexed, AreInOrder}
 use Rattle.walrus_model.specs.Handled as handled
-use Rattle.walrus_model.specs.Handled.{widened_type, widened_export}
-use Rattle.walrus_model.specs.Reads.{lone_type}
+use Rattle.walrus_model.specs.Handled.{widened_export}
 use Rattle.walrus_module.specs.Numbered.{AreNumbered, NamesNoOthers}
 use Rattle.walrus_module.specs.Parts.{Held, type_index, export_with_index, HasBytes, unplaced}
 use Rattle.walrus_module.specs.Sizes.{IsOrder}
 use Rattle.walrus_module.specs.Spelled.{IsWritten}
 use Rattle.walrus_module.specs.Whole.{all_local}
-
--- the entry of the type section is the type at this place
-abbrev pub IsEntry : ℕ × TypeDef → handled.FuncType → Type 0
-IsEntry e t = e.1 ≡ lone_type e.0 t
 
 -- the records, entry by entry, of what a module holds
 pub record Records (h : Held) (features : Features) (exports : List ExportValue) : Type 0 where
@@ -31,8 +27,10 @@ pub record Records (h : Held) (features : Features) (exports : List ExportValue)
   pub numbered : AreNumbered names (map (λ e. e.0) (entries h.types)) order
   pub no_others : NamesNoOthers names
   -- the entries of the sections
-  pub raw_types : List handled.FuncType
-  pub types_are : AllZip IsEntry (entries h.types) raw_types
+  pub raw_types : List Group
+  pub types_are : AreIndexed names (items h.types) raw_types
+  -- each type names only such as may stand before it, or in its group
+  pub in_order : AreInOrder h.types
   pub raw_functions : List ℕ
   pub functions_are : map Some raw_functions ≡ map (type_index h.funcs names) order
   pub raw_exports : List handled.Export
@@ -44,7 +42,7 @@ pub record Records (h : Held) (features : Features) (exports : List ExportValue)
 -- the bytes are the spelling of these records
 pub record Spells (h : Held) (features : Features) (exports : List ExportValue) (bytes : List ℕ) : Type 0 where
   pub records : Records h features exports
-  pub written : IsWritten (map widened_type records.raw_types) records.raw_functions (map widened_export records.raw_exports) (map unplaced records.bodies) bytes
+  pub written : IsWritten records.raw_types records.raw_functions (map widened_export records.raw_exports) (map unplaced records.bodies) bytes
 
 -- no two byte strings are the spelling of one module's items
 abbrev pub SpelledOnce : Type 0

@@ -1,5 +1,5 @@
 -- What the fields of a module hold of the sections that were read.
-use Rattle.std.specs.Prelude.{ℕ, suc, ◌+◌, List, [], ◌∷◌, ◌++◌, map, zip, Option, Some, length, slice_get, ◌≡◌, ◌<◌, ◌^◌, Result, Ok, Err}
+use Rattle.std.specs.Prelude.{ℕ, ◌+◌, List, [], ◌∷◌, ◌++◌, map, zip, Option, Some, length, slice_get, ◌≡◌, ◌<◌, ◌^◌, Result, Ok, Err}
 use Rattle.std.specs.List.{AllZip, range_with_len}
 use Rattle.walrus_base.specs.Arena.{item_at}
 use Rattle.walrus_base.specs.Id.{place}
@@ -27,16 +27,12 @@ use Rattle.walrus_items.specs.declared.functions.FunctionKind.TheVariants.{Local
 use Rattle.walrus_items.specs.declared.functions.ModuleFunctions.{ModuleFunctions}
 use Rattle.walrus_model.specs.Config.{Config}
 use Rattle.walrus_model.specs.Handled as handled
-use Rattle.walrus_model.specs.Reads.{Said, lone_type, types_of, export_of, ReadsBody}
+use Rattle.walrus_groups.specs.Groups.{types_from}
+use Rattle.walrus_model.specs.Reads.{Said, types_of, export_of, ReadsBody}
 use Rattle.walrus_module.specs.View.{exports_of}
 use Rattle.wasm_frames.specs.Record as wire
 use Rattle.walrus_parts.specs.declared.error.Error.{Error}
 use Rattle.walrus_parts.specs.declared.error.Error.TheVariants.{Memory, InvalidWasm}
-
--- types as they were read, from a place on
-abbrev pub taken_types : ℕ → List handled.FuncType → List (Option TypeDef)
-taken_types first [] = []
-taken_types first (t ∷ ts) = Some (lone_type first t) ∷ taken_types (suc first) ts
 
 -- A function of this type, with parameters of these types, holds the body that was read: its parameters are the locals from some place on,
 -- behind them stand the declared ones, and its operators name them there. It has no handlers.
@@ -75,16 +71,15 @@ pub record AreEmpty (ts : ModuleTypes) (all : ModuleLocals) (funcs : ModuleFunct
   pub functions : functions funcs ≡ []
   pub exports : exports es ≡ []
 
--- each list that is numbered has room for its indices
+-- the functions have room for their indices
 pub record FitsIndices (r : handled.Module) : Type 0 where
-  pub types : length r.types < 2 ^ 32
   pub functions : length r.functions < 2 ^ 32
 
 -- the fields hold these sections, whose bodies say this
 pub record HasTaken (c : Config) (r : handled.Module) (ts : ModuleTypes) (all : ModuleLocals) (funcs : ModuleFunctions) (es : ModuleExports) : Type 0 where
   pub bodies : List Said
   pub read : AllZip (ReadsBody c r) (zip r.functions r.bodies) bodies
-  pub types : type_slots ts ≡ taken_types 0 r.types
+  pub types : type_slots ts ≡ map Some (types_from 0 r.types)
   pub functions : AllZip (HoldsFunction (types_of r) (local_types (locals all))) (zip r.functions bodies) (functions funcs)
   pub exports : exports_of es ≡ map export_of r.exports
 

@@ -3,6 +3,7 @@ ghost use Rattle.std.specs.Option.{option_copied, option_copied_mut};
 ghost use Rattle.std.specs.Borrow.{sem};
 ghost use Rattle.std.specs.Iterator.{YieldsFirstBy, item_count};
 ghost use Rattle.walrus_base.specs.Arena.{item_at, entries, IsLive};
+ghost use Rattle.walrus_base.specs.Id.{place};
 ghost use Rattle.walrus_module.specs.Entry.{names_raw, raw_of};
 ghost use Rattle.walrus_parts.specs.Errors.{out_of_memory};
 
@@ -45,7 +46,7 @@ impl<S> ModuleCustomSections<S> {
     where
         S: Drop,
         ensures { MatchResult result
-            (λ id. (id.place ≡ length (sections self.old)) × (sections self.new ≡ sections self.old ++ Some entry ∷ []))
+            (λ id. (place id ≡ length (sections self.old)) × (sections self.new ≡ sections self.old ++ Some entry ∷ []))
             (λ e. (e ≡ out_of_memory) × (sections self.new ≡ sections self.old)) }
     {
         Ok(self.arena.alloc(entry)?)
@@ -53,7 +54,7 @@ impl<S> ModuleCustomSections<S> {
 
     /// The section of this id, if it is there.
     pub fn get(&self, id: UntypedCustomSectionId) -> Option<&S>
-        ensures { option_copied result ≡ item_at (sections self.now) id.place }
+        ensures { option_copied result ≡ item_at (sections self.now) (place id) }
     {
         if self.arena.contains(id) {
             Some(self.arena.get(id))
@@ -64,8 +65,8 @@ impl<S> ModuleCustomSections<S> {
 
     /// The section of this id, if it is there, for writing.
     pub fn get_mut(&mut self, id: UntypedCustomSectionId) -> Option<&mut S>
-        ensures* writes_back { sem 𝓛 (LendsSection S.row self.entry id.place result) }
-        ensures value { option_copied_mut result ≡ item_at (sections self.old) id.place }
+        ensures* writes_back { sem 𝓛 (LendsSection S.row self.entry (place id) result) }
+        ensures value { option_copied_mut result ≡ item_at (sections self.old) (place id) }
     {
         if self.arena.contains(id) {
             Some(self.arena.get_mut(id))
@@ -76,8 +77,8 @@ impl<S> ModuleCustomSections<S> {
 
     /// Takes the section of this id out, if it is there.
     pub fn delete(&mut self, id: UntypedCustomSectionId) -> Option<S>
-        ensures value { result ≡ item_at (sections self.old) id.place }
-        ensures left { sections self.new ≡ slice_set (sections self.old) id.place None }
+        ensures value { result ≡ item_at (sections self.old) (place id) }
+        ensures left { sections self.new ≡ slice_set (sections self.old) (place id) None }
     {
         if self.arena.contains(id) {
             Some(self.arena.delete(id))
@@ -114,7 +115,7 @@ impl ModuleCustomSections {
 
     // The id of the first raw section of this name.
     fn first_raw_id(&self, name: &str) -> Option<UntypedCustomSectionId>
-        ensures { option_map (λ id. id.place) result ≡ option_map (λ e. e.0) (first_raw name.now (sections self.now)) }
+        ensures { option_map (λ id. place id) result ≡ option_map (λ e. e.0) (first_raw name.now (sections self.now)) }
     {
         let mut rest = self.iter();
         while let Some((id, entry)) = rest.next() {
@@ -137,7 +138,7 @@ impl<'a, S> Iterator for SectionIter<'a, S> {
 
     ghost use Rattle.walrus_module.specs.Customs.{sections_left};
 
-    ghost next_gives = { YieldsFirstBy (λ item. (item.0.place, item.1.now)) sections_left };
+    ghost next_gives = { YieldsFirstBy (λ item. (place item.0, item.1.now)) sections_left };
 
     ghost remaining = { item_count sections_left };
 

@@ -4,45 +4,40 @@ ghost use Rattle.std.specs.List.{AllZip};
 ghost use Rattle.std.specs.Str.{IsUtf8};
 ghost use Rattle.walrus_base.specs.Arena.{item_at, entries, items};
 ghost use Rattle.walrus_base.specs.Id.{place};
-ghost use Rattle.walrus_types.specs.Composite.{function_type};
-ghost use Rattle.walrus_types.specs.Function.{AsAlone};
 ghost use Rattle.walrus_types.specs.ModuleTypes.{type_slots};
-ghost use Rattle.walrus_types.specs.TypeDef.{type_def, type_place};
-ghost use Rattle.walrus_types.specs.Value.{val_type};
+ghost use Rattle.walrus_groups.specs.Indexed.{NumbersTypes, AreIndexed, LacksAnIndex};
 ghost use Rattle.walrus_code.specs.Indices.{index_of};
 ghost use Rattle.walrus_items.specs.Exports.{exports, export_value};
 ghost use Rattle.walrus_items.specs.Functions.{functions};
-ghost use Rattle.walrus_model.specs.Reads.{features_of, lone_type, value_type};
+ghost use Rattle.walrus_model.specs.Reads.{features_of};
 ghost use Rattle.walrus_parts.specs.Errors.{out_of_memory};
 ghost use Rattle.wasm_entries.specs.Record.{group, export_entry};
 ghost use Rattle.wasm_frames.specs.Record.{body_record};
-ghost use Rattle.walrus_model.specs.Handled.{Value, widened_value, widened_type, widened_export, narrowed_value};
+ghost use Rattle.walrus_model.specs.Handled.{widened_export};
 ghost use Rattle.walrus_model.specs.Placed.{Placed};
-ghost use Rattle.walrus_module.specs.Emitted.{IsEmitted, NamesDiffer, RefusesItems, RefusesDeclared, RefusesValues, RefusesShape, RefusesType, RefusesTypes, RefusesBodies, RefusesSections};
+ghost use Rattle.walrus_module.specs.Emitted.{IsEmitted, NamesDiffer, RefusesItems, RefusesDeclared, RefusesTypes, RefusesBodies, RefusesSections};
 ghost use Rattle.walrus_module.specs.Flags.{config_of};
 ghost use Rattle.walrus_module.specs.Refused.{RefusesToWrite};
-ghost use Rattle.walrus_module.specs.Sections.{type_record, export_record};
+ghost use Rattle.walrus_module.specs.Sections.{export_record};
 ghost use Rattle.walrus_module.specs.Settings.{settings};
 ghost use Rattle.walrus_module.specs.View.{view};
 ghost use Rattle.walrus_module.specs.Spelled.{IsWritten};
-ghost use Rattle.walrus_module.specs.Spells.{Spells, IsEntry};
+ghost use Rattle.walrus_module.specs.Spells.{Spells};
 ghost use Rattle.walrus_module.specs.Whole.{is_all_there};
-ghost use Rattle.walrus_module.specs.Parts.{raw_shape, held_in, local_in, type_index, export_with_index, HasBytes, IsIndexed, unplaced};
+ghost use Rattle.walrus_module.specs.Parts.{held_in, local_in, type_index, export_with_index, HasBytes, IsIndexed, unplaced};
 
 use crate::live::{are_all_local, is_all_live};
 use crate::module::Module;
 use crate::order::{functions_by_size, number};
 use crate::references::are_references_exported;
 use std::alloc::Global;
+use walrus_groups::{are_in_order, index_types};
 use walrus_ir::{
-    Features, FunctionId, FunctionType, IdsToIndices, LocalFunction, ModuleLocals, ModuleTypes,
-    Type, ValType, emit_body,
+    Features, FunctionId, IdsToIndices, LocalFunction, ModuleLocals, ModuleTypes, emit_body,
 };
 use walrus_items::{Export, ExportItem, FunctionKind, ModuleExports, ModuleFunctions};
 use walrus_parts::{Error, Result};
-use wasm_wire::{
-    RawBody, RawComp, RawExport, RawExportKind, RawFuncType, RawGroup, RawSub, RawVal, Writer,
-};
+use wasm_wire::{RawBody, RawExport, RawExportKind, RawGroup, Writer};
 
 impl Module {
     /// The module's bytes. The module stays as it is.
@@ -51,8 +46,8 @@ impl Module {
     ///
     /// `DeadItem` exactly where an export, a type or a function names what isn't there, or a function has neither an import nor
     /// a body. Behind that `NoIndex` where a function has an import, which can't be written so far, `NotWritable` where a
-    /// body isn't well formed, or a type isn't a final function type of numbers and vectors, alone in its group, `TooLarge`
-    /// where a count or a size passes 32 bits, and `Memory`.
+    /// body isn't well formed, a type names one of a later group or a supertype that isn't before it, or an exact heap type stands in
+    /// one, `TooLarge` where a count or a size passes 32 bits, and `Memory`.
     pub fn emit_wasm(&mut self, alloc: Global) -> Result<Vec<u8>>
         ensures unchanged { self.new ≡ self.old }
         ensures emitted { NamesDiffer (view self.old)
@@ -110,9 +105,12 @@ fn emit_live(
     if !are_all_local(funcs) {
         return Err(Error::NoIndex);
     }
+    if !are_in_order(types) {
+        return Err(Error::NotWritable);
+    }
     let order = functions_by_size(alloc, funcs)?;
     let indices = number(alloc, types, order.as_slice())?;
-    let raws = raw_types(alloc, types)?;
+    let raws = raw_types(alloc, types, &indices)?;
     let functions = raw_functions(alloc, funcs, order.as_slice(), &indices)?;
     let exported = raw_exports(alloc, all_exports, &indices)?;
     let bodies = body_bytes(
@@ -135,101 +133,15 @@ fn emit_live(
     Ok(bytes)
 }
 
-// A number or vector type.
-fn raw_value(ty: ValType) -> Option<RawVal>
-    ensures { MatchOption result
-        ((v : Value) → value_type v ≢ val_type ty)
-        (λ raw. (value_type (narrowed_value raw) ≡ val_type ty) × (widened_value (narrowed_value raw) ≡ raw)) }
-{
-    match ty {
-        ValType::I32 => Some(RawVal::I32),
-        ValType::I64 => Some(RawVal::I64),
-        ValType::F32 => Some(RawVal::F32),
-        ValType::F64 => Some(RawVal::F64),
-        ValType::V128 => Some(RawVal::V128),
-        ValType::Ref(_) => None,
-    }
-}
-
-fn raw_values(alloc: Global, types: &[ValType]) -> Result<Vec<RawVal>>
-    ensures value { IfOk result (λ raw. map value_type (map narrowed_value raw.items) ≡ map val_type types.now) }
-    ensures widened { IfOk result (λ raw. map widened_value (map narrowed_value raw.items) ≡ raw.items) }
-    ensures fails { IfErr result (RefusesValues (map val_type types.now)) }
-{
-    let mut raw = Vec::with_capacity(alloc, types.len())?;
-    for ty in types {
-        let Some(value) = raw_value(*ty) else {
-            return Err(Error::NotWritable);
-        };
-        raw.push(value)?;
-    }
-    Ok(raw)
-}
-
-// A function type, final and without supertypes, alone in its group.
-fn lone_group(alloc: Global, function: &FunctionType) -> Result<RawGroup>
-    ensures value { IfOk result (λ raw. raw_shape (type_record raw) ≡ function_type function.now) }
-    ensures widened { IfOk result (λ raw. group raw ≡ widened_type (type_record raw)) }
-    ensures fails { IfErr result (RefusesShape (function_type function.now)) }
-{
-    let params = raw_values(alloc, function.params())?;
-    let results = raw_values(alloc, function.results())?;
-    let mut alone = Vec::with_capacity(alloc, 1)?;
-    alone.push(RawSub {
-        is_final: true,
-        supers: Vec::new(alloc),
-        comp: RawComp::Func(RawFuncType { params, results }),
-    })?;
-    Ok(alone)
-}
-
-// Whether a type of these is the only one of its group.
-fn is_alone(types: &ModuleTypes, ty: &Type) -> bool
-    requires there { item_at (type_slots types.now) (type_place ty.now) ≡ Some (type_def ty.now) }
-    ensures { IsTrue result ↔ ((type_def ty.now).group ≡ type_place ty.now ∷ []) }
-{
-    let mut members = types.group(ty.id());
-    match members.next() {
-        Some(first) => first == ty.id() && members.next().is_none(),
-        None => false,
-    }
-}
-
-// What a type of these is, where it is a type of functions, final, without supertype, and alone in its group.
-fn lone_function<'a>(types: &ModuleTypes, ty: &'a Type) -> Option<&'a FunctionType>
-    requires there { item_at (type_slots types.now) (type_place ty.now) ≡ Some (type_def ty.now) }
-    ensures { AsAlone result (type_def ty.now) (type_place ty.now) }
-{
-    if ty.is_final() && ty.supertype().is_none() && is_alone(types, ty) {
-        ty.as_function()
-    } else {
-        None
-    }
-}
-
-fn raw_type(alloc: Global, types: &ModuleTypes, ty: &Type) -> Result<RawGroup>
-    requires there { item_at (type_slots types.now) (type_place ty.now) ≡ Some (type_def ty.now) }
-    ensures value { IfOk result (λ raw. type_def ty.now ≡ lone_type (type_place ty.now) (type_record raw)) }
-    ensures widened { IfOk result (λ raw. group raw ≡ widened_type (type_record raw)) }
-    ensures fails { IfErr result (RefusesType (type_place ty.now) (type_def ty.now)) }
-{
-    let Some(function) = lone_function(types, ty) else {
-        return Err(Error::NotWritable);
-    };
-    lone_group(alloc, function)
-}
-
-fn raw_types(alloc: Global, types: &ModuleTypes) -> Result<Vec<RawGroup>>
-    ensures value { IfOk result (λ raw. AllZip IsEntry (entries (type_slots types.now)) (map type_record raw.items)) }
-    ensures widened { IfOk result (λ raw. map group raw.items ≡ map widened_type (map type_record raw.items)) }
+// The groups of the type section.
+fn raw_types(alloc: Global, types: &ModuleTypes, indices: &IdsToIndices) -> Result<Vec<RawGroup>>
+    requires numbered { NumbersTypes (index_of indices.now) (type_slots types.now) }
+    requires indexed { LacksAnIndex (index_of indices.now) (items (type_slots types.now)) → ⊥ }
+    ensures value { IfOk result (λ raw. AreIndexed (index_of indices.now) (items (type_slots types.now)) (map group raw.items)) }
     ensures fails { IfErr result (RefusesTypes (type_slots types.now)) }
 {
-    let mut raw = Vec::new(alloc);
-    for ty in types.iter() {
-        let one = raw_type(alloc, types, ty)?;
-        raw.push(one)?;
-    }
-    Ok(raw)
+    let groups = index_types(alloc, types, indices)?;
+    Ok(groups)
 }
 
 // The body at a place, if a function with one is there.

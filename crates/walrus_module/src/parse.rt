@@ -1,6 +1,6 @@
 //! Reading a module from its bytes.
 ghost use Rattle.std.specs.Prelude.{true, ◌≡◌, ◌≢◌, ◌++◌, ◌∷◌, ◌<◌, ◌≤◌, ◌^◌, ℕ, [], length, map, zip, Some, All, IfOk, IfErr, OnOk, IsOkUnless};
-ghost use Rattle.std.specs.List.{range_with_len, AllPass, AllZip};
+ghost use Rattle.std.specs.List.{range_with_len, AllZip};
 ghost use Rattle.walrus_base.specs.Arena.{item_at};
 ghost use Rattle.walrus_base.specs.Id.{place};
 ghost use Rattle.walrus_types.specs.Locals.{locals};
@@ -18,13 +18,12 @@ ghost use Rattle.walrus_functions.specs.EmittedBody.{types_of as local_types};
 ghost use Rattle.walrus_functions.specs.ReadFunction.{StaysInFront};
 ghost use Rattle.walrus_items.specs.Exports.{exports};
 ghost use Rattle.walrus_items.specs.Functions.{functions};
-ghost use Rattle.walrus_model.specs.Handled.{narrowed_value};
-ghost use Rattle.walrus_model.specs.Reads.{value_type, lone_type, declared, export_of};
+ghost use Rattle.walrus_groups.specs.Groups.{types_from, AreDeclared};
+ghost use Rattle.walrus_model.specs.Reads.{declared, export_of};
 ghost use Rattle.walrus_module.specs.Flags.{flags, config_of};
 ghost use Rattle.walrus_module.specs.View.{exports_of};
-ghost use Rattle.walrus_module.specs.Taken.{taken_types, AreEmpty, FitsIndices, IsPlace, IsLocated, AddsLocated, TakesFunction, TakesFunctions, TakesSections};
-ghost use Rattle.walrus_module.specs.HandledOnly.{is_number, is_lone};
-ghost use Rattle.walrus_module.specs.Sections.{type_record, export_record, sections, Rules};
+ghost use Rattle.walrus_module.specs.Taken.{AreEmpty, FitsIndices, IsPlace, IsLocated, AddsLocated, TakesFunction, TakesFunctions, TakesSections};
+ghost use Rattle.walrus_module.specs.Sections.{export_record, sections, Rules};
 ghost use Rattle.walrus_parts.specs.Errors.{out_of_memory};
 ghost use Rattle.wasm_entries.specs.Record.{group};
 ghost use Rattle.wasm_frames.specs.Record.{body_record};
@@ -33,18 +32,17 @@ use crate::config::ModuleConfig;
 use crate::handled::check_handled;
 use crate::module::Module;
 use crate::references::check_references;
-use std::alloc::Global;
+use std::alloc::{AllocError, Global};
 use std::result;
 use walrus_bodies::{ReadBody, read_body};
+use walrus_groups::read_types;
 use walrus_ir::{
-    CompositeType, Features, FunctionType, Id, IndicesToIds, InstrLocId, IrError, LocalFunction,
-    LocalId, ModuleLocals, ModuleTypes, NewType, ValType,
+    Features, Id, IndicesToIds, InstrLocId, IrError, LocalFunction, LocalId, ModuleLocals,
+    ModuleTypes, ValType,
 };
 use walrus_items::{ExportItem, ModuleExports, ModuleFunctions};
-use walrus_parts::Result;
-use wasm_wire::{
-    Raw, RawBody, RawComp, RawExport, RawFuncType, RawGroup, RawSub, RawVal, check, read_module,
-};
+use walrus_parts::{Error, Result};
+use wasm_wire::{Raw, RawBody, RawExport, RawGroup, check, read_module};
 
 impl ModuleConfig {
     ghost use Rattle.walrus_module.specs.Parsed.{IsParsed, RefusesBytes, AreLocated};
@@ -87,7 +85,6 @@ fn add_sections(
     funcs: &mut ModuleFunctions,
     module_exports: &mut ModuleExports,
 ) -> Result<()>
-    requires handled { All (λ g. is_lone (group g) ≡ true) raw.now.types.items }
     requires rules { Rules (sections raw.now) }
     requires room { FitsIndices (sections raw.now) }
     requires empty { AreEmpty types.old all.old funcs.old module_exports.old }
@@ -95,8 +92,9 @@ fn add_sections(
     ensures located { OnOk result (AllZip IsLocated (sections raw.now).bodies (functions funcs.new)) }
 {
     let features = config.features();
-    let indices = number_items(alloc, raw)?;
-    add_types(alloc, &raw.types, types)?;
+    let mut indices = IndicesToIds::new(alloc);
+    add_types(alloc, &raw.types, &mut indices, types)?;
+    number_functions(raw.functions.len(), &mut indices)?;
     add_functions(
         alloc,
         &features,
@@ -108,32 +106,6 @@ fn add_sections(
         funcs,
     )?;
     add_exports(&raw.exports, &indices, module_exports)
-}
-
-// The indices of the sections' items lead to the ids of the same places.
-fn number_items(alloc: Global, raw: &Raw<'_>) -> Result<IndicesToIds>
-    requires { FitsIndices (sections raw.now) }
-    ensures numbered { IfOk result (λ indices. ids_at indices ≡ declared (sections raw.now)) }
-    ensures fails { IsOkUnless result out_of_memory }
-{
-    let mut indices = IndicesToIds::new(alloc);
-    number_types(raw.types.len(), &mut indices)?;
-    number_functions(raw.functions.len(), &mut indices)?;
-    Ok(indices)
-}
-
-// The indices of so many types.
-fn number_types(count: usize, indices: &mut IndicesToIds) -> Result<()>
-    requires none { places_in indices.old Types ≡ [] }
-    requires room { count < 2 ^ 32 }
-    ensures numbered { OnOk result (places_in indices.new Types ≡ range_with_len 0 count) }
-    ensures others { OnOk result ((space : Space) → space ≢ Types → places_in indices.new space ≡ places_in indices.old space) }
-    ensures fails { IsOkUnless result out_of_memory }
-{
-    for place in 0..count {
-        indices.push_type(Id::at(place))?;
-    }
-    Ok(())
 }
 
 // The indices of so many functions.
@@ -150,81 +122,28 @@ fn number_functions(count: usize, indices: &mut IndicesToIds) -> Result<()>
     Ok(())
 }
 
-fn value_type(raw: RawVal) -> ValType
-    requires { is_number raw ≡ true }
-    ensures { val_type result ≡ value_type (narrowed_value raw) }
-{
-    match raw {
-        RawVal::I32 => ValType::I32,
-        RawVal::I64 => ValType::I64,
-        RawVal::F32 => ValType::F32,
-        RawVal::F64 => ValType::F64,
-        RawVal::V128 => ValType::V128,
-        RawVal::Ref(_) => unreachable!(),
-    }
-}
-
-fn value_types(alloc: Global, raw: &[RawVal]) -> Result<Vec<ValType>>
-    requires { AllPass is_number raw.now }
-    ensures value { IfOk result (λ types. map val_type types.items ≡ map value_type (map narrowed_value raw.now)) }
-    ensures fails { IsOkUnless result out_of_memory }
-{
-    let mut types = Vec::with_capacity(alloc, raw.len())?;
-    for value in raw {
-        types.push(value_type(*value))?;
-    }
-    Ok(types)
-}
-
-// The function type that is alone in its group.
-fn lone_type(entry: &RawGroup) -> &RawFuncType
-    requires { is_lone (group entry.now) ≡ true }
-    ensures params { (type_record entry.now).params ≡ map narrowed_value result.now.params.items }
-    ensures results { (type_record entry.now).results ≡ map narrowed_value result.now.results.items }
-    ensures numbers { AllPass is_number result.now.params.items × AllPass is_number result.now.results.items }
-{
-    let [
-        RawSub {
-            comp: RawComp::Func(ty),
-            ..
-        },
-    ] = entry.as_slice()
-    else {
-        unreachable!();
-    };
-    ty
-}
-
-// The type gets the next id, in a group of its own.
-fn add_type(alloc: Global, entry: &RawGroup, types: &mut ModuleTypes) -> Result<()>
-    requires { is_lone (group entry.now) ≡ true }
-    ensures added { OnOk result (type_slots types.new ≡ type_slots types.old ++ Some (lone_type (length (type_slots types.old)) (type_record entry.now)) ∷ []) }
-    ensures fails { IsOkUnless result out_of_memory }
-{
-    let ty = lone_type(entry);
-    let params = value_types(alloc, &ty.params)?;
-    let results = value_types(alloc, &ty.results)?;
-    let mut members = Vec::with_capacity(alloc, 1)?;
-    members.push(NewType {
-        is_final: true,
-        supertype: None,
-        comp: CompositeType::Function(FunctionType::new(params, results)),
-    })?;
-    types.add_group(members)?;
-    Ok(())
-}
-
-// Each type gets the next id, in a group of its own.
-fn add_types(alloc: Global, raw: &[RawGroup], types: &mut ModuleTypes) -> Result<()>
-    requires handled { All (λ g. is_lone (group g) ≡ true) raw.now }
+// Each type gets the next id and the next index.
+fn add_types(
+    alloc: Global,
+    raw: &[RawGroup],
+    indices: &mut IndicesToIds,
+    types: &mut ModuleTypes,
+) -> Result<()>
     requires none { type_slots types.old ≡ [] }
-    ensures added { OnOk result (type_slots types.new ≡ taken_types 0 (map type_record raw.now)) }
+    requires no_indices { (space : Space) → places_in indices.old space ≡ [] }
+    requires declared { AreDeclared 0 (map group raw.now) }
+    ensures added { OnOk result (type_slots types.new ≡ map Some (types_from 0 (map group raw.now))) }
+    ensures numbered { OnOk result (places_in indices.new Types ≡ range_with_len 0 (length (types_from 0 (map group raw.now)))) }
+    ensures others { OnOk result ((space : Space) → space ≢ Types → places_in indices.new space ≡ []) }
     ensures fails { IsOkUnless result out_of_memory }
 {
-    for entry in raw {
-        add_type(alloc, entry, types)?;
+    match read_types(alloc, raw, indices, types) {
+        Ok(()) => Ok(()),
+        Err(IrError::Memory(error)) => Err(Error::Memory(error)),
+        // A section has fewer than 2^32 bytes, and so fewer types.
+        Err(IrError::TooLarge) => Err(Error::Memory(AllocError)),
+        Err(_) => unreachable!(),
     }
-    Ok(())
 }
 
 // A local for each parameter.

@@ -6,7 +6,7 @@ use std::test::Fail;
 use walrus_parts_tests::demands::{add_bytes, demand};
 
 // Inputs and what they come to, in hexadecimal.
-const ROWS: [(&str, &str); 8] = [
+const ROWS: [(&str, &str); 13] = [
     // the header alone
     ("00 61 73 6D 01 00 00 00", "00 61 73 6D 01 00 00 00"),
     // two empty functions, of which the second is exported
@@ -44,10 +44,35 @@ const ROWS: [(&str, &str); 8] = [
         "00 61 73 6D 01 00 00 00 01 04 01 60 00 00 03 02 01 00 07 05 01 01 66 00 00 0A 07 01 05 00 D2 00 1A 0B",
         "00 61 73 6D 01 00 00 00 01 04 01 60 00 00 03 02 01 00 07 05 01 01 66 00 00 0A 07 01 05 00 D2 00 1A 0B",
     ),
+    // a type alone in a group that is spelled as one
+    (
+        "00 61 73 6D 01 00 00 00 01 06 01 4E 01 60 00 00 03 02 01 00 07 05 01 01 66 00 00 0A 04 01 02 00 0B",
+        "00 61 73 6D 01 00 00 00 01 04 01 60 00 00 03 02 01 00 07 05 01 01 66 00 00 0A 04 01 02 00 0B",
+    ),
+    // an empty group, which has no index
+    (
+        "00 61 73 6D 01 00 00 00 01 06 02 4E 00 60 00 00 03 02 01 00 07 05 01 01 66 00 00 0A 04 01 02 00 0B",
+        "00 61 73 6D 01 00 00 00 01 04 01 60 00 00 03 02 01 00 07 05 01 01 66 00 00 0A 04 01 02 00 0B",
+    ),
+    // a final type without supertype that says so
+    (
+        "00 61 73 6D 01 00 00 00 01 06 01 4F 00 60 00 00 03 02 01 00 07 05 01 01 66 00 00 0A 04 01 02 00 0B",
+        "00 61 73 6D 01 00 00 00 01 04 01 60 00 00 03 02 01 00 07 05 01 01 66 00 00 0A 04 01 02 00 0B",
+    ),
+    // a nullable reference to an abstract heap type in two bytes
+    (
+        "00 61 73 6D 01 00 00 00 01 06 01 60 01 63 70 00 03 02 01 00 07 05 01 01 66 00 00 0A 04 01 02 00 0B",
+        "00 61 73 6D 01 00 00 00 01 05 01 60 01 70 00 03 02 01 00 07 05 01 01 66 00 00 0A 04 01 02 00 0B",
+    ),
+    // a supertype stays
+    (
+        "00 61 73 6D 01 00 00 00 01 0C 02 50 00 60 00 00 50 01 00 60 00 00 03 02 01 01 07 05 01 01 66 00 00 0A 04 01 02 00 0B",
+        "00 61 73 6D 01 00 00 00 01 0C 02 50 00 60 00 00 50 01 00 60 00 00 03 02 01 01 07 05 01 01 66 00 00 0A 04 01 02 00 0B",
+    ),
 ];
 
 // Inputs that are refused as invalid.
-const INVALID: [&str; 9] = [
+const INVALID: [&str; 11] = [
     // seven bytes of the header
     "00 61 73 6D 01 00 00",
     // the function section before the type section
@@ -66,6 +91,10 @@ const INVALID: [&str; 9] = [
     "00 61 73 6D 01 00 00 00 01 04 01 60 00 00 03 02 01 00 0A 06 01 04 00 10 01 0B",
     // bytes behind the end of a body
     "00 61 73 6D 01 00 00 00 01 04 01 60 00 00 03 02 01 00 0A 06 01 04 00 0B 01 0B",
+    // a type that is its own supertype
+    "00 61 73 6D 01 00 00 00 01 0C 02 50 00 60 00 00 50 01 01 60 00 00 03 02 01 01 07 05 01 01 66 00 00 0A 04 01 02 00 0B",
+    // a supertype that is no earlier type
+    "00 61 73 6D 01 00 00 00 01 07 01 50 01 00 60 00 00",
 ];
 
 const TEXT_OF_INVALID: &str = "walrus-gc: The input WebAssembly is invalid\n";

@@ -1,6 +1,7 @@
 -- What a contract sees of the locals of a module.
 use Rattle.std.specs.Prelude.{ℕ, List, Option, None, map}
 use Rattle.walrus_base.specs.Arena.{slots, entries_left}
+use Rattle.walrus_base.specs.Id.{place}
 use Rattle.walrus_base.specs.declared.id.Id.{Id}
 use Rattle.walrus_base.specs.declared.keys.LocalKey.{LocalKey}
 use Rattle.walrus_types.specs.declared.value.ValType.{ValType}
@@ -10,7 +11,7 @@ use Rattle.walrus_types.specs.declared.locals.ModuleLocals.{ModuleLocals}
 
 -- the place of the local's own id
 abbrev pub local_place : Local → ℕ
-local_place local = local.id.place
+local_place local = place local.id
 
 abbrev pub local_type : Local → ValType
 local_type local = local.ty

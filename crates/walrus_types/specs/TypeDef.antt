@@ -2,6 +2,7 @@
 use Rattle.std.specs.Prelude.{ℕ, ◌-◌, List, [], Option, option_map, string_bytes, String}
 use Rattle.std.specs.Global.{Global}
 use Rattle.std.specs.List.{range_with_len}
+use Rattle.walrus_base.specs.Id.{place}
 use Rattle.walrus_base.specs.Types.{SubType, CompType, Func, Struct, Array, ValType}
 use Rattle.walrus_types.specs.Composite.{sub_type}
 use Rattle.walrus_types.specs.declared.types.Type.{«Type»}
@@ -17,7 +18,7 @@ places_between first end = range_with_len first (end - first)
 
 -- the place of the type's own id
 abbrev pub type_place : «Type» → ℕ
-type_place ty = ty.id.place
+type_place ty = place ty.id
 
 abbrev pub type_def : «Type» → TypeDef
 type_def ty = record { group = places_between ty.first ty.end; sub = sub_type ty.is_final ty.supertype ty.comp }

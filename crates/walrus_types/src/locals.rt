@@ -70,7 +70,8 @@ impl ModuleLocals {
             (λ _. locals self.new ≡ locals self.old) }
     {
         let id = self.arena.next_id();
-        self.arena.alloc(Local { id, ty, name: None })
+        self.arena.alloc(Local { id, ty, name: None })?;
+        Ok(id)
     }
 
     /// The local of a live id.

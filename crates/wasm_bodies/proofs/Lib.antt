@@ -1,10 +1,7 @@
 mod Alls
 mod Args
 mod Copies
-mod Each
-mod Groups
 mod Named
 mod Numbering
 mod OpLemmas
-mod Ranges
 mod TypeLemmas

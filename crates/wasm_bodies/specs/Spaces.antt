@@ -1,8 +1,7 @@
 -- Index spaces in which each item has the place of its index.
-use Rattle.std.specs.Prelude.{◌≡◌, ◌≢◌, ◌<◌, ◌≤◌, ℕ, List, [], length, Option, Some, None}
+use Rattle.std.specs.Prelude.{◌≡◌, ◌≢◌, ◌<◌, ◌≤◌, ℕ, [], Some, None}
 use Rattle.std.specs.List.{range_with_len}
 use Rattle.walrus_types.specs.Operators.{Space, Types, Functions, Tables, Memories, Tags, Globals, Elements, DataSegments}
-use Rattle.walrus_types.specs.TypeDef.{TypeDef}
 use Rattle.walrus_code.specs.Indices.{places_in, given, index_of, SameIn}
 use Rattle.walrus_code.specs.declared.indices.IndicesToIds.{IndicesToIds}
 use Rattle.walrus_code.specs.declared.indices.IdsToIndices.{IdsToIndices}
@@ -53,11 +52,3 @@ pub record GivesIndices (old new : IdsToIndices) (space : Space) (count : ℕ) :
   pub numbered : (place : ℕ) → place < count → index_of new space place ≡ Some place
   pub others_none : (place : ℕ) → count ≤ place → index_of new space place ≡ None
   pub others : (other : Space) → other ≢ space → SameIn old new other
-
--- each type has the place of its index, and all places have a type
-abbrev pub TypesInPlace : IndicesToIds → List (Option TypeDef) → Type 0
-TypesInPlace indices slots = places_in indices Types ≡ range_with_len 0 (length slots)
-
--- nothing but types has changed
-abbrev pub OnlyTypesChange : IndicesToIds → IndicesToIds → Type 0
-OnlyTypesChange old new = (other : Space) → other ≢ Types → places_in new other ≡ places_in old other

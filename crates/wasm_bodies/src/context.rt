@@ -3,10 +3,10 @@
 ghost use Rattle.wasm_bodies.specs.Spaces.{NoIdsFrom};
 
 use crate::spaces::{Space, give_ids, give_indices};
-use crate::types::add_types;
 use std::alloc::Global;
 use walrus_base::TypeId;
 use walrus_code::{IdsToIndices, IndicesToIds, IrError};
+use walrus_groups::read_types;
 use walrus_types::{ModuleLocals, ModuleTypes};
 use wasm_wire::{Raw, RawDesc, RawImport};
 
@@ -34,7 +34,7 @@ pub struct Context {
 pub fn context_of(alloc: Global, records: &Raw<'_>) -> Result<Context, IrError> {
     let mut indices = IndicesToIds::new(alloc);
     let mut types = ModuleTypes::new(alloc);
-    add_types(alloc, &records.types, &mut indices, &mut types)?;
+    read_types(alloc, &records.types, &mut indices, &mut types)?;
     give_all_ids(&mut indices, records)?;
     let numbers = all_indices(alloc, records, types.len())?;
     let tag_types = tag_types(alloc, records, &indices)?;

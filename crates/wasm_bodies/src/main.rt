@@ -13,7 +13,6 @@ mod failure;
 mod program;
 mod spaces;
 mod task;
-mod types;
 
 use failure::Failure;
 use program::run;

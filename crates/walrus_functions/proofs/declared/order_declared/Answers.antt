@@ -1,9 +1,11 @@
-use Rattle.std.proofs.Common.{◌↔◌, ℕ, List, map, nat_eq, sym, subst}
+use Rattle.std.proofs.Common.{◌≡◌, ◌↔◌, ℕ, List, map, nat_eq, sym, subst}
 use Rattle.std.specs.Prelude.{Contains}
 use Rattle.std.specs.HashSet as set
 use Rattle.walrus_base.specs.Id.{place}
 use Rattle.walrus_types.specs.Locals.{locals}
 use Rattle.walrus_types.specs.Operators.{locals_of}
+use Rattle.walrus_types.specs.Value.{val_type}
+use Rattle.walrus_types.specs.declared.value.ValType.{ValType as DeclaredValType}
 use Rattle.walrus_code.specs.Code.{ops_of}
 use Rattle.walrus_functions.specs.Declaring.{AreTyped, AreInOrder, typed}
 use Rattle.walrus_functions.specs.EmittedBody.{types_of}
@@ -20,5 +22,5 @@ returns c =
     let same : (x : ℕ) → Contains once x ↔ Contains used x = λ x. subst (λ (xs : List ℕ). Contains once x ↔ Contains xs x) c.in_ok-named.ensures (c.take_once.ensures.same x) in
     let are : AreTyped slots once is_parameter (map typed found) =
     subst (λ es. AreTyped slots once is_parameter (map typed es)) (sym c.as_slice-2.ensures.value) (subst (λ ids. AreTyped slots (map place ids) is_parameter (map typed c.in_ok-found.found.items)) c.as_slice.ensures.value c.in_ok-found.ensures.typed) in
-    ordered_ids (λ ids. map place ids.items) c.ids_of.result slots used is_parameter found c.as_slice-3.result.now c.ids_of.ensures (typed-same slots is_parameter once used (map typed found) same are)
-    (subst (λ ks. AreInOrder found ks) (sym c.as_slice-3.ensures.value) c.in_ok-keys.ensures)
+    let order = subst (λ (ks : List (ℕ × ℕ × ℕ)). (o : AreInOrder found ks) × ((v w : DeclaredValType) → val_type v ≡ val_type w → o.lowest v ≡ o.lowest w)) (sym c.as_slice-3.ensures.value) c.in_ok-keys.ensures in
+    ordered_ids (λ ids. map place ids.items) c.ids_of.result slots used is_parameter found c.as_slice-3.result.now c.ids_of.ensures (typed-same slots is_parameter once used (map typed found) same are) order.0 order.1

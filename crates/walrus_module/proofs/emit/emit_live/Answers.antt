@@ -10,13 +10,14 @@ use Rattle.walrus_base.specs.Id.{place}
 use Rattle.walrus_types.specs.ModuleTypes.{type_slots}
 use Rattle.walrus_code.specs.Indices.{index_of}
 use Rattle.walrus_items.specs.Exports.{exports}
+use Rattle.walrus_groups.specs.Indexed.{AreInOrder}
 use Rattle.walrus_items.specs.Functions.{functions}
 use Rattle.walrus_model.proofs.Lists.{map-map}
 use Rattle.walrus_module.specs.Numbered.{AreNumbered}
 use Rattle.walrus_module.specs.Parts.{held_in, type_index, HasBytes, unplaced}
 use Rattle.walrus_module.specs.Whole.{all_local}
 use Rattle.walrus_module.proofs.Differ.{order_differs}
-use Rattle.walrus_module.proofs.Indexed.{ids_indexed, ids_typed, exports_indexed}
+use Rattle.walrus_module.proofs.Indexed.{ids_indexed, ids_typed, no_type_lacks, exports_indexed}
 use Rattle.walrus_module.proofs.Refusing.{counts_refused, types_refused, bodies_refused, records_of, sections_refused}
 use Rattle.walrus_module.proofs.SpellsLemmas.{written_same}
 use Rattle.walrus_module.proofs.emit.emit_live.Goals as goal
@@ -35,6 +36,17 @@ returns-in_err-raws-clause-refused c =
     let held = held_in c.args.types.now c.args.locals.now c.args.funcs.now in
     let p = err_from_is_err_and c.from_residual-in_err-raws.result c.from_residual-in_err-raws.ensures.1 in
     rw (p.1, p.2) (types_refused held c.args.features.now (items (exports c.args.all_exports.now)) (Vec ℕ) _ c.requires.there c.in_err-raws.ensures.fails)
+
+pub raw_types-requires : goal.raw_types-requires
+raw_types-requires c =
+    let held = held_in c.args.types.now c.args.locals.now c.args.funcs.now in
+    let names = index_of c.in_ok-indices.indices in
+    let local : all_local (items (functions c.args.funcs.now)) ≡ true = search rules in
+    let numbered = subst (λ ids. AreNumbered names (map (λ e. e.0) (entries (type_slots c.args.types.now))) (map place ids)) c.as_slice.ensures.value c.in_ok-indices.ensures.value in
+    record {
+      numbered = λ t. numbered.types_are t;
+      indexed = no_type_lacks held (items (exports c.args.all_exports.now)) c.requires.there local names (map place c.in_ok-order.order.items) c.in_ok-order.ensures.value numbered;
+    }
 
 pub raw_functions-requires : goal.raw_functions-requires
 raw_functions-requires c =
@@ -71,17 +83,18 @@ returns-in_err-bytes-clause-refused c =
     let held = held_in c.args.types.now c.args.locals.now c.args.funcs.now in
     let names = index_of c.in_ok-indices.indices in
     let local : all_local (items (functions c.args.funcs.now)) ≡ true = search rules in
+    let in_order : AreInOrder (type_slots c.args.types.now) = search (c.are_in_order.ensures.0) in
     let records = records_of held c.args.features.now (items (exports c.args.all_exports.now)) names c.in_ok-order.order.items c.in_ok-raws.raws.items c.in_ok-functions.functions.items c.in_ok-exported.exported.items c.in_ok-bodies.bodies.items
     local c.in_ok-order.ensures.value
     (subst (λ ids. AreNumbered names (map (λ e. e.0) (entries (type_slots c.args.types.now))) (map place ids)) c.as_slice.ensures.value c.in_ok-indices.ensures.value)
     c.in_ok-indices.ensures.no_others
-    c.in_ok-raws.ensures.value
+    c.in_ok-raws.ensures.value in_order
     (c.in_ok-functions.ensures.value ∙ ap (map (λ id. type_index (functions c.args.funcs.now) names (place id))) c.as_slice-2.ensures.value)
     c.in_ok-exported.ensures.value c.in_ok-exported.ensures.text
     (subst (λ ids. AllZip (λ id bytes. HasBytes held names c.args.features.now (place id) bytes.items) ids c.in_ok-bodies.bodies.items) c.as_slice-3.ensures.value c.in_ok-bodies.ensures.value) in
     let p = err_from_is_err_and c.from_residual-in_err-bytes.result c.from_residual-in_err-bytes.ensures.1 in
     rw (p.1, p.2) (sections_refused held c.args.features.now (items (exports c.args.all_exports.now)) (Vec ℕ) records _ _ _ _ _ c.requires.there
-    (ap (map group) c.as_slice-5.ensures.value ∙ c.in_ok-raws.ensures.widened) c.as_slice-6.ensures.value (ap (map export_entry) c.as_slice-7.ensures.value ∙ c.in_ok-exported.ensures.widened)
+    (ap (map group) c.as_slice-5.ensures.value) c.as_slice-6.ensures.value (ap (map export_entry) c.as_slice-7.ensures.value ∙ c.in_ok-exported.ensures.widened)
     (ap (map body_record) c.as_slice-8.ensures.value ∙ c.in_ok-code.ensures.value ∙ ap (map (λ (v : Vec ℕ). unplaced v.items)) c.as_slice-4.ensures.value
     ∙ sym (map-map unplaced (λ (v : Vec ℕ). v.items) c.in_ok-bodies.bodies.items))
     c.in_err-bytes.ensures.fails)
@@ -91,17 +104,18 @@ returns-clause-spells c =
     let held = held_in c.args.types.now c.args.locals.now c.args.funcs.now in
     let names = index_of c.in_ok-indices.indices in
     let local : all_local (items (functions c.args.funcs.now)) ≡ true = search rules in
+    let in_order : AreInOrder (type_slots c.args.types.now) = search (c.are_in_order.ensures.0) in
     record {
       records = records_of held c.args.features.now (items (exports c.args.all_exports.now)) names c.in_ok-order.order.items c.in_ok-raws.raws.items c.in_ok-functions.functions.items c.in_ok-exported.exported.items c.in_ok-bodies.bodies.items
           local c.in_ok-order.ensures.value
           (subst (λ ids. AreNumbered names (map (λ e. e.0) (entries (type_slots c.args.types.now))) (map place ids)) c.as_slice.ensures.value c.in_ok-indices.ensures.value)
           c.in_ok-indices.ensures.no_others
-          c.in_ok-raws.ensures.value
+          c.in_ok-raws.ensures.value in_order
           (c.in_ok-functions.ensures.value ∙ ap (map (λ id. type_index (functions c.args.funcs.now) names (place id))) c.as_slice-2.ensures.value)
           c.in_ok-exported.ensures.value c.in_ok-exported.ensures.text
           (subst (λ ids. AllZip (λ id bytes. HasBytes held names c.args.features.now (place id) bytes.items) ids c.in_ok-bodies.bodies.items) c.as_slice-3.ensures.value c.in_ok-bodies.ensures.value);
       written = written_same _ _ _ _ _ _ _ _ c.in_ok-bytes.bytes.items
-          (ap (map group) c.as_slice-5.ensures.value ∙ c.in_ok-raws.ensures.widened) c.as_slice-6.ensures.value (ap (map export_entry) c.as_slice-7.ensures.value ∙ c.in_ok-exported.ensures.widened)
+          (ap (map group) c.as_slice-5.ensures.value) c.as_slice-6.ensures.value (ap (map export_entry) c.as_slice-7.ensures.value ∙ c.in_ok-exported.ensures.widened)
           (ap (map body_record) c.as_slice-8.ensures.value ∙ c.in_ok-code.ensures.value ∙ ap (map (λ (v : Vec ℕ). unplaced v.items)) c.as_slice-4.ensures.value
           ∙ sym (map-map unplaced (λ (v : Vec ℕ). v.items) c.in_ok-bodies.bodies.items))
           c.in_ok-bytes.ensures.value;

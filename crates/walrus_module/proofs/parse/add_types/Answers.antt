@@ -1,6 +1,7 @@
-use Rattle.walrus_module.specs.Sections.{type_record}
-use Rattle.walrus_module.proofs.Steps.{types_grown}
+use Rattle.walrus_types.specs.ModuleTypes.{type_slots}
+use Rattle.walrus_types.specs.Operators.{Types}
+use Rattle.walrus_module.proofs.TypesTaken.{none_in_place}
 use Rattle.walrus_module.proofs.parse.add_types.Goals as goal
 
-pub loop-entry-preserved : goal.loop-entry-preserved
-loop-entry-preserved c = types_grown type_record c.args.raw.now c.loop-entry.entry-index c.entry-item.result _ _ c.loop-entry-test.true c.entry-item.is c.loop-entry.invariant c.in_ok-add_type.ensures.added
+pub read_types-requires : goal.read_types-requires
+read_types-requires c = record { in_place = none_in_place c.args.indices.now (type_slots c.args.types.now) (c.requires.no_indices Types) c.requires.none }

@@ -3,5 +3,5 @@ use Rattle.std.specs.List.{range_with_len}
 use Rattle.walrus_types.specs.Operators.{Types}
 use Rattle.wasm_bodies.proofs.context.context_of.Goals as goal
 
-pub add_types-requires : goal.add_types-requires
-add_types-requires c = record { in_place = c.new-indices.ensures Types ∙ ap (λ slots. range_with_len 0 (length slots)) (sym c.new-types.ensures.slots) }
+pub read_types-requires : goal.read_types-requires
+read_types-requires c = record { in_place = c.new-indices.ensures Types ∙ ap (λ slots. range_with_len 0 (length slots)) (sym c.new-types.ensures.slots) }

@@ -1,6 +1,6 @@
 use Rattle.std.proofs.Common.{◌++◌, [], ◌∷◌, length, refl, sym, ap, ◌∙◌, arith}
 use Rattle.std.proofs.lemmas.List.FromFn.{length-range_with_len}
-use Rattle.wasm_bodies.proofs.Ranges.{range-next, not-in-range}
+use Rattle.walrus_groups.proofs.Ranges.{range-next, not-in-range}
 use Rattle.wasm_bodies.proofs.spaces.give_ids.Goals as goal
 
 pub push_id-requires-clause-is_new : goal.push_id-requires-clause-is_new

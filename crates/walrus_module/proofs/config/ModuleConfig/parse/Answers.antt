@@ -3,7 +3,6 @@ use Rattle.wasm_frames.specs.Record as wire
 use Rattle.walrus_module.specs.Sections.{sections}
 use Rattle.walrus_module.specs.Flags.{flags, config_of}
 use Rattle.walrus_module.proofs.Accepting.{is_parsed, references_refused, refused_bytes}
-use Rattle.walrus_module.proofs.HandledOnly.{lone_groups}
 use Rattle.walrus_module.proofs.HandledRules.{framed_handled, rules_handled}
 use Rattle.walrus_module.proofs.Refusals.{frames_refused, rules_refused, handled_refused, bodies_refused}
 use Rattle.walrus_module.proofs.Rooms.{fits_indices}
@@ -23,9 +22,6 @@ pub returns-in_err-check_handled-clause-refused : goal.returns-in_err-check_hand
 returns-in_err-check_handled-clause-refused g c =
     let p = err_from_is_err_and c.from_residual-in_err-check_handled.result c.from_residual-in_err-check_handled.ensures.1 in
     rw (p.1, p.2) (refused_bytes (config_of (flags c.args.self.now)) c.args.bytes.now _ (handled_refused (config_of (flags c.args.self.now)) c.args.bytes.now (wire.sections c.in_ok-raw.raw) _ c.in_ok-raw.ensures.found c.in_err-check_handled.ensures))
-
-pub add_sections-requires-clause-handled : goal.add_sections-requires-clause-handled
-add_sections-requires-clause-handled g c = lone_groups c.in_ok-raw.raw c.in_ok-check_handled.ensures
 
 pub add_sections-requires-clause-rules : goal.add_sections-requires-clause-rules
 add_sections-requires-clause-rules g c = rules_handled c.in_ok-raw.raw c.in_ok-check_handled.ensures c.in_ok-check.ensures

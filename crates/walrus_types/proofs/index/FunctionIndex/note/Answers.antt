@@ -1,6 +1,7 @@
 use Rattle.std.proofs.Common.{ap, ◌∙◌, sym, []}
 use Rattle.std.specs.BTreeMap.{get}
 use Rattle.std.specs.Option.{option_copied_mut}
+use Rattle.walrus_base.specs.Id.{place}
 use Rattle.walrus_types.specs.contracts.composite.FunctionTypeOrd.TheImpl as order
 use Rattle.walrus_types.proofs.FunctionSame.{function_equal, order_total}
 use Rattle.walrus_types.proofs.Noted.{has-push_old, has-push_new, pushed_stays, pushed_noted, inserted_stays, inserted_noted, has_old}
@@ -19,7 +20,7 @@ returns-in_ok-push-in-Some-clause-stays c =
 pub returns-in_ok-push-in-Some-clause-noted : goal.returns-in_ok-push-in-Some-clause-noted
 returns-in_ok-push-in-Some-clause-noted c = λ q same.
     pushed_noted order_total c.args.self.now.ids (c.get_mut.follows.lender c.push.new.self) c.args.function.now c.push.new.self c.in-Some.ids.now (c.get_mut.follows.holds c.push.new.self)
-    (sym c.get_mut.ensures.value ∙ ap (λ r. option_copied_mut r) c.in-Some.is) c.args.id.place (rw c.in_ok-push-in-Some.ensures.items (has-push_new c.in-Some.ids.now.items c.args.id))
+    (sym c.get_mut.ensures.value ∙ ap (λ r. option_copied_mut r) c.in-Some.is) (place c.args.id) (rw c.in_ok-push-in-Some.ensures.items (has-push_new c.in-Some.ids.now.items c.args.id))
     q (function_equal c.args.function.now q (sym same))
 
 pub returns-in_ok-insert-in-None-clause-stays : goal.returns-in_ok-insert-in-None-clause-stays
@@ -34,5 +35,5 @@ returns-in_ok-insert-in-None-clause-stays c = λ q p h.
 pub returns-in_ok-insert-in-None-clause-noted : goal.returns-in_ok-insert-in-None-clause-noted
 returns-in_ok-insert-in-None-clause-noted c = λ q same.
     inserted_noted order_total c.get_mut.follows.lender-at-none c.insert.new.self c.in_ok-key-in-None.key c.push-in-None.new.self c.in_ok-insert-in-None.ensures.updates
-    c.args.id.place (rw c.in_ok-push-in-None.ensures.items (rw c.new-ids.ensures.items (has-push_new [] c.args.id)))
+    (place c.args.id) (rw c.in_ok-push-in-None.ensures.items (rw c.new-ids.ensures.items (has-push_new [] c.args.id)))
     q (function_equal c.in_ok-key-in-None.key q (c.in_ok-key-in-None.ensures ∙ sym same))

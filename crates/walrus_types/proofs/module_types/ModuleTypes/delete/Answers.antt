@@ -1,4 +1,5 @@
 use Rattle.std.proofs.Common.{ap, sym, ◌∙◌}
+use Rattle.walrus_base.specs.Id.{place}
 use Rattle.walrus_types.specs.ModuleTypes.{type_slots, type_names}
 use Rattle.walrus_types.specs.TypeDef.{type_def, type_name, places_between}
 use Rattle.walrus_types.specs.TypeSlots.{defs, names, cleared, group_of}
@@ -14,7 +15,7 @@ invariant_of-self c =
     let emptied = places_between c.get-ty.result.now.first c.get-ty.result.now.end in
     record {
       whole = whole-same (cleared emptied (type_slots old)) _ (ap (λ places. defs places) c.clear.ensures ∙ map-cleared type_def emptied old.places.items)
-          (whole-cleared (type_slots old) c.args.id.place (type_def c.get-ty.result.now) c.get-ty.ensures.value old.whole);
+          (whole-cleared (type_slots old) (place c.args.id) (type_def c.get-ty.result.now) c.get-ty.ensures.value old.whole);
       under_own_ids = rw c.clear.ensures (under_own_ids-cleared 0 emptied old.places.items old.under_own_ids);
       indexed = indexed-seen old.index (cleared emptied old.places.items) c.clear.new.places.items (indexed-cleared old.index emptied old.places.items old.indexed) (ap (λ places. defs places) c.clear.ensures);
     }

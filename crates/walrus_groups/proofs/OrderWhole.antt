@@ -1,0 +1,164 @@
+-- Types in an order in which they may be written.
+use Rattle.std.proofs.Common.{◌≡◌, ℕ, zero, suc, ◌+◌, ◌-◌, ◌<◌, ◌≤◌, ◌&&◌, ◌⊎◌, inl, inr, Bool, true, false, List, [], ◌∷◌, length, flat_map, Option, Some, refl, sym, ap, ap₂, ◌∙◌, ⊎_elim, subst, arith, IsTrue}
+use Rattle.std.specs.Prelude.{Contains, ◌↔◌, nat_le, nat_lt}
+use Rattle.std.specs.List.{list_all, range_with_len}
+use Rattle.std.proofs.lemmas.Bool.{ltb-true, lt-ltb, leb-true, le-leb, ltb-false}
+use Rattle.std.proofs.lemmas.List.Folds.{list_all-append}
+use Rattle.std.proofs.lemmas.List.FromFn.{length-range_with_len, get_or-range_with_len}
+use Rattle.walrus_base.specs.Arena.{item_at, entries}
+use Rattle.walrus_base.specs.Types.{HeapType, OfHeap, Concrete, Exact, ValType, I32, I64, F32, F64, V128, Ref, StorageType, Unpacked, I8, I16, CompType, Func, Struct, Array, heap_names, val_heaps, storage_heaps, field_heaps, comp_heaps, comp_names}
+use Rattle.walrus_types.specs.PlaceList.{has}
+use Rattle.walrus_types.specs.TypeDef.{TypeDef}
+use Rattle.walrus_types.specs.TypeSlots.{defs}
+use Rattle.walrus_types.specs.Whole.{AreWhole}
+use Rattle.walrus_types.specs.declared.types.Type.{«Type»}
+use Rattle.walrus_types.proofs.Lists.{Contains-head, Contains-tail}
+use Rattle.walrus_groups.specs.Indexed.{AreInOrder}
+use Rattle.walrus_groups.specs.Ordered.{heap_within, val_within, vals_within, storage_within, field_within, comp_within, last_of, all_below, is_ordered}
+use Rattle.walrus_groups.proofs.WrittenLists.{AllThere, IsRow, entries_there, group-row, has-row, entry_contained}
+
+-- ---- tests of lists
+
+all_flat : {X A : Type 0} (p : A → Bool) (f : X → List A) (xs : List X) → list_all (λ x. list_all p (f x)) xs ≡ list_all p (flat_map f xs)
+all_flat p f [] = refl
+all_flat p f (x ∷ xs) = ap (λ t. list_all p (f x) && t) (all_flat p f xs) ∙ sym (list_all-append p (f x) (flat_map f xs))
+
+all_same : {X : Type 0} (p q : X → Bool) (xs : List X) → ((x : X) → p x ≡ q x) → list_all p xs ≡ list_all q xs
+all_same p q [] h = refl
+all_same p q (x ∷ xs) h = ap₂ ◌&&◌ (h x) (all_same p q xs h)
+
+both : (a b : Bool) → (a && b) ≡ true → (a ≡ true) × (b ≡ true)
+both true b h = (refl, h)
+both false b h = absurd cc
+
+and_true : (a b : Bool) → a ≡ true → b ≡ true → (a && b) ≡ true
+and_true true b h g = g
+and_true false b h g = absurd cc
+
+with_true : (a : Bool) → a ≡ (a && true)
+with_true true = refl
+with_true false = refl
+
+each_passes : {X : Type 0} (p : X → Bool) (xs : List X) (x : X) → list_all p xs ≡ true → Contains xs x → p x ≡ true
+each_passes p [] x h (k, lt, e) = absurd (let l : k < 0 = lt in omega (arith, l))
+each_passes {X} p (z ∷ xs) x h (zero, lt, e) = subst (λ (w : X). p w ≡ true) e (both (p z) (list_all p xs) h).0
+each_passes p (z ∷ xs) x h (suc k, lt, e) = each_passes p xs x (both (p z) (list_all p xs) h).1 (k, (let l : suc k < suc (length xs) = lt in omega (arith, l)), e)
+
+all_pass : {X : Type 0} (p : X → Bool) (xs : List X) → ((x : X) → Contains xs x → p x ≡ true) → list_all p xs ≡ true
+all_pass p [] h = refl
+all_pass p (x ∷ xs) h = and_true (p x) (list_all p xs) (h x (Contains-head x xs)) (all_pass p xs (λ y at. h y (Contains-tail x y xs at)))
+
+-- ---- the names of a composite type
+
+module _ (last : ℕ) where
+  abbrev within : ℕ → Bool
+  within u = nat_le u last
+
+  names_heap : (h : HeapType ℕ) → heap_within last h ≡ list_all within (heap_names h)
+  names_heap (OfHeap h) = refl
+  names_heap (Concrete t) = with_true (nat_le t last)
+  names_heap (Exact t) = with_true (nat_le t last)
+
+  names_val : (v : ValType ℕ) → val_within last v ≡ list_all (heap_within last) (val_heaps v)
+  names_val (Ref r) = with_true (heap_within last r.heap)
+  names_val I32 = refl
+  names_val I64 = refl
+  names_val F32 = refl
+  names_val F64 = refl
+  names_val V128 = refl
+
+  names_vals : (vs : List (ValType ℕ)) → vals_within last vs ≡ list_all (heap_within last) (flat_map val_heaps vs)
+  names_vals vs = all_same (val_within last) (λ v. list_all (heap_within last) (val_heaps v)) vs names_val ∙ all_flat (heap_within last) val_heaps vs
+
+  names_storage : (s : StorageType ℕ) → storage_within last s ≡ list_all (heap_within last) (storage_heaps s)
+  names_storage (Unpacked v) = names_val v
+  names_storage I8 = refl
+  names_storage I16 = refl
+
+  names_comp : (c : CompType ℕ) → comp_within last c ≡ list_all (heap_within last) (comp_heaps c)
+  names_comp (Func params results) = ap₂ ◌&&◌ (names_vals params) (names_vals results) ∙ sym (list_all-append (heap_within last) (flat_map val_heaps params) (flat_map val_heaps results))
+  names_comp (Struct fields) = all_same (field_within last) (λ f. list_all (heap_within last) (field_heaps f)) fields (λ f. names_storage f.storage) ∙ all_flat (heap_within last) field_heaps fields
+  names_comp (Array element) = names_storage element.storage
+
+  comp_names_within : (c : CompType ℕ) → comp_within last c ≡ list_all within (comp_names c)
+  comp_names_within c = names_comp c ∙ all_same (heap_within last) (λ h. list_all within (heap_names h)) (comp_heaps c) names_heap ∙ all_flat within heap_names (comp_heaps c)
+
+-- ---- rows of places
+
+row_contains : (a n u : ℕ) → a ≤ u → u < a + n → Contains (range_with_len a n) u
+row_contains a n u low high = (u - a, (let l : length (range_with_len a n) ≡ n = length-range_with_len a n in omega (arith, l, low, high)), get_or-range_with_len a n (u - a) u (omega (arith, low, high)) ∙ (let e : a + (u - a) ≡ u = omega (arith, low) in e))
+
+contains_row : (a n u : ℕ) → Contains (range_with_len a n) u → (a ≤ u) × (u < a + n)
+contains_row a n u (k, lt, e) =
+    let small : k < n = (let l : length (range_with_len a n) ≡ n = length-range_with_len a n in omega (arith, l, lt)) in
+    let is : a + k ≡ u = sym (get_or-range_with_len a n k u small) ∙ e in
+    (omega (arith, is), omega (arith, is, small))
+
+last_row : (a n other : ℕ) → last_of (range_with_len a (suc n)) other ≡ a + n
+last_row a zero other = omega arith
+last_row a (suc n) other = last_row (a + 1) n a ∙ (let e : a + 1 + n ≡ a + suc n = omega arith in e)
+
+-- ---- the types
+
+-- a type of a group that is this row, of which it is a member, at this place
+ordered_type : (a n p : ℕ) (x : TypeDef) → x.group ≡ range_with_len a n → a ≤ p → p < a + n → is_ordered (p, x) ≡ true
+    → ((u : ℕ) → Contains x.sub.supertypes u → u < p) × ((u : ℕ) → Contains (comp_names x.sub.comp) u → Contains x.group u ⊎ ((q : ℕ) → Contains x.group q → u < q))
+ordered_type a zero p x row low high h = absurd (omega (arith, low, high))
+ordered_type a (suc n) p x row low high h =
+    let parts = both (all_below p x.sub.supertypes) (comp_within (last_of x.group p) x.sub.comp) h in
+    let last : last_of x.group p ≡ a + n = ap (λ g. last_of g p) row ∙ last_row a n p in (
+      λ u at. ltb-true u p (each_passes (λ u. nat_lt u p) x.sub.supertypes u parts.0 at),
+      λ u at.
+          let up_to : u ≤ last_of x.group p = leb-true u (last_of x.group p) (each_passes (within (last_of x.group p)) (comp_names x.sub.comp) u (sym (comp_names_within (last_of x.group p) x.sub.comp) ∙ parts.1) at) in
+          by_test u (omega (arith, up_to, last)) (nat_lt u a) refl,
+    )
+  where
+    by_test : (u : ℕ) → u < a + suc n → (t : Bool) → nat_lt u a ≡ t → Contains x.group u ⊎ ((q : ℕ) → Contains x.group q → u < q)
+    by_test u most true e = inr (λ q at. let inside = contains_row a (suc n) q (subst (λ g. Contains g q) row at) in let from : a ≤ q = inside.0 in let under : u < a = ltb-true u a e in omega (arith, from, under))
+    by_test u most false e = inl (subst (λ g. Contains g u) (sym row) (row_contains a (suc n) u (ltb-false u a e) most))
+
+type_ordered : (a n p : ℕ) (x : TypeDef) → x.group ≡ range_with_len a n → a ≤ p → p < a + n → ((u : ℕ) → Contains x.sub.supertypes u → u < p)
+    → ((u : ℕ) → Contains (comp_names x.sub.comp) u → Contains x.group u ⊎ ((q : ℕ) → Contains x.group q → u < q)) → is_ordered (p, x) ≡ true
+type_ordered a zero p x row low high supers others = absurd (omega (arith, low, high))
+type_ordered a (suc n) p x row low high supers others =
+    let last : last_of x.group p ≡ a + n = ap (λ g. last_of g p) row ∙ last_row a n p in
+    and_true (all_below p x.sub.supertypes) (comp_within (last_of x.group p) x.sub.comp)
+    (all_pass (λ u. nat_lt u p) x.sub.supertypes (λ u at. lt-ltb u p (supers u at)))
+    (comp_names_within (last_of x.group p) x.sub.comp
+    ∙ all_pass (within (last_of x.group p)) (comp_names x.sub.comp) (λ u at. le-leb u (last_of x.group p) (⊎_elim
+    (λ (own : Contains x.group u). let inside : u < a + suc n = (contains_row a (suc n) u (subst (λ g. Contains g u) row own)).1 in omega (arith, inside, last))
+    (λ (before : (q : ℕ) → Contains x.group q → u < q). let under : u < p = before p (subst (λ g. Contains g p) (sym row) (row_contains a (suc n) p low high)) in omega (arith, under, last, high))
+    (others u at))))
+
+module _ (slots : List (Option TypeDef)) (whole : AreWhole slots) (rows : (t : ℕ) (x : TypeDef) → item_at slots t ≡ Some x → IsRow x.group) where
+  -- the group of a type is a row with the type's place in it
+  member_row : (t : ℕ) (x : TypeDef) → item_at slots t ≡ Some x → (a : ℕ) × ((n : ℕ) × ((x.group ≡ range_with_len a n) × ((a ≤ t) × (t < a + n))))
+  member_row t x here =
+      let row = rows t x here in
+      (row.0, (row.1.0, (row.1.1, has-row row.0 row.1.0 t (ap (λ g. has g t) (sym row.1.1) ∙ whole.own t x here))))
+
+  of_entry : (t : ℕ) (x : TypeDef) → item_at slots t ≡ Some x → list_all is_ordered (entries slots) ≡ true
+      → ((u : ℕ) → Contains x.sub.supertypes u → u < t) × ((u : ℕ) → Contains (comp_names x.sub.comp) u → Contains x.group u ⊎ ((q : ℕ) → Contains x.group q → u < q))
+  of_entry t x here h =
+      let row = member_row t x here in
+      ordered_type row.0 row.1.0 t x row.1.1.0 row.1.1.1.0 row.1.1.1.1 (each_passes is_ordered (entries slots) (t, x) h (entry_contained slots t x here))
+
+  in_order : list_all is_ordered (entries slots) ≡ true → AreInOrder slots
+  in_order h = record {
+    supertypes = λ t u x here at. (of_entry t x here h).0 u at;
+    others = λ t u x here at. (of_entry t x here h).1 u at;
+  }
+
+  all_ordered : AreInOrder slots → (es : List (ℕ × TypeDef)) → AllThere slots es → list_all is_ordered es ≡ true
+  all_ordered order [] there = refl
+  all_ordered order (e ∷ es) there =
+      let row = member_row e.0 e.1 there.0 in
+      and_true (is_ordered e) (list_all is_ordered es)
+      (type_ordered row.0 row.1.0 e.0 e.1 row.1.1.0 row.1.1.1.0 row.1.1.1.1 (λ u at. order.supertypes e.0 u e.1 there.0 at) (λ u at. order.others e.0 u e.1 there.0 at))
+      (all_ordered order es there.1)
+
+pub told : (places : List (Option «Type»)) (r : Bool) → AreWhole (defs places) → r ≡ list_all is_ordered (entries (defs places)) → IsTrue r ↔ AreInOrder (defs places)
+told places r whole is = (
+  λ h. in_order (defs places) whole (group-row places) (sym is ∙ h),
+  λ order. is ∙ all_ordered (defs places) whole (group-row places) order (entries (defs places)) (entries_there (defs places)),
+)

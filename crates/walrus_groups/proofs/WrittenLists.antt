@@ -1,0 +1,101 @@
+-- Lists of places, and what stands at places.
+use Rattle.std.proofs.Common.{◌≡◌, ℕ, zero, suc, ◌+◌, ◌-◌, ◌<◌, ◌≤◌, ◌==◌, ◌||◌, ◌⊎◌, inl, inr, Bool, true, false, List, [], ◌∷◌, map, Option, Some, None, refl, sym, ap, ap₂, ◌∙◌, arith, add-zero, eq-eqb, eqb-true, ⊎_elim, subst}
+use Rattle.std.specs.Prelude.{Contains}
+use Rattle.std.specs.List.{range_with_len}
+use Rattle.walrus_base.specs.Arena.{item_at, entries_from, entries}
+use Rattle.walrus_types.specs.PlaceList.{has}
+use Rattle.walrus_types.specs.TypeDef.{TypeDef}
+use Rattle.walrus_types.specs.TypeSlots.{defs}
+use Rattle.walrus_types.specs.declared.types.Type.{«Type»}
+use Rattle.walrus_types.proofs.Lists.{Contains-head, Contains-tail}
+
+pub some_inside : {T : Type 0} (x y : T) → Some x ≡ Some y → x ≡ y
+some_inside x y h = cc
+
+pub none_some : {T : Type 0} (o : Option T) (x : T) → o ≡ None → o ≡ Some x → ⊥
+none_some o x p q = cc
+
+or_true : (a b : Bool) → (a || b) ≡ true → (a ≡ true) ⊎ (b ≡ true)
+or_true true b h = inl refl
+or_true false b h = inr h
+
+pub or_left : (a b : Bool) → a ≡ true → (a || b) ≡ true
+or_left true b h = refl
+or_left false b h = absurd cc
+
+pub or_right : (a b : Bool) → b ≡ true → (a || b) ≡ true
+or_right true b h = refl
+or_right false b h = h
+
+pub not_equal : (a b : ℕ) → (a ≡ b → ⊥) → (a == b) ≡ false
+not_equal a b h = not_true (a == b) (λ e. h (eqb-true a b e))
+  where
+    not_true : (t : Bool) → (t ≡ true → ⊥) → t ≡ false
+    not_true true h = absurd (h refl)
+    not_true false h = refl
+
+-- ---- rows of places
+
+abbrev pub IsRow : List ℕ → Type 0
+IsRow group = (first : ℕ) × ((n : ℕ) × (group ≡ range_with_len first n))
+
+has-range : (a n k : ℕ) → k < n → has (range_with_len a n) (a + k) ≡ true
+has-range a zero k lt = absurd (omega (arith, lt))
+has-range a (suc n) zero lt = or_left (a == a + 0) (has (range_with_len (a + 1) n) (a + 0)) (eq-eqb a (a + 0) (sym (add-zero a)))
+has-range a (suc n) (suc k) lt =
+    let e : a + suc k ≡ (a + 1) + k = omega arith in
+    or_right (a == a + suc k) (has (range_with_len (a + 1) n) (a + suc k)) (ap (has (range_with_len (a + 1) n)) e ∙ has-range (a + 1) n k (omega (arith, lt)))
+
+pub row-has : (a n p : ℕ) → a ≤ p → p < a + n → has (range_with_len a n) p ≡ true
+row-has a n p l h = let e : p ≡ a + (p - a) = omega (arith, l) in ap (has (range_with_len a n)) e ∙ has-range a n (p - a) (omega (arith, l, h))
+
+pub has-row : (a n p : ℕ) → has (range_with_len a n) p ≡ true → (a ≤ p) × (p < a + n)
+has-row a zero p h = absurd cc
+has-row a (suc n) p h =
+    ⊎_elim
+    (λ here. let e = eqb-true a p here in (omega (arith, e), omega (arith, e)))
+    (λ later. let r = has-row (a + 1) n p later in (let low : a + 1 ≤ p = r.0 in omega (arith, low), let high : p < a + 1 + n = r.1 in omega (arith, high)))
+    (or_true (a == p) (has (range_with_len (a + 1) n) p) h)
+
+-- the group of each type is a row
+pub group-row : (places : List (Option «Type»)) (t : ℕ) (x : TypeDef) → item_at (defs places) t ≡ Some x → IsRow x.group
+group-row [] t x h = absurd cc
+group-row (None ∷ ps) zero x h = absurd cc
+group-row (Some ty ∷ ps) zero x h = subst (λ (y : TypeDef). IsRow y.group) (some_inside _ _ h) (ty.first, (ty.end - ty.first, refl))
+group-row (None ∷ ps) (suc t) x h = group-row ps t x h
+group-row (Some ty ∷ ps) (suc t) x h = group-row ps t x h
+
+-- ---- entries
+
+-- each of these stands at its place
+abbrev pub AllThere : {T : Type 0} → List (Option T) → List (ℕ × T) → Type 0
+AllThere slots [] = Unit {0}
+AllThere slots (e ∷ es) = (item_at slots e.0 ≡ Some e.1) × AllThere slots es
+
+pub there_from : {T : Type 0} (slots : List (Option T)) (q : ℕ) (rest : List (Option T)) → ((j : ℕ) → item_at slots (q + j) ≡ item_at rest j) → AllThere slots (entries_from q rest)
+there_from slots q [] at = tt
+there_from slots q (None ∷ rest) at = there_from slots (q + 1) rest (λ j. let e : q + 1 + j ≡ q + suc j = omega arith in ap (item_at slots) e ∙ at (suc j))
+there_from {T} slots q (Some x ∷ rest) at = (ap (item_at slots) (sym (add-zero q)) ∙ at 0, there_from slots (q + 1) rest (λ j. let e : q + 1 + j ≡ q + suc j = omega arith in ap (item_at slots) e ∙ at (suc j)))
+
+pub entries_there : {T : Type 0} (slots : List (Option T)) → AllThere slots (entries slots)
+entries_there slots = there_from slots 0 slots (λ j. let e : 0 + j ≡ j = omega arith in ap (item_at slots) e)
+
+-- what stands at a place is among the items
+pub item_contained : {T : Type 0} (k : ℕ) (slots : List (Option T)) (t : ℕ) (x : T) → item_at slots t ≡ Some x → Contains (map (λ e. e.1) (entries_from k slots)) x
+item_contained k [] t x h = absurd cc
+item_contained k (None ∷ rest) zero x h = absurd cc
+item_contained {T} k (Some y ∷ rest) zero x h = subst (λ (z : T). Contains (y ∷ map (λ e. e.1) (entries_from (k + 1) rest)) z) (some_inside _ _ h) (Contains-head y _)
+item_contained k (None ∷ rest) (suc t) x h = item_contained (k + 1) rest t x h
+item_contained k (Some y ∷ rest) (suc t) x h = Contains-tail y x _ (item_contained (k + 1) rest t x h)
+
+entry_from : {T : Type 0} (k : ℕ) (slots : List (Option T)) (t p : ℕ) (x : T) → p ≡ k + t → item_at slots t ≡ Some x → Contains (entries_from k slots) (p, x)
+entry_from k [] t p x is h = absurd cc
+entry_from k (None ∷ rest) zero p x is h = absurd cc
+entry_from {T} k (Some y ∷ rest) zero p x is h =
+    let here : (k, y) ≡ (p, x) = ap₂ (λ (n : ℕ) (z : T). (n, z)) (sym (is ∙ add-zero k)) (some_inside _ _ h) in
+    subst (λ (e : ℕ × T). Contains ((k, y) ∷ entries_from (k + 1) rest) e) here (Contains-head (k, y) _)
+entry_from k (None ∷ rest) (suc t) p x is h = entry_from (k + 1) rest t p x (omega (arith, is)) h
+entry_from k (Some y ∷ rest) (suc t) p x is h = Contains-tail (k, y) (p, x) _ (entry_from (k + 1) rest t p x (omega (arith, is)) h)
+
+pub entry_contained : {T : Type 0} (slots : List (Option T)) (t : ℕ) (x : T) → item_at slots t ≡ Some x → Contains (entries slots) (t, x)
+entry_contained slots t x h = entry_from 0 slots t t x (omega arith) h

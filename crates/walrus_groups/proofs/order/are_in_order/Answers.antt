@@ -1,0 +1,25 @@
+use Rattle.std.proofs.Common.{ap, ◌∙◌, sym, subst, ◌&&◌}
+use Rattle.std.specs.List.{list_all}
+use Rattle.walrus_types.specs.ModuleTypes.{type_slots}
+use Rattle.walrus_types.specs.TypesLeft.{types_left}
+use Rattle.walrus_groups.specs.Ordered.{is_ordered}
+use Rattle.walrus_groups.proofs.WrittenLists.{AllThere, entries_there}
+use Rattle.walrus_groups.proofs.OrderWhole.{told}
+use Rattle.walrus_groups.proofs.order.are_in_order.Goals as goal
+
+pub loop-ty-init : goal.loop-ty-init
+loop-ty-init c =
+    let same = ap types_left c.into_iter-ty-iterator.ensures.into_iter_gives ∙ c.iter-ty-items.ensures in (
+      tt,
+      tt,
+      subst (AllThere (type_slots c.args.types.now)) (sym same) (entries_there (type_slots c.args.types.now)),
+      ap (list_all is_ordered) (sym same),
+    )
+
+pub returns : goal.returns
+returns c = told _ _ c.groups_are_whole.ensures (sym (c.loop-ty.invariant.3 ∙ ap (list_all is_ordered) c.in-None.ensures.steps.0))
+
+pub returns-then-not-is_in_order : goal.returns-then-not-is_in_order
+returns-then-not-is_in_order c =
+    let after = types_left c.next.new.self in
+    told _ _ c.groups_are_whole.ensures (sym (c.loop-ty.invariant.3 ∙ ap (list_all is_ordered) c.in-Some.ensures.steps ∙ ap (λ b. b && list_all is_ordered after) (sym c.is_in_order.ensures ∙ c.if-not-is_in_order.true)))

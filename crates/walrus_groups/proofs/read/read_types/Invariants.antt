@@ -1,0 +1,16 @@
+use Rattle.std.proofs.Common.{List, map, drop, Option, Result}
+use Rattle.wasm_entries.specs.Record.{group}
+use Rattle.walrus_types.specs.ModuleTypes.{type_slots}
+use Rattle.walrus_types.specs.TypeDef.{TypeDef}
+use Rattle.walrus_code.specs.declared.error.IrError.{IrError}
+use Rattle.walrus_groups.specs.Groups.{ReadsTypes}
+use Rattle.walrus_groups.specs.Reading.{TypesInPlace, OnlyTypesChange}
+use Rattle.walrus_groups.proofs.read.read_types.Given as goal
+
+-- what reading the groups that are left answers, reading all does
+abbrev pub invariant-loop-members : goal.invariant-loop-members
+invariant-loop-members l = record {
+  in_place : TypesInPlace l.indices (type_slots l.types);
+  only_types : OnlyTypesChange l.fn.indices l.indices;
+  told : (new : List (Option TypeDef)) (r : Result Unit IrError) → ReadsTypes (map group (drop l.members-index l.groups)) (type_slots l.types) new r → ReadsTypes (map group l.groups) (type_slots l.fn.types) new r;
+}
