@@ -1,5 +1,5 @@
 -- What a contract sees of a `TombstoneArena`.
-use Rattle.std.specs.Prelude.{ℕ, ◌+◌, List, [], ◌∷◌, Option, Some, None, IsSome, slice_index_or, drop, map}
+use Rattle.std.specs.Prelude.{ℕ, suc, ◌+◌, Bool, List, [], ◌∷◌, Option, Some, None, IsSome, slice_index_or, drop, map, if◌then◌else◌}
 use Rattle.std.specs.Vec.{with_item as with_slot}
 use Rattle.walrus_base.specs.declared.arena.TombstoneArena.{TombstoneArena}
 use Rattle.walrus_base.specs.declared.arena.ArenaIter.{ArenaIter}
@@ -26,6 +26,11 @@ module _ {T : Type 0} where
   -- the items, by rising place
   abbrev pub items : List (Option T) → List T
   items slots = map (λ entry. entry.1) (entries slots)
+
+  -- the same number of places, those that `keeps` says as they were, and nothing at the others
+  abbrev pub kept_by : (keeps : ℕ → Bool) → List (Option T) → List (Option T)
+  kept_by keeps [] = []
+  kept_by keeps (slot ∷ rest) = (if keeps 0 then slot else None) ∷ kept_by (λ n. keeps (suc n)) rest
 
 module _ {K T : Type 0} where
   -- the item or nothing at each place from 0 on

@@ -1,12 +1,14 @@
 //! Items by their ids, in the order in which they came.
-ghost use Rattle.std.specs.Prelude.{◌≡◌, ◌++◌, ◌∷◌, [], length, Some, None, IsTrue, IsSome, ◌↔◌, MatchResult, count_by, is_some, slice_set, vec_len};
+ghost use Rattle.std.specs.Prelude.{ℕ, ◌≡◌, ◌<◌, ◌++◌, ◌∷◌, [], length, Some, None, IsTrue, IsSome, ◌↔◌, MatchResult, count_by, is_some, slice_set, vec_len, if◌then◌else◌};
 ghost use Rattle.std.specs.Borrow.{sem};
 ghost use Rattle.std.specs.Iterator.{YieldsFirstBy, item_count};
-ghost use Rattle.walrus_base.specs.Arena.{slots, item_at, IsLive, entries, entries_left};
+ghost use Rattle.walrus_base.specs.Arena.{slots, item_at, IsLive, entries, entries_left, kept_by};
 ghost use Rattle.walrus_base.specs.LendsSome.{LendsSome};
 ghost use Rattle.walrus_base.specs.Id.{place};
+ghost use Rattle.walrus_base.specs.IdSet.{has_id};
 
 use crate::id::Id;
+use crate::set::IdHashSet;
 use std::alloc::{AllocError, Global};
 use std::marker::PhantomData;
 
@@ -28,6 +30,29 @@ fn some_mut<T>(slot: &mut Option<T>) -> &mut T
     match slot {
         Some(item) => item,
         None => unreachable!(),
+    }
+}
+
+/// Empties every place that isn't marked, and leaves the others as they are. Takes no memory.
+pub fn keep_marked<K, T>(places: &mut Vec<Option<T>>, marks: &IdHashSet<K>)
+where
+    T: Drop,
+    ensures { places.new.items ≡ kept_by (has_id marks.now) places.old.items }
+{
+    for place in 0..places.len() {
+        empty_unless(marks.contains(Id::at(place)), places, place);
+    }
+}
+
+// Empties a place, unless it is kept.
+fn empty_unless<T>(is_kept: bool, places: &mut Vec<Option<T>>, place: usize)
+where
+    T: Drop,
+    requires { place < length places.old.items }
+    ensures { places.new.items ≡ (if is_kept then places.old.items else slice_set places.old.items place None) }
+{
+    if !is_kept {
+        places[place] = None;
     }
 }
 
@@ -127,6 +152,17 @@ impl<K, T> TombstoneArena<K, T> {
             Some(item) => item,
             None => unreachable!(),
         }
+    }
+
+    /// Deletes every item whose id isn't in the set. The others stay, and so do all places. Takes no memory.
+    pub fn keep_only(&mut self, marks: &IdHashSet<K>)
+    where
+        T: Drop,
+        ensures kept { slots self.new ≡ kept_by (has_id marks.now) (slots self.old) }
+        ensures each { (p : ℕ) → item_at (slots self.new) p
+            ≡ (if has_id marks.now p then item_at (slots self.old) p else None) }
+    {
+        keep_marked(&mut self.places, marks);
     }
 
     /// How many items there are. Deleted ones aren't counted.

@@ -6,7 +6,7 @@ mod id;
 mod keys;
 mod set;
 
-pub use arena::{ArenaIter, TombstoneArena};
+pub use arena::{ArenaIter, TombstoneArena, keep_marked};
 pub use id::Id;
 pub use keys::{
     CustomSectionKey, DataId, DataKey, ElementId, ElementKey, ExportId, ExportKey, FunctionId,

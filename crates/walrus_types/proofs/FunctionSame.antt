@@ -61,5 +61,9 @@ is_equal Greater h = absurd cc
 pub function_equal : (f g : DeclaredFunctionType) → function_type f ≡ function_type g → (order.ghosts).cmp f g ≡ Equal
 function_equal f g same = is_equal _ (sym (order_laws.matches_eq-law f g) ∙ (function_same f g).1 same)
 
+-- and only these
+pub equal_function : (f g : DeclaredFunctionType) → (order.ghosts).cmp f g ≡ Equal → function_type f ≡ function_type g
+equal_function f g same = (function_same f g).0 (order_laws.matches_eq-law f g ∙ ap is_eq same)
+
 pub order_total : IsTotalOrder (order.ghosts).cmp
 order_total = order_laws.total-law

@@ -4,6 +4,7 @@ pub mod Lists
 pub mod Members
 pub mod NewGroups
 pub mod Noted
+pub mod Ordered
 pub mod OwnIdLemmas
 pub mod Places
 pub mod RowNames

@@ -1,21 +1,22 @@
 -- Types that are kept under their own ids stay so.
 use Rattle.std.proofs.Common.{◌≡◌, ℕ, zero, suc, ◌+◌, ◌==◌, ◌&&◌, Bool, true, false, List, [], ◌∷◌, ◌++◌, length, map, set, Option, Some, None, option_map, IsTrue, ap, sym, ◌∙◌, refl, arith, add-zero, eq-eqb, eqb-true}
-use Rattle.walrus_base.specs.Arena.{entries_from, item_at}
+use Rattle.std.specs.Prelude.{if◌then◌else◌}
+use Rattle.walrus_base.specs.Arena.{entries_from, item_at, kept_by}
 use Rattle.walrus_types.specs.TypeDef.{type_def, type_place}
 use Rattle.walrus_types.specs.TypesLeft.{place_and_def}
 use Rattle.walrus_types.specs.OwnIds.{under_own_ids}
 use Rattle.walrus_types.specs.TypeSlots.{cleared}
 use Rattle.walrus_types.specs.declared.types.Type.{«Type»}
 
-both : (a b : Bool) → IsTrue a → IsTrue b → IsTrue (a && b)
+pub both : (a b : Bool) → IsTrue a → IsTrue b → IsTrue (a && b)
 both true b p q = q
 both false b p q = p
 
-first : (a b : Bool) → IsTrue (a && b) → IsTrue a
+pub first : (a b : Bool) → IsTrue (a && b) → IsTrue a
 first true b p = refl
 first false b p = p
 
-second : (a b : Bool) → IsTrue (a && b) → IsTrue b
+pub second : (a b : Bool) → IsTrue (a && b) → IsTrue b
 second true b p = p
 second false b p = absurd cc
 
@@ -55,6 +56,20 @@ pub under_own_ids-cleared : (place : ℕ) (emptied : List ℕ) (slots : List (Op
 under_own_ids-cleared place [] slots own = own
 under_own_ids-cleared place (p ∷ ps) slots own = under_own_ids-cleared place ps (set slots p None) (under_own_ids-delete place slots p own)
 
+-- marked places are kept
+pub under_own_ids-kept : (place : ℕ) (keeps : ℕ → Bool) (slots : List (Option «Type»)) → IsTrue (under_own_ids place slots) → IsTrue (under_own_ids place (kept_by keeps slots))
+under_own_ids-kept place keeps [] own = own
+under_own_ids-kept place keeps (slot ∷ rest) own = choose (keeps 0) slot own (under_own_ids-kept (place + 1) (λ n. keeps (suc n)) rest) where
+  later : Type 0
+  later = IsTrue (under_own_ids (place + 1) (kept_by (λ n. keeps (suc n)) rest))
+
+  choose : (keep : Bool) (slot : Option «Type») → IsTrue (under_own_ids place (slot ∷ rest)) → (IsTrue (under_own_ids (place + 1) rest) → later)
+      → IsTrue (under_own_ids place ((if keep then slot else None) ∷ kept_by (λ n. keeps (suc n)) rest))
+  choose true None own more = more own
+  choose true (Some x) own more = both _ _ (first _ _ own) (more (second _ _ own))
+  choose false None own more = more own
+  choose false (Some x) own more = more (second _ _ own)
+
 one_later : (a b : ℕ) → (a + 1) + b ≡ a + suc b
 one_later a b = omega arith
 
@@ -78,3 +93,7 @@ under_own_ids-replaced place (o ∷ rest) zero between x y here same =
 under_own_ids-replaced place (None ∷ rest) (suc at) between x y here same = under_own_ids-replaced (place + 1) rest at between x y here same
 under_own_ids-replaced place (Some z ∷ rest) (suc at) between x y here same =
     ap (λ b. (type_place z == place) && b) (under_own_ids-replaced (place + 1) rest at between x y here same)
+
+-- the only one has the first id
+pub own_only : (place : ℕ) (slots : List (Option «Type»)) (x : «Type») → IsTrue (under_own_ids place slots) → slots ≡ Some x ∷ [] → type_place x ≡ place
+own_only place slots x own only = own_place place slots 0 x own (ap (λ s. item_at s 0) only) ∙ add-zero place

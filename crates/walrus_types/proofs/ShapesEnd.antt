@@ -8,9 +8,9 @@ use Rattle.walrus_types.specs.PlaceList.{has}
 use Rattle.walrus_types.specs.Shape.{place_in, Seen, seen_at, seen_from, in_its_group, slot, other_type, others_named, Types, AreMembers, Shape, OfGroup, Shapes, NoShapes, AndShape, HasShape, HaveShapes}
 use Rattle.walrus_types.specs.ShapeLaws.{RefersBackwards, ShapesEnd}
 use Rattle.walrus_types.specs.TypeDef.{TypeDef}
-use Rattle.walrus_types.proofs.Indexed.{or_cases}
+use Rattle.walrus_types.proofs.Noted.{or_cases}
 use Rattle.walrus_types.proofs.ShapesKept.{made_of}
-use Rattle.walrus_types.proofs.WholeLemmas.{or_left, or_right}
+use Rattle.walrus_types.proofs.Noted.{or_left, or_right}
 use Rattle.walrus_types.proofs.Lists.{Contains-head, Contains-tail, Contains-uncons, Contains-none}
 use Rattle.walrus_types.proofs.TypeMaps.{sub-names}
 

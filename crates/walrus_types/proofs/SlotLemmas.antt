@@ -1,6 +1,6 @@
 -- What stands in slots that were added or emptied.
 use Rattle.std.proofs.Common.{◌≡◌, ℕ, zero, suc, ◌+◌, ◌<◌, List, [], ◌∷◌, ◌++◌, length, map, set, get_or, Option, IsSome, Some, None, option_map, ap, sym, ◌∙◌, refl, arith, ◌⊎◌, inl, inr, ⊎_elim}
-use Rattle.std.proofs.lemmas.List.{map-set}
+use Rattle.std.proofs.lemmas.List.{map-set, length-set}
 use Rattle.walrus_base.specs.Arena.{item_at}
 use Rattle.walrus_types.specs.TypeDef.{places_between}
 use Rattle.walrus_types.specs.TypeSlots.{cleared}
@@ -24,6 +24,10 @@ item_at-set (y ∷ xs) (suc i) (suc p) x h = item_at-set xs i p x h
 pub item_at-cleared : {T : Type 0} (ps : List ℕ) (xs : List (Option T)) (p : ℕ) (x : T) → item_at (cleared ps xs) p ≡ Some x → item_at xs p ≡ Some x
 item_at-cleared [] xs p x h = h
 item_at-cleared (q ∷ ps) xs p x h = item_at-set xs q p x (item_at-cleared ps (set xs q None) p x h)
+
+pub length-cleared : {T : Type 0} (ps : List ℕ) (xs : List (Option T)) → length (cleared ps xs) ≡ length xs
+length-cleared [] xs = refl
+length-cleared (p ∷ ps) xs = length-cleared ps (set xs p None) ∙ length-set xs p None
 
 -- what is seen of slots that were emptied
 pub map-cleared : {S T : Type 0} (f : S → T) (ps : List ℕ) (xs : List (Option S)) → map (option_map f) (cleared ps xs) ≡ cleared ps (map (option_map f) xs)

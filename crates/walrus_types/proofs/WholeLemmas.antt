@@ -2,24 +2,18 @@
 use Rattle.std.proofs.Common.{◌≡◌, ℕ, zero, suc, ◌+◌, ◌<◌, ◌==◌, ◌||◌, Bool, true, false, List, [], ◌∷◌, ◌++◌, length, map, set, Option, Some, None, option_map, IsTrue, refl, sym, ap, ◌∙◌, arith, add-zero, eq-eqb, eqb-true, ⊎_elim, subst}
 use Rattle.std.proofs.lemmas.List.{get_or-set_other}
 use Rattle.std.specs.List.{range_with_len}
-use Rattle.walrus_base.specs.Arena.{item_at}
+use Rattle.walrus_base.specs.Arena.{item_at, kept_by}
+use Rattle.walrus_base.proofs.Kept.{kept_was, kept_marked, kept_there}
 use Rattle.walrus_types.specs.PlaceList.{has}
 use Rattle.walrus_types.specs.TypeDef.{TypeDef}
 use Rattle.walrus_types.specs.TypeSlots.{new_group, cleared}
-use Rattle.walrus_types.specs.Whole.{AreWhole}
+use Rattle.walrus_types.specs.Whole.{AreWhole, KeepsGroups}
 use Rattle.walrus_types.specs.declared.composite.NewType.{NewType}
-use Rattle.walrus_types.proofs.Indexed.{member_group, or_cases, some_same}
+use Rattle.walrus_types.proofs.Indexed.{member_group, some_same}
+use Rattle.walrus_types.proofs.Noted.{or_cases, or_left, or_right}
 use Rattle.walrus_types.proofs.NewGroups.{member_def, item_at-behind, item_at-mapped, has_item}
 use Rattle.walrus_types.proofs.ShapesKept.{made_of, item_at-front}
 use Rattle.walrus_types.proofs.SlotLemmas.{item_at-append, item_at-cleared}
-
-pub or_left : (a b : Bool) → a ≡ true → (a || b) ≡ true
-or_left true b h = refl
-or_left false b h = absurd cc
-
-pub or_right : (a b : Bool) → b ≡ true → (a || b) ≡ true
-or_right true b h = refl
-or_right false b h = h
 
 neither : (a b : Bool) → (a || b) ≡ false → (a ≡ false) × (b ≡ false)
 neither true b h = absurd cc
@@ -131,3 +125,12 @@ whole-cleared slots t0 x0 e0 old = record {
 
 pub whole-same : (old new : List (Option TypeDef)) → new ≡ old → AreWhole old → AreWhole new
 whole-same old new same whole = subst AreWhole (sym same) whole
+
+-- marked places are kept, and with each type its group
+pub whole-kept : (keeps : ℕ → Bool) (slots : List (Option TypeDef)) → AreWhole slots → KeepsGroups keeps slots → AreWhole (kept_by keeps slots)
+whole-kept keeps slots old closed = record {
+  own = λ t x e. old.own t x (kept_was keeps slots t x e);
+  members = λ t x e p h.
+      let was = kept_was keeps slots t x e in
+      ap (option_map (λ (y : TypeDef). y.group)) (kept_there keeps slots p (closed t x was (kept_marked keeps slots t x e) p h)) ∙ old.members t x was p h;
+}

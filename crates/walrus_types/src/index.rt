@@ -1,14 +1,15 @@
 //! Where the types of functions stand, by what they are.
-ghost use Rattle.std.specs.Prelude.{◌≡◌, IsTrue, OnOk, ℕ, map};
+ghost use Rattle.std.specs.Prelude.{◌≡◌, IsTrue, OnOk, map, []};
 ghost use Rattle.walrus_base.specs.Id.{place};
-ghost use Rattle.walrus_types.specs.PlaceList.{has};
+ghost use Rattle.walrus_types.specs.PlaceList.{has, MayEndIn};
 
 use crate::composite::FunctionType;
 use std::alloc::{AllocError, Global};
 use std::collections::BTreeMap;
 use walrus_base::TypeId;
 
-/// For each type of functions the ids of types that once were this type: each that is there is among them.
+/// For each type of functions the ids of types that once were this type, in the order in which they came: each that is there is
+/// among them, but for those that name themselves.
 #[derive(Drop)]
 pub(crate) struct FunctionIndex {
     ids: BTreeMap<FunctionType, Vec<TypeId>>,
@@ -20,7 +21,9 @@ impl FunctionIndex {
     ghost use Rattle.walrus_types.specs.Composite.{function_type};
 
     /// No ids. Takes no memory until the first one comes.
-    pub(crate) fn new(alloc: Global) -> FunctionIndex {
+    pub(crate) fn new(alloc: Global) -> FunctionIndex
+        ensures { (q : _) → places_at result q ≡ [] }
+    {
         FunctionIndex {
             ids: BTreeMap::new(alloc),
             alloc,
@@ -37,9 +40,9 @@ impl FunctionIndex {
         }
     }
 
-    /// Puts an id under this type of functions. Where memory runs out, what was there stays.
+    /// Puts an id behind those under this type of functions. Where memory runs out, what was there stays.
     pub(crate) fn note(&mut self, function: &FunctionType, id: TypeId) -> Result<(), AllocError>
-        ensures stays { (q : _) (p : ℕ) → IsTrue (has (places_at self.old q) p) → IsTrue (has (places_at self.new q) p) }
+        ensures stays { (q : _) → MayEndIn (function_type q ≡ function_type function.now) (places_at self.old q) (place id) (places_at self.new q) }
         ensures noted { OnOk result ((q : _) → function_type q ≡ function_type function.now → IsTrue (has (places_at self.new q) (place id))) }
     {
         match self.ids.get_mut(function) {

@@ -1,14 +1,15 @@
 //! The types of a module, by their ids.
-ghost use Rattle.std.specs.Prelude.{◌≡◌, ◌≢◌, ◌++◌, [], ℕ, length, Some, IsTrue, ◌↔◌, MatchResult, MatchOption, IfOk, count_by, is_some, slice_set, map};
+ghost use Rattle.std.specs.Prelude.{◌≡◌, ◌++◌, [], ℕ, length, Some, IsTrue, ◌↔◌, MatchResult, MatchOption, IfOk, count_by, is_some, slice_set, map};
 ghost use Rattle.std.specs.List.{range_with_len};
-ghost use Rattle.walrus_base.specs.Arena.{item_at, IsLive, entries};
+ghost use Rattle.walrus_base.specs.Arena.{item_at, IsLive, entries, kept_by};
 ghost use Rattle.walrus_base.specs.Id.{place};
-ghost use Rattle.walrus_types.specs.Alone.{alone, IsIndexed, FoundOrAdded};
+ghost use Rattle.walrus_base.specs.IdSet.{has_id};
+ghost use Rattle.walrus_types.specs.Alone.{alone, IsIndexed, AreInOrder, AreNotNamed, StandsAt, StandsFirst, FoundOrAdded};
 ghost use Rattle.walrus_types.specs.Composite.{function_type, function_of};
 ghost use Rattle.walrus_types.specs.OwnIds.{under_own_ids};
 ghost use Rattle.walrus_types.specs.TypeDef.{type_def, type_place, type_name, name_bytes};
 ghost use Rattle.walrus_types.specs.TypeSlots.{defs, group_at, new_group, no_names, cleared};
-ghost use Rattle.walrus_types.specs.Whole.{AreWhole};
+ghost use Rattle.walrus_types.specs.Whole.{AreWhole, KeepsGroups};
 ghost use Rattle.std.proofs.Props.{props};
 ghost use Rattle.walrus_types.specs.TypesLeft.{types_left, ids_left};
 
@@ -20,7 +21,7 @@ use crate::type_iter::TypeIter;
 use crate::types::Type;
 use crate::value::ValType;
 use std::alloc::{AllocError, Global};
-use walrus_base::{Id, TypeId};
+use walrus_base::{Id, IdHashSet, TypeId, TypeKey, keep_marked};
 
 /// The types of a module, by their ids, in groups (Structure > Types > Recursive Types).
 ///
@@ -32,6 +33,8 @@ pub struct ModuleTypes {
     alloc: Global,
     ghost under_own_ids: { IsTrue (under_own_ids 0 places.items) },
     ghost indexed: { IsIndexed index places.items },
+    ghost in_order: { AreInOrder index (length places.items) },
+    ghost not_named: { AreNotNamed index },
     ghost whole: { AreWhole (defs places.items) } by { Prim.hlevel props },
 }
 
@@ -65,9 +68,10 @@ impl ModuleTypes {
         Ok(ids)
     }
 
-    /// Adds a group of these members: each gets the next id, none has a name. An empty list adds nothing.
+    /// Adds a group of these members, and answers their ids: the next ones, in order. None has a name. An empty list adds nothing.
     /// Where memory runs out, the members are dropped and nothing changes.
-    pub fn add_group(&mut self, members: Vec<NewType>) -> Result<(), AllocError>
+    pub fn add_group(&mut self, members: Vec<NewType>) -> Result<GroupIds, AllocError>
+        ensures ids { IfOk result (λ ids. ids_left ids ≡ range_with_len (length (type_slots self.old)) (length members.items)) }
         ensures slots { MatchResult result
             (λ _. type_slots self.new ≡ type_slots self.old ++ new_group (length (type_slots self.old)) members.items)
             (λ _. type_slots self.new ≡ type_slots self.old) }
@@ -75,14 +79,15 @@ impl ModuleTypes {
             (λ _. type_names self.new ≡ type_names self.old ++ no_names members.items)
             (λ _. type_names self.new ≡ type_names self.old) }
     {
-        let mut added = placed(self.alloc, self.places.len(), members)?;
+        let first = self.places.len();
+        let mut added = placed(self.alloc, first, members)?;
         note_alone(&mut self.index, added.as_slice())?;
         self.places.append(&mut added)?;
-        Ok(())
+        Ok(GroupIds::between(first, self.places.len()))
     }
 
-    /// The id of a final type of functions with these parameters and results that is alone in its group and has no supertype.
-    /// One that is there already is answered; else it is added. Where memory runs out, nothing changes.
+    /// The id of a final type of functions with these parameters and results that is alone in its group, has no supertype and
+    /// doesn't name itself. The first that is there already is answered; else it is added. Where memory runs out, nothing changes.
     pub fn add(&mut self, params: &[ValType], results: &[ValType]) -> Result<TypeId, AllocError>
         ensures { MatchResult result
             (λ id. FoundOrAdded (function_of params.now results.now) (type_slots self.old) (type_slots self.new) (type_names self.old) (type_names self.new) (place id))
@@ -99,7 +104,7 @@ impl ModuleTypes {
 
     // The same where none is there.
     fn add_function(&mut self, function: FunctionType) -> Result<TypeId, AllocError>
-        requires { (p : ℕ) → item_at (type_slots self.old) p ≢ Some (alone p (function_type function)) }
+        requires { (p : ℕ) → StandsAt (function_type function) (type_slots self.old) p → ⊥ }
         ensures { MatchResult result
             (λ id. FoundOrAdded (function_type function) (type_slots self.old) (type_slots self.new) (type_names self.old) (type_names self.new) (place id))
             (λ _. (type_slots self.new ≡ type_slots self.old) × (type_names self.new ≡ type_names self.old)) }
@@ -115,11 +120,11 @@ impl ModuleTypes {
         Ok(id)
     }
 
-    /// The id of such a type, if one is there.
+    /// The id of the first such type, if one is there.
     pub fn find(&self, function: &FunctionType) -> Option<TypeId>
         ensures { MatchOption result
-            ((p : ℕ) → item_at (type_slots self.now) p ≢ Some (alone p (function_type function.now)))
-            (λ id. item_at (type_slots self.now) (place id) ≡ Some (alone (place id) (function_type function.now))) }
+            ((p : ℕ) → StandsAt (function_type function.now) (type_slots self.now) p → ⊥)
+            (λ id. StandsFirst (function_type function.now) (type_slots self.now) (place id)) }
     {
         for id in self.index.at(function) {
             if self.is_alone_as(*id, function) {
@@ -151,6 +156,15 @@ impl ModuleTypes {
         let ty = self.get(id);
         let (first, end) = (ty.first, ty.end);
         clear(&mut self.places, first, end);
+    }
+
+    /// Deletes every type whose id isn't in the set, which holds groups whole. The others stay, and so do all places. Takes no memory.
+    pub fn keep_only(&mut self, marks: &IdHashSet<TypeKey>)
+        requires { KeepsGroups (has_id marks.now) (type_slots self.old) }
+        ensures slots { type_slots self.new ≡ kept_by (has_id marks.now) (type_slots self.old) }
+        ensures names { type_names self.new ≡ kept_by (has_id marks.now) (type_names self.old) }
+    {
+        keep_marked(&mut self.places, marks);
     }
 
     /// Gives a live type this name, or takes its name away.

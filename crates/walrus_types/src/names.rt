@@ -1,12 +1,14 @@
 //! The types that a type names.
-ghost use Rattle.std.specs.Prelude.{OnOk, map, flat_map};
+ghost use Rattle.std.specs.Prelude.{◌≡◌, OnOk, map, flat_map};
+ghost use Rattle.walrus_base.specs.Id.{place};
 ghost use Rattle.walrus_base.specs.Types.{heap_names, val_heaps, storage_heaps, field_heaps, comp_names, sub_names, val_names};
-ghost use Rattle.walrus_types.specs.Composite.{storage_type, field_type, comp_type};
+ghost use Rattle.walrus_types.specs.Composite.{storage_type, field_type, comp_type, function_type, function_comp};
 ghost use Rattle.walrus_types.specs.Names.{Puts};
+ghost use Rattle.walrus_types.specs.PlaceList.{has};
 ghost use Rattle.walrus_types.specs.TypeDef.{type_def};
 ghost use Rattle.walrus_types.specs.Value.{heap_type, val_type};
 
-use crate::composite::{CompositeType, FieldType, StorageType};
+use crate::composite::{CompositeType, FieldType, FunctionType, StorageType};
 use crate::types::Type;
 use crate::value::{HeapType, ValType};
 use std::alloc::AllocError;
@@ -89,5 +91,42 @@ fn push_heap_names(to: &mut Vec<TypeId>, heap: HeapType) -> Result<(), AllocErro
         HeapType::Abstract(_) => Ok(()),
         HeapType::Concrete(id) => Ok(to.push(id)?),
         HeapType::Exact(id) => Ok(to.push(id)?),
+    }
+}
+
+// Whether a type of functions names this type.
+pub(crate) fn names_type(function: &FunctionType, id: TypeId) -> bool
+    ensures { result ≡ has (comp_names (function_comp (function_type function.now))) (place id) }
+{
+    any_names(function.params(), id) || any_names(function.results(), id)
+}
+
+// The same for value types.
+fn any_names(vals: &[ValType], id: TypeId) -> bool
+    ensures { result ≡ has (flat_map heap_names (flat_map val_heaps (map val_type vals.now))) (place id) }
+{
+    for val in vals {
+        if val_names(*val, id) {
+            return true;
+        }
+    }
+    false
+}
+
+// The same for a value type.
+fn val_names(val: ValType, id: TypeId) -> bool
+    ensures { result ≡ has (flat_map heap_names (val_heaps (val_type val))) (place id) }
+{
+    match val {
+        ValType::Ref(ty) => match ty.heap_type {
+            HeapType::Concrete(named) => named == id,
+            HeapType::Exact(named) => named == id,
+            HeapType::Abstract(_) => false,
+        },
+        ValType::I32 => false,
+        ValType::I64 => false,
+        ValType::F32 => false,
+        ValType::F64 => false,
+        ValType::V128 => false,
     }
 }

@@ -5,17 +5,18 @@ ghost use Rattle.walrus_base.specs.Id.{place};
 ghost use Rattle.walrus_types.specs.TypeDef.{places_between, type_def, type_place, name_bytes};
 ghost use Rattle.walrus_types.specs.TypeSlots.{defs, names, new_group, no_names, cleared};
 ghost use Rattle.walrus_types.specs.OwnIds.{under_own_ids};
-ghost use Rattle.walrus_types.specs.Alone.{alone};
+ghost use Rattle.walrus_types.specs.Alone.{alone, NamesNot, NotesOnly};
 ghost use Rattle.walrus_types.specs.Composite.{function_type};
 ghost use Rattle.walrus_types.specs.Function.{AsAlone};
 ghost use Rattle.walrus_types.specs.Index.{places_at};
-ghost use Rattle.walrus_types.specs.PlaceList.{has};
+ghost use Rattle.walrus_types.specs.PlaceList.{has, MayEndIn};
 
 use crate::composite::{FunctionType, NewType};
 use crate::index::FunctionIndex;
+use crate::names::names_type;
 use crate::types::Type;
 use std::alloc::{AllocError, Global};
-use walrus_base::Id;
+use walrus_base::{Id, TypeId};
 
 // The types of a group of these members, whose places begin at the first.
 pub(crate) fn placed(
@@ -80,21 +81,39 @@ pub(crate) fn rename(places: &mut Vec<Option<Type>>, place: usize, name: Option<
     }
 }
 
-// Puts the type into the index, if it is the only one of its group and a final type of functions without supertype.
+// Puts the type into the index, if it is the only one of its group and a final type of functions without supertype that doesn't name itself.
 pub(crate) fn note_alone(
     index: &mut FunctionIndex,
     added: &[Option<Type>],
 ) -> Result<(), AllocError>
-    ensures stays { (f : _) (p : ℕ) → IsTrue (has (places_at index.old f) p) → IsTrue (has (places_at index.new f) p) }
-    ensures noted { OnOk result ((ty : _) (f : _) → added.now ≡ Some ty ∷ [] → type_def ty ≡ alone (type_place ty) (function_type f) → IsTrue (has (places_at index.new f) (type_place ty))) }
+    ensures stays { NotesOnly added.now index.old index.new }
+    ensures noted { OnOk result ((ty : _) (f : _) → added.now ≡ Some ty ∷ []
+        → type_def ty ≡ alone (type_place ty) (function_type f) → NamesNot (function_type f) (type_place ty)
+        → IsTrue (has (places_at index.new f) (type_place ty))) }
 {
     match only_type(added) {
         Some(ty) => match ty.alone_function() {
-            Some(function) => index.note(function, ty.id()),
+            Some(function) => note_apart(index, function, ty.id()),
             None => Ok(()),
         },
         None => Ok(()),
     }
+}
+
+// Puts the id under the type of functions, unless that names it.
+fn note_apart(
+    index: &mut FunctionIndex,
+    function: &FunctionType,
+    id: TypeId,
+) -> Result<(), AllocError>
+    ensures stays { (q : _) → MayEndIn (NamesNot (function_type q) (place id)) (places_at index.old q) (place id) (places_at index.new q) }
+    ensures noted { OnOk result ((q : _) → function_type q ≡ function_type function.now → NamesNot (function_type q) (place id)
+        → IsTrue (has (places_at index.new q) (place id))) }
+{
+    if names_type(function, id) {
+        return Ok(());
+    }
+    index.note(function, id)
 }
 
 // The only type of these, if it is the only one.

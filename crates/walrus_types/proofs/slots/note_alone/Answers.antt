@@ -6,6 +6,6 @@ use Rattle.walrus_types.proofs.Indexed.{only_same}
 use Rattle.walrus_types.proofs.slots.note_alone.Goals as goal
 
 pub returns-in-None-alone_function-clause-noted : goal.returns-in-None-alone_function-clause-noted
-returns-in-None-alone_function-clause-noted c = λ ty f only is.
+returns-in-None-alone_function-clause-noted c = λ ty f only is apart.
     let same : ty ≡ c.in-Some.ty.now = only_same c.args.added.now ty c.in-Some.ty.now only c.in-Some.ensures in
     absurd (c.in-None-alone_function.ensures (function_type f) (ap (λ t. type_def t) (sym same) ∙ is ∙ ap (λ t. alone (type_place t) (function_type f)) same))

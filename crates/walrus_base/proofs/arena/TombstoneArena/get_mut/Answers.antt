@@ -1,4 +1,4 @@
-use Rattle.std.proofs.Common.{◌≡◌, Some, ap, refl}
+use Rattle.std.proofs.Common.{Some, ap, refl}
 use Rattle.std.specs.Vec.{with_item as with_slot}
 use Rattle.walrus_base.specs.Id.{place}
 use Rattle.walrus_base.proofs.Found.{live_there}

@@ -1,4 +1,4 @@
-use Rattle.std.proofs.Common.{ap, sym, ◌∙◌}
+use Rattle.std.proofs.Common.{length, ap, sym, ◌∙◌}
 use Rattle.walrus_base.specs.Id.{place}
 use Rattle.walrus_types.specs.ModuleTypes.{type_slots, type_names}
 use Rattle.walrus_types.specs.TypeDef.{type_def, type_name, places_between}
@@ -6,7 +6,7 @@ use Rattle.walrus_types.specs.TypeSlots.{defs, names, cleared, group_of}
 use Rattle.walrus_types.proofs.Indexed.{indexed-cleared, indexed-seen}
 use Rattle.walrus_types.proofs.OwnIdLemmas.{under_own_ids-cleared}
 use Rattle.walrus_types.proofs.WholeLemmas.{whole-cleared, whole-same}
-use Rattle.walrus_types.proofs.SlotLemmas.{map-cleared}
+use Rattle.walrus_types.proofs.SlotLemmas.{map-cleared, length-cleared}
 use Rattle.walrus_types.proofs.module_types.ModuleTypes.delete.Goals as goal
 
 pub invariant_of-self : goal.invariant_of-self
@@ -18,6 +18,8 @@ invariant_of-self c =
           (whole-cleared (type_slots old) (place c.args.id) (type_def c.get-ty.result.now) c.get-ty.ensures.value old.whole);
       under_own_ids = rw c.clear.ensures (under_own_ids-cleared 0 emptied old.places.items old.under_own_ids);
       indexed = indexed-seen old.index (cleared emptied old.places.items) c.clear.new.places.items (indexed-cleared old.index emptied old.places.items old.indexed) (ap (λ places. defs places) c.clear.ensures);
+      in_order = rw (ap (λ places. length places) c.clear.ensures ∙ length-cleared emptied old.places.items) old.in_order;
+      not_named = old.not_named;
     }
 
 pub returns-clause-slots : goal.returns-clause-slots
