@@ -1,5 +1,5 @@
 -- Bodies of functions: declarations, and operators behind them.
-use Rattle.std.proofs.Common.{◌≡◌, ℕ, suc, ◌+◌, ◌-◌, ◌^◌, ◌≤◌, List, [], ◌∷◌, ◌++◌, length, map, min, Option, Some, None, Result, Ok, Err, IsErrAnd, slice_get, refl, ap, ◌∙◌, sym, subst, arith, append_assoc, length-append}
+use Rattle.std.proofs.Common.{◌≡◌, ℕ, ◌+◌, ◌-◌, ◌^◌, List, [], ◌∷◌, ◌++◌, length, map, min, Option, Some, None, Result, Ok, Err, IsErrAnd, slice_get, refl, ap, ◌∙◌, sym, subst, arith, append_assoc, length-append}
 use Rattle.std.proofs.lemmas.List.{append-nil, map-append}
 use Rattle.std.proofs.lemmas.List.FromFn.{map-range_with_len_more, length-range_with_len}
 use Rattle.std.specs.List.{range_with_len}
@@ -21,7 +21,7 @@ use Rattle.walrus_code.specs.declared.error.IrError.{IrError}
 use Rattle.walrus_code.specs.declared.error.IrError.TheVariants.{Malformed, Memory, NoIndex, NotWritable, TooLarge}
 use Rattle.walrus_code.specs.declared.location.InstrLocId.{InstrLocId}
 use Rattle.walrus_bodies.specs.declared.body.ReadBody.{ReadBody}
-use Rattle.walrus_bodies.specs.Body.{Context, OperatorsRead, BodyReads, Located, declarations, declared_types, how_many, most_locals}
+use Rattle.walrus_bodies.specs.Body.{Context, OperatorsRead, BodyReads, Located, declarations, declared_types}
 use Rattle.walrus_bodies.specs.BodyRead.{body_locals, new_locals, AddsLocals, Grows, ReadsBody, AreDeclared, Declares}
 use Rattle.walrus_bodies.specs.Declarations.{ReadsDeclarations}
 use Rattle.walrus_bodies.specs.Results.{ReadsOperators}
@@ -74,19 +74,14 @@ adds-more old middle new ids ids' types id ty adds at is grown =
     }
 
 pub grows-none : (old : List (Option Local)) → Grows old old
-grows-none old = let few : length {A = Option Local} [] ≤ most_locals = omega arith in ([], (sym (append-nil old), few))
+grows-none old = ([], sym (append-nil old))
 
-pub grows-some : (old new : List (Option Local)) (ids : List (Id LocalKey)) (types : List DeclaredValType) → AddsLocals old new ids types → length types ≤ most_locals → Grows old new
-grows-some old new ids types adds few =
-    let long = length-new_locals ids types (as_many old new ids types adds) in
-    (new_locals ids types, (adds.added, omega (arith, long)))
+pub grows-some : (old new : List (Option Local)) (ids : List (Id LocalKey)) (types : List DeclaredValType) → AddsLocals old new ids types → Grows old new
+grows-some old new ids types adds = (new_locals ids types, adds.added)
 
-pub grows-one : (old middle new : List (Option Local)) (ids : List (Id LocalKey)) (types : List DeclaredValType) (x : Option Local) → AddsLocals old middle ids types → new ≡ middle ++ x ∷ [] → suc (length types) ≤ most_locals → Grows old new
-grows-one old middle new ids types x adds is few =
-    let long = length-new_locals ids types (as_many old middle ids types adds) in
-    let all = length-append (new_locals ids types) (x ∷ []) in
-    let fits : length (new_locals ids types ++ x ∷ []) ≤ most_locals = omega (arith, long, all) in
-    (new_locals ids types ++ x ∷ [], (is ∙ ap (λ (xs : List (Option Local)). xs ++ x ∷ []) adds.added ∙ append_assoc old (new_locals ids types) (x ∷ []), fits))
+pub grows-one : (old middle new : List (Option Local)) (ids : List (Id LocalKey)) (types : List DeclaredValType) (x : Option Local) → AddsLocals old middle ids types → new ≡ middle ++ x ∷ [] → Grows old new
+grows-one old middle new ids types x adds is =
+    (new_locals ids types ++ x ∷ [], is ∙ ap (λ (xs : List (Option Local)). xs ++ x ∷ []) adds.added ∙ append_assoc old (new_locals ids types) (x ∷ []))
 
 -- ---- the whole body
 
@@ -100,10 +95,9 @@ abbrev pub Found : (bytes : List ℕ) → List (ℕ × RawVal) → List ℕ → 
 Found bytes ds rest = (front : List ℕ) × ((bytes ≡ front ++ rest) × Is declarations front ds)
 
 -- a body with these declarations in front
-same_parts : (c : Context) (locals : ℕ → Option ℕ) (bytes rest : List ℕ) (ds : List (ℕ × RawVal)) (types : List (ValType ℕ)) (ops : List Op) → Found bytes ds rest → BodyReads c locals bytes types ops → (how_many ds ≤ most_locals) × (declared_types c.names ds ≡ Some types) × OperatorsRead c locals rest ops
+same_parts : (c : Context) (locals : ℕ → Option ℕ) (bytes rest : List ℕ) (ds : List (ℕ × RawVal)) (types : List (ValType ℕ)) (ops : List Op) → Found bytes ds rest → BodyReads c locals bytes types ops → (declared_types c.names ds ≡ Some types) × OperatorsRead c locals rest ops
 same_parts c locals bytes rest ds types ops found reads =
     let one = one_reading declarations reads.front reads.back found.0 rest reads.declared ds (sym reads.parts ∙ found.1.0) reads.declares found.1.1 in (
-      subst (λ (xs : List (ℕ × RawVal)). how_many xs ≤ most_locals) one.0 reads.few,
       ap (declared_types c.names) (sym one.0) ∙ reads.typed,
       subst (λ (bs : List ℕ). OperatorsRead c locals bs ops) one.1 reads.operators,
     )
@@ -119,14 +113,14 @@ none_declared c args old new bytes view (Err NoIndex) e is reads = rw (← is) a
 none_declared c args old new bytes view (Err NotWritable) e is reads = rw (← is) at reads
 none_declared c args old new bytes view (Err TooLarge) e is reads = rw (← is) at reads
 
--- too many, or of a type that isn't declared
+-- of a type that isn't declared
 pub not_declared : (c : Context) (args : List ℕ) (old new middle : List (Option Local)) (bytes rest : List ℕ) (ds : List (ℕ × RawVal)) {X : Type 0} (ids : X → List (Id LocalKey)) (result : Result ReadBody IrError) (e : IrError) → Found bytes ds rest → IsErrAnd result (λ x. x ≡ e) → Declares c.names ds old middle ids (Err e) → ReadsBody c args old new bytes result
 not_declared c args old new middle bytes rest ds ids (Ok x) e found is reads = absurd is
 not_declared c args old new middle bytes rest ds ids (Err Malformed) e found is reads =
     let none = rw (← is) at reads in
     λ types ops body.
     let same = same_parts c (body_locals args (length old) (length types)) bytes rest ds types ops found body in
-    let wrong : Some types ≡ None = sym same.1 ∙ none same.0 in
+    let wrong : Some types ≡ None = sym same.0 ∙ none in
     absurd cc
 not_declared c args old new middle bytes rest ds ids (Err (Memory m)) e found is reads = tt
 not_declared c args old new middle bytes rest ds ids (Err NoIndex) e found is reads = rw (← is) at reads
@@ -140,10 +134,10 @@ no_operators c args all ids old new bytes rest ds view (Err Malformed) e found d
     let none = rw (← failed) at reads in
     λ types ops body.
     let same = same_parts c (body_locals (map place args) (length old) (length types)) bytes rest ds types ops found body in
-    let types_are : types ≡ map val_type declared.types = some_same _ _ (sym same.1 ∙ declared.typed) in
+    let types_are : types ≡ map val_type declared.types = some_same _ _ (sym same.0 ∙ declared.typed) in
     let count : length types ≡ length declared.types = ap length types_are ∙ length-map-val declared.types in
     let look_up : body_locals (map place args) (length old) (length types) ≡ locals_at all = ap (body_locals (map place args) (length old)) count ∙ sym (locals_are args ids all old new declared.types is declared.added) in
-    none ops (subst (λ (l : ℕ → Option ℕ). OperatorsRead c l rest ops) look_up same.2)
+    none ops (subst (λ (l : ℕ → Option ℕ). OperatorsRead c l rest ops) look_up same.1)
   where
     length-map-val : (ts : List DeclaredValType) → length (map val_type ts) ≡ length ts
     length-map-val [] = refl
@@ -161,7 +155,6 @@ all_read c args all ids old new bytes rest ds ops found declared is reads = reco
   parts = found.1.0;
   declared = ds;
   declares = found.1.1;
-  few = declared.few;
   typed = declared.typed;
   operators = subst (λ (l : ℕ → Option ℕ). OperatorsRead c l rest ops) (locals_are args ids all old new declared.types is declared.added) reads;
 }

@@ -1,17 +1,16 @@
 -- The locals that a body declares.
-use Rattle.std.proofs.Common.{◌≡◌, ℕ, zero, suc, ◌+◌, List, [], ◌∷◌, ◌++◌, Option, Some, None, option_map, map, Result, Ok, Err, replicate, refl, ap, ◌∙◌, sym, append_assoc, length, length-append, arith}
-use Rattle.std.proofs.lemmas.List.{length-replicate}
+use Rattle.std.proofs.Common.{◌≡◌, ℕ, zero, suc, List, [], ◌∷◌, ◌++◌, Option, Some, None, option_map, map, Result, Ok, Err, replicate, refl, ap, ◌∙◌, sym, append_assoc}
 use Rattle.wasm_forms.specs.declared.types.RawVal.{RawVal}
 use Rattle.wasm_forms.specs.Reading.{◌>>=◌}
 use Rattle.wasm_forms.specs.Grammar.{at}
-use Rattle.wasm_forms.proofs.Bind.{bind_at, bind_some, some_same, some_not_none}
+use Rattle.wasm_forms.proofs.Bind.{bind_at, some_not_none}
 use Rattle.wasm_forms.proofs.Exact.{exact}
 use Rattle.walrus_base.specs.Types.{ValType}
 use Rattle.walrus_code.specs.declared.error.IrError.{IrError}
 use Rattle.walrus_code.specs.declared.error.IrError.TheVariants.{Malformed, Memory, NoIndex, NotWritable, TooLarge}
 use Rattle.walrus_code.specs.FromRaw.{val_of}
 use Rattle.walrus_code.specs.Names.{Lookup, named_val}
-use Rattle.walrus_bodies.specs.Body.{declarations, declared_types, how_many}
+use Rattle.walrus_bodies.specs.Body.{declarations, declared_types}
 use Rattle.walrus_bodies.specs.Declarations.{ReadsDeclarations}
 use Rattle.walrus_bodies.specs.Reader.{Gives}
 
@@ -50,18 +49,3 @@ map-replicate {B = B} f (suc n) x = ap (λ (ys : List B). f x ∷ ys) (map-repli
 
 pub some_of : {A B : Type 0} (f : A → B) (x : A) (o : Option B) → option_map f (Some x) ≡ o → o ≡ Some (f x)
 some_of f x o is = sym is
-
--- one type for each local
-pub types_count : (names : Lookup) (ds : List (ℕ × RawVal)) (types : List (ValType ℕ)) → declared_types names ds ≡ Some types → length types ≡ how_many ds
-types_count names [] types is = ap length (sym (some_same _ _ is))
-types_count names (d ∷ ds) types is =
-    let b = bind_some (named_val names (val_of d.1)) (λ v. declared_types names ds >>= λ others. Some (replicate d.0 v ++ others)) types is in
-    let rest = bind_some (declared_types names ds) (λ others. Some (replicate d.0 b.0 ++ others)) types b.2 in
-    let long : length types ≡ length (replicate d.0 b.0) + length rest.0 = ap length (sym (some_same _ _ rest.2)) ∙ length-append (replicate d.0 b.0) rest.0 in
-    let times : length (replicate d.0 b.0) ≡ d.0 = length-replicate d.0 b.0 in
-    let later : length rest.0 ≡ how_many ds = types_count names ds rest.0 rest.1 in
-    omega arith
-
-pub length-map : {A B : Type 0} (f : A → B) (xs : List A) → length (map f xs) ≡ length xs
-length-map f [] = refl
-length-map f (x ∷ xs) = let rest = length-map f xs in omega (arith, rest)

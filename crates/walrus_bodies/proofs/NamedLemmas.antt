@@ -1,10 +1,8 @@
 -- Operators that are looked up, one after another.
-use Rattle.std.proofs.Common.{◌≡◌, ℕ, List, [], ◌∷◌, ◌++◌, Option, Some, None, refl, sym}
+use Rattle.std.proofs.Common.{◌≡◌, ℕ, List, [], ◌∷◌, ◌++◌, Option, Some, None, refl}
 use Rattle.wasm_forms.specs.Reading.{◌>>=◌}
-use Rattle.wasm_forms.proofs.Bind.{bind_some, some_same}
-use Rattle.walrus_base.specs.Types.{HeapType, OfHeap, Concrete, Exact, ValType, I32, I64, F32, F64, V128, Ref}
-use Rattle.walrus_types.specs.Operators.{Types, Memories, BlockType, NoResult, OneResult, OfType, Arg, Index, Label, Local, Number, Count, Byte, S32, S64, Bits32, Bits64, Value, Heap, Block, Access, Op}
-use Rattle.walrus_code.specs.Names.{Lookup, LeadsBack, LocalsLeadBack, named_heap, named_val, named_block, named_arg, named_args, named_op, named_ops}
+use Rattle.walrus_types.specs.Operators.{Op}
+use Rattle.walrus_code.specs.Names.{Lookup, named_op, named_ops}
 
 module _ (names : Lookup) (locals : ℕ → Option ℕ) where
   named_next : (p : Op) (ops : List Op) (o found : Op) (all : List Op) (one : Option Op) (rest : Option (List Op)) → ((xs : List Op) → rest ≡ Some xs → named_ops names locals (ops ++ o ∷ []) ≡ Some (xs ++ found ∷ [])) → (one >>= λ x. rest >>= λ xs. Some (x ∷ xs)) ≡ Some all → (one >>= λ x. named_ops names locals (ops ++ o ∷ []) >>= λ xs. Some (x ∷ xs)) ≡ Some (all ++ found ∷ [])

@@ -1,6 +1,6 @@
 -- The bodies of functions ("Binary Format > Modules > Code Section", "Binary Format > Instructions > Expressions"): a list of local
 -- declarations, and then operators. The `0B` that closes the function is the last one.
-use Rattle.std.specs.Prelude.{◌≡◌, ℕ, ◌+◌, ◌-◌, ◌^◌, ◌≤◌, Bool, true, List, [], ◌∷◌, ◌++◌, length, min, Option, Some, replicate}
+use Rattle.std.specs.Prelude.{◌≡◌, ℕ, ◌+◌, ◌-◌, ◌^◌, Bool, true, List, [], ◌∷◌, ◌++◌, length, min, Option, Some, replicate}
 use Rattle.wasm_forms.specs.declared.types.RawVal.{RawVal}
 use Rattle.wasm_forms.specs.Reading.{◌>>=◌}
 use Rattle.wasm_forms.specs.Grammar.{Form, ◌then◌, Vector, U32, Is, IsRow}
@@ -54,21 +54,12 @@ abbrev pub declared_types : Lookup → List (ℕ × RawVal) → Option (List (Va
 declared_types names [] = Some []
 declared_types names (d ∷ rest) = named_val names (val_of d.1) >>= λ v. declared_types names rest >>= λ others. Some (replicate d.0 v ++ others)
 
-abbrev pub how_many : List (ℕ × RawVal) → ℕ
-how_many [] = 0
-how_many (d ∷ rest) = d.0 + how_many rest
-
--- the limit on declared locals
-abbrev pub most_locals : ℕ
-most_locals = 50000
-
--- The bytes are declarations of locals of these types, at most 50,000 of them, and these operators.
+-- The bytes are declarations of locals of these types, and these operators. How many locals a module's bodies may declare is a rule on modules.
 pub record BodyReads (c : Context) (locals : ℕ → Option ℕ) (bytes : List ℕ) (types : List (ValType ℕ)) (ops : List Op) : Type 0 where
   pub front : List ℕ
   pub back : List ℕ
   pub parts : bytes ≡ front ++ back
   pub declared : List (ℕ × RawVal)
   pub declares : Is declarations front declared
-  pub few : how_many declared ≤ most_locals
   pub typed : declared_types c.names declared ≡ Some types
   pub operators : OperatorsRead c locals back ops

@@ -1,5 +1,5 @@
 -- What is answered where the body of a function is read.
-use Rattle.std.specs.Prelude.{◌≡◌, ℕ, ◌+◌, ◌≤◌, ◌++◌, List, [], ◌∷◌, length, map, Option, Some, None, slice_get, Result, Ok, Err}
+use Rattle.std.specs.Prelude.{◌≡◌, ℕ, ◌+◌, ◌++◌, List, [], ◌∷◌, length, map, Option, Some, None, slice_get, Result, Ok, Err}
 use Rattle.std.specs.List.{range_with_len}
 use Rattle.wasm_forms.specs.declared.types.RawVal.{RawVal}
 use Rattle.wasm_forms.specs.Grammar.{Is}
@@ -18,7 +18,7 @@ use Rattle.walrus_code.specs.declared.error.IrError.{IrError}
 use Rattle.walrus_code.specs.declared.error.IrError.TheVariants.{Malformed, Memory, NoIndex, NotWritable, TooLarge}
 use Rattle.walrus_code.specs.declared.location.InstrLocId.{InstrLocId}
 use Rattle.walrus_bodies.specs.declared.body.ReadBody.{ReadBody}
-use Rattle.walrus_bodies.specs.Body.{Context, BodyReads, Located, declarations, declared_types, how_many, most_locals}
+use Rattle.walrus_bodies.specs.Body.{Context, BodyReads, Located, declarations, declared_types}
 
 -- the places of a function's locals by their indices: its parameters, and then so many declared ones from a place on
 abbrev pub body_locals : List ℕ → ℕ → ℕ → ℕ → Option ℕ
@@ -35,9 +35,9 @@ pub record AddsLocals (old new : List (Option Local)) (ids : List (Id LocalKey))
   pub places : map place ids ≡ range_with_len (length old) (length types)
   pub added : new ≡ old ++ new_locals ids types
 
--- what was there stays in front, and at most 50,000 locals come behind it
+-- what was there stays in front
 abbrev pub Grows : List (Option Local) → List (Option Local) → Type 0
-Grows old new = (more : List (Option Local)) × ((new ≡ old ++ more) × (length more ≤ most_locals))
+Grows old new = (more : List (Option Local)) × (new ≡ old ++ more)
 
 -- the bytes are a body with these operators, and its declared locals are added to those of the module
 pub record BodyIsRead (c : Context) (args : List ℕ) (old new : List (Option Local)) (bytes : List ℕ) (body : ReadBody) : Type 0 where
@@ -63,14 +63,13 @@ BodyLocated IsGiven place bytes locs = (front : List ℕ) × ((back : List ℕ) 
 -- the locals that are declared so are added
 pub record AreDeclared (names : Lookup) (ds : List (ℕ × RawVal)) (old new : List (Option Local)) (ids : List (Id LocalKey)) : Type 0 where
   pub types : List DeclaredValType
-  pub few : how_many ds ≤ most_locals
   pub typed : declared_types names ds ≡ Some (map val_type types)
   pub added : AddsLocals old new ids types
 
--- refused as malformed: these are too many, or a type isn't declared
+-- refused as malformed: a type isn't declared
 abbrev pub Declares : {X : Type 0} → Lookup → List (ℕ × RawVal) → List (Option Local) → List (Option Local) → (X → List (Id LocalKey)) → Result X IrError → Type 0
 Declares names ds old new ids (Ok x) = AreDeclared names ds old new (ids x)
-Declares names ds old new ids (Err Malformed) = how_many ds ≤ most_locals → declared_types names ds ≡ None
+Declares names ds old new ids (Err Malformed) = declared_types names ds ≡ None
 Declares names ds old new ids (Err (Memory e)) = Unit {0}
 Declares names ds old new ids (Err NoIndex) = ⊥
 Declares names ds old new ids (Err NotWritable) = ⊥

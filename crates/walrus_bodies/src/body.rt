@@ -1,15 +1,15 @@
 //! Reading the body of a function (Binary Format > Modules > Code Section).
-ghost use Rattle.std.specs.Prelude.{◌≡◌, ◌≤◌, ◌++◌, length, map, IfOk};
+ghost use Rattle.std.specs.Prelude.{◌≡◌, ◌++◌, map, IfOk};
 ghost use Rattle.std.specs.Fn.{FnReturnsAt};
 ghost use Rattle.walrus_base.specs.Id.{place};
 ghost use Rattle.walrus_types.specs.Locals.{locals};
 ghost use Rattle.walrus_code.specs.Indices.{ids_at};
-ghost use Rattle.walrus_bodies.specs.Body.{context, most_locals};
+ghost use Rattle.walrus_bodies.specs.Body.{context};
 ghost use Rattle.walrus_bodies.specs.BodyRead.{ReadsBody, Declares, BodyLocated, AddsLocals, Grows};
 ghost use Rattle.walrus_bodies.specs.Declarations.{declarations_of};
 ghost use Rattle.walrus_bodies.specs.Results.{locations};
 
-use crate::declarations::{Declaration, are_few, name_types, read_declarations};
+use crate::declarations::{Declaration, name_types, read_declarations};
 use crate::features::Features;
 use crate::read::read_operators;
 use crate::types::FunctionTypes;
@@ -27,12 +27,15 @@ pub struct ReadBody {
     pub operators: Vec<Operator>,
 }
 
-/// Reads the bytes of a body, which begin at `start` of the input. `args` are the function's parameters. The declared locals, at most
-/// 50,000, are added to `module_locals` in order, and `locate` gives each operator its location by the place of its first byte.
+/// Reads the bytes of a body over the function's parameters, which are `args`; the bytes begin at `start` of the input. The declared locals
+/// are added to `module_locals` in order, and `locate` gives each operator its location by the place of its first byte.
+///
+/// There is no limit on declared locals here, and memory is taken for each: six bytes can declare 2^32 - 1 of them. Who reads bytes that weren't
+/// checked first, as `check` of `wasm_wire` does for a whole module, gets what they declare.
 ///
 /// Refused as [`IrError::Malformed`] where the bytes are no body, as `read_operators` says of operators. Declared locals may be added
-/// then, at most 50,000 too; what was there stays.
-pub fn read_body<T: FunctionTypes, L: Fn(&usize) -> InstrLocId>(
+/// then; what was there stays.
+pub fn read_body_over<T: FunctionTypes, L: Fn(&usize) -> InstrLocId>(
     alloc: Global,
     bytes: &[u8],
     start: usize,
@@ -89,10 +92,6 @@ fn declare(
     ensures declared { Declares (ids_at indices.now) (declarations_of declarations.now) (locals module_locals.old) (locals module_locals.new) (λ ids. ids.items) result }
     ensures stays { Grows (locals module_locals.old) (locals module_locals.new) }
 {
-    let few = are_few(declarations);
-    if !few {
-        return Err(IrError::Malformed);
-    }
     let types = name_types(alloc, declarations, indices)?;
     let declared = add_locals(alloc, module_locals, types.as_slice())?;
     Ok(declared)
@@ -104,7 +103,6 @@ fn add_locals(
     module_locals: &mut ModuleLocals,
     types: &[ValType],
 ) -> Result<Vec<LocalId>, AllocError>
-    requires { length types.now ≤ most_locals }
     ensures added { IfOk result (λ ids. AddsLocals (locals module_locals.old) (locals module_locals.new) ids.items types.now) }
     ensures stays { Grows (locals module_locals.old) (locals module_locals.new) }
 {

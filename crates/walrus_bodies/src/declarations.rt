@@ -1,11 +1,11 @@
 //! Reading the locals that a body declares (Binary Format > Modules > Code Section).
-ghost use Rattle.std.specs.Prelude.{◌≡◌, ◌≤◌, ◌↔◌, ℕ, map, IsTrue, IfOk, ◌++◌, replicate};
+ghost use Rattle.std.specs.Prelude.{◌≡◌, ℕ, map, IfOk, ◌++◌, replicate};
 ghost use Rattle.wasm_forms.specs.Grammar.{Vector, U32, ◌then◌, at};
 ghost use Rattle.wasm_forms.specs.Types.{value_type};
 ghost use Rattle.wasm_forms.specs.declared.types.RawVal.{RawVal as DeclaredVal};
 ghost use Rattle.walrus_types.specs.Value.{val_type};
 ghost use Rattle.walrus_code.specs.Indices.{ids_at};
-ghost use Rattle.walrus_bodies.specs.Body.{declarations, declared_types, how_many, most_locals};
+ghost use Rattle.walrus_bodies.specs.Body.{declarations, declared_types};
 ghost use Rattle.walrus_bodies.specs.Declarations.{declaration, declarations_of, ReadsDeclarations, spelling};
 ghost use Rattle.walrus_bodies.specs.Reader.{Gives};
 
@@ -15,9 +15,6 @@ use walrus_types::ValType;
 use wasm_forms::{
     Element, RawVal, WireError, Written, read_u32, read_value_type, read_vector, write_u32,
 };
-
-/// How many locals a body can declare.
-pub const MOST_LOCALS: u32 = 50_000;
 
 /// Locals of one type that a body declares.
 #[derive(Clone, Copy, Debug, PartialEq, Eq)]
@@ -70,20 +67,6 @@ fn take_declarations(alloc: Global, bytes: &[u8]) -> Result<(Vec<Declaration>, &
     ensures { Gives (λ r. (declarations_of r.0.items, r.1.now)) result (at declarations bytes.now) }
 {
     Ok(read_vector::<Declaration>(alloc, bytes)?)
-}
-
-// Whether these declare at most 50,000 locals.
-pub(crate) fn are_few(declarations: &[Declaration]) -> bool
-    ensures { IsTrue result ↔ (how_many (declarations_of declarations.now) ≤ most_locals) }
-{
-    let mut left = MOST_LOCALS;
-    for declaration in declarations {
-        if declaration.count > left {
-            return false;
-        }
-        left -= declaration.count;
-    }
-    true
 }
 
 // The types of the locals that these declare, one for each.

@@ -10,8 +10,8 @@ mod read;
 mod types;
 
 pub use blocks::{OpenBlocks, Opened};
-pub use body::{ReadBody, read_body};
-pub use declarations::{Declaration, MOST_LOCALS, read_declarations};
+pub use body::{ReadBody, read_body_over};
+pub use declarations::{Declaration, read_declarations};
 pub use emit::emit_operators;
 pub use features::Features;
 pub use read::read_operators;

@@ -13,7 +13,7 @@ use Rattle.walrus_base.specs.Types.{ValType}
 use Rattle.walrus_code.specs.FromRaw.{val_of}
 use Rattle.walrus_code.specs.Names.{Lookup, LeadsBack, named_val}
 use Rattle.walrus_code.proofs.BackLemmas.{val_back}
-use Rattle.walrus_bodies.specs.Body.{declarations, declared_types, how_many}
+use Rattle.walrus_bodies.specs.Body.{declarations, declared_types}
 use Rattle.walrus_functions.specs.Declaring.{AreDeclarations, spread}
 use Rattle.walrus_functions.specs.EmittedBody.{declaration_bytes, declarations_bytes}
 
@@ -35,6 +35,10 @@ tail_same x y xs ys h = cc
 length-replicate : (n : ℕ) (v : ValType ℕ) → length (replicate n v) ≡ n
 length-replicate zero v = refl
 length-replicate (suc n) v = let k = length-replicate n v in omega (arith, k)
+
+abbrev pub how_many : List (ℕ × RawVal) → ℕ
+how_many [] = 0
+how_many (d ∷ ds) = d.0 + how_many ds
 
 count_same : (names : Lookup) (ds : List (ℕ × RawVal)) (gs : List (ℕ × ValType ℕ)) → map seen ds ≡ map (indexed names) gs → how_many ds ≡ length (spread gs)
 count_same names [] [] h = refl

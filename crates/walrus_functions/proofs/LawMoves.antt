@@ -129,7 +129,6 @@ there c first count bytes types ops body = record {
   parts = body.parts;
   declared = body.declared;
   declares = body.declares;
-  few = body.few;
   typed = body.typed;
   operators = there_ops c first count body.back ops body.operators;
 }
@@ -159,7 +158,6 @@ back c first count bytes types ops body =
       parts = body.parts;
       declared = body.declared;
       declares = body.declares;
-      few = body.few;
       typed = body.typed;
       operators = back_ops c first count body.back ops found r made.1.0 made.1.1;
     } in

@@ -1,8 +1,7 @@
 -- What can't be written isn't well formed.
-use Rattle.std.proofs.Common.{◌≡◌, ℕ, zero, suc, ◌+◌, ◌≤◌, false, List, [], ◌∷◌, ◌++◌, length, map, Option, Some, replicate, slice_get, refl, sym, ap, ◌∙◌, arith, length-append, inl, inr}
+use Rattle.std.proofs.Common.{◌≡◌, ℕ, zero, suc, false, List, [], ◌∷◌, ◌++◌, map, Option, Some, replicate, slice_get, sym, ap, ◌∙◌, inl, inr}
 use Rattle.std.specs.Prelude.{Contains}
 use Rattle.std.specs.List.{AllByRecursion}
-use Rattle.std.proofs.lemmas.List.{length-replicate}
 use Rattle.std.proofs.lemmas.List.Elements.{All-from_recursion, All-contains, Contains-append_cases}
 use Rattle.std.proofs.lemmas.Option.{slice_get_within, get_or_from_slice_get}
 use Rattle.wasm_forms.specs.declared.types.RawVal.{RawVal}
@@ -14,13 +13,12 @@ use Rattle.walrus_types.specs.Operators.{locals_of}
 use Rattle.walrus_code.specs.FromRaw.{val_of, ops_of}
 use Rattle.walrus_code.specs.Names.{Lookup, named_val}
 use Rattle.walrus_code.specs.Results.{val_is_exact}
-use Rattle.walrus_bodies.specs.Body.{declared_types, how_many, most_locals}
+use Rattle.walrus_bodies.specs.Body.{declared_types}
 use Rattle.walrus_bodies.specs.Emitting.{IsNotWritable}
-use Rattle.walrus_functions.specs.DeclaredLocals.{IsDeclared, AreDeclared, GoesBefore}
+use Rattle.walrus_functions.specs.DeclaredLocals.{IsDeclared}
 use Rattle.walrus_functions.specs.EmittedBody.{Source, index_in}
 use Rattle.walrus_functions.specs.Laws.{IsWellFormed, UnwritableIsIllFormed}
 use Rattle.walrus_functions.proofs.LawNamed.{via, plain, each_append, NoExact, val_inexact, HasIndex, ops_found, ReadOp, each_read, no_unspelled}
-use Rattle.walrus_functions.proofs.LawOrder.{contains_in, in_contains, sorted_of, no_longer, turn}
 
 -- ---- the types that are declared
 
@@ -35,26 +33,7 @@ types_inexact names (d ∷ ds) types is =
     let first = each_replicate NoExact d.0 b.0 (val_inexact names d.1 b.0 b.1) in
     via (AllByRecursion NoExact) (declared_types names ds) (λ others. replicate d.0 b.0 ++ others) types (λ others e. each_append NoExact (replicate d.0 b.0) others first (types_inexact names ds others e)) b.2
 
-types_count : (names : Lookup) (ds : List (ℕ × RawVal)) (types : List (ValType ℕ)) → declared_types names ds ≡ Some types → length types ≡ how_many ds
-types_count names [] types is = ap length (sym (some_same _ _ is))
-types_count names (d ∷ ds) types is =
-    let b = bind_some (named_val names (val_of d.1)) (λ v. declared_types names ds >>= λ others. Some (replicate d.0 v ++ others)) types is in
-    let rest = bind_some (declared_types names ds) (λ others. Some (replicate d.0 b.0 ++ others)) types b.2 in
-    let long : length types ≡ length (replicate d.0 b.0) + length rest.0 = ap length (sym (some_same _ _ rest.2)) ∙ length-append (replicate d.0 b.0) rest.0 in
-    let times : length (replicate d.0 b.0) ≡ d.0 = length-replicate d.0 b.0 in
-    let later : length rest.0 ≡ how_many ds = types_count names ds rest.0 rest.1 in
-    omega arith
-
 module _ (slots : List (Option (ValType ℕ))) where
-  as_many : (types : List (ValType ℕ)) (further : List ℕ) → map Some types ≡ map (item_at slots) further → length types ≡ length further
-  as_many [] [] same = refl
-  as_many [] (x ∷ further) same = absurd cc
-  as_many (t ∷ types) [] same = absurd cc
-  as_many (t ∷ types) (x ∷ further) same =
-      let tail : map Some types ≡ map (item_at slots) further = cc in
-      let rest = as_many types further tail in
-      omega (arith, rest)
-
   -- a local whose type isn't exact
   abbrev Inexact : ℕ → Type 0
   Inexact x = (v : ValType ℕ) → item_at slots x ≡ Some v → val_is_exact v ≡ false
@@ -90,16 +69,6 @@ module _ (s : Source) (w : IsWellFormed s) where
         | inr further ↦ further
       ]
 
-  few : (order : List ℕ) → AreDeclared s.slots (locals_of s.ops) s.parameters order → length order ≤ most_locals
-  unfolding Declared
-  few order declared =
-      let R = GoesBefore s.slots (locals_of s.ops) s.parameters in
-      let short = no_longer R (turn s.slots (locals_of s.ops) s.parameters) order w.further (sorted_of R order declared.sorted) (λ z has. contains_in w.further z (is_further z ((declared.which z).0 (in_contains order z has)))) in
-      let many = as_many s.slots w.types w.further w.typed in
-      let count = types_count w.names w.reads.declared w.types w.reads.typed in
-      let limit : how_many w.reads.declared ≤ most_locals = w.reads.few in
-      omega (arith, short, many, count, limit)
-
   inexact : (x : ℕ) (v : ValType ℕ) → Declared x → item_at s.slots x ≡ Some v → val_is_exact v ≡ false
   inexact x v d is =
       let all = further_inexact s.slots w.types w.further w.typed (types_inexact w.names w.reads.declared w.types w.reads.typed) in
@@ -120,5 +89,4 @@ unfolding Declared
 ill_formed s (inl (order, (declared, ops))) w = writable_ops s w order ops
 ill_formed s (inr (inl blocks)) w = let hold = w.reads.operators.blocks in cc
 ill_formed s (inr (inr (inl fits))) w = fits w.fits
-ill_formed s (inr (inr (inr (inl (order, (declared, many)))))) w = let small = few s w order declared in omega (arith, small, many)
-ill_formed s (inr (inr (inr (inr (x, (v, (declared, typed, exact))))))) w = let plain_type = inexact s w x v declared typed in cc
+ill_formed s (inr (inr (inr (x, (v, (declared, typed, exact)))))) w = let plain_type = inexact s w x v declared typed in cc

@@ -16,7 +16,7 @@ use Rattle.walrus_code.specs.declared.error.IrError.{IrError}
 use Rattle.walrus_code.specs.declared.error.IrError.TheVariants.{Malformed, Memory, NoIndex, NotWritable, TooLarge}
 use Rattle.walrus_code.specs.declared.function.LocalFunction.{LocalFunction}
 use Rattle.walrus_bodies.specs.Body.{Context, BodyReads}
-use Rattle.walrus_bodies.specs.BodyRead.{body_locals, new_locals, AddsLocals, Grows, ReadsBody}
+use Rattle.walrus_bodies.specs.BodyRead.{body_locals, new_locals, AddsLocals, ReadsBody}
 use Rattle.walrus_functions.specs.Handlers.{params_of}
 use Rattle.walrus_functions.specs.ReadFunction.{Slots, locals_from, ReadsFunction, StaysInFront}
 
@@ -83,9 +83,6 @@ adds_one_more old middle new ids ids_after types id ty adds at is grown =
 
 pub take_next : (xs : List DeclaredValType) (i : ℕ) (d : DeclaredValType) → i < length xs → take i xs ++ get_or xs i d ∷ [] ≡ take (i + 1) xs
 take_next xs i d below = sym (ap (λ (n : ℕ). take n xs) (add-one i) ∙ take-suc xs i d below)
-
-pub grown_stays : (old new : List (Option Local)) → Grows old new → StaysInFront old new
-grown_stays old new grows = (grows.0, grows.1.0)
 
 -- no body
 pub no_body : (c : Context) (tags : ℕ → Option ℕ) (ty : ℕ) (old_types new_types : Slots) (old middle new : List (Option Local)) (args : List (Id LocalKey)) (params : List DeclaredValType) (bytes : List ℕ) (result : Result LocalFunction IrError) (e : IrError) → AddsLocals old middle args params → map val_type params ≡ params_of (item_at old_types.types ty) → IsErrAnd result (λ x. x ≡ e) → ReadsBody c (map place args) middle new bytes (Err e) → ReadsFunction c tags ty old_types new_types old new bytes result

@@ -1,5 +1,5 @@
 -- The body of a function as it is written.
-use Rattle.std.proofs.Common.{◌≡◌, ℕ, ◌<◌, ◌≤◌, ◌^◌, inl, inr, true, false, List, [], ◌∷◌, ◌++◌, length, map, Option, Some, None, Result, Ok, Err, IsErrAnd, IfOk, refl, sym, ap, ◌∙◌, subst, arith}
+use Rattle.std.proofs.Common.{◌≡◌, ℕ, ◌<◌, ◌^◌, inl, inr, true, false, List, [], ◌∷◌, ◌++◌, length, map, Option, Some, None, Result, Ok, Err, IsErrAnd, IfOk, refl, sym, ap, ◌∙◌, subst, arith}
 use Rattle.std.specs.Prelude.{All, Contains, IsSome, nat_eq}
 use Rattle.std.specs.List.{IsDistinct, AllByRecursion}
 use Rattle.std.proofs.lemmas.Bool.Decides.{Decides-eqb}
@@ -20,7 +20,6 @@ use Rattle.walrus_code.specs.declared.error.IrError.{IrError}
 use Rattle.walrus_code.specs.declared.error.IrError.TheVariants.{Malformed, Memory, NoIndex, NotWritable, TooLarge}
 use Rattle.walrus_bodies.specs.declared.features.Features.{Features}
 use Rattle.walrus_bodies.specs.Blocks.{blocks_hold}
-use Rattle.walrus_bodies.specs.Body.{how_many, most_locals}
 use Rattle.walrus_bodies.specs.Features.{are_allowed}
 use Rattle.walrus_bodies.specs.Emitting.{OperatorsWritten, IsNotWritable}
 use Rattle.walrus_bodies.proofs.EmitLemmas.{row_stands}
@@ -28,7 +27,7 @@ use Rattle.walrus_functions.specs.Declaring.{spread}
 use Rattle.walrus_functions.specs.EmittedBody.{FitsType, Source, Declares, index_in, BodyWritten, EmitsBody, declarations_bytes}
 use Rattle.walrus_functions.specs.Writing.{HasSignature, FindsDeclared, LocalsDeclared, DeclaresLocals, WritesBehind}
 use Rattle.walrus_functions.proofs.ApartLemmas.{grouped, locals_differ}
-use Rattle.walrus_functions.proofs.CountLemmas.{how_many_are, as_many, declarations_stand, read_back}
+use Rattle.walrus_functions.proofs.CountLemmas.{how_many, how_many_are, as_many, declarations_stand, read_back}
 use Rattle.walrus_functions.proofs.FitLemmas.{all_same}
 use Rattle.walrus_functions.proofs.NestLemmas.{nested_same, allowed_same}
 use Rattle.walrus_functions.proofs.RunLemmas.{as_few}
@@ -77,28 +76,27 @@ module _ (s : Source) where
       many : length (spread written.groups) ≡ length order
       many = ap length written.runs.all ∙ as_long
 
-      pub few_declarations : length order ≤ most_locals → length ds < 2 ^ 32
+      pub few_declarations : length order < 2 ^ 32 → length ds < 2 ^ 32
       few_declarations few =
           let groups = as_few written.groups written.runs.filled in
           let count = as_many s.names written.groups ds written.indexed in
           omega (arith, groups, count, many, few)
 
-      module _ (fits : FitsType s.def s.slots s.parameters) (blocks : blocks_hold s.is_function_type s.ops ≡ true) (few : length order ≤ most_locals) (locals : ℕ → Option ℕ) (numbered : (x : ℕ) → locals x ≡ index_in s order x) where
+      module _ (fits : FitsType s.def s.slots s.parameters) (blocks : blocks_hold s.is_function_type s.ops ≡ true) (few : length order < 2 ^ 32) (locals : ℕ → Option ℕ) (numbered : (x : ℕ) → locals x ≡ index_in s order x) where
         same_locals : locals ≡ index_in s order
         same_locals = fun_ext numbered
 
         body_written : (bytes places : List ℕ) (numbers : ℕ → Option ℕ) → numbers ≡ locals → OperatorsWritten s.names locals s.features s.ops (declarations_bytes ds) bytes places → BodyWritten s bytes places numbers
         body_written bytes places numbers same w =
             let count = how_many_are s.names written.groups ds written.indexed in
-            let few_counted : how_many ds ≤ most_locals = omega (arith, count, many, few) in
-            let stands = declarations_stand ds (few_declarations few) (omega (arith, few_counted)) written.indexed.stand in
+            let few_counted : how_many ds < 2 ^ 32 = omega (arith, count, many, few) in
+            let stands = declarations_stand ds (few_declarations few) few_counted written.indexed.stand in
             let named : named_ops s.names (index_in s order) s.ops ≡ Some (ops_of w.texts) = subst (λ (l : ℕ → Option ℕ). named_ops s.names l s.ops ≡ Some (ops_of w.texts)) same_locals w.named in
             record {
               fits = fits;
               blocks = blocks;
               order = order;
               declared = declared;
-              few = few;
               numbered = λ x. ap (λ (l : ℕ → Option ℕ). l x) same ∙ numbered x;
               groups = written.groups;
               grouped = grouped s.slots (locals_of s.ops) s.parameters order written.types written.groups declared.sorted written.typed written.runs;
@@ -116,7 +114,6 @@ module _ (s : Source) where
                 parts = w.spelled;
                 declared = ds;
                 declares = stands;
-                few = few_counted;
                 typed = typed;
                 operators = record {
                   texts = w.texts;
@@ -133,7 +130,6 @@ module _ (s : Source) where
                 parts = w.spelled;
                 declared = ds;
                 declares = stands;
-                few = few_counted;
                 typed = read_back s.names c.names written.groups ds leads written.indexed ∙ ap (λ (ts : List (ValType ℕ)). Some ts) (written.runs.all ∙ all_same written.types types (sym written.typed ∙ sym typed));
                 operators = w.back c ls leads (subst (λ (l : ℕ → Option ℕ). LocalsLeadBack l ls) (sym same_locals) locals_lead) features holds;
               };
@@ -150,7 +146,7 @@ module _ (s : Source) where
 
     not_declared : {X Y : Type 0} (bytes places : X → List ℕ) (numbers : X → ℕ → Option ℕ) (view : Y → List (ℕ × RawVal)) (e : IrError) → DeclaresLocals s.names s.slots order view (Err e) → EmitsBody s bytes places numbers (Err e)
     not_declared bytes places numbers view NoIndex h = inr (h.0, (h.1.0, ((declared.which h.0).0 h.1.1.0, h.1.1.1, h.1.1.2)))
-    not_declared bytes places numbers view NotWritable h = inr (inr (inr (inr (h.0, (h.1.0, ((declared.which h.0).0 h.1.1.0, h.1.1.1, h.1.1.2))))))
+    not_declared bytes places numbers view NotWritable h = inr (inr (inr (h.0, (h.1.0, ((declared.which h.0).0 h.1.1.0, h.1.1.1, h.1.1.2)))))
     not_declared bytes places numbers view (Memory m) h = tt
     not_declared bytes places numbers view Malformed h = h
     not_declared bytes places numbers view TooLarge h = absurd h
@@ -159,10 +155,6 @@ module _ (s : Source) where
     pub refused_declared : {X Y : Type 0} (bytes places : X → List ℕ) (numbers : X → ℕ → Option ℕ) (view : Y → List (ℕ × RawVal)) (result : Result X IrError) (e : IrError) → IsErrAnd result (λ x. x ≡ e) → DeclaresLocals s.names s.slots order view (Err e) → EmitsBody s bytes places numbers result
     refused_declared bytes places numbers view (Ok x) e failed h = absurd failed
     refused_declared bytes places numbers view (Err x) e failed h = subst (λ (d : IrError). EmitsBody s bytes places numbers (Err d)) (sym failed) (not_declared bytes places numbers view e h)
-
-    -- there are too many locals
-    pub too_many : {X : Type 0} (bytes places : X → List ℕ) (numbers : X → ℕ → Option ℕ) → 2 ^ 32 < length (s.parameters ++ order) → EmitsBody s bytes places numbers (Err TooLarge)
-    too_many bytes places numbers h = (order, (declared, h))
 
   not_found : {X Y : Type 0} (bytes places : X → List ℕ) (numbers : X → ℕ → Option ℕ) (view : Y → List ℕ) (e : IrError) → FindsDeclared s.slots (locals_of s.ops) s.parameters view (Err e) → EmitsBody s bytes places numbers (Err e)
   not_found bytes places numbers view NoIndex h = absurd h

@@ -21,7 +21,7 @@ use Rattle.walrus_code.specs.declared.error.IrError.{IrError}
 use Rattle.walrus_code.specs.declared.error.IrError.TheVariants.{Malformed, Memory, NoIndex, NotWritable, TooLarge}
 use Rattle.walrus_bodies.specs.declared.features.Features.{Features}
 use Rattle.walrus_bodies.specs.Blocks.{blocks_hold}
-use Rattle.walrus_bodies.specs.Body.{Context, BodyReads, declared_types, most_locals}
+use Rattle.walrus_bodies.specs.Body.{Context, BodyReads, declared_types}
 use Rattle.walrus_bodies.specs.Body as bodies
 use Rattle.walrus_bodies.specs.Emitting.{places_from, AllStand, IsNotWritable}
 use Rattle.walrus_functions.specs.DeclaredLocals.{HasType, IsDeclared, AreDeclared, AreGrouped}
@@ -89,7 +89,6 @@ module _ (s : Source) where
     pub blocks : blocks_hold s.is_function_type s.ops ≡ true
     pub order : List ℕ
     pub declared : Declares order
-    pub few : length order ≤ most_locals
     pub numbered : (x : ℕ) → numbers x ≡ index_in order x
     pub groups : List (ℕ × ValType ℕ)
     pub grouped : AreGrouped s.slots order groups
@@ -114,17 +113,16 @@ module _ (s : Source) where
       ⊎ ((x : ℕ) × ((v : ValType ℕ) × (IsDeclared s.slots (locals_of s.ops) s.parameters x × HasType s.slots (locals_of s.ops) s.parameters x v × (named_val s.names v ≡ None))))
 
   -- no bytes are the body: its operators, by their blocks, features or arguments; a block's type is no function type; the parameters don't
-  -- fit the function's type; it uses too many locals; or one of an exact type
+  -- fit the function's type; or it uses a local of an exact type
   abbrev pub CantBeWritten : Type 0
   CantBeWritten = ((order : List ℕ) × (Declares order × IsNotWritable s.names (index_in order) s.features s.ops))
       ⊎ ((blocks_hold s.is_function_type s.ops ≡ false)
       ⊎ ((FitsType s.def s.slots s.parameters → ⊥)
-      ⊎ (((order : List ℕ) × (Declares order × (most_locals < length order)))
-      ⊎ ((x : ℕ) × ((v : ValType ℕ) × (IsDeclared s.slots (locals_of s.ops) s.parameters x × HasType s.slots (locals_of s.ops) s.parameters x v × (val_is_exact v ≡ true)))))))
+      ⊎ ((x : ℕ) × ((v : ValType ℕ) × (IsDeclared s.slots (locals_of s.ops) s.parameters x × HasType s.slots (locals_of s.ops) s.parameters x v × (val_is_exact v ≡ true))))))
 
-  -- more than 2 ^ 32 locals
+  -- more than 2 ^ 32 locals, or as many declared ones: an index or a count passes 32 bits
   abbrev pub HasTooManyLocals : Type 0
-  HasTooManyLocals = (order : List ℕ) × (Declares order × (2 ^ 32 < length (s.parameters ++ order)))
+  HasTooManyLocals = (order : List ℕ) × (Declares order × ((2 ^ 32 ≤ length order) ⊎ (2 ^ 32 < length (s.parameters ++ order))))
 
   -- written, or refused with its cause
   abbrev pub EmitsBody : {X : Type 0} → (X → List ℕ) → (X → List ℕ) → (X → ℕ → Option ℕ) → Result X IrError → Type 0

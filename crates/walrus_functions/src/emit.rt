@@ -8,7 +8,6 @@ ghost use Rattle.walrus_types.specs.ModuleTypes.{type_slots};
 ghost use Rattle.walrus_code.specs.Function.{function_type, body_of};
 ghost use Rattle.walrus_code.specs.Indices.{index_of, local_index};
 ghost use Rattle.walrus_code.specs.Code.{ops_of};
-ghost use Rattle.walrus_bodies.specs.Body.{most_locals};
 ghost use Rattle.walrus_bodies.specs.Declarations.{declarations_of};
 ghost use Rattle.walrus_bodies.specs.FunctionTypes.{is_function_at};
 ghost use Rattle.walrus_bodies.specs.Results.{locations};
@@ -19,7 +18,7 @@ use crate::declared::{distinct_places, order_declared, types_at};
 use crate::groups::{declarations, number_locals, runs};
 use std::alloc::{AllocError, Global};
 use walrus_base::LocalId;
-use walrus_bodies::{Declaration, Features, MOST_LOCALS, blocks_hold, emit_operators};
+use walrus_bodies::{Declaration, Features, blocks_hold, emit_operators};
 use walrus_code::{IdsToIndices, InstrLocId, IrError, LocalFunction, LocalNumbers, Operator};
 use walrus_types::{ModuleLocals, ModuleTypes};
 use wasm_forms::write_vector;
@@ -43,8 +42,8 @@ pub struct EmittedBody {
 /// [`IrError::NoIndex`] where an item or a local that its operators name, or an item in the type of a declared local, has no index.
 /// [`IrError::NotWritable`] where the body isn't well formed: its operators don't close each block and at last the function, use a proposal
 /// that `features` doesn't allow, or one of them is spelled by no bytes; the type of a block is no function type; the parameters aren't distinct locals,
-/// one for each parameter of the function's type and of its value type; it uses more than 50,000 locals beside them, or one of an exact type.
-/// [`IrError::TooLarge`] where it has more than 2^32 locals, and [`IrError::Memory`].
+/// one for each parameter of the function's type and of its value type; it uses a local of an exact type beside them.
+/// [`IrError::TooLarge`] where it has more than 2^32 locals, or 2^32 beside its parameters, and [`IrError::Memory`].
 pub fn emit_body(
     alloc: Global,
     function: &LocalFunction,
@@ -73,8 +72,8 @@ pub fn emit_body(
         return Err(IrError::NotWritable);
     }
     let declared = find_declared(alloc, function, module_locals)?;
-    if declared.len() > MOST_LOCALS as usize {
-        return Err(IrError::NotWritable);
+    if declared.len() >= 1 << 32 {
+        return Err(IrError::TooLarge);
     }
     let all = joined(alloc, function.args.as_slice(), declared.as_slice())?;
     if all.len() > 1 << 32 {
@@ -147,7 +146,7 @@ fn declare(
     indices: &IdsToIndices,
 ) -> Result<Vec<Declaration>, IrError>
     requires there { All (λ id. IsSome (item_at (types_of (locals module_locals.now)) (place id))) declared.now }
-    requires few { length declared.now ≤ most_locals }
+    requires few { length declared.now < 2 ^ 32 }
     ensures { DeclaresLocals (index_of indices.now) (types_of (locals module_locals.now)) (map place declared.now) (λ ds. declarations_of ds.items) result }
 {
     let Some(held) = types_at(alloc, module_locals, declared)? else {

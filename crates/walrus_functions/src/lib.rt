@@ -12,4 +12,4 @@ mod read;
 
 pub use emit::{EmittedBody, emit_body};
 pub use law::{bodies_read_once, declared_in_one_order, locals_move, unwritable_is_ill_formed};
-pub use read::read_function;
+pub use read::read_body;

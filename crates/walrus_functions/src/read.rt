@@ -14,18 +14,21 @@ ghost use Rattle.walrus_functions.specs.ReadFunction.{ReadsFunction, StaysInFron
 use crate::handlers::add_handler_types;
 use std::alloc::{AllocError, Global};
 use walrus_base::{LocalId, TypeId};
-use walrus_bodies::{Features, read_body};
+use walrus_bodies::{Features, read_body_over};
 use walrus_code::{IndicesToIds, InstrLocId, IrError, LocalFunction};
 use walrus_types::{ModuleLocals, ModuleTypes, ValType};
 
-/// Reads a function of a type from the bytes of its body, which begin at `start` of the input. Its parameters and then its declared locals
+/// Reads the body of a function of a type from its bytes, which begin at `start` of the input. Its parameters and then its declared locals
 /// are added to `module_locals`, `locate` gives each operator its location by the place of its first byte. The types of its legacy
 /// exception handlers are found among the types, or added to them: for a `catch` of a tag with parameters p in a `try` with results r the type p
 /// to r, unless p is empty and r has at most one; for a `catch_all` the type of nothing to r, where r has more than one. `tag_types` are
 /// the types of the tags, by their places.
 ///
+/// There is no limit on declared locals here, and memory is taken for each: six bytes can declare 2^32 - 1 of them. Who reads bytes that weren't
+/// checked first, as `check` of `wasm_wire` does for a whole module, gets what they declare.
+///
 /// Refused as [`IrError::Malformed`] where the bytes are no body. Locals may be added then; what was there stays.
-pub fn read_function<L: Fn(&usize) -> InstrLocId>(
+pub fn read_body<L: Fn(&usize) -> InstrLocId>(
     alloc: Global,
     bytes: &[u8],
     start: usize,
@@ -48,7 +51,7 @@ pub fn read_function<L: Fn(&usize) -> InstrLocId>(
     ensures locals_stay { StaysInFront (locals module_locals.old) (locals module_locals.new) }
 {
     let args = add_locals(alloc, types.get(ty).params(), module_locals)?;
-    let body = read_body(
+    let body = read_body_over(
         alloc,
         bytes,
         start,

@@ -95,7 +95,6 @@ body_read r locals = record {
   parts = refl;
   declared = [];
   declares = no_declarations;
-  few = omega arith;
   typed = refl;
   operators = record { texts = the_end ∷ []; spelled = (0x0B ∷ [], ([], (refl, end_read, refl))); named = refl; nested = refl; allowed = refl; blocks = refl };
 }

@@ -1,11 +1,9 @@
-use Rattle.std.proofs.Common.{◌≡◌, ◌+◌, ◌<◌, ◌∷◌, ◌++◌, [], ℕ, List, suc, length, take, get_or, ap, ◌∙◌, subst, sym, arith, add-one, ◌≤◌, Option}
-use Rattle.std.proofs.lemmas.List.{length-take}
+use Rattle.std.proofs.Common.{◌≡◌, ◌+◌, ◌<◌, ◌∷◌, ◌++◌, [], ℕ, List, length, take, get_or, ap, ◌∙◌, subst, sym, arith, add-one, Option}
 use Rattle.std.proofs.Math.Seq.{take-suc}
 use Rattle.walrus_types.specs.Locals.{locals}
 use Rattle.walrus_types.specs.declared.locals.Local.{Local}
 use Rattle.walrus_types.specs.declared.value.ValType.{ValType}
 use Rattle.walrus_types.specs.declared.value.ValType.TheVariants.{I32}
-use Rattle.walrus_bodies.specs.Body.{most_locals}
 use Rattle.walrus_bodies.specs.BodyRead.{AddsLocals, Grows}
 use Rattle.walrus_bodies.proofs.BodyLemmas.{adds-more, grows-some, grows-one}
 use Rattle.std.proofs.lemmas.Result.{err_from_is_err_and}
@@ -23,29 +21,19 @@ loop-ty-preserved c =
 
 pub returns-in_err-id-clause-stays : goal.returns-in_err-id-clause-stays
 returns-in_err-id-clause-stays c =
-    let types = c.args.types.now in
-    let i = c.loop-ty.ty-index in
-    let short = length-take i types in
-    let few : length (take i types) ≤ most_locals = omega (arith, short, c.requires) in
+    let so_far = take c.loop-ty.ty-index c.args.types.now in
     let same : locals c.add.new.self ≡ locals c.loop-ty.module_locals = c.in_err-id.ensures in
-    subst (λ (now : List (Option Local)). Grows (locals c.args.module_locals.now) now) (sym same) (grows-some (locals c.args.module_locals.now) (locals c.loop-ty.module_locals) c.loop-ty.ids.items (take i types) c.loop-ty.invariant few)
+    subst (λ (now : List (Option Local)). Grows (locals c.args.module_locals.now) now) (sym same) (grows-some (locals c.args.module_locals.now) (locals c.loop-ty.module_locals) c.loop-ty.ids.items so_far c.loop-ty.invariant)
 
 pub returns-in_err-push-clause-stays : goal.returns-in_err-push-clause-stays
 returns-in_err-push-clause-stays c =
-    let types = c.args.types.now in
-    let i = c.loop-ty.ty-index in
-    let below : i < length types = omega arith in
-    let short = length-take i types in
-    let few : suc (length (take i types)) ≤ most_locals = omega (arith, short, c.requires) in
-    grows-one (locals c.args.module_locals.now) (locals c.loop-ty.module_locals) (locals c.add.new.self) c.loop-ty.ids.items (take i types) _ c.loop-ty.invariant c.in_ok-id.ensures.1 few
+    let so_far = take c.loop-ty.ty-index c.args.types.now in
+    grows-one (locals c.args.module_locals.now) (locals c.loop-ty.module_locals) (locals c.add.new.self) c.loop-ty.ids.items so_far _ c.loop-ty.invariant c.in_ok-id.ensures.1
 
 pub returns-clause-stays : goal.returns-clause-stays
 returns-clause-stays c =
-    let types = c.args.types.now in
-    let i = c.loop-ty.ty-index in
-    let short = length-take i types in
-    let few : length (take i types) ≤ most_locals = omega (arith, short, c.requires) in
-    grows-some (locals c.args.module_locals.now) (locals c.loop-ty.module_locals) c.loop-ty.ids.items (take i types) c.loop-ty.invariant few
+    let so_far = take c.loop-ty.ty-index c.args.types.now in
+    grows-some (locals c.args.module_locals.now) (locals c.loop-ty.module_locals) c.loop-ty.ids.items so_far c.loop-ty.invariant
 
 pub returns-in_err-id-clause-added : goal.returns-in_err-id-clause-added
 returns-in_err-id-clause-added c = let p = err_from_is_err_and c.from_residual.result c.from_residual.ensures.1 in rw p.1 tt

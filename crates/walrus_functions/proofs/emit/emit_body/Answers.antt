@@ -1,4 +1,4 @@
-use Rattle.std.proofs.Common.{◌≡◌, ◌≤◌, ◌++◌, ℕ, List, length, map, Result, Ok, Err, IfOk, sym, ap, ap₂, ◌∙◌, subst, arith, rules}
+use Rattle.std.proofs.Common.{◌≡◌, ◌≤◌, ◌<◌, ◌^◌, ◌++◌, inl, inr, ℕ, List, length, map, Result, Ok, Err, IfOk, sym, ap, ap₂, ◌∙◌, subst, arith, rules}
 use Rattle.std.specs.Prelude.{Vec, nat_eq}
 use Rattle.std.specs.Global.{Global}
 use Rattle.walrus_bodies.specs.declared.declarations.Declaration.{Declaration}
@@ -20,7 +20,6 @@ use Rattle.walrus_code.specs.Indices.{index_of, local_index}
 use Rattle.walrus_code.specs.declared.function.LocalFunction.{LocalFunction}
 use Rattle.walrus_code.specs.declared.indices.IdsToIndices.{IdsToIndices}
 use Rattle.walrus_bodies.specs.Blocks.{blocks_hold}
-use Rattle.walrus_bodies.specs.Body.{most_locals}
 use Rattle.walrus_bodies.specs.Declarations.{declaration, declarations_of}
 use Rattle.walrus_bodies.specs.FunctionTypes.{is_function_at}
 use Rattle.walrus_bodies.specs.declared.features.Features.{Features}
@@ -69,7 +68,17 @@ returns-then-len-2-clause-written c =
     let size : c.len-2.result ≡ length c.in_ok-all.all.items = search rules in
     let counted : length (map place c.args.function.now.args.items ++ order) ≡ length c.in_ok-all.all.items = sym (ap length are) ∙ length-map c.in_ok-all.all.items place in
     let many = c.if-len-2.true in
-    (order, (c.in_ok-declared.ensures.1, omega (arith, size, counted, many)))
+    let large : 2 ^ 32 < length (map place c.args.function.now.args.items ++ order) = omega (arith, size, counted, many) in
+    (order, (c.in_ok-declared.ensures.1, inr large))
+
+pub returns-then-len-clause-written : goal.returns-then-len-clause-written
+returns-then-len-clause-written c =
+    let order = map place c.in_ok-declared.declared.items in
+    let size : c.len.result ≡ length c.in_ok-declared.declared.items = search rules in
+    let counted = length-map c.in_ok-declared.declared.items place in
+    let many = c.if-len.true in
+    let large : 2 ^ 32 ≤ length order = omega (arith, size, counted, many) in
+    (order, (c.in_ok-declared.ensures.1, inl large))
 
 pub declare-requires-clause-there : goal.declare-requires-clause-there
 declare-requires-clause-there c =
@@ -94,7 +103,7 @@ write_body-requires c =
     let size : c.len.result ≡ length c.in_ok-declared.declared.items = search rules in
     let counted = length-map c.in_ok-declared.declared.items place in
     let under = c.if-len.false in
-    let few : length order ≤ most_locals = omega (arith, size, counted, under) in
+    let few : length order < 2 ^ 32 = omega (arith, size, counted, under) in
     let small = few_declarations (source c.args.indices.now c.args.module_locals.now c.args.types.now c.args.function.now c.args.features.now) order c.in_ok-declared.ensures.1 (declarations_of ds) written few in
     let same = length-map ds declaration in
     let slice = ap length c.as_slice-6.ensures.value in
@@ -110,7 +119,7 @@ returns-clause-written c =
     let size : c.len.result ≡ length c.in_ok-declared.declared.items = search rules in
     let counted = length-map c.in_ok-declared.declared.items place in
     let under = c.if-len.false in
-    let few : length order ≤ most_locals = omega (arith, size, counted, under) in
+    let few : length order < 2 ^ 32 = omega (arith, size, counted, under) in
     let numbers = local_index c.in_ok-locals.locals in
     emitted s order c.in_ok-declared.ensures.1 ds written
     (fits_type s (c.in_ok-fits.ensures.0 c.if-not-fits.false) c.in_ok-declared.ensures.0)

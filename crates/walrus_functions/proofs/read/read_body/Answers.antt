@@ -19,8 +19,8 @@ use Rattle.walrus_functions.specs.Handlers.{handlers_of, params_of}
 use Rattle.walrus_functions.specs.ReadFunction.{AddsTypes, locals_from}
 use Rattle.walrus_functions.specs.Signatures.{slots_of, tag_places}
 use Rattle.walrus_functions.proofs.HandlerLemmas.{stays_same, stays_trans}
-use Rattle.walrus_functions.proofs.ParameterLemmas.{adds_others, grown_stays, no_body, one_range}
-use Rattle.walrus_functions.proofs.read.read_function.Goals as goal
+use Rattle.walrus_functions.proofs.ParameterLemmas.{adds_others, no_body, one_range}
+use Rattle.walrus_functions.proofs.read.read_body.Goals as goal
 
 pub returns-in_err-body-clause-read : goal.returns-in_err-body-clause-read
 returns-in_err-body-clause-read g c =
@@ -28,8 +28,8 @@ returns-in_err-body-clause-read g c =
     let takes = c.params.ensures ∙ ap params_of (sym c.get.ensures.value) in
     let types = slots_of c.args.types.now in
     let middle = locals c.add_locals.new.module_locals in
-    let none = subst (λ (ids : List (Id LocalKey)). ReadsBody d (map place ids) middle (locals c.read_body.new.module_locals) c.args.bytes.now (Err c.in_err-body.field-0.0)) c.as_slice.ensures.value c.in_err-body.ensures.read in
-    no_body d (tag_places c.args.tag_types.now) (place c.args.ty) types types (locals c.args.module_locals.now) middle (locals c.read_body.new.module_locals) c.in_ok-args.args.items c.params.result.now c.args.bytes.now c.from_residual-in_err-body.result c.in_err-body.field-0.0 c.in_ok-args.ensures.added takes c.from_residual-in_err-body.ensures.1 none
+    let none = subst (λ (ids : List (Id LocalKey)). ReadsBody d (map place ids) middle (locals c.read_body_over.new.module_locals) c.args.bytes.now (Err c.in_err-body.field-0.0)) c.as_slice.ensures.value c.in_err-body.ensures.read in
+    no_body d (tag_places c.args.tag_types.now) (place c.args.ty) types types (locals c.args.module_locals.now) middle (locals c.read_body_over.new.module_locals) c.in_ok-args.args.items c.params.result.now c.args.bytes.now c.from_residual-in_err-body.result c.in_err-body.field-0.0 c.in_ok-args.ensures.added takes c.from_residual-in_err-body.ensures.1 none
 
 pub returns-clause-read : goal.returns-clause-read
 returns-clause-read g c =
@@ -37,7 +37,7 @@ returns-clause-read g c =
     let bytes = c.args.bytes.now in
     let old = locals c.args.module_locals.now in
     let middle = locals c.add_locals.new.module_locals in
-    let new = locals c.read_body.new.module_locals in
+    let new = locals c.read_body_over.new.module_locals in
     let args = c.in_ok-args.args.items in
     let params = c.params.result.now in
     let body = c.in_ok-body.body in
@@ -86,7 +86,7 @@ pub returns-in_err-body-clause-types_stay : goal.returns-in_err-body-clause-type
 returns-in_err-body-clause-types_stay g c = stays_same (type_slots c.args.types.now) (type_slots c.args.types.now) refl
 
 pub returns-in_err-body-clause-locals_stay : goal.returns-in_err-body-clause-locals_stay
-returns-in_err-body-clause-locals_stay g c = stays_trans (locals c.args.module_locals.now) (locals c.add_locals.new.module_locals) (locals c.read_body.new.module_locals) c.add_locals.ensures.stays (grown_stays (locals c.add_locals.new.module_locals) (locals c.read_body.new.module_locals) c.read_body.ensures.stays)
+returns-in_err-body-clause-locals_stay g c = stays_trans (locals c.args.module_locals.now) (locals c.add_locals.new.module_locals) (locals c.read_body_over.new.module_locals) c.add_locals.ensures.stays c.read_body_over.ensures.stays
 
 pub returns-in_err-handler_types-clause-read : goal.returns-in_err-handler_types-clause-read
 returns-in_err-handler_types-clause-read g c = let p = err_from_is_err_and c.from_residual-in_err-handler_types.result c.from_residual-in_err-handler_types.ensures.1 in rw (p.1, p.2) tt
@@ -98,10 +98,10 @@ pub returns-in_err-handler_types-clause-types_stay : goal.returns-in_err-handler
 returns-in_err-handler_types-clause-types_stay g c = c.add_handler_types.ensures.stays
 
 pub returns-in_err-handler_types-clause-locals_stay : goal.returns-in_err-handler_types-clause-locals_stay
-returns-in_err-handler_types-clause-locals_stay g c = stays_trans (locals c.args.module_locals.now) (locals c.add_locals.new.module_locals) (locals c.read_body.new.module_locals) c.add_locals.ensures.stays (grown_stays (locals c.add_locals.new.module_locals) (locals c.read_body.new.module_locals) c.read_body.ensures.stays)
+returns-in_err-handler_types-clause-locals_stay g c = stays_trans (locals c.args.module_locals.now) (locals c.add_locals.new.module_locals) (locals c.read_body_over.new.module_locals) c.add_locals.ensures.stays c.read_body_over.ensures.stays
 
 pub returns-clause-types_stay : goal.returns-clause-types_stay
 returns-clause-types_stay g c = c.add_handler_types.ensures.stays
 
 pub returns-clause-locals_stay : goal.returns-clause-locals_stay
-returns-clause-locals_stay g c = stays_trans (locals c.args.module_locals.now) (locals c.add_locals.new.module_locals) (locals c.read_body.new.module_locals) c.add_locals.ensures.stays (grown_stays (locals c.add_locals.new.module_locals) (locals c.read_body.new.module_locals) c.read_body.ensures.stays)
+returns-clause-locals_stay g c = stays_trans (locals c.args.module_locals.now) (locals c.add_locals.new.module_locals) (locals c.read_body_over.new.module_locals) c.add_locals.ensures.stays c.read_body_over.ensures.stays

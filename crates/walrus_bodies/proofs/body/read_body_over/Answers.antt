@@ -13,7 +13,7 @@ use Rattle.walrus_bodies.specs.Declarations.{declarations_of}
 use Rattle.walrus_bodies.specs.Results.{locations}
 use Rattle.walrus_bodies.proofs.BodyLemmas.{Found, not_declared, no_operators, all_read, begins}
 use Rattle.std.proofs.lemmas.Result.{err_from_is_err_and}
-use Rattle.walrus_bodies.proofs.body.read_body.Goals as goal
+use Rattle.walrus_bodies.proofs.body.read_body_over.Goals as goal
 
 pub returns-in_err-declared-clause-read : goal.returns-in_err-declared-clause-read
 returns-in_err-declared-clause-read g c =
