@@ -17,7 +17,7 @@ use Rattle.walrus_model.specs.Order.{ByIndex}
 use Rattle.walrus_model.specs.Names.{body_of}
 use Rattle.walrus_model.specs.Declared.{ref_func, IsUndeclared, Declares}
 use Rattle.walrus_model.specs.Handlers.{tag_type}
-use Rattle.walrus_model.specs.Reads.{export_of, body_with}
+use Rattle.walrus_model.specs.Sections.{export_of, body_with}
 use Rattle.walrus_model.specs.Examples.{two_functions, one_function, export_f, just_end, plain, SmallOnes, alone, function_type, struct_of, empty_struct, with_handler, structs, pair_shape}
 use Rattle.walrus_types.specs.Shape.{Own, Other, in_its_group, HasShape, OfGroup, NoShapes, AndShape, Filled}
 use Rattle.walrus_model.proofs.Lists.{Contains-head, Contains-uncons, Contains-none}

@@ -10,7 +10,7 @@ use Rattle.walrus_model.specs.Live.{IsLive}
 use Rattle.walrus_model.specs.Refers.{written_in, IsUsed}
 use Rattle.walrus_model.specs.Names.{body_of}
 use Rattle.walrus_model.specs.Rules.{IsFunctionType, Holds}
-use Rattle.walrus_model.specs.Reads.{function_with, body_with, export_of}
+use Rattle.walrus_model.specs.Sections.{function_with, body_with, export_of}
 use Rattle.walrus_model.specs.Examples.{two_functions_sections, two_functions, just_end, export_f}
 use Rattle.walrus_model.proofs.Lists.{Contains-none}
 use Rattle.walrus_model.proofs.Examples.{only_one}

@@ -9,7 +9,7 @@ pub mod Compose
 pub mod Shapes
 pub mod Steps
 pub mod Examples
-pub mod Handled
+pub mod Supported
 pub mod ReadOnce
 pub mod ReadExample
 pub mod HoldExample

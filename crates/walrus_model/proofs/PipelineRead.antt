@@ -4,7 +4,6 @@ use Rattle.std.proofs.lemmas.Option.{slice_get-map}
 use Rattle.std.specs.Prelude.{Option, Some, None, option_map, is_some, ◌<◌, ◌&&◌, ◌||◌, slice_get, ◌==◌, if◌then◌else◌, Contains}
 use Rattle.std.specs.List.{AllZip}
 use Rattle.wasm_frames.specs.Record as wire
-use Rattle.walrus_model.specs.Handled as handled
 use Rattle.walrus_base.specs.Types.{ValType}
 use Rattle.walrus_types.specs.Operators.{Space, Types, Functions, Tables, Memories, Tags, Globals, Elements, DataSegments, Item, Op}
 use Rattle.walrus_types.specs.Composite.{function_comp}
@@ -18,7 +17,9 @@ use Rattle.walrus_model.specs.Order.{FunctionsByIndex, FunctionsByImport, ByInde
 use Rattle.walrus_model.specs.Config.{Config}
 use Rattle.walrus_model.specs.Names.{body_of_function}
 use Rattle.walrus_model.specs.Handlers.{tag_type}
-use Rattle.walrus_model.specs.Reads.{Said, types_of, body_with, function_with, module_of, features_of, ReadsBody, Reads}
+use Rattle.walrus_model.specs.Reads.{features_of, ReadsBody, Reads}
+use Rattle.walrus_model.specs.Sections.{Said, types_of, body_with, function_with, module_of}
+use Rattle.walrus_model.proofs.Supported.{supported, is_supported}
 use Rattle.walrus_model.proofs.Lists.{Contains-none}
 use Rattle.walrus_model.specs.Refers.{KeepsToo}
 use Rattle.walrus_model.specs.Roots.{exported, start, data_segment, element_segment, asked_for}
@@ -53,7 +54,7 @@ allowed_has_none features (o ∷ ops) off allowed =
     let both = both_true (is_allowed features o.op) (are_allowed features ops) allowed in
     (no_try features o.op off both.0, allowed_has_none features ops off both.1)
 
-body_has_none : (c : Config) (r : handled.Module) (f : ℕ × wire.Body) (body : Said) → ReadsBody c r f body → NoTries body.1
+body_has_none : (c : Config) (r : wire.Module) (f : ℕ × wire.Body) (body : Said) → ReadsBody c r f body → NoTries body.1
 body_has_none c r f body read = allowed_has_none (features_of c) body.1 refl read.operators.allowed
 
 -- ---- so it has no handlers
@@ -94,39 +95,39 @@ abbrev AllNoTries : List Said → Type 0
 AllNoTries [] = Unit {0}
 AllNoTries (body ∷ bodies) = NoTries body.1 × AllNoTries bodies
 
-bodies_have_none : (c : Config) (r : handled.Module) (fs : List (ℕ × wire.Body)) (bodies : List Said) → AllZip (ReadsBody c r) fs bodies → AllNoTries bodies
+bodies_have_none : (c : Config) (r : wire.Module) (fs : List (ℕ × wire.Body)) (bodies : List Said) → AllZip (ReadsBody c r) fs bodies → AllNoTries bodies
 bodies_have_none c r [] [] read = tt
 bodies_have_none c r [] (body ∷ bodies) read = absurd read
 bodies_have_none c r (f ∷ fs) [] read = absurd read
 bodies_have_none c r (f ∷ fs) (body ∷ bodies) read = (body_has_none c r f body read.0, bodies_have_none c r fs bodies read.1)
 
-function_has_none : (r : handled.Module) (tys : List ℕ) (bodies : List Said) → AllNoTries bodies → (i : ℕ) (b : Body) → body_of_function (slice_get (map (function_with r) (zip tys bodies)) i) ≡ Some b → NoTries b.operators
+function_has_none : (r : wire.Module) (tys : List ℕ) (bodies : List Said) → AllNoTries bodies → (i : ℕ) (b : Body) → body_of_function (slice_get (map (function_with r) (zip tys bodies)) i) ≡ Some b → NoTries b.operators
 function_has_none r [] bodies none i b at = absurd (cc)
 function_has_none r (ty ∷ tys) [] none i b at = absurd (cc)
 function_has_none r (ty ∷ tys) (body ∷ bodies) none zero b at = let is : body_with (params_of (types_of r ty)) body ≡ b = cc in subst (λ (x : Body). NoTries x.operators) is none.0
 function_has_none r (ty ∷ tys) (body ∷ bodies) none (suc i) b at = function_has_none r tys bodies none.1 i b at
 
 -- functions that are all local come in one order
-local_order : (r : handled.Module) (i j : ℕ) (a b : Option (ℕ × Said)) → BothAnd (FunctionsByIndex i j) (option_map (λ f. f.kind) (option_map (function_with r) a)) (option_map (λ f. f.kind) (option_map (function_with r) b)) → BothAnd (FunctionsByImport i j) (option_map (λ f. f.kind) (option_map (function_with r) a)) (option_map (λ f. f.kind) (option_map (function_with r) b))
+local_order : (r : wire.Module) (i j : ℕ) (a b : Option (ℕ × Said)) → BothAnd (FunctionsByIndex i j) (option_map (λ f. f.kind) (option_map (function_with r) a)) (option_map (λ f. f.kind) (option_map (function_with r) b)) → BothAnd (FunctionsByImport i j) (option_map (λ f. f.kind) (option_map (function_with r) a)) (option_map (λ f. f.kind) (option_map (function_with r) b))
 local_order r i j (Some x) (Some y) h = h
 local_order r i j (Some x) None h = h
 local_order r i j None b h = h
 
-module _ (r : handled.Module) (bodies : List Said) where
-  functions_in_order : (i j : ℕ) → ByIndex (module_of r bodies) Functions i j → ByImport (module_of r bodies) Functions i j
+module _ (r : wire.Module) (bodies : List Said) where
+  functions_in_order : (i j : ℕ) → ByIndex (module_of (supported r) bodies) Functions i j → ByImport (module_of (supported r) bodies) Functions i j
   functions_in_order i j h =
       let one = slice_get-map (function_with r) (zip r.functions bodies) i in
       let other = slice_get-map (function_with r) (zip r.functions bodies) j in
-      subst (λ (x : Option Function). BothAnd (FunctionsByImport i j) (option_map (λ f. f.kind) x) (option_map (λ f. f.kind) ((module_of r bodies).functions j))) (sym one)
+      subst (λ (x : Option Function). BothAnd (FunctionsByImport i j) (option_map (λ f. f.kind) x) (option_map (λ f. f.kind) ((module_of (supported r) bodies).functions j))) (sym one)
       (subst (λ (y : Option Function). BothAnd (FunctionsByImport i j) (option_map (λ f. f.kind) (option_map (function_with r) (slice_get (zip r.functions bodies) i))) (option_map (λ f. f.kind) y)) (sym other)
       (local_order r i j (slice_get (zip r.functions bodies) i) (slice_get (zip r.functions bodies) j)
       (subst (λ (y : Option Function). BothAnd (FunctionsByIndex i j) (option_map (λ f. f.kind) (option_map (function_with r) (slice_get (zip r.functions bodies) i))) (option_map (λ f. f.kind) y)) other
-      (subst (λ (x : Option Function). BothAnd (FunctionsByIndex i j) (option_map (λ f. f.kind) x) (option_map (λ f. f.kind) ((module_of r bodies).functions j))) one h))))
+      (subst (λ (x : Option Function). BothAnd (FunctionsByIndex i j) (option_map (λ f. f.kind) x) (option_map (λ f. f.kind) ((module_of (supported r) bodies).functions j))) one h))))
 
   absent : {P : Type 0} → false ≡ true → P
   absent e = absurd (cc)
 
-  all_in_order : (space : Space) → (space ≡ Types → ⊥) → (i j : ℕ) → IsLive (module_of r bodies) (space, i) → IsLive (module_of r bodies) (space, j) → ByIndex (module_of r bodies) space i j → ByImport (module_of r bodies) space i j
+  all_in_order : (space : Space) → (space ≡ Types → ⊥) → (i j : ℕ) → IsLive (module_of (supported r) bodies) (space, i) → IsLive (module_of (supported r) bodies) (space, j) → ByIndex (module_of (supported r) bodies) space i j → ByImport (module_of (supported r) bodies) space i j
   all_in_order Types other i j hi hj h = absurd (other refl)
   all_in_order Functions other i j hi hj h = functions_in_order i j h
   all_in_order Tables other i j hi hj h = absent hi
@@ -136,15 +137,15 @@ module _ (r : handled.Module) (bodies : List Said) where
   all_in_order Elements other i j hi hj h = absent hi
   all_in_order DataSegments other i j hi hj h = absent hi
 
-  simple_of : AllNoTries bodies → IsSimple (module_of r bodies)
+  simple_of : AllNoTries bodies → IsSimple (module_of (supported r) bodies)
   simple_of none = record {
     in_order = all_in_order;
-    no_handlers = λ f b at. ap (map function_comp) (no_handlers_from (types_of r) (tag_type (module_of r bodies)) (OtherBlock ∷ []) b.operators tt (function_has_none r r.functions bodies none f b at));
+    no_handlers = λ f b at. ap (map function_comp) (no_handlers_from (types_of r) (tag_type (module_of (supported r) bodies)) (OtherBlock ∷ []) b.operators tt (function_has_none r r.functions bodies none f b at));
     plain_customs = λ s at x y. absurd (Contains-none s at);
   }
 
 pub simple_read : (c : Config) (bytes : List ℕ) (m : Abstract) → Reads c bytes m → IsSimple m
-simple_read c bytes m read = subst (λ (x : Abstract). IsSimple x) (sym read.is) (simple_of read.sections read.bodies (bodies_have_none c read.sections (zip read.sections.functions read.sections.bodies) read.bodies read.read))
+simple_read c bytes m read = subst (λ (x : Abstract). IsSimple x) (sym (is_supported c bytes m read)) (simple_of read.sections read.bodies (bodies_have_none c read.sections (zip read.sections.functions read.sections.bodies) read.bodies read.read))
 
 -- ---- what is reached is there
 
@@ -159,7 +160,7 @@ module _ (m : Abstract) (holds : IndicesHold (λ space i j. i < j) m) (keeps : (
   reached_is_live y (step x z h (inr too)) = keeps x y too
 
 -- a module that was read keeps nothing but what is written in its items
-keeps_none : (r : handled.Module) (bodies : List Said) (x y : Item) → KeepsToo (module_of r bodies) x y → ⊥
+keeps_none : (r : wire.Module) (bodies : List Said) (x y : Item) → KeepsToo (module_of (supported r) bodies) x y → ⊥
 keeps_none r bodies (Functions, f) y (t, at, is) = Contains-none t at
 keeps_none r bodies (Tables, t) y (e, held, is) = absurd (cc)
 keeps_none r bodies (Memories, i) y (d, held, is) = absurd (cc)
@@ -171,8 +172,8 @@ keeps_none r bodies (DataSegments, i) y none = none
 
 pub live_read : (c : Config) (bytes : List ℕ) (m : Abstract) → Reads c bytes m → Holds m → ReachedIsLive m
 live_read c bytes m read holds = reached_is_live m holds.indices
-    (λ x y too. absurd (keeps_none read.sections read.bodies x y (subst (λ (z : Abstract). KeepsToo z x y) read.is too)))
-    (λ x at. absurd (Contains-none x (subst (λ (z : Abstract). Contains z.section_roots x) read.is at)))
+    (λ x y too. absurd (keeps_none read.sections read.bodies x y (subst (λ (z : Abstract). KeepsToo z x y) (is_supported c bytes m read) too)))
+    (λ x at. absurd (Contains-none x (subst (λ (z : Abstract). Contains z.section_roots x) (is_supported c bytes m read) at)))
 
 pub accepted_comes_out_lem : (c : Config) (bytes : List ℕ) (m v w n : Abstract) → c.writes_names ≡ false → c.writes_producers ≡ false → Reads c bytes m → Holds m → ParsedAs m v → Collected v w → Written c w n → Out c m n
 accepted_comes_out_lem c bytes m v w n names producers read holds parsed collected written =

@@ -20,9 +20,11 @@ use Rattle.wasm_operators.specs.Forms.{args_form, operator_of, operator_from, op
 use Rattle.wasm_operators.specs.Table.{kinds_of}
 use Rattle.walrus_bodies.specs.Body.{declarations, BodyReads}
 use Rattle.walrus_functions.specs.ReadFunction.{locals_from}
-use Rattle.walrus_model.specs.Handled as handled
-use Rattle.walrus_model.specs.Handled.{widened, widened_export}
-use Rattle.walrus_model.specs.Reads.{Reads, context_of, body_with}
+use Rattle.wasm_frames.specs.Record as frames
+use Rattle.walrus_model.specs.Reads.{Reads, context_of}
+use Rattle.walrus_model.specs.Sections.{body_with}
+use Rattle.walrus_model.specs.Supported.{IsOfFunction}
+use Rattle.walrus_model.proofs.Supported.{are_supported}
 use Rattle.walrus_model.specs.Abstract.{Body}
 use Rattle.walrus_model.specs.Declared.{ref_func, NothingUndeclared}
 use Rattle.walrus_model.specs.Names.{body_of}
@@ -50,9 +52,6 @@ one_byte n less = record { spelled = (less, refl); short = omega arith; small = 
 abbrev one_group : entries.Group
 one_group = no_values
 
-abbrev entry_f : ℕ → entries.Export
-entry_f index = widened_export (export_f index)
-
 types_read : Is (Vector group_form) (0x01 ∷ 0x60 ∷ 0x00 ∷ 0x00 ∷ []) (one_group ∷ [])
 unfolding group_form group_from sub_from comp_from signature value_type number_at leb_at row_at
 types_read = reads_whole (Vector group_form) (0x01 ∷ 0x60 ∷ 0x00 ∷ 0x00 ∷ []) (one_group ∷ []) refl
@@ -68,13 +67,13 @@ one_read = reads_whole (Vector U32) (0x01 ∷ 0x00 ∷ []) (0 ∷ []) refl
 f_is_text : is_utf8 (0x66 ∷ []) ≡ true
 f_is_text = is_utf8-from_IsUtf8 (0x66 ∷ []) (IsUtf8-from_ascii (0x66 ∷ []) (IsAscii-cons 0x66 [] (omega arith) IsAscii-nil))
 
-export_1 : Is (Vector export_form) (0x01 ∷ 0x01 ∷ 0x66 ∷ 0x00 ∷ 0x01 ∷ []) (entry_f 1 ∷ [])
+export_1 : Is (Vector export_form) (0x01 ∷ 0x01 ∷ 0x66 ∷ 0x00 ∷ 0x01 ∷ []) (export_f 1 ∷ [])
 unfolding export_form kind_form kind_from number_at leb_at row_at block_at
-export_1 = reads_whole (Vector export_form) (0x01 ∷ 0x01 ∷ 0x66 ∷ 0x00 ∷ 0x01 ∷ []) (entry_f 1 ∷ []) (rw f_is_text refl)
+export_1 = reads_whole (Vector export_form) (0x01 ∷ 0x01 ∷ 0x66 ∷ 0x00 ∷ 0x01 ∷ []) (export_f 1 ∷ []) (rw f_is_text refl)
 
-export_0 : Is (Vector export_form) (0x01 ∷ 0x01 ∷ 0x66 ∷ 0x00 ∷ 0x00 ∷ []) (entry_f 0 ∷ [])
+export_0 : Is (Vector export_form) (0x01 ∷ 0x01 ∷ 0x66 ∷ 0x00 ∷ 0x00 ∷ []) (export_f 0 ∷ [])
 unfolding export_form kind_form kind_from number_at leb_at row_at block_at
-export_0 = reads_whole (Vector export_form) (0x01 ∷ 0x01 ∷ 0x66 ∷ 0x00 ∷ 0x00 ∷ []) (entry_f 0 ∷ []) (rw f_is_text refl)
+export_0 = reads_whole (Vector export_form) (0x01 ∷ 0x01 ∷ 0x66 ∷ 0x00 ∷ 0x00 ∷ []) (export_f 0 ∷ []) (rw f_is_text refl)
 
 -- the end, as it is spelled
 abbrev the_end : wire.Op
@@ -88,7 +87,7 @@ no_declarations : Is declarations (0x00 ∷ []) []
 unfolding declarations number_at leb_at row_at
 no_declarations = reads_whole declarations (0x00 ∷ []) [] refl
 
-body_read : (r : handled.Module) (locals : ℕ → Option ℕ) → BodyReads (context_of plain r) locals (0x00 ∷ 0x0B ∷ []) [] just_end
+body_read : (r : frames.Module) (locals : ℕ → Option ℕ) → BodyReads (context_of plain r) locals (0x00 ∷ 0x0B ∷ []) [] just_end
 body_read r locals = record {
   front = 0x00 ∷ [];
   back = 0x0B ∷ [];
@@ -128,10 +127,10 @@ one_code = record {
 a_section : (place n : ℕ) (content : List ℕ) (s : Section) → n < 128 → n ≡ length content → IsContent (place + 1 + 1) content s → IsSection place (id_of s ∷ n ∷ content) s
 a_section place n content s small is used = record { size = n ∷ []; content = content; spelled = refl; sized = subst (IsU32 (n ∷ [])) is (one_byte n small); used = used }
 
-two_frames : Frames two_functions_bytes (widened two_functions_sections)
+two_frames : Frames two_functions_bytes two_functions_sections
 two_frames = record {
   rest = drop 8 two_functions_bytes;
-  parts = Types (one_group ∷ []) ∷ Functions (0 ∷ 0 ∷ []) ∷ Exports (entry_f 1 ∷ []) ∷ Code (empty_body 30 ∷ empty_body 33 ∷ []) ∷ [];
+  parts = Types (one_group ∷ []) ∷ Functions (0 ∷ 0 ∷ []) ∷ Exports (export_f 1 ∷ []) ∷ Code (empty_body 30 ∷ empty_body 33 ∷ []) ∷ [];
   headed = refl;
   framed = (
     0x01 ∷ 0x04 ∷ 0x01 ∷ 0x60 ∷ 0x00 ∷ 0x00 ∷ [],
@@ -153,7 +152,7 @@ two_frames = record {
                   drop 26 two_functions_bytes,
                   (
                     refl,
-                    a_section 19 5 (0x01 ∷ 0x01 ∷ 0x66 ∷ 0x00 ∷ 0x01 ∷ []) (Exports (entry_f 1 ∷ [])) (omega arith) refl export_1,
+                    a_section 19 5 (0x01 ∷ 0x01 ∷ 0x66 ∷ 0x00 ∷ 0x01 ∷ []) (Exports (export_f 1 ∷ [])) (omega arith) refl export_1,
                     (drop 26 two_functions_bytes, ([], (refl, a_section 26 7 (0x02 ∷ 0x02 ∷ 0x00 ∷ 0x0B ∷ 0x02 ∷ 0x00 ∷ 0x0B ∷ []) (Code (empty_body 30 ∷ empty_body 33 ∷ [])) (omega arith) refl two_codes, refl))),
                   ),
                 ),
@@ -167,10 +166,10 @@ two_frames = record {
   holds = refl;
 }
 
-one_frames : Frames one_function_bytes (widened one_function_sections)
+one_frames : Frames one_function_bytes one_function_sections
 one_frames = record {
   rest = drop 8 one_function_bytes;
-  parts = Types (one_group ∷ []) ∷ Functions (0 ∷ []) ∷ Exports (entry_f 0 ∷ []) ∷ Code (empty_body 29 ∷ []) ∷ [];
+  parts = Types (one_group ∷ []) ∷ Functions (0 ∷ []) ∷ Exports (export_f 0 ∷ []) ∷ Code (empty_body 29 ∷ []) ∷ [];
   headed = refl;
   framed = (
     0x01 ∷ 0x04 ∷ 0x01 ∷ 0x60 ∷ 0x00 ∷ 0x00 ∷ [],
@@ -192,7 +191,7 @@ one_frames = record {
                   drop 25 one_function_bytes,
                   (
                     refl,
-                    a_section 18 5 (0x01 ∷ 0x01 ∷ 0x66 ∷ 0x00 ∷ 0x00 ∷ []) (Exports (entry_f 0 ∷ [])) (omega arith) refl export_0,
+                    a_section 18 5 (0x01 ∷ 0x01 ∷ 0x66 ∷ 0x00 ∷ 0x00 ∷ []) (Exports (export_f 0 ∷ [])) (omega arith) refl export_0,
                     (drop 25 one_function_bytes, ([], (refl, a_section 25 4 (0x01 ∷ 0x02 ∷ 0x00 ∷ 0x0B ∷ []) (Code (empty_body 29 ∷ [])) (omega arith) refl one_code, refl))),
                   ),
                 ),
@@ -222,6 +221,9 @@ in_order =
     (AllPairs-cons StandsBefore 7 (10 ∷ [])
     (All-cons (StandsBefore 7) 10 [] (stands 7 11 7 10 (omega arith) refl refl) (All-nil (StandsBefore 7)))
     (AllPairs-cons StandsBefore 10 [] (All-nil (StandsBefore 10)) (λ i j d less at. absurd (omega arith)))))
+
+of_function : (index : ℕ) → All IsOfFunction (export_f index ∷ [])
+of_function index = All-cons IsOfFunction (export_f index) [] refl (All-nil IsOfFunction)
 
 -- ---- no function is named by ref.func
 
@@ -256,6 +258,7 @@ pub two_functions_read : Reads plain two_functions_bytes two_functions
 two_functions_read = record {
   sections = two_functions_sections;
   framed = two_frames;
+  supported = are_supported two_functions_sections (of_function 1);
   in_order = in_order;
   as_many_bodies = refl;
   bodies = ([], just_end) ∷ ([], just_end) ∷ [];
@@ -268,6 +271,7 @@ pub one_function_read : Reads plain one_function_bytes one_function
 one_function_read = record {
   sections = one_function_sections;
   framed = one_frames;
+  supported = are_supported one_function_sections (of_function 0);
   in_order = in_order;
   as_many_bodies = refl;
   bodies = ([], just_end) ∷ [];
@@ -291,7 +295,7 @@ abbrev function_part : PlacedSection
 function_part = record { id = 3; name = []; content = vector_bytes number_bytes (0 ∷ []) }
 
 abbrev export_part : PlacedSection
-export_part = record { id = 7; name = []; content = vector_bytes export_bytes (entry_f 0 ∷ []) }
+export_part = record { id = 7; name = []; content = vector_bytes export_bytes (export_f 0 ∷ []) }
 
 abbrev end_text : BodyText
 end_text = record { declarations = []; operators = the_end ∷ [] }
@@ -328,6 +332,6 @@ one_function_placed = record {
   canonical = all_four IsCanonical type_part function_part export_part code_part
       (of_types type_part.content (a_list group_bytes one_group [] type_part.content refl))
       (of_functions function_part.content (a_list number_bytes 0 [] function_part.content refl))
-      (of_exports export_part.content (a_list export_bytes (entry_f 0) [] export_part.content refl))
+      (of_exports export_part.content (a_list export_bytes (export_f 0) [] export_part.content refl))
       (of_bodies code_part.content (end_text ∷ [], (λ e. cc), end_declares_once, refl));
 }

@@ -16,10 +16,8 @@ use Rattle.walrus_code.specs.FromRaw.{ops_of}
 use Rattle.walrus_bodies.specs.Body.{Context, BodyReads, declarations, declared_types}
 use Rattle.walrus_functions.specs.ReadFunction.{locals_from}
 use Rattle.walrus_model.specs.Config.{Config}
-use Rattle.walrus_model.specs.Handled as handled
-use Rattle.walrus_model.specs.Handled.{widened}
-use Rattle.walrus_model.specs.Reads.{Said, arity, context_of, module_of, ReadsBody, ReadsOnce}
-use Rattle.walrus_model.proofs.Handled.{widened_once}
+use Rattle.walrus_model.specs.Reads.{arity, context_of, ReadsBody, ReadsOnce}
+use Rattle.walrus_model.specs.Sections.{Said, module_of}
 
 -- ---- the operators of a body: one behind another, each with a first byte
 
@@ -65,13 +63,13 @@ module _ (c : Context) (locals others : ℕ → Option ℕ) (bytes : List ℕ) (
       let same : Some xs ≡ Some ys = sym p.operators.named ∙ ap₂ (λ (l : ℕ → Option ℕ) (texts : List wire_ops.Op). named_ops c.names l (ops_of texts)) same_locals texts_once ∙ q.operators.named in
       some_same _ _ same
 
-body_once : (c : Config) (r : handled.Module) (f : ℕ × wire.Body) (x y : Said) → ReadsBody c r f x → ReadsBody c r f y → x ≡ y
+body_once : (c : Config) (r : wire.Module) (f : ℕ × wire.Body) (x y : Said) → ReadsBody c r f x → ReadsBody c r f y → x ≡ y
 body_once c r f (ts, xs) (us, ys) p q =
     let locals : List (ValType ℕ) → ℕ → Option ℕ = λ l. locals_from 0 (arity r f.0 + length l) in
     let types = types_once (context_of c r) (locals ts) (locals us) f.1.bytes ts us xs ys p q in
     ap₂ (λ (l : List (ValType ℕ)) (o : List Op). (l, o)) types (operators_once (context_of c r) (locals ts) (locals us) f.1.bytes ts us xs ys p q (ap locals types))
 
-pub bodies_once : (c : Config) (r : handled.Module) (fs : List (ℕ × wire.Body)) (xs ys : List Said) → AllZip (ReadsBody c r) fs xs → AllZip (ReadsBody c r) fs ys → xs ≡ ys
+pub bodies_once : (c : Config) (r : wire.Module) (fs : List (ℕ × wire.Body)) (xs ys : List Said) → AllZip (ReadsBody c r) fs xs → AllZip (ReadsBody c r) fs ys → xs ≡ ys
 bodies_once c r [] [] [] p q = refl
 bodies_once c r [] [] (y ∷ ys) p q = absurd q
 bodies_once c r [] (x ∷ xs) ys p q = absurd p
@@ -81,7 +79,7 @@ bodies_once c r (f ∷ fs) (x ∷ xs) (y ∷ ys) p q = ap₂ ◌∷◌ (body_onc
 
 pub reads_once_lem : HasOneRecord → ReadsOnce
 reads_once_lem one_record c bytes m n x y =
-    let one = widened_once x.sections y.sections (one_record bytes (widened x.sections) (widened y.sections) x.framed y.framed) in
-    let read : AllZip (ReadsBody c x.sections) (zip x.sections.functions x.sections.bodies) y.bodies = subst (λ (s : handled.Module). AllZip (ReadsBody c s) (zip s.functions s.bodies) y.bodies) (sym one) y.read in
+    let one = one_record bytes x.sections y.sections x.framed y.framed in
+    let read : AllZip (ReadsBody c x.sections) (zip x.sections.functions x.sections.bodies) y.bodies = subst (λ (s : wire.Module). AllZip (ReadsBody c s) (zip s.functions s.bodies) y.bodies) (sym one) y.read in
     let bodies = bodies_once c x.sections (zip x.sections.functions x.sections.bodies) x.bodies y.bodies x.read read in
     y.is ∙ ap₂ module_of (sym one) (sym bodies) ∙ sym x.is

@@ -1,5 +1,5 @@
 -- A body over indices, as it is spelled ("Binary Format > Modules > Code Section"): its declarations, each a count and a type, and its operators.
-use Rattle.std.specs.Prelude.{ℕ, List, ◌++◌, flat_map, map, replicate, All, AllPairs, ◌≢◌}
+use Rattle.std.specs.Prelude.{ℕ, List, ◌++◌, flat_map, replicate, All, AllPairs, ◌≢◌}
 use Rattle.wasm_forms.specs.declared.types.RawVal.{RawVal}
 use Rattle.wasm_forms.specs.Spelling.{block_bytes, row_bytes}
 use Rattle.wasm_operators.specs.Operators as wire

@@ -1,12 +1,12 @@
 -- Small modules, worked out.
 use Rattle.std.specs.Prelude.{ℕ, List, [], ◌∷◌, ◌++◌, Some, None, codes, decimal, slice_get, true, false, pos, ◌≡◌}
+use Rattle.wasm_entries.specs.declared.record.RawExportKind.TheVariants as kinds
 use Rattle.wasm_entries.specs.Record as entries
 use Rattle.wasm_frames.specs.Record as wire
 use Rattle.walrus_base.specs.Types.{Func, Struct, ValType, I32, Ref, Concrete, SubType, Unpacked}
 use Rattle.walrus_types.specs.Operators.{Types, Tags, Functions, Index, Block, OneResult, S32, Op}
 use Rattle.walrus_model.specs.Abstract.{Abstract, TypeDef, Body, LocalFunction, Defined, AnItem, ALocal}
 use Rattle.walrus_model.specs.Config.{Config}
-use Rattle.walrus_model.specs.Handled as handled
 use Rattle.walrus_model.specs.Kept.{Kept}
 use Rattle.walrus_types.specs.Shape.{HasShape, Shape, OfGroup, NoShapes, AndShape, InGroup, Filled}
 use Rattle.walrus_model.specs.Same.{SameType}
@@ -16,7 +16,8 @@ use Rattle.walrus_model.specs.Customs.{is_debug_name}
 use Rattle.walrus_model.specs.Handlers.{handlers_of}
 use Rattle.walrus_model.specs.Out.{Out}
 use Rattle.walrus_model.specs.Rules.{Holds}
-use Rattle.walrus_model.specs.Reads.{module_of, Reads}
+use Rattle.walrus_model.specs.Reads.{Reads}
+use Rattle.walrus_model.specs.Sections.{module_of}
 use Rattle.walrus_model.specs.Placed.{Placed}
 
 -- ---- a module with two functions, of which gc drops the first
@@ -44,8 +45,8 @@ abbrev pub no_values : entries.Group
 no_values = record { is_final = true; supers = []; comp = entries.Function (record { params = []; results = [] }) } ∷ []
 
 -- an export "f" of the function with this index
-abbrev pub export_f : ℕ → handled.Export
-export_f index = record { name = codes "f"; kind = handled.Function; index = index }
+abbrev pub export_f : ℕ → entries.Export
+export_f index = record { name = codes "f"; kind = kinds.Function; index = index }
 
 -- an empty body: no declared locals, and the end
 abbrev pub empty_body : ℕ → wire.Body
@@ -56,11 +57,11 @@ just_end = record { op = 0x0B; args = [] } ∷ []
 
 -- what the sections of these bytes hold
 
-abbrev pub two_functions_sections : handled.Module
-two_functions_sections = record { order = 1 ∷ 3 ∷ 7 ∷ 10 ∷ []; types = no_values ∷ []; functions = 0 ∷ 0 ∷ []; exports = export_f 1 ∷ []; bodies = empty_body 30 ∷ empty_body 33 ∷ [] }
+abbrev pub two_functions_sections : wire.Module
+two_functions_sections = record wire.no_sections { order = 1 ∷ 3 ∷ 7 ∷ 10 ∷ []; types = no_values ∷ []; functions = 0 ∷ 0 ∷ []; exports = export_f 1 ∷ []; bodies = empty_body 30 ∷ empty_body 33 ∷ [] }
 
-abbrev pub one_function_sections : handled.Module
-one_function_sections = record { order = 1 ∷ 3 ∷ 7 ∷ 10 ∷ []; types = no_values ∷ []; functions = 0 ∷ []; exports = export_f 0 ∷ []; bodies = empty_body 29 ∷ [] }
+abbrev pub one_function_sections : wire.Module
+one_function_sections = record wire.no_sections { order = 1 ∷ 3 ∷ 7 ∷ 10 ∷ []; types = no_values ∷ []; functions = 0 ∷ []; exports = export_f 0 ∷ []; bodies = empty_body 29 ∷ [] }
 
 -- the modules
 

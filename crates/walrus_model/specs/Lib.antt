@@ -19,7 +19,9 @@ pub mod Out
 pub mod Rules
 pub mod Closed
 pub mod Laws
-pub mod Handled
+pub mod Constants
+pub mod Sections
+pub mod Supported
 pub mod Reads
 pub mod WellMade
 pub mod Placed
