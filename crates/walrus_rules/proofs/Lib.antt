@@ -88,3 +88,6 @@ pub mod PlainModule
 pub mod WritableParsed
 pub mod BroughtWell
 pub mod UsedFound
+pub mod ReadsOnce
+pub mod FewRefusals
+pub mod OneReport

@@ -27,6 +27,7 @@ use Rattle.walrus_rules.proofs.ManyLocals.{too_many_locals}
 use Rattle.walrus_rules.proofs.OneOutput.{kept, from_read, one_way}
 use Rattle.walrus_rules.proofs.OneSpelling.{spelled_once}
 use Rattle.walrus_rules.proofs.Plain.{there, undeclared_there, plain_premises}
+use Rattle.walrus_rules.proofs.ReadsOnce.{reads_once_lem}
 use Rattle.walrus_rules.proofs.Things.{still_there, both_there, some_same}
 
 -- d is brought from m too; n is what m is written as, and fits
@@ -120,7 +121,7 @@ outputs lives read_fits spelled_fits c bytes a m u d n reads holds bu bd wn sa b
     fits_all c bytes m d n reads holds bd sa.text sa.spells premises is (read_fits c a n back) (λ s at. spelled_fits c n sa.text s sa.spells again at)
 
 pub not_both : NotBothHolds
-not_both once read_fits spelled_fits c bytes a ha hb =
-    let same : hb.module_read ≡ ha.module_read = once c bytes ha.module_read hb.module_read ha.reads hb.reads in
+not_both read_fits spelled_fits c bytes a ha hb =
+    let same : hb.module_read ≡ ha.module_read = reads_once_lem c bytes ha.module_read hb.module_read ha.reads hb.reads in
     let brought : BringsTo c ha.module_read hb.module_left = subst (λ z. BringsTo c z hb.module_left) same hb.brought in
     outputs kept_lives read_fits spelled_fits c bytes a ha.module_read ha.module_left hb.module_left ha.module_written ha.reads ha.holds ha.brought brought ha.written ha.spelled ha.output_reads hb.too_large

@@ -12,9 +12,9 @@ use Rattle.walrus_model.specs.Renaming.{renamed_import}
 use Rattle.walrus_model.specs.Rules.{Holds}
 use Rattle.walrus_model.specs.WellMade.{import_of, ImportsMatch}
 use Rattle.walrus_rules.specs.Chain.{ParsedAs, BringsTo}
-use Rattle.walrus_rules.specs.Headline.{Reads}
+use Rattle.walrus_rules.specs.Headline.{Reads, OneOutput}
 use Rattle.walrus_rules.specs.Once.{Premises}
-use Rattle.walrus_rules.specs.OneRun.{KeptLives, OneOutputHolds}
+use Rattle.walrus_rules.specs.OneRun.{KeptLives}
 use Rattle.walrus_rules.specs.Pinned.{IsWrittenAs}
 use Rattle.walrus_rules.specs.Sections.{custom_of}
 use Rattle.walrus_rules.specs.Spelling.{IsSpelledAs}
@@ -26,6 +26,7 @@ use Rattle.walrus_model.proofs.Lists.{Contains-uncons, Contains-none}
 use Rattle.walrus_rules.proofs.OneModule.{same_fields}
 use Rattle.walrus_rules.proofs.OneSpelling.{spelled_once}
 use Rattle.walrus_rules.proofs.Plain.{masked, plain, pair, plain_written, plain_premises}
+use Rattle.walrus_rules.proofs.ReadsOnce.{reads_once_lem}
 use Rattle.walrus_rules.proofs.Straight.{straight, moved, carried}
 use Rattle.walrus_rules.proofs.TextImports.{imports_match}
 use Rattle.walrus_rules.proofs.Things.{still_there, both_there, some_same}
@@ -123,8 +124,8 @@ outputs lives c bytes a b m u d n e reads holds bu bd wn we sa sb =
     let other : IsWrittenAs c (kept c m u bu) e = subst (λ z. IsWrittenAs c z e) (sym (one_way c m u d holds bu bd)) (from_read c bytes m d e reads holds bd we) in
     bytes_once spelled_once c (kept c m u bu) n e a b premises (from_read c bytes m u n reads holds bu wn) other sa sb
 
-pub one_output : OneOutputHolds
-one_output once c bytes a b ha hb =
-    let same : hb.module_read ≡ ha.module_read = once c bytes ha.module_read hb.module_read ha.reads hb.reads in
+pub one_output : OneOutput
+one_output c bytes a b ha hb =
+    let same : hb.module_read ≡ ha.module_read = reads_once_lem c bytes ha.module_read hb.module_read ha.reads hb.reads in
     let brought : BringsTo c ha.module_read hb.module_left = subst (λ z. BringsTo c z hb.module_left) same hb.brought in
     sym (outputs kept_lives c bytes a b ha.module_read ha.module_left hb.module_left ha.module_written hb.module_written ha.reads ha.holds ha.brought brought ha.written hb.written ha.spelled hb.spelled)

@@ -10,6 +10,7 @@ use Rattle.walrus_rules.specs.Headline.{Reads}
 use Rattle.walrus_rules.specs.Pinned.{IsWrittenAs}
 use Rattle.walrus_rules.specs.Settled.{Settles}
 use Rattle.walrus_rules.specs.SettledLaw.{OutSettles, RunsSettle}
+use Rattle.walrus_rules.proofs.ReadsOnce.{reads_once_lem}
 use Rattle.walrus_rules.proofs.StepOut.{OutTold, plain_told}
 use Rattle.walrus_rules.proofs.StepPlain.{IsPlain}
 use Rattle.walrus_rules.proofs.StepRead.{read_is_plain, steps_come_out_lem}
@@ -46,8 +47,8 @@ out_settles c bytes m u n bytes2 u2 n2 reads holds brings written reads2 holds2 
     (read_is_plain c bytes2 n reads2) holds2 (sets_read c bytes2 n reads2) (whole_read c bytes2 n reads2)
 
 pub runs_settle : RunsSettle
-runs_settle once c bytes output again first second =
-    let same : second.module_read ≡ first.module_written = once c output first.module_written second.module_read first.output_reads second.reads in
+runs_settle c bytes output again first second =
+    let same : second.module_read ≡ first.module_written = reads_once_lem c output first.module_written second.module_read first.output_reads second.reads in
     record {
       module_read = second.module_read;
       reads = second.reads;

@@ -13,7 +13,7 @@ use Rattle.walrus_model.specs.Config.{Config}
 use Rattle.walrus_model.specs.Pipeline.{Collected}
 use Rattle.walrus_model.specs.Rules.{Holds}
 use Rattle.walrus_rules.specs.Chain.{ParsedAs, AddsHandlers}
-use Rattle.walrus_rules.specs.Headline.{Reads, OneOutput, NotBoth}
+use Rattle.walrus_rules.specs.Headline.{Reads, NotBoth}
 use Rattle.walrus_rules.specs.Once.{Premises}
 use Rattle.walrus_rules.specs.Refused.{PassesLimit}
 use Rattle.walrus_rules.specs.Spelling.{IsSpelling, written_as}
@@ -35,10 +35,6 @@ HandlersLive = (m : Abstract) → Holds m → (f : ℕ) (b : Body) → body_of m
 abbrev pub HandlersOnce : Type 0
 HandlersOnce = (m : Abstract) (p q : ℕ → List ℕ) (fs : List ℕ) (old a b : List TypeDef) → AddsHandlers m p fs old a → AddsHandlers m q fs old b → a ≡ b
 
--- what comes out is one function of what was read
-abbrev pub OneOutputHolds : Type 0
-OneOutputHolds = ReadsOnce → OneOutput
-
 -- ---- what was read fits 32 bits
 
 -- counts, limits, and the numbers of locals
@@ -58,4 +54,4 @@ SpelledFits = (c : Config) (n : Abstract) (t : Text) (s : Section) → IsSpellin
 
 -- no run may call too large what another may write
 abbrev pub NotBothHolds : Type 0
-NotBothHolds = ReadsOnce → ReadFits → SpelledFits → NotBoth
+NotBothHolds = ReadFits → SpelledFits → NotBoth

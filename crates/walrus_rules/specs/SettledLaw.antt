@@ -1,5 +1,5 @@
 -- The laws of the settled form: a second run, under the same configuration, drops no item and adds no segment and no shape of a type.
-use Rattle.std.specs.Prelude.{ℕ, List, ◌≡◌}
+use Rattle.std.specs.Prelude.{ℕ, List}
 use Rattle.walrus_model.specs.Abstract.{Abstract}
 use Rattle.walrus_model.specs.Config.{Config}
 use Rattle.walrus_model.specs.Rules.{Holds}
@@ -16,10 +16,6 @@ OutSettles =
     → Reads c bytes2 n → Holds n → BringsTo c n u2 → IsWrittenAs c u2 n2
     → Settles c n n2
 
--- no bytes read as two modules
-abbrev pub IsReadOnce : Type 0
-IsReadOnce = (c : Config) (bytes : List ℕ) (m n : Abstract) → Reads c bytes m → Reads c bytes n → n ≡ m
-
 -- what the bytes read as is settled in what those others read as
 pub record IsSettled (c : Config) (bytes output : List ℕ) : Type 0 where
   pub module_read : Abstract
@@ -30,4 +26,4 @@ pub record IsSettled (c : Config) (bytes output : List ℕ) : Type 0 where
 
 -- the program on what the program wrote
 abbrev pub RunsSettle : Type 0
-RunsSettle = IsReadOnce → (c : Config) (bytes output again : List ℕ) → ComesTo c bytes output → ComesTo c output again → IsSettled c output again
+RunsSettle = (c : Config) (bytes output again : List ℕ) → ComesTo c bytes output → ComesTo c output again → IsSettled c output again

@@ -1,5 +1,5 @@
 use Rattle.walrus_rules.proofs.OneSpelling.{spelled_once, spelled_as_once}
-use Rattle.walrus_rules.proofs.spelled_once.Goals as goal
+use Rattle.walrus_rules.proofs.spelling.spelled_once.Goals as goal
 
 pub returns-clause-once : goal.returns-clause-once
 returns-clause-once c = spelled_once

@@ -1,7 +1,7 @@
 use Rattle.walrus_rules.proofs.BytesOnce.{premises_hold, living_keeps, bytes_once}
 use Rattle.walrus_rules.proofs.Needs.{are_needed}
 use Rattle.walrus_rules.proofs.TextShaped.{written_once}
-use Rattle.walrus_rules.proofs.written_once.Goals as goal
+use Rattle.walrus_rules.proofs.written.written_once.Goals as goal
 
 pub returns-clause-once : goal.returns-clause-once
 returns-clause-once c = written_once

@@ -1,6 +1,6 @@
 use Rattle.walrus_rules.proofs.WellStays as stays
 use Rattle.walrus_rules.proofs.NoCause as none
-use Rattle.walrus_rules.proofs.well_made_stays.Goals as goal
+use Rattle.walrus_rules.proofs.well_made.well_made_stays.Goals as goal
 
 pub returns-clause-collected : goal.returns-clause-collected
 returns-clause-collected c = stays.collected_well

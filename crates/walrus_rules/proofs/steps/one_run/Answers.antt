@@ -3,7 +3,7 @@ use Rattle.walrus_rules.proofs.OneOutput.{one_output}
 use Rattle.walrus_rules.proofs.HandlersLive.{handlers_live}
 use Rattle.walrus_rules.proofs.KeptLives.{kept_lives}
 use Rattle.walrus_rules.proofs.NotBoth.{not_both}
-use Rattle.walrus_rules.proofs.one_run.Goals as goal
+use Rattle.walrus_rules.proofs.steps.one_run.Goals as goal
 
 pub returns-clause-handlers : goal.returns-clause-handlers
 returns-clause-handlers c = handlers_once

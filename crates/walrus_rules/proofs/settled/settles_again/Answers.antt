@@ -1,5 +1,5 @@
 use Rattle.walrus_rules.proofs.SettleAll.{out_settles, runs_settle}
-use Rattle.walrus_rules.proofs.settles_again.Goals as goal
+use Rattle.walrus_rules.proofs.settled.settles_again.Goals as goal
 
 pub returns-clause-steps : goal.returns-clause-steps
 returns-clause-steps c = out_settles

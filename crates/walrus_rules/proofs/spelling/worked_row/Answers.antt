@@ -1,6 +1,6 @@
 use Rattle.walrus_rules.proofs.Worked.{one_spelled, are_refused}
 use Rattle.walrus_rules.proofs.WorkedWritten.{is_written_once}
-use Rattle.walrus_rules.proofs.worked_row.Goals as goal
+use Rattle.walrus_rules.proofs.spelling.worked_row.Goals as goal
 
 pub returns-clause-one : goal.returns-clause-one
 returns-clause-one c = one_spelled

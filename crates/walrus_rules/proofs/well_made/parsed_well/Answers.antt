@@ -1,6 +1,6 @@
 use Rattle.walrus_rules.proofs.BroughtWell as brought
 use Rattle.walrus_rules.proofs.WritableParsed as writable
-use Rattle.walrus_rules.proofs.parsed_well.Goals as goal
+use Rattle.walrus_rules.proofs.well_made.parsed_well.Goals as goal
 
 pub returns-clause-well : goal.returns-clause-well
 returns-clause-well c = writable.parsed_is_well
