@@ -140,7 +140,7 @@ declared_once slots used parameters order other a b =
 
 -- ---- declarations
 
-abbrev spread_of : List (ℕ × ValType ℕ) → List (ValType ℕ)
+abbrev pub spread_of : List (ℕ × ValType ℕ) → List (ValType ℕ)
 spread_of groups = flat_map (λ (g : ℕ × ValType ℕ). replicate g.0 g.1) groups
 
 abbrev NotFirst : ValType ℕ → List (ValType ℕ) → Type 0
@@ -158,10 +158,10 @@ run (suc a) (suc b) v ps qs n m same =
     let rest = run a b v ps qs n m tail in
     (ap suc rest.0, rest.1)
 
-abbrev Apart : ℕ × ValType ℕ → ℕ × ValType ℕ → Type 0
+abbrev pub Apart : ℕ × ValType ℕ → ℕ × ValType ℕ → Type 0
 Apart g h = g.1 ≢ h.1
 
-abbrev Filled : ℕ × ValType ℕ → Type 0
+abbrev pub Filled : ℕ × ValType ℕ → Type 0
 Filled g = 0 < g.0
 
 another : (n : ℕ) (v : ValType ℕ) (gs : List (ℕ × ValType ℕ)) → AllByRecursion (Apart (n, v)) gs → AllByRecursion Filled gs → NotFirst v (spread_of gs)
@@ -169,7 +169,7 @@ another n v [] apart filled = tt
 another n v ((zero, w) ∷ gs) apart filled = absurd (omega (arith, filled.0))
 another n v ((suc m, w) ∷ gs) apart filled = apart.0
 
-one_grouping : (gs hs : List (ℕ × ValType ℕ)) → Sorted Apart gs → Sorted Apart hs → AllByRecursion Filled gs → AllByRecursion Filled hs → spread_of gs ≡ spread_of hs → hs ≡ gs
+pub one_grouping : (gs hs : List (ℕ × ValType ℕ)) → Sorted Apart gs → Sorted Apart hs → AllByRecursion Filled gs → AllByRecursion Filled hs → spread_of gs ≡ spread_of hs → hs ≡ gs
 one_grouping [] [] r s f g same = refl
 one_grouping [] ((zero, w) ∷ hs) r s f g same = absurd (omega (arith, g.0))
 one_grouping [] ((suc b, w) ∷ hs) r s f g same = absurd cc

@@ -135,7 +135,7 @@ both_itself S (Some x) b e there law = subst (λ o. BothAnd S (Some x) o) (sym e
 both_itself S None b e there law = let no : false ≡ true = there in absurd (cc)
 
 module _ {X : Type 0} (K : ℕ → Type 0) (S : ℕ → X → X → Type 0) (xs ys : ℕ → Option X) where
-  kept_carries : KeepsOnly K xs ys → ((i : ℕ) → K i → IsSome (xs i)) → ((i : ℕ) (x : X) → xs i ≡ Some x → S i x x) → Carries K (λ j. ⊥) (λ i. i) S xs ys
+  pub kept_carries : KeepsOnly K xs ys → ((i : ℕ) → K i → IsSome (xs i)) → ((i : ℕ) (x : X) → xs i ≡ Some x → S i x x) → Carries K (λ j. ⊥) (λ i. i) S xs ys
   kept_carries o there law = record {
     same = λ i k. both_itself (S i) (xs i) (ys i) (o.kept i k) (there i k) (law i);
     onto = λ j h. let at = some_of (ys j) h in inl (j, (o.left j at.0 at.1).0, refl);

@@ -50,7 +50,7 @@ module _ (c : Context) (locals others : ℕ → Option ℕ) (bytes : List ℕ) (
   declarations_once : (p.declared ≡ q.declared) × (p.back ≡ q.back)
   declarations_once = one_reading declarations p.front p.back q.front q.back p.declared q.declared (sym p.parts ∙ q.parts) p.declares q.declares
 
-  types_once : ts ≡ us
+  pub types_once : ts ≡ us
   types_once =
       let same : Some ts ≡ Some us = sym p.typed ∙ ap (declared_types c.names) declarations_once.0 ∙ q.typed in
       some_same _ _ same
@@ -58,7 +58,7 @@ module _ (c : Context) (locals others : ℕ → Option ℕ) (bytes : List ℕ) (
   texts_once : p.operators.texts ≡ q.operators.texts
   texts_once = row_once p.operators.texts q.operators.texts p.back p.operators.spelled (subst (λ (bs : List ℕ). IsRow (Is operator) bs q.operators.texts) (sym declarations_once.1) q.operators.spelled)
 
-  operators_once : locals ≡ others → xs ≡ ys
+  pub operators_once : locals ≡ others → xs ≡ ys
   operators_once same_locals =
       let same : Some xs ≡ Some ys = sym p.operators.named ∙ ap₂ (λ (l : ℕ → Option ℕ) (texts : List wire_ops.Op). named_ops c.names l (ops_of texts)) same_locals texts_once ∙ q.operators.named in
       some_same _ _ same

@@ -20,7 +20,7 @@ slot_through : (f : ℕ → ℕ) (s : Seen) → slot (others_through f s) ≡ sl
 slot_through f (Own k) = refl
 slot_through f (Other t) = refl
 
-members_through : (f : ℕ → ℕ) (subs : List (SubType Seen)) → map (map_sub slot) (map (map_sub (others_through f)) subs) ≡ map (map_sub slot) subs
+pub members_through : (f : ℕ → ℕ) (subs : List (SubType Seen)) → map (map_sub slot) (map (map_sub (others_through f)) subs) ≡ map (map_sub slot) subs
 members_through f subs =
     map-map (map_sub slot) (map_sub (others_through f)) subs
     ∙ map-same (λ x. map_sub slot (map_sub (others_through f) x)) (map_sub slot) subs (λ x. sub-map slot (others_through f) x ∙ sub-same (λ s. slot (others_through f s)) slot x (slot_through f))
@@ -31,7 +31,7 @@ others_follow f [] = refl
 others_follow f (Own k ∷ ss) = others_follow f ss
 others_follow f (Other t ∷ ss) = ap (λ l. f t ∷ l) (others_follow f ss)
 
-filling_follows : (f : ℕ → ℕ) (subs : List (SubType Seen)) → filter_map other_type (flat_map sub_names (map (map_sub (others_through f)) subs)) ≡ map f (filter_map other_type (flat_map sub_names subs))
+pub filling_follows : (f : ℕ → ℕ) (subs : List (SubType Seen)) → filter_map other_type (flat_map sub_names (map (map_sub (others_through f)) subs)) ≡ map f (filter_map other_type (flat_map sub_names subs))
 filling_follows f subs =
     ap (filter_map other_type) (flat_map-follows_all sub_names sub_names (map_sub (others_through f)) (others_through f) subs (sub-names (others_through f)))
     ∙ others_follow f (flat_map sub_names subs)
@@ -46,12 +46,12 @@ others_next group t ts v None h at = ⊎_elim
     (Contains-uncons t v (filter_map other_type (map (seen_from group) ts)) at)
 
 -- a type that is seen as another one was named
-others_named : (group names : List ℕ) (v : ℕ) → Contains (filter_map other_type (map (seen_from group) names)) v → Contains names v
+pub others_named : (group names : List ℕ) (v : ℕ) → Contains (filter_map other_type (map (seen_from group) names)) v → Contains names v
 others_named group [] v at = at
 others_named group (t ∷ ts) v at = others_next group t ts v (place_in group t) (others_named group ts v) at
 
 -- what stands where something was made of what stands there
-made_of : {X Y : Type 0} (f : X → Y) (o : Option X) (y : Y) → option_map f o ≡ Some y → (x : X) × (o ≡ Some x) × (f x ≡ y)
+pub made_of : {X Y : Type 0} (f : X → Y) (o : Option X) (y : Y) → option_map f o ≡ Some y → (x : X) × (o ≡ Some x) × (f x ≡ y)
 made_of f None y e = absurd (cc)
 made_of f (Some x) y e = (x, refl, cc)
 
@@ -121,7 +121,7 @@ module _ (K : Item → Type 0) (m n : Abstract) (f : ℕ → ℕ) (holds : Holds
           subst (λ ts. HaveShapes n.types ts filling) (sym (filling_follows f subs)) (shapes_kept filling (filter_map other_type (flat_map sub_names subs)) (filling_chosen K m holds x.group subs chosen are) filled),
         )
 
-    shapes_kept : (shapes : Shapes) (ts : List ℕ) → ((u : ℕ) → Contains ts u → K (type_item u)) → HaveShapes m.types ts shapes → HaveShapes n.types (map f ts) shapes
+    pub shapes_kept : (shapes : Shapes) (ts : List ℕ) → ((u : ℕ) → Contains ts u → K (type_item u)) → HaveShapes m.types ts shapes → HaveShapes n.types (map f ts) shapes
     shapes_kept NoShapes ts h e = ap (map f) e
     shapes_kept (AndShape shape rest) ts h (t, us, e, has, have) = (
       f t,

@@ -1,0 +1,81 @@
+-- What the steps bring a module to names nothing that isn't there.
+use Rattle.std.proofs.Common.{◌≡◌, ℕ, List, refl, sym, ◌∙◌, subst, false, true}
+use Rattle.std.specs.Prelude.{Option, Some, None, IsSome}
+use Rattle.walrus_model.specs.Abstract.{Abstract, Function, Uninitialised, Element, Import}
+use Rattle.walrus_model.specs.Config.{Config}
+use Rattle.walrus_model.specs.Declared.{AreUndeclared}
+use Rattle.walrus_model.specs.Kept.{Kept}
+use Rattle.walrus_model.specs.Live.{IsLive}
+use Rattle.walrus_model.specs.Order.{ByImport}
+use Rattle.walrus_model.specs.Pipeline.{Collected, ReachedIsLive}
+use Rattle.walrus_model.specs.Rules.{Holds, IndicesHold}
+use Rattle.walrus_rules.specs.Chain.{BringsTo, Leaves}
+use Rattle.walrus_rules.specs.Headline.{Reads}
+use Rattle.walrus_rules.specs.Refused.{HasDead, DeadName, DeadLocal, DeadExport, DeadStart, DeadImport, NoKind}
+use Rattle.walrus_rules.proofs.ItemRules.{indices_hold}
+use Rattle.walrus_rules.proofs.RulesSteps.{parsed_taken, collected_taken}
+use Rattle.walrus_rules.proofs.SegmentStep.{segment_taken, live_too}
+use Rattle.walrus_rules.proofs.StepLeaves.{Between, between}
+use Rattle.walrus_rules.proofs.StepParsed.{initialised, live_v}
+use Rattle.walrus_rules.proofs.StepRead.{read_is_plain}
+use Rattle.walrus_rules.proofs.TakingOver.{live_after}
+
+no_some : {A X : Type 0} (x : X) → None ≡ Some x → A
+no_some x e = absurd (cc)
+
+not_some : {X : Type 0} (o : Option X) → (IsSome o → ⊥) → o ≡ None
+not_some None h = refl
+not_some (Some x) h = absurd (h refl)
+
+-- all that it names is there
+pub record Lives (v : Abstract) : Type 0 where
+  pub indices : IndicesHold (ByImport v) v
+  pub imports : (i : ℕ) (x : Import) → v.imports i ≡ Some x → IsLive v x.item
+  pub made : (i : ℕ) (f : Function) → v.functions i ≡ Some f → f.kind ≡ Uninitialised → ⊥
+
+none_is : {X : Type 0} (o : Option X) → o ≡ None → IsSome o → ⊥
+none_is None e h = let no : false ≡ true = h in cc
+none_is (Some x) e h = absurd (cc)
+
+pub lives_no_dead : (v : Abstract) → Lives v → HasDead v → ⊥
+lives_no_dead v l (DeadName x y at dead) = dead (l.indices.written x y at)
+lives_no_dead v l (DeadLocal f x b at used none) = none_is (b.local_type x) none (l.indices.locals f b x at used)
+lives_no_dead v l (DeadExport e at dead) = dead (l.indices.exports e at)
+lives_no_dead v l (DeadStart f at none) = none_is (v.functions f) none (l.indices.start f at)
+lives_no_dead v l (DeadImport i x at dead) = dead (l.imports i x at)
+lives_no_dead v l (NoKind i f at un) = l.made i f at un
+
+-- what gc leaves
+pub collected_lives : (v w : Abstract) → Collected v w → ReachedIsLive v → ((i : ℕ) (f : Function) → v.functions i ≡ Some f → f.kind ≡ Uninitialised → ⊥) → IndicesHold (ByImport v) v → Lives w
+collected_lives v w c live made rules =
+    let taken = collected_taken v w c live made in
+    record {
+      indices = indices_hold taken rules;
+      imports = λ i x at.
+          let left = c.imports.left i x at in
+          let same : Some left.0.0 ≡ Some x = sym left.0.1 ∙ left.1 in
+          let is : left.0.0 ≡ x = cc in
+          live_after taken x.item (subst (λ (y : Import). Kept v y.item) is left.0.2);
+      made = λ i f at un. made i f ((c.functions.left i f at).1) un;
+    }
+
+module _ (w : Abstract) (fs : List ℕ) (are : AreUndeclared (IsLive w) w fs) (l : Lives w) where
+  lives_with : (elements : ℕ → Option Element) → Between w (record w { elements = elements }) fs → Lives (record w { elements = elements })
+  lives_with elements b = record {
+    indices = indices_hold (segment_taken w elements fs b are l.indices l.made l.imports) l.indices;
+    imports = λ i x at. live_too w elements fs b are x.item (l.imports i x at);
+    made = l.made;
+  }
+
+pub leaves_lives : (w u : Abstract) → Leaves w u → Lives w → Lives u
+leaves_lives w u leaves l =
+    let b = between w u leaves in
+    subst Lives (sym b.same) (lives_with w leaves.functions leaves.undeclared l u.elements (subst (λ (x : Abstract). Between w x leaves.functions) b.same b))
+
+pub brought_lives : (c : Config) (bytes : List ℕ) (m u : Abstract) → Reads c bytes m → Holds m → BringsTo c m u → Lives u
+brought_lives c bytes m u reads holds brings =
+    let plain = read_is_plain c bytes m reads in
+    let v = brings.module_parsed in
+    let rules : IndicesHold (ByImport v) v = indices_hold (parsed_taken c m v brings.parsed plain holds) holds.indices in
+    leaves_lives brings.module_kept u brings.leaves
+    (collected_lives v brings.module_kept brings.collected (live_v c m v brings.parsed plain holds) (initialised c m v brings.parsed) rules)

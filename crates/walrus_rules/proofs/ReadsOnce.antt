@@ -1,0 +1,61 @@
+-- No bytes read as two modules.
+use Rattle.std.proofs.Common.{◌≡◌, ℕ, ◌+◌, List, [], ◌∷◌, length, map, zip, sym, ap, ap₂, ◌∙◌, subst, refl}
+use Rattle.std.specs.Prelude.{Option, codes, flat_map}
+use Rattle.std.specs.List.{AllZip}
+use Rattle.wasm_frames.specs.Record as wire
+use Rattle.wasm_frames.proofs.Modules.{one_record_lem}
+use Rattle.wasm_payloads.specs.Names.{Named, Names}
+use Rattle.wasm_payloads.specs.Producers.{Field, Fields}
+use Rattle.wasm_payloads.proofs.Agreed.{names_once_lem, fields_once_lem}
+use Rattle.walrus_base.specs.Types.{ValType}
+use Rattle.walrus_types.specs.Operators.{Op}
+use Rattle.walrus_bodies.specs.Body.{Context, context}
+use Rattle.walrus_bodies.specs.FunctionTypes.{is_function_def}
+use Rattle.walrus_functions.specs.Handlers.{params_of}
+use Rattle.walrus_functions.specs.ReadFunction.{locals_from}
+use Rattle.walrus_model.specs.Abstract.{ProducerField}
+use Rattle.walrus_model.specs.Config.{Config}
+use Rattle.walrus_model.specs.Reads.{Said}
+use Rattle.walrus_model.proofs.ReadOnce.{types_once, operators_once}
+use Rattle.walrus_rules.specs.Features.{features_of}
+use Rattle.walrus_rules.specs.Headline.{declared, ReadsBody, is_function, payloads, field_of}
+use Rattle.walrus_rules.specs.OneRun.{ReadsOnce}
+use Rattle.walrus_rules.specs.Sections.{types_of, module_of}
+
+-- what is one for each is one for all
+zip_once : {A B : Type 0} (R : A → B → Type 0) → ((a : A) (x y : B) → R a x → R a y → x ≡ y) → (ks : List A) (xs ys : List B) → AllZip R ks xs → AllZip R ks ys → xs ≡ ys
+zip_once R once [] [] [] p q = refl
+zip_once R once [] [] (y ∷ ys) p q = absurd q
+zip_once R once [] (x ∷ xs) ys p q = absurd p
+zip_once R once (a ∷ ks) [] ys p q = absurd p
+zip_once R once (a ∷ ks) (x ∷ xs) [] p q = absurd q
+zip_once R once (a ∷ ks) (x ∷ xs) (y ∷ ys) p q = ap₂ ◌∷◌ (once a x y p.0 q.0) (zip_once R once ks xs ys p.1 q.1)
+
+body_once : (c : Config) (s : wire.Module) (f : ℕ × wire.Body) (x y : Said) → ReadsBody c s f x → ReadsBody c s f y → x ≡ y
+body_once c s f (ts, xs) (us, ys) p q =
+    let k : Context = context (declared s) (λ t. is_function_def (types_of s t)) (features_of c) in
+    let locals : List (ValType ℕ) → ℕ → Option ℕ = λ l. locals_from 0 (length (params_of (types_of s f.0)) + length l) in
+    let types = types_once k (locals ts) (locals us) f.1.bytes ts us xs ys p q in
+    ap₂ (λ (l : List (ValType ℕ)) (o : List Op). (l, o)) types (operators_once k (locals ts) (locals us) f.1.bytes ts us xs ys p q (ap locals types))
+
+pub reads_once_lem : ReadsOnce
+reads_once_lem c bytes m n x y =
+    let s : wire.Module = x.sections in
+    let one : y.sections ≡ s = sym (one_record_lem bytes s y.sections x.framed y.framed) in
+    let bodies : y.bodies ≡ x.bodies =
+        zip_once (ReadsBody c s) (body_once c s) (zip s.functions s.bodies) y.bodies x.bodies
+        (subst (λ (z : wire.Module). AllZip (ReadsBody c z) (zip z.functions z.bodies) y.bodies) one y.read) x.read in
+    let namings : y.namings ≡ x.namings =
+        zip_once (Names (is_function s)) (names_once_lem (is_function s)) (payloads (codes "name") s) y.namings x.namings
+        (subst (λ (z : wire.Module). AllZip (Names (is_function z)) (payloads (codes "name") z) y.namings) one y.named) x.named in
+    let fields : y.fields ≡ x.fields =
+        zip_once Fields fields_once_lem (payloads (codes "producers") s) y.fields x.fields
+        (subst (λ (z : wire.Module). AllZip Fields (payloads (codes "producers") z) y.fields) one y.produced) x.produced in
+    let produced : List (List Field) → List ProducerField = λ fs. flat_map (map field_of) fs in
+    let named : List (List Named) → List Named = λ ns. flat_map (λ xs. xs) ns in
+    y.is
+    ∙ ap (λ (z : wire.Module). module_of z y.bodies (produced y.fields) (named y.namings)) one
+    ∙ ap (λ (b : List Said). module_of s b (produced y.fields) (named y.namings)) bodies
+    ∙ ap (λ (f : List (List Field)). module_of s x.bodies (produced f) (named y.namings)) fields
+    ∙ ap (λ (l : List (List Named)). module_of s x.bodies (produced x.fields) (named l)) namings
+    ∙ sym x.is

@@ -1,0 +1,118 @@
+-- What is written of a well-made module keeps the rules.
+use Rattle.std.proofs.Common.{◌≡◌, ℕ, ◌<◌, ◌≤◌, length, get_or, sym, ap, ◌∙◌, subst, arith}
+use Rattle.std.specs.Prelude.{Some, None, IsSome, Contains}
+use Rattle.walrus_types.specs.Operators.{Space, Types, Functions, Tables, Memories, Tags, Globals, Elements, DataSegments, Item}
+use Rattle.walrus_functions.specs.Handlers.{params_of}
+use Rattle.walrus_model.specs.Abstract.{Abstract, Body, Function, LocalFunction}
+use Rattle.walrus_model.specs.Config.{Config}
+use Rattle.walrus_model.specs.Declared.{NothingUndeclared}
+use Rattle.walrus_model.specs.Live.{IsLive}
+use Rattle.walrus_model.specs.Names.{body_of_kind, body_of_function}
+use Rattle.walrus_model.specs.Order.{ByImport}
+use Rattle.walrus_model.specs.Out.{IsTheSegment}
+use Rattle.walrus_model.specs.Renaming.{Renaming}
+use Rattle.walrus_model.specs.Rules.{Holds, LocalsHold, RulesHold}
+use Rattle.walrus_model.specs.Refers.{IsUsed}
+use Rattle.walrus_model.specs.Reads.{body_with}
+use Rattle.std.proofs.lemmas.Grind.{get_or_default_zero}
+use Rattle.walrus_rules.specs.Text.{said_by}
+use Rattle.walrus_rules.specs.WellMade.{IsWellFormed, IsWellMade}
+use Rattle.walrus_rules.proofs.UsedFound.{used_further, few_further}
+use Rattle.walrus_rules.specs.WellMadeLaws.{WrittenHolds}
+use Rattle.walrus_rules.specs.Once.{Premises}
+use Rattle.walrus_rules.proofs.Counting.{has_room}
+use Rattle.walrus_rules.proofs.OffsetRules.{rules_carried}
+use Rattle.walrus_rules.proofs.RulesBase.{TakenOver}
+use Rattle.walrus_rules.proofs.Shaped.{Side}
+use Rattle.walrus_rules.proofs.StepLeaves.{declares_none}
+use Rattle.walrus_rules.proofs.TextShaped.{side}
+use Rattle.walrus_rules.proofs.Things.{Stands, stands}
+use Rattle.walrus_rules.proofs.TypeRules.{body_came, body_was}
+use Rattle.walrus_rules.proofs.UsedLocals.{stands_for, no_parameter}
+
+some_same : {X : Type 0} (x y : X) → Some x ≡ Some y → x ≡ y
+some_same x y e = cc
+
+body_same : (a b : Body) → LocalFunction a ≡ LocalFunction b → a ≡ b
+body_same a b e = cc
+
+premises_hold_of : (u : Abstract) → RulesHold (ByImport u) u → Premises u
+premises_hold_of u rules = record {
+  written = rules.indices.written;
+  locals = rules.indices.locals;
+  exports = rules.indices.exports;
+  start = rules.indices.start;
+}
+
+module _ (c : Config) (u n : Abstract) (made : IsWellMade c u) (nothing : NothingUndeclared u) (s : Side c u n) where
+  abbrev r : Renaming
+  r = s.is.written.renaming
+
+  abbrev Added : Item → Type 0
+  Added x = IsTheSegment (s.is.written.segment) x
+
+  no_segment : s.is.written.segment ≡ None
+  no_segment = declares_none (IsLive u) r u n s.is.written.declares.functions s.is.written.segment (λ f at. nothing f ((s.is.written.declares.undeclared.are f).0 at)) s.is.written.declares.declared
+
+  not_added : (space : Space) (j : ℕ) → Added (space, j) → ⊥
+  not_added Elements j h = let no : None ≡ Some j = sym no_segment ∙ h in absurd (cc)
+  not_added Types j h = h
+  not_added Functions j h = h
+  not_added Tables j h = h
+  not_added Memories j h = h
+  not_added Tags j h = h
+  not_added Globals j h = h
+  not_added DataSegments j h = h
+
+  taken : TakenOver (IsLive u) Added (ByImport u) (λ space i j. i < j) r u n
+  taken = record {
+    carried = s.is.written.carried;
+    named = λ x y k at. made.rules.indices.written x y at;
+    exported = made.rules.indices.exports;
+    started = made.rules.indices.start;
+    types_rise = λ i j a b lt. s.is.pinned.types_rise i j a b lt;
+    globals_rise = λ i j a b before. s.is.written.rises.items Globals (λ e. cc) i j a b before;
+    kinds = λ space j h. absurd (not_added space j h);
+    added = λ x y h at. absurd (not_added x.0 x.1 h);
+    added_types = λ j y h at. absurd (not_added Types j h);
+    declared = λ j e h at. absurd (not_added Elements j h);
+  }
+
+  premises : Premises u
+  premises = premises_hold_of u made.rules
+
+  -- each local that the new body declares stands for one that the old one counts
+  module _ (i : ℕ) (x : Function) (a : Body) (at : u.functions i ≡ Some x) (is : x.kind ≡ LocalFunction a) (formed : IsWellFormed c u x.ty a) (typed : (y : ℕ) → IsUsed a y → IsSome (a.local_type y)) where
+    abbrev stood : Stands c u premises n s i x a typed
+    stood = stands c u premises n s i x a typed at is
+
+    few : length stood.said.0 ≤ 50_000
+    few =
+        let ps = params_of (n.types stood.function.ty) in
+        let room : length stood.said.0 ≤ length formed.further = has_room (length formed.further) (λ m k. r.locals i (get_or formed.further k 0) ≡ m) (length ps) (length stood.said.0)
+        (λ m le lt.
+        let z = stands_for a i ps typed r stood.said stood.comes m le lt in
+        let in_list : Contains formed.further z.0 = used_further c u x.ty a formed z.0 z.1 (no_parameter a i ps typed r stood.said stood.comes z.0 m z.1 z.2 le) in
+        (in_list.0, in_list.1, ap (r.locals i) (sym (get_or_default_zero formed.further in_list.0 z.0 in_list.1) ∙ in_list.2) ∙ z.2))
+        (λ m l k p q. sym p ∙ q) in
+        let most : length formed.further ≤ 50_000 = few_further c u x.ty a formed in
+        omega (arith, room, most)
+
+  locals_hold : LocalsHold n
+  locals_hold f b at =
+      let w = body_came taken f b at in
+      let was = body_was taken f b w in
+      let formed = made.bodies w.from w.function w.body w.is w.has in
+      let typed : (y : ℕ) → IsUsed w.body y → IsSome (w.body.local_type y) = λ y used. made.rules.indices.locals w.from w.body y was used in
+      let st = stands c u premises n s w.from w.function w.body typed w.is w.has in
+      let there : n.functions f ≡ Some st.function = subst (λ j. n.functions j ≡ Some st.function) w.number st.at in
+      let body : Some (body_with (params_of (n.types st.function.ty)) st.said) ≡ Some b = sym (ap body_of_function there ∙ ap body_of_kind st.kind) ∙ at in
+      let same : length st.said.0 ≡ b.declared = ap (λ (x : Body). x.declared) (some_same (body_with (params_of (n.types st.function.ty)) st.said) b body) in
+      let low : length st.said.0 ≤ 50_000 = few w.from w.function w.body w.is w.has formed typed in
+      omega (arith, same, low)
+
+  holds : Holds n
+  holds = rules_carried taken locals_hold made.rules
+
+pub written_holds : WrittenHolds
+written_holds c u t made nothing written spelling = holds c u (said_by t) made nothing (side c u t spelling written)

@@ -1,0 +1,12 @@
+use Rattle.walrus_rules.proofs.Worked.{one_spelled, are_refused}
+use Rattle.walrus_rules.proofs.WorkedWritten.{is_written_once}
+use Rattle.walrus_rules.proofs.spelling.worked_row.Goals as goal
+
+pub returns-clause-one : goal.returns-clause-one
+returns-clause-one c = one_spelled
+
+pub returns-clause-refused : goal.returns-clause-refused
+returns-clause-refused c = are_refused
+
+pub returns-clause-written : goal.returns-clause-written
+returns-clause-written c = is_written_once

@@ -1,0 +1,120 @@
+-- Why a module in memory can't be written: each refusal with its causes, and what is said where there is none.
+use Rattle.std.specs.Prelude.{ℕ, Bool, true, false, List, [], length, flat_map, Some, None, IsSome, All, AllPairs, Contains, ◌++◌, ◌≡◌, ◌≢◌, ◌<◌, ◌≤◌, ◌^◌, ◌⊎◌, ⊤, codes, Result, Ok, Err}
+use Rattle.walrus_base.specs.Types.{HeapType, IsNotExact, comp_names}
+use Rattle.walrus_types.specs.Operators.{Space, Types, Functions, Globals, Item, Op, names_of}
+use Rattle.walrus_model.specs.Abstract.{Abstract, TypeDef, Limits, Table, Global, Body, LocalFunction, Uninitialised, Function, Import, Export, Custom}
+use Rattle.walrus_model.specs.Abstract as model
+use Rattle.walrus_model.specs.Config.{Config}
+use Rattle.walrus_model.specs.Customs.{is_debug_name}
+use Rattle.walrus_model.specs.Live.{Has, IsLive}
+use Rattle.walrus_model.specs.Names.{body_of}
+use Rattle.walrus_model.specs.Order.{ByImport}
+use Rattle.walrus_model.specs.Refers.{IsUsed, written_in}
+use Rattle.walrus_model.specs.Rules.{IsEarlier, IsImportedGlobal}
+use Rattle.walrus_model.specs.WellMade.{ImportsMatch, import_of, heaps_in, consts_in, op_heaps}
+use Rattle.walrus_rules.specs.Pinned.{IsWrittenAs}
+use Rattle.walrus_rules.specs.Spelling.{HasUnfit}
+use Rattle.walrus_rules.specs.WellMade.{IsWellFormed}
+
+-- ---- DeadItem: what is named isn't there
+
+pub data HasDead (v : Abstract) : Type 0 where
+  DeadName : (x y : Item) → Contains (written_in v x) y → (IsLive v y → ⊥) → HasDead v
+  DeadLocal : (f x : ℕ) (b : Body) → body_of v f ≡ Some b → IsUsed b x → b.local_type x ≡ None → HasDead v
+  DeadExport : (e : Export) → Contains v.exports e → (IsLive v e.item → ⊥) → HasDead v
+  DeadStart : (f : ℕ) → v.start ≡ Some f → v.functions f ≡ None → HasDead v
+  DeadImport : (i : ℕ) (x : Import) → v.imports i ≡ Some x → (IsLive v x.item → ⊥) → HasDead v
+  NoKind : (i : ℕ) (f : Function) → v.functions i ≡ Some f → f.kind ≡ Uninitialised → HasDead v
+
+-- ---- TwoIndices: an import names a local item, or two imports name one; both are there
+
+-- it is no function without a kind
+abbrev pub HasKind : Abstract → Item → Type 0
+HasKind v (Functions, i) = (f : Function) → v.functions i ≡ Some f → f.kind ≢ Uninitialised
+HasKind v x = ⊤
+
+pub data HasTwoIndices (v : Abstract) : Type 0 where
+  LocalImported : (i : ℕ) (x : Import) → v.imports i ≡ Some x → IsLive v x.item → HasKind v x.item → import_of v x.item ≡ None → HasTwoIndices v
+  ImportedTwice : (i j : ℕ) (x y : Import) → v.imports i ≡ Some x → v.imports j ≡ Some y → IsLive v x.item → i ≢ j → x.item ≡ y.item → HasTwoIndices v
+
+-- ---- NoIndex: an item has none where one is needed
+
+-- something written, an export or the start function names it
+abbrev pub IsNeeded : Abstract → Item → Type 0
+IsNeeded v y = ((x : Item) × Contains (written_in v x) y) ⊎ (((e : Export) × (Contains v.exports e × (e.item ≡ y))) ⊎ ((f : ℕ) × ((v.start ≡ Some f) × (y ≡ (Functions, f)))))
+
+-- an initialiser reads the global
+abbrev pub TableReads : Abstract → (table global : ℕ) → Type 0
+TableReads v i g = (t : Table) × ((ops : List Op) × ((v.tables i ≡ Some t) × (t.initialiser ≡ Some ops) × Contains (names_of ops) (Globals, g)))
+
+abbrev pub GlobalReads : Abstract → (reader global : ℕ) → Type 0
+GlobalReads v i g = (x : Global) × ((ops : List Op) × ((v.globals i ≡ Some x) × (x.initialiser ≡ Some ops) × Contains (names_of ops) (Globals, g)))
+
+pub data LacksIndex (v : Abstract) : Type 0 where
+  NotBrought : (y : Item) → IsNeeded v y → IsSome (import_of v y) → ((i : ℕ) (x : Import) → v.imports i ≡ Some x → x.item ≡ y → ⊥) → LacksIndex v
+  LocalGlobalRead : (i g : ℕ) → TableReads v i g → IsLive v (Globals, g) → (IsImportedGlobal v g → ⊥) → LacksIndex v
+  LaterGlobalRead : (i g : ℕ) → GlobalReads v i g → IsLive v (Globals, g) → (IsImportedGlobal v g ⊎ ByImport v Globals g i → ⊥) → LacksIndex v
+  LaterSupertype : (t u : ℕ) (x : TypeDef) → v.types t ≡ Some x → Contains x.sub.supertypes u → IsLive v (Types, u) → (ByImport v Types u t → ⊥) → LacksIndex v
+  LaterType : (t u : ℕ) (x : TypeDef) → v.types t ≡ Some x → Contains (comp_names x.sub.comp) u → IsLive v (Types, u) → (IsEarlier (ByImport v Types) x.group u → ⊥) → LacksIndex v
+
+-- ---- NotWritable: a form that no bytes spell
+
+pub data HasUnspelled (c : Config) (v : Abstract) : Type 0 where
+  ExactType : (x : Item) (h : HeapType ℕ) → Contains (heaps_in v x) h → (IsNotExact h → ⊥) → HasUnspelled c v
+  ExactConstant : (x : Item) (ops : List Op) (h : HeapType ℕ) → Contains (consts_in v x) ops → Contains (flat_map op_heaps ops) h → (IsNotExact h → ⊥) → HasUnspelled c v
+  EmptyConstant : (x : Item) → Contains (consts_in v x) [] → HasUnspelled c v
+  IllFormed : (HasDead v → ⊥) → (i : ℕ) (f : Function) (b : Body) → v.functions i ≡ Some f → f.kind ≡ LocalFunction b → (IsWellFormed c v f.ty b → ⊥) → HasUnspelled c v
+
+-- ---- TooLarge: a count, a size or a limit past 32 bits
+
+-- There is a module of indices that says the same: imports and items name each other, and no section of its own is called as the name and
+-- the producers section are. Of other modules it isn't said how large they come out.
+pub record IsSayable (v : Abstract) : Type 0 where
+  pub imports : ImportsMatch v
+  pub customs : (s : Custom) → Contains v.customs s → (s.name ≢ codes "name") × (s.name ≢ codes "producers")
+
+-- all that is live, numbered as emission does, has a section that doesn't fit
+pub record WritesUnfit (c : Config) (v : Abstract) : Type 0 where
+  pub module_out : Abstract
+  pub written : IsWrittenAs c v module_out
+  pub unfit : HasUnfit module_out
+
+-- 32-bit limits; in memory they may be larger than 32 bits hold
+abbrev pub PassesLimit : Limits → Type 0
+PassesLimit l = (l.wide ≡ false) × ((2 ^ 32 ≤ l.minimum) ⊎ ((n : ℕ) × ((l.maximum ≡ Some n) × (2 ^ 32 ≤ n))))
+
+pub data PassesLimits (c : Config) (v : Abstract) : Type 0 where
+  ManyItems : (space : Space) (numbers : List ℕ) → AllPairs (λ i j. i < j) numbers → All (Has v space) numbers → 2 ^ 32 ≤ length numbers → PassesLimits c v
+  ManyLocals : (f : ℕ) (b : Body) (further : List ℕ) → body_of v f ≡ Some b → AllPairs (λ (x : ℕ) (y : ℕ). x ≢ y) further → All (IsUsed b) further → All (λ (x : ℕ). Contains b.parameters x → ⊥) further → 2 ^ 32 < length (b.parameters ++ further) → PassesLimits c v
+  TableLimit : (i : ℕ) (t : Table) → v.tables i ≡ Some t → PassesLimit t.ty.limits → PassesLimits c v
+  MemoryLimit : (i : ℕ) (t : model.Memory) → v.memories i ≡ Some t → PassesLimit t.ty.limits → PassesLimits c v
+  Unfit : WritesUnfit c v → PassesLimits c v
+
+-- ---- what is answered
+
+pub data Refusal : Type 0 where
+  Memory DeadItem NoIndex TwoIndices TooLarge NotWritable Caller Another : Refusal
+
+-- there is no cause to refuse
+pub record HasNoCause (c : Config) (v : Abstract) : Type 0 where
+  pub all_there : HasDead v → ⊥
+  pub one_index : HasTwoIndices v → ⊥
+  pub indices : LacksIndex v → ⊥
+  pub spelled : HasUnspelled c v → ⊥
+  pub fits : PassesLimits c v → ⊥
+
+-- a section whose data is asked for may refuse; debug sections aren't asked
+abbrev pub IsAsked : (Custom → Bool) → Abstract → Type 0
+IsAsked may_refuse v = (s : Custom) × (Contains v.customs s × (is_debug_name s.name ≡ false) × (may_refuse s ≡ true))
+
+-- each refusal comes with a cause of its own, and where one stands, it is refused
+abbrev pub RefusesToWrite : {X : Type 0} → (Custom → Bool) → Config → Abstract → Result X Refusal → Type 0
+RefusesToWrite may_refuse c v (Ok x) = HasNoCause c v
+RefusesToWrite may_refuse c v (Err DeadItem) = HasDead v
+RefusesToWrite may_refuse c v (Err TwoIndices) = HasTwoIndices v
+RefusesToWrite may_refuse c v (Err NoIndex) = LacksIndex v
+RefusesToWrite may_refuse c v (Err NotWritable) = HasUnspelled c v
+RefusesToWrite may_refuse c v (Err TooLarge) = (HasTwoIndices v → ⊥) × (LacksIndex v → ⊥) × (IsSayable v → PassesLimits c v)
+RefusesToWrite may_refuse c v (Err Caller) = IsAsked may_refuse v
+RefusesToWrite may_refuse c v (Err Memory) = ⊤
+RefusesToWrite may_refuse c v (Err Another) = ⊥

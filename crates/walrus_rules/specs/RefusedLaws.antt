@@ -1,0 +1,26 @@
+-- The laws on refusals: which of them a well-made module meets, and that what may be written isn't too large.
+use Rattle.std.specs.Prelude.{ℕ, Bool, List, Result, Ok, Err, ⊤}
+use Rattle.walrus_model.specs.Abstract.{Abstract, Custom}
+use Rattle.walrus_model.specs.Config.{Config}
+use Rattle.walrus_rules.specs.Refused.{Refusal, Memory, DeadItem, NoIndex, TwoIndices, TooLarge, NotWritable, Caller, Another, RefusesToWrite}
+use Rattle.walrus_rules.specs.WellMade.{IsWellMade}
+
+-- written, or refused for lack of memory, for its size or by one of its own sections
+abbrev pub IsFewOf : {X : Type 0} → Result X Refusal → Type 0
+IsFewOf (Ok x) = ⊤
+IsFewOf (Err Memory) = ⊤
+IsFewOf (Err TooLarge) = ⊤
+IsFewOf (Err Caller) = ⊤
+IsFewOf (Err DeadItem) = ⊥
+IsFewOf (Err NoIndex) = ⊥
+IsFewOf (Err TwoIndices) = ⊥
+IsFewOf (Err NotWritable) = ⊥
+IsFewOf (Err Another) = ⊥
+
+abbrev pub FewRefusals : Type 0
+FewRefusals = (may_refuse : Custom → Bool) (c : Config) (u : Abstract) (result : Result (List ℕ) Refusal) → IsWellMade c u → RefusesToWrite may_refuse c u result → IsFewOf result
+
+-- a well-made module that may be written isn't too large
+abbrev pub OkOrTooLarge : Type 0
+OkOrTooLarge = (may_refuse : Custom → Bool) (c : Config) (u : Abstract) (bytes : List ℕ) → IsWellMade c u
+    → RefusesToWrite may_refuse c u (Ok bytes) → RefusesToWrite {X = List ℕ} may_refuse c u (Err TooLarge) → ⊥

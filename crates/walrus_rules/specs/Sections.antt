@@ -1,0 +1,184 @@
+-- What the sections of a module say of it, at full breadth ("Binary Format > Modules"): its items as look-ups by index.
+use Rattle.std.specs.Prelude.{ℕ, Bool, false, not, ◌||◌, ◌==◌, ◌+◌, List, [], ◌∷◌, ◌++◌, map, length, filter, zip, Option, Some, None, option_map, option_to_list, slice_get, unwrap_or, codes, bytes_eq}
+use Rattle.wasm_entries.specs.declared.record.RawLimits.{RawLimits}
+use Rattle.wasm_entries.specs.declared.record.RawTableType.{RawTableType}
+use Rattle.wasm_entries.specs.declared.record.RawGlobalType.{RawGlobalType}
+use Rattle.wasm_entries.specs.declared.record.RawDesc.{RawDesc}
+use Rattle.wasm_entries.specs.declared.record.RawDesc.TheVariants as descs
+use Rattle.wasm_entries.specs.declared.record.RawExportKind.{RawExportKind}
+use Rattle.wasm_entries.specs.declared.record.RawExportKind.TheVariants as kinds
+use Rattle.wasm_forms.specs.declared.types.RawRef.{RawRef}
+use Rattle.wasm_entries.specs.Record as entries
+use Rattle.wasm_frames.specs.Record as wire
+use Rattle.wasm_payloads.specs.Names.{Named}
+use Rattle.walrus_base.specs.Types.{RefType}
+use Rattle.walrus_types.specs.Operators.{Space, Functions, Tables, Memories, Tags, Globals, Item}
+use Rattle.walrus_code.specs.FromRaw.{val_of, heap_of}
+use Rattle.walrus_groups.specs.Groups.{types_from}
+use Rattle.walrus_functions.specs.Handlers.{params_of}
+use Rattle.walrus_model.specs.Abstract.{Abstract, Name, ImportedBy, Defined, TypeDef, Limits, TableType, MemoryType, GlobalType, ImportedFunction, LocalFunction, Function, Table, Memory, Tag, Global, ElementKind, PassiveElements, DeclaredElements, ActiveElements, ElementItems, ListedFunctions, Expressions, Element, DataKind, PassiveData, ActiveData, DataSegment, Import, Export, Custom, ProducerField}
+use Rattle.walrus_model.specs.Customs.{is_debug_name}
+use Rattle.walrus_model.specs.Reads.{Said, body_with}
+use Rattle.walrus_rules.specs.Constants.{consts_of}
+use Rattle.walrus_rules.specs.Namings.{names_in_range}
+
+-- ---- types of items
+
+abbrev pub ref_of : RawRef → RefType ℕ
+ref_of r = record { nullable = r.nullable; heap = heap_of r.heap }
+
+abbrev pub limits_of : RawLimits → Limits
+limits_of l = record { wide = l.wide; minimum = l.minimum; maximum = l.maximum }
+
+abbrev pub table_type_of : RawTableType → TableType
+table_type_of t = record { limits = limits_of t.limits; element = ref_of t.element }
+
+abbrev pub memory_type_of : RawLimits → MemoryType
+memory_type_of l = record { limits = limits_of l; shared = l.shared; page_exponent = l.page }
+
+abbrev pub global_type_of : RawGlobalType → GlobalType
+global_type_of g = record { value = val_of g.value; mutable = g.mutable; shared = g.shared }
+
+abbrev pub types_of : wire.Module → ℕ → Option TypeDef
+types_of s i = slice_get (types_from 0 s.types) i
+
+-- ---- imports: they come first in each index space
+
+abbrev pub imported_function : ℕ → RawDesc → Option Function
+imported_function i (descs.Function ty) = Some (record { ty = ty; kind = ImportedFunction i })
+imported_function i d = None
+
+abbrev pub imported_table : ℕ → RawDesc → Option Table
+imported_table i (descs.Table ty) = Some (record { origin = ImportedBy i; ty = table_type_of ty; initialiser = None })
+imported_table i d = None
+
+abbrev pub imported_memory : ℕ → RawDesc → Option Memory
+imported_memory i (descs.Memory l) = Some (record { origin = ImportedBy i; ty = memory_type_of l })
+imported_memory i d = None
+
+abbrev pub imported_global : ℕ → RawDesc → Option Global
+imported_global i (descs.Global ty) = Some (record { origin = ImportedBy i; ty = global_type_of ty; initialiser = None })
+imported_global i d = None
+
+abbrev pub imported_tag : ℕ → RawDesc → Option Tag
+imported_tag i (descs.Tag ty) = Some (record { origin = ImportedBy i; ty = ty })
+imported_tag i d = None
+
+-- what imports bring to one index space, the first of them being import i
+abbrev pub imported : {X : Type 0} → (ℕ → RawDesc → Option X) → ℕ → List entries.Import → List X
+imported get i [] = []
+imported get i (x ∷ xs) = option_to_list (get i x.desc) ++ imported get (i + 1) xs
+
+-- the item of an import, where these imports stand before it
+abbrev pub item_after : List entries.Import → RawDesc → Item
+item_after before (descs.Function ty) = (Functions, length (imported imported_function 0 before))
+item_after before (descs.Table ty) = (Tables, length (imported imported_table 0 before))
+item_after before (descs.Memory l) = (Memories, length (imported imported_memory 0 before))
+item_after before (descs.Global ty) = (Globals, length (imported imported_global 0 before))
+item_after before (descs.Tag ty) = (Tags, length (imported imported_tag 0 before))
+
+abbrev pub imports_after : List entries.Import → List entries.Import → List Import
+imports_after before [] = []
+imports_after before (x ∷ xs) = record { module_name = x.from; name = x.name; item = item_after before x.desc } ∷ imports_after (before ++ x ∷ []) xs
+
+-- ---- the other sections
+
+abbrev pub function_of : wire.Module → ℕ × Said → Function
+function_of s f = record { ty = f.0; kind = LocalFunction (body_with (params_of (types_of s f.0)) f.1) }
+
+abbrev pub table_of : entries.Table → Table
+table_of t = record { origin = Defined; ty = table_type_of t.ty; initialiser = option_map consts_of t.initial }
+
+abbrev pub memory_of : RawLimits → Memory
+memory_of l = record { origin = Defined; ty = memory_type_of l }
+
+abbrev pub tag_of : ℕ → Tag
+tag_of ty = record { origin = Defined; ty = ty }
+
+abbrev pub global_of : entries.Global → Global
+global_of g = record { origin = Defined; ty = global_type_of g.ty; initialiser = Some (consts_of g.initial) }
+
+-- an active segment without a table has table 0
+abbrev pub element_kind : entries.ElementMode → ElementKind
+element_kind (entries.ActiveElements table offset) = ActiveElements (unwrap_or table 0) (consts_of offset)
+element_kind entries.PassiveElements = PassiveElements
+element_kind entries.DeclaredElements = DeclaredElements
+
+abbrev pub element_items : entries.Items → ElementItems
+element_items (entries.Functions fs) = ListedFunctions fs
+element_items (entries.Expressions ty es) = Expressions (ref_of ty) (map consts_of es)
+
+abbrev pub element_of : entries.Element → Element
+element_of e = record { kind = element_kind e.mode; items = element_items e.items }
+
+abbrev pub data_kind : entries.DataMode → DataKind
+data_kind (entries.ActiveData memory offset) = ActiveData memory (consts_of offset)
+data_kind entries.PassiveData = PassiveData
+
+abbrev pub data_of : entries.Segment → DataSegment
+data_of d = record { kind = data_kind d.mode; value = d.bytes }
+
+abbrev pub space_of : RawExportKind → Space
+space_of kinds.Function = Functions
+space_of kinds.Table = Tables
+space_of kinds.Memory = Memories
+space_of kinds.Global = Globals
+space_of kinds.Tag = Tags
+
+abbrev pub export_of : entries.Export → Export
+export_of e = record { name = e.name; item = (space_of e.kind, e.index) }
+
+-- the active segments that name a table or a memory
+
+abbrev pub is_on_table : ℕ → ElementKind → Bool
+is_on_table t (ActiveElements table offset) = table == t
+is_on_table t PassiveElements = false
+is_on_table t DeclaredElements = false
+
+abbrev pub is_on_memory : ℕ → DataKind → Bool
+is_on_memory y (ActiveData memory offset) = memory == y
+is_on_memory y PassiveData = false
+
+abbrev pub passes : {X : Type 0} → (X → Bool) → Option X → Bool
+passes test None = false
+passes test (Some x) = test x
+
+-- ---- custom sections: names, producers and debug information aside, their data is the same under all indices
+
+abbrev pub is_apart : Name → Bool
+is_apart name = bytes_eq name (codes "name") || (bytes_eq name (codes "producers") || is_debug_name name)
+
+abbrev pub custom_of : wire.Custom → Custom
+custom_of c = record { name = c.name; data_under = λ indices. c.bytes }
+
+abbrev pub customs_of : List wire.Custom → List Custom
+customs_of cs = map custom_of (filter (λ (c : wire.Custom). not (is_apart c.name)) cs)
+
+-- ---- the module
+
+-- the items of these sections, whose bodies say this, with these producers, and nothing named
+abbrev pub items_of : wire.Module → List Said → List ProducerField → Abstract
+items_of s bodies fields = record {
+  types = types_of s;
+  imports = slice_get (imports_after [] s.imports);
+  functions = slice_get (imported imported_function 0 s.imports ++ map (function_of s) (zip s.functions bodies));
+  tables = slice_get (imported imported_table 0 s.imports ++ map table_of s.tables);
+  memories = slice_get (imported imported_memory 0 s.imports ++ map memory_of s.memories);
+  tags = slice_get (imported imported_tag 0 s.imports ++ map tag_of s.tags);
+  globals = slice_get (imported imported_global 0 s.imports ++ map global_of s.globals);
+  elements = slice_get (map element_of s.elements);
+  data_segments = slice_get (map data_of s.data_segments);
+  exports = map export_of s.exports;
+  start = s.start;
+  customs = customs_of s.customs;
+  producers = fields;
+  named = λ x. [];
+  table_segments = λ t e. passes (λ y. is_on_table t y.kind) (slice_get (map element_of s.elements) e);
+  memory_segments = λ y d. passes (λ x. is_on_memory y x.kind) (slice_get (map data_of s.data_segments) d);
+  handler_types = λ f. [];
+  section_roots = [];
+}
+
+-- the same with these namings, those out of range left out
+abbrev pub module_of : wire.Module → List Said → List ProducerField → List Named → Abstract
+module_of s bodies fields namings = record (items_of s bodies fields) { named = names_in_range (items_of s bodies fields) namings }

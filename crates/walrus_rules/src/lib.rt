@@ -1,0 +1,19 @@
+//! What the main theorem is said with at full breadth, and the laws that show that these words leave nothing open.
+//!
+//! The definitions stand in `specs/`: what bytes read as over all sections, the steps from there to what is written, its
+//! one spelling, when it is too large, the causes of each refusal, the settled form, the report. Where a definition says
+//! "there is", a law here says that there is one only. Each public function has an empty body: it carries laws of the
+//! definitions as its contract.
+#![tactic(auto)]
+
+mod settled;
+mod spelling;
+mod steps;
+mod well_made;
+mod written;
+
+pub use settled::{one_report, settles_again};
+pub use spelling::{reads_once, spelled_once, worked_row};
+pub use steps::{brought_lives, one_run, steps_come_out};
+pub use well_made::{few_refusals, parsed_well, well_made_stays};
+pub use written::{written_holds, written_once};

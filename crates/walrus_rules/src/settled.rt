@@ -1,0 +1,18 @@
+//! What a second run leaves of what the first one wrote, and the report on a module.
+
+ghost use Rattle.std.specs.Prelude.{ℕ, List, ◌≡◌};
+ghost use Rattle.walrus_model.specs.Abstract.{Abstract};
+ghost use Rattle.walrus_rules.specs.Report.{IsReport};
+ghost use Rattle.walrus_rules.specs.SettledLaw.{OutSettles, RunsSettle};
+
+/// What a run wrote, the next one under the same configuration writes again: all of it under one renaming, with no
+/// segment and no shape of a type added. So of the steps, taken twice, and so of two runs.
+pub fn settles_again()
+    ensures steps { OutSettles }
+    ensures runs { RunsSettle }
+{}
+
+/// The report on a module, how many items of each index space gc keeps and how many it drops, is one text.
+pub fn one_report()
+    ensures { (v : Abstract) (text other : List ℕ) → IsReport v text → IsReport v other → other ≡ text }
+{}

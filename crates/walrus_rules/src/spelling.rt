@@ -1,0 +1,28 @@
+//! The one spelling of a module ("Binary Format > Modules").
+
+ghost use Rattle.std.specs.Prelude.{ℕ, List, ◌≡◌};
+ghost use Rattle.walrus_model.specs.Abstract.{Abstract};
+ghost use Rattle.walrus_rules.specs.Examples.{AreRefused, one_function, one_function_bytes};
+ghost use Rattle.walrus_rules.specs.Needs.{IsWrittenOnce};
+ghost use Rattle.walrus_rules.specs.OneRun.{ReadsOnce};
+ghost use Rattle.walrus_rules.specs.Spelling.{IsSpelledAs, SpelledOnce};
+
+/// A module of one function is spelled and written so. Other bytes that read as the same module, or as one that differs
+/// in what nothing needs, are no spelling: a number in more bytes than it takes, a local that nothing uses, an empty group
+/// of types, a section of debug information, and others.
+pub fn worked_row()
+    ensures one { IsSpelledAs one_function one_function_bytes }
+    ensures refused { AreRefused }
+    ensures written { IsWrittenOnce }
+{}
+
+/// A module has one text, section by section, and so one spelling: bytes that are spelled as it are these bytes.
+pub fn spelled_once()
+    ensures once { SpelledOnce }
+    ensures bytes { (n : Abstract) (bytes others : List ℕ) → IsSpelledAs n bytes → IsSpelledAs n others → others ≡ bytes }
+{}
+
+/// No bytes read as two modules: sections, bodies, namings and producers are read in one way.
+pub fn reads_once()
+    ensures { ReadsOnce }
+{}
