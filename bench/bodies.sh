@@ -8,8 +8,7 @@
 set -eu
 here=$(cd "$(dirname "$0")" && pwd)
 program=$here/../crates/wasm_bodies/out/wasm_bodies
-[ -x "$program" ] || { (cd "$here/../crates/wasm_bodies" && rt run < stdin > /dev/null) || true; }
-[ -x "$program" ] || { echo "bench/bodies.sh: the program isn't built" >&2; exit 1; }
+"$here/../tests/build.sh" wasm_bodies
 files=$(mktemp -d)
 trap 'rm -rf "$files"' EXIT
 [ $# -gt 0 ] || set -- 10 25 50

@@ -4,8 +4,7 @@
 set -eu
 here=$(cd "$(dirname "$0")" && pwd)
 program=$here/../crates/walrus_gc/out/walrus_gc
-[ -x "$program" ] || { (cd "$here/../crates/walrus_gc" && rt run >/dev/null </dev/null) || true; }
-[ -x "$program" ] || { echo "bench/run.sh: the program isn't built" >&2; exit 1; }
+"$here/../tests/build.sh" walrus_gc
 files=$(mktemp -d)
 trap 'rm -rf "$files"' EXIT
 [ $# -gt 0 ] || set -- 1 10 100

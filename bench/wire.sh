@@ -6,8 +6,7 @@
 set -eu
 here=$(cd "$(dirname "$0")" && pwd)
 program=$here/../crates/wasm_copy/out/wasm_copy
-[ -x "$program" ] || { (cd "$here/../crates/wasm_copy" && rt run -- --again < stdin > /dev/null) || true; }
-[ -x "$program" ] || { echo "bench/wire.sh: the program isn't built" >&2; exit 1; }
+"$here/../tests/build.sh" wasm_copy
 files=$(mktemp -d)
 trap 'rm -rf "$files"' EXIT
 [ $# -gt 0 ] || set -- 1 10 100

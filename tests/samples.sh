@@ -2,20 +2,25 @@
 # Copies each module of a folder with the built program, which also reads the copy and compares the records, and copies the
 # copy, which has to stay as it is. Compares the names that the program lists with those that other tools found (tests/names),
 # first those of the program's stored run. Then reads each body of each module as operators over ids, writes it, reads what was
-# written, and compares, with the built program wasm_bodies. Prints a line a file and the counts. No part of the gate.
-# tests/samples.sh [FOLDER], ../shared/samples where none is given.
+# written, and compares, with the built program wasm_bodies. Prints a line a file and the counts. `.ci/run` runs it behind the gate.
+# tests/samples.sh [FOLDER..], where none is given tests/samples and, where it is there, ../shared/samples.
 set -eu
 top=$(cd "$(dirname "$0")/.." && pwd)
-folder=${1:-$top/../shared/samples}
-[ -d "$folder" ] || { echo "tests/samples.sh: there is no folder $folder, so nothing is copied"; exit 0; }
+if [ $# = 0 ]; then
+  set -- "$top/tests/samples"
+  [ ! -d "$top/../shared/samples" ] || set -- "$@" "$top/../shared/samples"
+fi
+"$top/tests/build.sh" wasm_copy
+"$top/tests/build.sh" wasm_bodies
 program=$top/crates/wasm_copy/out/wasm_copy
-[ -x "$program" ] || { (cd "$top/crates/wasm_copy" && rt run -- --again < stdin > /dev/null) || true; }
-[ -x "$program" ] || { echo "tests/samples.sh: the program isn't built" >&2; exit 1; }
 bodies=$top/crates/wasm_bodies/out/wasm_bodies
-[ -x "$bodies" ] || { (cd "$top/crates/wasm_bodies" && rt run < stdin > /dev/null) || true; }
-[ -x "$bodies" ] || { echo "tests/samples.sh: the program wasm_bodies isn't built" >&2; exit 1; }
 files=$(mktemp -d)
 trap 'rm -rf "$files"' EXIT
+
+# The modules of the folders, one of several of the same name.
+modules() {
+  find "$@" -maxdepth 1 -name '*.wasm' -printf '%f\t%p\n' | sort -u -t "$(printf '\t')" -k 1,1 | cut -f 2
+}
 
 # Whether the module is copied, and the copy stays as it is.
 is_copied() {
@@ -45,9 +50,9 @@ else
   echo "the stored run: FAILED: $told" && exit 1
 fi
 
+mapfile -t all_modules < <(modules "$@")
 copied=0 listed=0 all=0
-for module in "$folder"/*.wasm; do
-  [ -e "$module" ] || continue
+for module in "${all_modules[@]}"; do
   all=$((all + 1)) word=FAILED
   if told=$(is_copied "$module"); then
     copied=$((copied + 1)) word=copied
@@ -62,8 +67,7 @@ done
 echo "$copied of $all modules are copied, of $listed the names are listed as they are"
 
 same=0
-for module in "$folder"/*.wasm; do
-  [ -e "$module" ] || continue
+for module in "${all_modules[@]}"; do
   word=FAILED
   if told=$(is_same "$module"); then
     same=$((same + 1)) word=same
@@ -71,4 +75,4 @@ for module in "$folder"/*.wasm; do
   printf '%-7s %-33s %s\n' "$word" "$told" "$(basename "$module")"
 done
 echo "of $same of $all modules each body comes out the same"
-[ "$copied" = "$all" ] && [ "$listed" = "$all" ] && [ "$same" = "$all" ]
+[ "$all" -gt 0 ] && [ "$copied" = "$all" ] && [ "$listed" = "$all" ] && [ "$same" = "$all" ]

@@ -1,3 +1,5 @@
+//! The custom sections of a module, each by its id.
+
 ghost use Rattle.std.specs.Prelude.{◌≡◌, ◌++◌, ◌∷◌, [], length, Some, None, MatchResult, MatchOption, option_map, slice_set, option_and_then, IsTrue, ◌↔◌};
 ghost use Rattle.std.specs.Option.{option_copied, option_copied_mut};
 ghost use Rattle.std.specs.Borrow.{sem};

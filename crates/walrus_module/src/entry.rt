@@ -1,3 +1,5 @@
+//! A custom section of a module as it is kept: read and unchanged, or of a caller's own type.
+
 ghost use Rattle.std.specs.Prelude.{◌≡◌};
 ghost use Rattle.walrus_parts.specs.Section.{FailsAsSection};
 ghost use Rattle.walrus_code.specs.Indices.{index_of};

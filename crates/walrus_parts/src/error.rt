@@ -1,3 +1,5 @@
+//! Why calls are refused.
+
 ghost use Rattle.std.specs.Prelude.{◌≡◌, alloc_error};
 ghost use Rattle.walrus_parts.specs.declared.error.Error.TheVariants.{Memory};
 ghost use Rattle.walrus_parts.specs.Errors.{error_of_wire, error_of_ir};

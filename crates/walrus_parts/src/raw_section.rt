@@ -1,3 +1,5 @@
+//! A custom section that is kept as it was read.
+
 ghost use Rattle.std.specs.Prelude.{◌≡◌, ℕ, Bool, false, List, [], IfOk, OnOk, OnErr, IsOkUnless};
 ghost use Rattle.std.specs.String.{string_bytes};
 ghost use Rattle.walrus_parts.specs.Errors.{out_of_memory};

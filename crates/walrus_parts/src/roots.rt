@@ -1,3 +1,5 @@
+//! What custom sections ask to keep.
+
 ghost use Rattle.std.specs.Prelude.{◌≡◌, IfOk, IsOkUnless};
 ghost use Rattle.walrus_base.specs.Id.{place};
 ghost use Rattle.walrus_types.specs.Operators.{Functions, Tables, Memories, Globals, Tags};

@@ -1,3 +1,5 @@
+//! What emission tells of the places in the bytes that it wrote.
+
 use std::ops::Range;
 use walrus_ir::{FunctionId, InstrLocId};
 

@@ -1,0 +1,121 @@
+#!/usr/bin/env python3
+"""What tests/build.sh does. `rt` knows by their content what has changed; this adds the lanes and the progress.
+
+Crates are proved side by side by `rt all check`, as many as there are processors and 2 GB of memory each for, and the crate itself
+is built by `rt run` or `rt lib` behind them. tests/build-times.txt, the processor seconds of each crate, serves to guess the time left.
+"""
+import functools
+import os
+import pathlib
+import subprocess
+import sys
+import tempfile
+import threading
+import time
+
+TOP = pathlib.Path(__file__).resolve().parent.parent
+CRATES = TOP / "crates"
+TURN = 20  # seconds from one line of progress to the next
+
+
+def say(text):
+    print(f"build: {text}", file=sys.stderr, flush=True)
+
+
+def table(path):
+    """A file of lines `NAME: WORD ..`, without comments."""
+    lines = (line.split("#")[0].split() for line in path.read_text(encoding="utf-8").splitlines())
+    return {line[0].rstrip(":"): line[1:] for line in lines if line}
+
+
+NAMED = table(TOP / "crates.txt")
+
+
+@functools.cache
+def all_below(crate):
+    """All crates of the repository that a crate stands on."""
+    mine = [other for other in NAMED[crate] if other in NAMED]
+    return frozenset(mine).union(*map(all_below, mine))
+
+
+def newest_source(crates):
+    """When a source of the crates was last changed, added or taken away."""
+    parts = [CRATES / crate / part for crate in crates for part in ("src", "specs", "proofs")]
+    paths = [path for part in parts if part.exists() for path in [part, *part.rglob("*")]]
+    return max(path.stat().st_mtime for path in [TOP / "crates.txt", *paths])
+
+
+def lanes():
+    with open("/proc/meminfo", encoding="utf-8") as told:
+        free = next(int(line.split()[1]) for line in told if line.startswith("MemAvailable")) << 10
+    return max(1, min(len(os.sched_getaffinity(0)), free // (2 << 30)))
+
+
+class Progress:
+    """Which of the crates are still to be proved, told every few seconds until it is done."""
+
+    def __init__(self, below):
+        self.below, self.left, self.lanes = below, set(below), lanes()
+        self.begin = time.monotonic()
+        self.seconds = table(TOP / "tests" / "build-times.txt")
+        threading.Thread(target=self.tell, daemon=True).start()
+
+    def minutes_left(self):
+        # the longest chain of crates waits for itself, so that some two processors are at work at a time
+        seconds = sum(float(self.seconds.get(crate, [60])[0]) for crate in self.left)
+        return seconds / 60 / min(2, self.lanes)
+
+    def tell(self):
+        while True:
+            time.sleep(TURN)
+            ready = [crate for crate in self.below if crate in self.left and not self.below[crate] & self.left]
+            minutes = (time.monotonic() - self.begin) / 60
+            say(f"{len(self.below) - len(self.left)} of {len(self.below)} crates after {minutes:.0f} min; at work on"
+                f" {', '.join(ready[: self.lanes]) or 'the program'}; about {self.minutes_left():.0f} min more")
+
+
+def prove(crate, progress, log):
+    """Runs `rt all check` in the crate's folder, which proves it and all crates below it."""
+    command = ["rt", "all", "check", "--jobs", str(progress.lanes)]
+    with subprocess.Popen(command, cwd=CRATES / crate, stdin=subprocess.DEVNULL, stdout=subprocess.PIPE,
+                          stderr=subprocess.STDOUT, text=True, errors="replace") as run:
+        for line in run.stdout:
+            log.write(line)
+            if line.startswith("== "):
+                progress.left.discard(line[3:].strip())
+    return run.returncode == 0
+
+
+def build(crate, is_program, log):
+    """Builds the crate, a program by its stored run, whose outcome is the gate's matter."""
+    given, words = CRATES / crate / "stdin", CRATES / crate / "args"
+    command = ["rt", "run", "--", *(words.read_text().split() if words.exists() else [])] if is_program else ["rt", "lib"]
+    with open(given if given.exists() else os.devnull, "rb") as source:
+        subprocess.run(command, cwd=CRATES / crate, stdin=source, stdout=subprocess.DEVNULL, stderr=log, check=False)
+
+
+def main():
+    if len(sys.argv) != 2 or sys.argv[1] not in NAMED:
+        sys.exit("usage: tests/build.sh CRATE, a crate of crates.txt")
+    crate = sys.argv[1]
+    crates = {crate, *all_below(crate)}
+    is_program = (CRATES / crate / "src" / "main.rt").exists()
+    made = CRATES / crate / "out" / (crate if is_program else "rlib/stamp")
+    if made.exists() and made.stat().st_mtime >= newest_source(crates):
+        return
+    progress, begin = Progress({it: all_below(it) for it in NAMED if it in crates}), time.time()
+    say(f"{len(crates)} crates are proved where they aren't yet, {progress.lanes} at a time, in about {progress.minutes_left():.0f} min at most")
+    with tempfile.NamedTemporaryFile("w", buffering=1, prefix=f"build-{crate}-", delete=False) as log:
+        is_proved = prove(crate, progress, log)
+        if is_proved:
+            build(crate, is_program, log)
+    # rt takes a stamp away before it builds anew, so an older program has none
+    stamp = made.with_name(f"{crate}.stamp") if is_program else made
+    if not is_proved or not stamp.exists():
+        sys.exit(f"build: {crate} isn't built; see {log.name}")
+    os.utime(made, (begin, begin))
+    os.remove(log.name)
+    say(f"{crate} is built")
+
+
+main()

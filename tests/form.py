@@ -1,0 +1,143 @@
+#!/usr/bin/env python3
+"""Checks the form of the repository, with no prover, in a few seconds. `.ci/run` begins with it.
+
+    tests/form.py           prints what is wrong, a line each, and ends with status 1 where there is any
+    tests/form.py --all     also counts, crate by crate, what is not refused yet: wide clauses and bare hexadecimal numbers
+
+Refused are: a file of src that doesn't begin with `//!`, or has more than 800 lines; a README.md of more than 100 lines, or
+with one of more than 100 columns; more wrong edits in the gate than its time allows; and a wrong edit, of the gate or of
+tests/edits, whose old text doesn't stand exactly once in its file.
+"""
+import collections
+import pathlib
+import re
+import sys
+
+TOP = pathlib.Path(__file__).resolve().parent.parent
+CRATES = TOP / "crates"
+
+MOST_LINES_OF_A_FILE = 800
+MOST_LINES_OF_THE_README = 100
+MOST_COLUMNS_OF_THE_README = 100
+MOST_EDITS = 100
+MOST_CRATES_WITH_EDITS = 12
+# The dearest crates, since an edit costs by the size of its crate.
+UPPER_CRATES = ("walrus_module", "walrus")
+MOST_EDITS_OF_THE_UPPER_CRATES = 16
+WIDEST_CLAUSE = 110
+
+
+def lines_of(path):
+    return path.read_text(encoding="utf-8").split("\n")
+
+
+def name_of(path):
+    return path.relative_to(TOP)
+
+
+def sources():
+    return sorted(CRATES.glob("*/src/**/*.rt"))
+
+
+def wrong_in_sources():
+    for path in sources():
+        lines = lines_of(path)
+        if not lines[0].startswith("//! "):
+            yield f"{name_of(path)}: the first line is no //! line"
+        if len(lines) - 1 > MOST_LINES_OF_A_FILE:
+            yield f"{name_of(path)}: more than {MOST_LINES_OF_A_FILE} lines"
+
+
+def wrong_in_readme():
+    lines = lines_of(TOP / "README.md")
+    if len(lines) - 1 > MOST_LINES_OF_THE_README:
+        yield f"README.md: {len(lines) - 1} lines, more than {MOST_LINES_OF_THE_README}"
+    for number, line in enumerate(lines, 1):
+        if len(line) > MOST_COLUMNS_OF_THE_README:
+            yield f"README.md:{number}: {len(line)} columns, more than {MOST_COLUMNS_OF_THE_README}"
+
+
+def wrong_in_gate():
+    edits = collections.Counter(path.parts[-3] for path in CRATES.glob("*/must-fail/*.edit"))
+    upper = sum(edits[crate] for crate in UPPER_CRATES)
+    for what, count, most in (
+        ("wrong edits in crates/*/must-fail", edits.total(), MOST_EDITS),
+        ("crates with a folder must-fail", len(edits), MOST_CRATES_WITH_EDITS),
+        (f"wrong edits in {' and '.join(UPPER_CRATES)}", upper, MOST_EDITS_OF_THE_UPPER_CRATES),
+    ):
+        if count > most:
+            yield f"the gate: {count} {what}, more than {most}"
+
+
+def crate_of(edit):
+    """The crate that an edit speaks of: crates/CRATE/must-fail/NAME.edit or tests/edits/CRATE/NAME.edit."""
+    return edit.parts[-3] if edit.parent.name == "must-fail" else edit.parts[-2]
+
+
+def wrong_in_edit(edit):
+    """Why the prover wouldn't get to judge an edit, or None: it is applied as `rt must-fail` does, pair by pair."""
+    texts, at, old, pairs = {}, None, None, 0
+    for line in lines_of(edit):
+        word, _, text = line.partition(": ")
+        if word == "file":
+            at = CRATES / crate_of(edit) / text.strip()
+            if not at.is_file():
+                return f"there is no file {text}"
+            texts.setdefault(at, at.read_text(encoding="utf-8"))
+        elif word == "old":
+            old = text
+        elif word == "new" or line == "new:":
+            if at is None or old is None:
+                return "a line `new:` without `file:` and `old:` before it"
+            if texts[at].count(old) != 1:
+                return f"its old text stands {texts[at].count(old)} times in {at.relative_to(CRATES)}: {old}"
+            texts[at] = texts[at].replace(old, text)
+            old, pairs = None, pairs + 1
+    return None if pairs else "it has no pair of `old:` and `new:`"
+
+
+def wrong_in_edits():
+    for edit in sorted([*CRATES.glob("*/must-fail/*.edit"), *TOP.glob("tests/edits/*/*.edit")]):
+        why = wrong_in_edit(edit)
+        if why:
+            yield f"{name_of(edit)}: {why}"
+
+
+def print_counts(what, counts):
+    told = ", ".join(f"{crate} {count}" for crate, count in sorted(counts.items()))
+    print(f"{what}: {counts.total()} ({told})")
+
+
+def print_wide_clauses():
+    clause = re.compile(r"\s*(ensures|requires|invariant|decreases)\b")
+    counts = collections.Counter()
+    for path in sources():
+        counts[path.relative_to(CRATES).parts[0]] += sum(
+            len(line) > WIDEST_CLAUSE for line in lines_of(path) if clause.match(line))
+    print_counts(f"clauses of more than {WIDEST_CLAUSE} columns", +counts)
+
+
+def print_bare_numbers():
+    """Lines with a hexadecimal number, in code and definitions of the crates above `wasm_operators`."""
+    counts = collections.Counter()
+    for path in sorted([*CRATES.glob("walrus_*/src/**/*.rt"), *CRATES.glob("walrus_*/specs/*.antt")]):
+        crate = path.relative_to(CRATES).parts[0]
+        if not crate.endswith("_tests") and path.stem != "Examples":
+            code = (re.sub(r"(//|--).*", "", line) for line in lines_of(path))
+            counts[crate] += sum(bool(re.search(r"\b0x[0-9A-Fa-f_]+", line)) for line in code)
+    print_counts("lines with a bare hexadecimal number above wasm_operators", +counts)
+
+
+def main():
+    checks = (wrong_in_sources, wrong_in_readme, wrong_in_gate, wrong_in_edits)
+    wrong = [line for check in checks for line in check()]
+    for line in wrong:
+        print(line)
+    if "--all" in sys.argv[1:]:
+        print_wide_clauses()
+        print_bare_numbers()
+    print(f"tests/form.py: {len(wrong)} things are wrong" if wrong else "tests/form.py: the form is right")
+    sys.exit(1 if wrong else 0)
+
+
+main()
