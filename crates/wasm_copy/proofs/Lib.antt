@@ -1,4 +1,3 @@
 pub mod Bodies
-pub mod Customs
 pub mod Listed
 pub mod Rows

@@ -2,7 +2,7 @@
 
 ghost use Rattle.std.specs.Prelude.{◌≡◌, true, map};
 
-use wasm_wire::{Raw, RawBody};
+use wasm_wire::{CustomGroup, Raw, RawBody, RawCustom};
 
 // Whether the module holds anything in the section of this id. A section that holds nothing isn't written.
 fn holds(records: &Raw<'_>, id: u8) -> bool {
@@ -44,8 +44,24 @@ fn same_bodies(bodies: &[RawBody<'_>], copies: &[RawBody<'_>]) -> bool
             .all(|(body, copy)| body.bytes == copy.bytes)
 }
 
-/// Whether a checked module and its copy hold the same records: all fields, but where bodies start, and the order without
-/// the sections that hold nothing.
+// Whether the copy has the custom sections of this group, in their order.
+fn same_group(group: CustomGroup, customs: &[RawCustom<'_>], copies: &[RawCustom<'_>]) -> bool {
+    customs
+        .iter()
+        .filter(|custom| group.has(custom.name))
+        .eq(copies.iter().filter(|copy| group.has(copy.name)))
+}
+
+// Whether the copy has the custom sections of the module, group by group.
+fn same_customs(customs: &[RawCustom<'_>], copies: &[RawCustom<'_>]) -> bool {
+    same_group(CustomGroup::Dylink, customs, copies)
+        && same_group(CustomGroup::Names, customs, copies)
+        && same_group(CustomGroup::Producers, customs, copies)
+        && same_group(CustomGroup::Others, customs, copies)
+}
+
+/// Whether a checked module and its copy hold the same records: all fields, but where bodies start, the order without the
+/// sections that hold nothing, and custom sections group by group.
 pub fn same_records(records: &Raw<'_>, copy: &Raw<'_>) -> bool
     ensures functions { result ≡ true → records.now.functions.items ≡ copy.now.functions.items }
     ensures tags { result ≡ true → records.now.tags.items ≡ copy.now.tags.items }
@@ -67,5 +83,5 @@ pub fn same_records(records: &Raw<'_>, copy: &Raw<'_>) -> bool
         && records.data_count == copy.data_count
         && same_bodies(&records.bodies, &copy.bodies)
         && records.data_ == copy.data_
-        && records.customs == copy.customs
+        && same_customs(&records.customs, &copy.customs)
 }

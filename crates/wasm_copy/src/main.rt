@@ -10,7 +10,6 @@ mod failure;
 mod listing;
 mod program;
 mod task;
-mod writing;
 
 use failure::Failure;
 use program::run;

@@ -11,10 +11,9 @@ use crate::comparing::same_records;
 use crate::failure::Failure;
 use crate::listing::listing;
 use crate::task::Task;
-use crate::writing::written_module;
 use std::alloc::Global;
 use std::io::{Read, Write};
-use wasm_wire::{Raw, check, read_module};
+use wasm_wire::{Raw, check, read_module, written_module};
 
 // The records of a module that keeps the rules.
 fn read_checked(alloc: Global, bytes: &[u8]) -> Result<Raw<'_>, Failure>

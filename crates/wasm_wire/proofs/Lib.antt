@@ -3,3 +3,5 @@ pub mod Gathered
 pub mod Order
 pub mod Names
 pub mod Totals
+pub mod ModuleFramed
+pub mod ModuleWritten

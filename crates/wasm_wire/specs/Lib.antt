@@ -4,3 +4,5 @@ pub mod Ranks
 pub mod Locals
 pub mod Gathering
 pub mod Rules
+pub mod ModuleSpelling
+pub mod ModuleWriting

@@ -3,6 +3,7 @@
 #![tactic(auto)]
 
 mod rules;
+mod written;
 
 pub use rules::{Counts, check};
 pub use wasm_entries::{
@@ -15,4 +16,5 @@ pub use wasm_frames::{Raw, RawBody, RawCustom, one_record, read_module};
 pub use wasm_payloads::{
     NameSink, NameSpace, Naming, RawField, fields_once, names_once, read_names, read_producers,
 };
-pub use wasm_writer::{CodePlaces, Section, Writer, measure, written_frames};
+pub use wasm_writer::{CodePlaces, Section, Writer, measure, measure_code, written_frames};
+pub use written::{CustomGroup, written_module, written_module_frames};

@@ -6,6 +6,6 @@ mod places;
 mod tag;
 mod writer;
 
-pub use measuring::{Section, measure};
+pub use measuring::{Section, measure, measure_code};
 pub use places::CodePlaces;
 pub use writer::{Writer, written_frames};

@@ -5,15 +5,17 @@ ghost use Rattle.wasm_forms.specs.Writing.{FitsLength, FitsVector};
 ghost use Rattle.wasm_forms.specs.Spelling.{row_bytes, vector_bytes};
 ghost use Rattle.wasm_measure.specs.Measuring.{Measures, Sums};
 ghost use Rattle.wasm_frames.specs.Frames as frames;
-ghost use Rattle.wasm_frames.specs.Record.{Body};
+ghost use Rattle.wasm_frames.specs.Record.{Body, body_record};
 ghost use Rattle.wasm_frames.specs.Spelling.{custom_bytes, body_bytes};
 ghost use Rattle.wasm_writer.specs.Spelling.{tag_bytes, spelled, content_bytes, EntriesFit};
 ghost use Rattle.wasm_writer.specs.Measuring.{body_len, size_with_count, IsOf, appended, Tells};
 
+use crate::places::code_len;
 use wasm_entries::{
     RawData, RawElement, RawExport, RawGlobal, RawGroup, RawImport, RawLimits, RawTable,
 };
 use wasm_forms::WireError;
+use wasm_frames::RawBody;
 use wasm_measure::{
     counted_len, measured_groups, measured_name, measured_vector, number_len, plus,
 };
@@ -160,6 +162,22 @@ pub fn measure(section: &Section<'_>) -> Result<usize, WireError>
 {
     let content = content_len(section)?;
     if is_omitted(section) {
+        return Ok(0);
+    }
+    let size = number_len(u64::from(content));
+    Ok(1 + size as usize + content as usize)
+}
+
+/// How many bytes [`crate::Writer::code_section`] appends for these bodies, as [`measure`] tells it of their lengths. It takes no memory.
+///
+/// # Errors
+///
+/// `TooLarge` exactly where that call answers it: where the number of bodies, the size of one, or their size is 2^32 or more.
+pub fn measure_code(bodies: &[RawBody<'_>]) -> Result<usize, WireError>
+    ensures { Tells result (frames.Code (map body_record bodies.now)) }
+{
+    let content = code_len(bodies)?;
+    if bodies.is_empty() {
         return Ok(0);
     }
     let size = number_len(u64::from(content));
