@@ -57,6 +57,12 @@ args_of NoArgument = []
 args_of (One arg) = arg_of arg ∷ []
 args_of (Several args) = map arg_of args.items
 
+-- one argument that stands alone
+abbrev pub IsOne : Args → Type 0
+IsOne NoArgument = ⊥
+IsOne (One arg) = Unit {0}
+IsOne (Several args) = ⊥
+
 -- the operator without its location
 abbrev pub op_of : Operator → Op
 op_of operator = record { op = operator.op; args = args_of operator.args }

@@ -1,7 +1,8 @@
 //! Operators and their arguments (Structure > Instructions).
-ghost use Rattle.std.specs.Prelude.{◌≡◌, ◌-◌, ◌^◌, map};
+ghost use Rattle.std.specs.Prelude.{◌≡◌, ◌-◌, ◌^◌, map, IfErr, IfOk};
 
 use crate::location::InstrLocId;
+use std::alloc::{AllocError, Global};
 use std::slice;
 use walrus_base::{
     DataId, ElementId, FunctionId, GlobalId, LocalId, MemoryId, TableId, TagId, TypeId,
@@ -85,13 +86,29 @@ pub enum Args {
 }
 
 impl Args {
-    ghost use Rattle.walrus_code.specs.Code.{arg_of, args_of};
+    ghost use Rattle.walrus_code.specs.Code.{arg_of, args_of, IsOne};
 
     /// The arguments that stand in a vector. Takes no memory.
     pub fn from_vec(items: Vec<Arg>) -> Args
         ensures { args_of result ≡ map arg_of items.items }
     {
         Args::Several(items)
+    }
+
+    /// The arguments as a vector. Takes memory only for one that stands alone, and is refused only there.
+    pub fn into_vec(self, alloc: Global) -> Result<Vec<Arg>, AllocError>
+        ensures items { IfOk result (λ items. map arg_of items.items ≡ args_of self) }
+        ensures refused { IfErr result (λ _. IsOne self) }
+    {
+        match self {
+            Args::None => Ok(Vec::new(alloc)),
+            Args::One(arg) => {
+                let mut items = Vec::new(alloc);
+                items.push(arg)?;
+                Ok(items)
+            }
+            Args::Several(args) => Ok(args),
+        }
     }
 
     /// The arguments, one after another.

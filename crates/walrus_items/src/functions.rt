@@ -3,14 +3,17 @@ ghost use Rattle.std.specs.Prelude.{◌≡◌, ◌++◌, ◌∷◌, [], length, 
 ghost use Rattle.std.specs.Borrow.{sem};
 ghost use Rattle.std.specs.Iterator.{YieldsFirstBy, item_count};
 ghost use Rattle.walrus_base.specs.Id.{place};
-ghost use Rattle.walrus_base.specs.Arena.{item_at, IsLive, items, entries};
+ghost use Rattle.walrus_base.specs.Arena.{item_at, IsLive, items, entries, kept_by};
+ghost use Rattle.walrus_base.specs.IdSet.{has_id};
 ghost use Rattle.walrus_parts.specs.Errors.{out_of_memory};
 ghost use Rattle.walrus_items.specs.Seen.{text_of, text_is};
 ghost use Rattle.walrus_items.specs.Searches.{first};
 
 use std::alloc::{AllocError, Global};
 use std::result;
-use walrus_base::{ArenaIter, FunctionId, FunctionKey, ImportId, TombstoneArena, TypeId};
+use walrus_base::{
+    ArenaIter, FunctionId, FunctionKey, IdHashSet, ImportId, TombstoneArena, TypeId,
+};
 use walrus_ir::LocalFunction;
 use walrus_parts::Result;
 
@@ -181,6 +184,13 @@ impl ModuleFunctions {
         ensures { functions self.new ≡ slice_set (functions self.old) (place id) None }
     {
         let _ = self.arena.delete(id);
+    }
+
+    /// Deletes every function whose id isn't in the set. The others stay, and so do all places. Takes no memory.
+    pub fn keep_only(&mut self, marks: &IdHashSet<FunctionKey>)
+        ensures { functions self.new ≡ kept_by (has_id marks.now) (functions self.old) }
+    {
+        self.arena.keep_only(marks);
     }
 
     /// How many functions there are.
