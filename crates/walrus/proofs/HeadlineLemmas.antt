@@ -29,7 +29,7 @@ use Rattle.walrus_model.specs.Reads.{Said, features_of, types_of, body_with, fun
 use Rattle.walrus_model.specs.Refers.{named_by, kind_names, local_names, used_locals, IsUsed, type_names, function_names, table_names, memory_names, tag_names, global_names, element_names, data_names, written_in}
 use Rattle.walrus_model.specs.Renaming.{Renaming}
 use Rattle.walrus_model.specs.Roots.{exported}
-use Rattle.walrus_model.specs.Rules.{Holds}
+use Rattle.walrus_model.specs.Rules.{Holds, LocalsHold}
 use Rattle.walrus_model.specs.Same.{SameKind, SameFunction}
 use Rattle.walrus_model.specs.WellMade.{IsWellFormed}
 use Rattle.walrus_model.proofs.Lists.{Contains-none, Contains-head, Contains-tail, Contains-append_1, Contains-append_2}
@@ -274,7 +274,6 @@ module _ (c : Config) (v w : Abstract) (ty : ℕ) (b : Body) (same : w.types ty 
     parts = read.parts;
     declared = read.declared;
     declares = read.declares;
-    few = read.few;
     typed = read.typed;
     operators = record {
       texts = read.operators.texts;
@@ -480,6 +479,9 @@ module _ (c : Config) (bytes : List ℕ) (v w : Abstract) (parsed : IsParsed c b
   none_crowded : HasTooMany w → ⊥
   none_crowded (space, numbers, rise, all, many) = too_many space numbers rise all many
 
+pub locals_hold : (c : Config) (bytes : List ℕ) (v w : Abstract) → IsParsed c bytes v → Collected v w → LocalsHold w
+locals_hold c bytes v w parsed collected = λ f b at. parsed.locals f b (body_before v w f b collected at)
+
 pub no_imported : (c : Config) (bytes : List ℕ) (v w : Abstract) → IsParsed c bytes v → Collected v w → HasImported w → ⊥
 no_imported c bytes v w parsed collected = none_imported c bytes v w parsed collected
 
@@ -498,9 +500,9 @@ not_many_locals c bytes v w parsed collected = few_left c bytes v w parsed colle
 
 module _ {X : Type 0} (c : Config) (view : X → List ℕ) where
   answers_for : c.writes_names ≡ false → c.writes_producers ≡ false → (bytes : List ℕ) (v w : Abstract) (result : Result X Error)
-      → IsParsed c bytes v → Collected v w → (NamesDiffer w → IfOk result (λ o. IsEmitted c w (view o))) → RefusesToWrite c w result → Answers c bytes view result
+      → IsParsed c bytes v → Collected v w → (NamesDiffer w → LocalsHold w → IfOk result (λ o. IsEmitted c w (view o))) → RefusesToWrite c w result → Answers c bytes view result
   answers_for names producers bytes v w (Ok x) parsed collected emitted refused =
-      comes_to c names producers bytes (view x) v w parsed collected (emitted (names_differ parsed.module_read v w parsed.holds parsed.parsed collected))
+      comes_to c names producers bytes (view x) v w parsed collected (emitted (names_differ parsed.module_read v w parsed.holds parsed.parsed collected) (locals_hold c bytes v w parsed collected))
   answers_for names producers bytes v w (Err (error.Memory e)) parsed collected emitted refused = tt
   answers_for names producers bytes v w (Err error.DeadItem) parsed collected emitted refused = absurd (refused (is_there v w (reaches_sound c bytes v parsed) collected))
   answers_for names producers bytes v w (Err error.NoIndex) parsed collected emitted refused = absurd (no_imported c bytes v w parsed collected refused.1)
@@ -516,7 +518,7 @@ module _ {X : Type 0} (c : Config) (view : X → List ℕ) where
 
   -- what emission answers is the answer for the bytes
   pub answers : c.writes_names ≡ false → c.writes_producers ≡ false → (bytes text : List ℕ) → text ≡ bytes → (v w : Abstract) (result : Result X Error)
-      → IsParsed c text v → Collected v w → (NamesDiffer w → IfOk result (λ o. IsEmitted c w (view o))) → RefusesToWrite c w result → Answers c bytes view result
+      → IsParsed c text v → Collected v w → (NamesDiffer w → LocalsHold w → IfOk result (λ o. IsEmitted c w (view o))) → RefusesToWrite c w result → Answers c bytes view result
   answers names producers bytes text same v w result parsed collected emitted refused =
       subst (λ (b : List ℕ). Answers c b view result) same (answers_for names producers text v w result parsed collected emitted refused)
 
@@ -535,8 +537,8 @@ module _ {X : Type 0} (c : Config) (view : X → List ℕ) where
 
 -- the same as emission says it of the flags that the module keeps
 pub answers_kept : {X : Type 0} (view : X → List ℕ) (f g : Flags) → g ≡ f → (bytes text : List ℕ) → text ≡ bytes → (v w : Abstract) (result : Result X Error)
-    → IsParsed (config_of f) text v → Collected v w → (NamesDiffer w → IfOk result (λ o. IsEmitted (config_of g) w (view o))) → RefusesToWrite (config_of g) w result → Answers (config_of f) bytes view result
+    → IsParsed (config_of f) text v → Collected v w → (NamesDiffer w → LocalsHold w → IfOk result (λ o. IsEmitted (config_of g) w (view o))) → RefusesToWrite (config_of g) w result → Answers (config_of f) bytes view result
 answers_kept view f g keeps bytes text same v w result parsed collected emitted refused =
     answers (config_of f) view refl refl bytes text same v w result parsed collected
-    (subst (λ (h : Flags). NamesDiffer w → IfOk result (λ o. IsEmitted (config_of h) w (view o))) keeps emitted)
+    (subst (λ (h : Flags). NamesDiffer w → LocalsHold w → IfOk result (λ o. IsEmitted (config_of h) w (view o))) keeps emitted)
     (subst (λ (h : Flags). RefusesToWrite (config_of h) w result) keeps refused)

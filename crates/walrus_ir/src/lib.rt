@@ -14,7 +14,7 @@ pub use walrus_code::{
     Arg, Args, BlockType, IdsToIndices, IndicesToIds, InstrLocId, IrError, ItemId, LocalFunction,
     LocalNumbers, Operator,
 };
-pub use walrus_functions::{EmittedBody, emit_body, read_function};
+pub use walrus_functions::{EmittedBody, emit_body, read_body};
 pub use walrus_types::{
     AbstractHeapType, ArrayType, CompositeType, ConstExpr, ConstOp, FieldType, FunctionType,
     GroupIds, HeapType, Local, LocalIter, ModuleLocals, ModuleTypes, NewType, RefType, StorageType,

@@ -1,5 +1,5 @@
 -- Bytes that are accepted frame sections that keep the rules, and the other way round.
-use Rattle.std.proofs.Common.{inl, inr, true, sym, ap₂, ◌≡◌, ◌≢◌, ℕ, zero, suc, ◌+◌, ◌<◌, List, [], ◌∷◌, length, map, get_or, take, refl, ap, subst, ◌∙◌, arith}
+use Rattle.std.proofs.Common.{inl, inr, true, sym, ap₂, ◌≡◌, ◌≢◌, ℕ, zero, suc, ◌+◌, ◌<◌, List, [], ◌∷◌, length, map, get_or, take, refl, ap, subst, ◌∙◌, arith, ◌≤◌}
 use Rattle.std.specs.Prelude.{Err, Option, Some, IsSome, Contains, All, AllPairs, slice_get, zip, option_map}
 use Rattle.std.proofs.lemmas.List.{get_or-map, length-map}
 use Rattle.std.proofs.lemmas.List.Elements.{Contains-get_or}
@@ -9,13 +9,14 @@ use Rattle.wasm_wire.specs.Indices.{SubRefers, TypesRefer}
 use Rattle.walrus_base.specs.Types.{CompType, Func, Struct, Array, comp_names}
 use Rattle.walrus_types.specs.TypeDef.{TypeDef}
 use Rattle.walrus_bodies.specs.FunctionTypes.{is_function_comp, is_function_def}
+use Rattle.walrus_functions.specs.Handlers.{params_of}
 use Rattle.walrus_groups.specs.Groups.{comp_of, sub_of}
 use Rattle.walrus_types.specs.declared.locals.ModuleLocals.{ModuleLocals}
 use Rattle.walrus_types.specs.declared.module_types.ModuleTypes.{ModuleTypes}
 use Rattle.walrus_items.specs.declared.exports.ModuleExports.{ModuleExports}
 use Rattle.walrus_items.specs.declared.functions.ModuleFunctions.{ModuleFunctions}
 use Rattle.walrus_model.proofs.PipelineRead.{simple_read}
-use Rattle.walrus_model.specs.Abstract.{Export}
+use Rattle.walrus_model.specs.Abstract.{Function, Export}
 use Rattle.walrus_model.specs.Config.{Config}
 use Rattle.walrus_model.specs.Declared.{NothingUndeclared}
 use Rattle.walrus_base.specs.Arena.{items}
@@ -28,19 +29,21 @@ use Rattle.wasm_frames.proofs.Modules.{one_record_lem}
 use Rattle.walrus_model.specs.Handled.{widened}
 use Rattle.walrus_module.proofs.ExportedRefs.{nothing_undeclared, one_undeclared}
 use Rattle.walrus_module.proofs.ParsedWhole.{writable, well_formed, references_read, references_seen}
-use Rattle.walrus_module.proofs.FewLocals.{few_locals}
+use Rattle.walrus_module.proofs.CountedLocals.{DeclaresFew, all_counted}
+use Rattle.walrus_module.proofs.FewLocals.{few_locals, locals_hold}
 use Rattle.walrus_module.proofs.FewParams.{few_params}
 use Rattle.walrus_module.proofs.TypeLists.{count, in_range, range_bounds, member_there, comp_holds}
 use Rattle.std.specs.List.{AllZip, range_with_len}
 use Rattle.walrus_model.specs.Live.{Has}
-use Rattle.walrus_model.specs.Reads.{Said, Reads, Accepts, ReadsBody, SectionsInOrder, types_of, is_function, function_with, export_of, module_of}
+use Rattle.walrus_model.specs.Names.{body_of_function}
+use Rattle.walrus_model.specs.Reads.{Said, Reads, Accepts, ReadsBody, SectionsInOrder, types_of, is_function, function_with, body_with, export_of, module_of}
 use Rattle.walrus_model.specs.Rules.{Holds, IsEarlier, IsFunctionComp}
 use Rattle.walrus_model.specs.Rules as rules
 use Rattle.walrus_module.specs.Parsed.{IsParsed, TakenFrom, AreModule, RefusesModule, RefusesBytes}
 use Rattle.walrus_module.specs.View.{view_of}
 use Rattle.walrus_module.proofs.Carrying.{parsed}
 use Rattle.walrus_module.proofs.Keeps.{keeps}
-use Rattle.walrus_module.proofs.Lookups.{got_map, zip_long}
+use Rattle.walrus_module.proofs.Lookups.{got_map, got_in, got_zip, zip_long}
 use Rattle.walrus_module.proofs.Parsing.{kind_is}
 use Rattle.walrus_module.proofs.Steps.{zip_length, pairs_long}
 use Rattle.walrus_parts.specs.declared.error.Error.{Error}
@@ -72,7 +75,8 @@ is_parsed c bytes ts all fs es t refs =
       bodies = well_formed c t.sections ts all fs es t.taken t.rules;
       types = writable c t.sections ts all fs es t.taken t.rules;
       references = declared;
-      few_locals = few_locals c t.sections ts all fs es t.taken (few_params bytes t.sections t.framed);
+      locals = locals_hold c t.sections ts all fs es t.taken (few_params bytes t.sections t.framed) t.rules.locals;
+      few_locals = few_locals c t.sections ts all fs es t.taken (few_params bytes t.sections t.framed) t.rules.locals;
     }
 
 -- ---- what is accepted keeps the rules
@@ -155,14 +159,26 @@ module _ (r : handled.Module) (bodies : List Said) (many : length bodies ≡ len
       let b : get_or (map export_of r.exports) j (export_of d) ≡ export_of (get_or r.exports j d) = get_or-map export_of r.exports j d (export_of d) within in
       subst (λ (x : Export). x.name ≢ (export_of (get_or r.exports j d)).name) a (subst (λ (x : Export). (get_or (map export_of r.exports) i (export_of d)).name ≢ x.name) b s)
 
-  keeps_rules : SectionsInOrder r → length r.bodies ≡ length r.functions → Rules r
-  keeps_rules ordered as_many = record {
+  -- each body declares as many locals as that of its function
+  declare_few : All DeclaresFew bodies
+  declare_few = λ k d lt.
+      let within : k < length r.functions = omega (arith, lt, many) in
+      let q = got_pair r.functions bodies k 0 many within in
+      let said : get_or bodies k d ≡ q.0 = (got_in bodies k q.0 (got_zip r.functions bodies k (get_or r.functions k 0, q.0) q.1).1).1 d in
+      let f : Function = function_with r (get_or r.functions k 0, q.0) in
+      let at : (module_of r bodies).functions k ≡ Some f = got_map (function_with r) (zip r.functions bodies) k ∙ ap (option_map (function_with r)) q.1 in
+      let few : length q.0.0 ≤ 50_000 = h.locals k (body_with (params_of (types_of r (get_or r.functions k 0))) q.0) (ap body_of_function at) in
+      subst DeclaresFew (sym said) few
+
+  keeps_rules : (c : Config) → SectionsInOrder r → length r.bodies ≡ length r.functions → AllZip (ReadsBody c r) (zip r.functions r.bodies) bodies → Rules r
+  keeps_rules c ordered as_many read = record {
     sections_in_order = ordered;
     types_refer = types_refer r bodies h.types;
     function_types = function_types;
     exports_hold = exports_declared;
     as_many_bodies = as_many;
     names_differ = names_differ;
+    locals = all_counted c r bodies as_many read declare_few;
   }
 
 are_module : (c : Config) (bytes : List ℕ) → Accepts c bytes → AreModule c bytes
@@ -170,7 +186,7 @@ are_module c bytes a =
     let m = a.1 in
     let many : length m.bodies ≡ length m.sections.functions = sym (zip_length (ReadsBody c m.sections) (zip m.sections.functions m.sections.bodies) m.bodies m.read) ∙ pairs_long m.sections.functions m.sections.bodies m.as_many_bodies in
     let h : Holds (module_of m.sections m.bodies) = subst Holds m.is a.2 in
-    record { sections = m.sections; framed = m.framed; rules = keeps_rules m.sections m.bodies many h m.in_order m.as_many_bodies; bodies = m.bodies; read = m.read; references = subst NothingUndeclared m.is m.references }
+    record { sections = m.sections; framed = m.framed; rules = keeps_rules m.sections m.bodies many h c m.in_order m.as_many_bodies m.read; bodies = m.bodies; read = m.read; references = subst NothingUndeclared m.is m.references }
 
 -- the bodies that bytes are read as are those that were taken in, so that no module is read in which a reference isn't exported
 pub references_refused : (c : Config) (bytes : List ℕ) (ts : ModuleTypes) (all : ModuleLocals) (fs : ModuleFunctions) (es : ModuleExports) (t : TakenFrom c bytes ts all fs es) (e : Error)

@@ -182,7 +182,7 @@ module _ (types : ℕ → Option TypeDef) (slots : List (Option (ValType ℕ))) 
   none_handled (p ∷ ps) (f ∷ fs) zero h = no_handlers p f h.0
   none_handled (p ∷ ps) (f ∷ fs) (suc i) h = none_handled ps fs i h.1
 
-item_within : {A : Type 0} (xs : List (Option A)) (i : ℕ) → IsSome (item_at xs i) → i < length xs
+pub item_within : {A : Type 0} (xs : List (Option A)) (i : ℕ) → IsSome (item_at xs i) → i < length xs
 item_within [] i h = absurd (none_there h)
 item_within (x ∷ xs) zero h = omega arith
 item_within (x ∷ xs) (suc i) h = let lt : i < length xs = item_within xs i h in omega (arith, lt)

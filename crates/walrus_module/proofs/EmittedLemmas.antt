@@ -11,6 +11,7 @@ use Rattle.walrus_model.specs.Config.{Config}
 use Rattle.walrus_model.specs.Out.{Written}
 use Rattle.walrus_model.specs.Placed.{Placed}
 use Rattle.walrus_model.specs.Reads.{features_of}
+use Rattle.walrus_model.specs.Rules.{LocalsHold}
 use Rattle.walrus_module.specs.References.{refs_are_exported}
 use Rattle.walrus_items.specs.Functions.{functions}
 use Rattle.walrus_module.specs.Emitted.{NamesDiffer, IsEmitted, RefusesDeclared}
@@ -32,13 +33,13 @@ module _ (c : Config) (no_names : c.writes_names ≡ false) (no_producers : c.wr
   pub records_written : (r : Records (held_of types all funcs) (features_of c) (items (exports es))) → Written c (view_of types all funcs es) (written_as r)
   records_written r = written_lem c no_names no_producers types all funcs es (nothing_undeclared types all funcs es declared) r
 
-  pub spelled_is_emitted : (bytes : List ℕ) → Spells (held_of types all funcs) (features_of c) (items (exports es)) bytes → Placed bytes → NamesDiffer (view_of types all funcs es) → IsEmitted c (view_of types all funcs es) bytes
-  spelled_is_emitted bytes s placed differ = emitted_lem c no_names no_producers types all funcs es (nothing_undeclared types all funcs es declared) differ bytes s placed
+  pub spelled_is_emitted : (bytes : List ℕ) → Spells (held_of types all funcs) (features_of c) (items (exports es)) bytes → Placed bytes → NamesDiffer (view_of types all funcs es) → LocalsHold (view_of types all funcs es) → IsEmitted c (view_of types all funcs es) bytes
+  spelled_is_emitted bytes s placed differ few = emitted_lem c no_names no_producers types all funcs es (nothing_undeclared types all funcs es declared) differ few bytes s placed
 
 -- the same of what emission answers: where it isn't a refusal, nothing is undeclared
 pub emitted_ok : {X : Type 0} (c : Config) → c.writes_names ≡ false → c.writes_producers ≡ false → (types : ModuleTypes) (all : ModuleLocals) (funcs : ModuleFunctions) (es : ModuleExports) (seen : X → List ℕ) (result : Result X Error)
-    → NamesDiffer (view_of types all funcs es) → IfOk result (λ x. Spells (held_of types all funcs) (features_of c) (items (exports es)) (seen x)) → RefusesDeclared (held_of types all funcs) (features_of c) (items (exports es)) result
+    → NamesDiffer (view_of types all funcs es) → LocalsHold (view_of types all funcs es) → IfOk result (λ x. Spells (held_of types all funcs) (features_of c) (items (exports es)) (seen x)) → RefusesDeclared (held_of types all funcs) (features_of c) (items (exports es)) result
     → IfOk result (λ x. IsEmitted c (view_of types all funcs es) (seen x))
-emitted_ok c no_names no_producers types all funcs es seen (Ok x) differ s h =
-    spelled_is_emitted c no_names no_producers types all funcs es h.1 (seen x) s (placed_as_spelled (held_of types all funcs) (features_of c) (items (exports es)) (seen x) s) differ
-emitted_ok c no_names no_producers types all funcs es seen (Err e) differ s h = s
+emitted_ok c no_names no_producers types all funcs es seen (Ok x) differ few s h =
+    spelled_is_emitted c no_names no_producers types all funcs es h.1 (seen x) s (placed_as_spelled (held_of types all funcs) (features_of c) (items (exports es)) (seen x) s) differ few
+emitted_ok c no_names no_producers types all funcs es seen (Err e) differ few s h = s

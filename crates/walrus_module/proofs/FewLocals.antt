@@ -1,17 +1,24 @@
--- A function that was taken in has at most 2 ^ 32 parameters and further locals that it uses.
-use Rattle.std.proofs.Common.{◌≡◌, ◌≢◌, ℕ, zero, suc, ◌+◌, ◌-◌, ◌<◌, ◌≤◌, ◌^◌, Bool, true, false, List, [], ◌∷◌, ◌++◌, length, map, get_or, refl, sym, ap, subst, ◌∙◌, arith, length-append}
-use Rattle.std.specs.Prelude.{Some, Contains, All, AllPairs, ◌||◌, ◌==◌, slice_get, nat_lt}
+-- A function that was taken in declares at most 50,000 locals, and has at most 2 ^ 32 parameters and further locals that it uses.
+use Rattle.std.proofs.Common.{◌≡◌, ◌≢◌, ℕ, zero, suc, ◌+◌, ◌-◌, ◌<◌, ◌≤◌, ◌^◌, Bool, true, false, List, [], ◌∷◌, ◌++◌, length, map, get_or, refl, sym, ap, subst, ◌∙◌, arith, length-append, inl, inr}
+use Rattle.std.specs.Prelude.{Some, Contains, All, AllPairs, ◌||◌, ◌==◌, ◌⊎◌, slice_get, nat_lt, zip}
 use Rattle.std.specs.List.{range_with_len, list_any}
 use Rattle.std.proofs.lemmas.List.{get_or-map, length-map}
+use Rattle.std.proofs.lemmas.List.Elements.{All-from_recursion}
+use Rattle.std.proofs.lemmas.List.Kept.{AllPairs-filter}
 use Rattle.std.proofs.lemmas.List.FromFn.{length-range_with_len, get_or-range_with_len}
 use Rattle.std.proofs.lemmas.Bool.Decides.{Decides-eqb}
 use Rattle.std.proofs.lemmas.Map.Made.{IsDistinct-from_AllPairs}
 use Rattle.std.proofs.lemmas.Map.Steps.{length-le_from_distinct_below}
 use borrow.Author.Tests.{ltb-false, ltb-true}
+use Rattle.wasm_wire.specs.Rules.{LocalsHold}
+use Rattle.walrus_base.specs.Id.{place}
 use Rattle.walrus_base.specs.Types.{ValType}
+use Rattle.walrus_types.specs.Locals.{locals}
 use Rattle.walrus_types.specs.Operators.{Op, locals_of}
 use Rattle.walrus_types.specs.declared.locals.ModuleLocals.{ModuleLocals}
 use Rattle.walrus_types.specs.declared.module_types.ModuleTypes.{ModuleTypes}
+use Rattle.walrus_code.specs.Function.{body_of as body_in}
+use Rattle.walrus_code.specs.declared.function.LocalFunction.{LocalFunction}
 use Rattle.walrus_bodies.specs.Body.{BodyReads}
 use Rattle.walrus_functions.specs.Handlers.{params_of}
 use Rattle.walrus_functions.specs.Laws.{moved_op}
@@ -22,15 +29,17 @@ use Rattle.walrus_items.specs.declared.functions.ModuleFunctions.{ModuleFunction
 use Rattle.walrus_model.specs.Abstract.{Body}
 use Rattle.walrus_model.specs.Config.{Config}
 use Rattle.walrus_model.specs.Handled as handled
-use Rattle.walrus_model.specs.Reads.{types_of, context_of, arity, ReadsBody}
-use Rattle.walrus_module.specs.Parsed.{TakenFrom}
+use Rattle.walrus_model.specs.Reads.{Said, types_of, context_of, arity, ReadsBody}
+use Rattle.walrus_model.specs.Rules.{LocalsHold as Holding}
 use Rattle.walrus_module.specs.Refused.{HasManyLocals}
 use Rattle.walrus_module.specs.Taken.{HasTaken}
-use Rattle.walrus_module.specs.View.{view_of}
-use Rattle.walrus_module.proofs.FewParams.{few_params}
-use Rattle.walrus_module.proofs.ParsedWhole.{body_at, body_there}
+use Rattle.walrus_module.specs.View.{is_declared, body, view_of}
+use Rattle.walrus_module.proofs.CountedLocals.{counted_few}
+use Rattle.walrus_module.proofs.Lookups.{got_zip, zip_left, all_got, range_within}
+use Rattle.walrus_module.proofs.ParsedWhole.{BodyAt, body_at, body_there}
+use Rattle.walrus_module.proofs.SeenLocals.{declared_used, declared_ones, all_filtered}
 use Rattle.walrus_module.proofs.SmallLocals.{used_small}
-use Rattle.walrus_module.proofs.WholeLists.{zip_third}
+use Rattle.walrus_module.proofs.WholeLists.{zip_third, range_apart}
 
 -- ---- distinct numbers
 
@@ -80,23 +89,58 @@ past_by a n i false e h = ltb-false i n e
 too_many : (most n : ℕ) (ps fs : List ℕ) → length ps ≡ n → n < most → length fs ≤ most - n → most < length (ps ++ fs) → ⊥
 too_many most n ps fs long lt few many = omega (arith, long, lt, few, many, length-append ps fs)
 
+-- Where the locals lie that a function uses beside its parameters: behind these, as far as the body that was read declares locals, and at
+-- indices of 32 bits.
+record Further (b : Body) : Type 0 where
+  first : ℕ
+  params : ℕ
+  declared : ℕ
+  as_many : length b.parameters ≡ params
+  small : params < 2 ^ 32
+  few : declared ≤ 50_000
+  index : (x : ℕ) → Contains (locals_of b.operators) x → (Contains b.parameters x → ⊥) → (k : ℕ) × ((x ≡ first + k) × (params ≤ k) × (k < 2 ^ 32) × (k < params + declared))
+
+module _ (b : Body) (f : Further b) where
+  within_32 : (x k : ℕ) → (x ≡ f.first + k) × (f.params ≤ k) × (k < 2 ^ 32) × (k < f.params + f.declared) → (f.first + f.params ≤ x) × (x < f.first + f.params + (2 ^ 32 - f.params))
+  within_32 x k (is, past, low, below) = (omega (arith, is, past), omega (arith, is, past, low))
+
+  within_declared : (x k : ℕ) → (x ≡ f.first + k) × (f.params ≤ k) × (k < 2 ^ 32) × (k < f.params + f.declared) → (f.first + f.params ≤ x) × (x < f.first + f.params + f.declared)
+  within_declared x k (is, past, low, below) = (omega (arith, is, past), omega (arith, is, past, below))
+
+  module _ (further : List ℕ) (apart : AllPairs (λ (x : ℕ) (y : ℕ). x ≢ y) further) (used : All (λ (x : ℕ). Contains (locals_of b.operators) x) further) (new : All (λ (x : ℕ). Contains b.parameters x → ⊥) further) where
+    no_more_than_32 : length further ≤ 2 ^ 32 - f.params
+    no_more_than_32 = few_from (f.first + f.params) (2 ^ 32 - f.params) further apart
+        (λ k d lt. let x = get_or further k d in let at = f.index x (used k d lt) (new k d lt) in within_32 x at.0 at.1)
+
+    no_more_than_declared : length further ≤ f.declared
+    no_more_than_declared = few_from (f.first + f.params) f.declared further apart
+        (λ k d lt. let x = get_or further k d in let at = f.index x (used k d lt) (new k d lt) in within_declared x at.0 at.1)
+
+    none_too_many : (2 ^ 32 ≤ length further) ⊎ (2 ^ 32 < length (b.parameters ++ further)) → ⊥
+    none_too_many (inl many) = omega (arith, many, no_more_than_declared, f.few)
+    none_too_many (inr many) = too_many (2 ^ 32) f.params b.parameters further f.as_many f.small no_more_than_32 many
+
 module _ (c : Config) (r : handled.Module) (types : ModuleTypes) (all : ModuleLocals) (funcs : ModuleFunctions) (es : ModuleExports) (taken : HasTaken c r types all funcs es)
-    (few_params : (t : ℕ) → length (params_of (types_of r t)) < 2 ^ 32) where
-  -- a used local that is no parameter has an index behind theirs, of 32 bits
-  index_of : (first n count : ℕ) (bytes : List ℕ) (kinds : List (ValType ℕ)) (ops : List Op) → BodyReads (context_of c r) (locals_from first count) bytes kinds ops → n < 2 ^ 32
-      → (x : ℕ) → Contains (locals_of ops) x → (Contains (range_with_len first n) x → ⊥) → (first + n ≤ x) × (x < first + n + (2 ^ 32 - n))
-  index_of first n count bytes kinds ops body small x used new =
+    (few_params : (t : ℕ) → length (params_of (types_of r t)) < 2 ^ 32) (counted : All LocalsHold r.bodies) where
+  -- a used local that is no parameter has an index behind theirs
+  index_of : (first n count : ℕ) (bytes : List ℕ) (kinds : List (ValType ℕ)) (ops : List Op) → BodyReads (context_of c r) (locals_from first count) bytes kinds ops
+      → (x : ℕ) → Contains (locals_of ops) x → (Contains (range_with_len first n) x → ⊥) → (k : ℕ) × ((x ≡ first + k) × (n ≤ k) × (k < 2 ^ 32) × (k < count))
+  index_of first n count bytes kinds ops body x used new =
       let at = used_small (context_of c r) (locals_from first count) bytes kinds ops body x used in
       let is : x ≡ first + at.0 = range_got first count at.0 x at.1.1 in
       let past : n ≤ at.0 = past_by first n at.0 (nat_lt at.0 n) refl (λ inside. new (subst (Contains (range_with_len first n)) {x = first + at.0} {y = x} (sym is) inside)) in
-      let low : at.0 < 2 ^ 32 = at.1.0 in
-      (omega (arith, is, past), omega (arith, is, low, small))
+      (at.0, (is, past, at.1.0, range_within first count at.0 x at.1.1))
 
-  -- no function has more than 2 ^ 32 parameters and further locals that it uses
-  pub few_locals : HasManyLocals (view_of types all funcs es) → ⊥
-  few_locals (i, (b, (further, (is, apart, used, new, many)))) =
-      let stands = body_there ((view_of types all funcs es).functions i) b is in
-      let at = body_at c r types all funcs es taken i stands.0 b stands.1.0 stands.1.1 in
+  -- what a body says declares few locals
+  declares_few : (i : ℕ) (p : ℕ × Said) → slice_get (zip r.functions taken.bodies) i ≡ Some p → length p.1.0 ≤ 50_000
+  declares_few i p stands =
+      let z = got_zip r.functions taken.bodies i p stands in
+      let b = zip_left (ReadsBody c r) (zip r.functions r.bodies) taken.bodies i p.1 taken.read z.1 in
+      let g = got_zip r.functions r.bodies i b.0 b.1 in
+      counted_few _ _ b.0.1 p.1.0 p.1.1 b.2 (all_got LocalsHold r.bodies i b.0.1 counted g.1)
+
+  further_of : (i : ℕ) (ty : ℕ) (b : Body) → BodyAt c r types all funcs es taken i ty b → Further b
+  further_of i ty b at =
       let p = at.said in
       let first = at.held.first in
       let n = arity r p.0 in
@@ -107,13 +151,40 @@ module _ (c : Config) (r : handled.Module) (types : ModuleTypes) (all : ModuleLo
       let moved : BodyReads (context_of c r) (locals_from first count) found.0.bytes p.1.0 b.operators =
       subst (BodyReads (context_of c r) (locals_from first count) found.0.bytes p.1.0) {x = map (moved_op first) p.1.1} {y = b.operators} (sym ops)
       (there (context_of c r) first count found.0.bytes p.1.0 p.1.1 found.1) in
-      let small : n < 2 ^ 32 = few_params p.0 in
-      let ranged : All (λ (x : ℕ). (first + n ≤ x) × (x < first + n + (2 ^ 32 - n))) further = λ k d lt.
-      (let x = get_or further k d in
-      index_of first n count found.0.bytes p.1.0 b.operators moved small x (used k d lt) (λ inside. new k d lt (subst (λ (l : List ℕ). Contains l x) {x = range_with_len first n} {y = b.parameters} (sym params) inside))) in
-      let few : length further ≤ 2 ^ 32 - n = few_from (first + n) (2 ^ 32 - n) further apart ranged in
-      too_many (2 ^ 32) n b.parameters further (ap length params ∙ length-range_with_len first n) small few many
+      record {
+        first = first;
+        params = n;
+        declared = length p.1.0;
+        as_many = ap length params ∙ length-range_with_len first n;
+        small = few_params p.0;
+        few = declares_few i p at.stands;
+        index = λ x used new. index_of first n count found.0.bytes p.1.0 b.operators moved x used (λ inside. new (subst (λ (l : List ℕ). Contains l x) {x = range_with_len first n} {y = b.parameters} (sym params) inside));
+      }
 
--- the same for what was taken in from bytes
-pub few_taken : (c : Config) (bytes : List ℕ) (types : ModuleTypes) (all : ModuleLocals) (funcs : ModuleFunctions) (es : ModuleExports) → TakenFrom c bytes types all funcs es → HasManyLocals (view_of types all funcs es) → ⊥
-few_taken c bytes types all funcs es t = few_locals c t.sections types all funcs es t.taken (few_params bytes t.sections t.framed)
+  -- no function has more than 2 ^ 32 parameters and further locals that it uses
+  pub few_locals : HasManyLocals (view_of types all funcs es) → ⊥
+  few_locals (i, (b, (further, (is, apart, used, new, many)))) =
+      let stands = body_there ((view_of types all funcs es).functions i) b is in
+      let at = body_at c r types all funcs es taken i stands.0 b stands.1.0 stands.1.1 in
+      none_too_many b (further_of i stands.0.ty b at) further apart used new many
+
+  seen_few : (b : Body) (f : LocalFunction) → b ≡ body all f → Further b → b.declared ≤ 50_000
+  seen_few b f is g =
+      let ones = declared_ones f all in
+      let bounds : List ℕ = range_with_len 0 (length (locals all)) in
+      let ops : locals_of (body_in f) ≡ locals_of b.operators = ap (λ (x : Body). locals_of x.operators) (sym is) in
+      let params : map place f.args.items ≡ b.parameters = ap (λ (x : Body). x.parameters) (sym is) in
+      let used : All (λ (x : ℕ). Contains (locals_of b.operators) x) ones = All-from_recursion (λ (x : ℕ). Contains (locals_of b.operators) x) ones
+      (all_filtered (is_declared f) (λ (x : ℕ). Contains (locals_of b.operators) x) bounds (λ x h. subst (λ (l : List ℕ). Contains l x) ops (declared_used f x h).0)) in
+      let new : All (λ (x : ℕ). Contains b.parameters x → ⊥) ones = All-from_recursion (λ (x : ℕ). Contains b.parameters x → ⊥) ones
+      (all_filtered (is_declared f) (λ (x : ℕ). Contains b.parameters x → ⊥) bounds (λ x h. subst (λ (l : List ℕ). Contains l x → ⊥) params (declared_used f x h).1)) in
+      let most = no_more_than_declared b g ones (AllPairs-filter (λ (x : ℕ) (y : ℕ). x ≢ y) (is_declared f) bounds (range_apart 0 (length (locals all)))) used new in
+      let same : b.declared ≡ length ones = ap (λ (x : Body). x.declared) is in
+      omega (arith, most, same, g.few)
+
+  -- in memory no function declares more than 50,000 locals
+  pub locals_hold : Holding (view_of types all funcs es)
+  locals_hold i b is =
+      let stands = body_there ((view_of types all funcs es).functions i) b is in
+      let at = body_at c r types all funcs es taken i stands.0 b stands.1.0 stands.1.1 in
+      seen_few b at.local at.is (further_of i stands.0.ty b at)

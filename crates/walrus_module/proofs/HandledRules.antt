@@ -1,12 +1,7 @@
 -- The rules on what is handled are the rules on sections that hold it.
-use Rattle.std.proofs.Common.{◌≡◌, ◌≢◌, ℕ, ◌+◌, ◌<◌, ◌≤◌, true, List, [], ◌∷◌, map, length, get_or, refl, sym, ap, ap₂, subst, ◌∙◌, arith}
-use Rattle.std.specs.Prelude.{Option, Some, None, is_some, All, AllPairs, slice_get, flat_map, option_map, sum, zip}
-use Rattle.std.specs.List.{AllZip}
+use Rattle.std.proofs.Common.{◌≡◌, ◌≢◌, ℕ, ◌<◌, true, List, map, length, get_or, refl, sym, ap, subst, ◌∙◌, arith}
+use Rattle.std.specs.Prelude.{Option, Some, None, is_some, All, AllPairs, slice_get, flat_map, option_map}
 use Rattle.std.proofs.lemmas.List.{get_or-map, length-map}
-use Rattle.std.proofs.lemmas.List.Elements.{All-nil, All-cons}
-use Rattle.std.proofs.lemmas.List.Sums.{sum_by_from}
-use Rattle.wasm_forms.specs.declared.types.RawVal.{RawVal}
-use Rattle.wasm_forms.proofs.Exact.{one_reading}
 use Rattle.wasm_entries.specs.Record as entries
 use Rattle.wasm_wire.specs.declared.rules.counts.Counts.{Counts}
 use Rattle.wasm_wire.specs.Context.{context_of, counts_of}
@@ -20,11 +15,9 @@ use Rattle.walrus_base.specs.Types.{SubType}
 use Rattle.walrus_types.specs.TypeDef.{TypeDef}
 use Rattle.walrus_groups.specs.Groups.{comp_of, sub_of, types_from}
 use Rattle.walrus_bodies.specs.FunctionTypes.{is_function_comp, is_function_def}
-use Rattle.walrus_bodies.specs.Body.{declarations, how_many, most_locals}
-use Rattle.walrus_model.specs.Config.{Config}
 use Rattle.walrus_model.specs.Handled as handled
 use Rattle.walrus_model.specs.Handled.{widened_kind, widened_export, widened}
-use Rattle.walrus_model.specs.Reads.{Said, ReadsBody, types_of, is_function}
+use Rattle.walrus_model.specs.Reads.{types_of, is_function}
 use Rattle.walrus_module.specs.Sections.{Rules, IsHandled, sections}
 use Rattle.walrus_module.proofs.HandledOnly.{sections_widened}
 use Rattle.walrus_module.proofs.Lookups.{none_there, got_in, got_map, pairs_map}
@@ -97,6 +90,7 @@ narrow_rules m h = record {
       (all_unmapped (ExportHolds (counts_of (context_of (widened m)))) widened_export m.exports h.indices.exports i d lt);
   as_many_bodies = h.as_many_bodies;
   names_differ = pairs_unmapped (λ (a b : entries.Export). a.name ≢ b.name) widened_export m.exports h.names_differ;
+  locals = h.locals;
 }
 
 -- ---- from what is handled to sections
@@ -124,31 +118,8 @@ indices_hold m h = record {
   data_segments = λ i d lt. absurd (omega (arith, lt));
 }
 
--- ---- bodies that can be read declare at most 50,000 locals
-
-same_sum : (locals : List (ℕ × RawVal)) → sum (map (λ l. l.0) locals) ≡ how_many locals
-same_sum [] = refl
-same_sum (l ∷ locals) =
-    let h : sum (map (λ (x : ℕ × RawVal). x.0) (l ∷ locals)) ≡ 0 + l.0 + sum (map (λ (x : ℕ × RawVal). x.0) locals) = sum_by_from (λ (n : ℕ). n) (0 + l.0) (map (λ (x : ℕ × RawVal). x.0) locals) in
-    h ∙ ap₂ ◌+◌ (let e : 0 + l.0 ≡ l.0 = omega arith in e) (same_sum locals)
-
-body_holds : (c : Config) (m : handled.Module) (f : ℕ × wire.Body) (said : Said) → ReadsBody c m f said → wire_rules.LocalsHold f.1
-unfolding declarations
-body_holds c m f said h front back locals stands is =
-    let one = one_reading declarations h.front h.back front back h.declared locals (sym h.parts ∙ stands) h.declares is in
-    let few : how_many h.declared ≤ most_locals = h.few in
-    let few' : how_many locals ≤ most_locals = subst (λ (l : List (ℕ × RawVal)). how_many l ≤ most_locals) one.0 few in
-    subst (λ n. n ≤ 50_000) (sym (same_sum locals)) few'
-
-bodies_hold : (c : Config) (m : handled.Module) (fs : List ℕ) (bs : List wire.Body) (bodies : List Said) → length bs ≡ length fs → AllZip (ReadsBody c m) (zip fs bs) bodies → All wire_rules.LocalsHold bs
-bodies_hold c m [] [] bodies same read = All-nil wire_rules.LocalsHold
-bodies_hold c m [] (b ∷ bs) bodies same read = absurd (omega arith)
-bodies_hold c m (f ∷ fs) [] bodies same read = All-nil wire_rules.LocalsHold
-bodies_hold c m (f ∷ fs) (b ∷ bs) [] same read = absurd read
-bodies_hold c m (f ∷ fs) (b ∷ bs) (said ∷ bodies) same read = All-cons wire_rules.LocalsHold b bs (body_holds c m (f, b) said read.0) (bodies_hold c m fs bs bodies (omega arith) read.1)
-
-pub widen_rules : (c : Config) (m : handled.Module) (bodies : List Said) → Rules m → AllZip (ReadsBody c m) (zip m.functions m.bodies) bodies → wire_rules.Rules (widened m)
-widen_rules c m bodies h read = record {
+pub widen_rules : (m : handled.Module) → Rules m → wire_rules.Rules (widened m)
+widen_rules m h = record {
   in_order = h.sections_in_order;
   types = h.types_refer;
   indices = indices_hold m h;
@@ -162,7 +133,7 @@ widen_rules c m bodies h read = record {
   start = tt;
   element_offsets = λ i d lt. absurd (omega (arith, lt));
   data_offsets = λ i d lt. absurd (omega (arith, lt));
-  locals = bodies_hold c m m.functions m.bodies bodies h.as_many_bodies read;
+  locals = h.locals;
 }
 
 -- ---- what was read

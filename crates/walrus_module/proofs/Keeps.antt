@@ -1,14 +1,15 @@
 -- What sections read as keeps the rules of a module.
-use Rattle.std.proofs.Common.{inl, inr, ◌≡◌, ◌≢◌, ◌⊎◌, ⊎_elim, ℕ, zero, suc, ◌+◌, ◌-◌, ◌<◌, ◌≤◌, Bool, true, false, List, [], ◌∷◌, ◌++◌, length, map, get_or, take, refl, sym, ap, ap₂, subst, ◌∙◌, arith}
+use Rattle.std.proofs.Common.{inl, inr, ◌≡◌, ◌≢◌, ◌⊎◌, ⊎_elim, ℕ, zero, suc, ◌+◌, ◌-◌, ◌<◌, ◌≤◌, Bool, true, false, List, [], ◌∷◌, ◌++◌, length, map, get_or, take, refl, sym, ap, subst, ◌∙◌, arith}
 use Rattle.std.specs.Prelude.{Option, Some, None, IsSome, Contains, All, slice_get, zip, flat_map, replicate, nat_lt, ◌&&◌, if◌then◌else◌}
 use Rattle.std.specs.List.{AllZip, list_all, range_with_len}
 use Rattle.std.proofs.lemmas.Bool.{ltb-true, cases_lt}
-use Rattle.std.proofs.lemmas.List.{length-append, length-replicate}
+use Rattle.std.proofs.lemmas.List.{length-append}
 use Rattle.std.proofs.lemmas.List.Elements.{Contains-append_cases, Contains-get_or, All-contains, All-append, All-map}
 use Rattle.wasm_forms.specs.Reading.{◌>>=◌}
 use Rattle.wasm_forms.specs.declared.types.RawVal.{RawVal}
 use Rattle.wasm_entries.specs.Record.{Group}
 use Rattle.wasm_wire.specs.Indices as wire_indices
+use Rattle.wasm_wire.specs.Rules.{LocalsHold}
 use Rattle.walrus_base.specs.Types.{ValType, CompType, Func, Struct, Array, SubType, comp_names, sub_names, val_names}
 use Rattle.walrus_types.specs.TypeDef.{type_params}
 use Rattle.walrus_groups.specs.Groups.{types_from}
@@ -16,7 +17,7 @@ use Rattle.walrus_types.specs.Operators.{Space, Types, Functions, Tables, Memori
 use Rattle.walrus_code.specs.FromRaw.{val_of, ops_of}
 use Rattle.walrus_code.specs.Names.{Lookup, named_val, named_ops}
 use Rattle.walrus_bodies.specs.Blocks.{block_holds, args_hold}
-use Rattle.walrus_bodies.specs.Body.{BodyReads, declared_types, how_many}
+use Rattle.walrus_bodies.specs.Body.{BodyReads, declared_types}
 use Rattle.walrus_bodies.specs.FunctionTypes.{is_function_comp, is_function_def}
 use Rattle.walrus_functions.specs.Handlers.{params_of}
 use Rattle.walrus_functions.specs.ReadFunction.{locals_from}
@@ -29,6 +30,7 @@ use Rattle.walrus_model.specs.Refers.{named_by, type_names, function_names, writ
 use Rattle.walrus_model.specs.Rules.{TypesRefer, IsEarlier, IndicesHold, FunctionTypesHold, RulesHold, IsFunctionType, IsFunctionComp}
 use Rattle.walrus_model.proofs.Lists.{Contains-uncons, Contains-none}
 use Rattle.walrus_module.specs.Sections.{Rules}
+use Rattle.walrus_module.proofs.CountedLocals.{counted_few}
 use Rattle.walrus_module.proofs.Lookups.{none_there, some_of, mapped_some, got_map, got_zip, got_in, there, there_mapped, all_got, zip_long, zip_length, zip_left, pairs_map, range_within}
 use Rattle.walrus_module.proofs.TypeLists.{IsMember, type_is_member, member_refers, group_fits, types_count as type_count, count, in_range, range_bounds, comp_below, params_below}
 use Rattle.walrus_module.proofs.Named.{through, some_inj, val_again, ops_again}
@@ -76,17 +78,6 @@ types_hold names P H (d ∷ ds) types e k v h =
     through (declared_types names ds) (λ others. Some (replicate d.0 q.0 ++ others)) types q.2 in
     got_append P (replicate d.0 q.0) s.0 (λ j w g. subst P (got_replicate d.0 q.0 j w g) (H (val_of d.1) q.0 q.1)) (types_hold names P H ds s.0 s.1) k v
     (ap (λ l. slice_get l k) (some_inj (replicate d.0 q.0 ++ s.0) types s.2) ∙ h)
-
-types_count : (names : Lookup) (ds : List (ℕ × RawVal)) (types : List (ValType ℕ)) → declared_types names ds ≡ Some types → length types ≡ how_many ds
-types_count names [] types e = ap length (sym (some_inj [] types e))
-types_count names (d ∷ ds) types e =
-    let q : (w : ValType ℕ) × (named_val names (val_of d.1) ≡ Some w) × ((declared_types names ds >>= λ others. Some (replicate d.0 w ++ others)) ≡ Some types) =
-    through (named_val names (val_of d.1)) (λ w. declared_types names ds >>= λ others. Some (replicate d.0 w ++ others)) types e in
-    let s : (others : List (ValType ℕ)) × (declared_types names ds ≡ Some others) × (Some (replicate d.0 q.0 ++ others) ≡ Some types) =
-    through (declared_types names ds) (λ others. Some (replicate d.0 q.0 ++ others)) types q.2 in
-    ap length (sym (some_inj (replicate d.0 q.0 ++ s.0) types s.2))
-    ∙ length-append (replicate d.0 q.0) s.0
-    ∙ ap₂ (λ (a b : ℕ). a + b) (length-replicate d.0 q.0) (types_count names ds s.0 s.1)
 
 -- ---- indices that are declared
 
@@ -259,6 +250,7 @@ module _ (c : Config) (r : handled.Module) (bodies : List Said) (rules : Rules r
     is : f ≡ function_with r (at_type, said)
     takes : is_function r at_type ≡ true
     reads : BodyReads (context_of c r) (locals_from 0 (arity r at_type + length said.0)) bytes said.0 said.1
+    few : length said.0 ≤ 50_000
 
   function_at : (i : ℕ) (f : Function) → M.functions i ≡ Some f → At f
   function_at i f e =
@@ -274,6 +266,7 @@ module _ (c : Config) (r : handled.Module) (bodies : List Said) (rules : Rules r
         is = m.2;
         takes = all_got (λ t. is_function r t ≡ true) r.functions i m.0.0 rules.function_types z.0;
         reads = subst (λ (t : ℕ). BodyReads (context_of c r) (locals_from 0 (arity r t + length m.0.1.0)) b.0.1.bytes m.0.1.0 m.0.1.1) same b.2;
+        few = counted_few _ _ b.0.1 m.0.1.0 m.0.1.1 b.2 (all_got LocalsHold r.bodies i b.0.1 rules.locals g.1);
       }
 
   record BodyAt (b : Body) : Type 0 where
@@ -401,12 +394,6 @@ module _ (c : Config) (r : handled.Module) (bodies : List Said) (rules : Rules r
         block_holds_at a.fn a.at o t (subst (λ (x : Body). Contains x.operators o) a.is n) m;
   }
 
-  locals_few : (f : Function) (a : At f) → length a.said.0 ≤ 50_000
-  locals_few f a =
-      let few : how_many a.reads.declared ≤ 50_000 = a.reads.few in
-      let same : length a.said.0 ≡ how_many a.reads.declared = types_count (declared r) a.reads.declared a.said.0 a.reads.typed in
-      subst (λ (n : ℕ). n ≤ 50_000) (sym same) few
-
   pub keeps : RulesHold (λ space i j. i < j) M
   keeps = record {
     types = types_refer;
@@ -417,5 +404,5 @@ module _ (c : Config) (r : handled.Module) (bodies : List Said) (rules : Rules r
     offsets = record { elements = λ i table e t offset p. cc; data_segments = λ i memory d x offset p. cc };
     locals = λ f b e.
         let a = body_at f b e in
-        subst (λ (x : Body). x.declared ≤ 50_000) (sym a.is) (locals_few a.fn a.at);
+        subst (λ (x : Body). x.declared ≤ 50_000) (sym a.is) a.at.few;
   }

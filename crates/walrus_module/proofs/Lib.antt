@@ -3,6 +3,7 @@ pub mod BodiesBack
 pub mod BodyBack
 pub mod CarriedOver
 pub mod Carrying
+pub mod CountedLocals
 pub mod DeclaredTypes
 pub mod Differ
 pub mod EmittedLemmas
@@ -43,6 +44,7 @@ pub mod Renamed
 pub mod Rooms
 pub mod TypeRooms
 pub mod SameBodies
+pub mod SeenLocals
 pub mod SmallLocals
 pub mod Somes
 pub mod SpelledOnce

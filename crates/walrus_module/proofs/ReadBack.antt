@@ -32,6 +32,7 @@ use Rattle.walrus_module.specs.Spells.{Records, Spells}
 use Rattle.walrus_module.specs.View.{export_of}
 use Rattle.walrus_module.proofs.BodiesBack.{as_many_functions, as_many_bodies, new_types, type_below, function_below, texts_read, all_functions_typed}
 use Rattle.walrus_module.proofs.HandledFrames.{id_if_any, HandledCanBeWritten, first_place, written_module, handled_frames}
+use Rattle.walrus_module.proofs.CountedLocals.{DeclaresFew, all_counted}
 use Rattle.walrus_module.proofs.Keeps.{keeps}
 use Rattle.walrus_module.proofs.Lookups.{then_some, mapped_some, pairs_map, map_after}
 use Rattle.walrus_module.proofs.TypeSizes.{types_fewer}
@@ -180,20 +181,21 @@ module _ (c : Config) {h : Held} {exports : List ExportValue} (r : Records h (fe
   }
 
   module _ (one : (p : ℕ) (x : TypeDef) → item_at h.types p ≡ Some x → length x.sub.supertypes ≤ 1) where
-    rules_of : AllPairs (λ (d : Export) (e : Export). d.name ≢ e.name) (map export_of exports) → Rules wire_module
+    rules_of : AllPairs (λ (d : Export) (e : Export). d.name ≢ e.name) (map export_of exports) → All DeclaresFew (map said (texts_of r)) → Rules wire_module
     unfolding wire_module
-    rules_of g = record {
+    rules_of g few = record {
       sections_in_order = in_order r.raw_types r.raw_functions (map widened_export r.raw_exports) (map unplaced r.bodies);
       types_refer = types_keep_rules r one;
       function_types = all_functions_typed c r wire_module refl refl;
       exports_hold = exports_declared;
       as_many_bodies = many_bodies;
       names_differ = names_differ g;
+      locals = all_counted c wire_module (map said (texts_of r)) many_bodies read_back few;
     }
 
-    keeps_rules : AllPairs (λ (d : Export) (e : Export). d.name ≢ e.name) (map export_of exports) → Holds (written_as r)
+    keeps_rules : AllPairs (λ (d : Export) (e : Export). d.name ≢ e.name) (map export_of exports) → All DeclaresFew (map said (texts_of r)) → Holds (written_as r)
     unfolding wire_module
-    keeps_rules g = keeps c wire_module (map said (texts_of r)) (rules_of g) read_back
+    keeps_rules g few = keeps c wire_module (map said (texts_of r)) (rules_of g few) read_back
 
 -- ---- both, of what is spelled
 
@@ -201,7 +203,7 @@ module _ (c : Config) {h : Held} {exports : List ExportValue} (r : Records h (fe
 pub reads_back : (c : Config) {h : Held} {exports : List ExportValue} (bytes : List ℕ) (s : Spells h (features_of c) exports bytes) → NothingUndeclared (written_as s.records) → Reads c bytes (written_as s.records)
 reads_back c bytes s declared = reads_as c s.records bytes s.written declared
 
--- and it keeps the rules, where no two exports have one name, and no type has two supertypes
+-- and it keeps the rules, where no two exports have one name, no body declares too many locals, and no type has two supertypes
 pub holds_back : (c : Config) {h : Held} {exports : List ExportValue} (r : Records h (features_of c) exports) → ((p : ℕ) (x : TypeDef) → item_at h.types p ≡ Some x → length x.sub.supertypes ≤ 1)
-    → AllPairs (λ (d : Export) (e : Export). d.name ≢ e.name) (map export_of exports) → Holds (written_as r)
-holds_back c r one g = keeps_rules c r one g
+    → AllPairs (λ (d : Export) (e : Export). d.name ≢ e.name) (map export_of exports) → All DeclaresFew (map said (texts_of r)) → Holds (written_as r)
+holds_back c r one g few = keeps_rules c r one g few

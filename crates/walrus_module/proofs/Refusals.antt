@@ -33,7 +33,7 @@ frames_refused c bytes (Wire.Memory m) only small = tt
 frames_refused c bytes Wire.TooLarge only small = absurd (small refl)
 
 pub rules_refused : (c : Config) (bytes : List ℕ) (w : wire.Module) (e : WireError) → Frames bytes w → Checks (Err e) (wire_rules.Rules w) → RefusesModule c bytes (error_of_wire e)
-rules_refused c bytes w Wire.Malformed f h = λ a. h (subst wire_rules.Rules (one_record_lem bytes (widened a.sections) w a.framed f) (widen_rules c a.sections a.bodies a.rules a.read))
+rules_refused c bytes w Wire.Malformed f h = λ a. h (subst wire_rules.Rules (one_record_lem bytes (widened a.sections) w a.framed f) (widen_rules a.sections a.rules))
 rules_refused c bytes w (Wire.Memory m) f h = tt
 rules_refused c bytes w Wire.TooLarge f h = absurd h
 

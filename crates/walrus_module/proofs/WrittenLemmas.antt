@@ -9,6 +9,7 @@ use Rattle.std.specs.declared.cmp.Ordering.TheVariants.{Less, Equal}
 use Rattle.std.proofs.lemmas.Bool.{ltb-true, ltb-false}
 use Rattle.std.proofs.lemmas.Cmp.{nat_cmp_total, on_total, back_total, then_total}
 use Rattle.std.proofs.lemmas.List.{length-map}
+use Rattle.std.proofs.lemmas.List.Elements.{All-from_recursion}
 use Rattle.std.proofs.lemmas.List.MinMax.{ranks_by}
 use Rattle.std.proofs.lemmas.List.Sorted.{sorted_far}
 use Rattle.std.specs.Cmp.{nat_cmp_is}
@@ -44,6 +45,7 @@ use Rattle.walrus_model.specs.Placed.{Placed}
 use Rattle.walrus_model.specs.Producers.{if_written}
 use Rattle.walrus_model.specs.Reads.{features_of}
 use Rattle.walrus_model.specs.Renaming.{Renaming}
+use Rattle.walrus_model.specs.Rules.{LocalsHold}
 use Rattle.walrus_model.specs.Same.{BothAnd}
 use Rattle.walrus_model.proofs.Lists.{Contains-none}
 use Rattle.walrus_module.specs.Emitted.{IsEmitted, NamesDiffer}
@@ -56,6 +58,8 @@ use Rattle.walrus_module.proofs.Lookups.{none_there, was_some, still_some}
 use Rattle.walrus_module.proofs.Named.{some_inj}
 use Rattle.walrus_module.proofs.ReadBack.{reads_back, holds_back}
 use Rattle.walrus_module.proofs.RefsCarried.{none_undeclared_in}
+use Rattle.walrus_module.proofs.CountedLocals.{DeclaresFew}
+use Rattle.walrus_module.proofs.SeenLocals.{texts_few}
 use Rattle.walrus_module.proofs.WrittenAs.{written_as, renaming_of}
 
 -- ---- the larger one first
@@ -227,11 +231,12 @@ written_lem c no_names no_producers types all funcs es no_undeclared r =
 -- what is spelled is what emission promises
 pub emitted_lem : (c : Config) → c.writes_names ≡ false → c.writes_producers ≡ false → (types : ModuleTypes) (all : ModuleLocals) (funcs : ModuleFunctions) (es : ModuleExports)
     → ((f : ℕ) → IsUndeclared (IsLive (view_of types all funcs es)) (view_of types all funcs es) f → ⊥)
-    → NamesDiffer (view_of types all funcs es) → (bytes : List ℕ) → Spells (held_of types all funcs) (features_of c) (items (exports es)) bytes → Placed bytes → IsEmitted c (view_of types all funcs es) bytes
-emitted_lem c no_names no_producers types all funcs es no_undeclared differ bytes s placed = record {
+    → NamesDiffer (view_of types all funcs es) → LocalsHold (view_of types all funcs es) → (bytes : List ℕ) → Spells (held_of types all funcs) (features_of c) (items (exports es)) bytes → Placed bytes → IsEmitted c (view_of types all funcs es) bytes
+emitted_lem c no_names no_producers types all funcs es no_undeclared differ few bytes s placed = record {
   module_written = written_as s.records;
   reads = reads_back c bytes s (none_undeclared_in (renaming_of s.records) (view_of types all funcs es) (written_as s.records) (carried_over types all funcs es (features_of c) s.records) (λ i. refl) (λ i. refl) no_undeclared);
-  holds = holds_back c s.records (one_supertype types) differ;
+  holds = holds_back c s.records (one_supertype types) differ
+      (All-from_recursion DeclaresFew _ (texts_few types all funcs es few s.records.names (features_of c) s.records.order s.records.bodies s.records.bodies_are));
   written = written_lem c no_names no_producers types all funcs es no_undeclared s.records;
   placed = placed;
 }

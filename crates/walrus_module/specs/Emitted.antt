@@ -1,9 +1,8 @@
 -- What emission gives, and when it refuses.
-use Rattle.std.specs.Prelude.{ℕ, Bool, true, false, List, AllPairs, Contains, Option, Some, length, map, ◌≢◌, ◌≡◌, ◌≤◌, ◌^◌, ◌⊎◌, ⊤, Result, Ok, Err}
+use Rattle.std.specs.Prelude.{ℕ, Bool, true, false, List, AllPairs, Option, Some, length, map, ◌≢◌, ◌≡◌, ◌≤◌, ◌^◌, ◌⊎◌, ⊤, Result, Ok, Err}
 use Rattle.wasm_entries.specs.Record as entries
 use Rattle.wasm_frames.specs.Record as wire
 use Rattle.walrus_base.specs.Arena.{entries, items}
-use Rattle.walrus_base.specs.Types.{ValType}
 use Rattle.walrus_code.specs.Names.{Lookup}
 use Rattle.walrus_code.specs.declared.function.LocalFunction.{LocalFunction}
 use Rattle.walrus_bodies.specs.declared.features.Features.{Features}
@@ -49,7 +48,7 @@ is_there_in h exports = all_there h.types h.slots h.funcs exports
 abbrev pub HasUnwritable : Held → Features → Type 0
 HasUnwritable h features = (names : Lookup) × ((number : ℕ) × ((local : LocalFunction) × ((local_in h.funcs number ≡ Some (number, local)) × CantBeWritten (source h names features local))))
 
--- a function has more than 2 ^ 32 locals
+-- a function has more than 2 ^ 32 locals, or as many declared ones
 abbrev pub HasTooManyIn : Held → Features → Type 0
 HasTooManyIn h features = (names : Lookup) × ((number : ℕ) × ((local : LocalFunction) × ((local_in h.funcs number ≡ Some (number, local)) × HasTooManyLocals (source h names features local))))
 

@@ -7,7 +7,7 @@ use Rattle.walrus_model.specs.Handled as handled
 use Rattle.walrus_model.specs.Handled.{widened}
 use Rattle.walrus_model.specs.Pipeline.{ParsedAs, IsSimple}
 use Rattle.walrus_model.specs.Reads.{Said, Reads, Accepts, ReadsBody, module_of}
-use Rattle.walrus_model.specs.Rules.{Holds}
+use Rattle.walrus_model.specs.Rules.{Holds, LocalsHold}
 use Rattle.std.specs.List.{AllZip}
 use Rattle.walrus_types.specs.declared.locals.ModuleLocals.{ModuleLocals}
 use Rattle.walrus_types.specs.declared.module_types.ModuleTypes.{ModuleTypes}
@@ -32,6 +32,7 @@ pub record IsParsed (c : Config) (bytes : List ℕ) (v : Abstract) : Type 0 wher
   pub bodies : AreWellFormed c v
   pub types : AreWritable v
   pub references : NothingUndeclared v
+  pub locals : LocalsHold v
   pub few_locals : HasManyLocals v → ⊥
 
 -- parsing is refused for want of memory, or since the bytes aren't accepted

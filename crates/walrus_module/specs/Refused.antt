@@ -57,9 +57,9 @@ HasUndeclared v = (f : ℕ) × IsUndeclared (IsLive v) v f
 abbrev pub HasTooMany : Abstract → Type 0
 HasTooMany v = (space : Space) × (numbers : List ℕ) × AllPairs (λ i j. i < j) numbers × All (Has v space) numbers × (2 ^ 32 ≤ length numbers)
 
--- a function has more than 2 ^ 32 parameters and further locals that it uses, which are no parameters
+-- a function uses 2 ^ 32 further locals, which are no parameters, or has more than 2 ^ 32 parameters and such locals
 abbrev pub HasManyLocals : Abstract → Type 0
-HasManyLocals v = (i : ℕ) × ((b : Body) × ((further : List ℕ) × ((body_of v i ≡ Some b) × AllPairs (λ (x : ℕ) (y : ℕ). x ≢ y) further × All (IsUsed b) further × All (λ (x : ℕ). Contains b.parameters x → ⊥) further × (2 ^ 32 < length (b.parameters ++ further)))))
+HasManyLocals v = (i : ℕ) × ((b : Body) × ((further : List ℕ) × ((body_of v i ≡ Some b) × AllPairs (λ (x : ℕ) (y : ℕ). x ≢ y) further × All (IsUsed b) further × All (λ (x : ℕ). Contains b.parameters x → ⊥) further × ((2 ^ 32 ≤ length further) ⊎ (2 ^ 32 < length (b.parameters ++ further))))))
 
 -- the sections of a module of indices, spelled as they are written, with no empty group, have a count or a size past 32 bits
 pub record IsTooLarge (n : Abstract) : Type 0 where

@@ -6,6 +6,7 @@ use Rattle.wasm_frames.specs.declared.record.Raw.{Raw}
 use Rattle.wasm_frames.specs.Record as wire
 use Rattle.wasm_frames.specs.Order.{InOrder}
 use Rattle.wasm_wire.specs.Indices.{TypesRefer}
+use Rattle.wasm_wire.specs.Rules.{LocalsHold}
 use Rattle.walrus_model.specs.Handled.{Export, Module, widened, narrowed, narrowed_export}
 use Rattle.walrus_model.specs.Reads.{is_function}
 
@@ -33,3 +34,4 @@ pub record Rules (m : Module) : Type 0 where
   pub exports_hold : All (λ e. e.index < length m.functions) m.exports
   pub as_many_bodies : length m.bodies ≡ length m.functions
   pub names_differ : AllPairs (λ a b. a.name ≢ b.name) m.exports
+  pub locals : All LocalsHold m.bodies

@@ -10,6 +10,7 @@ ghost use Rattle.walrus_code.specs.Indices.{index_of};
 ghost use Rattle.walrus_items.specs.Exports.{exports, export_value};
 ghost use Rattle.walrus_items.specs.Functions.{functions};
 ghost use Rattle.walrus_model.specs.Reads.{features_of};
+ghost use Rattle.walrus_model.specs.Rules.{LocalsHold};
 ghost use Rattle.walrus_parts.specs.Errors.{out_of_memory};
 ghost use Rattle.wasm_entries.specs.Record.{group, export_entry};
 ghost use Rattle.wasm_frames.specs.Record.{body_record};
@@ -50,7 +51,7 @@ impl Module {
     /// one, `TooLarge` where a count or a size passes 32 bits, and `Memory`.
     pub fn emit_wasm(&mut self, alloc: Global) -> Result<Vec<u8>>
         ensures unchanged { self.new ≡ self.old }
-        ensures emitted { NamesDiffer (view self.old)
+        ensures emitted { NamesDiffer (view self.old) → LocalsHold (view self.old)
             → IfOk result (λ bytes. IsEmitted (config_of (settings self.old)) (view self.old) bytes.items) }
         ensures placed { IfOk result (λ bytes. Placed bytes.items) }
         ensures spells { IfOk result (λ bytes. Spells (held_in self.old.types self.old.locals self.old.funcs) (features_of (config_of (settings self.old))) (items (exports self.old.exports)) bytes.items) }

@@ -34,7 +34,7 @@ use crate::module::Module;
 use crate::references::check_references;
 use std::alloc::{AllocError, Global};
 use std::result;
-use walrus_bodies::{ReadBody, read_body};
+use walrus_bodies::{ReadBody, read_body_over};
 use walrus_groups::read_types;
 use walrus_ir::{
     Features, Id, IndicesToIds, InstrLocId, IrError, LocalFunction, LocalId, ModuleLocals,
@@ -205,7 +205,7 @@ fn read_located<L: Fn(&usize) -> InstrLocId>(
     ensures read { ReadsBody (context (ids_at indices.now) (is_function_at types.now) features.now) (map place args.now) (locals all.old) (locals all.new) body.now.bytes.now result }
     ensures located { IfOk result (λ read. BodyLocated IsPlace body.now.start body.now.bytes.now (locations read.operators.items)) }
 {
-    read_body(
+    read_body_over(
         alloc, body.bytes, body.start, features, indices, types, args, all, locate,
     )
 }

@@ -8,7 +8,7 @@ use walrus_base::FunctionId;
 use walrus_bodies::FunctionTypes;
 use walrus_ir::{
     Features, IdsToIndices, IndicesToIds, InstrLocId, LocalFunction, ModuleLocals, ModuleTypes,
-    emit_body, read_function,
+    emit_body, read_body,
 };
 
 // Two locals of i32: i32.const 5, local.set 0, local.get 0, drop, call 0, nop, end
@@ -73,7 +73,7 @@ fn read(
         return None;
     }
     let locate = |place: &usize| InstrLocId::of_place(*place);
-    read_function(
+    read_body(
         alloc,
         bytes,
         40,

@@ -11,7 +11,7 @@ use std::alloc::Global;
 use walrus_base::TypeId;
 use walrus_bodies::{Features, FunctionTypes};
 use walrus_code::{InstrLocId, IrError, LocalFunction};
-use walrus_functions::{EmittedBody, emit_body, read_function};
+use walrus_functions::{EmittedBody, emit_body, read_body};
 use walrus_types::ModuleLocals;
 use wasm_wire::{Raw, RawBody};
 
@@ -77,7 +77,7 @@ fn read_one(
     context: &mut Context,
 ) -> Result<LocalFunction, IrError> {
     let ty = function_type(ty, context)?;
-    read_function(
+    read_body(
         alloc,
         body.bytes,
         body.start,
@@ -187,7 +187,7 @@ fn read_again(
     if !context.types.is_function_type(ty) {
         return Err(IrError::Malformed);
     }
-    read_function(
+    read_body(
         alloc,
         &body.bytes,
         0,

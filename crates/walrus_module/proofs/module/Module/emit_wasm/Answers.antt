@@ -1,30 +1,25 @@
-use Rattle.std.proofs.Common.{◌≡◌, refl, true, false, subst}
-use Rattle.std.specs.Prelude.{Bool, Result, Ok, Err, IfOk}
-use Rattle.std.specs.Global.{Vec}
+use Rattle.std.proofs.Common.{refl, false, subst}
+use Rattle.std.specs.Prelude.{Bool, IfOk}
 use Rattle.walrus_base.specs.Arena.{items}
 use Rattle.walrus_bodies.specs.declared.features.Features.{Features}
 use Rattle.walrus_items.specs.Exports.{exports}
-use Rattle.walrus_items.specs.Functions.{functions}
 use Rattle.walrus_model.specs.Placed.{Placed}
-use Rattle.walrus_model.specs.Reads.{features_of}
-use Rattle.walrus_module.specs.Emitted.{IsEmitted, RefusesDeclared}
+use Rattle.walrus_module.specs.Emitted.{RefusesDeclared}
 use Rattle.walrus_module.specs.Flags.{config_of}
-use Rattle.walrus_module.specs.Parts.{Held, held_in}
-use Rattle.walrus_module.specs.References.{refs_are_exported}
+use Rattle.walrus_module.specs.Parts.{held_in}
 use Rattle.walrus_module.specs.Settings.{settings}
 use Rattle.walrus_module.specs.Spells.{Spells}
-use Rattle.walrus_module.specs.View.{view}
-use Rattle.walrus_module.proofs.EmittedLemmas.{if_ok_both, records_written, spelled_is_emitted, emitted_ok}
+use Rattle.walrus_module.proofs.EmittedLemmas.{if_ok_both, records_written, emitted_ok}
 use Rattle.walrus_module.proofs.PlacedLemmas.{placed_as_spelled}
 use Rattle.walrus_module.proofs.RefusedLemmas.{refuses_lem}
 use Rattle.walrus_module.proofs.ThereLemmas.{there, there_back}
 use Rattle.walrus_module.proofs.module.Module.emit_wasm.Goals as goal
 
 pub returns-clause-emitted : goal.returns-clause-emitted
-returns-clause-emitted g c = λ differ.
+returns-clause-emitted g c = λ differ few.
     let m = c.args.self.now in
     let features = c.features-features.ensures in
-    emitted_ok (config_of (settings m)) (refl {A = Bool} {a = false}) (refl {A = Bool} {a = false}) m.types m.locals m.funcs m.exports (λ bytes. bytes.items) c.emit_items.result differ
+    emitted_ok (config_of (settings m)) (refl {A = Bool} {a = false}) (refl {A = Bool} {a = false}) m.types m.locals m.funcs m.exports (λ bytes. bytes.items) c.emit_items.result differ few
     (subst (λ (f : Features). IfOk c.emit_items.result (λ bytes. Spells (held_in m.types m.locals m.funcs) f (items (exports m.exports)) bytes.items)) features c.emit_items.ensures.spells)
     (subst (λ (f : Features). RefusesDeclared (held_in m.types m.locals m.funcs) f (items (exports m.exports)) c.emit_items.result) features c.emit_items.ensures.refused)
 
