@@ -1,4 +1,5 @@
 -- A function that was taken in has at most 2 ^ 32 parameters and further locals that it uses.
+use Rattle.wasm_frames.specs.Record as wire
 use Rattle.std.proofs.Common.{◌≡◌, ◌≢◌, ℕ, zero, suc, ◌+◌, ◌-◌, ◌<◌, ◌≤◌, ◌^◌, Bool, true, false, List, [], ◌∷◌, ◌++◌, length, map, get_or, refl, sym, ap, subst, ◌∙◌, arith, length-append}
 use Rattle.std.specs.Prelude.{Some, Contains, All, AllPairs, ◌||◌, ◌==◌, slice_get, nat_lt}
 use Rattle.std.specs.List.{range_with_len, list_any}
@@ -21,8 +22,8 @@ use Rattle.walrus_items.specs.declared.exports.ModuleExports.{ModuleExports}
 use Rattle.walrus_items.specs.declared.functions.ModuleFunctions.{ModuleFunctions}
 use Rattle.walrus_model.specs.Abstract.{Body}
 use Rattle.walrus_model.specs.Config.{Config}
-use Rattle.walrus_model.specs.Handled as handled
-use Rattle.walrus_model.specs.Reads.{types_of, context_of, arity, ReadsBody}
+use Rattle.walrus_model.specs.Reads.{context_of, arity, ReadsBody}
+use Rattle.walrus_model.specs.Sections.{types_of}
 use Rattle.walrus_module.specs.Parsed.{TakenFrom}
 use Rattle.walrus_module.specs.Refused.{HasManyLocals}
 use Rattle.walrus_module.specs.Taken.{HasTaken}
@@ -31,6 +32,7 @@ use Rattle.walrus_module.proofs.FewParams.{few_params}
 use Rattle.walrus_module.proofs.ParsedWhole.{body_at, body_there}
 use Rattle.walrus_module.proofs.SmallLocals.{used_small}
 use Rattle.walrus_module.proofs.WholeLists.{zip_third}
+use Rattle.walrus_model.proofs.Supported.{supported, all_supported}
 
 -- ---- distinct numbers
 
@@ -80,13 +82,13 @@ past_by a n i false e h = ltb-false i n e
 too_many : (most n : ℕ) (ps fs : List ℕ) → length ps ≡ n → n < most → length fs ≤ most - n → most < length (ps ++ fs) → ⊥
 too_many most n ps fs long lt few many = omega (arith, long, lt, few, many, length-append ps fs)
 
-module _ (c : Config) (r : handled.Module) (types : ModuleTypes) (all : ModuleLocals) (funcs : ModuleFunctions) (es : ModuleExports) (taken : HasTaken c r types all funcs es)
+module _ (c : Config) (r : wire.Module) (types : ModuleTypes) (all : ModuleLocals) (funcs : ModuleFunctions) (es : ModuleExports) (taken : HasTaken c (supported r) types all funcs es)
     (few_params : (t : ℕ) → length (params_of (types_of r t)) < 2 ^ 32) where
   -- a used local that is no parameter has an index behind theirs, of 32 bits
-  index_of : (first n count : ℕ) (bytes : List ℕ) (kinds : List (ValType ℕ)) (ops : List Op) → BodyReads (context_of c r) (locals_from first count) bytes kinds ops → n < 2 ^ 32
+  index_of : (first n count : ℕ) (bytes : List ℕ) (kinds : List (ValType ℕ)) (ops : List Op) → BodyReads (context_of c (supported r)) (locals_from first count) bytes kinds ops → n < 2 ^ 32
       → (x : ℕ) → Contains (locals_of ops) x → (Contains (range_with_len first n) x → ⊥) → (first + n ≤ x) × (x < first + n + (2 ^ 32 - n))
   index_of first n count bytes kinds ops body small x used new =
-      let at = used_small (context_of c r) (locals_from first count) bytes kinds ops body x used in
+      let at = used_small (context_of c (supported r)) (locals_from first count) bytes kinds ops body x used in
       let is : x ≡ first + at.0 = range_got first count at.0 x at.1.1 in
       let past : n ≤ at.0 = past_by first n at.0 (nat_lt at.0 n) refl (λ inside. new (subst (Contains (range_with_len first n)) {x = first + at.0} {y = x} (sym is) inside)) in
       let low : at.0 < 2 ^ 32 = at.1.0 in
@@ -100,13 +102,13 @@ module _ (c : Config) (r : handled.Module) (types : ModuleTypes) (all : ModuleLo
       let p = at.said in
       let first = at.held.first in
       let n = arity r p.0 in
-      let found = zip_third (ReadsBody c r) r.functions r.bodies taken.bodies i p taken.read at.stands in
+      let found = zip_third (ReadsBody c (supported r)) r.functions r.bodies taken.bodies i p taken.read at.stands in
       let count = n + length p.1.0 in
       let ops : b.operators ≡ map (moved_op first) p.1.1 = ap (λ (x : Body). x.operators) at.is ∙ at.held.operators in
       let params : b.parameters ≡ range_with_len first n = ap (λ (x : Body). x.parameters) at.is ∙ at.held.parameters in
-      let moved : BodyReads (context_of c r) (locals_from first count) found.0.bytes p.1.0 b.operators =
-      subst (BodyReads (context_of c r) (locals_from first count) found.0.bytes p.1.0) {x = map (moved_op first) p.1.1} {y = b.operators} (sym ops)
-      (there (context_of c r) first count found.0.bytes p.1.0 p.1.1 found.1) in
+      let moved : BodyReads (context_of c (supported r)) (locals_from first count) found.0.bytes p.1.0 b.operators =
+      subst (BodyReads (context_of c (supported r)) (locals_from first count) found.0.bytes p.1.0) {x = map (moved_op first) p.1.1} {y = b.operators} (sym ops)
+      (there (context_of c (supported r)) first count found.0.bytes p.1.0 p.1.1 found.1) in
       let small : n < 2 ^ 32 = few_params p.0 in
       let ranged : All (λ (x : ℕ). (first + n ≤ x) × (x < first + n + (2 ^ 32 - n))) further = λ k d lt.
       (let x = get_or further k d in
@@ -116,4 +118,5 @@ module _ (c : Config) (r : handled.Module) (types : ModuleTypes) (all : ModuleLo
 
 -- the same for what was taken in from bytes
 pub few_taken : (c : Config) (bytes : List ℕ) (types : ModuleTypes) (all : ModuleLocals) (funcs : ModuleFunctions) (es : ModuleExports) → TakenFrom c bytes types all funcs es → HasManyLocals (view_of types all funcs es) → ⊥
-few_taken c bytes types all funcs es t = few_locals c t.sections types all funcs es t.taken (few_params bytes t.sections t.framed)
+few_taken c bytes types all funcs es t =
+    few_locals c t.sections types all funcs es (subst (λ s. HasTaken c s types all funcs es) (all_supported t.sections t.supported) t.taken) (few_params bytes t.sections t.framed)
