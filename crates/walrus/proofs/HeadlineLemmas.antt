@@ -1,4 +1,5 @@
 -- What was parsed, then collected, then written or refused: what the whole way comes to.
+use Rattle.wasm_frames.specs.Record as wire
 use Rattle.std.proofs.Common.{◌≡◌, ◌≢◌, ℕ, zero, suc, ◌<◌, ◌≤◌, ◌^◌, Bool, true, false, List, [], ◌∷◌, ◌++◌, map, length, get_or, refl, sym, ap, ap₂, ◌∙◌, subst, arith, inl, inr, ⊎_elim}
 use Rattle.std.proofs.lemmas.List.Elements.{All-contains, All-from_recursion, Contains-append_cases}
 use Rattle.std.proofs.lemmas.Option.{slice_get_within, get_or_from_slice_get}
@@ -25,7 +26,8 @@ use Rattle.walrus_model.specs.Pipeline.{ParsedAs, Collected}
 use Rattle.walrus_model.specs.Reached.{Reached, root, step}
 use Rattle.walrus_groups.specs.Groups.{types_from}
 use Rattle.walrus_module.proofs.TypeRooms.{types_fit}
-use Rattle.walrus_model.specs.Reads.{Said, features_of, types_of, body_with, function_with, module_of, ReadsBody}
+use Rattle.walrus_model.specs.Reads.{features_of, ReadsBody}
+use Rattle.walrus_model.specs.Sections.{Said, types_of, body_with, function_with, module_of}
 use Rattle.walrus_model.specs.Refers.{named_by, kind_names, local_names, used_locals, IsUsed, type_names, function_names, table_names, memory_names, tag_names, global_names, element_names, data_names, written_in}
 use Rattle.walrus_model.specs.Renaming.{Renaming}
 use Rattle.walrus_model.specs.Roots.{exported}
@@ -48,7 +50,7 @@ use Rattle.walrus_parts.specs.declared.error.Error.TheVariants as error
 use Rattle.walrus.specs.Headline.{ComesTo, ComesOutTooLarge, Answers}
 use Rattle.walrus.specs.Marked.{ReachesSound, ReachesUnsound}
 use Rattle.walrus.specs.Used.{IsRefusal}
-use Rattle.walrus_model.specs.Handled as handled
+use Rattle.walrus_model.proofs.Supported.{supported, is_supported}
 
 -- ---- names
 
@@ -365,14 +367,14 @@ few n (x ∷ xs) rise below =
     omega (arith, low, high)
 
 module _ (c : Config) (bytes : List ℕ) (v w : Abstract) (parsed : IsParsed c bytes v) (collected : Collected v w) where
-  abbrev read : handled.Module
-  read = parsed.reads.sections
+  abbrev read : wire.Module
+  read = supported parsed.reads.sections
 
   abbrev bodies : List Said
   bodies = parsed.reads.bodies
 
   as_many : length bodies ≡ length read.functions
-  as_many = sym (zip_length (ReadsBody c read) (zip read.functions read.bodies) bodies parsed.reads.read) ∙ pairs_long read.functions read.bodies parsed.reads.as_many_bodies
+  as_many = sym (zip_length (ReadsBody c parsed.reads.sections) (zip read.functions read.bodies) bodies parsed.reads.read) ∙ pairs_long read.functions read.bodies parsed.reads.as_many_bodies
 
   live_before : (x : Item) → IsLive w x → IsLive v x
   live_before (Types, i) h = let at = some_of (w.types i) h in ap is_some (collected.types.left i at.0 at.1).1
@@ -386,7 +388,7 @@ module _ (c : Config) (bytes : List ℕ) (v w : Abstract) (parsed : IsParsed c b
 
   -- what was parsed was read, and so was what is left
   live_parsed_in_read : (x : Item) → IsLive v x → IsLive (module_of read bodies) x
-  live_parsed_in_read x h = subst (λ (m : Abstract). IsLive m x) parsed.reads.is (live_back parsed.module_read v parsed.parsed x h)
+  live_parsed_in_read x h = subst (λ (m : Abstract). IsLive m x) (is_supported c bytes parsed.module_read parsed.reads) (live_back parsed.module_read v parsed.parsed x h)
 
   live_in_read : (x : Item) → IsLive w x → IsLive (module_of read bodies) x
   live_in_read x h = live_parsed_in_read x (live_before x h)
@@ -402,7 +404,7 @@ module _ (c : Config) (bytes : List ℕ) (v w : Abstract) (parsed : IsParsed c b
       let in_v : v.functions i ≡ Some f = (collected.functions.left i f at).1 in
       let live = live_in_read (Functions, i) (ap is_some at) in
       let found = some_of ((module_of read bodies).functions i) live in
-      let in_m : parsed.module_read.functions i ≡ Some found.0 = ap (λ (m : Abstract). m.functions i) parsed.reads.is ∙ found.1 in
+      let in_m : parsed.module_read.functions i ≡ Some found.0 = ap (λ (m : Abstract). m.functions i) (is_supported c bytes parsed.module_read parsed.reads) ∙ found.1 in
       let there = function_of_v parsed.module_read v parsed.parsed i found.0 in_m in
       let both : Some there.0 ≡ Some f = sym there.1 ∙ in_v in
       let is : there.0 ≡ f = cc in
@@ -465,10 +467,10 @@ module _ (c : Config) (bytes : List ℕ) (v w : Abstract) (parsed : IsParsed c b
   too_many : (space : Space) (numbers : List ℕ) → AllPairs (λ i j. i < j) numbers → All (Has w space) numbers → 2 ^ 32 ≤ length numbers → ⊥
   too_many Types numbers rise all many =
       let most = few (length (types_from 0 read.types)) numbers rise (λ k d lt. types_within (get_or numbers k d) (all k d lt)) in
-      omega (arith, most, many, types_fit bytes read parsed.reads.framed parsed.reads.in_order)
+      omega (arith, most, many, types_fit bytes parsed.reads.sections parsed.reads.framed parsed.reads.in_order)
   too_many Functions numbers rise all many =
       let most = few (length read.functions) numbers rise (λ k d lt. functions_within (get_or numbers k d) (all k d lt)) in
-      omega (arith, most, many, (fits_indices bytes read parsed.reads.framed parsed.reads.in_order).functions)
+      omega (arith, most, many, (fits_indices bytes parsed.reads.sections parsed.reads.framed parsed.reads.in_order).functions)
   too_many Tables numbers rise all many = has_none Tables (λ i h. absent (live_in_read (Tables, i) h)) numbers all many
   too_many Memories numbers rise all many = has_none Memories (λ i h. absent (live_in_read (Memories, i) h)) numbers all many
   too_many Tags numbers rise all many = has_none Tags (λ i h. absent (live_in_read (Tags, i) h)) numbers all many

@@ -23,3 +23,16 @@ pub mod PipelineCollected
 pub mod PipelineOps
 pub mod PipelineOut
 pub mod PipelineRead
+pub mod Spaces
+pub mod Standing
+pub mod Orders
+pub mod Planned
+pub mod AlongRecords
+pub mod ImportedZip
+pub mod OrderOfPlaces
+pub mod TakingOver
+pub mod TypeRules
+pub mod ItemRules
+pub mod OffsetRules
+pub mod RulesTaken
+pub mod RulesSteps

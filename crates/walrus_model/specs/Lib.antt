@@ -29,3 +29,8 @@ pub mod Transform
 pub mod Examples
 pub mod Follows
 pub mod Pipeline
+pub mod Spaces
+pub mod Ordered
+pub mod Plan
+pub mod Imported
+pub mod RulesCarried

@@ -5,9 +5,11 @@
 //! here has an empty body: it carries a law of the definitions as its contract.
 #![tactic(auto)]
 
+mod family;
 mod laws;
 mod pipeline;
 
+pub use family::{imports_bring, orders_hold, plans_carry, rules_are_kept, spaces_agree};
 pub use laws::{
     kept_comes_out, names_follow, reached_follows, reached_is_least, reads_once, renamings_compose,
     shapes_are_kept, worked_examples,

@@ -1,4 +1,6 @@
 -- Bytes that are accepted frame sections that keep the rules, and the other way round.
+use Rattle.wasm_frames.specs.Record as wire
+use Rattle.wasm_entries.specs.Record as entries
 use Rattle.std.proofs.Common.{inl, inr, true, sym, ap₂, ◌≡◌, ◌≢◌, ℕ, zero, suc, ◌+◌, ◌<◌, List, [], ◌∷◌, length, map, get_or, take, refl, ap, subst, ◌∙◌, arith, ◌≤◌}
 use Rattle.std.specs.Prelude.{Err, Option, Some, IsSome, Contains, All, AllPairs, slice_get, zip, option_map}
 use Rattle.std.proofs.lemmas.List.{get_or-map, length-map}
@@ -24,9 +26,7 @@ use Rattle.walrus_items.specs.Exports.{exports}
 use Rattle.walrus_items.specs.Functions.{functions}
 use Rattle.walrus_module.specs.References.{refs_are_exported, ChecksReferences}
 use Rattle.walrus_model.proofs.ReadOnce.{bodies_once}
-use Rattle.walrus_model.proofs.Handled.{widened_once}
 use Rattle.wasm_frames.proofs.Modules.{one_record_lem}
-use Rattle.walrus_model.specs.Handled.{widened}
 use Rattle.walrus_module.proofs.ExportedRefs.{nothing_undeclared, one_undeclared}
 use Rattle.walrus_module.proofs.ParsedWhole.{writable, well_formed, references_read, references_seen}
 use Rattle.walrus_module.proofs.CountedLocals.{DeclaresFew, all_counted}
@@ -36,7 +36,8 @@ use Rattle.walrus_module.proofs.TypeLists.{count, in_range, range_bounds, member
 use Rattle.std.specs.List.{AllZip, range_with_len}
 use Rattle.walrus_model.specs.Live.{Has}
 use Rattle.walrus_model.specs.Names.{body_of_function}
-use Rattle.walrus_model.specs.Reads.{Said, Reads, Accepts, ReadsBody, SectionsInOrder, types_of, is_function, function_with, body_with, export_of, module_of}
+use Rattle.walrus_model.specs.Reads.{Reads, Accepts, ReadsBody, SectionsInOrder, is_function}
+use Rattle.walrus_model.specs.Sections.{Said, types_of, function_with, body_with, space_of, export_of, module_of}
 use Rattle.walrus_model.specs.Rules.{Holds, IsEarlier, IsFunctionComp}
 use Rattle.walrus_model.specs.Rules as rules
 use Rattle.walrus_module.specs.Parsed.{IsParsed, TakenFrom, AreModule, RefusesModule, RefusesBytes}
@@ -44,40 +45,50 @@ use Rattle.walrus_module.specs.View.{view_of}
 use Rattle.walrus_module.proofs.Carrying.{parsed}
 use Rattle.walrus_module.proofs.Keeps.{keeps}
 use Rattle.walrus_module.proofs.Lookups.{got_map, got_in, got_zip, zip_long}
-use Rattle.walrus_module.proofs.Parsing.{kind_is}
 use Rattle.walrus_module.proofs.Steps.{zip_length, pairs_long}
 use Rattle.walrus_parts.specs.declared.error.Error.{Error}
 use Rattle.walrus_parts.specs.declared.error.Error.TheVariants as Parts
 use Rattle.walrus_module.specs.Sections.{Rules}
-use Rattle.walrus_model.specs.Handled as handled
+use Rattle.walrus_model.proofs.Supported.{supported, all_supported, by_supported, is_supported}
+use Rattle.walrus_model.specs.Supported.{IsOfFunction, IsSupported}
+use Rattle.walrus_module.specs.Taken.{HasTaken}
+use Rattle.wasm_frames.specs.Frames.{Frames}
 
 -- ---- what was taken in was parsed
 
-pub is_parsed : (c : Config) (bytes : List ℕ) (ts : ModuleTypes) (all : ModuleLocals) (fs : ModuleFunctions) (es : ModuleExports) → TakenFrom c bytes ts all fs es → refs_are_exported (items (functions fs)) (items (exports es)) ≡ true → IsParsed c bytes (view_of ts all fs es)
-is_parsed c bytes ts all fs es t refs =
-    let declared : NothingUndeclared (view_of ts all fs es) = nothing_undeclared ts all fs es refs in
-    let found : Reads c bytes (module_of t.sections t.taken.bodies) = record {
-      sections = t.sections;
-      framed = t.framed;
-      in_order = t.rules.sections_in_order;
-      as_many_bodies = t.rules.as_many_bodies;
-      bodies = t.taken.bodies;
-      read = t.taken.read;
-      is = refl;
-      references = references_read c t.sections ts all fs es t.taken declared;
-    } in
-    record {
-      module_read = module_of t.sections t.taken.bodies;
-      reads = found;
-      holds = keeps c t.sections t.taken.bodies t.rules t.taken.read;
-      simple = simple_read c bytes (module_of t.sections t.taken.bodies) found;
-      parsed = parsed c t.sections ts all fs es t.rules.as_many_bodies t.taken;
-      bodies = well_formed c t.sections ts all fs es t.taken t.rules;
-      types = writable c t.sections ts all fs es t.taken t.rules;
-      references = declared;
-      locals = locals_hold c t.sections ts all fs es t.taken (few_params bytes t.sections t.framed) t.rules.locals;
-      few_locals = few_locals c t.sections ts all fs es t.taken (few_params bytes t.sections t.framed) t.rules.locals;
-    }
+module _ (c : Config) (bytes : List ℕ) (ts : ModuleTypes) (all : ModuleLocals) (fs : ModuleFunctions) (es : ModuleExports) (refs : refs_are_exported (items (functions fs)) (items (exports es)) ≡ true) where
+  abbrev Parses : wire.Module → Type 0
+  Parses s = Frames bytes s → IsSupported s → Rules s → HasTaken c s ts all fs es → IsParsed c bytes (view_of ts all fs es)
+
+  parses : (s : wire.Module) → All IsOfFunction s.exports → Parses (supported s)
+  parses s of_functions framed only kept taken =
+      let declared : NothingUndeclared (view_of ts all fs es) = nothing_undeclared ts all fs es refs in
+      let found : Reads c bytes (module_of (supported s) taken.bodies) = record {
+        sections = supported s;
+        framed = framed;
+        supported = only;
+        in_order = kept.sections_in_order;
+        as_many_bodies = kept.as_many_bodies;
+        bodies = taken.bodies;
+        read = taken.read;
+        is = refl;
+        references = references_read c s ts all fs es taken declared;
+      } in
+      record {
+        module_read = module_of (supported s) taken.bodies;
+        reads = found;
+        holds = keeps c s taken.bodies kept of_functions taken.read;
+        simple = simple_read c bytes (module_of (supported s) taken.bodies) found;
+        parsed = parsed c s ts all fs es kept.as_many_bodies taken;
+        bodies = well_formed c s ts all fs es taken kept;
+        types = writable c s ts all fs es taken kept of_functions;
+        references = declared;
+        locals = locals_hold c s ts all fs es taken (few_params bytes (supported s) framed) kept.locals;
+        few_locals = few_locals c s ts all fs es taken (few_params bytes (supported s) framed) kept.locals;
+      }
+
+  pub is_parsed : TakenFrom c bytes ts all fs es → IsParsed c bytes (view_of ts all fs es)
+  is_parsed t = by_supported Parses parses t.sections t.supported t.framed t.supported t.rules t.taken
 
 -- ---- what is accepted keeps the rules
 
@@ -109,7 +120,7 @@ before_end first n i u group is lt (inr earlier) =
     let before : u < first + i = earlier (first + i) (subst (λ (l : List ℕ). Contains l (first + i)) (sym is) (in_range first n i lt)) in
     omega (arith, before, lt)
 
-module _ (r : handled.Module) (bodies : List Said) (refer : rules.TypesRefer (λ space i j. i < j) (module_of r bodies)) where
+module _ (r : wire.Module) (bodies : List Said) (refer : rules.TypesRefer (λ space i j. i < j) (module_of (supported r) bodies)) where
   -- a member of a group
   member_at : (number : ℕ) (g : Group) (at : ℕ) (s : Sub) → slice_get r.types number ≡ Some g → slice_get g at ≡ Some s → at < length g → SubRefers (count (take number r.types) + length g) (count (take number r.types) + at) s
   member_at number g at s g_there s_there lt =
@@ -129,26 +140,26 @@ module _ (r : handled.Module) (bodies : List Said) (refer : rules.TypesRefer (λ
   types_refer : TypesRefer r.types
   types_refer = λ i d lt. λ j e l. member_at i (get_or r.types i d) j (get_or (get_or r.types i d) j e) (slice_get-get_or r.types i d lt) (slice_get-get_or (get_or r.types i d) j e l) l
 
-module _ (r : handled.Module) (bodies : List Said) (many : length bodies ≡ length r.functions) (h : Holds (module_of r bodies)) where
+module _ (r : wire.Module) (bodies : List Said) (many : length bodies ≡ length r.functions) (of_functions : All IsOfFunction r.exports) (h : Holds (module_of (supported r) bodies)) where
   function_types : All (λ t. is_function r t ≡ true) r.functions
   function_types = λ k d lt.
       let q = got_pair r.functions bodies k d many lt in
       let f = h.function_types.functions k (function_with r (get_or r.functions k d, q.0)) (got_map (function_with r) (zip r.functions bodies) k ∙ ap (option_map (function_with r)) q.1) in
       function_def (types_of r (get_or r.functions k d)) f
 
-  function_within : (f : ℕ) → IsSome ((module_of r bodies).functions f) → f < length r.functions
+  function_within : (f : ℕ) → IsSome ((module_of (supported r) bodies).functions f) → f < length r.functions
   function_within f s =
       let lt = some_within (map (function_with r) (zip r.functions bodies)) f s in
       omega (arith, lt, length-map (zip r.functions bodies) (function_with r), zip_long r.functions bodies many)
 
-  export_at : (k : ℕ) (d : handled.Export) → k < length r.exports → Contains (map export_of r.exports) (export_of (get_or r.exports k d))
+  export_at : (k : ℕ) (d : entries.Export) → k < length r.exports → Contains (map export_of r.exports) (export_of (get_or r.exports k d))
   export_at k d lt = (k, omega (arith, lt, length-map r.exports export_of), get_or-map export_of r.exports k d (export_of (get_or r.exports k d)) lt)
 
   exports_declared : All (λ e. e.index < length r.functions) r.exports
   exports_declared = λ k d lt.
       let e = get_or r.exports k d in
       let live = h.indices.exports (export_of e) (export_at k d lt) in
-      function_within e.index (subst (λ s. Has (module_of r bodies) s e.index) (sym (kind_is e.kind)) live)
+      function_within e.index (subst (λ k. Has (module_of (supported r) bodies) (space_of k) e.index) (of_functions k d lt) live)
 
   names_differ : AllPairs (λ a b. a.name ≢ b.name) r.exports
   names_differ = λ i j d less within.
@@ -166,11 +177,11 @@ module _ (r : handled.Module) (bodies : List Said) (many : length bodies ≡ len
       let q = got_pair r.functions bodies k 0 many within in
       let said : get_or bodies k d ≡ q.0 = (got_in bodies k q.0 (got_zip r.functions bodies k (get_or r.functions k 0, q.0) q.1).1).1 d in
       let f : Function = function_with r (get_or r.functions k 0, q.0) in
-      let at : (module_of r bodies).functions k ≡ Some f = got_map (function_with r) (zip r.functions bodies) k ∙ ap (option_map (function_with r)) q.1 in
+      let at : (module_of (supported r) bodies).functions k ≡ Some f = got_map (function_with r) (zip r.functions bodies) k ∙ ap (option_map (function_with r)) q.1 in
       let few : length q.0.0 ≤ 50_000 = h.locals k (body_with (params_of (types_of r (get_or r.functions k 0))) q.0) (ap body_of_function at) in
       subst DeclaresFew (sym said) few
 
-  keeps_rules : (c : Config) → SectionsInOrder r → length r.bodies ≡ length r.functions → AllZip (ReadsBody c r) (zip r.functions r.bodies) bodies → Rules r
+  keeps_rules : (c : Config) → SectionsInOrder r → length r.bodies ≡ length r.functions → AllZip (ReadsBody c (supported r)) (zip r.functions r.bodies) bodies → Rules (supported r)
   keeps_rules c ordered as_many read = record {
     sections_in_order = ordered;
     types_refer = types_refer r bodies h.types;
@@ -178,27 +189,40 @@ module _ (r : handled.Module) (bodies : List Said) (many : length bodies ≡ len
     exports_hold = exports_declared;
     as_many_bodies = as_many;
     names_differ = names_differ;
-    locals = all_counted c r bodies as_many read declare_few;
+    locals = all_counted c (supported r) bodies as_many read declare_few;
   }
 
 are_module : (c : Config) (bytes : List ℕ) → Accepts c bytes → AreModule c bytes
 are_module c bytes a =
     let m = a.1 in
     let many : length m.bodies ≡ length m.sections.functions = sym (zip_length (ReadsBody c m.sections) (zip m.sections.functions m.sections.bodies) m.bodies m.read) ∙ pairs_long m.sections.functions m.sections.bodies m.as_many_bodies in
-    let h : Holds (module_of m.sections m.bodies) = subst Holds m.is a.2 in
-    record { sections = m.sections; framed = m.framed; rules = keeps_rules m.sections m.bodies many h c m.in_order m.as_many_bodies m.read; bodies = m.bodies; read = m.read; references = subst NothingUndeclared m.is m.references }
+    let h : Holds (module_of (supported m.sections) m.bodies) = subst Holds (is_supported c bytes a.0 m) a.2 in
+    let read : AllZip (ReadsBody c (supported m.sections)) (zip m.sections.functions m.sections.bodies) m.bodies =
+        subst (λ s. AllZip (ReadsBody c s) (zip m.sections.functions m.sections.bodies) m.bodies) (all_supported m.sections m.supported) m.read in
+    record {
+      sections = m.sections;
+      framed = m.framed;
+      supported = m.supported;
+      rules = subst Rules (sym (all_supported m.sections m.supported)) (keeps_rules m.sections m.bodies many m.supported.exports h c m.in_order m.as_many_bodies read);
+      bodies = m.bodies;
+      read = m.read;
+      references = subst NothingUndeclared m.is m.references;
+    }
 
 -- the bodies that bytes are read as are those that were taken in, so that no module is read in which a reference isn't exported
 pub references_refused : (c : Config) (bytes : List ℕ) (ts : ModuleTypes) (all : ModuleLocals) (fs : ModuleFunctions) (es : ModuleExports) (t : TakenFrom c bytes ts all fs es) (e : Error)
     → ChecksReferences (items (functions fs)) (items (exports es)) (Err e) → RefusesModule c bytes e
 references_refused c bytes ts all fs es t (Parts.Memory m) h = tt
 references_refused c bytes ts all fs es t (Parts.InvalidWasm kind) h = λ a.
-    let same : a.sections ≡ t.sections = widened_once a.sections t.sections (one_record_lem bytes (widened a.sections) (widened t.sections) a.framed t.framed) in
-    let read : AllZip (ReadsBody c t.sections) (zip t.sections.functions t.sections.bodies) a.bodies = subst (λ (x : handled.Module). AllZip (ReadsBody c x) (zip x.functions x.bodies) a.bodies) same a.read in
-    let one : a.bodies ≡ t.taken.bodies = bodies_once c t.sections (zip t.sections.functions t.sections.bodies) a.bodies t.taken.bodies read t.taken.read in
-    let there : NothingUndeclared (module_of t.sections t.taken.bodies) = subst NothingUndeclared (ap₂ module_of same one) a.references in
+    let s : wire.Module = supported t.sections in
+    let only : t.sections ≡ s = all_supported t.sections t.supported in
+    let taken : HasTaken c s ts all fs es = subst (λ (x : wire.Module). HasTaken c x ts all fs es) only t.taken in
+    let same : a.sections ≡ s = one_record_lem bytes a.sections t.sections a.framed t.framed ∙ only in
+    let read : AllZip (ReadsBody c s) (zip s.functions s.bodies) a.bodies = subst (λ (x : wire.Module). AllZip (ReadsBody c x) (zip x.functions x.bodies) a.bodies) same a.read in
+    let one : a.bodies ≡ taken.bodies = bodies_once c s (zip s.functions s.bodies) a.bodies taken.bodies read taken.read in
+    let there : NothingUndeclared (module_of s taken.bodies) = subst NothingUndeclared (ap₂ module_of same one) a.references in
     let found = one_undeclared ts all fs es h in
-    references_seen c t.sections ts all fs es t.taken there found.0 found.1
+    references_seen c t.sections ts all fs es taken there found.0 found.1
 references_refused c bytes ts all fs es t _ h = absurd h
 
 pub refused_bytes : (c : Config) (bytes : List ℕ) (e : Error) → RefusesModule c bytes e → RefusesBytes c bytes e

@@ -1,4 +1,5 @@
 -- The bodies that records hold read back as what their texts say.
+use Rattle.wasm_frames.specs.Record as wire
 use Rattle.std.proofs.Common.{◌≡◌, ◌≢◌, ℕ, ◌+◌, ◌<◌, Bool, true, false, List, [], ◌∷◌, length, map, refl, sym, ap, subst, ◌∙◌, arith, Some, None}
 use Rattle.std.specs.Prelude.{All, Option, nat_lt, option_map, option_and_then, slice_get, zip, if◌then◌else◌}
 use Rattle.std.specs.List.{AllZip}
@@ -24,7 +25,8 @@ use Rattle.walrus_groups.specs.Named.{named_def}
 use Rattle.walrus_items.specs.Exports.{ExportValue}
 use Rattle.walrus_model.specs.BodyText.{said}
 use Rattle.walrus_model.specs.Config.{Config}
-use Rattle.walrus_model.specs.Reads.{ReadsBody, below, declared, types_of, is_function, arity, features_of}
+use Rattle.walrus_model.specs.Reads.{ReadsBody, below, declared, is_function, arity, features_of}
+use Rattle.walrus_model.specs.Sections.{types_of}
 use Rattle.walrus_module.specs.Parts.{Held, type_index, HasBytes, source, unplaced}
 use Rattle.walrus_module.specs.Spells.{Records}
 use Rattle.walrus_module.proofs.BodyBack.{types_in, typed_by, reads_again}
@@ -34,7 +36,7 @@ use Rattle.walrus_module.proofs.Named.{some_inj}
 use Rattle.walrus_module.proofs.NamedTypes.{NamedDef, def_parts, function_named, params_named}
 use Rattle.walrus_module.proofs.Standing.{entry_is, entry_found}
 use Rattle.walrus_module.proofs.WrittenAs.{texts_in, texts_of}
-use Rattle.walrus_model.specs.Handled as handled
+use Rattle.walrus_model.proofs.Supported.{supported}
 
 below_is : (count i : ℕ) (b : Bool) → nat_lt i count ≡ b → i < count → below count i ≡ Some i
 below_is count i true e h = ap (λ (t : Bool). if t then Some i else None) e
@@ -126,9 +128,9 @@ module _ {h : Held} {features : Features} {exports : List ExportValue} (r : Reco
 
   -- ---- sections with these types and as many functions
 
-  module _ (sections : handled.Module) (types_same : sections.types ≡ r.raw_types) (functions_same : sections.functions ≡ r.raw_functions) where
+  module _ (sections : wire.Module) (types_same : sections.types ≡ r.raw_types) (functions_same : sections.functions ≡ r.raw_functions) where
     -- each index is declared
-    pub again : (space : Space) (p j : ℕ) → r.names space p ≡ Some j → declared sections space j ≡ Some j
+    pub again : (space : Space) (p j : ℕ) → r.names space p ≡ Some j → declared (supported sections) space j ≡ Some j
     again Types p j e =
         let within : j < length (types_from 0 sections.types) = less j (length new_types) (length (types_from 0 sections.types)) (type_below p j e) (ap (λ (gs : List Group). length (types_from 0 gs)) (sym types_same)) in
         below_is (length (types_from 0 sections.types)) j (nat_lt j (length (types_from 0 sections.types))) refl within
@@ -173,18 +175,18 @@ module _ {h : Held} {features : Features} {exports : List ExportValue} (r : Reco
 
 -- ---- all bodies
 
-module _ (c : Config) {h : Held} {exports : List ExportValue} (r : Records h (features_of c) exports) (sections : handled.Module) (types_same : sections.types ≡ r.raw_types) (functions_same : sections.functions ≡ r.raw_functions) where
+module _ (c : Config) {h : Held} {exports : List ExportValue} (r : Records h (features_of c) exports) (sections : wire.Module) (types_same : sections.types ≡ r.raw_types) (functions_same : sections.functions ≡ r.raw_functions) where
   body_back : (i t start : ℕ) (bytes : List ℕ) (b : HasBytes h r.names (features_of c) i bytes) → type_index h.funcs r.names i ≡ Some t
-      → ReadsBody c sections (t, record { start = start; bytes = bytes }) (said (record { declarations = b.written.declarations; operators = b.written.texts }))
+      → ReadsBody c (supported sections) (t, record { start = start; bytes = bytes }) (said (record { declarations = b.written.declarations; operators = b.written.texts }))
   body_back i t start bytes b e =
       let s = source h r.names (features_of c) b.local in
       let count = as_many_params r sections types_same functions_same i t bytes b e in
-      reads_again s bytes b.places b.numbers b.written (declared sections) (again r sections types_same functions_same)
+      reads_again s bytes b.places b.numbers b.written (declared (supported sections)) (again r sections types_same functions_same)
       (arity sections t + length (types_in s bytes b.places b.numbers b.written)) (ap (λ (n : ℕ). n + length (types_in s bytes b.places b.numbers b.written)) count)
       (is_function sections) (functions_same_as r sections types_same functions_same)
 
   bodies_back : (start : ℕ) (order : List ℕ) (bodies : List (List ℕ)) (fs : List ℕ) (a : AllZip (HasBytes h r.names (features_of c)) order bodies) → map Some fs ≡ map (type_index h.funcs r.names) order
-      → AllZip (ReadsBody c sections) (zip fs (placed_bodies start (map unplaced bodies))) (map said (texts_in h r.names (features_of c) order bodies a))
+      → AllZip (ReadsBody c (supported sections)) (zip fs (placed_bodies start (map unplaced bodies))) (map said (texts_in h r.names (features_of c) order bodies a))
   bodies_back start [] [] [] a e = tt
   bodies_back start [] [] (t ∷ fs) a e = absurd (cc)
   bodies_back start (i ∷ is) (b ∷ bs) [] a e = absurd (cc)
@@ -213,5 +215,5 @@ module _ (c : Config) {h : Held} {exports : List ExportValue} (r : Records h (fe
   pub all_functions_typed : All (λ t. is_function sections t ≡ true) r.raw_functions
   all_functions_typed = functions_typed r.order r.bodies r.raw_functions r.bodies_are r.functions_are
 
-  pub texts_read : (start : ℕ) → AllZip (ReadsBody c sections) (zip r.raw_functions (placed_bodies start (map unplaced r.bodies))) (map said (texts_of r))
+  pub texts_read : (start : ℕ) → AllZip (ReadsBody c (supported sections)) (zip r.raw_functions (placed_bodies start (map unplaced r.bodies))) (map said (texts_of r))
   texts_read start = bodies_back start r.order r.bodies r.raw_functions r.bodies_are r.functions_are

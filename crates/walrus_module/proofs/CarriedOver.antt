@@ -1,4 +1,6 @@
 -- The records that a module is written as hold all of it, under the indices that are given.
+use Rattle.wasm_entries.specs.Record as entries
+use Rattle.wasm_entries.specs.declared.record.RawExportKind.TheVariants as kinds
 use Rattle.std.proofs.Common.{◌≡◌, ℕ, List, [], ◌∷◌, ◌++◌, map, refl, sym, ap, ap₂, subst, ◌∙◌, inl, Bool, true}
 use Rattle.std.specs.Prelude.{Option, Some, None, IsSome, slice_get, zip, option_map, option_and_then, unwrap_or}
 use Rattle.walrus_base.specs.Arena.{item_at, entries, items}
@@ -28,7 +30,7 @@ use Rattle.walrus_model.specs.BodyText.{said}
 use Rattle.walrus_model.specs.Carried.{Carries, Carried, KeepsApart}
 use Rattle.walrus_model.specs.Live.{IsLive}
 use Rattle.walrus_model.specs.Out.{IsTheSegment}
-use Rattle.walrus_model.specs.Reads.{Said, function_with, export_of}
+use Rattle.walrus_model.specs.Sections.{Said, function_with, export_of}
 use Rattle.walrus_model.specs.Renaming.{Renaming, renamed_export}
 use Rattle.walrus_model.specs.Same.{SameType, SameFunction, BothAnd}
 use Rattle.walrus_module.specs.Parts.{Held, local_in, type_index, export_with_index, HasBytes}
@@ -41,7 +43,6 @@ use Rattle.walrus_module.proofs.NamedTypes.{each_place, same_in_group, group_ren
 use Rattle.walrus_module.proofs.SameBodies.{spelled_as_text, same_body}
 use Rattle.walrus_module.proofs.Standing.{entered, entry_found, local_is, ordered_at, order_found}
 use Rattle.walrus_module.proofs.WrittenAs.{sections_of, texts_of, written_as, renaming_of}
-use Rattle.walrus_model.specs.Handled as handled
 
 -- ---- types
 
@@ -64,15 +65,15 @@ module _ {h : Held} {features : Features} {exports : List ExportValue} (r : Reco
 -- ---- exports
 
 module _ (names : Lookup) (ren : Renaming) (agrees : (space : Space) (p j : ℕ) → names space p ≡ Some j → j ≡ ren.numbers space p) where
-  same_item : (name : List ℕ) (x : ExportItem) (o : Option ℕ) (e : handled.Export) → names (exported x).0 (exported x).1 ≡ o
-      → Some e ≡ option_map (λ index. record { name = name; kind = handled.Function; index = index }) o
+  same_item : (name : List ℕ) (x : ExportItem) (o : Option ℕ) (e : entries.Export) → names (exported x).0 (exported x).1 ≡ o
+      → Some e ≡ option_map (λ index. record { name = name; kind = kinds.Function; index = index }) o
       → export_of e ≡ (record { name = name; item = ((exported x).0, ren.numbers (exported x).0 (exported x).1) })
   same_item name x None e h p = absurd (cc)
   same_item name (item.Function f) (Some j) e h p =
-      ap export_of (some_inj e (record { name = name; kind = handled.Function; index = j }) p)
+      ap export_of (some_inj e (record { name = name; kind = kinds.Function; index = j }) p)
       ∙ ap (λ (n : ℕ). record { name = name; item = (Functions, n) }) (agrees Functions (place f) j h)
 
-  same_exports : (raws : List handled.Export) (es : List ExportValue) → map Some raws ≡ map (export_with_index names) es → map export_of raws ≡ map (renamed_export ren) (map export_seen es)
+  same_exports : (raws : List entries.Export) (es : List ExportValue) → map Some raws ≡ map (export_with_index names) es → map export_of raws ≡ map (renamed_export ren) (map export_seen es)
   same_exports [] [] e = refl
   same_exports [] (x ∷ es) e = absurd (cc)
   same_exports (y ∷ raws) [] e = absurd (cc)

@@ -23,7 +23,8 @@ use Rattle.walrus_model.specs.Abstract.{TypeDef, Function}
 use Rattle.walrus_model.specs.Carried.{Carries}
 use Rattle.walrus_model.specs.Config.{Config}
 use Rattle.walrus_model.specs.Pipeline.{ParsedAs}
-use Rattle.walrus_model.specs.Reads.{Said, function_with, body_with, types_of, module_of, arity, ReadsBody}
+use Rattle.walrus_model.specs.Reads.{arity, ReadsBody}
+use Rattle.walrus_model.specs.Sections.{Said, function_with, body_with, types_of, module_of}
 use Rattle.walrus_model.specs.Renaming.{Renaming, renamed_arg, renamed_op, renamed_ops, renamed_export}
 use Rattle.walrus_model.specs.Same.{SameType, SameBody, SameFunction, BothAnd}
 use Rattle.walrus_types.specs.Shape.{Seen, Own, Other, in_its_group, others_through, place_in}
@@ -35,7 +36,7 @@ use Rattle.walrus_module.proofs.Lookups.{got_map, there, still_some, none_there}
 use Rattle.walrus_module.proofs.Parsing.{read_at, used_below}
 use Rattle.walrus_module.proofs.Steps.{type_there, zip_length}
 use Rattle.wasm_frames.specs.Record as wire
-use Rattle.walrus_model.specs.Handled as handled
+use Rattle.walrus_model.proofs.Supported.{supported}
 
 -- ---- types
 
@@ -115,7 +116,7 @@ module _ (moved : ℕ → ℕ → ℕ) where
   ops_moved : (by : ℕ) (ops : List Op) → map (moved_op by) ops ≡ renamed_ops moving (λ n. by + n) ops
   ops_moved by ops = map-same (moved_op by) (renamed_op moving (λ n. by + n)) ops (op_moved by)
 
-  module _ (all : ModuleLocals) (c : Config) (r : handled.Module) (i : ℕ) where
+  module _ (all : ModuleLocals) (c : Config) (r : wire.Module) (i : ℕ) where
     same_body : (p : ℕ × Said) (b : wire.Body) (f : LocalFunction) (h : HoldsBody (local_types (locals all)) p.0 (params_of (types_of r p.0)) p.1 f) → ReadsBody c r (p.0, b) p.1 → moved i ≡ (λ n. h.first + n)
         → SameBody moving i (body_with (params_of (types_of r p.0)) p.1) (body all f)
     same_body p b f h read at =
@@ -201,7 +202,7 @@ no_items S = record { same = λ i h. absurd (none_there h); onto = λ j h. absur
 
 -- ---- the whole
 
-module _ (c : Config) (r : handled.Module) (ts : ModuleTypes) (all : ModuleLocals) (fs : ModuleFunctions) (es : ModuleExports) (many : length r.bodies ≡ length r.functions) (h : HasTaken c r ts all fs es) where
+module _ (c : Config) (r : wire.Module) (ts : ModuleTypes) (all : ModuleLocals) (fs : ModuleFunctions) (es : ModuleExports) (many : length r.bodies ≡ length r.functions) (h : HasTaken c (supported r) ts all fs es) where
   abbrev pairs : List (ℕ × Said)
   pairs = zip r.functions h.bodies
 
@@ -212,26 +213,26 @@ module _ (c : Config) (r : handled.Module) (ts : ModuleTypes) (all : ModuleLocal
   abbrev further : ℕ → ℕ → ℕ
   further k n = k + n
 
-  function_carried : (i : ℕ) → IsSome ((module_of r h.bodies).functions i) → BothAnd (SameFunction (moving moved) i) ((module_of r h.bodies).functions i) ((view_of ts all fs es).functions i)
+  function_carried : (i : ℕ) → IsSome ((module_of (supported r) h.bodies).functions i) → BothAnd (SameFunction (moving moved) i) ((module_of (supported r) h.bodies).functions i) ((view_of ts all fs es).functions i)
   function_carried i live =
       let e = got_map (function_with r) pairs i in
       let some : IsSome (slice_get pairs i) = was_some (function_with r) (slice_get pairs i) (subst (λ o. IsSome o) e live) in
       let a = held_at (types_of r) (local_types (locals all)) pairs (functions fs) h.functions i (got_within pairs i some) in
-      let b = read_at (ReadsBody c r) r.functions r.bodies h.bodies i a.pair many h.read a.got in
+      let b = read_at (ReadsBody c (supported r)) r.functions r.bodies h.bodies i a.pair many h.read a.got in
       let at : moved i ≡ (λ n. a.holds.body.first + n) = ap further a.same in
-      let was : Some (function_with r a.pair) ≡ (module_of r h.bodies).functions i = sym (e ∙ ap (option_map (function_with r)) a.got) in
+      let was : Some (function_with r a.pair) ≡ (module_of (supported r) h.bodies).functions i = sym (e ∙ ap (option_map (function_with r)) a.got) in
       subst (λ (o : Option Function). BothAnd (SameFunction (moving moved) i) o ((view_of ts all fs es).functions i)) was
       (subst (λ (s : Option FunctionValue). BothAnd (SameFunction (moving moved) i) (Some (function_with r a.pair)) (option_map (function all) s)) (sym a.at)
-      (same_held moved all c r i a.pair b.0 a.slot a.holds b.1 at))
+      (same_held moved all c (supported r) i a.pair b.0 a.slot a.holds b.1 at))
 
-  function_there : (i : ℕ) → IsSome ((view_of ts all fs es).functions i) → IsSome ((module_of r h.bodies).functions i)
+  function_there : (i : ℕ) → IsSome ((view_of ts all fs es).functions i) → IsSome ((module_of (supported r) h.bodies).functions i)
   function_there i live =
       let lt : i < length (functions fs) = item_within (functions fs) i (was_some (function all) (item_at (functions fs) i) live) in
       let as_many : length pairs ≡ length (functions fs) = zip_length (HoldsFunction (types_of r) (local_types (locals all))) pairs (functions fs) h.functions in
       let within : i < length pairs = omega (arith, lt, as_many) in
       subst (λ o. IsSome o) (sym (got_map (function_with r) pairs i)) (still_some (function_with r) (slice_get pairs i) (there pairs i within))
 
-  pub parsed : ParsedAs (module_of r h.bodies) (view_of ts all fs es)
+  pub parsed : ParsedAs (module_of (supported r) h.bodies) (view_of ts all fs es)
   parsed = record {
     renaming = moving moved;
     carried = record {

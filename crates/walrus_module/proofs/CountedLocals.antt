@@ -16,8 +16,8 @@ use Rattle.walrus_code.specs.FromRaw.{val_of}
 use Rattle.walrus_code.specs.Names.{Lookup, named_val}
 use Rattle.walrus_bodies.specs.Body.{Context, BodyReads, declarations, declared_types}
 use Rattle.walrus_model.specs.Config.{Config}
-use Rattle.walrus_model.specs.Handled as handled
-use Rattle.walrus_model.specs.Reads.{Said, ReadsBody}
+use Rattle.walrus_model.specs.Reads.{ReadsBody}
+use Rattle.walrus_model.specs.Sections.{Said}
 use Rattle.walrus_module.proofs.Named.{through, some_inj}
 
 abbrev pub counts : List (ℕ × RawVal) → List ℕ
@@ -55,7 +55,7 @@ few_counted c locals b types ops r few front back ds parts is =
 abbrev pub DeclaresFew : Said → Type 0
 DeclaresFew said = length said.0 ≤ 50_000
 
-each_counted : (c : Config) (m : handled.Module) (fs : List ℕ) (bs : List wire.Body) (bodies : List Said) → length bs ≡ length fs → AllZip (ReadsBody c m) (zip fs bs) bodies → AllByRecursion DeclaresFew bodies → All LocalsHold bs
+each_counted : (c : Config) (m : wire.Module) (fs : List ℕ) (bs : List wire.Body) (bodies : List Said) → length bs ≡ length fs → AllZip (ReadsBody c m) (zip fs bs) bodies → AllByRecursion DeclaresFew bodies → All LocalsHold bs
 each_counted c m [] [] bodies same read few = All-nil LocalsHold
 each_counted c m [] (b ∷ bs) bodies same read few = absurd (omega arith)
 each_counted c m (f ∷ fs) [] bodies same read few = All-nil LocalsHold
@@ -64,5 +64,5 @@ each_counted c m (f ∷ fs) (b ∷ bs) (said ∷ bodies) same read few =
     All-cons LocalsHold b bs (few_counted _ _ b said.0 said.1 read.0 few.0) (each_counted c m fs bs bodies (omega arith) read.1 few.1)
 
 -- bodies that say so keep the rule
-pub all_counted : (c : Config) (m : handled.Module) (bodies : List Said) → length m.bodies ≡ length m.functions → AllZip (ReadsBody c m) (zip m.functions m.bodies) bodies → All DeclaresFew bodies → All LocalsHold m.bodies
+pub all_counted : (c : Config) (m : wire.Module) (bodies : List Said) → length m.bodies ≡ length m.functions → AllZip (ReadsBody c m) (zip m.functions m.bodies) bodies → All DeclaresFew bodies → All LocalsHold m.bodies
 all_counted c m bodies same read few = each_counted c m m.functions m.bodies bodies same read (recursion_from_All DeclaresFew bodies few)

@@ -1,4 +1,5 @@
 -- A function that was taken in declares at most 50,000 locals, and has at most 2 ^ 32 parameters and further locals that it uses.
+use Rattle.wasm_frames.specs.Record as wire
 use Rattle.std.proofs.Common.{◌≡◌, ◌≢◌, ℕ, zero, suc, ◌+◌, ◌-◌, ◌<◌, ◌≤◌, ◌^◌, Bool, true, false, List, [], ◌∷◌, ◌++◌, length, map, get_or, refl, sym, ap, subst, ◌∙◌, arith, length-append, inl, inr}
 use Rattle.std.specs.Prelude.{Some, Contains, All, AllPairs, ◌||◌, ◌==◌, ◌⊎◌, slice_get, nat_lt, zip}
 use Rattle.std.specs.List.{range_with_len, list_any}
@@ -28,8 +29,8 @@ use Rattle.walrus_items.specs.declared.exports.ModuleExports.{ModuleExports}
 use Rattle.walrus_items.specs.declared.functions.ModuleFunctions.{ModuleFunctions}
 use Rattle.walrus_model.specs.Abstract.{Body}
 use Rattle.walrus_model.specs.Config.{Config}
-use Rattle.walrus_model.specs.Handled as handled
-use Rattle.walrus_model.specs.Reads.{Said, types_of, context_of, arity, ReadsBody}
+use Rattle.walrus_model.specs.Reads.{context_of, arity, ReadsBody}
+use Rattle.walrus_model.specs.Sections.{Said, types_of}
 use Rattle.walrus_model.specs.Rules.{LocalsHold as Holding}
 use Rattle.walrus_module.specs.Refused.{HasManyLocals}
 use Rattle.walrus_module.specs.Taken.{HasTaken}
@@ -40,6 +41,7 @@ use Rattle.walrus_module.proofs.ParsedWhole.{BodyAt, body_at, body_there}
 use Rattle.walrus_module.proofs.SeenLocals.{declared_used, declared_ones, all_filtered}
 use Rattle.walrus_module.proofs.SmallLocals.{used_small}
 use Rattle.walrus_module.proofs.WholeLists.{zip_third, range_apart}
+use Rattle.walrus_model.proofs.Supported.{supported}
 
 -- ---- distinct numbers
 
@@ -120,13 +122,13 @@ module _ (b : Body) (f : Further b) where
     none_too_many (inl many) = omega (arith, many, no_more_than_declared, f.few)
     none_too_many (inr many) = too_many (2 ^ 32) f.params b.parameters further f.as_many f.small no_more_than_32 many
 
-module _ (c : Config) (r : handled.Module) (types : ModuleTypes) (all : ModuleLocals) (funcs : ModuleFunctions) (es : ModuleExports) (taken : HasTaken c r types all funcs es)
+module _ (c : Config) (r : wire.Module) (types : ModuleTypes) (all : ModuleLocals) (funcs : ModuleFunctions) (es : ModuleExports) (taken : HasTaken c (supported r) types all funcs es)
     (few_params : (t : ℕ) → length (params_of (types_of r t)) < 2 ^ 32) (counted : All LocalsHold r.bodies) where
   -- a used local that is no parameter has an index behind theirs
-  index_of : (first n count : ℕ) (bytes : List ℕ) (kinds : List (ValType ℕ)) (ops : List Op) → BodyReads (context_of c r) (locals_from first count) bytes kinds ops
+  index_of : (first n count : ℕ) (bytes : List ℕ) (kinds : List (ValType ℕ)) (ops : List Op) → BodyReads (context_of c (supported r)) (locals_from first count) bytes kinds ops
       → (x : ℕ) → Contains (locals_of ops) x → (Contains (range_with_len first n) x → ⊥) → (k : ℕ) × ((x ≡ first + k) × (n ≤ k) × (k < 2 ^ 32) × (k < count))
   index_of first n count bytes kinds ops body x used new =
-      let at = used_small (context_of c r) (locals_from first count) bytes kinds ops body x used in
+      let at = used_small (context_of c (supported r)) (locals_from first count) bytes kinds ops body x used in
       let is : x ≡ first + at.0 = range_got first count at.0 x at.1.1 in
       let past : n ≤ at.0 = past_by first n at.0 (nat_lt at.0 n) refl (λ inside. new (subst (Contains (range_with_len first n)) {x = first + at.0} {y = x} (sym is) inside)) in
       (at.0, (is, past, at.1.0, range_within first count at.0 x at.1.1))
@@ -135,7 +137,7 @@ module _ (c : Config) (r : handled.Module) (types : ModuleTypes) (all : ModuleLo
   declares_few : (i : ℕ) (p : ℕ × Said) → slice_get (zip r.functions taken.bodies) i ≡ Some p → length p.1.0 ≤ 50_000
   declares_few i p stands =
       let z = got_zip r.functions taken.bodies i p stands in
-      let b = zip_left (ReadsBody c r) (zip r.functions r.bodies) taken.bodies i p.1 taken.read z.1 in
+      let b = zip_left (ReadsBody c (supported r)) (zip r.functions r.bodies) taken.bodies i p.1 taken.read z.1 in
       let g = got_zip r.functions r.bodies i b.0 b.1 in
       counted_few _ _ b.0.1 p.1.0 p.1.1 b.2 (all_got LocalsHold r.bodies i b.0.1 counted g.1)
 
@@ -144,13 +146,13 @@ module _ (c : Config) (r : handled.Module) (types : ModuleTypes) (all : ModuleLo
       let p = at.said in
       let first = at.held.first in
       let n = arity r p.0 in
-      let found = zip_third (ReadsBody c r) r.functions r.bodies taken.bodies i p taken.read at.stands in
+      let found = zip_third (ReadsBody c (supported r)) r.functions r.bodies taken.bodies i p taken.read at.stands in
       let count = n + length p.1.0 in
       let ops : b.operators ≡ map (moved_op first) p.1.1 = ap (λ (x : Body). x.operators) at.is ∙ at.held.operators in
       let params : b.parameters ≡ range_with_len first n = ap (λ (x : Body). x.parameters) at.is ∙ at.held.parameters in
-      let moved : BodyReads (context_of c r) (locals_from first count) found.0.bytes p.1.0 b.operators =
-      subst (BodyReads (context_of c r) (locals_from first count) found.0.bytes p.1.0) {x = map (moved_op first) p.1.1} {y = b.operators} (sym ops)
-      (there (context_of c r) first count found.0.bytes p.1.0 p.1.1 found.1) in
+      let moved : BodyReads (context_of c (supported r)) (locals_from first count) found.0.bytes p.1.0 b.operators =
+      subst (BodyReads (context_of c (supported r)) (locals_from first count) found.0.bytes p.1.0) {x = map (moved_op first) p.1.1} {y = b.operators} (sym ops)
+      (there (context_of c (supported r)) first count found.0.bytes p.1.0 p.1.1 found.1) in
       record {
         first = first;
         params = n;

@@ -1,4 +1,5 @@
 -- A function type that is framed has fewer than 2 ^ 32 parameters: their count is a number of 32 bits.
+use Rattle.wasm_frames.specs.Record as wire
 use Rattle.std.proofs.Common.{◌≡◌, ℕ, ◌+◌, ◌<◌, ◌^◌, Bool, true, false, List, [], ◌∷◌, length, refl, sym, subst, arith, inl, inr}
 use Rattle.std.specs.Prelude.{Option, Some, None, slice_get, nat_eq}
 use Rattle.std.specs.List.{AllByRecursion}
@@ -16,9 +17,8 @@ use Rattle.walrus_types.specs.TypeDef.{TypeDef, type_params}
 use Rattle.walrus_code.specs.FromRaw.{val_of}
 use Rattle.walrus_groups.specs.Groups.{comp_of, types_from}
 use Rattle.walrus_functions.specs.Handlers.{params_of}
-use Rattle.walrus_model.specs.Handled as handled
-use Rattle.walrus_model.specs.Handled.{widened}
-use Rattle.walrus_model.specs.Reads.{types_of, arity}
+use Rattle.walrus_model.specs.Reads.{arity}
+use Rattle.walrus_model.specs.Sections.{types_of}
 use Rattle.walrus_module.proofs.TypeLists.{type_is_member, one_of}
 
 -- ---- lists behind a count
@@ -134,5 +134,5 @@ few_by gs few ty (Some x) e =
     subst (λ (s : SubType ℕ). length (type_params s.comp) < 2 ^ 32) (sym m.sub_is) (params_few m.sub.comp sub)
 
 -- a function type that is framed has fewer than 2 ^ 32 parameters
-pub few_params : (bytes : List ℕ) (r : handled.Module) → Frames bytes (widened r) → (ty : ℕ) → arity r ty < 2 ^ 32
-few_params bytes r f ty = few_by r.types (all_few bytes (widened r) f) ty (types_of r ty) refl
+pub few_params : (bytes : List ℕ) (r : wire.Module) → Frames bytes r → (ty : ℕ) → arity r ty < 2 ^ 32
+few_params bytes r f ty = few_by r.types (all_few bytes r f) ty (types_of r ty) refl

@@ -1,4 +1,6 @@
 -- Where all that is named is there, and each function has a body, all that is written has an index.
+use Rattle.wasm_entries.specs.Record as entries
+use Rattle.wasm_entries.specs.declared.record.RawExportKind.TheVariants as kinds
 use Rattle.std.proofs.Common.{inl, inr, ◌≡◌, ℕ, suc, ◌&&◌, Bool, true, false, ⊎_elim, List, [], ◌∷◌, ◌++◌, map, refl, sym, ap, ◌∙◌, subst, arith, Some, None}
 use Rattle.std.specs.Prelude.{Option, IsSome, All, Err, Contains, option_map, option_and_then, ◌==◌, if◌then◌else◌}
 use Rattle.std.specs.List.{list_all}
@@ -34,7 +36,6 @@ use Rattle.walrus_module.specs.Whole.{is_there, is_live, are_live, is_type_whole
 use Rattle.walrus_module.proofs.Entries.{both_pass, item_passes, entry_placed, contains_placed, LocalAt, order_live, order_placed}
 use Rattle.walrus_module.proofs.NamedAll.{val_named, ops_named}
 use Rattle.walrus_module.proofs.Somes.{none_there, some_inj, some_of, still_some}
-use Rattle.walrus_model.specs.Handled as handled
 
 local_of_kind : (k : FunctionKind) → is_local k ≡ true → (f : LocalFunction) × (k ≡ kind.Local f)
 local_of_kind (kind.Local f) e = (f, refl)
@@ -181,14 +182,14 @@ module _ (h : Held) (exports : List ExportValue) (there : is_there_in h exports 
   order_typed : All (λ n. IsSome (type_index h.funcs names n)) order
   order_typed = λ k d lt. typed_at _ (order_live h.funcs order ordered k d lt)
 
-  abbrev with_index : List ℕ → ℕ → handled.Export
-  with_index name index = record { name = name; kind = handled.Function; index = index }
+  abbrev with_index : List ℕ → ℕ → entries.Export
+  with_index name index = record { name = name; kind = kinds.Function; index = index }
 
   exports_named : (es : List ExportValue) → all_exports_live h.types h.slots h.funcs es ≡ true → All (λ e. IsSome e) (map (export_with_index names) es)
   exports_named [] l = λ k d lt. absurd (omega (arith, lt))
   exports_named (e ∷ es) l =
       let q = both_pass (is_live h.types h.slots h.funcs (exported e.item)) (all_exports_live h.types h.slots h.funcs es) l in
-      All-cons (λ (x : Option handled.Export). IsSome x) (export_with_index names e) (map (export_with_index names) es) (still_some (with_index e.name) (names (exported e.item).0 (exported e.item).1) (item_named (exported e.item) q.0)) (exports_named es q.1)
+      All-cons (λ (x : Option entries.Export). IsSome x) (export_with_index names e) (map (export_with_index names) es) (still_some (with_index e.name) (names (exported e.item).0 (exported e.item).1) (item_named (exported e.item) q.0)) (exports_named es q.1)
 
   -- and what each export names
   pub exports_indexed : All (λ e. IsSome e) (map (export_with_index names) exports)

@@ -1,4 +1,6 @@
 -- What sections read as keeps the rules of a module.
+use Rattle.wasm_frames.specs.Record as wire
+use Rattle.wasm_entries.specs.Record as entries
 use Rattle.std.proofs.Common.{inl, inr, ◌≡◌, ◌≢◌, ◌⊎◌, ⊎_elim, ℕ, zero, suc, ◌+◌, ◌-◌, ◌<◌, ◌≤◌, Bool, true, false, List, [], ◌∷◌, ◌++◌, length, map, get_or, take, refl, sym, ap, subst, ◌∙◌, arith}
 use Rattle.std.specs.Prelude.{Option, Some, None, IsSome, Contains, All, slice_get, zip, flat_map, replicate, nat_lt, ◌&&◌, if◌then◌else◌}
 use Rattle.std.specs.List.{AllZip, list_all, range_with_len}
@@ -25,7 +27,8 @@ use Rattle.walrus_model.specs.Abstract.{Abstract, TypeDef, Body, Function, Expor
 use Rattle.walrus_model.specs.Config.{Config}
 use Rattle.walrus_model.specs.Live.{Has, IsLive}
 use Rattle.walrus_model.specs.Names.{body_of, body_of_function, body_of_kind}
-use Rattle.walrus_model.specs.Reads.{types_of, function_with, body_with, space_of, export_of, module_of, Said, ReadsBody, below, declared, arity, context_of, is_function}
+use Rattle.walrus_model.specs.Reads.{ReadsBody, below, declared, arity, context_of, is_function}
+use Rattle.walrus_model.specs.Sections.{types_of, function_with, body_with, space_of, export_of, module_of, Said}
 use Rattle.walrus_model.specs.Refers.{named_by, type_names, function_names, written_in, IsUsed, local_names}
 use Rattle.walrus_model.specs.Rules.{TypesRefer, IsEarlier, IndicesHold, FunctionTypesHold, RulesHold, IsFunctionType, IsFunctionComp}
 use Rattle.walrus_model.proofs.Lists.{Contains-uncons, Contains-none}
@@ -35,7 +38,8 @@ use Rattle.walrus_module.proofs.Lookups.{none_there, some_of, mapped_some, got_m
 use Rattle.walrus_module.proofs.TypeLists.{IsMember, type_is_member, member_refers, group_fits, types_count as type_count, count, in_range, range_bounds, comp_below, params_below}
 use Rattle.walrus_module.proofs.Named.{through, some_inj, val_again, ops_again}
 use Rattle.walrus_module.proofs.NamedFound.{val_found, names_found, locals_found}
-use Rattle.walrus_model.specs.Handled as handled
+use Rattle.walrus_model.proofs.Supported.{supported}
+use Rattle.walrus_model.specs.Supported.{IsOfFunction}
 
 -- ---- lists
 
@@ -90,15 +94,15 @@ below_same count i j true e h = some_inj i j (sym (ap (λ (t : Bool). if t then 
 below_same count i j false e h = absurd (let p : None ≡ Some j = sym (ap (λ (t : Bool). if t then Some i else None) e) ∙ h in cc)
 
 -- what an index leads to is that index
-declared_same : (r : handled.Module) (space : Space) (p j : ℕ) → declared r space p ≡ Some j → p ≡ j
+declared_same : (r : wire.Module) (space : Space) (p j : ℕ) → declared (supported r) space p ≡ Some j → p ≡ j
 declared_same r Types p j e = below_same (length (types_from 0 r.types)) p j (nat_lt p (length (types_from 0 r.types))) refl e
 declared_same r Functions p j e = below_same (length r.functions) p j (nat_lt p (length r.functions)) refl e
-declared_same r Tables p j e = absurd (cc)
-declared_same r Memories p j e = absurd (cc)
-declared_same r Tags p j e = absurd (cc)
-declared_same r Globals p j e = absurd (cc)
-declared_same r Elements p j e = absurd (cc)
-declared_same r DataSegments p j e = absurd (cc)
+declared_same r Tables p j e = below_same 0 p j (nat_lt p 0) refl e
+declared_same r Memories p j e = below_same 0 p j (nat_lt p 0) refl e
+declared_same r Tags p j e = below_same 0 p j (nat_lt p 0) refl e
+declared_same r Globals p j e = below_same 0 p j (nat_lt p 0) refl e
+declared_same r Elements p j e = below_same 0 p j (nat_lt p 0) refl e
+declared_same r DataSegments p j e = below_same 0 p j (nat_lt p 0) refl e
 
 locals_same : (a n k x : ℕ) → a ≡ 0 → locals_from a n k ≡ Some x → locals_from a n x ≡ locals_from a n k
 locals_same a n k x z e =
@@ -112,9 +116,6 @@ locals_same a n k x z e =
 
     range_is : (a n k x : ℕ) → a ≡ 0 → locals_from a n k ≡ Some x → k ≡ x
     range_is a n k x z e = let p : a + k ≡ x = range_from a n k x e in omega (arith, p, z)
-
-kind_is : (k : handled.ExportKind) → Functions ≡ space_of k
-kind_is handled.Function = refl
 
 body_from : (o : Option Function) (b : Body) → body_of_function o ≡ Some b → (f : Function) × (o ≡ Some f) × (body_of_kind f.kind ≡ Some b)
 body_from (Some f) b e = (f, refl, e)
@@ -206,12 +207,13 @@ module _ (gs : List Group) (refer : wire_indices.TypesRefer gs) (t : ℕ) (x : T
 
 -- ---- the module that was read
 
-module _ (c : Config) (r : handled.Module) (bodies : List Said) (rules : Rules r) (read : AllZip (ReadsBody c r) (zip r.functions r.bodies) bodies) where
+module _ (c : Config) (r : wire.Module) (bodies : List Said) (rules : Rules (supported r)) (of_functions : All IsOfFunction r.exports)
+    (read : AllZip (ReadsBody c (supported r)) (zip r.functions r.bodies) bodies) where
   abbrev M : Abstract
-  M = module_of r bodies
+  M = module_of (supported r) bodies
 
   many : length bodies ≡ length r.functions
-  many = sym (zip_length (ReadsBody c r) (zip r.functions r.bodies) bodies read) ∙ zip_long r.functions r.bodies rules.as_many_bodies
+  many = sym (zip_length (ReadsBody c (supported r)) (zip r.functions r.bodies) bodies read) ∙ zip_long r.functions r.bodies rules.as_many_bodies
 
   has_type : (t : ℕ) → t < length (types_from 0 r.types) → IsSome (M.types t)
   has_type t lt = there (types_from 0 r.types) t lt
@@ -224,15 +226,15 @@ module _ (c : Config) (r : handled.Module) (bodies : List Said) (rules : Rules r
   has_function f lt = there_mapped (function_with r) (zip r.functions bodies) f (omega (arith, lt, zip_long r.functions bodies many))
 
   -- what is declared is there
-  declared_live : (space : Space) (i : ℕ) → IsSome (declared r space i) → Has M space i
+  declared_live : (space : Space) (i : ℕ) → IsSome (declared (supported r) space i) → Has M space i
   declared_live Types i h = has_type i (below_some (length (types_from 0 r.types)) i (nat_lt i (length (types_from 0 r.types))) refl h)
   declared_live Functions i h = has_function i (below_some (length r.functions) i (nat_lt i (length r.functions)) refl h)
-  declared_live Tables i h = absurd (none_there h)
-  declared_live Memories i h = absurd (none_there h)
-  declared_live Tags i h = absurd (none_there h)
-  declared_live Globals i h = absurd (none_there h)
-  declared_live Elements i h = absurd (none_there h)
-  declared_live DataSegments i h = absurd (none_there h)
+  declared_live Tables i h = let lt : i < 0 = below_some 0 i (nat_lt i 0) refl h in absurd (omega (arith, lt))
+  declared_live Memories i h = let lt : i < 0 = below_some 0 i (nat_lt i 0) refl h in absurd (omega (arith, lt))
+  declared_live Tags i h = let lt : i < 0 = below_some 0 i (nat_lt i 0) refl h in absurd (omega (arith, lt))
+  declared_live Globals i h = let lt : i < 0 = below_some 0 i (nat_lt i 0) refl h in absurd (omega (arith, lt))
+  declared_live Elements i h = let lt : i < 0 = below_some 0 i (nat_lt i 0) refl h in absurd (omega (arith, lt))
+  declared_live DataSegments i h = let lt : i < 0 = below_some 0 i (nat_lt i 0) refl h in absurd (omega (arith, lt))
 
   type_within : (t : ℕ) → is_function r t ≡ true → t < length (types_from 0 r.types)
   type_within t h = let x = type_is (types_of r t) h in (got_in (types_from 0 r.types) t x.0 x.1).0
@@ -249,14 +251,14 @@ module _ (c : Config) (r : handled.Module) (bodies : List Said) (rules : Rules r
     bytes : List ℕ
     is : f ≡ function_with r (at_type, said)
     takes : is_function r at_type ≡ true
-    reads : BodyReads (context_of c r) (locals_from 0 (arity r at_type + length said.0)) bytes said.0 said.1
+    reads : BodyReads (context_of c (supported r)) (locals_from 0 (arity r at_type + length said.0)) bytes said.0 said.1
     few : length said.0 ≤ 50_000
 
   function_at : (i : ℕ) (f : Function) → M.functions i ≡ Some f → At f
   function_at i f e =
       let m = mapped_some (function_with r) (slice_get (zip r.functions bodies) i) f (sym (got_map (function_with r) (zip r.functions bodies) i) ∙ e) in
       let z = got_zip r.functions bodies i m.0 m.1 in
-      let b = zip_left (ReadsBody c r) (zip r.functions r.bodies) bodies i m.0.1 read z.1 in
+      let b = zip_left (ReadsBody c (supported r)) (zip r.functions r.bodies) bodies i m.0.1 read z.1 in
       let g = got_zip r.functions r.bodies i b.0 b.1 in
       let same : b.0.0 ≡ m.0.0 = some_inj b.0.0 m.0.0 (sym g.0 ∙ z.0) in
       record {
@@ -265,7 +267,7 @@ module _ (c : Config) (r : handled.Module) (bodies : List Said) (rules : Rules r
         bytes = b.0.1.bytes;
         is = m.2;
         takes = all_got (λ t. is_function r t ≡ true) r.functions i m.0.0 rules.function_types z.0;
-        reads = subst (λ (t : ℕ). BodyReads (context_of c r) (locals_from 0 (arity r t + length m.0.1.0)) b.0.1.bytes m.0.1.0 m.0.1.1) same b.2;
+        reads = subst (λ (t : ℕ). BodyReads (context_of c (supported r)) (locals_from 0 (arity r t + length m.0.1.0)) b.0.1.bytes m.0.1.0 m.0.1.1) same b.2;
         few = counted_few _ _ b.0.1 m.0.1.0 m.0.1.1 b.2 (all_got LocalsHold r.bodies i b.0.1 rules.locals g.1);
       }
 
@@ -282,9 +284,9 @@ module _ (c : Config) (r : handled.Module) (bodies : List Said) (rules : Rules r
       record { fn = f.0; at = a; is = sym (some_inj (body_with (params_at a.at_type) a.said) b p) }
 
   -- its operators are found as they stand
-  operators_found : (f : Function) (a : At f) → named_ops (declared r) (locals_from 0 (arity r a.at_type + length a.said.0)) a.said.1 ≡ Some a.said.1
+  operators_found : (f : Function) (a : At f) → named_ops (declared (supported r)) (locals_from 0 (arity r a.at_type + length a.said.0)) a.said.1 ≡ Some a.said.1
   operators_found f a =
-      let d : Lookup = declared r in
+      let d : Lookup = declared (supported r) in
       let l : ℕ → Option ℕ = locals_from 0 (arity r a.at_type + length a.said.0) in
       ops_again d d d (λ space p j h. ap (d space) (sym (declared_same r space p j h))) l l l (λ k x h. locals_same 0 (arity r a.at_type + length a.said.0) k x refl h)
       (ops_of a.reads.operators.texts) a.said.1 a.reads.operators.named
@@ -293,7 +295,7 @@ module _ (c : Config) (r : handled.Module) (bodies : List Said) (rules : Rules r
   -- and so is each type that it declares
   declared_found : (f : Function) (a : At f) (k : ℕ) (v : ValType ℕ) → slice_get a.said.0 k ≡ Some v → (y : Item) → Contains (map type_item (val_names v)) y → IsLive M y
   declared_found f a k v e y n =
-      let d : Lookup = declared r in
+      let d : Lookup = declared (supported r) in
       let again : (u w : ValType ℕ) → named_val d u ≡ Some w → named_val d w ≡ Some w = λ u w h. val_again d d d (λ space p j g. ap (d space) (sym (declared_same r space p j g))) u w h ∙ h in
       let here : named_val d v ≡ Some v = types_hold d (λ w. named_val d w ≡ Some w) again a.reads.declared a.said.0 a.reads.typed k v e in
       declared_live y.0 y.1 (val_found d v v here y n)
@@ -316,7 +318,7 @@ module _ (c : Config) (r : handled.Module) (bodies : List Said) (rules : Rules r
       let b = body_with (params_at a.at_type) a.said in
       ⊎_elim (λ (e : type_item a.at_type ≡ y). subst (IsLive M) e (has_type a.at_type (type_within a.at_type a.takes)))
       (λ (d : Contains (names_of a.said.1 ++ flat_map (local_names b) (locals_of a.said.1)) y).
-      ⊎_elim (λ (m : Contains (names_of a.said.1) y). declared_live y.0 y.1 (names_found (declared r) (locals_from 0 (arity r a.at_type + length a.said.0)) a.said.1 a.said.1 (operators_found f a) y m))
+      ⊎_elim (λ (m : Contains (names_of a.said.1) y). declared_live y.0 y.1 (names_found (declared (supported r)) (locals_from 0 (arity r a.at_type + length a.said.0)) a.said.1 a.said.1 (operators_found f a) y m))
       (λ (m : Contains (flat_map (local_names b) (locals_of a.said.1)) y). in_flat_map (local_names b) (IsLive M) (locals_of a.said.1) (local_live f a) y m)
       (Contains-append_cases (names_of a.said.1) (flat_map (local_names b) (locals_of a.said.1)) y d))
       (Contains-uncons (type_item a.at_type) y (names_of a.said.1 ++ flat_map (local_names b) (locals_of a.said.1)) n)
@@ -349,17 +351,17 @@ module _ (c : Config) (r : handled.Module) (bodies : List Said) (rules : Rules r
   written_live (Elements, i) y n = absurd (Contains-none y n)
   written_live (DataSegments, i) y n = absurd (Contains-none y n)
 
-  export_live : (e : handled.Export) → e.index < length r.functions → IsLive M (export_of e).item
-  export_live e lt = subst (λ s. Has M s e.index) (kind_is e.kind) (has_function e.index lt)
+  export_live : (e : entries.Export) → IsOfFunction e → e.index < length r.functions → IsLive M (export_of e).item
+  export_live e is lt = subst (λ k. Has M (space_of k) e.index) (sym is) (has_function e.index lt)
 
   exports_live : All (λ (e : Export). IsLive M e.item) (map export_of r.exports)
-  exports_live = All-map (λ (e : Export). IsLive M e.item) export_of r.exports (λ k d lt. export_live (get_or r.exports k d) (rules.exports_hold k d lt))
+  exports_live = All-map (λ (e : Export). IsLive M e.item) export_of r.exports (λ k d lt. export_live (get_or r.exports k d) (of_functions k d lt) (rules.exports_hold k d lt))
 
   -- a local that is used is one of the parameters or a declared one
   local_typed : (f : Function) (a : At f) (x : ℕ) → IsUsed (body_with (params_at a.at_type) a.said) x → IsSome ((body_with (params_at a.at_type) a.said).local_type x)
   local_typed f a x u =
       let total : ℕ = arity r a.at_type + length a.said.0 in
-      let s = some_of (locals_from 0 total x) (locals_found (declared r) (locals_from 0 total) a.said.1 a.said.1 (operators_found f a) x u) in
+      let s = some_of (locals_from 0 total x) (locals_found (declared (supported r)) (locals_from 0 total) a.said.1 a.said.1 (operators_found f a) x u) in
       let lt : x < total = range_within 0 total x s.0 s.1 in
       there (params_at a.at_type ++ a.said.0) x (omega (arith, lt, length-append (params_at a.at_type) a.said.0))
 

@@ -12,9 +12,9 @@ pub mod ExportedRefs
 pub mod FewLocals
 pub mod FewParams
 pub mod Found
-pub mod HandledFrames
-pub mod HandledOnly
-pub mod HandledRules
+pub mod WrittenFrames
+pub mod SupportedOnly
+pub mod SupportedRules
 pub mod InOrder
 pub mod Indexed
 pub mod Keeps

@@ -1,6 +1,7 @@
 -- A module in memory that took in the sections is well formed, its types can be written, and its references are those of the sections.
+use Rattle.wasm_frames.specs.Record as wire
 use Rattle.std.proofs.Common.{◌≡◌, ◌≢◌, ℕ, ◌+◌, List, ◌++◌, length, map, refl, sym, ap, ap₂, subst, ◌∙◌, arith, ⊎_elim, inl, Bool, true}
-use Rattle.std.specs.Prelude.{Option, Some, None, is_some, Contains, AllPairs, slice_get, zip, option_map, ◌⊎◌}
+use Rattle.std.specs.Prelude.{Option, Some, None, is_some, All, Contains, AllPairs, slice_get, zip, option_map, ◌⊎◌}
 use Rattle.std.specs.List.{range_with_len}
 use Rattle.walrus_base.specs.Arena.{item_at}
 use Rattle.walrus_base.specs.Id.{place}
@@ -26,10 +27,10 @@ use Rattle.walrus_items.specs.declared.functions.ModuleFunctions.{ModuleFunction
 use Rattle.walrus_model.specs.Abstract as abstract
 use Rattle.walrus_model.specs.Config.{Config}
 use Rattle.walrus_model.specs.Declared.{ref_func, IsRefInBody, IsRefInGlobal, IsUndeclared, NothingUndeclared}
-use Rattle.walrus_model.specs.Handled as handled
 use Rattle.walrus_model.specs.Live.{IsLive}
 use Rattle.walrus_model.specs.Names.{body_of_function, body_of_kind}
-use Rattle.walrus_model.specs.Reads.{Said, types_of, function_with, body_with, module_of, declared, is_function, features_of, context_of, arity, ReadsBody}
+use Rattle.walrus_model.specs.Reads.{declared, is_function, features_of, context_of, arity, ReadsBody}
+use Rattle.walrus_model.specs.Sections.{Said, types_of, function_with, body_with, module_of}
 use Rattle.walrus_model.specs.Rules.{IsFunctionComp, IsFunctionType}
 use Rattle.walrus_model.specs.WellMade.{IsWellFormed}
 use Rattle.walrus_module.specs.Refused.{AreWellFormed, AreWritable}
@@ -41,10 +42,12 @@ use Rattle.walrus_module.proofs.Steps.{type_there, same_functions}
 use Rattle.walrus_module.proofs.TypesRead.{not_exact}
 use Rattle.walrus_module.proofs.Keeps.{keeps}
 use Rattle.walrus_module.proofs.WholeLists.{mapped_some, got_map, got_first, got_front, got_behind, longer, longer_behind, zip_found, zip_there, zip_third, range_joined, range_apart, range_typed}
+use Rattle.walrus_model.proofs.Supported.{supported}
+use Rattle.walrus_model.specs.Supported.{IsOfFunction}
 
 -- ---- one body that was taken in
 
-module _ (r : handled.Module) (slots : List (Option (ValType ℕ))) (p : ℕ × Said) (g : LocalFunction) (h : HoldsBody slots p.0 (params_of (types_of r p.0)) p.1 g) where
+module _ (r : wire.Module) (slots : List (Option (ValType ℕ))) (p : ℕ × Said) (g : LocalFunction) (h : HoldsBody slots p.0 (params_of (types_of r p.0)) p.1 g) where
   abbrev params : List (ValType ℕ)
   params = params_of (types_of r p.0)
 
@@ -83,7 +86,7 @@ body_there None b e = absurd cc
 
 -- ---- all of them
 
-module _ (c : Config) (r : handled.Module) (types : ModuleTypes) (all : ModuleLocals) (funcs : ModuleFunctions) (es : ModuleExports) (taken : HasTaken c r types all funcs es) where
+module _ (c : Config) (r : wire.Module) (types : ModuleTypes) (all : ModuleLocals) (funcs : ModuleFunctions) (es : ModuleExports) (taken : HasTaken c (supported r) types all funcs es) where
   abbrev v : abstract.Abstract
   v = view_of types all funcs es
 
@@ -93,13 +96,13 @@ module _ (c : Config) (r : handled.Module) (types : ModuleTypes) (all : ModuleLo
   typed_at : (t : ℕ) → v.types t ≡ types_of r t
   typed_at t = type_there r types taken.types t
 
-  same_context : context_of c r ≡ context (declared r) (λ t. is_function_def (v.types t)) (features_of c)
-  same_context = ap (λ (f : ℕ → Bool). context (declared r) f (features_of c)) (sym (same_functions r types taken.types))
+  same_context : context_of c (supported r) ≡ context (declared (supported r)) (λ t. is_function_def (v.types t)) (features_of c)
+  same_context = ap (λ (f : ℕ → Bool). context (declared (supported r)) f (features_of c)) (sym (same_functions r types taken.types))
 
   -- the types can be written, as they keep the rules
-  pub writable : Rules r → AreWritable v
-  writable rules =
-      let h = (keeps c r taken.bodies rules taken.read).types in
+  pub writable : Rules (supported r) → All IsOfFunction r.exports → AreWritable v
+  writable rules of_functions =
+      let h = (keeps c r taken.bodies rules of_functions taken.read).types in
       record {
         refer = record {
           one_supertype = λ t x e. h.one_supertype t x (sym (typed_at t) ∙ e);
@@ -149,31 +152,31 @@ module _ (c : Config) (r : handled.Module) (types : ModuleTypes) (all : ModuleLo
   function_typed : (t : ℕ) → is_function r t ≡ true → IsFunctionType v t
   function_typed t h = function_def t (types_of r t) refl h
 
-  one_formed : (i : ℕ) (p : ℕ × Said) (g : LocalFunction) → Rules r → slice_get (zip r.functions taken.bodies) i ≡ Some p → HoldsBody slots_of p.0 (params_of (types_of r p.0)) p.1 g → IsWellFormed c v p.0 (body all g)
+  one_formed : (i : ℕ) (p : ℕ × Said) (g : LocalFunction) → Rules (supported r) → slice_get (zip r.functions taken.bodies) i ≡ Some p → HoldsBody slots_of p.0 (params_of (types_of r p.0)) p.1 g → IsWellFormed c v p.0 (body all g)
   one_formed i p g rules at h =
       let at_first = got_first r.functions taken.bodies i p at in
       let function : is_function r p.0 ≡ true = subst (λ (t : ℕ). is_function r t ≡ true) (at_first.1 p.0) (rules.function_types i p.0 at_first.0) in
-      let found = zip_third (ReadsBody c r) r.functions r.bodies taken.bodies i p taken.read at in
+      let found = zip_third (ReadsBody c (supported r)) r.functions r.bodies taken.bodies i p taken.read at in
       let count = arity r p.0 + length p.1.0 in
-      let moved : BodyReads (context_of c r) (locals_from h.first count) found.0.bytes p.1.0 (map (moved_op h.first) p.1.1) =
-      there (context_of c r) h.first count found.0.bytes p.1.0 p.1.1 found.1 in
+      let moved : BodyReads (context_of c (supported r)) (locals_from h.first count) found.0.bytes p.1.0 (map (moved_op h.first) p.1.1) =
+      there (context_of c (supported r)) h.first count found.0.bytes p.1.0 p.1.1 found.1 in
       record {
         function_type = function_typed p.0 function;
         distinct = params_apart r slots_of p g h;
         typed = params_typed r slots_of p g h ∙ ap (λ (o : Option TypeDef). map Some (params_of o)) (sym (typed_at p.0));
-        names = declared r;
+        names = declared (supported r);
         further = behind r slots_of p g h;
         types = p.1.0;
         further_typed = behind_typed r slots_of p g h;
         text = found.0.bytes;
         read =
             subst (λ (d : Context). BodyReads d (slice_get ((body all g).parameters ++ behind r slots_of p g h)) found.0.bytes p.1.0 (body all g).operators) same_context
-            (subst (λ (ops : List Op). BodyReads (context_of c r) (slice_get ((body all g).parameters ++ behind r slots_of p g h)) found.0.bytes p.1.0 ops) (sym h.operators)
-            (subst (λ (l : ℕ → Option ℕ). BodyReads (context_of c r) l found.0.bytes p.1.0 (map (moved_op h.first) p.1.1)) (all_locals r slots_of p g h) moved));
+            (subst (λ (ops : List Op). BodyReads (context_of c (supported r)) (slice_get ((body all g).parameters ++ behind r slots_of p g h)) found.0.bytes p.1.0 ops) (sym h.operators)
+            (subst (λ (l : ℕ → Option ℕ). BodyReads (context_of c (supported r)) l found.0.bytes p.1.0 (map (moved_op h.first) p.1.1)) (all_locals r slots_of p g h) moved));
       }
 
   -- every body is well formed
-  pub well_formed : Rules r → AreWellFormed c v
+  pub well_formed : Rules (supported r) → AreWellFormed c v
   well_formed rules i f b e is =
       let at = body_at i f b e is in
       subst (λ (t : ℕ). IsWellFormed c v t b) (sym at.typed) (subst (IsWellFormed c v at.said.0) (sym at.is) (one_formed i at.said at.local rules at.stands at.held))
@@ -181,7 +184,7 @@ module _ (c : Config) (r : handled.Module) (types : ModuleTypes) (all : ModuleLo
   -- ---- references
 
   abbrev read : abstract.Abstract
-  read = module_of r taken.bodies
+  read = module_of (supported r) taken.bodies
 
   read_at : (i : ℕ) (p : ℕ × Said) → slice_get (zip r.functions taken.bodies) i ≡ Some p → read.functions i ≡ Some (function_with r p)
   read_at i p e = got_map (function_with r) (zip r.functions taken.bodies) i ∙ ap (option_map (function_with r)) e
@@ -247,8 +250,8 @@ module _ (c : Config) (r : handled.Module) (types : ModuleTypes) (all : ModuleLo
   }
 
   -- nothing is undeclared in the module that was read, as nothing is in memory, and the other way round
-  pub references_read : NothingUndeclared v → NothingUndeclared (module_of r taken.bodies)
+  pub references_read : NothingUndeclared v → NothingUndeclared (module_of (supported r) taken.bodies)
   references_read h f u = h f (undeclared_read f u)
 
-  pub references_seen : NothingUndeclared (module_of r taken.bodies) → NothingUndeclared v
+  pub references_seen : NothingUndeclared (module_of (supported r) taken.bodies) → NothingUndeclared v
   references_seen h f u = h f (undeclared_seen f u)

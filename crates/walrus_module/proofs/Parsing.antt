@@ -1,17 +1,17 @@
--- Where exports lead, the bodies that were read, and the locals that these use.
+-- The bodies that were read, and the locals that these use.
 use Rattle.std.proofs.Common.{◌≡◌, ℕ, zero, suc, ◌+◌, ◌<◌, ⊎_elim, Bool, true, false, List, [], ◌∷◌, length, refl, sym, subst, ◌∙◌, arith}
 use Rattle.std.specs.Prelude.{Option, Some, None, Contains, slice_get, zip, nat_lt}
 use Rattle.std.specs.List.{AllZip, AllByRecursion}
 use borrow.Author.Tests.{ltb-true, ltb-false}
 use Rattle.wasm_forms.proofs.Bind.{some_same}
 use Rattle.wasm_frames.specs.Record as wire
-use Rattle.walrus_types.specs.Operators.{Functions, locals_of}
+use Rattle.walrus_types.specs.Operators.{locals_of}
 use Rattle.walrus_code.specs.FromRaw.{ops_of}
 use Rattle.walrus_functions.specs.ReadFunction.{locals_from}
 use Rattle.walrus_functions.proofs.LawNamed.{HasIndex, ops_found}
 use Rattle.walrus_model.specs.Config.{Config}
-use Rattle.walrus_model.specs.Handled as handled
-use Rattle.walrus_model.specs.Reads.{Said, space_of, declared, arity, ReadsBody}
+use Rattle.walrus_model.specs.Reads.{declared, arity, ReadsBody}
+use Rattle.walrus_model.specs.Sections.{Said}
 use Rattle.walrus_model.proofs.Lists.{Contains-uncons, Contains-none}
 use Rattle.walrus_module.proofs.Taking.{get_own, get_past}
 
@@ -20,11 +20,6 @@ use Rattle.walrus_module.proofs.Taking.{get_own, get_past}
 pub each_in : {X : Type 0} (P : X → Type 0) (xs : List X) (y : X) → AllByRecursion P xs → Contains xs y → P y
 each_in P [] y all c = absurd (Contains-none y c)
 each_in P (x ∷ xs) y all c = ⊎_elim (λ (e : x ≡ y). subst P e all.0) (λ (d : Contains xs y). each_in P xs y all.1 d) (Contains-uncons x y xs c)
-
--- ---- exports
-
-pub kind_is : (k : handled.ExportKind) → Functions ≡ space_of k
-kind_is handled.Function = refl
 
 -- ---- bodies that were read
 
@@ -45,7 +40,7 @@ index_below count n x true lt e =
     omega (arith, small, same)
 index_below count n x false ge e = let none : ◌≡◌ {A = Option ℕ} None (Some x) = sym (get_past 0 count n (ltb-false n count ge)) ∙ e in absurd cc
 
-pub used_below : (c : Config) (r : handled.Module) (f : ℕ × wire.Body) (said : Said) (x : ℕ) → ReadsBody c r f said → Contains (locals_of said.1) x → x < arity r f.0 + length said.0
+pub used_below : (c : Config) (r : wire.Module) (f : ℕ × wire.Body) (said : Said) (x : ℕ) → ReadsBody c r f said → Contains (locals_of said.1) x → x < arity r f.0 + length said.0
 used_below c r f said x read used =
     let count = arity r f.0 + length said.0 in
     let all = ops_found (declared r) (locals_from 0 count) (ops_of read.operators.texts) said.1 read.operators.named in

@@ -23,7 +23,6 @@ use Rattle.walrus_module.specs.Spelled.{module_bytes, IsWritten}
 use Rattle.walrus_module.specs.Spells.{Spells}
 use Rattle.walrus_module.proofs.DeclaredTypes.{texts_declare}
 use Rattle.walrus_module.proofs.WrittenAs.{texts_in}
-use Rattle.walrus_model.specs.Handled.{widened_export}
 
 sections_of : {A : Type 0} → ℕ → (A → List ℕ) → List A → List Section
 sections_of id spell [] = []
@@ -142,4 +141,4 @@ pub placed_as_spelled : (h : Held) (features : Features) (es : List ExportValue)
 placed_as_spelled h features es bytes s =
     let r = s.records in
     let once = texts_declare r.names (map (λ e. e.0) (entries h.types)) r.order r.numbered h features r.order r.bodies r.bodies_are in
-    placed_as_written r.raw_types r.raw_functions (map widened_export r.raw_exports) (map unplaced r.bodies) bytes s.written (bodies_canonical h r.names features r.order r.bodies r.bodies_are once)
+    placed_as_written r.raw_types r.raw_functions r.raw_exports (map unplaced r.bodies) bytes s.written (bodies_canonical h r.names features r.order r.bodies r.bodies_are once)

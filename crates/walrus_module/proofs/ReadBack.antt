@@ -1,4 +1,6 @@
 -- What is written reads back as the module of indices that its records make, and keeps the rules.
+use Rattle.wasm_entries.specs.Record as entries
+use Rattle.wasm_entries.specs.declared.record.RawExportKind.TheVariants as kinds
 use Rattle.std.proofs.Common.{◌≡◌, ◌≢◌, ℕ, suc, ◌+◌, ◌<◌, ◌≤◌, ◌^◌, List, [], ◌∷◌, ◌++◌, length, map, get_or, refl, sym, ap, subst, ◌∙◌, arith, Some}
 use Rattle.std.specs.Prelude.{Option, All, AllPairs, slice_get, zip}
 use Rattle.std.specs.List.{AllZip}
@@ -31,15 +33,15 @@ use Rattle.walrus_module.specs.Spelled.{IsWritten}
 use Rattle.walrus_module.specs.Spells.{Records, Spells}
 use Rattle.walrus_module.specs.View.{export_of}
 use Rattle.walrus_module.proofs.BodiesBack.{as_many_functions, as_many_bodies, new_types, type_below, function_below, texts_read, all_functions_typed}
-use Rattle.walrus_module.proofs.HandledFrames.{id_if_any, HandledCanBeWritten, first_place, written_module, handled_frames}
+use Rattle.walrus_module.proofs.WrittenFrames.{id_if_any, RecordsCanBeWritten, first_place, written_module, records_frame}
 use Rattle.walrus_module.proofs.CountedLocals.{DeclaresFew, all_counted}
 use Rattle.walrus_module.proofs.Keeps.{keeps}
 use Rattle.walrus_module.proofs.Lookups.{then_some, mapped_some, pairs_map, map_after}
 use Rattle.walrus_module.proofs.TypeSizes.{types_fewer}
 use Rattle.walrus_module.proofs.TypesBack.{types_keep_rules}
 use Rattle.walrus_module.proofs.WrittenAs.{texts_of, written_as}
-use Rattle.walrus_model.specs.Handled as handled
-use Rattle.walrus_model.specs.Handled.{widened_export, widened}
+use Rattle.walrus_model.specs.Supported.{IsOfFunction}
+use Rattle.walrus_model.proofs.Supported.{are_supported}
 
 -- ---- the sections stand in order
 
@@ -111,7 +113,7 @@ placed_count start (b ∷ bs) = ap suc (placed_count (start + length (body_bytes
 
 module _ (c : Config) {h : Held} {exports : List ExportValue} (r : Records h (features_of c) exports) where
   -- what the bytes hold, with the places of its sections and bodies
-  wire_module : handled.Module
+  wire_module : wire.Module
   wire_module = written_module r.raw_types r.raw_functions r.raw_exports (map unplaced r.bodies)
 
   abbrev first : ℕ
@@ -131,29 +133,32 @@ module _ (c : Config) {h : Held} {exports : List ExportValue} (r : Records h (fe
   index_declared : (x : ExportItem) (index : ℕ) → r.names (exported x).0 (exported x).1 ≡ Some index → index < length r.raw_functions
   index_declared (item.Function f) index e = function_below r (place f) index e
 
-  export_declared : (x : ExportValue) (e : handled.Export) → export_with_index r.names x ≡ Some e → (e.index < length r.raw_functions) × (e.name ≡ x.name)
+  export_declared : (x : ExportValue) (e : entries.Export) → export_with_index r.names x ≡ Some e → (e.index < length r.raw_functions) × (e.name ≡ x.name) × IsOfFunction e
   export_declared x e g =
-      let m = mapped_some (λ index. record { name = x.name; kind = handled.Function; index = index }) (r.names (exported x.item).0 (exported x.item).1) e g in
-      (subst (λ (y : handled.Export). y.index < length r.raw_functions) (sym m.2) (index_declared x.item m.0 m.1), ap (λ (y : handled.Export). y.name) m.2)
+      let m = mapped_some (λ index. record { name = x.name; kind = kinds.Function; index = index }) (r.names (exported x.item).0 (exported x.item).1) e g in
+      (subst (λ (y : entries.Export). y.index < length r.raw_functions) (sym m.2) (index_declared x.item m.0 m.1), ap (λ (y : entries.Export). y.name) m.2, ap (λ (y : entries.Export). y.kind) m.2)
 
   exports_declared : All (λ e. e.index < length r.raw_functions) r.raw_exports
-  exports_declared = all_found (λ (e : handled.Export). e.index < length r.raw_functions) (export_with_index r.names) exports r.raw_exports r.exports_are (λ x e g. (export_declared x e g).0)
+  exports_declared = all_found (λ (e : entries.Export). e.index < length r.raw_functions) (export_with_index r.names) exports r.raw_exports r.exports_are (λ x e g. (export_declared x e g).0)
 
-  same_names : map (λ (e : handled.Export). e.name) r.raw_exports ≡ map (λ (x : ExportValue). x.name) exports
-  same_names = same_found (export_with_index r.names) (λ (e : handled.Export). e.name) (λ (x : ExportValue). x.name) exports r.raw_exports r.exports_are (λ x e g. (export_declared x e g).1)
+  pub of_functions : All IsOfFunction r.raw_exports
+  of_functions = all_found IsOfFunction (export_with_index r.names) exports r.raw_exports r.exports_are (λ x e g. (export_declared x e g).2)
+
+  same_names : map (λ (e : entries.Export). e.name) r.raw_exports ≡ map (λ (x : ExportValue). x.name) exports
+  same_names = same_found (export_with_index r.names) (λ (e : entries.Export). e.name) (λ (x : ExportValue). x.name) exports r.raw_exports r.exports_are (λ x e g. (export_declared x e g).1)
 
   -- no two names among the exports are one, so also among those that are written
-  names_differ : AllPairs (λ (d : Export) (e : Export). d.name ≢ e.name) (map export_of exports) → AllPairs (λ (d : handled.Export) (e : handled.Export). d.name ≢ e.name) r.raw_exports
+  names_differ : AllPairs (λ (d : Export) (e : Export). d.name ≢ e.name) (map export_of exports) → AllPairs (λ (d : entries.Export) (e : entries.Export). d.name ≢ e.name) r.raw_exports
   names_differ g =
       let named : AllPairs (λ (a b : List ℕ). a ≢ b) (map (λ (e : Export). e.name) (map export_of exports)) = pairs_map (λ (a b : List ℕ). a ≢ b) (λ (e : Export). e.name) (map export_of exports) g in
-      pairs_seen (λ (a b : List ℕ). a ≢ b) (λ (e : handled.Export). e.name) r.raw_exports
+      pairs_seen (λ (a b : List ℕ). a ≢ b) (λ (e : entries.Export). e.name) r.raw_exports
       (subst (λ l. AllPairs (λ (a b : List ℕ). a ≢ b) l) (sym (same_names ∙ map_after export_of (λ (e : Export). e.name) exports)) named)
 
   read_back : AllZip (ReadsBody c wire_module) (zip wire_module.functions wire_module.bodies) (map said (texts_of r))
   unfolding wire_module
   read_back = texts_read c r wire_module refl refl first
 
-  can_be_written : (bytes : List ℕ) → IsWritten r.raw_types r.raw_functions (map widened_export r.raw_exports) (map unplaced r.bodies) bytes → HandledCanBeWritten r.raw_types r.raw_functions r.raw_exports (map unplaced r.bodies)
+  can_be_written : (bytes : List ℕ) → IsWritten r.raw_types r.raw_functions r.raw_exports (map unplaced r.bodies) bytes → RecordsCanBeWritten r.raw_types r.raw_functions r.raw_exports (map unplaced r.bodies)
   can_be_written bytes w =
       let few_types : length (new_types r) < 2 ^ 32 = types_fewer r.raw_types w.types_fit in
       record {
@@ -163,16 +168,17 @@ module _ (c : Config) {h : Held} {exports : List ExportValue} (r : Records h (fe
         exports_fit = w.exports_fit;
         bodies_fit = w.bodies_fit;
         type_indices = all_small (λ t. t) (length (new_types r)) (2 ^ 32) r.raw_functions few_types types_declared;
-        exported_indices = all_small (λ (e : handled.Export). e.index) (length r.raw_functions) (2 ^ 32) r.raw_exports w.functions_fit.0 exports_declared;
+        exported_indices = all_small (λ (e : entries.Export). e.index) (length r.raw_functions) (2 ^ 32) r.raw_exports w.functions_fit.0 exports_declared;
         names_are_text = r.texts;
       }
 
-  reads_as : (bytes : List ℕ) → IsWritten r.raw_types r.raw_functions (map widened_export r.raw_exports) (map unplaced r.bodies) bytes → NothingUndeclared (written_as r) → Reads c bytes (written_as r)
+  reads_as : (bytes : List ℕ) → IsWritten r.raw_types r.raw_functions r.raw_exports (map unplaced r.bodies) bytes → NothingUndeclared (written_as r) → Reads c bytes (written_as r)
   unfolding wire_module
   reads_as bytes w declared = record {
     sections = wire_module;
-    framed = subst (λ b. Frames b (widened wire_module)) (sym w.is) (handled_frames r.raw_types r.raw_functions r.raw_exports (map unplaced r.bodies) (can_be_written bytes w));
-    in_order = in_order r.raw_types r.raw_functions (map widened_export r.raw_exports) (map unplaced r.bodies);
+    framed = subst (λ b. Frames b wire_module) (sym w.is) (records_frame r.raw_types r.raw_functions r.raw_exports (map unplaced r.bodies) (can_be_written bytes w));
+    supported = are_supported wire_module of_functions;
+    in_order = in_order r.raw_types r.raw_functions r.raw_exports (map unplaced r.bodies);
     as_many_bodies = many_bodies;
     bodies = map said (texts_of r);
     read = read_back;
@@ -184,7 +190,7 @@ module _ (c : Config) {h : Held} {exports : List ExportValue} (r : Records h (fe
     rules_of : AllPairs (λ (d : Export) (e : Export). d.name ≢ e.name) (map export_of exports) → All DeclaresFew (map said (texts_of r)) → Rules wire_module
     unfolding wire_module
     rules_of g few = record {
-      sections_in_order = in_order r.raw_types r.raw_functions (map widened_export r.raw_exports) (map unplaced r.bodies);
+      sections_in_order = in_order r.raw_types r.raw_functions r.raw_exports (map unplaced r.bodies);
       types_refer = types_keep_rules r one;
       function_types = all_functions_typed c r wire_module refl refl;
       exports_hold = exports_declared;
@@ -195,7 +201,7 @@ module _ (c : Config) {h : Held} {exports : List ExportValue} (r : Records h (fe
 
     keeps_rules : AllPairs (λ (d : Export) (e : Export). d.name ≢ e.name) (map export_of exports) → All DeclaresFew (map said (texts_of r)) → Holds (written_as r)
     unfolding wire_module
-    keeps_rules g few = keeps c wire_module (map said (texts_of r)) (rules_of g few) read_back
+    keeps_rules g few = keeps c wire_module (map said (texts_of r)) (rules_of g few) of_functions read_back
 
 -- ---- both, of what is spelled
 

@@ -53,6 +53,8 @@ use Rattle.walrus_module.proofs.Entries.{Failing, item_fails, both_pass, item_pa
 use Rattle.walrus_module.proofs.Named.{some_inj}
 use Rattle.walrus_module.proofs.Lookups.{none_there}
 use Rattle.walrus_module.proofs.ExportedRefs.{one_undeclared}
+use Rattle.walrus_model.proofs.Supported.{are_supported}
+use Rattle.walrus_module.proofs.ReadBack.{of_functions}
 use Rattle.walrus_module.proofs.WrittenAs.{texts_in, sections_of, texts_of, written_as}
 use Rattle.walrus_model.proofs.Lists.{Contains-uncons, Contains-none}
 use Rattle.walrus_parts.specs.declared.error.Error.{Error}
@@ -235,6 +237,7 @@ module _ (c : Config) (types : ModuleTypes) (all : ModuleLocals) (funcs : Module
           written declared r,
           record {
             sections = sections_of r;
+            supported = are_supported (sections_of r) (of_functions c r);
             no_empty_group = r.types_are.none_empty;
             texts = texts_of r;
             declared_once = texts_declare r.names (map (λ e. e.0) (entries T)) r.order r.numbered H (features_of c) r.order r.bodies r.bodies_are;

@@ -1,4 +1,5 @@
 -- What a refusal of a part says of the items that are written.
+use Rattle.wasm_entries.specs.Record as entries
 use Rattle.std.proofs.Common.{inl, inr, ◌≡◌, ℕ, suc, true, List, [], ◌∷◌, ◌++◌, map, length, sym, ap, ◌∙◌, subst, arith, Some, None}
 use Rattle.std.specs.Prelude.{Option, IsSome, All, Err}
 use Rattle.std.specs.Global.{Vec}
@@ -7,7 +8,7 @@ use Rattle.std.specs.Str.{IsUtf8}
 use Rattle.std.proofs.lemmas.List.{length-map}
 use Rattle.std.proofs.lemmas.List.Elements.{All-map}
 use Rattle.wasm_frames.specs.Record as wire
-use Rattle.walrus_module.specs.Sections.{export_record}
+use Rattle.wasm_entries.specs.Record.{export_entry}
 use Rattle.wasm_entries.specs.declared.record.RawExport.{RawExport}
 use Rattle.wasm_entries.specs.declared.record.RawSub.{RawSub}
 use Rattle.wasm_entries.specs.Record.{Group, Export, group}
@@ -32,8 +33,6 @@ use Rattle.walrus_module.proofs.Somes.{none_there}
 use Rattle.walrus_module.proofs.SpellsLemmas.{zip_seen}
 use Rattle.walrus_parts.specs.declared.error.Error.{Error}
 use Rattle.walrus_parts.specs.declared.error.Error.TheVariants as Parts
-use Rattle.walrus_model.specs.Handled as handled
-use Rattle.walrus_model.specs.Handled.{widened_export}
 
 -- ---- what is still to come
 
@@ -78,7 +77,7 @@ module _ (h : Held) (features : Features) (exports : List ExportValue) where
       → AreNumbered names (map (λ e. e.0) (entries h.types)) (map place ids) → NamesNoOthers names
       → AreIndexed names (items h.types) (map group raws) → AreInOrder h.types
       → map Some raw_functions ≡ map (λ id. type_index h.funcs names (place id)) ids
-      → map (λ e. Some (export_record e)) exported ≡ map (export_with_index names) exports
+      → map (λ e. Some (export_entry e)) exported ≡ map (export_with_index names) exports
       → All (λ e. IsUtf8 e.name.now) exported
       → AllZip (λ id bytes. HasBytes h names features (place id) bytes.items) ids bodies
       → Records h features exports
@@ -94,9 +93,9 @@ module _ (h : Held) (features : Features) (exports : List ExportValue) where
     in_order = in_order;
     raw_functions = raw_functions;
     functions_are = functions_are ∙ sym (map-map (type_index h.funcs names) place ids);
-    raw_exports = map export_record exported;
-    exports_are = map-map (λ (e : handled.Export). Some e) export_record exported ∙ exports_are;
-    texts = All-map (λ (e : handled.Export). IsUtf8 e.name) export_record exported texts;
+    raw_exports = map export_entry exported;
+    exports_are = map-map (λ (e : entries.Export). Some e) export_entry exported ∙ exports_are;
+    texts = All-map (λ (e : entries.Export). IsUtf8 e.name) export_entry exported texts;
     bodies = map (λ (v : Vec ℕ). v.items) bodies;
     bodies_are = zip_seen place (λ (v : Vec ℕ). v.items) (HasBytes h names features) ids bodies bodies_are;
   }
@@ -104,14 +103,14 @@ module _ (h : Held) (features : Features) (exports : List ExportValue) where
   -- ---- records that can't be spelled
 
   pub sections_refused : (X : Type 0) (r : Records h features exports) (ts : List Group) (fs : List ℕ) (es : List Export) (bs : List wire.Body) (e : Error) → is_there_in h exports ≡ true
-      → ts ≡ r.raw_types → fs ≡ r.raw_functions → es ≡ map widened_export r.raw_exports → bs ≡ map unplaced r.bodies → RefusesSections ts fs es bs e → RefusesItems {X = X} h features exports (Err e)
+      → ts ≡ r.raw_types → fs ≡ r.raw_functions → es ≡ r.raw_exports → bs ≡ map unplaced r.bodies → RefusesSections ts fs es bs e → RefusesItems {X = X} h features exports (Err e)
   sections_refused X r ts fs es bs (Parts.Memory m) there t f x b refused = tt
   sections_refused X r ts fs es bs Parts.TooLarge there t f x b refused = (
     there,
     inr (inr (inr (record {
       records = r;
       too_large =
-          subst (λ u. RefusesSections r.raw_types r.raw_functions (map widened_export r.raw_exports) u Parts.TooLarge) b
+          subst (λ u. RefusesSections r.raw_types r.raw_functions r.raw_exports u Parts.TooLarge) b
           (subst (λ u. RefusesSections r.raw_types r.raw_functions u bs Parts.TooLarge) x
           (subst (λ u. RefusesSections r.raw_types u es bs Parts.TooLarge) f
           (subst (λ u. RefusesSections u fs es bs Parts.TooLarge) t refused)));

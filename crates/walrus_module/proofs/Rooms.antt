@@ -1,10 +1,9 @@
 -- A module has fewer than 2 ^ 32 functions: a section has, and each section stands at most once.
+use Rattle.wasm_frames.specs.Record as wire
 use Rattle.std.proofs.Common.{◌≡◌, ℕ, zero, suc, ◌+◌, ◌<◌, ◌^◌, List, [], ◌∷◌, ◌++◌, length, get_or, refl, sym, ap, subst, ◌∙◌, arith, inl, inr, ◌⊎◌, length-append}
 use Rattle.std.specs.Prelude.{Contains, AllPairs}
 use Rattle.std.proofs.lemmas.List.{append-nil, append_assoc, get_or-append-add}
 use Rattle.std.proofs.lemmas.List.Elements.{Contains-append_left, Contains-push}
-use Rattle.walrus_model.specs.Handled as handled
-use Rattle.walrus_model.specs.Handled.{widened}
 use Rattle.wasm_entries.specs.Record.{Group}
 use Rattle.wasm_frames.specs.Record.{Module, no_sections}
 use Rattle.wasm_frames.specs.Order.{StandsBefore}
@@ -188,7 +187,7 @@ functions_few place bytes (DataCount n) h = inl refl
 functions_few place bytes (Tags ts) h = inl refl
 
 -- the functions of a module whose sections stand in order
-pub fits_indices : (bytes : List ℕ) (m : handled.Module) → Frames bytes (widened m) → AllPairs StandsBefore m.order → FitsIndices m
+pub fits_indices : (bytes : List ℕ) (m : wire.Module) → Frames bytes m → AllPairs StandsBefore m.order → FitsIndices m
 fits_indices bytes m f h =
     let h' : AllPairs StandsBefore (gathered_onto no_sections f.parts).order = subst (λ (x : Module). AllPairs StandsBefore x.order) f.holds h in
     record {

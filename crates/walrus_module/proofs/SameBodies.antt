@@ -16,7 +16,7 @@ use Rattle.walrus_functions.specs.EmittedBody.{Source, index_in}
 use Rattle.walrus_functions.specs.Handlers.{params_of}
 use Rattle.walrus_items.specs.Exports.{ExportValue}
 use Rattle.walrus_model.specs.Abstract.{Body}
-use Rattle.walrus_model.specs.Reads.{types_of, body_with}
+use Rattle.walrus_model.specs.Sections.{types_of, body_with}
 use Rattle.walrus_model.specs.Refers.{IsUsed}
 use Rattle.walrus_model.specs.Renaming.{Renaming, renamed_ops}
 use Rattle.walrus_model.specs.Same.{SameBody}

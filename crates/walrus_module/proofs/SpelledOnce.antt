@@ -1,4 +1,5 @@
 -- What a module is written as is one function of what it holds.
+use Rattle.wasm_entries.specs.Record as entries
 use Rattle.std.proofs.Common.{◌≡◌, ℕ, List, [], ◌∷◌, ◌++◌, map, refl, sym, ap, ap₂, ◌∙◌, subst}
 use Rattle.std.specs.Prelude.{Option, Some}
 use Rattle.std.specs.List.{AllZip, AllByRecursion}
@@ -34,8 +35,6 @@ use Rattle.walrus_module.proofs.OneGroup.{one_grouping}
 use Rattle.walrus_module.proofs.OneOrder.{one_order}
 use Rattle.walrus_module.proofs.OneText.{OpGood, one_text, one_val}
 use Rattle.walrus_module.proofs.TextsStand.{TypeGood, operator_good, declarations_good}
-use Rattle.walrus_model.specs.Handled as handled
-use Rattle.walrus_model.specs.Handled.{widened_export}
 
 -- ---- lists
 
@@ -89,13 +88,13 @@ one_declarations (x ∷ xs) (y ∷ ys) h g e =
 
 -- ---- all of it
 
-same_bytes : (ts us : List Group) (fs gs : List ℕ) (es ds : List handled.Export) (bs cs : List (List ℕ)) → ts ≡ us → fs ≡ gs → es ≡ ds → bs ≡ cs
-    → module_bytes ts fs (map widened_export es) (map unplaced bs) ≡ module_bytes us gs (map widened_export ds) (map unplaced cs)
+same_bytes : (ts us : List Group) (fs gs : List ℕ) (es ds : List entries.Export) (bs cs : List (List ℕ)) → ts ≡ us → fs ≡ gs → es ≡ ds → bs ≡ cs
+    → module_bytes ts fs es (map unplaced bs) ≡ module_bytes us gs ds (map unplaced cs)
 same_bytes ts us fs gs es ds bs cs t f e b =
-    ap (λ x. module_bytes x fs (map widened_export es) (map unplaced bs)) t
-    ∙ ap (λ x. module_bytes us x (map widened_export es) (map unplaced bs)) f
-    ∙ ap (λ x. module_bytes us gs (map widened_export x) (map unplaced bs)) e
-    ∙ ap (λ x. module_bytes us gs (map widened_export ds) (map unplaced x)) b
+    ap (λ x. module_bytes x fs es (map unplaced bs)) t
+    ∙ ap (λ x. module_bytes us x es (map unplaced bs)) f
+    ∙ ap (λ x. module_bytes us gs x (map unplaced bs)) e
+    ∙ ap (λ x. module_bytes us gs ds (map unplaced x)) b
 
 -- what is written of a body stands as it is spelled
 abbrev pub TextsStand : Type 0
@@ -136,7 +135,7 @@ module _ (stand : TextsStand) where
   -- ---- records
 
   module _ (h : Held) (features : Features) (exports : List ExportValue) where
-    one_records : (r s : Records h features exports) → module_bytes r.raw_types r.raw_functions (map widened_export r.raw_exports) (map unplaced r.bodies) ≡ module_bytes s.raw_types s.raw_functions (map widened_export s.raw_exports) (map unplaced s.bodies)
+    one_records : (r s : Records h features exports) → module_bytes r.raw_types r.raw_functions r.raw_exports (map unplaced r.bodies) ≡ module_bytes s.raw_types s.raw_functions s.raw_exports (map unplaced s.bodies)
     one_records r s =
         let order : r.order ≡ s.order = one_order h.funcs r.order s.order r.ordered s.ordered in
         let numbered : AreNumbered r.names (map (λ e. e.0) (entries h.types)) s.order = subst (λ o. AreNumbered r.names (map (λ e. e.0) (entries h.types)) o) order r.numbered in

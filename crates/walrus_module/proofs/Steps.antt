@@ -1,4 +1,5 @@
 -- Lists place by place, the look-ups of indices, and the types that are added.
+use Rattle.wasm_frames.specs.Record as wire
 use Rattle.std.proofs.Common.{◌≡◌, ℕ, zero, suc, ◌+◌, ◌<◌, ◌≤◌, Bool, true, false, List, [], ◌∷◌, ◌++◌, length, map, take, get_or, refl, sym, ap, ◌∙◌, arith}
 use Rattle.std.specs.Prelude.{Option, Some, None, slice_get, zip, nat_lt, if◌then◌else◌, ◌≢◌}
 use Rattle.std.specs.List.{AllZip, range_with_len}
@@ -14,9 +15,10 @@ use Rattle.walrus_code.specs.Indices.{places_in, ids_at}
 use Rattle.walrus_code.specs.declared.indices.IndicesToIds.{IndicesToIds}
 use Rattle.walrus_bodies.specs.FunctionTypes.{is_function_def, is_function_at}
 use Rattle.walrus_groups.specs.Groups.{types_from}
-use Rattle.walrus_model.specs.Reads.{declared, types_of, is_function}
+use Rattle.walrus_model.specs.Reads.{declared, is_function}
+use Rattle.walrus_model.specs.Sections.{types_of}
 use Rattle.walrus_module.proofs.Taking.{get_own, get_past}
-use Rattle.walrus_model.specs.Handled as handled
+use Rattle.walrus_model.proofs.Supported.{supported}
 
 -- ---- place by place
 
@@ -75,12 +77,12 @@ below_by : (n i : ℕ) (b : Bool) → nat_lt i n ≡ b → slice_get (range_with
 below_by n i true e = get_own n i (ltb-true i n e)
 below_by n i false e = get_past 0 n i (ltb-false i n e)
 
-nothing_at : (xs : List ℕ) (i : ℕ) → xs ≡ [] → slice_get xs i ≡ None
-nothing_at xs i none = ap (λ (l : List ℕ). slice_get l i) none
+nothing_at : (xs : List ℕ) (i : ℕ) → xs ≡ [] → slice_get xs i ≡ (if nat_lt i 0 then Some i else None)
+nothing_at xs i none = ap (λ (l : List ℕ). slice_get l i) none ∙ below_by 0 i (nat_lt i 0) refl
 
-module _ (r : handled.Module) (indices : IndicesToIds) (types : places_in indices Types ≡ range_with_len 0 (length (types_from 0 r.types))) (functions : places_in indices Functions ≡ range_with_len 0 (length r.functions))
+module _ (r : wire.Module) (indices : IndicesToIds) (types : places_in indices Types ≡ range_with_len 0 (length (types_from 0 r.types))) (functions : places_in indices Functions ≡ range_with_len 0 (length r.functions))
     (others : (space : Space) → space ≢ Types → space ≢ Functions → places_in indices space ≡ []) where
-  names_at : (space : Space) (i : ℕ) → ids_at indices space i ≡ declared r space i
+  names_at : (space : Space) (i : ℕ) → ids_at indices space i ≡ declared (supported r) space i
   names_at Types i = ap (λ l. slice_get l i) types ∙ below_by (length (types_from 0 r.types)) i (nat_lt i (length (types_from 0 r.types))) refl
   names_at Functions i = ap (λ l. slice_get l i) functions ∙ below_by (length r.functions) i (nat_lt i (length r.functions)) refl
   names_at Tables i = nothing_at (places_in indices Tables) i (others Tables (λ (e : Tables ≡ Types). cc) (λ (e : Tables ≡ Functions). cc))
@@ -90,7 +92,7 @@ module _ (r : handled.Module) (indices : IndicesToIds) (types : places_in indice
   names_at Elements i = nothing_at (places_in indices Elements) i (others Elements (λ (e : Elements ≡ Types). cc) (λ (e : Elements ≡ Functions). cc))
   names_at DataSegments i = nothing_at (places_in indices DataSegments) i (others DataSegments (λ (e : DataSegments ≡ Types). cc) (λ (e : DataSegments ≡ Functions). cc))
 
-  pub same_names : ids_at indices ≡ declared r
+  pub same_names : ids_at indices ≡ declared (supported r)
   same_names = fun_ext (λ space. fun_ext (names_at space))
 
 -- an index that is declared leads to its own place
@@ -105,7 +107,7 @@ item_there [] i = refl
 item_there (x ∷ xs) zero = refl
 item_there (x ∷ xs) (suc i) = item_there xs i
 
-module _ (r : handled.Module) (ts : ModuleTypes) (typed : type_slots ts ≡ map Some (types_from 0 r.types)) where
+module _ (r : wire.Module) (ts : ModuleTypes) (typed : type_slots ts ≡ map Some (types_from 0 r.types)) where
   pub type_there : (i : ℕ) → item_at (type_slots ts) i ≡ types_of r i
   type_there i = ap (λ (l : List (Option TypeDef)). item_at l i) typed ∙ item_there (types_from 0 r.types) i
 
@@ -121,5 +123,5 @@ function_within (x ∷ xs) zero h = omega arith
 function_within (x ∷ xs) (suc i) h = let lt : i < length xs = function_within xs i h in omega (arith, lt)
 
 -- each type that is a function type is declared
-pub function_declared : (r : handled.Module) (i : ℕ) → is_function r i ≡ true → i < length (types_from 0 r.types)
+pub function_declared : (r : wire.Module) (i : ℕ) → is_function r i ≡ true → i < length (types_from 0 r.types)
 function_declared r i h = function_within (types_from 0 r.types) i h

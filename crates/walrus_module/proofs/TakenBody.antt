@@ -30,7 +30,7 @@ use Rattle.walrus_functions.specs.ReadFunction.{locals_from, StaysInFront}
 use Rattle.walrus_functions.proofs.LawMoves.{there, back}
 use Rattle.walrus_items.specs.Functions.{FunctionValue}
 use Rattle.walrus_items.specs.declared.functions.FunctionKind.TheVariants as kind
-use Rattle.walrus_model.specs.Reads.{Said}
+use Rattle.walrus_model.specs.Sections.{Said}
 use Rattle.walrus_module.specs.Taken.{HoldsBody, HoldsFunction, IsTaken, SaysUnder, TakesFunction, TakesFunctions}
 use Rattle.walrus_module.proofs.Steps.{zip_push, zip_at, zip_through, pair_at, pairs_long, pairs_more, pairs_all}
 use Rattle.walrus_items.specs.declared.functions.ModuleFunctions.{ModuleFunctions}

@@ -1,4 +1,5 @@
 -- What each step of reading adds.
+use Rattle.wasm_entries.specs.Record as entries
 use Rattle.std.proofs.Common.{◌≡◌, ℕ, zero, suc, ◌+◌, ◌<◌, ◌≤◌, List, [], ◌∷◌, ◌++◌, length, map, take, get_or, refl, sym, ap, ap₂, subst, ◌∙◌, arith}
 use Rattle.std.specs.Prelude.{Option, Some, None, Contains, slice_get, All}
 use Rattle.std.specs.List.{range_with_len}
@@ -7,9 +8,9 @@ use Rattle.std.proofs.lemmas.List.FromFn.{length-range_with_len, get_or-range_wi
 use Rattle.walrus_base.specs.Arena.{entries_from, items}
 use Rattle.walrus_types.specs.Operators.{Functions}
 use Rattle.walrus_items.specs.Exports.{ExportValue}
-use Rattle.walrus_model.specs.Reads.{space_of}
+use Rattle.walrus_model.specs.Sections.{space_of}
 use Rattle.walrus_module.specs.View.{export_of}
-use Rattle.walrus_model.specs.Handled as handled
+use Rattle.walrus_model.specs.Supported.{IsOfFunction}
 
 -- ---- lists that are taken whole
 
@@ -72,13 +73,10 @@ some_same a b e = cc
 
 -- ---- exports
 
-kind_is : (k : handled.ExportKind) → Functions ≡ space_of k
-kind_is handled.Function = refl
-
-pub exports_push : (old new : List (Option ExportValue)) (v : ExportValue) (e : handled.Export) → new ≡ old ++ Some v ∷ [] → export_of v ≡ (record { name = e.name; item = (Functions, e.index) })
+pub exports_push : (old new : List (Option ExportValue)) (v : ExportValue) (e : entries.Export) → IsOfFunction e → new ≡ old ++ Some v ∷ [] → export_of v ≡ (record { name = e.name; item = (Functions, e.index) })
     → map export_of (items new) ≡ map export_of (items old) ++ (record { name = e.name; item = (space_of e.kind, e.index) }) ∷ []
-exports_push old new v e push is =
-    let one : export_of v ≡ (record { name = e.name; item = (space_of e.kind, e.index) }) = is ∙ ap (λ s. record { name = e.name; item = (s, e.index) }) (kind_is e.kind) in
+exports_push old new v e function push is =
+    let one : export_of v ≡ (record { name = e.name; item = (space_of e.kind, e.index) }) = is ∙ ap (λ k. record { name = e.name; item = (space_of k, e.index) }) (sym function) in
     ap (λ l. map export_of (items l)) push ∙ ap (map export_of) (items_push 0 old v) ∙ map-append export_of (items old) (v ∷ []) ∙ ap (λ x. map export_of (items old) ++ x ∷ []) one
 
 -- ---- the end of a count

@@ -1,9 +1,10 @@
 -- A module that is framed has fewer than 2 ^ 32 types: each takes a byte of the section of types at least.
-use Rattle.std.proofs.Common.{◌≡◌, ℕ, suc, ◌+◌, ◌≤◌, ◌<◌, ◌^◌, List, [], ◌∷◌, ◌++◌, length, map, refl, sym, ap, subst, ◌∙◌, arith, inl, inr, ◌⊎◌, length-append}
+use Rattle.wasm_frames.specs.Record as wire
+use Rattle.std.proofs.Common.{◌≡◌, ℕ, suc, ◌+◌, ◌≤◌, ◌<◌, ◌^◌, List, [], ◌∷◌, ◌++◌, length, refl, sym, ap, subst, ◌∙◌, arith, inl, inr, ◌⊎◌, length-append}
 use Rattle.std.specs.Prelude.{AllPairs, nat_eq}
 use Rattle.std.specs.List.{range_with_len}
-use Rattle.std.proofs.lemmas.List.{append-nil, append_assoc, length-map}
-use Rattle.wasm_forms.specs.Grammar.{Form, Is, IsRow, Byte, Made, Vector}
+use Rattle.std.proofs.lemmas.List.{append_assoc, length-map}
+use Rattle.wasm_forms.specs.Grammar.{Is, IsRow, Made, Vector}
 use Rattle.wasm_entries.specs.Record.{Sub, Group}
 use Rattle.wasm_entries.specs.TypeForms.{sub_from, sub_type, group_from, group_form}
 use Rattle.wasm_frames.specs.Record.{Module, no_sections}
@@ -11,8 +12,6 @@ use Rattle.wasm_frames.specs.Order.{StandsBefore}
 use Rattle.wasm_frames.specs.Frames.{Section, Types, IsSection, with_section, Frames}
 use Rattle.wasm_operators.proofs.OneRead.{chosen}
 use Rattle.walrus_groups.specs.Groups.{sub_of, members_of, types_from}
-use Rattle.walrus_model.specs.Handled as handled
-use Rattle.walrus_model.specs.Handled.{widened}
 use Rattle.walrus_module.proofs.Rooms.{ids_in, room, types_in, types_added}
 
 -- ---- as many bytes as types
@@ -76,7 +75,7 @@ few_in place bytes s h = inl refl
 members_added : (m : Module) (s : Section) → members (with_section m s).types ≡ members m.types ++ members (types_in s)
 members_added m s = ap members (types_added m s) ∙ members_append m.types (types_in s)
 
-pub types_fit : (bytes : List ℕ) (m : handled.Module) → Frames bytes (widened m) → AllPairs StandsBefore m.order → length (types_from 0 m.types) < 2 ^ 32
+pub types_fit : (bytes : List ℕ) (m : wire.Module) → Frames bytes m → AllPairs StandsBefore m.order → length (types_from 0 m.types) < 2 ^ 32
 types_fit bytes m f h =
     let ordered = subst (λ (x : Module). AllPairs StandsBefore x.order) f.holds h in
     let few : length (members m.types) < 2 ^ 32 = subst (λ (x : Module). length (members x.types) < 2 ^ 32) (sym f.holds)

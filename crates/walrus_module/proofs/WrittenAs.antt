@@ -1,4 +1,5 @@
 -- The module of indices that records make.
+use Rattle.wasm_frames.specs.Record as wire
 use Rattle.std.proofs.Common.{ℕ, List, [], ◌∷◌, ◌++◌, map}
 use Rattle.std.specs.Prelude.{unwrap_or, ◌==◌, if◌then◌else◌}
 use Rattle.std.specs.List.{AllZip}
@@ -9,11 +10,10 @@ use Rattle.walrus_bodies.specs.declared.features.Features.{Features}
 use Rattle.walrus_items.specs.Exports.{ExportValue}
 use Rattle.walrus_model.specs.Abstract.{Abstract}
 use Rattle.walrus_model.specs.BodyText.{BodyText, said}
-use Rattle.walrus_model.specs.Reads.{module_of}
+use Rattle.walrus_model.specs.Sections.{module_of}
 use Rattle.walrus_model.specs.Renaming.{Renaming}
 use Rattle.walrus_module.specs.Parts.{Held, HasBytes}
 use Rattle.walrus_module.specs.Spells.{Records}
-use Rattle.walrus_model.specs.Handled as handled
 
 module _ (h : Held) (names : Lookup) (features : Features) where
   -- the text of each body
@@ -32,8 +32,8 @@ module _ (h : Held) (names : Lookup) (features : Features) where
 
 module _ {h : Held} {features : Features} {exports : List ExportValue} (r : Records h features exports) where
   -- the entries of the sections, wherever they stand
-  abbrev pub sections_of : handled.Module
-  sections_of = record { order = []; types = r.raw_types; functions = r.raw_functions; exports = r.raw_exports; bodies = [] }
+  abbrev pub sections_of : wire.Module
+  sections_of = record wire.no_sections { types = r.raw_types; functions = r.raw_functions; exports = r.raw_exports }
 
   abbrev pub texts_of : List BodyText
   texts_of = texts_in h r.names features r.order r.bodies r.bodies_are

@@ -13,7 +13,6 @@ use Rattle.walrus_items.specs.Functions.{local_functions}
 use Rattle.walrus_model.specs.Abstract.{Abstract, Export}
 use Rattle.walrus_model.specs.Config.{Config}
 use Rattle.walrus_groups.specs.Indexed.{AreInOrder, HasExact}
-use Rattle.walrus_model.specs.Handled.{widened_export}
 use Rattle.walrus_model.specs.Out.{Written}
 use Rattle.walrus_model.specs.Placed.{Placed}
 use Rattle.walrus_model.specs.Reads.{Reads}
@@ -59,7 +58,7 @@ HasOther h = AreInOrder h.types → HasExact (items h.types)
 -- the records can't be spelled: a count or a size passes 32 bits
 pub record DoesNotFit (h : Held) (features : Features) (exports : List ExportValue) : Type 0 where
   pub records : Records h features exports
-  pub too_large : DoesNotSpell records.raw_types records.raw_functions (map widened_export records.raw_exports) (map unplaced records.bodies)
+  pub too_large : DoesNotSpell records.raw_types records.raw_functions records.raw_exports (map unplaced records.bodies)
 
 -- a count or a size passes 32 bits: the types, the functions, the locals of one, or what is written
 abbrev pub PassesLimits : Held → Features → List ExportValue → Type 0

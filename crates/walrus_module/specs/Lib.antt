@@ -2,7 +2,6 @@ pub mod Customs
 pub mod Emitted
 pub mod Entry
 pub mod Flags
-pub mod HandledOnly
 pub mod Held
 pub mod LendsSection
 pub mod Meaning
@@ -17,6 +16,7 @@ pub mod Settings
 pub mod Sizes
 pub mod Spelled
 pub mod Spells
+pub mod SupportedOnly
 pub mod Taken
 pub mod View
 pub mod Whole

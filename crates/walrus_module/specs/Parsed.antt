@@ -1,13 +1,14 @@
 -- What parsing gives, and when it refuses.
+use Rattle.wasm_frames.specs.Record as wire
 use Rattle.std.specs.Prelude.{ℕ, List, zip, ⊤}
 use Rattle.walrus_model.specs.Abstract.{Abstract}
 use Rattle.walrus_model.specs.Config.{Config}
 use Rattle.walrus_model.specs.Declared.{NothingUndeclared}
-use Rattle.walrus_model.specs.Handled as handled
-use Rattle.walrus_model.specs.Handled.{widened}
 use Rattle.walrus_model.specs.Pipeline.{ParsedAs, IsSimple}
-use Rattle.walrus_model.specs.Reads.{Said, Reads, Accepts, ReadsBody, module_of}
+use Rattle.walrus_model.specs.Reads.{Reads, Accepts, ReadsBody}
+use Rattle.walrus_model.specs.Sections.{Said, module_of}
 use Rattle.walrus_model.specs.Rules.{Holds, LocalsHold}
+use Rattle.walrus_model.specs.Supported.{IsSupported}
 use Rattle.std.specs.List.{AllZip}
 use Rattle.walrus_types.specs.declared.locals.ModuleLocals.{ModuleLocals}
 use Rattle.walrus_types.specs.declared.module_types.ModuleTypes.{ModuleTypes}
@@ -43,21 +44,23 @@ RefusesBytes c bytes _ = ⊥
 
 -- the bytes frame sections, and each operator of the functions is located where it stands in the bytes
 pub record AreLocated (bytes : List ℕ) (funcs : ModuleFunctions) : Type 0 where
-  pub sections : handled.Module
-  pub framed : Frames bytes (widened sections)
+  pub sections : wire.Module
+  pub framed : Frames bytes sections
   pub located : AllZip IsLocated sections.bodies (functions funcs)
 
 -- the bytes frame sections that keep the rules, and the fields hold them
 pub record TakenFrom (c : Config) (bytes : List ℕ) (ts : ModuleTypes) (all : ModuleLocals) (funcs : ModuleFunctions) (es : ModuleExports) : Type 0 where
-  pub sections : handled.Module
-  pub framed : Frames bytes (widened sections)
+  pub sections : wire.Module
+  pub framed : Frames bytes sections
+  pub supported : IsSupported sections
   pub rules : Rules sections
   pub taken : HasTaken c sections ts all funcs es
 
 -- the bytes frame sections that keep the rules, each body is read, and each function that ref.func names is exported
 pub record AreModule (c : Config) (bytes : List ℕ) : Type 0 where
-  pub sections : handled.Module
-  pub framed : Frames bytes (widened sections)
+  pub sections : wire.Module
+  pub framed : Frames bytes sections
+  pub supported : IsSupported sections
   pub rules : Rules sections
   pub bodies : List Said
   pub read : AllZip (ReadsBody c sections) (zip sections.functions sections.bodies) bodies

@@ -1,4 +1,6 @@
 -- What the sections hold that a module is written as.
+use Rattle.wasm_entries.specs.Record as entries
+use Rattle.wasm_entries.specs.declared.record.RawExportKind.TheVariants as kinds
 use Rattle.std.specs.Prelude.{ℕ, List, Option, Some, option_map, option_and_then, map, ◌≡◌}
 use Rattle.wasm_frames.specs.Record as wire
 use Rattle.walrus_base.specs.Arena.{item_at}
@@ -19,7 +21,6 @@ use Rattle.walrus_functions.specs.EmittedBody.{Source, BodyWritten, LacksAnIndex
 use Rattle.walrus_items.specs.Exports.{ExportValue, exported}
 use Rattle.walrus_items.specs.Functions.{FunctionValue, functions, local_at}
 use Rattle.walrus_items.specs.declared.functions.ModuleFunctions.{ModuleFunctions}
-use Rattle.walrus_model.specs.Handled as handled
 
 -- what a module holds that bodies are written by: the types, the types of locals, and the functions, by their places
 pub record Held : Type 0 where
@@ -40,8 +41,8 @@ abbrev pub type_index : List (Option FunctionValue) → Lookup → ℕ → Optio
 type_index funcs names number = option_and_then (λ f. names Types (place (function_type f.1))) (local_in funcs number)
 
 -- an export with the index of what it exports
-abbrev pub export_with_index : Lookup → ExportValue → Option handled.Export
-export_with_index names e = option_map (λ index. record { name = e.name; kind = handled.Function; index = index }) (names (exported e.item).0 (exported e.item).1)
+abbrev pub export_with_index : Lookup → ExportValue → Option entries.Export
+export_with_index names e = option_map (λ index. record { name = e.name; kind = kinds.Function; index = index }) (names (exported e.item).0 (exported e.item).1)
 
 -- a body to be written, under these indices and with these proposals
 abbrev pub source : Held → Lookup → Features → LocalFunction → Source

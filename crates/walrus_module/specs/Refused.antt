@@ -1,4 +1,5 @@
 -- Why a module in memory can't be written.
+use Rattle.wasm_frames.specs.Record as wire
 use Rattle.std.specs.Prelude.{ℕ, List, [], map, length, Some, IsSome, All, AllPairs, Contains, ◌++◌, ◌≡◌, ◌≢◌, ◌<◌, ◌≤◌, ◌^◌, ◌⊎◌, ⊤, Result, Ok, Err}
 use Rattle.walrus_base.specs.Types.{HeapType, IsNotExact, comp_heaps}
 use Rattle.walrus_types.specs.Operators.{Space}
@@ -7,15 +8,14 @@ use Rattle.walrus_model.specs.BodyText.{BodyText, DeclaresOnce, said, text_bytes
 use Rattle.walrus_model.specs.Closed.{NamesAreLive}
 use Rattle.walrus_model.specs.Config.{Config}
 use Rattle.walrus_model.specs.Declared.{IsUndeclared}
-use Rattle.walrus_model.specs.Handled as handled
-use Rattle.walrus_model.specs.Handled.{widened}
 use Rattle.walrus_model.specs.Live.{Has, IsLive}
 use Rattle.walrus_model.specs.Names.{body_of}
 use Rattle.walrus_model.specs.Out.{Written}
 use Rattle.walrus_model.specs.Order.{ByImport}
-use Rattle.walrus_model.specs.Reads.{module_of}
+use Rattle.walrus_model.specs.Sections.{module_of}
 use Rattle.walrus_model.specs.Refers.{IsUsed}
 use Rattle.walrus_model.specs.Rules.{TypesRefer}
+use Rattle.walrus_model.specs.Supported.{IsSupported}
 use Rattle.walrus_model.specs.WellMade.{IsWellFormed}
 use Rattle.walrus_module.specs.Parts.{unplaced}
 use Rattle.walrus_module.specs.Spelled.{DoesNotSpell}
@@ -63,12 +63,13 @@ HasManyLocals v = (i : ℕ) × ((b : Body) × ((further : List ℕ) × ((body_of
 
 -- the sections of a module of indices, spelled as they are written, with no empty group, have a count or a size past 32 bits
 pub record IsTooLarge (n : Abstract) : Type 0 where
-  pub sections : handled.Module
+  pub sections : wire.Module
+  pub supported : IsSupported sections
   pub no_empty_group : All (λ g. g ≢ []) sections.types
   pub texts : List BodyText
   pub declared_once : All DeclaresOnce texts
   pub is : n ≡ module_of sections (map said texts)
-  pub too_large : DoesNotSpell (widened sections).types sections.functions (widened sections).exports (map (λ t. unplaced (text_bytes t)) texts)
+  pub too_large : DoesNotSpell sections.types sections.functions sections.exports (map (λ t. unplaced (text_bytes t)) texts)
 
 -- so has what the module is written as
 abbrev pub WritesTooLarge : Config → Abstract → Type 0

@@ -1,5 +1,6 @@
 -- The records of the sections that a module is written as, and their spelling.
-use Rattle.std.specs.Prelude.{ℕ, true, List, Option, Some, All, map, ◌≡◌}
+use Rattle.wasm_entries.specs.Record as entries
+use Rattle.std.specs.Prelude.{ℕ, true, List, Some, All, map, ◌≡◌}
 use Rattle.std.specs.List.{AllZip}
 use Rattle.std.specs.Str.{IsUtf8}
 use Rattle.wasm_entries.specs.Record.{Group}
@@ -8,8 +9,6 @@ use Rattle.walrus_code.specs.Names.{Lookup}
 use Rattle.walrus_bodies.specs.declared.features.Features.{Features}
 use Rattle.walrus_items.specs.Exports.{ExportValue}
 use Rattle.walrus_groups.specs.Indexed.{AreIndexed, AreInOrder}
-use Rattle.walrus_model.specs.Handled as handled
-use Rattle.walrus_model.specs.Handled.{widened_export}
 use Rattle.walrus_module.specs.Numbered.{AreNumbered, NamesNoOthers}
 use Rattle.walrus_module.specs.Parts.{Held, type_index, export_with_index, HasBytes, unplaced}
 use Rattle.walrus_module.specs.Sizes.{IsOrder}
@@ -33,7 +32,7 @@ pub record Records (h : Held) (features : Features) (exports : List ExportValue)
   pub in_order : AreInOrder h.types
   pub raw_functions : List ℕ
   pub functions_are : map Some raw_functions ≡ map (type_index h.funcs names) order
-  pub raw_exports : List handled.Export
+  pub raw_exports : List entries.Export
   pub exports_are : map Some raw_exports ≡ map (export_with_index names) exports
   pub texts : All (λ e. IsUtf8 e.name) raw_exports
   pub bodies : List (List ℕ)
@@ -42,7 +41,7 @@ pub record Records (h : Held) (features : Features) (exports : List ExportValue)
 -- the bytes are the spelling of these records
 pub record Spells (h : Held) (features : Features) (exports : List ExportValue) (bytes : List ℕ) : Type 0 where
   pub records : Records h features exports
-  pub written : IsWritten records.raw_types records.raw_functions (map widened_export records.raw_exports) (map unplaced records.bodies) bytes
+  pub written : IsWritten records.raw_types records.raw_functions records.raw_exports (map unplaced records.bodies) bytes
 
 -- no two byte strings are the spelling of one module's items
 abbrev pub SpelledOnce : Type 0

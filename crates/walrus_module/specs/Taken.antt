@@ -26,9 +26,9 @@ use Rattle.walrus_items.specs.declared.exports.ModuleExports.{ModuleExports}
 use Rattle.walrus_items.specs.declared.functions.FunctionKind.TheVariants.{Local}
 use Rattle.walrus_items.specs.declared.functions.ModuleFunctions.{ModuleFunctions}
 use Rattle.walrus_model.specs.Config.{Config}
-use Rattle.walrus_model.specs.Handled as handled
 use Rattle.walrus_groups.specs.Groups.{types_from}
-use Rattle.walrus_model.specs.Reads.{Said, types_of, export_of, ReadsBody}
+use Rattle.walrus_model.specs.Reads.{ReadsBody}
+use Rattle.walrus_model.specs.Sections.{Said, types_of, export_of}
 use Rattle.walrus_module.specs.View.{exports_of}
 use Rattle.wasm_frames.specs.Record as wire
 use Rattle.walrus_parts.specs.declared.error.Error.{Error}
@@ -72,11 +72,11 @@ pub record AreEmpty (ts : ModuleTypes) (all : ModuleLocals) (funcs : ModuleFunct
   pub exports : exports es ≡ []
 
 -- the functions have room for their indices
-pub record FitsIndices (r : handled.Module) : Type 0 where
+pub record FitsIndices (r : wire.Module) : Type 0 where
   pub functions : length r.functions < 2 ^ 32
 
 -- the fields hold these sections, whose bodies say this
-pub record HasTaken (c : Config) (r : handled.Module) (ts : ModuleTypes) (all : ModuleLocals) (funcs : ModuleFunctions) (es : ModuleExports) : Type 0 where
+pub record HasTaken (c : Config) (r : wire.Module) (ts : ModuleTypes) (all : ModuleLocals) (funcs : ModuleFunctions) (es : ModuleExports) : Type 0 where
   pub bodies : List Said
   pub read : AllZip (ReadsBody c r) (zip r.functions r.bodies) bodies
   pub types : type_slots ts ≡ map Some (types_from 0 r.types)
@@ -84,7 +84,7 @@ pub record HasTaken (c : Config) (r : handled.Module) (ts : ModuleTypes) (all : 
   pub exports : exports_of es ≡ map export_of r.exports
 
 -- taken in: the fields hold the sections; refused: the bodies aren't read, or memory ran out
-abbrev pub TakesSections : Config → handled.Module → ModuleTypes → ModuleLocals → ModuleFunctions → ModuleExports → Result Unit Error → Type 0
+abbrev pub TakesSections : Config → wire.Module → ModuleTypes → ModuleLocals → ModuleFunctions → ModuleExports → Result Unit Error → Type 0
 TakesSections c r types all funcs es (Ok u) = HasTaken c r types all funcs es
 TakesSections c r types all funcs es (Err (Memory e)) = Unit {0}
 TakesSections c r types all funcs es (Err (InvalidWasm kind)) = (bodies : List Said) → AllZip (ReadsBody c r) (zip r.functions r.bodies) bodies → ⊥

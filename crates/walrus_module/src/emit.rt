@@ -14,12 +14,10 @@ ghost use Rattle.walrus_model.specs.Rules.{LocalsHold};
 ghost use Rattle.walrus_parts.specs.Errors.{out_of_memory};
 ghost use Rattle.wasm_entries.specs.Record.{group, export_entry};
 ghost use Rattle.wasm_frames.specs.Record.{body_record};
-ghost use Rattle.walrus_model.specs.Handled.{widened_export};
 ghost use Rattle.walrus_model.specs.Placed.{Placed};
 ghost use Rattle.walrus_module.specs.Emitted.{IsEmitted, NamesDiffer, RefusesItems, RefusesDeclared, RefusesTypes, RefusesBodies, RefusesSections};
 ghost use Rattle.walrus_module.specs.Flags.{config_of};
 ghost use Rattle.walrus_module.specs.Refused.{RefusesToWrite};
-ghost use Rattle.walrus_module.specs.Sections.{export_record};
 ghost use Rattle.walrus_module.specs.Settings.{settings};
 ghost use Rattle.walrus_module.specs.View.{view};
 ghost use Rattle.walrus_module.specs.Spelled.{IsWritten};
@@ -188,8 +186,7 @@ fn raw_functions(
 }
 
 fn raw_export<'a>(export: &'a Export, indices: &IdsToIndices) -> Option<RawExport<'a>>
-    ensures value { option_map export_record result ≡ export_with_index (index_of indices.now) (export_value export.now) }
-    ensures widened { IfSome result (λ raw. export_entry raw ≡ widened_export (export_record raw)) }
+    ensures value { option_map export_entry result ≡ export_with_index (index_of indices.now) (export_value export.now) }
     ensures text { IfSome result (λ raw. IsUtf8 raw.name.now) }
 {
     let ExportItem::Function(id) = export.item;
@@ -207,8 +204,7 @@ fn raw_exports<'a>(
     indices: &IdsToIndices,
 ) -> Result<Vec<RawExport<'a>>>
     requires indexed { All (λ e. IsSome e) (map (export_with_index (index_of indices.now)) (items (exports all_exports.now))) }
-    ensures value { IfOk result (λ raw. map (λ e. Some (export_record e)) raw.items ≡ map (export_with_index (index_of indices.now)) (items (exports all_exports.now))) }
-    ensures widened { IfOk result (λ raw. map export_entry raw.items ≡ map widened_export (map export_record raw.items)) }
+    ensures value { IfOk result (λ raw. map (λ e. Some (export_entry e)) raw.items ≡ map (export_with_index (index_of indices.now)) (items (exports all_exports.now))) }
     ensures text { IfOk result (λ raw. All (λ e. IsUtf8 e.name.now) raw.items) }
     ensures fails { IsOkUnless result out_of_memory }
 {

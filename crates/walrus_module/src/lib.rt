@@ -5,13 +5,13 @@ pub mod config;
 pub mod customs;
 pub mod emit;
 pub mod entry;
-mod handled;
 pub mod law;
 pub mod live;
 pub mod module;
 pub mod order;
 pub mod parse;
 pub mod references;
+mod supported;
 
 pub use config::ModuleConfig;
 pub use customs::{ModuleCustomSections, SectionIter};

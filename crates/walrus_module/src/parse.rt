@@ -19,19 +19,21 @@ ghost use Rattle.walrus_functions.specs.ReadFunction.{StaysInFront};
 ghost use Rattle.walrus_items.specs.Exports.{exports};
 ghost use Rattle.walrus_items.specs.Functions.{functions};
 ghost use Rattle.walrus_groups.specs.Groups.{types_from, AreDeclared};
-ghost use Rattle.walrus_model.specs.Reads.{declared, export_of};
+ghost use Rattle.walrus_model.specs.Reads.{declared};
+ghost use Rattle.walrus_model.specs.Sections.{export_of};
 ghost use Rattle.walrus_module.specs.Flags.{flags, config_of};
 ghost use Rattle.walrus_module.specs.View.{exports_of};
 ghost use Rattle.walrus_module.specs.Taken.{AreEmpty, FitsIndices, IsPlace, IsLocated, AddsLocated, TakesFunction, TakesFunctions, TakesSections};
-ghost use Rattle.walrus_module.specs.Sections.{export_record, sections, Rules};
+ghost use Rattle.walrus_model.specs.Supported.{IsOfFunction, IsSupported};
+ghost use Rattle.walrus_module.specs.Sections.{Rules};
 ghost use Rattle.walrus_parts.specs.Errors.{out_of_memory};
-ghost use Rattle.wasm_entries.specs.Record.{group};
-ghost use Rattle.wasm_frames.specs.Record.{body_record};
+ghost use Rattle.wasm_entries.specs.Record.{group, export_entry};
+ghost use Rattle.wasm_frames.specs.Record.{body_record, sections};
 
 use crate::config::ModuleConfig;
-use crate::handled::check_handled;
 use crate::module::Module;
 use crate::references::check_references;
+use crate::supported::check_supported;
 use std::alloc::{AllocError, Global};
 use std::result;
 use walrus_bodies::{ReadBody, read_body_over};
@@ -50,7 +52,7 @@ impl ModuleConfig {
     ghost use Rattle.walrus_module.specs.View.{view};
 
     /// The module that the bytes are ("Binary Format > Modules"), to be written as the configuration says. Refused with
-    /// `InvalidWasm` where they aren't one, or hold what isn't handled so far, and with `Memory`; then there is no module.
+    /// `InvalidWasm` where they aren't one, or hold what isn't supported so far, and with `Memory`; then there is no module.
     pub fn parse(&self, alloc: Global, bytes: &[u8]) -> Result<Module>
         ensures found { IfOk result (λ m. IsParsed (config_of (flags self.now)) bytes.now (view m)) }
         ensures refused { IfErr result (RefusesBytes (config_of (flags self.now)) bytes.now) }
@@ -59,7 +61,7 @@ impl ModuleConfig {
     {
         let raw = read_module(alloc, bytes)?;
         check(alloc, &raw)?;
-        check_handled(&raw)?;
+        check_supported(&raw)?;
         let mut module = Module::with_config(alloc, self.clone()?)?;
         add_sections(
             alloc,
@@ -86,6 +88,7 @@ fn add_sections(
     module_exports: &mut ModuleExports,
 ) -> Result<()>
     requires rules { Rules (sections raw.now) }
+    requires supported { IsSupported (sections raw.now) }
     requires room { FitsIndices (sections raw.now) }
     requires empty { AreEmpty types.old all.old funcs.old module_exports.old }
     ensures taken { TakesSections (config_of (flags config.now)) (sections raw.now) types.new all.new funcs.new module_exports.new result }
@@ -244,10 +247,11 @@ fn add_functions(
     Ok(())
 }
 
-// The export leads to the function of its index: what is handled exports functions alone.
+// The export leads to the function of its index: what is supported exports functions alone.
 fn add_export(entry: &RawExport<'_>, indices: &IndicesToIds, all: &mut ModuleExports) -> Result<()>
-    requires { ids_at indices.now Functions entry.now.index ≡ Some entry.now.index }
-    ensures added { OnOk result (exports_of all.new ≡ exports_of all.old ++ export_of (export_record entry.now) ∷ []) }
+    requires declared { ids_at indices.now Functions entry.now.index ≡ Some entry.now.index }
+    requires function { IsOfFunction (export_entry entry.now) }
+    ensures added { OnOk result (exports_of all.new ≡ exports_of all.old ++ export_of (export_entry entry.now) ∷ []) }
     ensures fails { IsOkUnless result out_of_memory }
 {
     let Some(id) = indices.get_func(entry.index) else {
@@ -259,8 +263,9 @@ fn add_export(entry: &RawExport<'_>, indices: &IndicesToIds, all: &mut ModuleExp
 
 fn add_exports(raw: &[RawExport<'_>], indices: &IndicesToIds, all: &mut ModuleExports) -> Result<()>
     requires none { exports all.old ≡ [] }
-    requires declared { All (λ e. ids_at indices.now Functions e.index ≡ Some e.index) (map export_record raw.now) }
-    ensures added { OnOk result (exports_of all.new ≡ map export_of (map export_record raw.now)) }
+    requires declared { All (λ e. ids_at indices.now Functions e.index ≡ Some e.index) (map export_entry raw.now) }
+    requires functions { All IsOfFunction (map export_entry raw.now) }
+    ensures added { OnOk result (exports_of all.new ≡ map export_of (map export_entry raw.now)) }
     ensures fails { IsOkUnless result out_of_memory }
 {
     all.reserve(raw.len())?;

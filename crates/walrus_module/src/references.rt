@@ -104,7 +104,7 @@ pub fn are_references_exported(
     Ok(are_functions_marked(funcs, &marks))
 }
 
-/// Refuses a module in which `ref.func` names a function that isn't exported, with `InvalidWasm`, since such a one isn't handled so far.
+/// Refuses a module in which `ref.func` names a function that isn't exported, with `InvalidWasm`, since such a one isn't supported so far.
 pub fn check_references(
     alloc: Global,
     funcs: &ModuleFunctions,

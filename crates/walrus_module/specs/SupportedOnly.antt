@@ -1,4 +1,4 @@
--- Whether sections hold only what is handled so far, as a test.
+-- Whether sections hold only what is supported, as a test.
 use Rattle.std.specs.Prelude.{Bool, true, false, ◌&&◌, ◌==◌, List, length, is_none}
 use Rattle.std.specs.List.{list_all}
 use Rattle.wasm_entries.specs.declared.record.RawExportKind.{RawExportKind}
@@ -20,5 +20,5 @@ abbrev pub has_no_others : Module → Bool
 has_no_others m = is_empty m.imports && is_empty m.tables && is_empty m.memories && is_empty m.tags && is_empty m.globals
     && is_none m.start && is_empty m.elements && is_none m.data_count && is_empty m.data_segments && is_empty m.customs
 
-abbrev pub holds_handled : Module → Bool
-holds_handled m = list_all (λ e. is_function e.kind) m.exports && has_no_others m
+abbrev pub holds_supported : Module → Bool
+holds_supported m = list_all (λ e. is_function e.kind) m.exports && has_no_others m

@@ -1,12 +1,12 @@
-//! Whether sections hold only what is handled so far: types, functions with bodies, and exports of functions. This is the one place
+//! Whether sections hold only what is supported so far: types, functions with bodies, and exports of functions. This is the one place
 //! that refuses the rest.
 ghost use Rattle.std.specs.Prelude.{◌≡◌, map};
 ghost use Rattle.std.specs.List.{list_all};
 ghost use Rattle.wasm_entries.specs.Record.{export_entry};
 ghost use Rattle.wasm_frames.specs.Record.{sections};
 ghost use Rattle.wasm_wire.specs.Rules.{Checks};
-ghost use Rattle.walrus_module.specs.HandledOnly.{is_function, has_no_others, holds_handled};
-ghost use Rattle.walrus_module.specs.Sections.{IsHandled};
+ghost use Rattle.walrus_model.specs.Supported.{IsSupported};
+ghost use Rattle.walrus_module.specs.SupportedOnly.{is_function, has_no_others, holds_supported};
 
 use wasm_wire::{Raw, RawExport, RawExportKind, WireError};
 
@@ -43,21 +43,21 @@ fn has_no_others(raw: &Raw<'_>) -> bool
         && raw.customs.is_empty()
 }
 
-fn holds_handled(raw: &Raw<'_>) -> bool
-    ensures { result ≡ holds_handled (sections raw.now) }
+fn holds_supported(raw: &Raw<'_>) -> bool
+    ensures { result ≡ holds_supported (sections raw.now) }
 {
     are_functions(&raw.exports) && has_no_others(raw)
 }
 
-/// Whether the sections hold only what is handled so far.
+/// Whether the sections hold only what is supported so far.
 ///
 /// # Errors
 ///
 /// `Malformed` exactly where they hold something else.
-pub fn check_handled(raw: &Raw<'_>) -> Result<(), WireError>
-    ensures { Checks result (IsHandled (sections raw.now)) }
+pub fn check_supported(raw: &Raw<'_>) -> Result<(), WireError>
+    ensures { Checks result (IsSupported (sections raw.now)) }
 {
-    if holds_handled(raw) {
+    if holds_supported(raw) {
         Ok(())
     } else {
         Err(WireError::Malformed)

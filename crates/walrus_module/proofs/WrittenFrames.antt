@@ -1,5 +1,7 @@
--- The sections that are written, read back: what is handled of a module, with each body where it then starts.
-use Rattle.std.proofs.Common.{◌≡◌, ℕ, ◌+◌, ◌<◌, ◌^◌, List, [], ◌∷◌, ◌++◌, length, map, refl, sym, ap, ap₂, subst, ◌∙◌, arith, append_assoc}
+-- The sections that are written, read back: a module of types, functions, exports and bodies, with each body where it then starts.
+use Rattle.wasm_frames.specs.Record as wire
+use Rattle.wasm_entries.specs.Record as entries
+use Rattle.std.proofs.Common.{◌≡◌, ℕ, ◌+◌, ◌<◌, ◌^◌, List, [], ◌∷◌, ◌++◌, length, refl, sym, ap, ap₂, subst, ◌∙◌, arith, append_assoc}
 use Rattle.std.specs.Prelude.{All}
 use Rattle.std.specs.Str.{IsUtf8}
 use Rattle.std.proofs.lemmas.List.{append-nil}
@@ -11,8 +13,6 @@ use Rattle.wasm_frames.specs.Record.{Body, Module, no_sections}
 use Rattle.wasm_frames.specs.Frames.{Section, Types, Functions, Exports, Code, header, Frames, gathered_onto, gathered}
 use Rattle.wasm_writer.specs.Spelling.{spelled, listed, all_spelled, SectionFits, CanBeWritten, placed_bodies, first_body, placed, all_placed}
 use Rattle.wasm_writer.proofs.WrittenModule.{written_frames_lem}
-use Rattle.walrus_model.specs.Handled as handled
-use Rattle.walrus_model.specs.Handled.{widened_export, widened}
 use Rattle.walrus_module.specs.Spelled.{module_bytes}
 
 -- ---- sections that stand where they have entries
@@ -133,41 +133,41 @@ module _ (gs : List Group) (fs : List ℕ) (es : List Export) (bs : List Body) w
       subst (λ (m : Module). Frames (module_bytes gs fs es bs) m) parts_gathered
       (subst (λ (bytes : List ℕ). Frames bytes (gathered (all_placed 8 parts))) (sym parts_spelled) (written_frames_lem parts can))
 
--- ---- what is handled can be written
+-- ---- records that can be written
 
-exports_stand : (es : List handled.Export) → All (λ e. IsUtf8 e.name) es → All (λ e. e.index < 2 ^ 32) es → All ExportStands (map widened_export es)
+exports_stand : (es : List entries.Export) → All (λ e. IsUtf8 e.name) es → All (λ e. e.index < 2 ^ 32) es → All ExportStands es
 exports_stand [] text small = All-nil ExportStands
 exports_stand (e ∷ es) text small =
-    All-cons ExportStands (widened_export e) (map widened_export es)
-    (record { name = All-head (λ (x : handled.Export). IsUtf8 x.name) e es text; index = All-head (λ (x : handled.Export). x.index < 2 ^ 32) e es small })
-    (exports_stand es (All-tail (λ (x : handled.Export). IsUtf8 x.name) e es text) (All-tail (λ (x : handled.Export). x.index < 2 ^ 32) e es small))
+    All-cons ExportStands e es
+    (record { name = All-head (λ (x : entries.Export). IsUtf8 x.name) e es text; index = All-head (λ (x : entries.Export). x.index < 2 ^ 32) e es small })
+    (exports_stand es (All-tail (λ (x : entries.Export). IsUtf8 x.name) e es text) (All-tail (λ (x : entries.Export). x.index < 2 ^ 32) e es small))
 
 -- records that can be written: all fits, types have bytes, indices are below 2 ^ 32, and names are UTF-8
-pub record HandledCanBeWritten (ts : List Group) (fs : List ℕ) (es : List handled.Export) (bs : List Body) : Type 0 where
+pub record RecordsCanBeWritten (ts : List Group) (fs : List ℕ) (es : List entries.Export) (bs : List Body) : Type 0 where
   pub types_fit : SectionFits (Types ts)
   pub types_stand : All GroupStands ts
   pub functions_fit : SectionFits (Functions fs)
-  pub exports_fit : SectionFits (Exports (map widened_export es))
+  pub exports_fit : SectionFits (Exports es)
   pub bodies_fit : SectionFits (Code bs)
   pub type_indices : All (λ f. f < 2 ^ 32) fs
   pub exported_indices : All (λ e. e.index < 2 ^ 32) es
   pub names_are_text : All (λ e. IsUtf8 e.name) es
 
 -- the place of the first body of a module of these
-abbrev pub first_place : List Group → List ℕ → List handled.Export → List Body → ℕ
-first_place ts fs es bs = first_in ts fs (map widened_export es) bs
+abbrev pub first_place : List Group → List ℕ → List entries.Export → List Body → ℕ
+first_place ts fs es bs = first_in ts fs es bs
 
 -- what a module of these bytes holds
-abbrev pub written_module : List Group → List ℕ → List handled.Export → List Body → handled.Module
-written_module ts fs es bs = record {
-  order = order_in ts fs (map widened_export es) bs;
+abbrev pub written_module : List Group → List ℕ → List entries.Export → List Body → wire.Module
+written_module ts fs es bs = record no_sections {
+  order = order_in ts fs es bs;
   types = ts;
   functions = fs;
   exports = es;
   bodies = placed_bodies (first_place ts fs es bs) bs;
 }
 
-pub handled_frames : (ts : List Group) (fs : List ℕ) (es : List handled.Export) (bs : List Body) → HandledCanBeWritten ts fs es bs → Frames (module_bytes ts fs (map widened_export es) bs) (widened (written_module ts fs es bs))
-handled_frames ts fs es bs can =
-    parts_frame ts fs (map widened_export es) bs
+pub records_frame : (ts : List Group) (fs : List ℕ) (es : List entries.Export) (bs : List Body) → RecordsCanBeWritten ts fs es bs → Frames (module_bytes ts fs es bs) (written_module ts fs es bs)
+records_frame ts fs es bs can =
+    parts_frame ts fs es bs
     (can.types_fit, can.types_stand) (can.functions_fit, can.type_indices) (can.exports_fit, exports_stand es can.names_are_text can.exported_indices) (can.bodies_fit, tt)

@@ -1,36 +1,34 @@
--- The rules on what is handled are the rules on sections that hold it.
-use Rattle.std.proofs.Common.{◌≡◌, ◌≢◌, ℕ, ◌<◌, true, List, map, length, get_or, refl, sym, ap, subst, ◌∙◌, arith}
-use Rattle.std.specs.Prelude.{Option, Some, None, is_some, All, AllPairs, slice_get, flat_map, option_map}
-use Rattle.std.proofs.lemmas.List.{get_or-map, length-map}
+-- The rules on what is supported are the rules on sections that hold nothing else.
+use Rattle.wasm_entries.specs.declared.record.RawExportKind.TheVariants as kinds
+use Rattle.std.proofs.Common.{◌≡◌, ℕ, ◌<◌, true, List, map, length, get_or, refl, sym, ap, subst, ◌∙◌, arith}
+use Rattle.std.specs.Prelude.{Option, Some, None, is_some, All, slice_get, flat_map, option_map}
+use Rattle.wasm_entries.specs.declared.record.RawExportKind.{RawExportKind}
 use Rattle.wasm_entries.specs.Record as entries
 use Rattle.wasm_wire.specs.declared.rules.counts.Counts.{Counts}
 use Rattle.wasm_wire.specs.Context.{context_of, counts_of}
-use Rattle.wasm_frames.specs.declared.record.Raw.{Raw}
-use Rattle.wasm_frames.specs.Frames.{Frames}
-use Rattle.wasm_wire.specs.Indices.{IndicesHold, ExportHolds, count_of}
+use Rattle.wasm_wire.specs.Indices.{IndicesHold, count_of}
 use Rattle.wasm_frames.specs.Record as wire
 use Rattle.wasm_wire.specs.Rules as wire_rules
-use Rattle.wasm_wire.proofs.Checked.{all_mapped, all_unmapped}
 use Rattle.walrus_base.specs.Types.{SubType}
 use Rattle.walrus_types.specs.TypeDef.{TypeDef}
 use Rattle.walrus_groups.specs.Groups.{comp_of, sub_of, types_from}
 use Rattle.walrus_bodies.specs.FunctionTypes.{is_function_comp, is_function_def}
-use Rattle.walrus_model.specs.Handled as handled
-use Rattle.walrus_model.specs.Handled.{widened_kind, widened_export, widened}
-use Rattle.walrus_model.specs.Reads.{types_of, is_function}
-use Rattle.walrus_module.specs.Sections.{Rules, IsHandled, sections}
-use Rattle.walrus_module.proofs.HandledOnly.{sections_widened}
-use Rattle.walrus_module.proofs.Lookups.{none_there, got_in, got_map, pairs_map}
+use Rattle.walrus_model.specs.Reads.{is_function}
+use Rattle.walrus_model.specs.Sections.{types_of}
+use Rattle.walrus_model.specs.Supported.{IsOfFunction, IsSupported}
+use Rattle.walrus_model.proofs.Supported.{supported, by_supported}
+use Rattle.walrus_module.specs.Sections.{Rules}
+use Rattle.walrus_module.proofs.Lookups.{none_there, got_in, got_map}
 use Rattle.walrus_module.proofs.Named.{some_inj}
 use Rattle.walrus_module.proofs.TypeLists.{types_subs}
 
 -- ---- types by index
 
-abbrev flat : handled.Module → List entries.Sub
+abbrev flat : wire.Module → List entries.Sub
 flat m = flat_map (λ g. g) m.types
 
 -- the type of an index is the same in both lists
-same_at : (m : handled.Module) (t : ℕ) → option_map (λ (x : TypeDef). x.sub) (types_of m t) ≡ option_map sub_of (slice_get (flat m) t)
+same_at : (m : wire.Module) (t : ℕ) → option_map (λ (x : TypeDef). x.sub) (types_of m t) ≡ option_map sub_of (slice_get (flat m) t)
 same_at m t =
     sym (got_map (λ (x : TypeDef). x.sub) (types_from 0 m.types) t)
     ∙ ap (λ l. slice_get l t) (types_subs 0 m.types)
@@ -69,77 +67,74 @@ function_some : (s : Option entries.Sub) → wire_rules.IsFunction s → is_some
 function_some None h = absurd h
 function_some (Some s) h = refl
 
--- ---- from sections to what is handled
+-- ---- from the rules on sections to those on what is supported
 
-pairs_unmapped : {A B : Type 0} (R : B → B → Type 0) (f : A → B) (xs : List A) → AllPairs R (map f xs) → AllPairs (λ a b. R (f a) (f b)) xs
-pairs_unmapped R f xs h = λ i j d less within.
-    let first : i < length xs = omega (arith, less, within) in
-    let mapped : j < length (map f xs) = omega (arith, within, length-map xs f) in
-    subst (λ x. R x (f (get_or xs j d))) (get_or-map f xs i d (f d) first)
-    (subst (λ y. R (get_or (map f xs) i (f d)) y) (get_or-map f xs j d (f d) within) (h i j (f d) less mapped))
+index_within : (c : Counts) (k : RawExportKind) (i : ℕ) → k ≡ kinds.Function → i < count_of c k → i < c.functions
+index_within c kinds.Function i e h = h
+index_within c kinds.Table i e h = cc
+index_within c kinds.Memory i e h = cc
+index_within c kinds.Global i e h = cc
+index_within c kinds.Tag i e h = cc
 
-index_within : (c : Counts) (k : handled.ExportKind) (i : ℕ) → i < count_of c (widened_kind k) → i < c.functions
-index_within c handled.Function i h = h
-
-pub narrow_rules : (m : handled.Module) → wire_rules.Rules (widened m) → Rules m
-narrow_rules m h = record {
+narrow : (m : wire.Module) → All IsOfFunction m.exports → wire_rules.Rules (supported m) → Rules (supported m)
+narrow m of_functions h = record {
   sections_in_order = h.in_order;
   types_refer = h.types;
   function_types = λ i d lt. function_by (types_of m (get_or m.functions i d)) (slice_get (flat m) (get_or m.functions i d)) (same_at m (get_or m.functions i d)) (h.function_types i d lt);
-  exports_hold = λ i d lt. index_within (counts_of (context_of (widened m))) (get_or m.exports i d).kind (get_or m.exports i d).index
-      (all_unmapped (ExportHolds (counts_of (context_of (widened m)))) widened_export m.exports h.indices.exports i d lt);
+  exports_hold = λ i d lt. index_within (counts_of (context_of (supported m))) (get_or m.exports i d).kind (get_or m.exports i d).index (of_functions i d lt) (h.indices.exports i d lt);
   as_many_bodies = h.as_many_bodies;
-  names_differ = pairs_unmapped (λ (a b : entries.Export). a.name ≢ b.name) widened_export m.exports h.names_differ;
+  names_differ = h.names_differ;
   locals = h.locals;
 }
 
--- ---- from what is handled to sections
+pub narrow_rules : (m : wire.Module) → IsSupported m → wire_rules.Rules m → Rules m
+narrow_rules = by_supported (λ m. wire_rules.Rules m → Rules m) narrow
 
-function_types : (m : handled.Module) → All (λ t. is_function m t ≡ true) m.functions → wire_rules.AreFunctionTypes (flat m) m.functions
+-- ---- and back
+
+function_types : (m : wire.Module) → All (λ t. is_function m t ≡ true) m.functions → wire_rules.AreFunctionTypes (flat m) m.functions
 function_types m h = λ i d lt. by_function (types_of m (get_or m.functions i d)) (slice_get (flat m) (get_or m.functions i d)) (same_at m (get_or m.functions i d)) (h i d lt)
 
-types_within : (m : handled.Module) → wire_rules.AreFunctionTypes (flat m) m.functions → All (λ t. t < length (flat m)) m.functions
+types_within : (m : wire.Module) → wire_rules.AreFunctionTypes (flat m) m.functions → All (λ t. t < length (flat m)) m.functions
 types_within m h = λ i d lt. got_within (flat m) (get_or m.functions i d) (slice_get (flat m) (get_or m.functions i d)) refl (function_some (slice_get (flat m) (get_or m.functions i d)) (h i d lt))
 
-within_index : (c : Counts) (k : handled.ExportKind) (i : ℕ) → i < c.functions → i < count_of c (widened_kind k)
-within_index c handled.Function i h = h
+within_index : (c : Counts) (k : RawExportKind) (i : ℕ) → k ≡ kinds.Function → i < c.functions → i < count_of c k
+within_index c kinds.Function i e h = h
+within_index c kinds.Table i e h = cc
+within_index c kinds.Memory i e h = cc
+within_index c kinds.Global i e h = cc
+within_index c kinds.Tag i e h = cc
 
-indices_hold : (m : handled.Module) → Rules m → IndicesHold (counts_of (context_of (widened m))) (widened m)
-indices_hold m h = record {
+indices_hold : (m : wire.Module) → All IsOfFunction m.exports → Rules (supported m) → IndicesHold (counts_of (context_of (supported m))) (supported m)
+indices_hold m of_functions h = record {
   imports = λ i d lt. absurd (omega (arith, lt));
   functions = types_within m (function_types m h.function_types);
   tables = λ i d lt. absurd (omega (arith, lt));
   tags = λ i d lt. absurd (omega (arith, lt));
   globals = λ i d lt. absurd (omega (arith, lt));
-  exports = all_mapped (ExportHolds (counts_of (context_of (widened m)))) widened_export m.exports
-      (λ i d lt. within_index (counts_of (context_of (widened m))) (get_or m.exports i d).kind (get_or m.exports i d).index (h.exports_hold i d lt));
+  exports = λ i d lt. within_index (counts_of (context_of (supported m))) (get_or m.exports i d).kind (get_or m.exports i d).index (of_functions i d lt) (h.exports_hold i d lt);
   start = tt;
   elements = λ i d lt. absurd (omega (arith, lt));
   data_segments = λ i d lt. absurd (omega (arith, lt));
 }
 
-pub widen_rules : (m : handled.Module) → Rules m → wire_rules.Rules (widened m)
-widen_rules m h = record {
+widen : (m : wire.Module) → All IsOfFunction m.exports → Rules (supported m) → wire_rules.Rules (supported m)
+widen m of_functions h = record {
   in_order = h.sections_in_order;
   types = h.types_refer;
-  indices = indices_hold m h;
+  indices = indices_hold m of_functions h;
   function_types = function_types m h.function_types;
   tag_types = λ i d lt. absurd (omega (arith, lt));
   tables = λ i d lt. absurd (omega (arith, lt));
   memories = λ i d lt. absurd (omega (arith, lt));
   as_many_bodies = h.as_many_bodies;
   data_count = tt;
-  names_differ = pairs_map (λ (a b : entries.Export). a.name ≢ b.name) widened_export m.exports h.names_differ;
+  names_differ = h.names_differ;
   start = tt;
   element_offsets = λ i d lt. absurd (omega (arith, lt));
   data_offsets = λ i d lt. absurd (omega (arith, lt));
   locals = h.locals;
 }
 
--- ---- what was read
-
-pub framed_handled : (bytes : List ℕ) (r : Raw) → IsHandled (wire.sections r) → Frames bytes (wire.sections r) → Frames bytes (widened (sections r))
-framed_handled bytes r h f = subst (Frames bytes) (sections_widened r h) f
-
-pub rules_handled : (r : Raw) → IsHandled (wire.sections r) → wire_rules.Rules (wire.sections r) → Rules (sections r)
-rules_handled r h rules = narrow_rules (sections r) (subst wire_rules.Rules (sections_widened r h) rules)
+pub widen_rules : (m : wire.Module) → IsSupported m → Rules m → wire_rules.Rules m
+widen_rules = by_supported (λ m. Rules m → wire_rules.Rules m) widen
