@@ -1,8 +1,9 @@
 #!/usr/bin/env python3
 """What tests/build.sh does. `rt` knows by their content what has changed; this adds the lanes and the progress.
 
-Crates are proved side by side by `rt all check`, as many as there are processors and 2 GB of memory each for, and the crate itself
-is built by `rt run` or `rt lib` behind them. tests/build-times.txt, the processor seconds of each crate, serves to guess the time left.
+Crates are proved side by side by `rt all check`, as many as there are processors and 2 GB of memory each for (where that is for one or
+two, `rt` chooses itself), and the crate itself is built by `rt run` or `rt lib` behind them. tests/build-times.txt, the processor seconds
+of each crate, serves to guess the time left.
 """
 import functools
 import os
@@ -24,7 +25,7 @@ def say(text):
 
 def table(path):
     """A file of lines `NAME: WORD ..`, without comments."""
-    lines = (line.split("#")[0].split() for line in path.read_text(encoding="utf-8").splitlines())
+    lines = (line.split("#")[0].split() for line in path.read_text().splitlines())
     return {line[0].rstrip(":"): line[1:] for line in lines if line}
 
 
@@ -45,18 +46,13 @@ def newest_source(crates):
     return max(path.stat().st_mtime for path in [TOP / "crates.txt", *paths])
 
 
-def lanes():
-    with open("/proc/meminfo", encoding="utf-8") as told:
-        free = next(int(line.split()[1]) for line in told if line.startswith("MemAvailable")) << 10
-    return max(1, min(len(os.sched_getaffinity(0)), free // (2 << 30)))
-
-
 class Progress:
     """Which of the crates are still to be proved, told every few seconds until it is done."""
 
     def __init__(self, below):
-        self.below, self.left, self.lanes = below, set(below), lanes()
-        self.begin = time.monotonic()
+        self.below, self.left, self.begin = below, set(below), time.monotonic()
+        kilobytes = int(table(pathlib.Path("/proc/meminfo"))["MemAvailable"][0])
+        self.lanes = max(1, min(len(os.sched_getaffinity(0)), kilobytes // (2 << 20)))
         self.seconds = table(TOP / "tests" / "build-times.txt")
         threading.Thread(target=self.tell, daemon=True).start()
 
@@ -76,9 +72,9 @@ class Progress:
 
 def prove(crate, progress, log):
     """Runs `rt all check` in the crate's folder, which proves it and all crates below it."""
-    command = ["rt", "all", "check", "--jobs", str(progress.lanes)]
-    with subprocess.Popen(command, cwd=CRATES / crate, stdin=subprocess.DEVNULL, stdout=subprocess.PIPE,
-                          stderr=subprocess.STDOUT, text=True, errors="replace") as run:
+    command = ["rt", "all", "check", *(["--jobs", str(progress.lanes)] if progress.lanes > 2 else [])]
+    pipes = {"stdin": subprocess.DEVNULL, "stdout": subprocess.PIPE, "stderr": subprocess.STDOUT}
+    with subprocess.Popen(command, cwd=CRATES / crate, text=True, errors="replace", **pipes) as run:
         for line in run.stdout:
             log.write(line)
             if line.startswith("== "):
@@ -89,7 +85,7 @@ def prove(crate, progress, log):
 def build(crate, is_program, log):
     """Builds the crate, a program by its stored run, whose outcome is the gate's matter."""
     given, words = CRATES / crate / "stdin", CRATES / crate / "args"
-    command = ["rt", "run", "--", *(words.read_text().split() if words.exists() else [])] if is_program else ["rt", "lib"]
+    command = ["rt", "run", "--", *(words.read_text().splitlines() if words.exists() else [])] if is_program else ["rt", "lib"]
     with open(given if given.exists() else os.devnull, "rb") as source:
         subprocess.run(command, cwd=CRATES / crate, stdin=source, stdout=subprocess.DEVNULL, stderr=log, check=False)
 
@@ -104,7 +100,7 @@ def main():
     if made.exists() and made.stat().st_mtime >= newest_source(crates):
         return
     progress, begin = Progress({it: all_below(it) for it in NAMED if it in crates}), time.time()
-    say(f"{len(crates)} crates are proved where they aren't yet, {progress.lanes} at a time, in about {progress.minutes_left():.0f} min at most")
+    say(f"{len(crates)} crates are proved where they aren't yet, in about {progress.minutes_left():.0f} min at most")
     with tempfile.NamedTemporaryFile("w", buffering=1, prefix=f"build-{crate}-", delete=False) as log:
         is_proved = prove(crate, progress, log)
         if is_proved:

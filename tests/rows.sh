@@ -34,7 +34,7 @@ def wanted(expect):
 def why_not(program, row):
     """Why a row doesn't pass, or None."""
     words = row.with_suffix(".args")
-    command = [program, *(words.read_text().split() if words.exists() else [])]
+    command = [program, *(words.read_text().splitlines() if words.exists() else [])]
     with row.open("rb") as source:
         ran = subprocess.run(command, stdin=source, capture_output=True, timeout=60, check=False)
     status, output, told = wanted(row.with_suffix(".expect").read_text())
