@@ -1,9 +1,14 @@
 -- Where gc keeps, of functions and of types, what is kept, the abstract module is collected.
-use Rattle.std.proofs.Common.{◌≡◌, ℕ, inl, inr, true, List, map, Option, Some, None, refl, ap, sym, subst, ◌∙◌}
-use Rattle.std.specs.Prelude.{Contains, option_map}
+use Rattle.std.proofs.Common.{◌≡◌, ℕ, ◌==◌, inl, inr, ⊎_elim, eqb-true, true, List, [], ◌∷◌, map, Option, Some, None, refl, ap, sym, subst, ◌∙◌}
+use Rattle.std.specs.Prelude.{◌↔◌, Contains, option_map}
+use Rattle.std.proofs.lemmas.Bool.{false≢true}
 use Rattle.std.proofs.lemmas.Option.{none-some}
 use Rattle.std.proofs.lemmas.List.Elements.{Contains-append_left}
-use Rattle.walrus_base.specs.Arena.{item_at}
+use Rattle.walrus_base.specs.Arena.{item_at, kept_by}
+use Rattle.walrus_base.specs.IdSet.{HasId, has_id}
+use Rattle.walrus_base.specs.declared.keys.TypeKey.{TypeKey}
+use Rattle.walrus_base.specs.declared.set.IdHashSet.{IdHashSet}
+use Rattle.walrus_base.proofs.Kept.{kept_marked, kept_there, kept_was}
 use Rattle.walrus_base.specs.Types.{sub_names}
 use Rattle.walrus_types.specs.ModuleTypes.{type_slots}
 use Rattle.walrus_types.specs.declared.locals.ModuleLocals.{ModuleLocals}
@@ -11,6 +16,8 @@ use Rattle.walrus_types.specs.declared.module_types.ModuleTypes.{ModuleTypes}
 use Rattle.walrus_types.specs.Operators.{Types, Functions, Memories, Item, type_item}
 use Rattle.walrus_types.specs.PlaceList.{has}
 use Rattle.walrus_types.specs.TypeDef.{TypeDef}
+use Rattle.walrus_types.specs.Whole.{KeepsGroups}
+use Rattle.walrus_types.proofs.Noted.{or_cases}
 use Rattle.walrus_items.specs.Functions.{functions}
 use Rattle.walrus_items.specs.declared.exports.ModuleExports.{ModuleExports}
 use Rattle.walrus_items.specs.declared.functions.ModuleFunctions.{ModuleFunctions}
@@ -18,10 +25,23 @@ use Rattle.walrus_model.specs.Kept.{Kept}
 use Rattle.walrus_model.specs.Pipeline.{Collected, KeepsOnly}
 use Rattle.walrus_model.specs.Reached.{step}
 use Rattle.walrus_model.specs.Refers.{named_by, type_names}
-use Rattle.walrus_model.proofs.Lists.{Contains-map}
+use Rattle.walrus_model.proofs.Lists.{Contains-head, Contains-map, Contains-tail}
 use Rattle.walrus_module.specs.View.{function, handlers_at, view_of}
 use Rattle.walrus.specs.Collected as slots
-use Rattle.walrus.proofs.Dropped.{has_contains}
+
+-- what is left where only the marked ones are kept
+pub keeps_only : {K X : Type 0} (marks : IdHashSet K) (Q : ℕ → Type 0) → ((i : ℕ) → HasId marks i ↔ Q i) → (old new : List (Option X)) → new ≡ kept_by (has_id marks) old → slots.KeepsOnly Q old new
+keeps_only {K} {X} marks Q same old new is = subst (λ (s : List (Option X)). slots.KeepsOnly Q old s) (sym is) (record {
+  kept = λ i q. kept_there (has_id marks) old i ((same i).1 q);
+  left = λ i x h. ((same i).0 (kept_marked (has_id marks) old i x h), kept_was (has_id marks) old i x h);
+})
+
+has_contains : (g : List ℕ) (p : ℕ) → has g p ≡ true → Contains g p
+has_contains [] p h = absurd (false≢true h)
+has_contains (x ∷ g) p h = ⊎_elim
+    (λ here. subst (λ (q : ℕ). Contains (x ∷ g) q) (eqb-true x p here) (Contains-head x g))
+    (λ later. Contains-tail x p g (has_contains g p later))
+    (or_cases (x == p) (has g p) h)
 
 -- the same of what is seen of each slot
 module _ {X Y : Type 0} (see : ℕ → X → Y) (K : ℕ → Type 0) (old new : List (Option X)) (k : slots.KeepsOnly K old new) where
@@ -40,11 +60,16 @@ nothing_kept : {X : Type 0} (K : ℕ → Type 0) → KeepsOnly {X = X} K (λ i. 
 nothing_kept K = record { kept = λ i h. refl; left = λ i x e. absurd (none-some x e) }
 
 -- what is kept of the types keeps its group
-pub keeps_groups : (types : ModuleTypes) (all : ModuleLocals) (funcs : ModuleFunctions) (es : ModuleExports) (i q : ℕ) (x : TypeDef) → item_at (type_slots types) i ≡ Some x → Kept (view_of types all funcs es) (Types, i) → has x.group q ≡ true → Kept (view_of types all funcs es) (Types, q)
+keeps_groups : (types : ModuleTypes) (all : ModuleLocals) (funcs : ModuleFunctions) (es : ModuleExports) (i q : ℕ) (x : TypeDef) → item_at (type_slots types) i ≡ Some x → Kept (view_of types all funcs es) (Types, i) → has x.group q ≡ true → Kept (view_of types all funcs es) (Types, q)
 keeps_groups types all funcs es i q x at (inl reached) g =
     let written : Contains (type_names x) (Types, q) = Contains-append_left (map type_item x.group) (map type_item (sub_names x.sub)) (Types, q) (Contains-map type_item q x.group (has_contains x.group q g)) in
     inl (step (Types, i) (Types, q) reached (inl (subst (λ (o : Option TypeDef). Contains (named_by type_names o) (Types, q)) (sym at) written)))
 keeps_groups types all funcs es i q x at (inr spare) g = let apart : Types ≡ Memories = ap (λ (y : Item). y.0) spare.is in absurd (cc)
+
+-- the marked types are groups that are whole
+pub marks_groups : (types : ModuleTypes) (all : ModuleLocals) (funcs : ModuleFunctions) (es : ModuleExports) (marks : IdHashSet TypeKey)
+    → ((t : ℕ) → HasId marks t ↔ Kept (view_of types all funcs es) (Types, t)) → KeepsGroups (has_id marks) (type_slots types)
+marks_groups types all funcs es marks same t x at marked p g = (same p).1 (keeps_groups types all funcs es t p x at ((same t).0 marked) g)
 
 module _ (types types_left : ModuleTypes) (all : ModuleLocals) (funcs funcs_left : ModuleFunctions) (es : ModuleExports) where
   pub is_collected : slots.KeepsOnly (λ i. Kept (view_of types all funcs es) (Functions, i)) (functions funcs) (functions funcs_left) → slots.KeepsOnly (λ t. Kept (view_of types all funcs es) (Types, t)) (type_slots types) (type_slots types_left) → Collected (view_of types all funcs es) (view_of types_left all funcs_left es)

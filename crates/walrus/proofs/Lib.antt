@@ -4,6 +4,4 @@ pub mod Entered
 pub mod Followed
 pub mod NamedLemmas
 pub mod ReachedLemmas
-pub mod Cleared
-pub mod Dropped
 pub mod CollectedLemmas

@@ -1,6 +1,7 @@
 //! The module layer of WebAssembly: a module's bytes go in, a [`Module`] or a smaller module's bytes come out.
 #![tactic(auto)]
 
+pub mod below;
 mod command;
 mod device;
 mod message;
@@ -8,6 +9,10 @@ pub mod passes;
 pub mod tool;
 mod transfer;
 
+pub use walrus_ir::{
+    CustomSectionKey, DataKey, ElementKey, ExportKey, FunctionKey, GlobalKey, ImportKey, LocalKey,
+    MemoryKey, TableKey, TagKey, TypeKey,
+};
 pub use walrus_module::{
     AbstractHeapType, Arg, Args, ArrayType, BlockType, CodeTransform, CompositeType, ConstExpr,
     ConstOp, CustomSection, DataId, ElementId, Error, ErrorKind, Export, ExportId, ExportItem,

@@ -115,6 +115,57 @@ fn function_types_are_added(rt: HostRuntime) -> Result<(), Fail> {
     demand(is_added_once(&mut types), "a function type")
 }
 
+// A group of one final type of functions, which takes a reference to this type.
+fn takes_a_reference(alloc: Global, id: TypeId) -> Result<Vec<NewType>, AllocError> {
+    let mut params = Vec::new(alloc);
+    params.push(reference_to(id))?;
+    let mut members = Vec::new(alloc);
+    members.push(NewType {
+        is_final: true,
+        supertype: None,
+        comp: CompositeType::Function(FunctionType::new(params, Vec::new(alloc))),
+    })?;
+    Ok(members)
+}
+
+// A type that names itself, alone in its group. Returns its id.
+fn add_naming_itself(alloc: Global, types: &mut ModuleTypes) -> Option<TypeId> {
+    let Ok(ids) = types.next_ids(alloc, 1) else {
+        return None;
+    };
+    let [id] = ids.as_slice() else {
+        return None;
+    };
+    let Ok(members) = takes_a_reference(alloc, *id) else {
+        return None;
+    };
+    match types.add_group(members) {
+        Ok(mut added) => added.next(),
+        Err(_) => None,
+    }
+}
+
+// A type that names it from outside is another, which is found from then on.
+fn is_not_found(alloc: Global, types: &mut ModuleTypes) -> bool {
+    let Some(own) = add_naming_itself(alloc, types) else {
+        return false;
+    };
+    let Ok(other) = types.add(&[reference_to(own)], &[]) else {
+        return false;
+    };
+    let again = types.add(&[reference_to(own)], &[]);
+    own.index() == 0
+        && other.index() == 1
+        && types.len() == 2
+        && matches!(again, Ok(found) if found == other)
+}
+
+#[test]
+fn a_type_that_names_itself_is_not_found(rt: HostRuntime) -> Result<(), Fail> {
+    let mut types = ModuleTypes::new(rt.alloc());
+    demand(is_not_found(rt.alloc(), &mut types), "a type of its own")
+}
+
 fn function_is_cloned(alloc: Global) -> bool {
     let mut params = Vec::new(alloc);
     if params.push(ValType::F32).is_err() {

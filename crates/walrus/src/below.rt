@@ -1,0 +1,11 @@
+//! What stands below a module, for programs that make or read parts of one: types, constant expressions, operators and bodies.
+
+pub use walrus_code::{push_locals, push_names as push_operator_names};
+pub use walrus_ir::{
+    AbstractHeapType, Arg, Args, ArrayType, BlockType, CompositeType, ConstExpr, ConstOp,
+    EmittedBody, Features, FieldType, FunctionBuilder, FunctionType, GroupIds, HeapType,
+    IdsToIndices, IndicesToIds, InstrLocId, InstrSeqBuilder, IrError, ItemId, Local, LocalFunction,
+    LocalIter, LocalNumbers, ModuleLocals, ModuleTypes, NewType, Operator, RefType, StorageType,
+    StructType, TombstoneArena, Type, TypeIter, ValType, Value, emit_body, read_function,
+};
+pub use walrus_types::push_names as push_type_names;
