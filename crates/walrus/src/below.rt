@@ -6,6 +6,6 @@ pub use walrus_ir::{
     EmittedBody, Features, FieldType, FunctionBuilder, FunctionType, GroupIds, HeapType,
     IdsToIndices, IndicesToIds, InstrLocId, InstrSeqBuilder, IrError, ItemId, Local, LocalFunction,
     LocalIter, LocalNumbers, ModuleLocals, ModuleTypes, NewType, Operator, RefType, StorageType,
-    StructType, TombstoneArena, Type, TypeIter, ValType, Value, emit_body, read_function,
+    StructType, TombstoneArena, Type, TypeIter, ValType, Value, emit_body, read_body,
 };
 pub use walrus_types::push_names as push_type_names;
