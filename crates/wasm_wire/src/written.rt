@@ -1,12 +1,13 @@
 //! Writing a whole module (Binary Format > Modules).
 
-ghost use Rattle.std.specs.Prelude.{◌≡◌, ℕ, ◌++◌, All, IfSome, OnOk, map};
+ghost use Rattle.std.specs.Prelude.{◌≡◌, All, IfSome, map};
 ghost use Rattle.wasm_frames.specs.Record.{sections, custom_record};
 ghost use Rattle.wasm_frames.specs.Frames.{CustomSection, Start, DataCount};
 ghost use Rattle.wasm_writer.specs.Measuring.{Tells};
 ghost use Rattle.wasm_writer.specs.Spelling.{SectionFits};
 ghost use Rattle.wasm_writer.specs.Writing.{written};
-ghost use Rattle.wasm_wire.specs.ModuleSpelling.{is_in, group_of, if_given, up_to_globals, before_code, sections_in_order, ModuleFits, WritesModule, ModuleFrames};
+ghost use Rattle.wasm_wire.specs.ModuleSpelling.{is_in, group_of, if_given, up_to_globals, before_code, sections_in_order};
+ghost use Rattle.wasm_wire.specs.ModuleSpelling.{ModuleFits, WritesModule, ModuleFrames};
 ghost use Rattle.wasm_wire.specs.ModuleWriting.{Tried, Appends};
 
 use std::alloc::Global;
@@ -143,7 +144,8 @@ fn write_customs(
     customs: &[RawCustom<'_>],
 ) -> Result<(), WireError>
     requires fits { All (λ c. SectionFits (CustomSection c)) (map custom_record customs.now) }
-    ensures { Appends result (written writer.old) (written writer.new) (map CustomSection (group_of group (map custom_record customs.now))) }
+    ensures { Appends result (written writer.old) (written writer.new)
+        (map CustomSection (group_of group (map custom_record customs.now))) }
 {
     'sections: for section in customs {
         if group.has(section.name) {
@@ -182,7 +184,8 @@ fn write_before_code(writer: &mut Writer, raw: &Raw<'_>) -> Result<(), WireError
 /// Writes the sections, in their order.
 fn write_sections(writer: &mut Writer, raw: &Raw<'_>) -> Result<(), WireError>
     requires fits { ModuleFits (sections raw.now) }
-    ensures { Appends result (written writer.old) (written writer.new) (sections_in_order (sections raw.now)) }
+    ensures { Appends result (written writer.old) (written writer.new)
+        (sections_in_order (sections raw.now)) }
 {
     write_customs(writer, CustomGroup::Dylink, &raw.customs)?;
     write_before_code(writer, raw)?;
