@@ -1,5 +1,5 @@
 -- The refusals of a well-made module.
-use Rattle.std.specs.Prelude.{ℕ, List, Result, Ok, Err}
+use Rattle.std.specs.Prelude.{Ok, Err}
 use Rattle.walrus_rules.specs.Refused.{Memory, DeadItem, NoIndex, TwoIndices, TooLarge, NotWritable, Caller, Another}
 use Rattle.walrus_rules.specs.RefusedLaws.{FewRefusals, OkOrTooLarge}
 use Rattle.walrus_rules.proofs.NoCause.{well_no_cause}

@@ -180,8 +180,8 @@ module _ (m : Abstract) (holds : Holds m) where
   all_live bs (o ∷ ops) h names = λ f at. ⊎_elim
       (λ here. at_live bs o h f here)
       (λ later. all_live (blocks_after m.types (tag_type m) bs o) ops
-        (after_by (o.op == 0x06) (opens_other o.op) (closes o.op) (opened_results m.types (tag_type m) o.args) bs (opened o.args (λ y has. names y (Contains-append_1 y (op_names o) (names_of ops) has))) h)
-        (λ y has. names y (Contains-append_2 y (op_names o) (names_of ops) has)) f later)
+      (after_by (o.op == 0x06) (opens_other o.op) (closes o.op) (opened_results m.types (tag_type m) o.args) bs (opened o.args (λ y has. names y (Contains-append_1 y (op_names o) (names_of ops) has))) h)
+      (λ y has. names y (Contains-append_2 y (op_names o) (names_of ops) has)) f later)
       (un_append (handler_at m.types (tag_type m) bs o) (handlers_from m.types (tag_type m) (blocks_after m.types (tag_type m) bs o) ops) f at)
 
   body_names : (f : ℕ) (b : Body) → body_of m f ≡ Some b → (y : Item) → Contains (names_of b.operators) y → IsLive m y

@@ -91,3 +91,13 @@ pub mod UsedFound
 pub mod ReadsOnce
 pub mod FewRefusals
 pub mod OneReport
+pub mod SectionRows
+pub mod LeastLengths
+pub mod FormLimits
+pub mod ReadFits
+pub mod SpelledFits
+pub mod ReadsBack
+pub mod NamedBack
+pub mod BodiesBack
+pub mod NamesBack
+pub mod SpelledReads

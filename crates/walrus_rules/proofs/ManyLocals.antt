@@ -66,9 +66,9 @@ module _ (a d : Body) (i : ℕ) (t : Renaming) (s : SameBody t i a d) (qs : List
   few k low used ys dist are =
       let g = gap (length qs) k low in
       let long : length (map (t.locals i) ys) ≤ g.0 = pigeon (length qs) g.0 (map (t.locals i) ys)
-          (distinct_map (t.locals i) ys dist (λ x y hx hy same. s.apart x y (are x hx).0 (are y hy).0 same))
-          (λ z h. let r = in_map (t.locals i) ys z h in
-          (subst (λ y. length qs ≤ y) r.1.1 (is_past r.0 (are r.0 r.1.0).0 (are r.0 r.1.0).1), within z g.0 g.1 (subst (λ y. y < k) r.1.1 (used r.0 (are r.0 r.1.0).0)))) in
+      (distinct_map (t.locals i) ys dist (λ x y hx hy same. s.apart x y (are x hx).0 (are y hy).0 same))
+      (λ z h. let r = in_map (t.locals i) ys z h in
+      (subst (λ y. length qs ≤ y) r.1.1 (is_past r.0 (are r.0 r.1.0).0 (are r.0 r.1.0).1), within z g.0 g.1 (subst (λ y. y < k) r.1.1 (used r.0 (are r.0 r.1.0).0)))) in
       let same : length (map (t.locals i) ys) ≡ length ys = as_long (t.locals i) ys in
       omega (arith, long, same, g.1)
     where
@@ -149,9 +149,15 @@ module _ (c : Config) (bytes : List ℕ) (m v w n : Abstract) (reads : Reads c b
 
     from_further : (y : ℕ) → In y further → (x : ℕ) × (IsUsed a x × (Contains a.parameters x → ⊥)) × (moved c m v p f x ≡ y)
     from_further y i =
-        let x = used_back (moved c m v p) f a b z.same y (all_in (IsUsed b) further used y i) in
-        (x.0, (x.1, λ at. all_in (λ (q : ℕ). Contains b.parameters q → ⊥) further away y i
-        (subst (λ l. Contains l y) (sym z.whole.parameters) (subst (Contains (map (moved c m v p f) a.parameters)) x.2 (Contains-map (moved c m v p f) x.0 a.parameters at)))), x.2)
+        let x = used_back (moved c m v p) f a b z.same y (all_in (IsUsed b) further used y i) in (
+          x.0,
+          (
+            x.1,
+            λ at. all_in (λ (q : ℕ). Contains b.parameters q → ⊥) further away y i
+                (subst (λ l. Contains l y) (sym z.whole.parameters) (subst (Contains (map (moved c m v p f) a.parameters)) x.2 (Contains-map (moved c m v p f) x.0 a.parameters at))),
+          ),
+          x.2,
+        )
 
     pub locals_fit : length (b.parameters ++ further) ≤ 2 ^ 32
     locals_fit =

@@ -12,9 +12,9 @@ use Rattle.walrus_model.specs.Names.{body_of_function}
 use Rattle.walrus_model.specs.Renaming.{renamed_table, renamed_memory}
 use Rattle.walrus_model.specs.Rules.{Holds}
 use Rattle.walrus_rules.specs.Chain.{AddsSegment, HasSegment, BringsTo}
-use Rattle.walrus_rules.specs.Headline.{Reads}
+use Rattle.walrus_rules.specs.Headline.{Reads, NotBoth}
 use Rattle.walrus_rules.specs.Once.{Premises}
-use Rattle.walrus_rules.specs.OneRun.{KeptLives, Fits, ReadFits, SpelledFits, NotBothHolds}
+use Rattle.walrus_rules.specs.OneRun.{Fits}
 use Rattle.walrus_rules.specs.Pinned.{IsWrittenAs}
 use Rattle.walrus_rules.specs.Refused.{PassesLimit, PassesLimits, ManyItems, ManyLocals, TableLimit, MemoryLimit, Unfit, WritesUnfit}
 use Rattle.walrus_rules.specs.Spelling.{IsSpelling, IsSpelledAs, written_as}
@@ -26,6 +26,8 @@ use Rattle.walrus_rules.proofs.ManyItems.{segment_by, too_many, too_many_segment
 use Rattle.walrus_rules.proofs.ManyLocals.{too_many_locals}
 use Rattle.walrus_rules.proofs.OneOutput.{kept, from_read, one_way}
 use Rattle.walrus_rules.proofs.OneSpelling.{spelled_once}
+use Rattle.walrus_rules.proofs.ReadFits.{read_fits}
+use Rattle.walrus_rules.proofs.SpelledFits.{spelled_fits}
 use Rattle.walrus_rules.proofs.Plain.{there, undeclared_there, plain_premises}
 use Rattle.walrus_rules.proofs.ReadsOnce.{reads_once_lem}
 use Rattle.walrus_rules.proofs.Things.{still_there, both_there, some_same}
@@ -113,15 +115,15 @@ module _ (c : Config) (bytes : List ℕ) (m d n : Abstract) (reads : Reads c byt
   fits_all (MemoryLimit i x e h) = memory_fits i x (ap (λ f. f i) (sym same.1.1) ∙ e) h
   fits_all (Unfit h) = writes_fit h
 
-outputs : KeptLives → ReadFits → SpelledFits → (c : Config) (bytes a : List ℕ) (m u d n : Abstract) → Reads c bytes m → Holds m → BringsTo c m u → BringsTo c m d → IsWrittenAs c u n → IsSpelledAs n a → Reads c a n → PassesLimits c d → ⊥
-outputs lives read_fits spelled_fits c bytes a m u d n reads holds bu bd wn sa back =
+outputs : (c : Config) (bytes a : List ℕ) (m u d n : Abstract) → Reads c bytes m → Holds m → BringsTo c m u → BringsTo c m d → IsWrittenAs c u n → IsSpelledAs n a → Reads c a n → PassesLimits c d → ⊥
+outputs c bytes a m u d n reads holds bu bd wn sa back =
     let is : IsWrittenAs c (kept c m d bd) n = subst (λ z. IsWrittenAs c z n) (one_way c m u d holds bu bd) (from_read c bytes m u n reads holds bu wn) in
-    let premises : Premises (kept c m d bd) = plain_premises c m bd.module_parsed bd.module_kept bd.parsed bd.collected holds (lives c bytes m bd.module_parsed bd.module_kept reads holds bd.parsed bd.collected) in
+    let premises : Premises (kept c m d bd) = plain_premises c m bd.module_parsed bd.module_kept bd.parsed bd.collected holds (kept_lives c bytes m bd.module_parsed bd.module_kept reads holds bd.parsed bd.collected) in
     let again : Reads c (written_as sa.text) n = subst (λ z. Reads c z n) sa.written back in
     fits_all c bytes m d n reads holds bd sa.text sa.spells premises is (read_fits c a n back) (λ s at. spelled_fits c n sa.text s sa.spells again at)
 
-pub not_both : NotBothHolds
-not_both read_fits spelled_fits c bytes a ha hb =
+pub not_both : NotBoth
+not_both c bytes a ha hb =
     let same : hb.module_read ≡ ha.module_read = reads_once_lem c bytes ha.module_read hb.module_read ha.reads hb.reads in
     let brought : BringsTo c ha.module_read hb.module_left = subst (λ z. BringsTo c z hb.module_left) same hb.brought in
-    outputs kept_lives read_fits spelled_fits c bytes a ha.module_read ha.module_left hb.module_left ha.module_written ha.reads ha.holds ha.brought brought ha.written ha.spelled ha.output_reads hb.too_large
+    outputs c bytes a ha.module_read ha.module_left hb.module_left ha.module_written ha.reads ha.holds ha.brought brought ha.written ha.spelled ha.output_reads hb.too_large

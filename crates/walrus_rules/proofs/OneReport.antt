@@ -22,10 +22,10 @@ pub one_report : (m : Abstract) (text other : List ℕ) → IsReport m text → 
 one_report m text other a b =
     b.is
     ∙ join _ _ _ _ (join _ _ _ _ (join _ _ _ _ (join _ _ _ _ (join _ _ _ _ (join _ _ _ _ (one_line m _ (codes "functions") a.functions b.functions a.functions_are b.functions_are)
-        (one_line m _ (codes "tables") a.tables b.tables a.tables_are b.tables_are))
-        (one_line m _ (codes "memories") a.memories b.memories a.memories_are b.memories_are))
-        (one_line m _ (codes "tags") a.tags b.tags a.tags_are b.tags_are))
-        (one_line m _ (codes "globals") a.globals b.globals a.globals_are b.globals_are))
-        (one_line m _ (codes "elements") a.elements b.elements a.elements_are b.elements_are))
-        (one_line m _ (codes "data") a.data_segments b.data_segments a.data_segments_are b.data_segments_are)
+    (one_line m _ (codes "tables") a.tables b.tables a.tables_are b.tables_are))
+    (one_line m _ (codes "memories") a.memories b.memories a.memories_are b.memories_are))
+    (one_line m _ (codes "tags") a.tags b.tags a.tags_are b.tags_are))
+    (one_line m _ (codes "globals") a.globals b.globals a.globals_are b.globals_are))
+    (one_line m _ (codes "elements") a.elements b.elements a.elements_are b.elements_are))
+    (one_line m _ (codes "data") a.data_segments b.data_segments a.data_segments_are b.data_segments_are)
     ∙ sym a.is

@@ -29,10 +29,10 @@ use Rattle.walrus_rules.proofs.OneStanding.{lists_stand}
 abbrev told_items : Text → Abstract
 told_items t = items_of (laid t) (map said t.bodies) t.producers
 
-abbrev told : Text → Abstract
+abbrev pub told : Text → Abstract
 told t = module_of (laid t) (map said t.bodies) t.producers (namings_of t.names)
 
-as_told : (t : Text) → said_by t ≡ told t
+pub as_told : (t : Text) → said_by t ≡ told t
 as_told t = ap (λ (m : wire.Module). module_of m (map said t.bodies) t.producers (namings_of t.names)) (laid_out t)
 
 -- ---- names: what is in range doesn't turn on names

@@ -43,14 +43,14 @@ reads_once_lem c bytes m n x y =
     let s : wire.Module = x.sections in
     let one : y.sections ≡ s = sym (one_record_lem bytes s y.sections x.framed y.framed) in
     let bodies : y.bodies ≡ x.bodies =
-        zip_once (ReadsBody c s) (body_once c s) (zip s.functions s.bodies) y.bodies x.bodies
-        (subst (λ (z : wire.Module). AllZip (ReadsBody c z) (zip z.functions z.bodies) y.bodies) one y.read) x.read in
+    zip_once (ReadsBody c s) (body_once c s) (zip s.functions s.bodies) y.bodies x.bodies
+    (subst (λ (z : wire.Module). AllZip (ReadsBody c z) (zip z.functions z.bodies) y.bodies) one y.read) x.read in
     let namings : y.namings ≡ x.namings =
-        zip_once (Names (is_function s)) (names_once_lem (is_function s)) (payloads (codes "name") s) y.namings x.namings
-        (subst (λ (z : wire.Module). AllZip (Names (is_function z)) (payloads (codes "name") z) y.namings) one y.named) x.named in
+    zip_once (Names (is_function s)) (names_once_lem (is_function s)) (payloads (codes "name") s) y.namings x.namings
+    (subst (λ (z : wire.Module). AllZip (Names (is_function z)) (payloads (codes "name") z) y.namings) one y.named) x.named in
     let fields : y.fields ≡ x.fields =
-        zip_once Fields fields_once_lem (payloads (codes "producers") s) y.fields x.fields
-        (subst (λ (z : wire.Module). AllZip Fields (payloads (codes "producers") z) y.fields) one y.produced) x.produced in
+    zip_once Fields fields_once_lem (payloads (codes "producers") s) y.fields x.fields
+    (subst (λ (z : wire.Module). AllZip Fields (payloads (codes "producers") z) y.fields) one y.produced) x.produced in
     let produced : List (List Field) → List ProducerField = λ fs. flat_map (map field_of) fs in
     let named : List (List Named) → List Named = λ ns. flat_map (λ xs. xs) ns in
     y.is

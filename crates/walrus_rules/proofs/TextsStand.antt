@@ -1,5 +1,5 @@
--- What was read has each abstract heap type by one of its bytes.
-use Rattle.std.proofs.Common.{◌≡◌, ℕ, ◌*◌, ◌+◌, true, List, [], ◌∷◌, ◌++◌, map, subst, sym, inl, inr}
+-- What was read has each abstract heap type by one of its bytes, and indices of locals below 2 ^ 32.
+use Rattle.std.proofs.Common.{◌≡◌, ℕ, ◌*◌, ◌+◌, ◌<◌, ◌^◌, true, List, [], ◌∷◌, ◌++◌, map, subst, sym, inl, inr}
 use Rattle.std.specs.Prelude.{Option, Some, None, flat_map, nat_lt}
 use Rattle.std.specs.List.{AllByRecursion}
 use Rattle.wasm_forms.specs.Grammar.{Form, Is, IsRow, Fails, ◌then◌, Led, Made, Where, U32}
@@ -16,11 +16,12 @@ use Rattle.wasm_operators.specs.Table.{kinds_of}
 use Rattle.wasm_operators.proofs.OneRead.{chosen, value_type_read, block_one, heap_one, access_one}
 use Rattle.walrus_bodies.specs.Body.{declarations}
 
--- each abstract heap type in it is spelled by one of its bytes
+-- each abstract heap type in it is spelled by one of its bytes, and an index of a local is below 2 ^ 32
 abbrev pub ArgGood : RawArg → Type 0
 ArgGood (raw.Value v) = value_spells v ≡ true
 ArgGood (raw.Heap h) = heap_spells h ≡ true
 ArgGood (raw.Block b) = block_spells b ≡ true
+ArgGood (raw.Local n) = n < 2 ^ 32
 ArgGood arg = Unit {0}
 
 abbrev pub ArgsGood : List RawArg → Type 0
@@ -104,7 +105,7 @@ kind_good kinds.Global bytes xs i = one_good xs (raw.Global i.0) i.1.0 tt
 kind_good kinds.Tag bytes xs i = one_good xs (raw.Tag i.0) i.1.0 tt
 kind_good kinds.Element bytes xs i = one_good xs (raw.Element i.0) i.1.0 tt
 kind_good kinds.Data bytes xs i = one_good xs (raw.Data i.0) i.1.0 tt
-kind_good kinds.Local bytes xs i = one_good xs (raw.Local i.0) i.1.0 tt
+kind_good kinds.Local bytes xs i = one_good xs (raw.Local i.0) i.1.0 i.1.1.small
 kind_good kinds.Number bytes xs i = one_good xs (raw.Number i.0) i.1.0 tt
 kind_good kinds.Byte bytes xs i = one_good xs (raw.Byte i.0) i.1.0 tt
 kind_good kinds.S32 bytes xs i = one_good xs (raw.S32 i.0) i.1.0 tt

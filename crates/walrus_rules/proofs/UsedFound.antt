@@ -1,6 +1,7 @@
 -- A well-formed body uses its parameters and at most 50,000 further locals.
 use Rattle.std.proofs.Common.{◌≡◌, ℕ, zero, suc, ◌+◌, ◌≤◌, List, [], ◌∷◌, ◌++◌, length, refl, sym, ap, ◌∙◌, subst, ⊎_elim, arith}
 use Rattle.std.specs.Prelude.{Option, Some, None, Contains, flat_map, slice_get, replicate}
+use Rattle.std.specs.List.{AllByRecursion}
 use Rattle.std.proofs.lemmas.List.{length-map}
 use Rattle.wasm_forms.specs.Reading.{◌>>=◌}
 use Rattle.wasm_forms.specs.declared.types.RawVal.{RawVal}
@@ -23,50 +24,68 @@ bound : {A B : Type 0} (o : Option A) (f : A → Option B) (y : B) → (o >>= f)
 bound (Some x) f y e = (x, refl, e)
 bound None f y e = absurd (cc)
 
-module _ (names : Lookup) (locals : ℕ → Option ℕ) where
+-- P holds of the numbers of locals that an argument, or operators, name
+module _ (P : ℕ → Type 0) where
+  abbrev pub ArgHolds : Arg → Type 0
+  ArgHolds (Local n) = P n
+  ArgHolds arg = Unit {0}
+
+  abbrev pub OpsHold : List Op → Type 0
+  OpsHold ops = AllByRecursion (λ (o : Op). AllByRecursion ArgHolds o.args) ops
+
+module _ (names : Lookup) (locals : ℕ → Option ℕ) (P : ℕ → Type 0) where
   abbrev Found : ℕ → Type 0
-  Found x = (n : ℕ) × (locals n ≡ Some x)
+  Found x = (n : ℕ) × (P n × (locals n ≡ Some x))
 
   nothing : {A : Type 0} (a b : Arg) (x : ℕ) → a ≡ b → arg_locals a ≡ [] → Contains (arg_locals b) x → A
   nothing a b x e none at = absurd (Contains-none x (subst (λ l. Contains l x) (ap arg_locals (sym e) ∙ none) at))
 
-  arg_found : (a b : Arg) → named_arg names locals a ≡ Some b → (x : ℕ) → Contains (arg_locals b) x → Found x
-  arg_found (Local n) b e x at =
+  arg_found : (a b : Arg) → ArgHolds P a → named_arg names locals a ≡ Some b → (x : ℕ) → Contains (arg_locals b) x → Found x
+  arg_found (Local n) b u e x at =
       let y = bound (locals n) (λ found. Some (Local found)) b e in
-      ⊎_elim (λ (is : y.0 ≡ x). (n, y.1 ∙ ap Some is)) (λ rest. absurd (Contains-none x rest)) (Contains-uncons y.0 x [] (subst (λ z. Contains (arg_locals z) x) (sym (some_same (Local y.0) b y.2)) at))
-  arg_found (Index z) b e x at = let y = bound (names z.0 z.1) (λ found. Some (Index (z.0, found))) b e in nothing (Index (z.0, y.0)) b x (some_same _ b y.2) refl at
-  arg_found (Value v) b e x at = let y = bound (named_val names v) (λ found. Some (Value found)) b e in nothing (Value y.0) b x (some_same _ b y.2) refl at
-  arg_found (Heap h) b e x at = let y = bound (named_heap names h) (λ found. Some (Heap found)) b e in nothing (Heap y.0) b x (some_same _ b y.2) refl at
-  arg_found (Block k) b e x at = let y = bound (named_block names k) (λ found. Some (Block found)) b e in nothing (Block y.0) b x (some_same _ b y.2) refl at
-  arg_found (Access flags memory offset) b e x at = let y = bound (names Memories memory) (λ found. Some (Access flags found offset)) b e in nothing (Access flags y.0 offset) b x (some_same _ b y.2) refl at
-  arg_found (Label n) b e x at = nothing (Label n) b x (some_same _ b e) refl at
-  arg_found (Number n) b e x at = nothing (Number n) b x (some_same _ b e) refl at
-  arg_found (Count n) b e x at = nothing (Count n) b x (some_same _ b e) refl at
-  arg_found (Byte n) b e x at = nothing (Byte n) b x (some_same _ b e) refl at
-  arg_found (S32 n) b e x at = nothing (S32 n) b x (some_same _ b e) refl at
-  arg_found (S64 n) b e x at = nothing (S64 n) b x (some_same _ b e) refl at
-  arg_found (Bits32 n) b e x at = nothing (Bits32 n) b x (some_same _ b e) refl at
-  arg_found (Bits64 n) b e x at = nothing (Bits64 n) b x (some_same _ b e) refl at
+      ⊎_elim (λ (is : y.0 ≡ x). (n, (u, y.1 ∙ ap Some is))) (λ rest. absurd (Contains-none x rest)) (Contains-uncons y.0 x [] (subst (λ z. Contains (arg_locals z) x) (sym (some_same (Local y.0) b y.2)) at))
+  arg_found (Index z) b u e x at = let y = bound (names z.0 z.1) (λ found. Some (Index (z.0, found))) b e in nothing (Index (z.0, y.0)) b x (some_same _ b y.2) refl at
+  arg_found (Value v) b u e x at = let y = bound (named_val names v) (λ found. Some (Value found)) b e in nothing (Value y.0) b x (some_same _ b y.2) refl at
+  arg_found (Heap h) b u e x at = let y = bound (named_heap names h) (λ found. Some (Heap found)) b e in nothing (Heap y.0) b x (some_same _ b y.2) refl at
+  arg_found (Block k) b u e x at = let y = bound (named_block names k) (λ found. Some (Block found)) b e in nothing (Block y.0) b x (some_same _ b y.2) refl at
+  arg_found (Access flags memory offset) b u e x at = let y = bound (names Memories memory) (λ found. Some (Access flags found offset)) b e in nothing (Access flags y.0 offset) b x (some_same _ b y.2) refl at
+  arg_found (Label n) b u e x at = nothing (Label n) b x (some_same _ b e) refl at
+  arg_found (Number n) b u e x at = nothing (Number n) b x (some_same _ b e) refl at
+  arg_found (Count n) b u e x at = nothing (Count n) b x (some_same _ b e) refl at
+  arg_found (Byte n) b u e x at = nothing (Byte n) b x (some_same _ b e) refl at
+  arg_found (S32 n) b u e x at = nothing (S32 n) b x (some_same _ b e) refl at
+  arg_found (S64 n) b u e x at = nothing (S64 n) b x (some_same _ b e) refl at
+  arg_found (Bits32 n) b u e x at = nothing (Bits32 n) b x (some_same _ b e) refl at
+  arg_found (Bits64 n) b u e x at = nothing (Bits64 n) b x (some_same _ b e) refl at
 
-  args_found : (xs ys : List Arg) → named_args names locals xs ≡ Some ys → (x : ℕ) → Contains (flat_map arg_locals ys) x → Found x
-  args_found [] ys e x at = absurd (Contains-none x (subst (λ l. Contains (flat_map arg_locals l) x) (sym (some_same [] ys e)) at))
-  args_found (a ∷ xs) ys e x at =
+  args_found : (xs ys : List Arg) → AllByRecursion (ArgHolds P) xs → named_args names locals xs ≡ Some ys → (x : ℕ) → Contains (flat_map arg_locals ys) x → Found x
+  args_found [] ys h e x at = absurd (Contains-none x (subst (λ l. Contains (flat_map arg_locals l) x) (sym (some_same [] ys e)) at))
+  args_found (a ∷ xs) ys h e x at =
       let y = bound (named_arg names locals a) (λ found. named_args names locals xs >>= λ others. Some (found ∷ others)) ys e in
       let z = bound (named_args names locals xs) (λ others. Some (y.0 ∷ others)) ys y.2 in
-      ⊎_elim (arg_found a y.0 y.1 x) (args_found xs z.0 z.1 x) (Contains-split x (arg_locals y.0) (flat_map arg_locals z.0) (subst (λ l. Contains (flat_map arg_locals l) x) (sym (some_same (y.0 ∷ z.0) ys z.2)) at))
+      ⊎_elim (arg_found a y.0 h.0 y.1 x) (args_found xs z.0 h.1 z.1 x) (Contains-split x (arg_locals y.0) (flat_map arg_locals z.0) (subst (λ l. Contains (flat_map arg_locals l) x) (sym (some_same (y.0 ∷ z.0) ys z.2)) at))
 
-  ops_found : (os ops : List Op) → named_ops names locals os ≡ Some ops → (x : ℕ) → Contains (locals_of ops) x → Found x
-  ops_found [] ops e x at = absurd (Contains-none x (subst (λ l. Contains (locals_of l) x) (sym (some_same [] ops e)) at))
-  ops_found (o ∷ os) ops e x at =
+  pub ops_found : (os ops : List Op) → OpsHold P os → named_ops names locals os ≡ Some ops → (x : ℕ) → Contains (locals_of ops) x → Found x
+  ops_found [] ops h e x at = absurd (Contains-none x (subst (λ l. Contains (locals_of l) x) (sym (some_same [] ops e)) at))
+  ops_found (o ∷ os) ops h e x at =
       let y = bound (named_op names locals o) (λ found. named_ops names locals os >>= λ others. Some (found ∷ others)) ops e in
       let z = bound (named_ops names locals os) (λ others. Some (y.0 ∷ others)) ops y.2 in
       let a = bound (named_args names locals o.args) (λ args. let p : Op = record { op = o.op; args = args } in Some p) y.0 y.1 in
       ⊎_elim
-      (λ here. args_found o.args a.0 a.1 x (subst (λ (p : Op). Contains (op_locals p) x) (sym (some_same _ y.0 a.2)) here))
-      (ops_found os z.0 z.1 x)
+      (λ here. args_found o.args a.0 h.0 a.1 x (subst (λ (p : Op). Contains (op_locals p) x) (sym (some_same _ y.0 a.2)) here))
+      (ops_found os z.0 h.1 z.1 x)
       (Contains-split x (op_locals y.0) (locals_of z.0) (subst (λ l. Contains (locals_of l) x) (sym (some_same (y.0 ∷ z.0) ops z.2)) at))
 
-many_long : (n : ℕ) (v : ValType ℕ) (rest : List (ValType ℕ)) → length (replicate n v ++ rest) ≡ n + length rest
+any_args : (args : List Arg) → AllByRecursion (ArgHolds (λ n. Unit {0})) args
+any_args [] = tt
+any_args (Local n ∷ args) = (tt, any_args args)
+any_args (arg ∷ args) = (tt, any_args args)
+
+any_ops : (ops : List Op) → OpsHold (λ n. Unit {0}) ops
+any_ops [] = tt
+any_ops (o ∷ ops) = (any_args o.args, any_ops ops)
+
+pub many_long : (n : ℕ) (v : ValType ℕ) (rest : List (ValType ℕ)) → length (replicate n v ++ rest) ≡ n + length rest
 many_long zero v rest = omega arith
 many_long (suc n) v rest = let h : length (replicate n v ++ rest) ≡ n + length rest = many_long n v rest in omega (arith, h)
 
@@ -86,8 +105,8 @@ module _ (c : Config) (m : Abstract) (ty : ℕ) (b : Body) (h : IsWellFormed c m
   -- what it uses is a parameter or a further local
   pub used_further : (x : ℕ) → IsUsed b x → (Contains b.parameters x → ⊥) → Contains h.further x
   used_further x used new =
-      let f = ops_found h.names (slice_get (b.parameters ++ h.further)) (ops_of h.read.operators.texts) b.operators h.read.operators.named x used in
-      ⊎_elim (λ at. absurd (new at)) (λ at. at) (Contains-split x b.parameters h.further (slice_in (b.parameters ++ h.further) f.0 x f.1))
+      let f = ops_found h.names (slice_get (b.parameters ++ h.further)) (λ n. Unit {0}) (ops_of h.read.operators.texts) b.operators (any_ops (ops_of h.read.operators.texts)) h.read.operators.named x used in
+      ⊎_elim (λ at. absurd (new at)) (λ at. at) (Contains-split x b.parameters h.further (slice_in (b.parameters ++ h.further) f.0 x f.1.1))
 
   pub few_further : length h.further ≤ 50_000
   few_further =

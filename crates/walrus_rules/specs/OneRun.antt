@@ -1,4 +1,4 @@
--- What is taken from elsewhere for the laws on one run (that bytes read as one module, and that what was read fits), and what these laws use.
+-- The laws on what bytes read as, and what the laws on one run rest on: bytes read as one module, which fits 32 bits.
 use Rattle.std.specs.Prelude.{ℕ, List, length, Some, Contains, ◌≡◌, ◌<◌, ◌≤◌, ◌+◌, ◌^◌}
 use Rattle.wasm_writer.specs.Spelling.{SectionFits}
 use Rattle.wasm_frames.specs.Frames.{Section}
@@ -13,7 +13,7 @@ use Rattle.walrus_model.specs.Config.{Config}
 use Rattle.walrus_model.specs.Pipeline.{Collected}
 use Rattle.walrus_model.specs.Rules.{Holds}
 use Rattle.walrus_rules.specs.Chain.{ParsedAs, AddsHandlers}
-use Rattle.walrus_rules.specs.Headline.{Reads, NotBoth}
+use Rattle.walrus_rules.specs.Headline.{Reads}
 use Rattle.walrus_rules.specs.Once.{Premises}
 use Rattle.walrus_rules.specs.Refused.{PassesLimit}
 use Rattle.walrus_rules.specs.Spelling.{IsSpelling, written_as}
@@ -51,7 +51,3 @@ ReadFits = (c : Config) (bytes : List ℕ) (n : Abstract) → Reads c bytes n �
 -- sections that are spelled and read again fit
 abbrev pub SpelledFits : Type 0
 SpelledFits = (c : Config) (n : Abstract) (t : Text) (s : Section) → IsSpelling n t → Reads c (written_as t) n → Contains (sections_of t) s → SectionFits s
-
--- no run may call too large what another may write
-abbrev pub NotBothHolds : Type 0
-NotBothHolds = ReadFits → SpelledFits → NotBoth

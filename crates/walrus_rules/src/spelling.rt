@@ -4,7 +4,8 @@ ghost use Rattle.std.specs.Prelude.{ℕ, List, ◌≡◌};
 ghost use Rattle.walrus_model.specs.Abstract.{Abstract};
 ghost use Rattle.walrus_rules.specs.Examples.{AreRefused, one_function, one_function_bytes};
 ghost use Rattle.walrus_rules.specs.Needs.{IsWrittenOnce};
-ghost use Rattle.walrus_rules.specs.OneRun.{ReadsOnce};
+ghost use Rattle.walrus_rules.specs.OneRun.{ReadFits, ReadsOnce, SpelledFits};
+ghost use Rattle.walrus_rules.specs.SpelledLaws.{SpelledReads};
 ghost use Rattle.walrus_rules.specs.Spelling.{IsSpelledAs, SpelledOnce};
 
 /// A module of one function is spelled and written so. Other bytes that read as the same module, or as one that differs
@@ -22,7 +23,16 @@ pub fn spelled_once()
     ensures bytes { (n : Abstract) (bytes others : List ℕ) → IsSpelledAs n bytes → IsSpelledAs n others → others ≡ bytes }
 {}
 
-/// No bytes read as two modules: sections, bodies, namings and producers are read in one way.
+/// No bytes read as two modules: sections, bodies, namings and producers are read in one way. What they read as has
+/// counts, limits and numbers of locals that 32 bits hold, since each entry takes bytes.
 pub fn reads_once()
-    ensures { ReadsOnce }
+    ensures once { ReadsOnce }
+    ensures fits { ReadFits }
+{}
+
+/// What is spelled reads back: sections that are spelled and read again fit; and the one spelling of a module reads as
+/// the module, where its sections fit, its bodies are well formed under the configuration's flags and it keeps the rules.
+pub fn spelled_reads()
+    ensures fits { SpelledFits }
+    ensures back { SpelledReads }
 {}

@@ -1,7 +1,7 @@
 //! The steps from the module that bytes read as to the one that is written.
 
-ghost use Rattle.walrus_rules.specs.Headline.{OneOutput, StepsComeOut};
-ghost use Rattle.walrus_rules.specs.OneRun.{HandlersLive, HandlersOnce, KeptLives, NotBothHolds};
+ghost use Rattle.walrus_rules.specs.Headline.{NotBoth, OneOutput, StepsComeOut};
+ghost use Rattle.walrus_rules.specs.OneRun.{HandlersLive, HandlersOnce, KeptLives};
 ghost use Rattle.walrus_rules.specs.WellMadeLaws.{BroughtLives};
 
 /// What is said of the steps (parsing, gc, the declared segment, writing) gives the relation between the module that was
@@ -18,7 +18,7 @@ pub fn one_run()
     ensures handlers_live { HandlersLive }
     ensures lives { KeptLives }
     ensures output { OneOutput }
-    ensures not_both { NotBothHolds }
+    ensures not_both { NotBoth }
 {}
 
 /// Nothing of what the steps bring a module to is named and not there.

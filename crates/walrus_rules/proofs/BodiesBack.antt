@@ -1,0 +1,216 @@
+-- What is spelled of bodies reads back, where they are well formed and the module keeps the rules.
+use Rattle.std.proofs.Common.{◌≡◌, ℕ, ◌+◌, ◌≤◌, ◌<◌, true, List, [], ◌∷◌, ◌++◌, length, map, zip, refl, sym, ap, subst, ◌∙◌, arith, length-append, inr, ⊎_elim}
+use Rattle.std.specs.Prelude.{Option, Some, None, IsSome, All, Contains, flat_map, replicate, slice_get, unwrap_or}
+use Rattle.std.specs.List.{AllByRecursion, AllZip}
+use Rattle.std.proofs.lemmas.List.{length-map}
+use Rattle.std.proofs.lemmas.List.FromFn.{length-range_with_len}
+use Rattle.std.proofs.lemmas.List.Elements.{All-head, All-tail, recursion_from_All}
+use Rattle.wasm_forms.specs.declared.types.RawVal.{RawVal}
+use Rattle.wasm_forms.specs.Grammar.{Is, IsRow}
+use Rattle.wasm_forms.specs.Spelling.{row_bytes}
+use Rattle.wasm_frames.specs.Record as wire
+use Rattle.wasm_operators.specs.Operators as wire_operators
+use Rattle.wasm_operators.specs.Forms.{operator}
+use Rattle.wasm_operators.specs.Spelling.{op_bytes}
+use Rattle.walrus_base.specs.Types.{ValType, val_names}
+use Rattle.walrus_types.specs.Operators.{Space, Types, Functions, Tables, Memories, Tags, Globals, Elements, DataSegments, Item, type_item, names_of, locals_of}
+use Rattle.walrus_code.specs.FromRaw.{val_of}
+use Rattle.walrus_code.specs.Names.{named_val}
+use Rattle.walrus_bodies.specs.Blocks.{are_nested, blocks_hold}
+use Rattle.walrus_bodies.specs.Body.{how_many}
+use Rattle.walrus_bodies.specs.Emitting.{AllStand}
+use Rattle.walrus_bodies.specs.Features.{are_allowed}
+use Rattle.walrus_bodies.specs.FunctionTypes.{is_function_def}
+use Rattle.walrus_functions.specs.EmittedBody.{declarations_bytes}
+use Rattle.walrus_functions.specs.Handlers.{params_of}
+use Rattle.walrus_functions.proofs.CountLemmas.{declarations_stand}
+use Rattle.walrus_groups.specs.Groups.{types_from}
+use Rattle.walrus_model.specs.Abstract.{Abstract, Body, Function, LocalFunction, FunctionKind}
+use Rattle.walrus_model.specs.Config.{Config}
+use Rattle.walrus_model.specs.Live.{IsLive}
+use Rattle.walrus_model.specs.Names.{body_of, body_of_kind, body_of_function}
+use Rattle.walrus_model.specs.Reads.{below, body_with}
+use Rattle.walrus_model.specs.Refers.{IsUsed, named_by, local_names, body_names, kind_names, function_names}
+use Rattle.walrus_model.specs.Rules.{Holds}
+use Rattle.walrus_model.proofs.Lists.{Contains-tail, Contains-none, Contains-uncons, Contains-append_1, Contains-append_2}
+use Rattle.walrus_model.proofs.PipelineOps.{from_map}
+use Rattle.walrus_rules.specs.Features.{features_of}
+use Rattle.walrus_rules.specs.Headline.{declared, ReadsBody}
+use Rattle.walrus_rules.specs.Sections.{types_of, imported, imported_function, imported_table, imported_memory, imported_tag, imported_global, function_of, table_of, memory_of, tag_of, global_of, element_of, data_of}
+use Rattle.walrus_rules.specs.Spelling.{BodyStands, UsesAll, NeedsCount, NamesData, IsCount, IsSpelling}
+use Rattle.walrus_rules.specs.SpelledLaws.{HasBodies}
+use Rattle.walrus_rules.specs.Text.{Text, BodyText, said, unplaced}
+use Rattle.walrus_rules.proofs.NamedBack.{IsFound, below_is, val_found, ops_named_back, types_named_back}
+use Rattle.walrus_rules.proofs.OneSections.{laid, later}
+use Rattle.walrus_rules.proofs.OneSpelling.{told}
+use Rattle.walrus_rules.proofs.ReadFits.{some_there, zip_short}
+use Rattle.walrus_rules.proofs.SpelledFits.{all_each, all_back}
+use Rattle.walrus_rules.proofs.UsedFound.{many_long}
+use Rattle.walrus_rules.proofs.UsedLocals.{behind}
+
+-- ---- one body
+
+row_is : (texts : List wire_operators.Op) → AllStand texts → IsRow (Is operator) (row_bytes op_bytes texts) texts
+row_is [] h = refl
+row_is (x ∷ xs) h = (op_bytes x, (row_bytes op_bytes xs, (refl, h.0, row_is xs h.1)))
+
+how_many_long : (ds : List (ℕ × RawVal)) → length (flat_map (λ d. replicate d.0 (val_of d.1)) ds) ≡ how_many ds
+how_many_long [] = refl
+how_many_long (d ∷ ds) = many_long d.0 (val_of d.1) (flat_map (λ e. replicate e.0 (val_of e.1)) ds) ∙ ap (λ n. d.0 + n) (how_many_long ds)
+
+as_few : (ds : List (ℕ × RawVal)) → AllByRecursion (λ (d : ℕ × RawVal). 0 < d.0) ds → length ds ≤ how_many ds
+as_few [] h = omega arith
+as_few (d ∷ ds) h = omega (arith, h.0, as_few ds h.1)
+
+-- what is known of a body: its operators' blocks and features, what it names, its locals
+pub record Knows (c : Config) (s : wire.Module) (b : Body) : Type 0 where
+  pub nested : are_nested b.operators ≡ true
+  pub allowed : are_allowed (features_of c) b.operators ≡ true
+  pub blocks : blocks_hold (λ t. is_function_def (types_of s t)) b.operators ≡ true
+  pub names : (y : Item) → Contains (names_of b.operators) y → IsFound (declared s) y
+  pub locals : (x : ℕ) → IsUsed b x → IsSome (b.local_type x)
+  pub types : (x : ℕ) (y : Item) → IsUsed b x → Contains (local_names b x) y → IsFound (declared s) y
+  pub few : b.declared ≤ 50_000
+  pub uses : UsesAll b
+
+module _ (c : Config) (s : wire.Module) (ty : ℕ) (x : BodyText) (stands : BodyStands x) (k : Knows c s (body_with (params_of (types_of s ty)) (said x))) where
+  abbrev params : List (ValType ℕ)
+  params = params_of (types_of s ty)
+
+  abbrev b : Body
+  b = body_with params (said x)
+
+  filled : AllByRecursion (λ (d : ℕ × RawVal). 0 < d.0) x.declarations
+  filled = recursion_from_All (λ (d : ℕ × RawVal). 0 < d.0) x.declarations stands.filled
+
+  small : how_many x.declarations ≤ 50_000
+  small = subst (λ n. n ≤ 50_000) (how_many_long x.declarations) k.few
+
+  long : length b.parameters ≡ length params
+  long = length-range_with_len 0 (length params)
+
+  used : (i : ℕ) (v : ValType ℕ) → slice_get (said x).0 i ≡ Some v → IsUsed b (length params + i)
+  used i v e =
+      let lt : i < length (said x).0 = some_there (said x).0 i (subst IsSome (sym e) refl) in
+      k.uses (length params + i) (omega (arith, long)) (omega (arith, long, lt))
+
+  type_at : (i : ℕ) (v : ValType ℕ) → slice_get (said x).0 i ≡ Some v → b.local_type (length params + i) ≡ Some v
+  type_at i v e = behind params (said x).0 i (length params + i) refl ∙ e
+
+  type_found : (i : ℕ) (v : ValType ℕ) → slice_get (said x).0 i ≡ Some v → named_val (declared s) v ≡ Some v
+  type_found i v e = val_found (declared s) v (λ y at. k.types (length params + i) y (used i v e) (subst (λ (o : Option (ValType ℕ)). Contains (named_by (λ w. map type_item (val_names w)) o) y) (sym (type_at i v e)) at))
+
+  local_in : (y : ℕ) → Contains (locals_of (said x).1) y → y < length params + length (said x).0
+  local_in y at = subst (λ n. y < n) (length-append params (said x).0) (some_there (params ++ (said x).0) y (k.locals y at))
+
+  pub body_back : ReadsBody c s (ty, unplaced x) (said x)
+  body_back = record {
+    front = declarations_bytes x.declarations;
+    back = row_bytes op_bytes x.operators;
+    parts = refl;
+    declared = x.declarations;
+    declares = declarations_stand x.declarations (omega (arith, small, as_few x.declarations filled)) (omega (arith, small)) stands.types;
+    few = small;
+    typed = types_named_back (declared s) x.declarations filled type_found;
+    operators = record {
+      texts = x.operators;
+      spelled = row_is x.operators stands.operators;
+      named = ops_named_back (declared s) (length params + length (said x).0) (said x).1 k.names local_in;
+      nested = k.nested;
+      allowed = k.allowed;
+      blocks = k.blocks;
+    };
+  }
+
+-- ---- all of them
+
+flat_in : {A B : Type 0} (f : A → List B) (xs : List A) (x : A) (y : B) → Contains xs x → Contains (f x) y → Contains (flat_map f xs) y
+flat_in f [] x y at has = absurd (Contains-none x at)
+flat_in f (z ∷ zs) x y at has = ⊎_elim
+    (λ (e : z ≡ x). Contains-append_1 y (f z) (flat_map f zs) (subst (λ w. Contains (f w) y) (sym e) has))
+    (λ rest. Contains-append_2 y (f z) (flat_map f zs) (flat_in f zs x y rest has))
+    (Contains-uncons z x zs at)
+
+kind_body : (k : FunctionKind) (b : Body) → k ≡ LocalFunction b → body_of_kind k ≡ Some b
+kind_body k b e = ap body_of_kind e
+
+module _ (c : Config) (t : Text) (spells : IsSpelling (told t) t) where
+  abbrev s : wire.Module
+  s = laid t
+
+  abbrev m : Abstract
+  m = told t
+
+  pub both_in : {X Y : Type 0} (xs : List X) (make : Y → X) (ys : List Y) (i : ℕ) → IsSome (slice_get (xs ++ map make ys) i) → i < length xs + length ys
+  both_in xs make ys i there = omega (arith, some_there (xs ++ map make ys) i there, length-append xs (map make ys), length-map ys make)
+
+  pub zipped : length (zip t.functions (map said t.bodies)) ≤ length t.functions
+  zipped = omega (arith, zip_short t.functions (map said t.bodies), length-map t.bodies said, spells.as_many_bodies)
+
+  counted : (o : Option ℕ) (d : ℕ) → IsCount m (length t.data_segments) o → NeedsCount m → d < length t.data_segments → below (unwrap_or (later o None) 0) d ≡ Some d
+  counted None d h needs lt = absurd (h needs)
+  counted (Some k) d h needs lt = below_is k d (omega (arith, h.1, lt))
+
+  live_found : (y : Item) → IsLive m y → (y.0 ≡ DataSegments → NeedsCount m) → IsFound (declared s) y
+  live_found (Types, i) h d = below_is (length (types_from 0 t.types)) i (some_there (types_from 0 t.types) i h)
+  live_found (Functions, i) h d = below_is (length (imported imported_function 0 t.imports) + length t.functions) i (omega (arith, both_in (imported imported_function 0 t.imports) (function_of s) (zip t.functions (map said t.bodies)) i h, zipped))
+  live_found (Tables, i) h d = below_is (length (imported imported_table 0 t.imports) + length t.tables) i (both_in (imported imported_table 0 t.imports) table_of t.tables i h)
+  live_found (Memories, i) h d = below_is (length (imported imported_memory 0 t.imports) + length t.memories) i (both_in (imported imported_memory 0 t.imports) memory_of t.memories i h)
+  live_found (Tags, i) h d = below_is (length (imported imported_tag 0 t.imports) + length t.tags) i (both_in (imported imported_tag 0 t.imports) tag_of t.tags i h)
+  live_found (Globals, i) h d = below_is (length (imported imported_global 0 t.imports) + length t.globals) i (both_in (imported imported_global 0 t.imports) global_of t.globals i h)
+  live_found (Elements, i) h d = below_is (length t.elements) i (omega (arith, some_there (map element_of t.elements) i h, length-map t.elements element_of))
+  live_found (DataSegments, i) h d = counted t.data_count i spells.data_count (d refl) (omega (arith, some_there (map data_of t.data_segments) i h, length-map t.data_segments data_of))
+
+module _ (c : Config) (t : Text) (spells : IsSpelling (told t) t) (holds : Holds (told t)) (formed : HasBodies c (told t)) where
+  abbrev w : wire.Module
+  w = laid t
+
+  abbrev n : Abstract
+  n = told t
+
+  abbrev Fine : Function → Type 0
+  Fine g = (b : Body) → g.kind ≡ LocalFunction b → Knows c w b
+
+  known : (f : ℕ) (g : Function) → n.functions f ≡ Some g → Fine g
+  known f g at b is =
+      let formed_b = formed f g b at is in
+      let here : body_of n f ≡ Some b = ap body_of_function at ∙ kind_body g.kind b is in
+      let live : (y : Item) → Contains (body_names b) y → IsLive n y = λ y has. holds.indices.written (Functions, f) y
+      (subst (λ (o : Option Function). Contains (named_by function_names o) y) (sym at)
+      (Contains-tail (type_item g.ty) y (kind_names g.kind) (subst (λ (k : FunctionKind). Contains (kind_names k) y) (sym is) has))) in
+      record {
+        nested = formed_b.read.operators.nested;
+        allowed = formed_b.read.operators.allowed;
+        blocks = formed_b.read.operators.blocks;
+        names = λ y has. live_found c t spells y (live y (Contains-append_1 y (names_of b.operators) (flat_map (local_names b) (locals_of b.operators)) has))
+            (λ is_data. inr (f, (y.1, subst (λ (o : Option Body). NamesData o y.1) (sym here) (subst (λ (z : Space). Contains (names_of b.operators) (z, y.1)) is_data has))));
+        locals = λ x u. holds.indices.locals f b x here u;
+        types = λ x y u has. live_found c t spells y (live y (Contains-append_2 y (names_of b.operators) (flat_map (local_names b) (locals_of b.operators)) (in_flat b x y u has)))
+            (λ is_data. absurd (no_data (b.local_type x) y has is_data));
+        few = holds.locals f b here;
+        uses = spells.used f b here;
+      }
+    where
+      in_flat : (d : Body) (x : ℕ) (y : Item) → IsUsed d x → Contains (local_names d x) y → Contains (flat_map (local_names d) (locals_of d.operators)) y
+      in_flat d x y u has = flat_in (local_names d) (locals_of d.operators) x y u has
+
+      no_data : (o : Option (ValType ℕ)) (y : Item) → Contains (named_by (λ v. map type_item (val_names v)) o) y → y.0 ≡ DataSegments → ⊥
+      no_data None y has e = absurd (Contains-none y has)
+      no_data (Some v) y has e =
+          let from = from_map type_item y (val_names v) has in
+          let same : Types ≡ DataSegments = ap (λ (z : Item). z.0) from.2 ∙ e in
+          cc
+
+  on_all : (fs : List ℕ) (xs : List BodyText) → All BodyStands xs → AllByRecursion Fine (map (function_of w) (zip fs (map said xs))) → length xs ≡ length fs → AllZip (ReadsBody c w) (zip fs (map unplaced xs)) (map said xs)
+  on_all [] [] stands h e = tt
+  on_all [] (x ∷ xs) stands h e = absurd (omega (arith, e))
+  on_all (f ∷ fs) [] stands h e = tt
+  on_all (f ∷ fs) (x ∷ xs) stands h e =
+      (body_back c w f x (All-head BodyStands x xs stands) (h.0 (body_with (params_of (types_of w f)) (said x)) refl), on_all fs xs (All-tail BodyStands x xs stands) h.1 (omega (arith, e)))
+
+  pub bodies_back : AllZip (ReadsBody c w) (zip t.functions (map unplaced t.bodies)) (map said t.bodies)
+  bodies_back =
+      on_all t.functions t.bodies spells.bodies
+      (all_back Fine (imported imported_function 0 t.imports) (map (function_of w) (zip t.functions (map said t.bodies)))
+      (all_each Fine (imported imported_function 0 t.imports ++ map (function_of w) (zip t.functions (map said t.bodies))) known))
+      spells.as_many_bodies

@@ -1,0 +1,9 @@
+use Rattle.walrus_rules.proofs.SpelledFits as spelled
+use Rattle.walrus_rules.proofs.SpelledReads as back
+use Rattle.walrus_rules.proofs.spelling.spelled_reads.Goals as goal
+
+pub returns-clause-fits : goal.returns-clause-fits
+returns-clause-fits c = spelled.spelled_fits
+
+pub returns-clause-back : goal.returns-clause-back
+returns-clause-back c = back.spelled_reads
