@@ -49,7 +49,8 @@ fn empty_unless<T>(is_kept: bool, places: &mut Vec<Option<T>>, place: usize)
 where
     T: Drop,
     requires { place < length places.old.items }
-    ensures { places.new.items ≡ (if is_kept then places.old.items else slice_set places.old.items place None) }
+    ensures { places.new.items
+        ≡ (if is_kept then places.old.items else slice_set places.old.items place None) }
 {
     if !is_kept {
         places[place] = None;

@@ -8,8 +8,8 @@ use std::alloc::{AllocError, Global};
 use std::collections::BTreeMap;
 use walrus_base::TypeId;
 
-/// For each type of functions the ids of types that once were this type, in the order in which they came: each that is there is
-/// among them, but for those that name themselves.
+/// For each type of functions the ids of types that once were this type, in the order in which they came. Each that is there
+/// is among them, but for those that name themselves.
 #[derive(Drop)]
 pub(crate) struct FunctionIndex {
     ids: BTreeMap<FunctionType, Vec<TypeId>>,
@@ -42,7 +42,8 @@ impl FunctionIndex {
 
     /// Puts an id behind those under this type of functions. Where memory runs out, what was there stays.
     pub(crate) fn note(&mut self, function: &FunctionType, id: TypeId) -> Result<(), AllocError>
-        ensures stays { (q : _) → MayEndIn (function_type q ≡ function_type function.now) (places_at self.old q) (place id) (places_at self.new q) }
+        ensures stays { (q : _) → MayEndIn (function_type q ≡ function_type function.now)
+            (places_at self.old q) (place id) (places_at self.new q) }
         ensures noted { OnOk result ((q : _) → function_type q ≡ function_type function.now → IsTrue (has (places_at self.new q) (place id))) }
     {
         match self.ids.get_mut(function) {

@@ -68,10 +68,11 @@ impl ModuleTypes {
         Ok(ids)
     }
 
-    /// Adds a group of these members, and answers their ids: the next ones, in order. None has a name. An empty list adds nothing.
-    /// Where memory runs out, the members are dropped and nothing changes.
+    /// Adds a group of these members, and answers their ids: the next ones, in order. None has a name. An empty list adds
+    /// nothing. Where memory runs out, the members are dropped and nothing changes.
     pub fn add_group(&mut self, members: Vec<NewType>) -> Result<GroupIds, AllocError>
-        ensures ids { IfOk result (λ ids. ids_left ids ≡ range_with_len (length (type_slots self.old)) (length members.items)) }
+        ensures ids { IfOk result (λ ids. ids_left ids
+            ≡ range_with_len (length (type_slots self.old)) (length members.items)) }
         ensures slots { MatchResult result
             (λ _. type_slots self.new ≡ type_slots self.old ++ new_group (length (type_slots self.old)) members.items)
             (λ _. type_slots self.new ≡ type_slots self.old) }
@@ -86,8 +87,9 @@ impl ModuleTypes {
         Ok(GroupIds::between(first, self.places.len()))
     }
 
-    /// The id of a final type of functions with these parameters and results that is alone in its group, has no supertype and
-    /// doesn't name itself. The first that is there already is answered; else it is added. Where memory runs out, nothing changes.
+    /// The id of a final type of functions with these parameters and results that is alone in its group, has no supertype
+    /// and doesn't name itself. The first that is there already is answered; else it is added. Where memory runs out, nothing
+    /// changes.
     pub fn add(&mut self, params: &[ValType], results: &[ValType]) -> Result<TypeId, AllocError>
         ensures { MatchResult result
             (λ id. FoundOrAdded (function_of params.now results.now) (type_slots self.old) (type_slots self.new) (type_names self.old) (type_names self.new) (place id))
@@ -158,7 +160,8 @@ impl ModuleTypes {
         clear(&mut self.places, first, end);
     }
 
-    /// Deletes every type whose id isn't in the set, which holds groups whole. The others stay, and so do all places. Takes no memory.
+    /// Deletes every type whose id isn't in the set, which holds groups whole. The others stay, and so do all places.
+    /// Takes no memory.
     pub fn keep_only(&mut self, marks: &IdHashSet<TypeKey>)
         requires { KeepsGroups (has_id marks.now) (type_slots self.old) }
         ensures slots { type_slots self.new ≡ kept_by (has_id marks.now) (type_slots self.old) }

@@ -81,7 +81,8 @@ pub(crate) fn rename(places: &mut Vec<Option<Type>>, place: usize, name: Option<
     }
 }
 
-// Puts the type into the index, if it is the only one of its group and a final type of functions without supertype that doesn't name itself.
+// Puts the type into the index, if it is the only one of its group and a final type of functions without supertype that
+// doesn't name itself.
 pub(crate) fn note_alone(
     index: &mut FunctionIndex,
     added: &[Option<Type>],
@@ -106,9 +107,10 @@ fn note_apart(
     function: &FunctionType,
     id: TypeId,
 ) -> Result<(), AllocError>
-    ensures stays { (q : _) → MayEndIn (NamesNot (function_type q) (place id)) (places_at index.old q) (place id) (places_at index.new q) }
-    ensures noted { OnOk result ((q : _) → function_type q ≡ function_type function.now → NamesNot (function_type q) (place id)
-        → IsTrue (has (places_at index.new q) (place id))) }
+    ensures stays { (q : _) → MayEndIn (NamesNot (function_type q) (place id))
+        (places_at index.old q) (place id) (places_at index.new q) }
+    ensures noted { OnOk result ((q : _) → function_type q ≡ function_type function.now
+        → NamesNot (function_type q) (place id) → IsTrue (has (places_at index.new q) (place id))) }
 {
     if names_type(function, id) {
         return Ok(());
