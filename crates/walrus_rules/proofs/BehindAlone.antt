@@ -2,15 +2,13 @@
 use Rattle.std.proofs.Common.{◌≡◌, ℕ, zero, suc, ◌<◌, ◌≤◌, List, [], ◌∷◌, ◌++◌, length, refl, sym, ap, ◌∙◌, subst, inl, inr, ⊎_elim, ◌⊎◌, arith}
 use Rattle.std.proofs.lemmas.Option.{slice_get_within}
 use Rattle.std.specs.Prelude.{Some, slice_get, Contains}
+use Rattle.wasm_forms.proofs.Bind.{some_same}
 use Rattle.walrus_base.specs.Types.{CompType}
 use Rattle.walrus_model.specs.Abstract.{Abstract, TypeDef}
 use Rattle.walrus_model.specs.Names.{body_of}
 use Rattle.walrus_rules.specs.Chain.{alone, FoundOrAdded, Found, Added, AreFoundOrAdded, NoMore, AndThen, AddsHandlers, NoFunction, AndThose, handlers_by}
 use Rattle.walrus_model.proofs.Lists.{Contains-head, Contains-tail}
 use Rattle.walrus_rules.proofs.StepHandlers.{AllBelow, Below}
-
-some_same : {X : Type 0} (x y : X) → Some x ≡ Some y → x ≡ y
-some_same x y e = cc
 
 at_seam : {X : Type 0} (xs : List X) (z : X) (j : ℕ) (y : X) → slice_get (xs ++ z ∷ []) j ≡ Some y → (slice_get xs j ≡ Some y) ⊎ ((j ≡ length xs) × (z ≡ y))
 at_seam [] z zero y e = inr (refl, some_same z y e)

@@ -1,5 +1,5 @@
 -- What is spelled of bodies reads back, where they are well formed and the module keeps the rules.
-use Rattle.std.proofs.Common.{◌≡◌, ℕ, ◌+◌, ◌≤◌, ◌<◌, true, List, [], ◌∷◌, ◌++◌, length, map, zip, refl, sym, ap, subst, ◌∙◌, arith, length-append, inr, ⊎_elim}
+use Rattle.std.proofs.Common.{◌≡◌, ℕ, ◌+◌, ◌≤◌, ◌<◌, true, List, [], ◌∷◌, ◌++◌, length, map, zip, refl, sym, ap, subst, ◌∙◌, arith, length-append, inr}
 use Rattle.std.specs.Prelude.{Option, Some, None, IsSome, All, Contains, flat_map, replicate, slice_get, unwrap_or}
 use Rattle.std.specs.List.{AllByRecursion, AllZip}
 use Rattle.std.proofs.lemmas.List.{length-map}
@@ -32,7 +32,7 @@ use Rattle.walrus_model.specs.Names.{body_of, body_of_kind, body_of_function}
 use Rattle.walrus_model.specs.Reads.{below, body_with}
 use Rattle.walrus_model.specs.Refers.{IsUsed, named_by, local_names, body_names, kind_names, function_names}
 use Rattle.walrus_model.specs.Rules.{Holds}
-use Rattle.walrus_model.proofs.Lists.{Contains-tail, Contains-none, Contains-uncons, Contains-append_1, Contains-append_2}
+use Rattle.walrus_model.proofs.Lists.{Contains-tail, Contains-none, Contains-append_1, Contains-append_2}
 use Rattle.walrus_model.proofs.PipelineOps.{from_map}
 use Rattle.walrus_rules.specs.Features.{features_of}
 use Rattle.walrus_rules.specs.Headline.{declared, ReadsBody}
@@ -45,6 +45,7 @@ use Rattle.walrus_rules.proofs.OneSections.{laid, later}
 use Rattle.walrus_rules.proofs.OneSpelling.{told}
 use Rattle.walrus_rules.proofs.ReadFits.{some_there, zip_short}
 use Rattle.walrus_rules.proofs.SpelledFits.{all_each, all_back}
+use Rattle.walrus_rules.proofs.TypesAlike.{Contains-flat_map}
 use Rattle.walrus_rules.proofs.UsedFound.{many_long}
 use Rattle.walrus_rules.proofs.UsedLocals.{behind}
 
@@ -124,13 +125,6 @@ module _ (c : Config) (s : wire.Module) (ty : ℕ) (x : BodyText) (stands : Body
 
 -- ---- all of them
 
-flat_in : {A B : Type 0} (f : A → List B) (xs : List A) (x : A) (y : B) → Contains xs x → Contains (f x) y → Contains (flat_map f xs) y
-flat_in f [] x y at has = absurd (Contains-none x at)
-flat_in f (z ∷ zs) x y at has = ⊎_elim
-    (λ (e : z ≡ x). Contains-append_1 y (f z) (flat_map f zs) (subst (λ w. Contains (f w) y) (sym e) has))
-    (λ rest. Contains-append_2 y (f z) (flat_map f zs) (flat_in f zs x y rest has))
-    (Contains-uncons z x zs at)
-
 kind_body : (k : FunctionKind) (b : Body) → k ≡ LocalFunction b → body_of_kind k ≡ Some b
 kind_body k b e = ap body_of_kind e
 
@@ -192,7 +186,7 @@ module _ (c : Config) (t : Text) (spells : IsSpelling (told t) t) (holds : Holds
       }
     where
       in_flat : (d : Body) (x : ℕ) (y : Item) → IsUsed d x → Contains (local_names d x) y → Contains (flat_map (local_names d) (locals_of d.operators)) y
-      in_flat d x y u has = flat_in (local_names d) (locals_of d.operators) x y u has
+      in_flat d x y u has = Contains-flat_map (local_names d) (locals_of d.operators) x y u has
 
       no_data : (o : Option (ValType ℕ)) (y : Item) → Contains (named_by (λ v. map type_item (val_names v)) o) y → y.0 ≡ DataSegments → ⊥
       no_data None y has e = absurd (Contains-none y has)

@@ -20,15 +20,12 @@ use Rattle.walrus_model.specs.Abstract.{Name, ProducerValue, ProducerField}
 use Rattle.walrus_rules.specs.Namings.{subsection, space_of}
 use Rattle.walrus_rules.specs.Spelling.{NameStands, ValueIsText, FieldIsText}
 use Rattle.walrus_rules.specs.Text.{NameMap, NameText, entry_bytes, map_bytes, function_bytes, part_bytes, module_name_bytes, space_bytes, further_spaces, names_bytes, module_naming, space_namings, function_namings, namings_of, value_bytes, field_bytes}
-use Rattle.walrus_rules.proofs.SpelledFits.{number_long, block_long, vector_fits, small}
+use Rattle.walrus_rules.proofs.SpelledFits.{number_long, block_long, vector_fits, small, behind_less}
 
 -- ---- lengths of parts
 
 left_less : (xs ys : List ℕ) (top : ℕ) → length (xs ++ ys) < top → length xs < top
 left_less xs ys top lt = omega (arith, length-append xs ys, lt)
-
-right_less : (xs ys : List ℕ) (top : ℕ) → length (xs ++ ys) < top → length ys < top
-right_less xs ys top lt = omega (arith, length-append xs ys, lt)
 
 inner_less : (xs : List ℕ) (top : ℕ) → length (block_bytes xs) < top → length xs < top
 inner_less xs top lt = omega (arith, block_long xs, lt)
@@ -85,7 +82,7 @@ value_is v h lt = (
     (
       refl,
       name_stands v.name h.0 (inner_less v.name (2 ^ 32) (left_less (block_bytes v.name) (block_bytes v.version) (2 ^ 32) lt)),
-      name_stands v.version h.1 (inner_less v.version (2 ^ 32) (right_less (block_bytes v.name) (block_bytes v.version) (2 ^ 32) lt)),
+      name_stands v.version h.1 (inner_less v.version (2 ^ 32) (behind_less (block_bytes v.name) (block_bytes v.version) (2 ^ 32) lt)),
     ),
   ),
 )
@@ -102,7 +99,7 @@ field_is f h lt = (
       refl,
       name_stands f.name h.0 (inner_less f.name (2 ^ 32) (left_less (block_bytes f.name) (vector_bytes value_bytes f.values) (2 ^ 32) lt)),
       vector_stands value value_bytes raw_value (λ v. Is value (value_bytes v) (raw_value v)) (λ v is. is) f.values
-          (vector_fits value_bytes value_long ValueIsText (λ v. Is value (value_bytes v) (raw_value v)) (2 ^ 32) value_is f.values small (recursion_from_All ValueIsText f.values h.1) (right_less (block_bytes f.name) (vector_bytes value_bytes f.values) (2 ^ 32) lt)),
+          (vector_fits value_bytes value_long ValueIsText (λ v. Is value (value_bytes v) (raw_value v)) (2 ^ 32) value_is f.values small (recursion_from_All ValueIsText f.values h.1) (behind_less (block_bytes f.name) (vector_bytes value_bytes f.values) (2 ^ 32) lt)),
     ),
   ),
 )
@@ -126,7 +123,7 @@ EntryStands e = (e.0 < 2 ^ 32) × IsUtf8 e.1
 
 entry_is : (e : ℕ × Name) → EntryStands e → length (entry_bytes e) < 2 ^ 32 → Is (U32 then name) (entry_bytes e) e
 entry_is e h lt =
-    (number_bytes e.0, (block_bytes e.1, (refl, number_stands e.0 h.0, name_stands e.1 h.1 (inner_less e.1 (2 ^ 32) (right_less (number_bytes e.0) (block_bytes e.1) (2 ^ 32) lt)))))
+    (number_bytes e.0, (block_bytes e.1, (refl, number_stands e.0 h.0, name_stands e.1 h.1 (inner_less e.1 (2 ^ 32) (behind_less (number_bytes e.0) (block_bytes e.1) (2 ^ 32) lt)))))
 
 map_back : (make : ℕ → List ℕ → Named) (rest : List ℕ) (es : NameMap) → AllByRecursion EntryStands es → length (map_bytes es) < 2 ^ 32 → payload.NameMap make (map_bytes es ++ rest) (map (λ e. make e.0 e.1) es) (Some rest)
 map_back make rest es h lt =
@@ -229,8 +226,8 @@ module _ (known : ℕ → Bool) where
             more,
             (
               refl,
-              inl (f.0, (number_bytes f.0, (map_bytes f.1 ++ more, (parts, (number_stands f.0 h.0.0, h.0.1.0), map_back (LocalName f.0) more f.1 h.0.1.1 (right_less (number_bytes f.0) (map_bytes f.1) (2 ^ 32) head))))),
-              times_functions rest fs h.1 (right_less (function_bytes f) (row_bytes function_bytes fs) (2 ^ 32) lt),
+              inl (f.0, (number_bytes f.0, (map_bytes f.1 ++ more, (parts, (number_stands f.0 h.0.0, h.0.1.0), map_back (LocalName f.0) more f.1 h.0.1.1 (behind_less (number_bytes f.0) (map_bytes f.1) (2 ^ 32) head))))),
+              times_functions rest fs h.1 (behind_less (function_bytes f) (row_bytes function_bytes fs) (2 ^ 32) lt),
             ),
           ),
         ),
@@ -249,7 +246,7 @@ module _ (known : ℕ → Bool) where
       let all : List (ℕ × NameMap) = f ∷ fs in
       let inside : length (vector_bytes function_bytes all) < 2 ^ 32 = inner_less (vector_bytes function_bytes all) (2 ^ 32) (omega (arith, lt)) in
       let few = vector_fits function_bytes function_long (λ x. Unit {0}) (λ x. Unit {0}) (2 ^ 32) (λ x u l. tt) all small (anything all) inside in
-      let row = right_less (number_bytes (length all)) (row_bytes function_bytes all) (2 ^ 32) inside in
+      let row = behind_less (number_bytes (length all)) (row_bytes function_bytes all) (2 ^ 32) inside in
       one_piece 2 (vector_bytes function_bytes all) (flat_map function_namings all) inside
       (inl (
         length all,
@@ -274,7 +271,7 @@ module _ (known : ℕ → Bool) where
     spaces_end (s ∷ ss) lt =
         in_front (space_bytes t s) (row_bytes (space_bytes t) ss) (space_namings t s) (flat_map (space_namings t) ss)
         (items_piece s (t.items s) (items s) (left_less (space_bytes t s) (row_bytes (space_bytes t) ss) (2 ^ 32) lt))
-        (spaces_end ss (right_less (space_bytes t s) (row_bytes (space_bytes t) ss) (2 ^ 32) lt))
+        (spaces_end ss (behind_less (space_bytes t s) (row_bytes (space_bytes t) ss) (2 ^ 32) lt))
 
     pub names_back : Names known (names_bytes t) (namings_of t)
     names_back =
@@ -288,9 +285,9 @@ module _ (known : ℕ → Bool) where
         let nb : List Named = space_namings t spaces.Functions in
         let nc : List Named = flat_map function_namings t.locals in
         let nd : List Named = flat_map (space_namings t) further_spaces in
-        let last = spaces_end further_spaces (right_less (a ++ b ++ c) d (2 ^ 32) fits) in
-        let third = in_front c d nc nd (functions_piece t.locals locals (right_less (a ++ b) c (2 ^ 32) abc)) last in
-        let second = in_front b (c ++ d) nb (nc ++ nd) (items_piece spaces.Functions (t.items spaces.Functions) (items spaces.Functions) (right_less a b (2 ^ 32) ab)) third in
+        let last = spaces_end further_spaces (behind_less (a ++ b ++ c) d (2 ^ 32) fits) in
+        let third = in_front c d nc nd (functions_piece t.locals locals (behind_less (a ++ b) c (2 ^ 32) abc)) last in
+        let second = in_front b (c ++ d) nb (nc ++ nd) (items_piece spaces.Functions (t.items spaces.Functions) (items spaces.Functions) (behind_less a b (2 ^ 32) ab)) third in
         let first = in_front a (b ++ (c ++ d)) na (nb ++ (nc ++ nd)) (module_piece t.module_name named (left_less a b (2 ^ 32) ab)) second in
         let bytes : names_bytes t ≡ a ++ (b ++ (c ++ d)) = append_assoc (a ++ b) c d ∙ append_assoc a b (c ++ d) in
         let namings : namings_of t ≡ na ++ (nb ++ (nc ++ nd)) = append_assoc (na ++ nb) nc nd ∙ append_assoc na nb (nc ++ nd) in

@@ -1,6 +1,6 @@
 -- Sections that are spelled and read again fit.
-use Rattle.std.proofs.Common.{◌≡◌, ℕ, zero, suc, ◌+◌, ◌-◌, ◌*◌, ◌/◌, ◌%◌, ◌≤◌, ◌<◌, ◌^◌, Bool, true, false, List, [], ◌∷◌, ◌++◌, length, map, refl, sym, ap, subst, ◌∙◌, arith, ltb, ltb-true, ltb-false, inl, inr, length-append, append_assoc, ⊎_elim}
-use Rattle.std.specs.Prelude.{Option, Some, None, Contains, slice_get, option_to_list, codes}
+use Rattle.std.proofs.Common.{◌≡◌, ℕ, zero, suc, ◌+◌, ◌-◌, ◌*◌, ◌/◌, ◌%◌, ◌≤◌, ◌<◌, ◌^◌, Bool, true, false, List, [], ◌∷◌, ◌++◌, length, map, refl, sym, ap, subst, ◌∙◌, arith, ltb, ltb-true, ltb-false, inl, inr, length-append, append_assoc}
+use Rattle.std.specs.Prelude.{Option, Some, None, slice_get, option_to_list, codes}
 use Rattle.std.specs.List.{AllByRecursion}
 use Rattle.wasm_forms.specs.declared.types.RawHeap.{RawHeap}
 use Rattle.wasm_forms.specs.declared.types.RawHeap.TheVariants as heaps
@@ -29,13 +29,13 @@ use Rattle.wasm_frames.specs.Frames as frames
 use Rattle.wasm_frames.specs.Frames.{Section, CustomSection, id_of, IsSection, AreSections, header}
 use Rattle.wasm_writer.specs.Spelling.{tag_bytes, content_bytes, spelled, all_spelled, EntriesFit}
 use Rattle.walrus_model.specs.Abstract.{Abstract, Table, Memory}
-use Rattle.walrus_model.proofs.Lists.{Contains-none, Contains-uncons}
 use Rattle.walrus_rules.specs.OneRun.{Fits, SpelledFits}
 use Rattle.walrus_rules.specs.Refused.{PassesLimit}
 use Rattle.walrus_rules.specs.Sections.{limits_of, imported, imported_table, imported_memory, table_of, memory_of}
 use Rattle.walrus_rules.specs.Spelling.{written_as}
 use Rattle.walrus_rules.specs.Text.{Text, listed, if_some, custom, sections_of, unplaced, names_bytes, field_bytes as producer_bytes}
 use Rattle.walrus_rules.proofs.OneSpelling.{told, as_told}
+use Rattle.walrus_rules.proofs.PlainTypes.{each_in}
 use Rattle.walrus_rules.proofs.ReadFits.{read_fits}
 use Rattle.walrus_rules.proofs.TextShaped.{all_append}
 
@@ -240,8 +240,8 @@ export_fits e lt = omega (arith, lt, length-append (block_bytes e.name) (kind_by
 export_long : (e : entries.Export) → 1 ≤ length (export_bytes e)
 export_long e = omega (arith, length-append (block_bytes e.name) (kind_byte e.kind ∷ number_bytes e.index), block_long e.name)
 
-behind : (front back : List ℕ) (top : ℕ) → length (front ++ back) < top → length back < top
-behind front back top lt = omega (arith, lt, length-append front back)
+pub behind_less : (front back : List ℕ) (top : ℕ) → length (front ++ back) < top → length back < top
+behind_less front back top lt = omega (arith, lt, length-append front back)
 
 fewer : (n top : ℕ) → suc n < top → n < top
 fewer n top lt = omega (arith, lt)
@@ -250,14 +250,14 @@ abbrev FunctionsFit : List ℕ → Type 0
 FunctionsFit fs = length (vector_bytes number_bytes fs) < 2 ^ 32
 
 element_fits : (m : ElementMode) (i : Items) → length (element_spelled m i) < 2 ^ 32 → ItemsFit i
-element_fits (ActiveElements None offset) (entries.Functions fs) lt = length_fits number_bytes number_long fs (behind (expression_bytes offset) _ _ (fewer _ _ lt))
+element_fits (ActiveElements None offset) (entries.Functions fs) lt = length_fits number_bytes number_long fs (behind_less (expression_bytes offset) _ _ (fewer _ _ lt))
 element_fits PassiveElements (entries.Functions fs) lt = length_fits number_bytes number_long fs (fewer _ _ (fewer _ _ lt))
-element_fits (ActiveElements (Some table) offset) (entries.Functions fs) lt = length_fits number_bytes number_long fs (fewer _ _ (behind (number_bytes table ++ expression_bytes offset) _ _ (fewer _ _ lt)))
+element_fits (ActiveElements (Some table) offset) (entries.Functions fs) lt = length_fits number_bytes number_long fs (fewer _ _ (behind_less (number_bytes table ++ expression_bytes offset) _ _ (fewer _ _ lt)))
 element_fits DeclaredElements (entries.Functions fs) lt = length_fits number_bytes number_long fs (fewer _ _ (fewer _ _ lt))
-element_fits (ActiveElements None offset) (entries.Expressions ty es) lt = length_fits expression_bytes expression_long es (behind (expression_bytes offset) _ _ (fewer _ _ lt))
-element_fits PassiveElements (entries.Expressions ty es) lt = length_fits expression_bytes expression_long es (behind (reference_bytes ty) _ _ (fewer _ _ lt))
-element_fits (ActiveElements (Some table) offset) (entries.Expressions ty es) lt = length_fits expression_bytes expression_long es (behind (number_bytes table ++ expression_bytes offset ++ reference_bytes ty) _ _ (fewer _ _ lt))
-element_fits DeclaredElements (entries.Expressions ty es) lt = length_fits expression_bytes expression_long es (behind (reference_bytes ty) _ _ (fewer _ _ lt))
+element_fits (ActiveElements None offset) (entries.Expressions ty es) lt = length_fits expression_bytes expression_long es (behind_less (expression_bytes offset) _ _ (fewer _ _ lt))
+element_fits PassiveElements (entries.Expressions ty es) lt = length_fits expression_bytes expression_long es (behind_less (reference_bytes ty) _ _ (fewer _ _ lt))
+element_fits (ActiveElements (Some table) offset) (entries.Expressions ty es) lt = length_fits expression_bytes expression_long es (behind_less (number_bytes table ++ expression_bytes offset ++ reference_bytes ty) _ _ (fewer _ _ lt))
+element_fits DeclaredElements (entries.Expressions ty es) lt = length_fits expression_bytes expression_long es (behind_less (reference_bytes ty) _ _ (fewer _ _ lt))
 
 mode_long : (m : ElementMode) (i : Items) → 1 ≤ length (element_spelled m i)
 mode_long (ActiveElements None offset) (entries.Functions fs) = omega arith
@@ -376,10 +376,6 @@ memories_fit (l ∷ ls) h = (limits_fit l h.0, memories_fit ls h.1)
 
 -- ---- all sections of a text
 
-pub all_look : {X : Type 0} (P : X → Type 0) (xs : List X) (x : X) → AllByRecursion P xs → Contains xs x → P x
-all_look P [] x h at = absurd (Contains-none x at)
-all_look P (y ∷ ys) x h at = ⊎_elim (λ (e : y ≡ x). subst P e h.0) (λ rest. all_look P ys x h.1 rest) (Contains-uncons y x ys at)
-
 list_fine : {A : Type 0} (make : List A → Section) (xs : List A) → LimitsAreFine (make xs) → AllByRecursion LimitsAreFine (listed make xs)
 list_fine make [] h = tt
 list_fine make (x ∷ xs) h = (h, tt)
@@ -420,5 +416,5 @@ spelled_fits c n t s spells back at =
     let framed = back.framed in
     let rest : all_spelled (sections_of t) ≡ framed.rest = cut_same header header (all_spelled (sections_of t)) framed.rest refl framed.headed in
     let sizes = sizes_fit (sections_of t) 8 framed.rest framed.parts (sym rest) framed.framed in
-    let size = all_look (λ x. length (content_bytes x) < 2 ^ 32) (sections_of t) s sizes at in
-    (entries_fit s (all_look LimitsAreFine (sections_of t) s (text_fine n t (spells.says ∙ as_told t) (read_fits c (written_as t) n back)) at) size, size)
+    let size = each_in (λ x. length (content_bytes x) < 2 ^ 32) (sections_of t) s sizes at in
+    (entries_fit s (each_in LimitsAreFine (sections_of t) s (text_fine n t (spells.says ∙ as_told t) (read_fits c (written_as t) n back)) at) size, size)

@@ -12,6 +12,7 @@ use Rattle.wasm_operators.specs.Operators as wire
 use Rattle.wasm_operators.specs.Table.{kinds_of}
 use Rattle.wasm_operators.specs.Forms.{arg_form, args_form, behind, operator_of, is_prefix, operator_from, operator}
 use Rattle.wasm_frames.specs.Record as frames
+use Rattle.wasm_forms.proofs.Bind.{some_same, bind_some}
 use Rattle.walrus_types.specs.Operators.{Tags, Item, Arg, Index, Op}
 use Rattle.walrus_code.specs.FromRaw.{arg_of, op_of, ops_of}
 use Rattle.walrus_code.specs.Names.{Lookup, named_arg, named_args, named_op, named_ops}
@@ -36,9 +37,6 @@ seven_kinds : kinds_of 0x07 ≡ Some (kinds.Tag ∷ [])
 unfolding kinds_of
 seven_kinds = refl
 
-same_some : {A : Type 0} (x y : A) → Some x ≡ Some y → x ≡ y
-same_some x y e = cc
-
 nil_append : {A : Type 0} (x : A) (xs ys : List A) → xs ≡ x ∷ [] → ys ≡ [] → xs ++ ys ≡ x ∷ []
 nil_append x xs ys e f = ap (λ l. l ++ ys) e ∙ ap (λ l. x ∷ l) f
 
@@ -50,7 +48,7 @@ behind_catches : (k : ℕ) (o : Option (List Kind)) → kinds_of k ≡ o → (by
 behind_catches k None at bytes t is seven = absurd is
 behind_catches k (Some ks) at bytes t (xs, (made, are)) seven =
     let here : 0x07 ≡ k = sym seven ∙ ap (λ (x : wire.Op). x.op) made in
-    let same : ks ≡ kinds.Tag ∷ [] = same_some ks (kinds.Tag ∷ []) (sym at ∙ ap kinds_of (sym here) ∙ seven_kinds) in
+    let same : ks ≡ kinds.Tag ∷ [] = some_same ks (kinds.Tag ∷ []) (sym at ∙ ap kinds_of (sym here) ∙ seven_kinds) in
     let found = tag_args bytes xs (subst (λ l. Is (args_form l) bytes xs) same are) in
     (found.0, ap (λ (x : wire.Op). x.args) made ∙ found.1)
 
@@ -84,16 +82,12 @@ row_catches (t ∷ ts) bytes is = (operator_catches is.0 t is.1.1.1, row_catches
 
 -- ---- with each index looked up
 
-bind_some : {A B : Type 0} (o : Option A) (f : A → Option B) (y : B) → (o >>= f) ≡ Some y → (x : A) × (o ≡ Some x) × (f x ≡ Some y)
-bind_some (Some x) f y e = (x, refl, e)
-bind_some None f y e = cc
-
 module _ (names : Lookup) (locals : ℕ → Option ℕ) where
   tag_named : (n : ℕ) (xs : List Arg) → named_args names locals (Index (Tags, n) ∷ []) ≡ Some xs → (k : ℕ) × (xs ≡ Index (Tags, k) ∷ [])
   tag_named n xs e =
       let one = bind_some (named_arg names locals (Index (Tags, n))) (λ found. Some (found ∷ [])) xs e in
       let inner = bind_some (names Tags n) (λ found. Some (Index (Tags, found))) one.0 one.1 in
-      (inner.0, sym (same_some (one.0 ∷ []) xs one.2) ∙ ap (λ (a : Arg). a ∷ []) (sym (same_some (Index (Tags, inner.0)) one.0 inner.2)))
+      (inner.0, sym (some_same (one.0 ∷ []) xs one.2) ∙ ap (λ (a : Arg). a ∷ []) (sym (some_same (Index (Tags, inner.0)) one.0 inner.2)))
 
   index_space : (x : Item) (k : ℕ) (rest : List Arg) → Index x ∷ rest ≡ Index (Tags, k) ∷ [] → x.0 ≡ Tags
   index_space x k rest e =
@@ -104,20 +98,20 @@ module _ (names : Lookup) (locals : ℕ → Option ℕ) where
   one_catches : (t : wire.Op) (o : Op) → named_op names locals (op_of t) ≡ Some o → CatchIsTag t → (x : Item) (rest : List Arg) → o.op ≡ 0x07 → o.args ≡ Index x ∷ rest → x.0 ≡ Tags
   one_catches t o e catch x rest seven is =
       let found = bind_some (named_args names locals (map arg_of t.args)) (λ xs. Some (let p : Op = record { op = t.op; args = xs } in p)) o e in
-      let made : (let p : Op = record { op = t.op; args = found.0 } in p) ≡ o = same_some (let p : Op = record { op = t.op; args = found.0 } in p) o found.2 in
+      let made : (let p : Op = record { op = t.op; args = found.0 } in p) ≡ o = some_same (let p : Op = record { op = t.op; args = found.0 } in p) o found.2 in
       let tag = catch (ap (λ (p : Op). p.op) made ∙ seven) in
       let named = tag_named tag.0 found.0 (subst (λ l. named_args names locals (map arg_of l) ≡ Some found.0) tag.1 found.1) in
       index_space x named.0 rest (sym is ∙ sym (ap (λ (p : Op). p.args) made) ∙ named.1)
 
   ops_catch : (ts : List wire.Op) (ops : List Op) → named_ops names locals (ops_of ts) ≡ Some ops → AllCatch ts → CatchesTags ops
-  ops_catch [] ops e all o x rest at seven is = absurd (Contains-none o (subst (λ l. Contains l o) (sym (same_some [] ops e)) at))
+  ops_catch [] ops e all o x rest at seven is = absurd (Contains-none o (subst (λ l. Contains l o) (sym (some_same [] ops e)) at))
   ops_catch (t ∷ ts) ops e all o x rest at seven is =
       let first = bind_some (named_op names locals (op_of t)) (λ found. named_ops names locals (ops_of ts) >>= λ others. Some (found ∷ others)) ops e in
       let second = bind_some (named_ops names locals (ops_of ts)) (λ others. Some (first.0 ∷ others)) ops first.2 in
       ⊎_elim
       (λ (here : first.0 ≡ o). one_catches t first.0 first.1 all.0 x rest (ap (λ (p : Op). p.op) here ∙ seven) (ap (λ (p : Op). p.args) here ∙ is))
       (λ later. ops_catch ts second.0 second.1 all.1 o x rest later seven is)
-      (Contains-uncons first.0 o second.0 (subst (λ l. Contains l o) (sym (same_some (first.0 ∷ second.0) ops second.2)) at))
+      (Contains-uncons first.0 o second.0 (subst (λ l. Contains l o) (sym (some_same (first.0 ∷ second.0) ops second.2)) at))
 
 -- ---- the bodies of a module
 
@@ -146,7 +140,7 @@ module _ (c : Config) (s : frames.Module) where
   local_catches [] bodies all = tt
   local_catches (ty ∷ tys) [] all = tt
   local_catches (ty ∷ tys) (said ∷ rest) all = (
-    (λ b e. subst (λ (x : Body). CatchesTags x.operators) (same_some (body_with (params_of (types_of s ty)) said) b e) all.0),
+    (λ b e. subst (λ (x : Body). CatchesTags x.operators) (some_same (body_with (params_of (types_of s ty)) said) b e) all.0),
     local_catches tys rest all.1,
   )
 

@@ -1,6 +1,7 @@
 -- What the steps come to is what is said of the module that was read.
 use Rattle.std.proofs.Common.{◌≡◌, ℕ, ◌<◌, ◌≤◌, Bool, true, false, List, [], ◌∷◌, ◌++◌, length, map, filter, refl, sym, ap, ap₂, ◌∙◌, subst, arith, inl, inr, ⊎_elim, ◌⊎◌}
 use Rattle.std.specs.Prelude.{Option, Some, None, IsSome, is_some, option_map, slice_get, Contains, not, ◌||◌, cond}
+use Rattle.wasm_forms.proofs.Bind.{some_same}
 use Rattle.walrus_types.specs.Operators.{Space, Types, Functions, Tables, Memories, Tags, Globals, Elements, DataSegments, Item, Op}
 use Rattle.walrus_base.specs.Types.{CompType}
 use Rattle.walrus_model.specs.Abstract.{Abstract, TypeDef, Body, Function, Table, Memory, Tag, Global, Import, Element, ListedFunctions, DeclaredElements, Custom, Indices, Subject, TheModule, AnItem, ALocal}
@@ -67,9 +68,6 @@ module _ {X : Type 0} (J K A : ℕ → Type 0) (r : ℕ → ℕ) (S : ℕ → X 
         (c.onto j there);
   }
 
-same_some : {X : Type 0} (a b : X) → Some a ≡ Some b → a ≡ b
-same_some a b e = cc
-
 no_some : {X P : Type 0} (o : Option X) → o ≡ None → IsSome o → P
 no_some o e h = let none : false ≡ true = subst IsSome e h in absurd (cc)
 
@@ -130,7 +128,7 @@ module _ (c : Config) (m v w n : Abstract) (elements : ℕ → Option Element) (
 
   import_up : (i : ℕ) → IsImportOf (IsLive m) m i → IsImportOf (Kept v) v i → IsImportOf Stays m i
   import_up i at kept =
-      let is : kept.0 ≡ at.0 = same_some kept.0 at.0 (sym kept.1 ∙ import_at i at.0 at.1 at.2) in
+      let is : kept.0 ≡ at.0 = some_same kept.0 at.0 (sym kept.1 ∙ import_at i at.0 at.1 at.2) in
       (at.0, at.1, (at.2, subst (λ (y : Import). Kept v y.item) is kept.2))
 
   joins_1 : Joins (IsLive m) (Kept v) Stays (Behind c m v p) (IsTheSegment b.segment) Added place unchanged m v

@@ -7,6 +7,7 @@ use Rattle.wasm_entries.specs.declared.record.RawDesc.TheVariants as descs
 use Rattle.wasm_entries.specs.Record as entries
 use Rattle.wasm_frames.specs.Record as wire
 use Rattle.wasm_payloads.specs.Names.{Named}
+use Rattle.wasm_forms.proofs.Bind.{some_same}
 use Rattle.walrus_types.specs.Operators.{Space, Types, Functions, Tables, Memories, Tags, Globals, Elements, DataSegments, Item}
 use Rattle.walrus_model.specs.Abstract.{Abstract, Origin, ImportedBy, Defined, Function, FunctionKind, ImportedFunction, LocalFunction, Uninitialised, Table, Memory, Tag, Global, Element, DataSegment, Import, Custom, Indices, ProducerField}
 use Rattle.walrus_model.specs.Config.{Config}
@@ -28,9 +29,6 @@ use Rattle.walrus_model.proofs.PipelineCollected.{some_of}
 use Rattle.walrus_model.proofs.PipelineOps.{from_map, both_at, at_both}
 use Rattle.walrus_rules.proofs.StepOut.{plain_steps_come_out}
 use Rattle.walrus_rules.proofs.StepCatches.{all_said, AllCatches, local_catches, all_append, catches_at}
-
-same_some : {A : Type 0} (x y : A) → Some x ≡ Some y → x ≡ y
-same_some x y e = cc
 
 -- ---- rising numbers of imports, and then none
 
@@ -62,15 +60,15 @@ none_rises k (Some i ∷ os) h = absurd h
 
 all_none : (os : List (Option ℕ)) → AllNone os → (j : ℕ) (o : Option ℕ) → slice_get os j ≡ Some o → o ≡ None
 all_none [] h j o e = absurd (cc)
-all_none (None ∷ os) h zero o e = sym (same_some None o e)
+all_none (None ∷ os) h zero o e = sym (some_same None o e)
 all_none (None ∷ os) h (suc j) o e = all_none os h j o e
 all_none (Some i ∷ os) h j o e = absurd h
 
 at_least : (k : ℕ) (os : List (Option ℕ)) → RisesFrom k os → (j q : ℕ) → slice_get os j ≡ Some (Some q) → k ≤ q
 at_least k [] h j q e = absurd (cc)
-at_least k (Some i ∷ os) h zero q e = subst (λ x. k ≤ x) (same_some i q (same_some (Some i) (Some q) e)) h.0
+at_least k (Some i ∷ os) h zero q e = subst (λ x. k ≤ x) (some_same i q (some_same (Some i) (Some q) e)) h.0
 at_least k (Some i ∷ os) h (suc j) q e = let more : suc i ≤ q = at_least (suc i) os h.1 j q e in let least : k ≤ i = h.0 in omega arith
-at_least k (None ∷ os) h zero q e = let no_one : None ≡ Some q = same_some None (Some q) e in absurd (cc)
+at_least k (None ∷ os) h zero q e = let no_one : None ≡ Some q = some_same None (Some q) e in absurd (cc)
 at_least k (None ∷ os) h (suc j) q e = let no_one : Some q ≡ None = all_none os h j (Some q) e in absurd (cc)
 
 before_first : (o : Option ℕ) (k : ℕ) (os : List (Option ℕ)) → RisesFrom k (o ∷ os) → (j : ℕ) (b : Option ℕ) → slice_get os j ≡ Some b → Before o b
@@ -85,7 +83,7 @@ rest_rises None k os h = (0, none_rises 0 os h)
 in_order : (k : ℕ) (os : List (Option ℕ)) → RisesFrom k os → (i j : ℕ) → i < j → (a b : Option ℕ) → slice_get os i ≡ Some a → slice_get os j ≡ Some b → Before a b
 in_order k [] h i j lt a b e f = absurd (cc)
 in_order k (o ∷ os) h zero zero lt a b e f = absurd (omega arith)
-in_order k (o ∷ os) h zero (suc j) lt a b e f = subst (λ x. Before x b) (same_some o a e) (before_first o k os h j b f)
+in_order k (o ∷ os) h zero (suc j) lt a b e f = subst (λ x. Before x b) (some_same o a e) (before_first o k os h j b f)
 in_order k (o ∷ os) h (suc i) zero lt a b e f = absurd (omega arith)
 in_order k (o ∷ os) h (suc i) (suc j) lt a b e f = let rest = rest_rises o k os h in in_order rest.0 os rest.1 i j (let less : i < j = omega arith in less) a b e f
 
@@ -140,14 +138,14 @@ kinds_in_order i j (LocalFunction a) Uninitialised h none = absurd none
 kinds_in_order i j Uninitialised b h none = absurd none
 
 function_numbered : (i : ℕ) (d : RawDesc) (x : Function) → imported_function i d ≡ Some x → of_kind x.kind ≡ Some i
-function_numbered i (descs.Function ty) x e = sym (ap (λ (f : Function). of_kind f.kind) (same_some (record { ty = ty; kind = ImportedFunction i }) x e))
+function_numbered i (descs.Function ty) x e = sym (ap (λ (f : Function). of_kind f.kind) (some_same (record { ty = ty; kind = ImportedFunction i }) x e))
 function_numbered i (descs.Table ty) x e = absurd (cc)
 function_numbered i (descs.Memory l) x e = absurd (cc)
 function_numbered i (descs.Global ty) x e = absurd (cc)
 function_numbered i (descs.Tag ty) x e = absurd (cc)
 
 some_to : {X Y : Type 0} (h : X → Y) (a x : X) → Some a ≡ Some x → h x ≡ h a
-some_to h a x e = sym (ap h (same_some a x e))
+some_to h a x e = sym (ap h (some_same a x e))
 
 table_numbered : (i : ℕ) (d : RawDesc) (x : Table) → imported_table i d ≡ Some x → of_origin x.origin ≡ Some i
 table_numbered i (descs.Table ty) x e = some_to (λ (t : Table). of_origin t.origin) _ x e
@@ -195,7 +193,7 @@ item_no_type before (descs.Tag ty) e = cc
 
 imports_no_type : (before xs : List entries.Import) (i : ℕ) (x : Import) → slice_get (imports_after before xs) i ≡ Some x → x.item.0 ≡ Types → ⊥
 imports_no_type before [] i x e is = absurd (cc)
-imports_no_type before (y ∷ xs) zero x e is = item_no_type before y.desc (ap (λ (z : Import). z.item.0) (same_some (record { module_name = y.from; name = y.name; item = item_after before y.desc }) x e) ∙ is)
+imports_no_type before (y ∷ xs) zero x e is = item_no_type before y.desc (ap (λ (z : Import). z.item.0) (some_same (record { module_name = y.from; name = y.name; item = item_after before y.desc }) x e) ∙ is)
 imports_no_type before (y ∷ xs) (suc i) x e is = imports_no_type (before ++ y ∷ []) xs i x e is
 
 passes_there : {X : Type 0} (test : X → Bool) (o : Option X) → IsTrue (passes test o) → IsSome o

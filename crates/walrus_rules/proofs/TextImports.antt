@@ -6,14 +6,12 @@ use Rattle.wasm_entries.specs.declared.record.RawDesc.TheVariants as descs
 use Rattle.wasm_entries.specs.Record as entries
 use Rattle.wasm_frames.specs.Record as wire
 use Rattle.wasm_payloads.specs.Names.{Named}
+use Rattle.wasm_forms.proofs.Bind.{some_same}
 use Rattle.walrus_types.specs.Operators.{Space, Types, Functions, Tables, Memories, Tags, Globals, Elements, DataSegments, Item}
 use Rattle.walrus_model.specs.Abstract.{Abstract, ImportedBy, ImportedFunction, Function, Table, Memory, Tag, Global, Import, ProducerField}
 use Rattle.walrus_model.specs.Reads.{Said}
 use Rattle.walrus_model.specs.WellMade.{ImportsMatch, import_in, import_of, kind_import, origin_import}
 use Rattle.walrus_rules.specs.Sections.{table_type_of, memory_type_of, global_type_of, imported_function, imported_table, imported_memory, imported_global, imported_tag, imported, item_after, imports_after, function_of, table_of, memory_of, tag_of, global_of, module_of}
-
-some_same : {X : Type 0} (x y : X) → Some x ≡ Some y → x ≡ y
-some_same x y e = cc
 
 -- a list cut at an import
 pub record Cut (xs : List entries.Import) : Type 0 where

@@ -1,6 +1,7 @@
 -- The items of both modules, space by space.
 use Rattle.std.proofs.Common.{◌≡◌, ℕ, ◌<◌, List, [], ◌∷◌, map, refl, sym, ap, ap₂, ◌∙◌, subst, arith, inl, inr, ⊎_elim}
 use Rattle.std.specs.Prelude.{Option, Some, None, IsSome, Contains, option_map, flat_map}
+pub use Rattle.wasm_forms.proofs.Bind.{some_same}
 use Rattle.walrus_base.specs.Types.{ValType, sub_names, val_names}
 use Rattle.walrus_types.specs.Operators.{Types, Functions, Tables, Memories, Tags, Globals, Elements, DataSegments, Item, type_item, function_item, Op, op_names, names_of}
 use Rattle.walrus_functions.specs.Handlers.{params_of}
@@ -27,9 +28,6 @@ use Rattle.walrus_model.proofs.Seen.{same_sub}
 use Rattle.walrus_rules.proofs.Shaped.{Side}
 use Rattle.walrus_rules.proofs.TypesAlike.{Contains-flat_map, sub_alike}
 use Rattle.walrus_rules.proofs.UsedLocals.{Comes, one_said, used_one}
-
-pub some_same : {X : Type 0} (x y : X) → Some x ≡ Some y → x ≡ y
-some_same x y e = cc
 
 -- what stands at both numbers of a chosen item
 abbrev pub Both : {X : Type 0} → (S : X → X → Type 0) → Option X → Option X → Type 0

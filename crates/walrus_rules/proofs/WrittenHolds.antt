@@ -1,6 +1,7 @@
 -- What is written of a well-made module keeps the rules.
 use Rattle.std.proofs.Common.{◌≡◌, ℕ, ◌<◌, ◌≤◌, length, get_or, sym, ap, ◌∙◌, subst, arith}
 use Rattle.std.specs.Prelude.{Some, None, IsSome, Contains}
+use Rattle.wasm_forms.proofs.Bind.{some_same}
 use Rattle.walrus_types.specs.Operators.{Space, Types, Functions, Tables, Memories, Tags, Globals, Elements, DataSegments, Item}
 use Rattle.walrus_functions.specs.Handlers.{params_of}
 use Rattle.walrus_model.specs.Abstract.{Abstract, Body, Function, LocalFunction}
@@ -29,9 +30,6 @@ use Rattle.walrus_rules.proofs.TextShaped.{side}
 use Rattle.walrus_rules.proofs.Things.{Stands, stands}
 use Rattle.walrus_rules.proofs.TypeRules.{body_came, body_was}
 use Rattle.walrus_rules.proofs.UsedLocals.{stands_for, no_parameter}
-
-some_same : {X : Type 0} (x y : X) → Some x ≡ Some y → x ≡ y
-some_same x y e = cc
 
 body_same : (a b : Body) → LocalFunction a ≡ LocalFunction b → a ≡ b
 body_same a b e = cc
