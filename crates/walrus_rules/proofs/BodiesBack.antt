@@ -29,7 +29,8 @@ use Rattle.walrus_model.specs.Abstract.{Abstract, Body, Function, LocalFunction,
 use Rattle.walrus_model.specs.Config.{Config}
 use Rattle.walrus_model.specs.Live.{IsLive}
 use Rattle.walrus_model.specs.Names.{body_of, body_of_kind, body_of_function}
-use Rattle.walrus_model.specs.Reads.{below, body_with}
+use Rattle.walrus_model.specs.Reads.{below}
+use Rattle.walrus_model.specs.Sections.{body_with}
 use Rattle.walrus_model.specs.Refers.{IsUsed, named_by, local_names, body_names, kind_names, function_names}
 use Rattle.walrus_model.specs.Rules.{Holds}
 use Rattle.walrus_model.proofs.Lists.{Contains-tail, Contains-none, Contains-append_1, Contains-append_2}

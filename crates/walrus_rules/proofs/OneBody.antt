@@ -12,7 +12,7 @@ use Rattle.walrus_base.specs.Types.{ValType}
 use Rattle.walrus_code.specs.FromRaw.{val_of, ops_of}
 use Rattle.walrus_bodies.specs.Emitting.{AllStand}
 use Rattle.walrus_model.specs.Abstract.{Body, FunctionKind, ImportedFunction, LocalFunction, Uninitialised, Function}
-use Rattle.walrus_model.specs.Reads.{Said, body_with}
+use Rattle.walrus_model.specs.Sections.{Said, body_with}
 use Rattle.walrus_rules.specs.Text.{BodyText, said}
 use Rattle.walrus_rules.specs.Spelling.{BodyStands}
 use Rattle.walrus_functions.proofs.LawOrder.{Sorted, sorted_of, one_grouping, spread_of, Apart, Filled}

@@ -18,7 +18,7 @@ use Rattle.walrus_model.specs.Kept.{IsImportOf}
 use Rattle.walrus_model.specs.Live.{IsLive}
 use Rattle.walrus_model.specs.Names.{body_of, body_of_kind, body_of_function}
 use Rattle.walrus_model.specs.Order.{ByImport}
-use Rattle.walrus_model.specs.Reads.{Said, body_with}
+use Rattle.walrus_model.specs.Sections.{Said, body_with}
 use Rattle.walrus_model.specs.Refers.{IsUsed, used_locals}
 use Rattle.walrus_model.specs.Renaming.{Renaming, renamed_import}
 use Rattle.walrus_model.specs.Rules.{Holds, LocalsHold, RulesHold}

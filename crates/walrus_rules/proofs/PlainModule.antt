@@ -14,7 +14,7 @@ use Rattle.walrus_types.specs.Operators.{Byte, Op}
 use Rattle.walrus_groups.specs.Groups.{types_from}
 use Rattle.walrus_model.specs.Abstract.{Abstract, TypeDef, Table, Global, Element, DataSegment, ProducerField}
 use Rattle.walrus_model.specs.Config.{Config}
-use Rattle.walrus_model.specs.Reads.{Said}
+use Rattle.walrus_model.specs.Sections.{Said}
 use Rattle.walrus_model.specs.WellMade.{arg_heaps, op_heaps, option_consts, element_kind_consts, element_item_consts, data_kind_consts, element_item_heaps}
 use Rattle.walrus_rules.specs.Constants.{const_of, consts_of}
 use Rattle.walrus_rules.specs.Headline.{Reads}

@@ -17,7 +17,7 @@ use Rattle.walrus_functions.specs.Handlers.{params_of}
 use Rattle.walrus_functions.specs.ReadFunction.{locals_from}
 use Rattle.walrus_model.specs.Abstract.{Abstract, Body, Function, LocalFunction, ProducerField, Custom}
 use Rattle.walrus_model.specs.Config.{Config}
-use Rattle.walrus_model.specs.Reads.{Said, body_with}
+use Rattle.walrus_model.specs.Sections.{Said, body_with}
 use Rattle.walrus_model.specs.WellMade.{ImportsMatch}
 use Rattle.walrus_rules.specs.Features.{features_of}
 use Rattle.walrus_rules.specs.Headline.{declared, ReadsBody, Reads}

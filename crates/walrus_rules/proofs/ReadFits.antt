@@ -32,7 +32,7 @@ use Rattle.walrus_model.specs.Abstract.{Abstract, Body, FunctionKind, LocalFunct
 use Rattle.walrus_model.specs.Config.{Config}
 use Rattle.walrus_model.specs.Live.{Has}
 use Rattle.walrus_model.specs.Names.{body_of, body_of_kind, body_of_function}
-use Rattle.walrus_model.specs.Reads.{Said, body_with}
+use Rattle.walrus_model.specs.Sections.{Said, body_with}
 use Rattle.walrus_model.specs.Refers.{IsUsed}
 use Rattle.walrus_rules.specs.Headline.{declared, ReadsBody}
 use Rattle.walrus_rules.specs.OneRun.{Fits, ReadFits}

@@ -18,7 +18,7 @@ use Rattle.wasm_writer.specs.Spelling.{SectionFits, SectionStands, spelled, firs
 use Rattle.wasm_writer.proofs.WrittenModule.{written_frames_lem}
 use Rattle.walrus_model.specs.Abstract.{Abstract, ProducerField}
 use Rattle.walrus_model.specs.Config.{Config}
-use Rattle.walrus_model.specs.Reads.{Said}
+use Rattle.walrus_model.specs.Sections.{Said}
 use Rattle.walrus_rules.specs.Headline.{ReadsBody, Reads, is_function, payloads, field_of, CountHolds}
 use Rattle.walrus_rules.specs.Sections.{module_of}
 use Rattle.walrus_rules.specs.Spelling.{IsCount, IsSpelling, written_as}

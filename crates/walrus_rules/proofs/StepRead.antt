@@ -16,7 +16,7 @@ use Rattle.walrus_model.specs.Same.{BothAnd}
 use Rattle.walrus_model.specs.Live.{IsLive}
 use Rattle.walrus_model.specs.Refers.{KeepsToo}
 use Rattle.walrus_model.specs.Order.{FunctionsByIndex, FunctionsByImport, OriginsInOrder, ByIndex, ByImport}
-use Rattle.walrus_model.specs.Reads.{Said}
+use Rattle.walrus_model.specs.Sections.{Said}
 use Rattle.walrus_model.specs.Out.{Out}
 use Rattle.walrus_model.specs.Rules.{Holds}
 use Rattle.walrus_rules.specs.Chain.{BringsTo}

@@ -9,7 +9,7 @@ use Rattle.wasm_payloads.specs.Names.{Named}
 use Rattle.wasm_forms.proofs.Bind.{some_same}
 use Rattle.walrus_types.specs.Operators.{Space, Types, Functions, Tables, Memories, Tags, Globals, Elements, DataSegments, Item}
 use Rattle.walrus_model.specs.Abstract.{Abstract, ImportedBy, ImportedFunction, Function, Table, Memory, Tag, Global, Import, ProducerField}
-use Rattle.walrus_model.specs.Reads.{Said}
+use Rattle.walrus_model.specs.Sections.{Said}
 use Rattle.walrus_model.specs.WellMade.{ImportsMatch, import_in, import_of, kind_import, origin_import}
 use Rattle.walrus_rules.specs.Sections.{table_type_of, memory_type_of, global_type_of, imported_function, imported_table, imported_memory, imported_global, imported_tag, imported, item_after, imports_after, function_of, table_of, memory_of, tag_of, global_of, module_of}
 

@@ -13,7 +13,7 @@ use Rattle.walrus_functions.specs.Handlers.{params_of}
 use Rattle.walrus_model.specs.Abstract.{Abstract, Name, Subject, AnItem, Body, LocalFunction, Function, ProducerField}
 use Rattle.walrus_model.specs.Config.{Config}
 use Rattle.walrus_model.specs.Names.{last_name, body_of}
-use Rattle.walrus_model.specs.Reads.{Said, body_with}
+use Rattle.walrus_model.specs.Sections.{Said, body_with}
 use Rattle.walrus_rules.specs.Namings.{is_in_range, names_given}
 use Rattle.walrus_rules.specs.Once.{WrittenOnce}
 use Rattle.walrus_rules.specs.Pinned.{IsWrittenAs}

@@ -12,7 +12,7 @@ use Rattle.walrus_model.specs.Kept.{IsImportOf}
 use Rattle.walrus_model.specs.Live.{IsLive}
 use Rattle.walrus_model.specs.Declared.{ref_func, IsRefInBody, IsRefInGlobal, IsUndeclared, HasDeclaredSegment}
 use Rattle.walrus_model.specs.Names.{body_of, body_of_function, body_of_kind}
-use Rattle.walrus_model.specs.Reads.{Said, body_with}
+use Rattle.walrus_model.specs.Sections.{Said, body_with}
 use Rattle.walrus_model.specs.Refers.{named_by, written_in, IsUsed, used_locals, local_names, body_names, kind_names, type_names, function_names, table_names, tag_names, global_names, element_names, data_names}
 use Rattle.walrus_model.specs.Renaming.{Renaming, renamed_table, renamed_memory, renamed_tag, renamed_global, renamed_element, renamed_data, renamed_import}
 use Rattle.walrus_model.specs.Same.{BothAnd, SameType, SameBody, SameKind, SameFunction}

@@ -10,7 +10,7 @@ use Rattle.walrus_types.specs.Operators.{Types, Item, Op, type_item, locals_of, 
 use Rattle.walrus_types.specs.Shape.{place_in}
 use Rattle.walrus_functions.specs.DeclaredLocals.{rank}
 use Rattle.walrus_model.specs.Abstract.{Body}
-use Rattle.walrus_model.specs.Reads.{Said, body_with}
+use Rattle.walrus_model.specs.Sections.{Said, body_with}
 use Rattle.walrus_model.specs.Refers.{named_by, IsUsed, used_locals, local_names}
 use Rattle.walrus_model.specs.Renaming.{Renaming}
 use Rattle.walrus_model.specs.Same.{SameBody}

@@ -13,7 +13,7 @@ use Rattle.walrus_functions.specs.Handlers.{params_of}
 use Rattle.walrus_functions.specs.ReadFunction.{locals_from}
 use Rattle.walrus_model.specs.Abstract.{Abstract, Body}
 use Rattle.walrus_model.specs.Config.{Config}
-use Rattle.walrus_model.specs.Reads.{Said, body_with}
+use Rattle.walrus_model.specs.Sections.{Said, body_with}
 use Rattle.walrus_model.specs.Renaming.{Renaming}
 use Rattle.walrus_model.specs.Rules.{IsFunctionType}
 use Rattle.walrus_rules.specs.Chain.{IsWholeBody}

@@ -16,7 +16,7 @@ use Rattle.wasm_operators.specs.Forms.{args_form, operator_of, operator_from, op
 use Rattle.wasm_operators.specs.Table.{kinds_of}
 use Rattle.walrus_model.specs.Abstract.{Body}
 use Rattle.walrus_model.specs.Names.{body_of}
-use Rattle.walrus_model.specs.Reads.{body_with}
+use Rattle.walrus_model.specs.Sections.{body_with}
 use Rattle.walrus_rules.specs.Text.{unplaced}
 use Rattle.wasm_forms.specs.declared.types.RawVal.TheVariants as vals
 use Rattle.wasm_operators.specs.declared.operator.RawArg.TheVariants as args

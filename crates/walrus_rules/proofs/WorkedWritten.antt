@@ -9,7 +9,7 @@ use Rattle.walrus_model.specs.Declared.{ref_func, IsRefInBody, IsRefInGlobal}
 use Rattle.walrus_model.specs.Live.{IsLive}
 use Rattle.walrus_model.specs.Names.{body_of}
 use Rattle.walrus_model.specs.Order.{ByImport}
-use Rattle.walrus_model.specs.Reads.{body_with}
+use Rattle.walrus_model.specs.Sections.{body_with}
 use Rattle.walrus_model.specs.Refers.{IsUsed}
 use Rattle.walrus_model.specs.Renaming.{unchanged}
 use Rattle.walrus_model.specs.Same.{SameType, SameBody, SameFunction}

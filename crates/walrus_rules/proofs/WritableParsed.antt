@@ -9,7 +9,7 @@ use Rattle.walrus_model.specs.Abstract.{Abstract, TypeDef, Body, Function, Funct
 use Rattle.walrus_model.specs.Config.{Config}
 use Rattle.walrus_model.specs.Handlers.{tag_type}
 use Rattle.walrus_model.specs.Names.{body_of, body_of_kind, body_of_function}
-use Rattle.walrus_model.specs.Reads.{body_with}
+use Rattle.walrus_model.specs.Sections.{body_with}
 use Rattle.walrus_model.specs.Refers.{used_locals}
 use Rattle.walrus_model.specs.Rules.{Holds}
 use Rattle.walrus_model.specs.WellMade.{IsWritable, heaps_by, heaps_in, consts_by, consts_in, arg_heaps, op_heaps, kind_heaps, option_consts, element_kind_consts, element_item_consts, data_kind_consts}

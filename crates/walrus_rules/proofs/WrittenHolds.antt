@@ -14,7 +14,7 @@ use Rattle.walrus_model.specs.Out.{IsTheSegment}
 use Rattle.walrus_model.specs.Renaming.{Renaming}
 use Rattle.walrus_model.specs.Rules.{Holds, LocalsHold, RulesHold}
 use Rattle.walrus_model.specs.Refers.{IsUsed}
-use Rattle.walrus_model.specs.Reads.{body_with}
+use Rattle.walrus_model.specs.Sections.{body_with}
 use Rattle.std.proofs.lemmas.Grind.{get_or_default_zero}
 use Rattle.walrus_rules.specs.Text.{said_by}
 use Rattle.walrus_rules.specs.WellMade.{IsWellFormed, IsWellMade}

@@ -16,7 +16,8 @@ use Rattle.walrus_functions.specs.ReadFunction.{locals_from}
 use Rattle.walrus_model.specs.Abstract.{Abstract, Name, ProducerValue, ProducerField}
 use Rattle.walrus_model.specs.Config.{Config}
 use Rattle.walrus_model.specs.Out.{Out}
-use Rattle.walrus_model.specs.Reads.{Said, below}
+use Rattle.walrus_model.specs.Reads.{below}
+use Rattle.walrus_model.specs.Sections.{Said}
 use Rattle.walrus_model.specs.Rules.{Holds}
 use Rattle.walrus_rules.specs.Chain.{BringsTo}
 use Rattle.walrus_rules.specs.Features.{features_of}

@@ -18,7 +18,7 @@ use Rattle.walrus_groups.specs.Groups.{types_from}
 use Rattle.walrus_functions.specs.Handlers.{params_of}
 use Rattle.walrus_model.specs.Abstract.{Abstract, Name, ImportedBy, Defined, TypeDef, Limits, TableType, MemoryType, GlobalType, ImportedFunction, LocalFunction, Function, Table, Memory, Tag, Global, ElementKind, PassiveElements, DeclaredElements, ActiveElements, ElementItems, ListedFunctions, Expressions, Element, DataKind, PassiveData, ActiveData, DataSegment, Import, Export, Custom, ProducerField}
 use Rattle.walrus_model.specs.Customs.{is_debug_name}
-use Rattle.walrus_model.specs.Reads.{Said, body_with}
+use Rattle.walrus_model.specs.Sections.{Said, body_with}
 use Rattle.walrus_rules.specs.Constants.{consts_of}
 use Rattle.walrus_rules.specs.Namings.{names_in_range}
 

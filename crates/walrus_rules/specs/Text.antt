@@ -17,7 +17,7 @@ use Rattle.wasm_payloads.specs.Names.{Named, ModuleName, ItemName, LocalName}
 use Rattle.walrus_code.specs.FromRaw.{val_of, ops_of}
 use Rattle.walrus_functions.specs.EmittedBody.{declarations_bytes}
 use Rattle.walrus_model.specs.Abstract.{Abstract, Name, ProducerValue, ProducerField}
-use Rattle.walrus_model.specs.Reads.{Said}
+use Rattle.walrus_model.specs.Sections.{Said}
 use Rattle.walrus_rules.specs.Namings.{subsection, space_of}
 use Rattle.walrus_rules.specs.Sections.{module_of}
 
