@@ -30,14 +30,13 @@ use Rattle.walrus_model.specs.Config.{Config}
 use Rattle.walrus_model.specs.Live.{IsLive}
 use Rattle.walrus_model.specs.Names.{body_of, body_of_kind, body_of_function}
 use Rattle.walrus_model.specs.Reads.{below}
-use Rattle.walrus_model.specs.Sections.{body_with}
+use Rattle.walrus_model.specs.Sections.{body_with, types_of, imported, imported_function, imported_table, imported_memory, imported_tag, imported_global, function_with, table_of, memory_of, tag_of, global_of, element_of, data_of}
 use Rattle.walrus_model.specs.Refers.{IsUsed, named_by, local_names, body_names, kind_names, function_names}
 use Rattle.walrus_model.specs.Rules.{Holds}
 use Rattle.walrus_model.proofs.Lists.{Contains-tail, Contains-none, Contains-append_1, Contains-append_2}
 use Rattle.walrus_model.proofs.PipelineOps.{from_map}
 use Rattle.walrus_rules.specs.Features.{features_of}
 use Rattle.walrus_rules.specs.Headline.{declared, ReadsBody}
-use Rattle.walrus_rules.specs.Sections.{types_of, imported, imported_function, imported_table, imported_memory, imported_tag, imported_global, function_of, table_of, memory_of, tag_of, global_of, element_of, data_of}
 use Rattle.walrus_rules.specs.Spelling.{BodyStands, UsesAll, NeedsCount, NamesData, IsCount, IsSpelling}
 use Rattle.walrus_rules.specs.SpelledLaws.{HasBodies}
 use Rattle.walrus_rules.specs.Text.{Text, BodyText, said, unplaced}
@@ -148,7 +147,7 @@ module _ (c : Config) (t : Text) (spells : IsSpelling (told t) t) where
 
   live_found : (y : Item) → IsLive m y → (y.0 ≡ DataSegments → NeedsCount m) → IsFound (declared s) y
   live_found (Types, i) h d = below_is (length (types_from 0 t.types)) i (some_there (types_from 0 t.types) i h)
-  live_found (Functions, i) h d = below_is (length (imported imported_function 0 t.imports) + length t.functions) i (omega (arith, both_in (imported imported_function 0 t.imports) (function_of s) (zip t.functions (map said t.bodies)) i h, zipped))
+  live_found (Functions, i) h d = below_is (length (imported imported_function 0 t.imports) + length t.functions) i (omega (arith, both_in (imported imported_function 0 t.imports) (function_with s) (zip t.functions (map said t.bodies)) i h, zipped))
   live_found (Tables, i) h d = below_is (length (imported imported_table 0 t.imports) + length t.tables) i (both_in (imported imported_table 0 t.imports) table_of t.tables i h)
   live_found (Memories, i) h d = below_is (length (imported imported_memory 0 t.imports) + length t.memories) i (both_in (imported imported_memory 0 t.imports) memory_of t.memories i h)
   live_found (Tags, i) h d = below_is (length (imported imported_tag 0 t.imports) + length t.tags) i (both_in (imported imported_tag 0 t.imports) tag_of t.tags i h)
@@ -196,7 +195,7 @@ module _ (c : Config) (t : Text) (spells : IsSpelling (told t) t) (holds : Holds
           let same : Types ≡ DataSegments = ap (λ (z : Item). z.0) from.2 ∙ e in
           cc
 
-  on_all : (fs : List ℕ) (xs : List BodyText) → All BodyStands xs → AllByRecursion Fine (map (function_of w) (zip fs (map said xs))) → length xs ≡ length fs → AllZip (ReadsBody c w) (zip fs (map unplaced xs)) (map said xs)
+  on_all : (fs : List ℕ) (xs : List BodyText) → All BodyStands xs → AllByRecursion Fine (map (function_with w) (zip fs (map said xs))) → length xs ≡ length fs → AllZip (ReadsBody c w) (zip fs (map unplaced xs)) (map said xs)
   on_all [] [] stands h e = tt
   on_all [] (x ∷ xs) stands h e = absurd (omega (arith, e))
   on_all (f ∷ fs) [] stands h e = tt
@@ -206,6 +205,6 @@ module _ (c : Config) (t : Text) (spells : IsSpelling (told t) t) (holds : Holds
   pub bodies_back : AllZip (ReadsBody c w) (zip t.functions (map unplaced t.bodies)) (map said t.bodies)
   bodies_back =
       on_all t.functions t.bodies spells.bodies
-      (all_back Fine (imported imported_function 0 t.imports) (map (function_of w) (zip t.functions (map said t.bodies)))
-      (all_each Fine (imported imported_function 0 t.imports ++ map (function_of w) (zip t.functions (map said t.bodies))) known))
+      (all_back Fine (imported imported_function 0 t.imports) (map (function_with w) (zip t.functions (map said t.bodies)))
+      (all_each Fine (imported imported_function 0 t.imports ++ map (function_with w) (zip t.functions (map said t.bodies))) known))
       spells.as_many_bodies

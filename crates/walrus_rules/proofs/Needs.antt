@@ -18,7 +18,7 @@ use Rattle.walrus_model.specs.Renaming.{Renaming}
 use Rattle.walrus_rules.specs.Needs.{plain_config, IsWrittenTwice, start_text, export_text, tag_text, AreNeeded}
 use Rattle.walrus_rules.specs.Once.{NamesLive, TypesLocals, ExportsLive, StartsLive}
 use Rattle.walrus_rules.specs.Pinned.{IsWrittenAs}
-use Rattle.walrus_rules.specs.Sections.{tag_of}
+use Rattle.walrus_model.specs.Sections.{tag_of}
 use Rattle.walrus_rules.specs.Spelling.{NeedsCount, IsSpelling}
 use Rattle.walrus_rules.specs.Text.{said_by}
 use Rattle.walrus_model.proofs.Lists.{Contains-none}

@@ -7,7 +7,7 @@ use Rattle.std.proofs.lemmas.Slice.Eq.{bytes_eq-Decides}
 use Rattle.wasm_forms.specs.Spelling.{vector_bytes}
 use Rattle.wasm_frames.specs.Record as wire
 use Rattle.walrus_model.specs.Abstract.{Name, Custom}
-use Rattle.walrus_rules.specs.Sections.{is_apart, custom_of, customs_of}
+use Rattle.walrus_model.specs.Sections.{is_apart, custom_of, customs_of}
 use Rattle.walrus_rules.specs.Text.{Text, names_bytes, field_bytes}
 use Rattle.walrus_rules.specs.Spelling.{is_dylink, is_other}
 use Rattle.walrus_rules.proofs.OneList.{one_map, one_split, filter_all}

@@ -7,8 +7,8 @@ use Rattle.wasm_entries.specs.Record as entries
 use Rattle.wasm_entries.specs.Spelling.{ExpressionStands, ElementsStand, ElementStands}
 use Rattle.walrus_types.specs.Operators.{Op}
 use Rattle.walrus_model.specs.Abstract.{Abstract, ElementKind, PassiveElements, DeclaredElements, ActiveElements, ElementItems, ListedFunctions, Expressions, Element}
-use Rattle.walrus_rules.specs.Sections.{element_kind, element_items, element_of}
-use Rattle.walrus_rules.specs.Constants.{consts_of}
+use Rattle.walrus_model.specs.Sections.{element_kind, element_items, element_of}
+use Rattle.walrus_model.specs.Constants.{consts_of}
 use Rattle.walrus_rules.specs.Spelling.{IsShort, IsChosen}
 use Rattle.walrus_rules.proofs.OneEntry.{raw_consts, consts_back, all_consts_back, raw_ref, ref_back}
 

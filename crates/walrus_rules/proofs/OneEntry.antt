@@ -19,8 +19,8 @@ use Rattle.wasm_entries.specs.Record as entries
 use Rattle.walrus_base.specs.Types.{RefType}
 use Rattle.walrus_types.specs.Operators.{Space, Functions, Tables, Memories, Tags, Globals, Arg, Index, Number, Byte, S32, S64, Bits32, Bits64, Heap, Op}
 use Rattle.walrus_model.specs.Abstract.{TableType, MemoryType, GlobalType, Table, Global, DataKind, PassiveData, ActiveData, DataSegment, Export}
-use Rattle.walrus_rules.specs.Constants.{const_of, consts_of}
-use Rattle.walrus_rules.specs.Sections.{ref_of, table_type_of, memory_type_of, global_type_of, table_of, global_of, data_kind, data_of, export_of, space_of}
+use Rattle.walrus_model.specs.Constants.{const_of, consts_of}
+use Rattle.walrus_model.specs.Sections.{ref_of, table_type_of, memory_type_of, global_type_of, table_of, global_of, data_kind, data_of, export_of, space_of}
 use Rattle.walrus_rules.proofs.OneGroup.{map_back, heap_stands, val_stands}
 use Rattle.walrus_rules.proofs.OneText.{raw_heap_of, raw_val_of, heap_back, val_back}
 

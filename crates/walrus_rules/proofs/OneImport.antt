@@ -10,7 +10,7 @@ use Rattle.wasm_entries.specs.Spelling.{DescStands, ImportStands}
 use Rattle.walrus_types.specs.Operators.{Space, Functions, Tables, Memories, Tags, Globals}
 use Rattle.walrus_model.specs.Abstract.{Function, Table, Memory, Tag, Global, Import}
 use Rattle.walrus_rules.specs.Namings.{subsection}
-use Rattle.walrus_rules.specs.Sections.{imported_function, imported_table, imported_memory, imported_global, imported_tag, imported, item_after, imports_after}
+use Rattle.walrus_model.specs.Sections.{imported_function, imported_table, imported_memory, imported_global, imported_tag, imported, item_after, imports_after}
 use Rattle.walrus_rules.proofs.OneGroup.{split_same}
 use Rattle.walrus_rules.proofs.OneEntry.{raw_table_type, table_type_back, raw_memory, raw_global_type, global_type_back}
 

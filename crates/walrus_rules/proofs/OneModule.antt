@@ -8,7 +8,7 @@ use Rattle.walrus_model.specs.Config.{Config}
 use Rattle.walrus_model.specs.Customs.{written_customs}
 use Rattle.walrus_model.specs.Live.{IsLive}
 use Rattle.walrus_rules.specs.Once.{Premises}
-use Rattle.walrus_rules.specs.Sections.{passes, is_on_table, is_on_memory}
+use Rattle.walrus_model.specs.Sections.{passes, is_on_table, is_on_memory}
 use Rattle.walrus_rules.proofs.Agree.{same_looks}
 use Rattle.walrus_rules.proofs.NamesOnce.{named_same}
 use Rattle.walrus_rules.proofs.Numbers.{numbers_one}

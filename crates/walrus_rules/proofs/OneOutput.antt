@@ -16,7 +16,7 @@ use Rattle.walrus_rules.specs.Headline.{Reads, OneOutput}
 use Rattle.walrus_rules.specs.Once.{Premises}
 use Rattle.walrus_rules.specs.OneRun.{KeptLives}
 use Rattle.walrus_rules.specs.Pinned.{IsWrittenAs}
-use Rattle.walrus_rules.specs.Sections.{custom_of}
+use Rattle.walrus_model.specs.Sections.{custom_of}
 use Rattle.walrus_rules.specs.Spelling.{IsSpelledAs}
 use Rattle.walrus_rules.proofs.Agree.{same_looks}
 use Rattle.walrus_rules.proofs.BytesOnce.{bytes_once}

@@ -10,7 +10,8 @@ use Rattle.walrus_functions.specs.Handlers.{params_of}
 use Rattle.walrus_groups.specs.Groups.{types_from}
 use Rattle.walrus_model.specs.Abstract.{Abstract, Subject, TheModule, AnItem, ALocal, Memory, Tag}
 use Rattle.walrus_rules.specs.Namings.{is_in_range, names_given, names_in_range}
-use Rattle.walrus_rules.specs.Sections.{imports_after, function_of, table_of, memory_of, tag_of, global_of, element_of, data_of, export_of, items_of, module_of}
+use Rattle.walrus_model.specs.Sections.{imports_after, function_with, table_of, memory_of, tag_of, global_of, element_of, data_of, export_of}
+use Rattle.walrus_rules.specs.Sections.{items_of, module_of}
 use Rattle.walrus_rules.specs.Text.{Text, said, namings_of, said_by}
 use Rattle.walrus_rules.specs.Spelling.{IsChosen, IsCount, IsSpelling, IsSpelledAs, written_as, SpelledOnce}
 use Rattle.walrus_rules.proofs.OneGroup.{one_grouping}
@@ -119,7 +120,7 @@ module _ (n : Abstract) (s t : Text) (h : IsSpelling n s) (g : IsSpelling n t) w
   both : told s ≡ told t
   both = sym left ∙ right
 
-  one_imported : OneImports s.imports t.imports (map (function_of (laid s)) (zip s.functions (map said s.bodies))) (map (function_of (laid t)) (zip t.functions (map said t.bodies))) (map table_of s.tables) (map table_of t.tables) (map memory_of s.memories) (map memory_of t.memories) (map global_of s.globals) (map global_of t.globals) (map tag_of s.tags) (map tag_of t.tags)
+  one_imported : OneImports s.imports t.imports (map (function_with (laid s)) (zip s.functions (map said s.bodies))) (map (function_with (laid t)) (zip t.functions (map said t.bodies))) (map table_of s.tables) (map table_of t.tables) (map memory_of s.memories) (map memory_of t.memories) (map global_of s.globals) (map global_of t.globals) (map tag_of s.tags) (map tag_of t.tags)
   one_imported = one_imports _ _ _ _ _ _ _ _ _ _ _ _ (lists_stand s h.stand).imports (lists_stand t g.stand).imports
       (got_same (imports_after [] s.imports) (imports_after [] t.imports) (ap (λ (m : Abstract). m.imports) both))
       (record {
@@ -136,7 +137,7 @@ module _ (n : Abstract) (s t : Text) (h : IsSpelling n s) (g : IsSpelling n t) w
 
   one_bodies : (s.functions ≡ t.functions) × (s.bodies ≡ t.bodies)
   one_bodies =
-      let made : map (function_of (laid s)) (zip s.functions (map said s.bodies)) ≡ map (function_of (laid s)) (zip t.functions (map said t.bodies)) = one_imported.functions ∙ ap (λ (gs : List entries.Group). map (function_of (record (laid t) { types = gs })) (zip t.functions (map said t.bodies))) (sym one_types) in
+      let made : map (function_with (laid s)) (zip s.functions (map said s.bodies)) ≡ map (function_with (laid s)) (zip t.functions (map said t.bodies)) = one_imported.functions ∙ ap (λ (gs : List entries.Group). map (function_with (record (laid t) { types = gs })) (zip t.functions (map said t.bodies))) (sym one_types) in
       one_functions (params s.types) s.functions t.functions s.bodies t.bodies h.as_many_bodies g.as_many_bodies h.bodies g.bodies made
 
   one_tables : s.tables ≡ t.tables

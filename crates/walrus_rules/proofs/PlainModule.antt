@@ -14,11 +14,11 @@ use Rattle.walrus_types.specs.Operators.{Byte, Op}
 use Rattle.walrus_groups.specs.Groups.{types_from}
 use Rattle.walrus_model.specs.Abstract.{Abstract, TypeDef, Table, Global, Element, DataSegment, ProducerField}
 use Rattle.walrus_model.specs.Config.{Config}
-use Rattle.walrus_model.specs.Sections.{Said}
+use Rattle.walrus_model.specs.Sections.{Said, imported, imported_table, imported_global, table_of, global_of, element_of, data_of}
 use Rattle.walrus_model.specs.WellMade.{arg_heaps, op_heaps, option_consts, element_kind_consts, element_item_consts, data_kind_consts, element_item_heaps}
-use Rattle.walrus_rules.specs.Constants.{const_of, consts_of}
+use Rattle.walrus_model.specs.Constants.{const_of, consts_of}
 use Rattle.walrus_rules.specs.Headline.{Reads}
-use Rattle.walrus_rules.specs.Sections.{imported, imported_table, imported_global, table_of, global_of, element_of, data_of, module_of}
+use Rattle.walrus_rules.specs.Sections.{module_of}
 use Rattle.walrus_rules.proofs.FilledConsts.{Filled, TableFilled, GlobalFilled, ElementFilled, SegmentFilled, AllFilled, all_filled}
 use Rattle.walrus_rules.proofs.PlainTypes.{Plain, plain_append, heap_plain, val_plain, TypePlain, types_plain}
 use Rattle.walrus_rules.proofs.TextShaped.{all_at, all_append}

@@ -17,11 +17,11 @@ use Rattle.walrus_functions.specs.Handlers.{params_of}
 use Rattle.walrus_functions.specs.ReadFunction.{locals_from}
 use Rattle.walrus_model.specs.Abstract.{Abstract, Body, Function, LocalFunction, ProducerField, Custom}
 use Rattle.walrus_model.specs.Config.{Config}
-use Rattle.walrus_model.specs.Sections.{Said, body_with}
+use Rattle.walrus_model.specs.Sections.{Said, body_with, types_of, imported, imported_function, function_with, is_apart, custom_of}
 use Rattle.walrus_model.specs.WellMade.{ImportsMatch}
 use Rattle.walrus_rules.specs.Features.{features_of}
 use Rattle.walrus_rules.specs.Headline.{declared, ReadsBody, Reads}
-use Rattle.walrus_rules.specs.Sections.{types_of, imported, imported_function, function_of, is_apart, custom_of, module_of}
+use Rattle.walrus_rules.specs.Sections.{module_of}
 use Rattle.walrus_model.proofs.PipelineOps.{from_map}
 use Rattle.walrus_rules.proofs.TextImports.{imports_match}
 use Rattle.walrus_rules.proofs.TextShaped.{all_at, all_append}
@@ -86,10 +86,10 @@ module _ (c : Config) (s : wire.Module) where
   imports_fine i [] = tt
   imports_fine i (x ∷ xs) = all_append Fine (option_to_list (imported_function i x.desc)) (imported imported_function (i + 1) xs) (imported_fine i x.desc) (imports_fine (i + 1) xs)
 
-  function_fine : (ty : ℕ) (body : wire.Body) (said : Said) → ReadsBody c s (ty, body) said → Fine (function_of s (ty, said))
+  function_fine : (ty : ℕ) (body : wire.Body) (said : Said) → ReadsBody c s (ty, body) said → Fine (function_with s (ty, said))
   function_fine ty body said read b e = record { said = said; is = local_same (body_with (params_of (types_of s ty)) said) b e; text = body.bytes; read = read }
 
-  functions_fine : (tys : List ℕ) (bodies : List wire.Body) (saids : List Said) → AllZip (ReadsBody c s) (zip tys bodies) saids → AllByRecursion Fine (map (function_of s) (zip tys saids))
+  functions_fine : (tys : List ℕ) (bodies : List wire.Body) (saids : List Said) → AllZip (ReadsBody c s) (zip tys bodies) saids → AllByRecursion Fine (map (function_with s) (zip tys saids))
   functions_fine [] bodies saids read = tt
   functions_fine (ty ∷ tys) [] [] read = tt
   functions_fine (ty ∷ tys) [] (said ∷ saids) read = absurd read
@@ -104,7 +104,7 @@ module _ (c : Config) (s : wire.Module) where
     is_read_by read = record {
       names = declared s;
       bodies = λ f g b e k.
-          let a : Says g.ty b = all_at Fine _ f g (all_append Fine (imported imported_function 0 s.imports) (map (function_of s) (zip s.functions bodies)) (imports_fine 0 s.imports) (functions_fine s.functions s.bodies bodies read)) e b k in
+          let a : Says g.ty b = all_at Fine _ f g (all_append Fine (imported imported_function 0 s.imports) (map (function_with s) (zip s.functions bodies)) (imports_fine 0 s.imports) (functions_fine s.functions s.bodies bodies read)) e b k in
           record { said = a.said; is = a.is; text = a.text; read = a.read };
       imports = imports_match s bodies fields namings;
       customs = λ x at.

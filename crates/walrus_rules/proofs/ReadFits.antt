@@ -32,12 +32,12 @@ use Rattle.walrus_model.specs.Abstract.{Abstract, Body, FunctionKind, LocalFunct
 use Rattle.walrus_model.specs.Config.{Config}
 use Rattle.walrus_model.specs.Live.{Has}
 use Rattle.walrus_model.specs.Names.{body_of, body_of_kind, body_of_function}
-use Rattle.walrus_model.specs.Sections.{Said, body_with}
+use Rattle.walrus_model.specs.Sections.{Said, body_with, limits_of, types_of, imported, imported_function, imported_table, imported_memory, imported_tag, imported_global, function_with, table_of, memory_of, tag_of, global_of, element_of, data_of}
 use Rattle.walrus_model.specs.Refers.{IsUsed}
 use Rattle.walrus_rules.specs.Headline.{declared, ReadsBody}
 use Rattle.walrus_rules.specs.OneRun.{Fits, ReadFits}
 use Rattle.walrus_rules.specs.Refused.{PassesLimit}
-use Rattle.walrus_rules.specs.Sections.{limits_of, types_of, module_of, imported, imported_function, imported_table, imported_memory, imported_tag, imported_global, function_of, table_of, memory_of, tag_of, global_of, element_of, data_of}
+use Rattle.walrus_rules.specs.Sections.{module_of}
 use Rattle.walrus_rules.proofs.FormLimits.{row_all, memory_fits, table_fits, import_fits, DefTakesFew, types_take_few, types_long}
 use Rattle.walrus_rules.proofs.LeastLengths.{number_long, vector_long, few_imports, few_tables, few_memories, few_tags, few_globals, few_elements, few_data}
 use Rattle.walrus_rules.proofs.SectionRows.{Rows, rows}
@@ -136,7 +136,7 @@ module _ (c : Config) (s : wire.Module) where
   imports_use i [] = tt
   imports_use i (x ∷ xs) = all_append UsesSmall (option_to_list (imported_function i x.desc)) (imported imported_function (i + 1) xs) (import_uses i x.desc) (imports_use (i + 1) xs)
 
-  bodies_use : (fs : List ℕ) (bs : List wire.Body) (said : List Said) → AllZip (ReadsBody c s) (zip fs bs) said → AllByRecursion UsesSmall (map (function_of s) (zip fs said))
+  bodies_use : (fs : List ℕ) (bs : List wire.Body) (said : List Said) → AllZip (ReadsBody c s) (zip fs bs) said → AllByRecursion UsesSmall (map (function_with s) (zip fs said))
   bodies_use [] [] [] all = tt
   bodies_use [] [] (x ∷ xs) all = absurd all
   bodies_use [] (b ∷ bs) [] all = tt
@@ -220,7 +220,7 @@ module _ (c : Config) (bytes : List ℕ) (s : wire.Module) (r : Rows s) (said : 
 
   items : (space : Space) (i : ℕ) → Has the space i → i + 1 < 2 ^ 32
   items Types i h = omega (arith, some_there (types_from 0 s.types) i h, types_long 0 s.types r.types.0 r.types.1.1, r.types.1.0)
-  items Functions i h = both_few imported_function s.imports (function_of s) (zip s.functions said) i (2 ^ 32) h (few_imports s.imports r.imports) few_zipped
+  items Functions i h = both_few imported_function s.imports (function_with s) (zip s.functions said) i (2 ^ 32) h (few_imports s.imports r.imports) few_zipped
   items Tables i h = both_few imported_table s.imports table_of s.tables i (2 ^ 32) h (few_imports s.imports r.imports) (few_tables s.tables r.tables)
   items Memories i h = both_few imported_memory s.imports memory_of s.memories i (2 ^ 32) h (few_imports s.imports r.imports) (few_memories s.memories r.memories)
   items Tags i h = both_few imported_tag s.imports tag_of s.tags i (2 ^ 32) h (few_imports s.imports r.imports) (few_tags s.tags r.tags)
@@ -229,7 +229,7 @@ module _ (c : Config) (bytes : List ℕ) (s : wire.Module) (r : Rows s) (said : 
   items DataSegments i h = own_few data_of s.data_segments i (2 ^ 32) h (few_data s.data_segments r.data_segments)
 
   functions : List Function
-  functions = imported imported_function 0 s.imports ++ map (function_of s) (zip s.functions said)
+  functions = imported imported_function 0 s.imports ++ map (function_with s) (zip s.functions said)
 
   function_at : (f : ℕ) (b : Body) → body_of the f ≡ Some b → (g : Function) × ((slice_get functions f ≡ Some g) × (g.kind ≡ LocalFunction b))
   unfolding functions
@@ -248,7 +248,7 @@ module _ (c : Config) (bytes : List ℕ) (s : wire.Module) (r : Rows s) (said : 
   used f b x e =
       let g = function_at f b e in
       all_at (UsesSmall c s) functions f g.0
-      (all_append (UsesSmall c s) (imported imported_function 0 s.imports) (map (function_of s) (zip s.functions said)) (imports_use c s 0 s.imports) (bodies_use c s s.functions s.bodies said read))
+      (all_append (UsesSmall c s) (imported imported_function 0 s.imports) (map (function_with s) (zip s.functions said)) (imports_use c s 0 s.imports) (bodies_use c s s.functions s.bodies said read))
       g.1.0 b g.1.1 x
 
   imports_fine : AllByRecursion ImportFine s.imports

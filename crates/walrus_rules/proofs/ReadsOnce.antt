@@ -15,12 +15,12 @@ use Rattle.walrus_functions.specs.Handlers.{params_of}
 use Rattle.walrus_functions.specs.ReadFunction.{locals_from}
 use Rattle.walrus_model.specs.Abstract.{ProducerField}
 use Rattle.walrus_model.specs.Config.{Config}
-use Rattle.walrus_model.specs.Sections.{Said}
+use Rattle.walrus_model.specs.Sections.{Said, types_of}
 use Rattle.walrus_model.proofs.ReadOnce.{types_once, operators_once}
 use Rattle.walrus_rules.specs.Features.{features_of}
 use Rattle.walrus_rules.specs.Headline.{declared, ReadsBody, is_function, payloads, field_of}
 use Rattle.walrus_rules.specs.OneRun.{ReadsOnce}
-use Rattle.walrus_rules.specs.Sections.{types_of, module_of}
+use Rattle.walrus_rules.specs.Sections.{module_of}
 
 -- what is one for each is one for all
 zip_once : {A B : Type 0} (R : A → B → Type 0) → ((a : A) (x y : B) → R a x → R a y → x ≡ y) → (ks : List A) (xs ys : List B) → AllZip R ks xs → AllZip R ks ys → xs ≡ ys

@@ -14,7 +14,7 @@ use Rattle.walrus_model.specs.Rules.{Holds}
 use Rattle.walrus_model.specs.Config.{Config}
 use Rattle.walrus_model.specs.Declared.{HasDeclaredSegment}
 use Rattle.walrus_model.specs.Out.{IsAdded, Out}
-use Rattle.walrus_rules.specs.Sections.{is_on_table, is_on_memory, passes}
+use Rattle.walrus_model.specs.Sections.{is_on_table, is_on_memory, passes}
 use Rattle.walrus_model.proofs.Lists.{Contains-head, Contains-none, Contains-map}
 use Rattle.walrus_model.proofs.Steps.{given, live_under}
 use Rattle.walrus_model.proofs.Follow.{names_follow_lem}

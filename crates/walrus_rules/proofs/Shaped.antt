@@ -6,10 +6,9 @@ use Rattle.walrus_functions.specs.Handlers.{params_of}
 use Rattle.walrus_model.specs.Abstract.{Abstract, Subject, AnItem, Body, LocalFunction, Function}
 use Rattle.walrus_model.specs.Config.{Config}
 use Rattle.walrus_model.specs.Names.{body_of, own_name}
-use Rattle.walrus_model.specs.Sections.{Said, body_with}
+use Rattle.walrus_model.specs.Sections.{Said, body_with, passes, is_on_table, is_on_memory}
 use Rattle.walrus_model.specs.WellMade.{ImportsMatch}
 use Rattle.walrus_rules.specs.Pinned.{IsWrittenAs}
-use Rattle.walrus_rules.specs.Sections.{passes, is_on_table, is_on_memory}
 use Rattle.walrus_rules.specs.Spelling.{UsesAll}
 
 -- below what is there, all is there

@@ -31,7 +31,7 @@ use Rattle.wasm_writer.specs.Spelling.{tag_bytes, content_bytes, spelled, all_sp
 use Rattle.walrus_model.specs.Abstract.{Abstract, Table, Memory}
 use Rattle.walrus_rules.specs.OneRun.{Fits, SpelledFits}
 use Rattle.walrus_rules.specs.Refused.{PassesLimit}
-use Rattle.walrus_rules.specs.Sections.{limits_of, imported, imported_table, imported_memory, table_of, memory_of}
+use Rattle.walrus_model.specs.Sections.{limits_of, imported, imported_table, imported_memory, table_of, memory_of}
 use Rattle.walrus_rules.specs.Spelling.{written_as}
 use Rattle.walrus_rules.specs.Text.{Text, listed, if_some, custom, sections_of, unplaced, names_bytes, field_bytes as producer_bytes}
 use Rattle.walrus_rules.proofs.OneSpelling.{told, as_told}

@@ -24,7 +24,8 @@ use Rattle.walrus_model.specs.Rules.{Holds}
 use Rattle.walrus_rules.specs.Headline.{ReadsBody, Reads, is_function, value_of, field_of}
 use Rattle.walrus_rules.specs.Namings.{naming_of, space_of, has, has_local, is_in_range}
 use Rattle.walrus_rules.specs.OneRun.{Fits}
-use Rattle.walrus_rules.specs.Sections.{imported, imported_function, function_of, is_apart, module_of}
+use Rattle.walrus_model.specs.Sections.{imported, imported_function, function_with, is_apart}
+use Rattle.walrus_rules.specs.Sections.{module_of}
 use Rattle.walrus_rules.specs.SpelledLaws.{HasBodies, SpelledReads}
 use Rattle.walrus_rules.specs.Spelling.{MapStands, IsSpelling, is_dylink, is_other, written_as}
 use Rattle.walrus_rules.specs.Text.{Text, NameMap, NameText, listed, if_some, custom, sections_of, said, said_by, unplaced, names_bytes, field_bytes, namings_of, module_naming, space_namings, function_namings, further_spaces}
@@ -75,7 +76,7 @@ module _ (c : Config) (t : Text) (spells : IsSpelling (told t) t) (fits : Fits (
   some_function f x h = some_body (m.functions f) x h
 
   known_function : (f : ℕ) → IsSome (m.functions f) → is_function (laid t) f ≡ true
-  known_function f h = lt-ltb f (length (imported imported_function 0 t.imports) + length t.functions) (omega (arith, both_in c t spells (imported imported_function 0 t.imports) (function_of (laid t)) (zip t.functions (map said t.bodies)) f h, zipped c t spells))
+  known_function f h = lt-ltb f (length (imported imported_function 0 t.imports) + length t.functions) (omega (arith, both_in c t spells (imported imported_function 0 t.imports) (function_with (laid t)) (zip t.functions (map said t.bodies)) f h, zipped c t spells))
 
   abbrev There : Named → Type 0
   There x = is_in_range m (naming_of x).0 ≡ true

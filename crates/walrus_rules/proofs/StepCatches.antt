@@ -21,10 +21,9 @@ use Rattle.walrus_functions.specs.ReadFunction.{locals_from}
 use Rattle.walrus_model.specs.Abstract.{Body, Function}
 use Rattle.walrus_model.specs.Config.{Config}
 use Rattle.walrus_model.specs.Names.{body_of_kind, body_of_function}
-use Rattle.walrus_model.specs.Sections.{Said, body_with}
+use Rattle.walrus_model.specs.Sections.{Said, body_with, types_of, function_with}
 use Rattle.walrus_rules.specs.Headline.{declared, ReadsBody}
 use Rattle.walrus_rules.proofs.StepPlain.{CatchesTags}
-use Rattle.walrus_rules.specs.Sections.{types_of, function_of}
 use Rattle.walrus_model.proofs.Lists.{Contains-none, Contains-uncons}
 
 -- ---- one operator
@@ -136,7 +135,7 @@ module _ (c : Config) (s : frames.Module) where
   AllCatches [] = Unit {0}
   AllCatches (f ∷ fs) = BodyCatches f × AllCatches fs
 
-  pub local_catches : (tys : List ℕ) (bodies : List Said) → AllSaid bodies → AllCatches (map (function_of s) (zip tys bodies))
+  pub local_catches : (tys : List ℕ) (bodies : List Said) → AllSaid bodies → AllCatches (map (function_with s) (zip tys bodies))
   local_catches [] bodies all = tt
   local_catches (ty ∷ tys) [] all = tt
   local_catches (ty ∷ tys) (said ∷ rest) all = (

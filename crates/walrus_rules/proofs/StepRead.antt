@@ -16,14 +16,14 @@ use Rattle.walrus_model.specs.Same.{BothAnd}
 use Rattle.walrus_model.specs.Live.{IsLive}
 use Rattle.walrus_model.specs.Refers.{KeepsToo}
 use Rattle.walrus_model.specs.Order.{FunctionsByIndex, FunctionsByImport, OriginsInOrder, ByIndex, ByImport}
-use Rattle.walrus_model.specs.Sections.{Said}
+use Rattle.walrus_model.specs.Sections.{Said, imported, imported_function, imported_table, imported_memory, imported_tag, imported_global, item_after, imports_after, function_with, table_of, memory_of, tag_of, global_of, is_apart, custom_of, is_on_table, is_on_memory, passes}
 use Rattle.walrus_model.specs.Out.{Out}
 use Rattle.walrus_model.specs.Rules.{Holds}
 use Rattle.walrus_rules.specs.Chain.{BringsTo}
 use Rattle.walrus_rules.specs.Headline.{Reads}
 use Rattle.walrus_rules.specs.Pinned.{IsWrittenAs}
 use Rattle.walrus_rules.proofs.StepPlain.{IsPlain}
-use Rattle.walrus_rules.specs.Sections.{imported, imported_function, imported_table, imported_memory, imported_tag, imported_global, item_after, imports_after, function_of, table_of, memory_of, tag_of, global_of, is_apart, custom_of, is_on_table, is_on_memory, passes, module_of}
+use Rattle.walrus_rules.specs.Sections.{module_of}
 use Rattle.walrus_model.proofs.Lists.{Contains-none}
 use Rattle.walrus_model.proofs.PipelineCollected.{some_of}
 use Rattle.walrus_model.proofs.PipelineOps.{from_map, both_at, at_both}
@@ -218,7 +218,7 @@ module _ (c : Config) (s : wire.Module) (bodies : List Said) (fields : List Prod
       let y = some_of (m.functions j) hj in
       at_both (λ (f : Function). f.kind) (FunctionsByImport i j) (m.functions i) (m.functions j) x.0 y.0 x.1 y.1
       (kinds_in_order i j x.0.kind y.0.kind
-      (λ lt. imported_order (λ (f : Function). of_kind f.kind) imported_function function_numbered s.imports (map (function_of s) (zip s.functions bodies)) (all_made (λ (f : Function). of_kind f.kind) (function_of s) (λ f. refl) (zip s.functions bodies)) i j lt x.0 y.0 x.1 y.1)
+      (λ lt. imported_order (λ (f : Function). of_kind f.kind) imported_function function_numbered s.imports (map (function_with s) (zip s.functions bodies)) (all_made (λ (f : Function). of_kind f.kind) (function_with s) (λ f. refl) (zip s.functions bodies)) i j lt x.0 y.0 x.1 y.1)
       (both_at (λ (f : Function). f.kind) (FunctionsByIndex i j) (m.functions i) (m.functions j) x.0 y.0 x.1 y.1 h))
 
   all_ordered : (space : Space) → (space ≡ Types → ⊥) → (i j : ℕ) → IsLive m (space, i) → IsLive m (space, j) → ByIndex m space i j → ByImport m space i j
@@ -253,13 +253,13 @@ module _ (c : Config) (s : wire.Module) (bodies : List Said) (fields : List Prod
     one None h = tt
     one (Some f) h = ((λ b e. let is = h f refl in let none : body_of_kind (ImportedFunction is.0) ≡ Some b = subst (λ k. body_of_kind k ≡ Some b) is.1 e in absurd (cc)), tt)
 
-  plain_of : AllCatches c s (map (function_of s) (zip s.functions bodies)) → IsPlain m
+  plain_of : AllCatches c s (map (function_with s) (zip s.functions bodies)) → IsPlain m
   plain_of local = record {
     in_order = all_ordered;
     imports = λ i x at is. imports_no_type [] s.imports i x at is;
     customs = customs_plain;
-    catches = λ f b at. catches_at c s (imported imported_function 0 s.imports ++ map (function_of s) (zip s.functions bodies))
-        (all_append c s (imported imported_function 0 s.imports) (map (function_of s) (zip s.functions bodies)) (imported_catch 0 s.imports) local) f b at;
+    catches = λ f b at. catches_at c s (imported imported_function 0 s.imports ++ map (function_with s) (zip s.functions bodies))
+        (all_append c s (imported imported_function 0 s.imports) (map (function_with s) (zip s.functions bodies)) (imported_catch 0 s.imports) local) f b at;
     handler_types = λ f. refl;
     section_roots = refl;
     sets = sets_there;

@@ -9,9 +9,9 @@ use Rattle.wasm_payloads.specs.Names.{Named}
 use Rattle.wasm_forms.proofs.Bind.{some_same}
 use Rattle.walrus_types.specs.Operators.{Space, Types, Functions, Tables, Memories, Tags, Globals, Elements, DataSegments, Item}
 use Rattle.walrus_model.specs.Abstract.{Abstract, ImportedBy, ImportedFunction, Function, Table, Memory, Tag, Global, Import, ProducerField}
-use Rattle.walrus_model.specs.Sections.{Said}
+use Rattle.walrus_model.specs.Sections.{Said, table_type_of, memory_type_of, global_type_of, imported_function, imported_table, imported_memory, imported_global, imported_tag, imported, item_after, imports_after, function_with, table_of, memory_of, tag_of, global_of}
 use Rattle.walrus_model.specs.WellMade.{ImportsMatch, import_in, import_of, kind_import, origin_import}
-use Rattle.walrus_rules.specs.Sections.{table_type_of, memory_type_of, global_type_of, imported_function, imported_table, imported_memory, imported_global, imported_tag, imported, item_after, imports_after, function_of, table_of, memory_of, tag_of, global_of, module_of}
+use Rattle.walrus_rules.specs.Sections.{module_of}
 
 -- a list cut at an import
 pub record Cut (xs : List entries.Import) : Type 0 where
@@ -215,8 +215,8 @@ module _ (w : wire.Module) (bodies : List Said) (fields : List ProducerField) (n
   abbrev the : Abstract
   the = module_of w bodies fields namings
 
-  others_function : (j : ℕ) (y : Function) → slice_get (map (function_of w) (zip w.functions bodies)) j ≡ Some y → function_import y ≡ None
-  others_function = none_in function_import (function_of w) (λ x. refl) (zip w.functions bodies)
+  others_function : (j : ℕ) (y : Function) → slice_get (map (function_with w) (zip w.functions bodies)) j ≡ Some y → function_import y ≡ None
+  others_function = none_in function_import (function_with w) (λ x. refl) (zip w.functions bodies)
 
   others_table : (j : ℕ) (y : Table) → slice_get (map table_of w.tables) j ≡ Some y → table_import y ≡ None
   others_table = none_in table_import (table_of) (λ x. refl) (w.tables)
@@ -231,7 +231,7 @@ module _ (w : wire.Module) (bodies : List Said) (fields : List ProducerField) (n
   others_tag = none_in tag_import (tag_of) (λ x. refl) (w.tags)
 
   items : (x : Item) (p : ℕ) → import_of the x ≡ Some p → (z : Import) × (the.imports p ≡ Some z) × (z.item ≡ x)
-  items (Functions, k) p h = items_named imported_function Functions function_import (map (function_of w) (zip w.functions bodies)) w.imports tells_function places_function others_function k p (the.functions k) refl h
+  items (Functions, k) p h = items_named imported_function Functions function_import (map (function_with w) (zip w.functions bodies)) w.imports tells_function places_function others_function k p (the.functions k) refl h
   items (Tables, k) p h = items_named imported_table Tables table_import (map table_of w.tables) w.imports tells_table places_table others_table k p (the.tables k) refl h
   items (Memories, k) p h = items_named imported_memory Memories memory_import (map memory_of w.memories) w.imports tells_memory places_memory others_memory k p (the.memories k) refl h
   items (Globals, k) p h = items_named imported_global Globals global_import (map global_of w.globals) w.imports tells_global places_global others_global k p (the.globals k) refl h
@@ -241,7 +241,7 @@ module _ (w : wire.Module) (bodies : List Said) (fields : List ProducerField) (n
   items (DataSegments, k) p h = absurd (cc)
 
   of_desc : (p : ℕ) (c : Cut w.imports) (d : RawDesc) → c.import.desc ≡ d → p ≡ length c.before → import_of the (item_after c.before d) ≡ Some p
-  of_desc p c (descs.Function ty) is e = import_named imported_function Functions function_import (map (function_of w) (zip w.functions bodies)) w.imports tells_function places_function others_function p c (record { ty = ty; kind = ImportedFunction (0 + length c.before) }) e (ap (imported_function (0 + length c.before)) is)
+  of_desc p c (descs.Function ty) is e = import_named imported_function Functions function_import (map (function_with w) (zip w.functions bodies)) w.imports tells_function places_function others_function p c (record { ty = ty; kind = ImportedFunction (0 + length c.before) }) e (ap (imported_function (0 + length c.before)) is)
   of_desc p c (descs.Table ty) is e = import_named imported_table Tables table_import (map table_of w.tables) w.imports tells_table places_table others_table p c (record { origin = ImportedBy (0 + length c.before); ty = table_type_of ty; initialiser = None }) e (ap (imported_table (0 + length c.before)) is)
   of_desc p c (descs.Memory l) is e = import_named imported_memory Memories memory_import (map memory_of w.memories) w.imports tells_memory places_memory others_memory p c (record { origin = ImportedBy (0 + length c.before); ty = memory_type_of l }) e (ap (imported_memory (0 + length c.before)) is)
   of_desc p c (descs.Global ty) is e = import_named imported_global Globals global_import (map global_of w.globals) w.imports tells_global places_global others_global p c (record { origin = ImportedBy (0 + length c.before); ty = global_type_of ty; initialiser = None }) e (ap (imported_global (0 + length c.before)) is)

@@ -13,11 +13,11 @@ use Rattle.walrus_functions.specs.Handlers.{params_of}
 use Rattle.walrus_model.specs.Abstract.{Abstract, Name, Subject, AnItem, Body, LocalFunction, Function, ProducerField}
 use Rattle.walrus_model.specs.Config.{Config}
 use Rattle.walrus_model.specs.Names.{last_name, body_of}
-use Rattle.walrus_model.specs.Sections.{Said, body_with}
+use Rattle.walrus_model.specs.Sections.{Said, body_with, types_of, imported, imported_function, function_with}
 use Rattle.walrus_rules.specs.Namings.{is_in_range, names_given}
 use Rattle.walrus_rules.specs.Once.{WrittenOnce}
 use Rattle.walrus_rules.specs.Pinned.{IsWrittenAs}
-use Rattle.walrus_rules.specs.Sections.{types_of, imported, imported_function, function_of, items_of, module_of}
+use Rattle.walrus_rules.specs.Sections.{items_of, module_of}
 use Rattle.walrus_rules.specs.Spelling.{UsesAll, IsSpelling}
 use Rattle.walrus_rules.specs.Text.{Text, said, namings_of, sections_of, said_by}
 use Rattle.walrus_rules.proofs.OneModule.{one_module}
@@ -63,15 +63,15 @@ module _ (w : wire.Module) where
   imports_fine i [] = tt
   imports_fine i (x ∷ xs) = all_append Fine (option_to_list (imported_function i x.desc)) (imported imported_function (i + 1) xs) (imported_fine i x.desc) (imports_fine (i + 1) xs)
 
-  function_fine : (f : ℕ × Said) → Fine (function_of w f)
+  function_fine : (f : ℕ × Said) → Fine (function_with w f)
   function_fine f b e = (f.1, local_same (body_with (params_of (types_of w f.0)) f.1) b e)
 
   module _ (bodies : List Said) (fields : List ProducerField) (namings : List Named) where
     abbrev pub the : Abstract
     the = module_of w bodies fields namings
 
-    pub functions_fine : AllByRecursion Fine (imported imported_function 0 w.imports ++ map (function_of w) (zip w.functions bodies))
-    functions_fine = all_append Fine (imported imported_function 0 w.imports) (map (function_of w) (zip w.functions bodies)) (imports_fine 0 w.imports) (all_map Fine (function_of w) (zip w.functions bodies) function_fine)
+    pub functions_fine : AllByRecursion Fine (imported imported_function 0 w.imports ++ map (function_with w) (zip w.functions bodies))
+    functions_fine = all_append Fine (imported imported_function 0 w.imports) (map (function_with w) (zip w.functions bodies)) (imports_fine 0 w.imports) (all_map Fine (function_with w) (zip w.functions bodies) function_fine)
 
     short_if : (flag : Bool) (names : List Name) → length names ≤ 1 → length (if flag then names else []) ≤ 1
     short_if true names h = h

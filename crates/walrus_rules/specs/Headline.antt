@@ -17,13 +17,13 @@ use Rattle.walrus_model.specs.Abstract.{Abstract, Name, ProducerValue, ProducerF
 use Rattle.walrus_model.specs.Config.{Config}
 use Rattle.walrus_model.specs.Out.{Out}
 use Rattle.walrus_model.specs.Reads.{below}
-use Rattle.walrus_model.specs.Sections.{Said}
+use Rattle.walrus_model.specs.Sections.{Said, types_of, imported, imported_function, imported_table, imported_memory, imported_tag, imported_global}
 use Rattle.walrus_model.specs.Rules.{Holds}
 use Rattle.walrus_rules.specs.Chain.{BringsTo}
 use Rattle.walrus_rules.specs.Features.{features_of}
 use Rattle.walrus_rules.specs.Pinned.{IsWrittenAs}
 use Rattle.walrus_rules.specs.Refused.{PassesLimits}
-use Rattle.walrus_rules.specs.Sections.{types_of, module_of, imported, imported_function, imported_table, imported_memory, imported_tag, imported_global}
+use Rattle.walrus_rules.specs.Sections.{module_of}
 use Rattle.walrus_rules.specs.Spelling.{IsSpelledAs}
 
 -- ---- what is declared; data segments where a data count stands

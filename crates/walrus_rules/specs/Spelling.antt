@@ -18,7 +18,7 @@ use Rattle.walrus_model.specs.Abstract.{Abstract, Name, Body, Table, PassiveData
 use Rattle.walrus_model.specs.Names.{body_of}
 use Rattle.walrus_model.specs.Refers.{IsUsed}
 use Rattle.walrus_rules.specs.Namings.{naming_of, is_in_range}
-use Rattle.walrus_rules.specs.Sections.{is_apart}
+use Rattle.walrus_model.specs.Sections.{is_apart}
 use Rattle.walrus_rules.specs.Text.{BodyText, NameMap, NameText, namings_of, Text, sections_of, said_by}
 
 -- ---- bodies: one declaration a type, none for no local, types by their rank; and each operator stands in its one form
