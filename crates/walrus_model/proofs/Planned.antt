@@ -1,5 +1,5 @@
 -- What is written along a plan carries all there is, and numbers rise: for all spaces at once.
-use Rattle.std.proofs.Common.{◌≡◌, ℕ, ◌<◌, sym, ap, ◌∙◌, subst, arith, inl, inr, ⊎_elim}
+use Rattle.std.proofs.Common.{◌≡◌, ◌⊎◌, ℕ, ◌<◌, List, ◌++◌, refl, sym, ap, ◌∙◌, subst, arith, inl, inr, ⊎_elim}
 use Rattle.std.specs.Prelude.{Option, Some, None, IsSome, option_map, unwrap_or}
 use Rattle.walrus_types.specs.Operators.{Space, Types, Functions, Tables, Memories, Tags, Globals, Elements, DataSegments, Item}
 use Rattle.walrus_types.specs.Shape.{place_in}
@@ -7,12 +7,14 @@ use Rattle.walrus_model.specs.Abstract.{Abstract, Origin, ImportedBy, Defined, B
 use Rattle.walrus_model.specs.Carried.{Carries, KeepsApart, In}
 use Rattle.walrus_model.specs.Live.{IsLive}
 use Rattle.walrus_model.specs.Order.{LargerFirst, FunctionsByImport, OriginsInOrder, ByImport}
-use Rattle.walrus_model.specs.Plan.{Plan, AreNumbered, numbers_by, IsPlan, IsWrittenAlong}
+use Rattle.walrus_model.specs.Plan.{Plan, AreNumbered, numbers_by, IsPlan, IsWrittenAlong, IsImportedIn, IsOwnIn}
 use Rattle.walrus_model.specs.Renaming.{Renaming}
 use Rattle.walrus_model.specs.Same.{BothAnd}
-use Rattle.walrus_model.specs.Spaces.{Thing, look, SameThing}
+use Rattle.walrus_model.specs.Spaces.{Thing, look, SameThing, origin_in}
 use Rattle.walrus_model.proofs.Spaces.{live_to, live_from}
-use Rattle.walrus_model.proofs.Orders.{carries_in_order, rises_in_order, apart_in_order}
+use Rattle.walrus_model.specs.Ordered.{Lists, Ordered}
+use Rattle.walrus_model.proofs.Orders.{carries_in_order, rises_in_order, apart_in_order, lists_both, is_some_by}
+use Rattle.walrus_model.proofs.Standing.{some_of, some_inj}
 use mathlib.Core.Path.{fun_ext}
 
 -- ---- what comes before by import goes one way
@@ -79,3 +81,26 @@ module _ (names : Space → ℕ → Option ℕ) (plan : Plan) (numbered : AreNum
   planned_carries Added s w =
       subst (λ (ys : ℕ → Option (Thing s)). Carries (In (IsLive v) s) (In Added s) (r.numbers s) (SameThing r s) (look v s) ys) (sym (fun_ext w.reads))
       (all_live v s (carries_in_order (look v s) (plan s) (is_plan.holds s) (r.numbers s) (agrees s) (SameThing r s) w.written w.stand (In Added s)))
+
+-- ---- imported ones, and behind them the others
+
+module _ (v : Abstract) (s : Space) where
+  two_origins : (x : Thing s) (y : Thing s) (k : ℕ) (o : Option Origin) → origin_in s x ≡ o → (o ≡ Some (ImportedBy k) → ⊥) → x ≡ y → origin_in s y ≡ Some (ImportedBy k) → ⊥
+  two_origins x y k o e not same at = not (sym e ∙ ap (origin_in s) same ∙ at)
+
+  own_by : (p : ℕ) (x : Thing s) (o : Option Origin) → look v s p ≡ Some x → origin_in s x ≡ o → ((k : ℕ) → o ≡ Some (ImportedBy k) → ⊥) → IsOwnIn v s p
+  own_by p x o at e not = (is_some_by (look v s p) x at, λ named. two_origins x named.0 named.2.0 o e (not named.2.0) (some_inj x named.0 (sym at ∙ named.1)) named.2.1)
+
+  one_origin : (p : ℕ) (x : Thing s) (o : Option Origin) → look v s p ≡ Some x → origin_in s x ≡ o → IsImportedIn v s p ⊎ IsOwnIn v s p
+  one_origin p x (Some (ImportedBy k)) at e = inl (x, at, (k, e))
+  one_origin p x (Some Defined) at e = inr (own_by p x (Some Defined) at e (λ k f. cc))
+  one_origin p x None at e = inr (own_by p x None at e (λ k f. cc))
+
+  pub imported_first : (xs ys : List ℕ) → Lists (IsImportedIn v s) xs → Lists (IsOwnIn v s) ys → Ordered (look v s) (xs ++ ys)
+  imported_first xs ys a b =
+      lists_both (IsImportedIn v s) (IsOwnIn v s) (λ p. IsSome (look v s p))
+      (λ p h g. g.1 h)
+      (λ p live. let x = some_of (look v s p) live in one_origin p x.0 (origin_in s x.0) x.1 refl)
+      (λ p h. is_some_by (look v s p) h.0 h.1)
+      (λ p g. g.0)
+      xs ys a b

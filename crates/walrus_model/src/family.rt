@@ -2,8 +2,9 @@
 
 ghost use Rattle.std.specs.Prelude.{ℕ, AllPairs, Contains, IsSome, List, Option, Some, filter_map, map, option_and_then, option_map, slice_get, ◌++◌, ◌≡◌, ◌<◌, ◌↔◌};
 ghost use Rattle.std.specs.List.{AllZip};
-ghost use Rattle.wasm_entries.specs.Record as entries;
-ghost use Rattle.walrus_base.specs.Arena.{item_at};
+ghost use Rattle.std.specs.List.Sorted.{IsPermutation};
+ghost use Rattle.wasm_entries.specs.Record as wire;
+ghost use Rattle.walrus_base.specs.Arena.{entries, item_at};
 ghost use Rattle.walrus_types.specs.Operators.{Functions, Globals, Space, Tables};
 ghost use Rattle.walrus_model.specs.Abstract.{Abstract, Defined, Function, Global, ImportedBy, Table, Uninitialised};
 ghost use Rattle.walrus_model.specs.Carried.{Carries, In, KeepsApart};
@@ -12,9 +13,9 @@ ghost use Rattle.walrus_model.specs.Kept.{IsImportOf, Kept};
 ghost use Rattle.walrus_model.specs.Laws.{CarriesAll};
 ghost use Rattle.walrus_model.specs.Live.{IsLive};
 ghost use Rattle.walrus_model.specs.Order.{ByImport};
-ghost use Rattle.walrus_model.specs.Ordered.{StandsFor};
+ghost use Rattle.walrus_model.specs.Ordered.{FilledFrom, Lists, Ordered, StandsFor};
 ghost use Rattle.walrus_model.specs.Pipeline.{Collected, IsSimple, KeepsOnly, ParsedAs, ReachedIsLive};
-ghost use Rattle.walrus_model.specs.Plan.{AreNumbered, IsPlan, IsWrittenAlong, Plan, numbers_by};
+ghost use Rattle.walrus_model.specs.Plan.{AreNumbered, IsImportedIn, IsOwnIn, IsPlan, IsWrittenAlong, Plan, numbers_by};
 ghost use Rattle.walrus_model.specs.Refers.{named_by, written_in};
 ghost use Rattle.walrus_model.specs.Renaming.{Renaming, renamed_export, renamed_import};
 ghost use Rattle.walrus_model.specs.Rules.{Holds, LocalsHold, RulesHold};
@@ -36,6 +37,15 @@ pub fn plans_carry()
     ensures rises { (names : Space → ℕ → Option ℕ) (plan : Plan) (v n : Abstract) (r : Renaming) → AreNumbered names plan → IsPlan v plan → ((s : Space) (i : ℕ) → r.numbers s i ≡ numbers_by names s i) → (s : Space) (i j : ℕ) → IsLive v (s, i) → IsLive v (s, j) → ByImport v s i j → r.numbers s i < r.numbers s j }
 {}
 
+/// Orders of what a module has: the entries of an arena, the same in another order, imported ones and behind them the others; and an
+/// arena that is filled thing by thing carries each in its place.
+pub fn orders_are_made()
+    ensures entries { (slots : List (Option Table)) → Ordered (item_at slots) (map (λ e. e.0) (entries slots)) }
+    ensures permuted { (v : Abstract) (s : Space) (xs ys : List ℕ) → IsPermutation xs ys → Ordered (look v s) xs → Ordered (look v s) ys }
+    ensures imported_first { (v : Abstract) (s : Space) (xs ys : List ℕ) → Lists (IsImportedIn v s) xs → Lists (IsOwnIn v s) ys → Ordered (look v s) (xs ++ ys) }
+    ensures filled { (r : Renaming) (s : Space) (things : List (Thing s)) (slots : List (Option (Thing s))) → ((i : ℕ) → r.numbers s i ≡ i) → FilledFrom (λ x. x) (SameThing r s) 0 things slots → Carries (λ i. IsSome (slice_get things i)) (λ j. ⊥) (r.numbers s) (SameThing r s) (slice_get things) (λ i. option_map (λ x. x) (item_at slots i)) }
+{}
+
 /// Globals in the order of the imports that bring them, and then the others by place, are in order; and records written along an
 /// order stand for the items.
 pub fn orders_hold()
@@ -45,8 +55,8 @@ pub fn orders_hold()
 
 /// What imports bring lies along what they name, for each space.
 pub fn imports_bring()
-    ensures along { (r : Renaming) (v : Abstract) (s : Space) (order : List ℕ) (ws : List entries.Import) → AllZip (λ p e. IsBrought r v p e.0 e.1) order (numbered_from 0 ws) → AllZip (StandsFor (SameThing r s) (look v s)) (filter_map (import_number v s) order) (brought s ws) }
-    ensures whole { (r : Renaming) (v n : Abstract) (plan : Plan) (s : Space) (order local : List ℕ) (ws : List entries.Import) (things : List (Thing s)) → plan s ≡ filter_map (import_number v s) order ++ local → ((j : ℕ) → look n s j ≡ slice_get (brought s ws ++ things) j) → AllZip (λ p e. IsBrought r v p e.0 e.1) order (numbered_from 0 ws) → AllZip (StandsFor (SameThing r s) (look v s)) local things → IsWrittenAlong r v n plan s }
+    ensures along { (r : Renaming) (v : Abstract) (s : Space) (order : List ℕ) (ws : List wire.Import) → AllZip (λ p e. IsBrought r v p e.0 e.1) order (numbered_from 0 ws) → AllZip (StandsFor (SameThing r s) (look v s)) (filter_map (import_number v s) order) (brought s ws) }
+    ensures whole { (r : Renaming) (v n : Abstract) (plan : Plan) (s : Space) (order local : List ℕ) (ws : List wire.Import) (things : List (Thing s)) → plan s ≡ filter_map (import_number v s) order ++ local → ((j : ℕ) → look n s j ≡ slice_get (brought s ws ++ things) j) → AllZip (λ p e. IsBrought r v p e.0 e.1) order (numbered_from 0 ws) → AllZip (StandsFor (SameThing r s) (look v s)) local things → IsWrittenAlong r v n plan s }
 {}
 
 /// What is parsed, what gc leaves, and what is written of a module that keeps the rules keeps them.

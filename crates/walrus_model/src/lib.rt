@@ -9,7 +9,9 @@ mod family;
 mod laws;
 mod pipeline;
 
-pub use family::{imports_bring, orders_hold, plans_carry, rules_are_kept, spaces_agree};
+pub use family::{
+    imports_bring, orders_are_made, orders_hold, plans_carry, rules_are_kept, spaces_agree,
+};
 pub use laws::{
     kept_comes_out, names_follow, reached_follows, reached_is_least, reads_once, renamings_compose,
     shapes_are_kept, worked_examples,

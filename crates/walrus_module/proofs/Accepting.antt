@@ -44,7 +44,8 @@ use Rattle.walrus_module.specs.Parsed.{IsParsed, TakenFrom, AreModule, RefusesMo
 use Rattle.walrus_module.specs.View.{view_of}
 use Rattle.walrus_module.proofs.Carrying.{parsed}
 use Rattle.walrus_module.proofs.Keeps.{keeps}
-use Rattle.walrus_module.proofs.Lookups.{got_map, got_in, got_zip, zip_long}
+use Rattle.walrus_model.proofs.Standing.{got_in}
+use Rattle.walrus_module.proofs.Lookups.{got_map, got_zip, zip_long}
 use Rattle.walrus_module.proofs.Steps.{zip_length, pairs_long}
 use Rattle.walrus_parts.specs.declared.error.Error.{Error}
 use Rattle.walrus_parts.specs.declared.error.Error.TheVariants as Parts

@@ -31,12 +31,12 @@ use Rattle.walrus_module.specs.Parts.{Held, type_index, HasBytes, source, unplac
 use Rattle.walrus_module.specs.Spells.{Records}
 use Rattle.walrus_module.proofs.BodyBack.{types_in, typed_by, reads_again}
 use Rattle.walrus_module.proofs.Leads.{found_at}
-use Rattle.walrus_module.proofs.Lookups.{mapped_some, got_map, got_in, zip_length, map_after, as_long, heads}
-use Rattle.walrus_module.proofs.Named.{some_inj}
+use Rattle.walrus_module.proofs.Lookups.{mapped_some, got_map, zip_length, map_after, as_long, heads}
 use Rattle.walrus_module.proofs.NamedTypes.{NamedDef, def_parts, function_named, params_named}
 use Rattle.walrus_module.proofs.Standing.{entry_is, entry_found}
 use Rattle.walrus_module.proofs.WrittenAs.{texts_in, texts_of}
 use Rattle.walrus_model.proofs.Supported.{supported}
+use Rattle.walrus_model.proofs.Standing.{got_in, some_inj}
 
 below_is : (count i : ℕ) (b : Bool) → nat_lt i count ≡ b → i < count → below count i ≡ Some i
 below_is count i true e h = ap (λ (t : Bool). if t then Some i else None) e

@@ -13,9 +13,10 @@ use Rattle.walrus_bodies.specs.Body.{BodyReads, declared_types}
 use Rattle.walrus_functions.specs.EmittedBody.{Source, BodyWritten, spelled_as, looked_up, index_in}
 use Rattle.walrus_functions.specs.ReadFunction.{locals_from}
 use Rattle.walrus_module.proofs.Leads.{found_at}
-use Rattle.walrus_module.proofs.Lookups.{heads, mapped_append, map_after, as_long, got_in, range_at}
+use Rattle.walrus_module.proofs.Lookups.{heads, mapped_append, map_after, as_long, range_at}
 use Rattle.walrus_module.proofs.Named.{val_again, ops_again}
 use Rattle.walrus_module.proofs.NamedFound.{blocks_found}
+use Rattle.walrus_model.proofs.Standing.{got_in}
 
 -- the types that declarations over indices declare, one for each local
 abbrev pub declared_by : List (ℕ × RawVal) → List (ValType ℕ)

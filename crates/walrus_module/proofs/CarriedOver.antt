@@ -37,12 +37,12 @@ use Rattle.walrus_module.specs.Parts.{Held, local_in, type_index, export_with_in
 use Rattle.walrus_module.specs.Spells.{Records}
 use Rattle.walrus_module.specs.View.{body, kind_of, function, export_of as export_seen, view_of}
 use Rattle.walrus_module.proofs.BodiesBack.{new_types, Entered, type_entry, entry_of, types_apart}
-use Rattle.walrus_module.proofs.Lookups.{none_there, some_of, was_some, mapped_some, then_some, got_map, got_zip, got_both, heads}
-use Rattle.walrus_module.proofs.Named.{some_inj}
+use Rattle.walrus_module.proofs.Lookups.{was_some, mapped_some, then_some, got_map, got_zip, got_both, heads}
 use Rattle.walrus_module.proofs.NamedTypes.{each_place, same_in_group, group_renamed}
 use Rattle.walrus_module.proofs.SameBodies.{spelled_as_text, same_body}
 use Rattle.walrus_module.proofs.Standing.{entered, entry_found, local_is, ordered_at, order_found}
 use Rattle.walrus_module.proofs.WrittenAs.{sections_of, texts_of, written_as, renaming_of}
+use Rattle.walrus_model.proofs.Standing.{none_there, some_of, some_inj}
 
 -- ---- types
 

@@ -32,11 +32,12 @@ use Rattle.walrus_model.proofs.Lists.{map-itself, map-same}
 use Rattle.walrus_model.proofs.TypeMaps.{sub-itself, val-itself, heap-itself}
 use Rattle.walrus_module.specs.Taken.{HoldsBody, HoldsFunction, HasTaken}
 use Rattle.walrus_module.specs.View.{body, kind_of, kind_handlers, handlers_at, function, view_of}
-use Rattle.walrus_module.proofs.Lookups.{got_map, there, still_some, none_there}
+use Rattle.walrus_module.proofs.Lookups.{got_map, there, still_some}
 use Rattle.walrus_module.proofs.Parsing.{read_at, used_below}
 use Rattle.walrus_module.proofs.Steps.{type_there, zip_length}
 use Rattle.wasm_frames.specs.Record as wire
 use Rattle.walrus_model.proofs.Supported.{supported}
+use Rattle.walrus_model.proofs.Standing.{none_there}
 
 -- ---- types
 

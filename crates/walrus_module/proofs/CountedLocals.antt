@@ -18,7 +18,8 @@ use Rattle.walrus_bodies.specs.Body.{Context, BodyReads, declarations, declared_
 use Rattle.walrus_model.specs.Config.{Config}
 use Rattle.walrus_model.specs.Reads.{ReadsBody}
 use Rattle.walrus_model.specs.Sections.{Said}
-use Rattle.walrus_module.proofs.Named.{through, some_inj}
+use Rattle.walrus_model.proofs.Standing.{some_inj}
+use Rattle.walrus_module.proofs.Named.{through}
 
 abbrev pub counts : List (ℕ × RawVal) → List ℕ
 counts ds = map (λ (d : ℕ × RawVal). d.0) ds

@@ -1,10 +1,9 @@
 -- The places of what an arena holds differ, also once those of the functions with a body are put in order.
-use Rattle.std.proofs.Common.{inl, inr, suc, ◌≡◌, ℕ, ◌+◌, ◌<◌, true, false, List, [], ◌∷◌, ◌++◌, map, length, refl, sym, ap, ◌∙◌, subst, arith, Some, None}
-use Rattle.std.specs.Prelude.{◌≢◌, ◌⊎◌, nat_eq, Option, count_by, is_some, cond}
+use Rattle.std.proofs.Common.{suc, ◌≡◌, ℕ, ◌+◌, ◌<◌, false, List, [], ◌∷◌, ◌++◌, map, length, refl, sym, ap, ◌∙◌, subst, arith, Some, None}
+use Rattle.std.specs.Prelude.{nat_eq, Option, count_by, is_some, cond}
 use Rattle.std.specs.List.{IsDistinct, AllByRecursion}
 use Rattle.std.specs.Option.{option_to_list}
 use Rattle.std.proofs.lemmas.Bool.{ne_eqb}
-use Rattle.std.proofs.lemmas.Bool.Decides.{eqb_tells}
 use Rattle.std.proofs.lemmas.List.Sums.{sum_by-cons}
 use Rattle.std.proofs.lemmas.List.Sorted.{IsPermutation-map}
 use Rattle.std.proofs.lemmas.Map.Keys.{IsDistinct-IsPermutation}
@@ -14,25 +13,15 @@ use Rattle.walrus_items.specs.Functions.{FunctionValue, local_functions, local_a
 use Rattle.walrus_items.specs.declared.functions.FunctionKind.{FunctionKind}
 use Rattle.walrus_items.specs.declared.functions.FunctionKind.TheVariants as kind
 use Rattle.walrus_module.specs.Sizes.{local_sizes, IsOrder}
+use Rattle.walrus_model.proofs.Orders.{eq_flips, ordered_entries}
 
 differs : (x k : ℕ) → x < k → nat_eq x k ≡ false
 differs x k h = ne_eqb x k (λ e. omega arith)
 
 -- ---- all entries
 
-entries_above : {T : Type 0} (k : ℕ) (slots : List (Option T)) (x : ℕ) → x < k → AllByRecursion (λ y. nat_eq x y ≡ false) (map (λ e. e.0) (entries_from k slots))
-entries_above k [] x h = tt
-entries_above k (None ∷ rest) x h = entries_above (k + 1) rest x (omega arith)
-entries_above k (Some item ∷ rest) x h = (differs x k h, entries_above (k + 1) rest x (omega arith))
-
-entries_differ : {T : Type 0} (k : ℕ) (slots : List (Option T)) → IsDistinct nat_eq (map (λ e. e.0) (entries_from k slots))
-unfolding IsDistinct
-entries_differ k [] = tt
-entries_differ k (None ∷ rest) = entries_differ (k + 1) rest
-entries_differ k (Some item ∷ rest) = (entries_above (k + 1) rest k (omega arith), entries_differ (k + 1) rest)
-
 pub places_differ : {T : Type 0} (slots : List (Option T)) → IsDistinct nat_eq (map (λ e. e.0) (entries slots))
-places_differ slots = entries_differ 0 slots
+places_differ slots = (ordered_entries slots).differ
 
 -- as many as there are
 count_from : {T : Type 0} (k : ℕ) (slots : List (Option T)) → length (entries_from k slots) ≡ count_by is_some slots
@@ -82,13 +71,6 @@ locals_differ k (Some f ∷ rest) = differ_one k f.kind (local_functions (entrie
 pub sizes_places : (es : List (ℕ × LocalFunction)) → map (λ (s : ℕ × ℕ). s.1) (map (λ (e : ℕ × LocalFunction). (length e.1.operators.items, e.0)) es) ≡ map (λ (e : ℕ × LocalFunction). e.0) es
 sizes_places [] = refl
 sizes_places (e ∷ es) = ap (λ (ps : List ℕ). e.0 ∷ ps) (sizes_places es)
-
-sym_at : (x y : ℕ) → ((nat_eq x y ≡ true) × (x ≡ y)) ⊎ ((nat_eq x y ≡ false) × (x ≢ y)) → nat_eq x y ≡ nat_eq y x
-sym_at x y (inl e) = subst (λ z. nat_eq x z ≡ nat_eq z x) e.1 refl
-sym_at x y (inr e) = e.0 ∙ sym (ne_eqb y x (λ h. e.1 (sym h)))
-
-eq_flips : (x y : ℕ) → nat_eq x y ≡ nat_eq y x
-eq_flips x y = sym_at x y (eqb_tells x y)
 
 pub order_differs : (funcs : List (Option FunctionValue)) (order : List ℕ) → IsOrder funcs order → IsDistinct nat_eq order
 order_differs funcs order h =

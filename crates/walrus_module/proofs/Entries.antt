@@ -15,9 +15,8 @@ use Rattle.walrus_items.specs.declared.functions.FunctionKind.TheVariants as kin
 use Rattle.walrus_model.proofs.Lists.{Contains-head, Contains-tail, Contains-uncons, Contains-none, Contains-map, Contains-append_2}
 use Rattle.walrus_types.specs.Shape.{place_in}
 use Rattle.walrus_module.specs.Sizes.{local_sizes, IsOrder}
-use Rattle.walrus_module.proofs.Named.{some_inj}
-use Rattle.walrus_module.proofs.Lookups.{none_there, still_some}
-use Rattle.walrus_module.proofs.Placing.{self_eq}
+use Rattle.walrus_module.proofs.Lookups.{still_some}
+use Rattle.walrus_model.proofs.Standing.{none_there, some_inj, self_eq}
 
 pub none_some : {A : Type 0} (x : A) → None ≡ Some x → ⊥
 none_some x e = cc

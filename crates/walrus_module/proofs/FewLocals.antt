@@ -36,7 +36,8 @@ use Rattle.walrus_module.specs.Refused.{HasManyLocals}
 use Rattle.walrus_module.specs.Taken.{HasTaken}
 use Rattle.walrus_module.specs.View.{is_declared, body, view_of}
 use Rattle.walrus_module.proofs.CountedLocals.{counted_few}
-use Rattle.walrus_module.proofs.Lookups.{got_zip, zip_left, all_got, range_within}
+use Rattle.walrus_model.proofs.Standing.{zip_left}
+use Rattle.walrus_module.proofs.Lookups.{got_zip, all_got, range_within}
 use Rattle.walrus_module.proofs.ParsedWhole.{BodyAt, body_at, body_there}
 use Rattle.walrus_module.proofs.SeenLocals.{declared_used, declared_ones, all_filtered}
 use Rattle.walrus_module.proofs.SmallLocals.{used_small}

@@ -15,24 +15,18 @@ use Rattle.walrus_items.specs.declared.functions.FunctionKind.{FunctionKind}
 use Rattle.walrus_items.specs.declared.functions.FunctionKind.TheVariants as kind
 use Rattle.walrus_types.specs.Shape.{place_in}
 use Rattle.walrus_types.specs.TypeDef.{TypeDef}
-use Rattle.walrus_model.proofs.Lists.{Contains-head, Contains-tail, Contains-uncons, Contains-none, Contains-map, Contains-append_2}
+use Rattle.walrus_model.proofs.Lists.{Contains-head, Contains-uncons, Contains-none, Contains-map, Contains-append_2}
 use Rattle.walrus_module.specs.Parts.{Held as ModuleHeld}
 use Rattle.walrus_module.specs.Sizes.{local_sizes}
 use Rattle.walrus_module.specs.Spells.{Records}
 use Rattle.walrus_module.specs.Whole.{is_local}
-use Rattle.walrus_module.proofs.Differ.{places_differ, order_differs, sizes_places}
-use Rattle.walrus_module.proofs.Leads.{found_at, stands_at}
-use Rattle.walrus_module.proofs.Lookups.{got_in, got_map, none_there, some_of}
+use Rattle.walrus_module.proofs.Differ.{order_differs, sizes_places}
+use Rattle.walrus_module.proofs.Leads.{found_at}
+use Rattle.walrus_module.proofs.Lookups.{got_map}
+use Rattle.walrus_model.proofs.Standing.{got_in, none_there, some_of, stands_at, got_where}
+use Rattle.walrus_model.proofs.Orders.{Held, held_later, held_here, held_at, ordered_entries}
 
 -- ---- lists
-
-got_at : {A : Type 0} (xs : List A) (k : ℕ) (d : A) → k < length xs → slice_get xs k ≡ Some (get_or xs k d)
-got_at [] k d lt = absurd (omega arith)
-got_at (x ∷ xs) zero d lt = refl
-got_at (x ∷ xs) (suc k) d lt = got_at xs k d (omega arith)
-
-got_where : {A : Type 0} (xs : List A) (x : A) (c : Contains xs x) → slice_get xs c.0 ≡ Some x
-got_where {A} xs x c = got_at xs c.0 x c.1 ∙ ap (λ (y : A). Some y) c.2
 
 -- what is in a list of places that differ has a place there
 pub placed_in : (xs : List ℕ) (n : ℕ) → IsDistinct nat_eq xs → (c : Contains xs n) → place_in xs n ≡ Some c.0
@@ -57,44 +51,15 @@ all_at test k (Some y ∷ rest) zero x h e =
     subst (λ z. test z ≡ true) p (both (test y) (list_all test (map (λ e. e.1) (entries_from (k + 1) rest))) h).0
 all_at test k (Some y ∷ rest) (suc i) x h e = all_at test (k + 1) rest i x (both (test y) (list_all test (map (λ e. e.1) (entries_from (k + 1) rest))) h).1 e
 
-place_entered : {T : Type 0} (k : ℕ) (slots : List (Option T)) (i n : ℕ) → n ≡ k + i → IsSome (item_at slots i) → Contains (map (λ e. e.0) (entries_from k slots)) n
-place_entered k [] i n h s = absurd (none_there s)
-place_entered k (None ∷ rest) zero n h s = absurd (none_there s)
-place_entered k (None ∷ rest) (suc i) n h s = place_entered (k + 1) rest i n (omega (arith, h)) s
-place_entered k (Some x ∷ rest) zero n h s =
-    let p : k ≡ n = omega (arith, h) in
-    subst (λ m. Contains (k ∷ map (λ e. e.0) (entries_from (k + 1) rest)) m) p (Contains-head k (map (λ e. e.0) (entries_from (k + 1) rest)))
-place_entered k (Some x ∷ rest) (suc i) n h s = Contains-tail k n (map (λ e. e.0) (entries_from (k + 1) rest)) (place_entered (k + 1) rest i n (omega (arith, h)) s)
-
--- the place is the i-th from k on, and something is there
-abbrev Held : {T : Type 0} → ℕ → List (Option T) → ℕ → Type 0
-Held k slots n = (i : ℕ) × (n ≡ k + i) × IsSome (item_at slots i)
-
-held_later : {T : Type 0} (k : ℕ) (s : Option T) (rest : List (Option T)) (n : ℕ) → Held (k + 1) rest n → Held k (s ∷ rest) n
-held_later k s rest n (i, e, live) = (suc i, (let f : n ≡ k + 1 + i = e in omega (arith, f)), live)
-
-held_here : {T : Type 0} (k : ℕ) (x : T) (rest : List (Option T)) (n : ℕ) → k ≡ n → Held k (Some x ∷ rest) n
-held_here k x rest n e = (0, omega (arith, e), refl)
-
-place_held : {T : Type 0} (k : ℕ) (slots : List (Option T)) (n : ℕ) → Contains (map (λ e. e.0) (entries_from k slots)) n → Held k slots n
-place_held k [] n c = absurd (Contains-none n c)
-place_held {T} k (None ∷ rest) n c = held_later k None rest n (place_held (k + 1) rest n c)
-place_held {T} k (Some x ∷ rest) n c =
-    let more : List ℕ = map (λ (e : ℕ × T). e.0) (entries_from (k + 1) rest) in
-    ⊎_elim (λ (e : k ≡ n). held_here k x rest n e) (λ (d : Contains more n). held_later k (Some x) rest n (place_held (k + 1) rest n d)) (Contains-uncons k n more c)
-
-held_at : {T : Type 0} (slots : List (Option T)) (n : ℕ) → Held 0 slots n → IsSome (item_at slots n)
-held_at slots n (i, e, live) = let p : i ≡ n = (let f : n ≡ 0 + i = e in omega (arith, f)) in subst (λ m. IsSome (item_at slots m)) p live
-
 -- an item has an index among the places of the entries
 pub entry_placed : {T : Type 0} (slots : List (Option T)) (n : ℕ) → IsSome (item_at slots n) → IsSome (place_in (map (λ e. e.0) (entries slots)) n)
 entry_placed {T} slots n live =
-    let c = place_entered 0 slots n n (omega arith) live in
-    subst (λ (o : Option ℕ). IsSome o) (sym (placed_in (map (λ (e : ℕ × T). e.0) (entries slots)) n (places_differ slots) c)) (refl {A = Bool} {a = true})
+    let order = ordered_entries slots in
+    subst (λ (o : Option ℕ). IsSome o) (sym (placed_in (map (λ (e : ℕ × T). e.0) (entries slots)) n order.differ (order.all n live))) (refl {A = Bool} {a = true})
 
 -- and what has an index there is an item
 pub entry_there : {T : Type 0} (slots : List (Option T)) (n k : ℕ) → place_in (map (λ e. e.0) (entries slots)) n ≡ Some k → IsSome (item_at slots n)
-entry_there {T} slots n k e = held_at slots n (place_held 0 slots n (in_by_place (map (λ (e : ℕ × T). e.0) (entries slots)) n k e))
+entry_there {T} slots n k e = (ordered_entries slots).chosen n (in_by_place (map (λ (e : ℕ × T). e.0) (entries slots)) n k e)
 
 -- ---- functions with a body
 

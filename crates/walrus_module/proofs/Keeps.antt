@@ -34,12 +34,13 @@ use Rattle.walrus_model.specs.Rules.{TypesRefer, IsEarlier, IndicesHold, Functio
 use Rattle.walrus_model.proofs.Lists.{Contains-uncons, Contains-none}
 use Rattle.walrus_module.specs.Sections.{Rules}
 use Rattle.walrus_module.proofs.CountedLocals.{counted_few}
-use Rattle.walrus_module.proofs.Lookups.{none_there, some_of, mapped_some, got_map, got_zip, got_in, there, there_mapped, all_got, zip_long, zip_length, zip_left, pairs_map, range_within}
+use Rattle.walrus_module.proofs.Lookups.{mapped_some, got_map, got_zip, there, there_mapped, all_got, zip_long, zip_length, pairs_map, range_within}
 use Rattle.walrus_module.proofs.TypeLists.{IsMember, type_is_member, member_refers, group_fits, types_count as type_count, count, in_range, range_bounds, comp_below, params_below}
-use Rattle.walrus_module.proofs.Named.{through, some_inj, val_again, ops_again}
+use Rattle.walrus_module.proofs.Named.{through, val_again, ops_again}
 use Rattle.walrus_module.proofs.NamedFound.{val_found, names_found, locals_found}
 use Rattle.walrus_model.proofs.Supported.{supported}
 use Rattle.walrus_model.specs.Supported.{IsOfFunction}
+use Rattle.walrus_model.proofs.Standing.{none_there, some_of, got_in, zip_left, some_inj}
 
 -- ---- lists
 

@@ -1,13 +1,11 @@
 -- The look-ups from places to indices and back.
-use Rattle.std.proofs.Common.{inl, inr, ◌≡◌, ℕ, zero, suc, Bool, true, false, List, [], ◌∷◌, refl, sym, ap, ◌∙◌, subst, Some, None}
+use Rattle.std.proofs.Common.{inl, inr, ◌≡◌, ℕ, suc, Bool, true, false, List, [], ◌∷◌, refl, sym, ap, ◌∙◌, subst, Some, None}
 use Rattle.std.specs.Prelude.{◌≢◌, ◌⊎◌, nat_eq, Option, option_map, if◌then◌else◌, slice_get}
-use Rattle.std.specs.List.{IsDistinct, AllByRecursion}
 use Rattle.std.proofs.lemmas.Bool.Decides.{eqb_tells}
 use Rattle.walrus_types.specs.Operators.{Types, Functions, Tables, Memories, Tags, Globals, Elements, DataSegments}
 use Rattle.walrus_code.specs.Names.{Lookup, LeadsBack}
 use Rattle.walrus_types.specs.Shape.{place_in}
 use Rattle.walrus_module.specs.Numbered.{AreNumbered, NamesNoOthers}
-use Rattle.walrus_module.proofs.Placing.{self_eq}
 
 -- ---- what is found at a place stands there
 
@@ -26,23 +24,6 @@ found_here x xs t (inr q) h k e =
 pub found_at : (xs : List ℕ) (t k : ℕ) → place_in xs t ≡ Some k → slice_get xs k ≡ Some t
 found_at [] t k e = absurd (cc)
 found_at (x ∷ xs) t k e = found_here x xs t (eqb_tells x t) (found_at xs t) k e
-
--- ---- and where they differ, what stands at a place is found there
-
-all_at : (P : ℕ → Type 0) (xs : List ℕ) (k t : ℕ) → AllByRecursion P xs → slice_get xs k ≡ Some t → P t
-all_at P [] k t h e = absurd (cc)
-all_at P (x ∷ xs) zero t h e = let p : x ≡ t = cc in subst P p h.0
-all_at P (x ∷ xs) (suc k) t h e = all_at P xs k t h.1 e
-
-pub stands_at : (xs : List ℕ) (t k : ℕ) → IsDistinct nat_eq xs → slice_get xs k ≡ Some t → place_in xs t ≡ Some k
-unfolding IsDistinct
-stands_at [] t k h e = absurd (cc)
-stands_at (x ∷ xs) t zero h e =
-    let p : x ≡ t = cc in
-    subst (λ u. place_in (x ∷ xs) u ≡ Some 0) p (ap (λ (b : Bool). if b then Some 0 else option_map suc (place_in xs x)) (self_eq x))
-stands_at (x ∷ xs) t (suc k) h e =
-    ap (λ (b : Bool). if b then Some 0 else option_map suc (place_in xs t)) (all_at (λ y. nat_eq x y ≡ false) xs k t h.0 e)
-    ∙ ap (option_map suc) (stands_at xs t k h.1 e)
 
 -- ---- the two look-ups
 

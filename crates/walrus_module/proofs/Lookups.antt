@@ -5,17 +5,9 @@ use Rattle.std.specs.List.{AllZip, range_with_len}
 use Rattle.std.proofs.lemmas.Bool.{ne_eqb}
 use Rattle.std.proofs.lemmas.List.{get_or-map, length-map}
 use Rattle.walrus_types.specs.Shape.{place_in}
-use Rattle.walrus_module.proofs.Named.{some_inj}
-use Rattle.walrus_module.proofs.Placing.{self_eq}
+use Rattle.walrus_model.proofs.Standing.{some_inj, self_eq, none_there, got_in}
 
 -- ---- options
-
-pub none_there : false ≡ true → ⊥
-none_there h = cc
-
-pub some_of : {A : Type 0} (o : Option A) → IsSome o → (x : A) × (o ≡ Some x)
-some_of (Some x) h = (x, refl)
-some_of None h = absurd (none_there h)
 
 pub still_some : {A B : Type 0} (f : A → B) (o : Option A) → IsSome o → IsSome (option_map f o)
 still_some f (Some x) h = refl
@@ -52,11 +44,6 @@ got_both (a ∷ xs) [] k x y e h = absurd (cc)
 got_both (a ∷ xs) (b ∷ ys) zero x y e h = ap₂ (λ u v. Some (u, v)) (some_inj a x e) (some_inj b y h)
 got_both (a ∷ xs) (b ∷ ys) (suc k) x y e h = got_both xs ys k x y e h
 
-pub got_in : {A : Type 0} (xs : List A) (i : ℕ) (x : A) → slice_get xs i ≡ Some x → (i < length xs) × ((d : A) → get_or xs i d ≡ x)
-got_in [] i x e = cc
-got_in (y ∷ xs) zero x e = (omega arith, λ d. let p : y ≡ x = cc in p)
-got_in (y ∷ xs) (suc i) x e = let r = got_in xs i x e in let lt : i < length xs = r.0 in (omega (arith, lt), r.1)
-
 pub there : {A : Type 0} (xs : List A) (i : ℕ) → i < length xs → IsSome (slice_get xs i)
 there [] i lt = absurd (omega arith)
 there (x ∷ xs) zero lt = refl
@@ -79,21 +66,6 @@ zip_length R [] [] h = refl
 zip_length R [] (b ∷ ys) h = absurd h
 zip_length R (a ∷ xs) [] h = absurd h
 zip_length R (a ∷ xs) (b ∷ ys) h = ap suc (zip_length R xs ys h.1)
-
--- of two lists that agree place by place, what stands at a place of the one stands beside that of the other
-pub zip_right : {A B : Type 0} (R : A → B → Type 0) (xs : List A) (ys : List B) (k : ℕ) (x : A) → AllZip R xs ys → slice_get xs k ≡ Some x → (y : B) × (slice_get ys k ≡ Some y) × R x y
-zip_right R [] [] k x h e = cc
-zip_right R [] (y ∷ ys) k x h e = absurd h
-zip_right R (z ∷ xs) [] k x h e = absurd h
-zip_right R (z ∷ xs) (y ∷ ys) zero x h e = (y, refl, subst (λ w. R w y) (some_inj z x e) h.0)
-zip_right R (z ∷ xs) (y ∷ ys) (suc k) x h e = zip_right R xs ys k x h.1 e
-
-pub zip_left : {A B : Type 0} (R : A → B → Type 0) (xs : List A) (ys : List B) (k : ℕ) (y : B) → AllZip R xs ys → slice_get ys k ≡ Some y → (x : A) × (slice_get xs k ≡ Some x) × R x y
-zip_left R [] [] k y h e = cc
-zip_left R [] (z ∷ ys) k y h e = absurd h
-zip_left R (x ∷ xs) [] k y h e = absurd h
-zip_left R (x ∷ xs) (z ∷ ys) zero y h e = (x, refl, subst (λ w. R x w) (some_inj z y e) h.0)
-zip_left R (x ∷ xs) (z ∷ ys) (suc k) y h e = zip_left R xs ys k y h.1 e
 
 pub pairs_map : {A B : Type 0} (R : B → B → Type 0) (f : A → B) (xs : List A) → AllPairs (λ a b. R (f a) (f b)) xs → AllPairs R (map f xs)
 pairs_map R f [] h = λ i j d less within. let w : j < 0 = within in absurd (omega (arith, w))

@@ -1,17 +1,15 @@
 -- Operators put through look-ups.
 use Rattle.std.proofs.Common.{◌≡◌, ℕ, List, [], ◌∷◌, refl, ap, ap₂, subst, Some, None}
-use Rattle.std.specs.Prelude.{Option, unwrap_or}
+use Rattle.std.specs.Prelude.{Option}
 use Rattle.wasm_forms.specs.Reading.{◌>>=◌}
 use Rattle.walrus_base.specs.Types.{HeapType, OfHeap, Concrete, Exact, ValType, I32, I64, F32, F64, V128, Ref}
 use Rattle.walrus_types.specs.Operators.{Space, Types, Memories, BlockType, NoResult, OneResult, OfType, Arg, Index, Label, Local, Number, Count, Byte, S32, S64, Bits32, Bits64, Value, Heap, Block, Access, Op}
 use Rattle.walrus_code.specs.Names.{Lookup, named_heap, named_val, named_block, named_arg, named_args, named_op, named_ops}
+use Rattle.walrus_model.proofs.Standing.{some_inj}
 
 pub through : {A B : Type 0} (o : Option A) (k : A → Option B) (b : B) → (o >>= k) ≡ Some b → (x : A) × (o ≡ Some x) × (k x ≡ Some b)
 through None k b e = absurd (cc)
 through (Some x) k b e = (x, refl, e)
-
-pub some_inj : {A : Type 0} (x y : A) → Some x ≡ Some y → x ≡ y
-some_inj x y e = ap (λ o. unwrap_or o x) e
 
 -- ---- what f finds, g finds again as h does the first
 

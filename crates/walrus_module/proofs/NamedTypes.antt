@@ -14,8 +14,7 @@ use Rattle.walrus_functions.specs.EmittedBody.{comp_takes}
 use Rattle.walrus_groups.specs.Named.{each, named_vals, named_storage, named_field, named_fields, named_comp, named_types, named_sub, named_def}
 use Rattle.walrus_model.proofs.Lists.{Contains-head, Contains-tail, Contains-uncons, Contains-none}
 use Rattle.walrus_module.proofs.Lookups.{map_after}
-use Rattle.walrus_module.proofs.Named.{some_inj}
-use Rattle.walrus_module.proofs.Placing.{self_eq}
+use Rattle.walrus_model.proofs.Standing.{some_inj, self_eq}
 
 -- ---- what is made of what was found
 

@@ -2,15 +2,9 @@
 use Rattle.std.proofs.Common.{◌≡◌, ℕ, suc, Bool, true, false, List, [], ◌∷◌, ◌++◌, length, refl, sym, ap, ◌∙◌, Some, None}
 use Rattle.std.specs.Prelude.{◌≢◌, ◌==◌, nat_eq, Option, option_map, if◌then◌else◌}
 use Rattle.std.specs.List.{IsDistinct, AllByRecursion}
-use Rattle.std.proofs.lemmas.Bool.{ne_eqb, eqb-false}
+use Rattle.std.proofs.lemmas.Bool.{ne_eqb}
 use Rattle.walrus_types.specs.Shape.{place_in}
-
-true_by : (b : Bool) → (b ≡ false → ⊥) → b ≡ true
-true_by true h = refl
-true_by false h = absurd (h refl)
-
-pub self_eq : (t : ℕ) → (t == t) ≡ true
-self_eq t = true_by (t == t) (λ e. eqb-false t t e refl)
+use Rattle.walrus_model.proofs.Standing.{self_eq}
 
 -- ---- a place behind the others
 

@@ -50,8 +50,6 @@ use Rattle.walrus_module.specs.View.{body, kind_of, function, functions_of, view
 use Rattle.walrus_module.specs.Whole.{is_whole, all_types_whole, all_functions_whole, all_exports_live, is_local, all_local, is_all_there}
 use Rattle.walrus_module.proofs.DeclaredTypes.{texts_declare}
 use Rattle.walrus_module.proofs.Entries.{Failing, item_fails, both_pass, item_passes, entries_live, entries_rise, LocalAt, locals_live, locals_rise}
-use Rattle.walrus_module.proofs.Named.{some_inj}
-use Rattle.walrus_module.proofs.Lookups.{none_there}
 use Rattle.walrus_module.proofs.ExportedRefs.{one_undeclared}
 use Rattle.walrus_model.proofs.Supported.{are_supported}
 use Rattle.walrus_module.proofs.ReadBack.{of_functions}
@@ -59,6 +57,7 @@ use Rattle.walrus_module.proofs.WrittenAs.{texts_in, sections_of, texts_of, writ
 use Rattle.walrus_model.proofs.Lists.{Contains-uncons, Contains-none}
 use Rattle.walrus_parts.specs.declared.error.Error.{Error}
 use Rattle.walrus_parts.specs.declared.error.Error.TheVariants.{Memory, DeadItem, NoIndex, NotWritable, TooLarge}
+use Rattle.walrus_model.proofs.Standing.{none_there, some_inj}
 
 -- ---- a local function, taken apart
 

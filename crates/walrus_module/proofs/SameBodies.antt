@@ -25,12 +25,11 @@ use Rattle.walrus_module.specs.Spells.{Records}
 use Rattle.walrus_module.proofs.BodiesBack.{params_typed}
 use Rattle.walrus_module.proofs.BodyBack.{types_in, typed_by, further_typed}
 use Rattle.walrus_module.proofs.Leads.{found_at}
-use Rattle.walrus_module.proofs.Lookups.{some_of, then_some, mapped_some, got_map, mapped_append, as_long, where_placed, place_range, place_past, Stands}
-use Rattle.walrus_module.proofs.Named.{some_inj}
+use Rattle.walrus_module.proofs.Lookups.{then_some, mapped_some, got_map, mapped_append, as_long, where_placed, place_range, place_past, Stands}
 use Rattle.walrus_module.proofs.NamedFound.{locals_found}
-use Rattle.walrus_module.proofs.Placing.{self_eq}
 use Rattle.walrus_module.proofs.Renamed.{val_renamed, ops_renamed}
 use Rattle.walrus_module.proofs.WrittenAs.{texts_in, local_in_order, sections_of, renaming_of}
+use Rattle.walrus_model.proofs.Standing.{some_of, some_inj, self_eq}
 
 -- ---- the body of a function among the texts
 

@@ -34,8 +34,8 @@ use Rattle.walrus_module.proofs.BodyBack.{types_in, as_many_further}
 use Rattle.walrus_module.proofs.Carrying.{item_within}
 use Rattle.walrus_module.proofs.CountedLocals.{DeclaresFew}
 use Rattle.walrus_module.proofs.LiveTests.{both_pass, pass_both, has_contained}
-use Rattle.walrus_module.proofs.Lookups.{none_there, then_some}
-use Rattle.walrus_module.proofs.Named.{some_inj}
+use Rattle.walrus_model.proofs.Standing.{none_there, some_inj}
+use Rattle.walrus_module.proofs.Lookups.{then_some}
 use Rattle.walrus_module.proofs.TypeLists.{in_range}
 use Rattle.walrus_module.proofs.WrittenAs.{texts_in}
 

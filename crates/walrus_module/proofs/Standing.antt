@@ -14,9 +14,8 @@ use Rattle.walrus_types.specs.Shape.{place_in}
 use Rattle.walrus_module.specs.Sizes.{local_sizes, IsOrder}
 use Rattle.walrus_module.specs.Whole.{is_local, all_local}
 use Rattle.walrus_module.proofs.Differ.{places_differ, order_differs}
-use Rattle.walrus_module.proofs.Leads.{stands_at}
-use Rattle.walrus_module.proofs.Named.{some_inj}
 use Rattle.walrus_module.proofs.Lookups.{got_map}
+use Rattle.walrus_model.proofs.Standing.{some_inj, stands_at}
 
 -- ---- lists
 

@@ -18,9 +18,9 @@ use Rattle.walrus_model.specs.Sections.{types_of}
 use Rattle.walrus_model.specs.Supported.{IsOfFunction, IsSupported}
 use Rattle.walrus_model.proofs.Supported.{supported, by_supported}
 use Rattle.walrus_module.specs.Sections.{Rules}
-use Rattle.walrus_module.proofs.Lookups.{none_there, got_in, got_map}
-use Rattle.walrus_module.proofs.Named.{some_inj}
+use Rattle.walrus_module.proofs.Lookups.{got_map}
 use Rattle.walrus_module.proofs.TypeLists.{types_subs}
+use Rattle.walrus_model.proofs.Standing.{none_there, got_in, some_inj}
 
 -- ---- types by index
 

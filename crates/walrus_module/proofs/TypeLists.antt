@@ -20,7 +20,8 @@ use Rattle.walrus_base.specs.Types as types
 use Rattle.walrus_code.specs.FromRaw.{heap_of, val_of}
 use Rattle.walrus_types.specs.TypeDef.{TypeDef, type_params}
 use Rattle.walrus_groups.specs.Groups.{storage_of, field_of, comp_of, sub_of, members_of, types_from, NamesBelow, AreDeclared}
-use Rattle.walrus_module.proofs.Lookups.{mapped_some, got_map, got_in}
+use Rattle.walrus_module.proofs.Lookups.{mapped_some, got_map}
+use Rattle.walrus_model.proofs.Standing.{got_in}
 
 -- ---- how many
 

@@ -14,10 +14,9 @@ use Rattle.walrus_module.specs.Spells.{Records}
 use Rattle.walrus_module.proofs.BodiesBack.{type_places, new_types, Entered, EnteredAs, entry_of}
 use Rattle.walrus_module.proofs.Entries.{entries_rise}
 use Rattle.walrus_module.proofs.Leads.{found_at}
-use Rattle.walrus_module.proofs.Lookups.{got_in}
-use Rattle.walrus_module.proofs.Named.{some_inj}
 use Rattle.walrus_module.proofs.NamedTypes.{each_long, each_back, each_there, names_named}
 use Rattle.walrus_module.proofs.WireTypes.{Refers, types_refer}
+use Rattle.walrus_model.proofs.Standing.{got_in, some_inj}
 
 -- ---- indices rise with places
 

@@ -54,13 +54,13 @@ use Rattle.walrus_module.specs.Spells.{Records, Spells}
 use Rattle.walrus_module.specs.View.{body, function, kind_of, view_of}
 use Rattle.walrus_module.proofs.CarriedOver.{held_of, carried_over}
 use Rattle.walrus_module.proofs.InOrder.{StandsIn, stands_in, function_there, type_named, type_there}
-use Rattle.walrus_module.proofs.Lookups.{none_there, was_some, still_some}
-use Rattle.walrus_module.proofs.Named.{some_inj}
+use Rattle.walrus_module.proofs.Lookups.{was_some, still_some}
 use Rattle.walrus_module.proofs.ReadBack.{reads_back, holds_back}
 use Rattle.walrus_module.proofs.RefsCarried.{none_undeclared_in}
 use Rattle.walrus_module.proofs.CountedLocals.{DeclaresFew}
 use Rattle.walrus_module.proofs.SeenLocals.{texts_few}
 use Rattle.walrus_module.proofs.WrittenAs.{written_as, renaming_of}
+use Rattle.walrus_model.proofs.Standing.{none_there, some_inj}
 
 -- ---- the larger one first
 
