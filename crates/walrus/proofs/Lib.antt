@@ -2,7 +2,6 @@ pub mod DeviceLemmas
 pub mod HeadlineLemmas
 pub mod Entered
 pub mod Followed
-pub mod NamedLemmas
 pub mod ReachedLemmas
 pub mod Cleared
 pub mod Dropped

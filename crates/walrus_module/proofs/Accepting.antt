@@ -18,15 +18,10 @@ use Rattle.walrus_model.proofs.PipelineRead.{simple_read}
 use Rattle.walrus_model.specs.Abstract.{Export}
 use Rattle.walrus_model.specs.Config.{Config}
 use Rattle.walrus_model.specs.Declared.{NothingUndeclared}
-use Rattle.walrus_base.specs.Arena.{items}
-use Rattle.walrus_items.specs.Exports.{exports}
-use Rattle.walrus_items.specs.Functions.{functions}
-use Rattle.walrus_module.specs.References.{refs_are_exported, ChecksReferences}
 use Rattle.walrus_model.proofs.ReadOnce.{bodies_once}
 use Rattle.walrus_model.proofs.Handled.{widened_once}
 use Rattle.wasm_frames.proofs.Modules.{one_record_lem}
 use Rattle.walrus_model.specs.Handled.{widened}
-use Rattle.walrus_module.proofs.ExportedRefs.{nothing_undeclared, one_undeclared}
 use Rattle.walrus_module.proofs.ParsedWhole.{writable, well_formed, references_read, references_seen}
 use Rattle.walrus_module.proofs.FewLocals.{few_locals}
 use Rattle.walrus_module.proofs.FewParams.{few_params}
@@ -36,7 +31,7 @@ use Rattle.walrus_model.specs.Live.{Has}
 use Rattle.walrus_model.specs.Reads.{Said, Reads, Accepts, ReadsBody, SectionsInOrder, types_of, is_function, function_with, export_of, module_of}
 use Rattle.walrus_model.specs.Rules.{Holds, IsEarlier, IsFunctionComp}
 use Rattle.walrus_model.specs.Rules as rules
-use Rattle.walrus_module.specs.Parsed.{IsParsed, TakenFrom, AreModule, RefusesModule, RefusesBytes}
+use Rattle.walrus_module.specs.Parsed.{IsParsed, TakenFrom, AreModule, RefusesModule, RefusesBytes, ChecksReferences}
 use Rattle.walrus_module.specs.View.{view_of}
 use Rattle.walrus_module.proofs.Carrying.{parsed}
 use Rattle.walrus_module.proofs.Keeps.{keeps}
@@ -50,9 +45,8 @@ use Rattle.walrus_model.specs.Handled as handled
 
 -- ---- what was taken in was parsed
 
-pub is_parsed : (c : Config) (bytes : List ℕ) (ts : ModuleTypes) (all : ModuleLocals) (fs : ModuleFunctions) (es : ModuleExports) → TakenFrom c bytes ts all fs es → refs_are_exported (items (functions fs)) (items (exports es)) ≡ true → IsParsed c bytes (view_of ts all fs es)
-is_parsed c bytes ts all fs es t refs =
-    let declared : NothingUndeclared (view_of ts all fs es) = nothing_undeclared ts all fs es refs in
+pub is_parsed : (c : Config) (bytes : List ℕ) (ts : ModuleTypes) (all : ModuleLocals) (fs : ModuleFunctions) (es : ModuleExports) → TakenFrom c bytes ts all fs es → NothingUndeclared (view_of ts all fs es) → IsParsed c bytes (view_of ts all fs es)
+is_parsed c bytes ts all fs es t declared =
     let found : Reads c bytes (module_of t.sections t.taken.bodies) = record {
       sections = t.sections;
       framed = t.framed;
@@ -174,15 +168,14 @@ are_module c bytes a =
 
 -- the bodies that bytes are read as are those that were taken in, so that no module is read in which a reference isn't exported
 pub references_refused : (c : Config) (bytes : List ℕ) (ts : ModuleTypes) (all : ModuleLocals) (fs : ModuleFunctions) (es : ModuleExports) (t : TakenFrom c bytes ts all fs es) (e : Error)
-    → ChecksReferences (items (functions fs)) (items (exports es)) (Err e) → RefusesModule c bytes e
+    → ChecksReferences (view_of ts all fs es) (Err e) → RefusesModule c bytes e
 references_refused c bytes ts all fs es t (Parts.Memory m) h = tt
 references_refused c bytes ts all fs es t (Parts.InvalidWasm kind) h = λ a.
     let same : a.sections ≡ t.sections = widened_once a.sections t.sections (one_record_lem bytes (widened a.sections) (widened t.sections) a.framed t.framed) in
     let read : AllZip (ReadsBody c t.sections) (zip t.sections.functions t.sections.bodies) a.bodies = subst (λ (x : handled.Module). AllZip (ReadsBody c x) (zip x.functions x.bodies) a.bodies) same a.read in
     let one : a.bodies ≡ t.taken.bodies = bodies_once c t.sections (zip t.sections.functions t.sections.bodies) a.bodies t.taken.bodies read t.taken.read in
     let there : NothingUndeclared (module_of t.sections t.taken.bodies) = subst NothingUndeclared (ap₂ module_of same one) a.references in
-    let found = one_undeclared ts all fs es h in
-    references_seen c t.sections ts all fs es t.taken there found.0 found.1
+    references_seen c t.sections ts all fs es t.taken there h.0 h.1
 references_refused c bytes ts all fs es t _ h = absurd h
 
 pub refused_bytes : (c : Config) (bytes : List ℕ) (e : Error) → RefusesModule c bytes e → RefusesBytes c bytes e

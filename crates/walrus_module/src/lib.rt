@@ -7,11 +7,9 @@ pub mod emit;
 pub mod entry;
 mod handled;
 pub mod law;
-pub mod live;
 pub mod module;
 pub mod order;
 pub mod parse;
-pub mod references;
 
 pub use config::ModuleConfig;
 pub use customs::{ModuleCustomSections, SectionIter};

@@ -12,5 +12,5 @@ returns c =
     let x = item_of c.args.item in
     let put = c.in_ok-push_written_names.ensures in
     let names : map item_of c.as_slice.result.now ≡ written_in v x =
-        ap (λ (ids : List ItemId). map item_of ids) c.as_slice.ensures.value ∙ put.1 ∙ ap (λ (ids : List ItemId). map item_of ids ++ written_in v x) c.clear.ensures.items in
+    ap (λ (ids : List ItemId). map item_of ids) c.as_slice.ensures.value ∙ put.1 ∙ ap (λ (ids : List ItemId). map item_of ids ++ written_in v x) c.clear.ensures.items in
     item_checked v x _ names put.0 c.check_all.result c.check_all.ensures

@@ -10,14 +10,12 @@ use Rattle.walrus_model.specs.Reads.{features_of}
 use Rattle.walrus_module.specs.Emitted.{IsEmitted, RefusesDeclared}
 use Rattle.walrus_module.specs.Flags.{config_of}
 use Rattle.walrus_module.specs.Parts.{Held, held_in}
-use Rattle.walrus_module.specs.References.{refs_are_exported}
 use Rattle.walrus_module.specs.Settings.{settings}
 use Rattle.walrus_module.specs.Spells.{Spells}
 use Rattle.walrus_module.specs.View.{view}
 use Rattle.walrus_module.proofs.EmittedLemmas.{if_ok_both, records_written, spelled_is_emitted, emitted_ok}
 use Rattle.walrus_module.proofs.PlacedLemmas.{placed_as_spelled}
 use Rattle.walrus_module.proofs.RefusedLemmas.{refuses_lem}
-use Rattle.walrus_module.proofs.ThereLemmas.{there, there_back}
 use Rattle.walrus_module.proofs.module.Module.emit_wasm.Goals as goal
 
 pub returns-clause-emitted : goal.returns-clause-emitted
@@ -26,7 +24,7 @@ returns-clause-emitted g c = λ differ.
     let features = c.features-features.ensures in
     emitted_ok (config_of (settings m)) (refl {A = Bool} {a = false}) (refl {A = Bool} {a = false}) m.types m.locals m.funcs m.exports (λ bytes. bytes.items) c.emit_items.result differ
     (subst (λ (f : Features). IfOk c.emit_items.result (λ bytes. Spells (held_in m.types m.locals m.funcs) f (items (exports m.exports)) bytes.items)) features c.emit_items.ensures.spells)
-    (subst (λ (f : Features). RefusesDeclared (held_in m.types m.locals m.funcs) f (items (exports m.exports)) c.emit_items.result) features c.emit_items.ensures.refused)
+    (subst (λ (f : Features). RefusesDeclared (view m) (held_in m.types m.locals m.funcs) f (items (exports m.exports)) c.emit_items.result) features c.emit_items.ensures.refused)
 
 pub returns-clause-placed : goal.returns-clause-placed
 returns-clause-placed g c =
@@ -42,7 +40,5 @@ returns-clause-refused g c =
     let m = c.args.self.now in
     refuses_lem (config_of (settings m)) m.types m.locals m.funcs m.exports
     (λ declared r. records_written (config_of (settings m)) (refl {A = Bool} {a = false}) (refl {A = Bool} {a = false}) m.types m.locals m.funcs m.exports declared r)
-    (there m.types m.locals m.funcs m.exports c.groups_are_whole.ensures)
-    (there_back m.types m.locals m.funcs m.exports)
     c.emit_items.result
-    (subst (λ (f : Features). RefusesDeclared (held_in m.types m.locals m.funcs) f (items (exports m.exports)) c.emit_items.result) c.features-features.ensures c.emit_items.ensures.refused)
+    (subst (λ (f : Features). RefusesDeclared (view m) (held_in m.types m.locals m.funcs) f (items (exports m.exports)) c.emit_items.result) c.features-features.ensures c.emit_items.ensures.refused)
