@@ -11,10 +11,11 @@ use Rattle.walrus_model.specs.Live.{IsLive}
 use Rattle.walrus_model.specs.Reached.{Reached, root, step}
 use Rattle.walrus_model.specs.Refers.{Refers}
 use Rattle.walrus_model.specs.Roots.{IsRoot}
-use Rattle.walrus.specs.Marked.{IsSound, ReachesUnsound}
+use Rattle.walrus.specs.Marked.{ReachesUnsound}
 use Rattle.walrus.specs.Used.{Agrees, Enters, Followed, Follows, NamesDead}
+use Rattle.walrus_contents.specs.There.{IsSound}
 use Rattle.walrus.specs.declared.passes.used.Used.{Used}
-use Rattle.walrus.proofs.NamedLemmas.{among}
+use Rattle.walrus_contents.proofs.NamedLemmas.{among}
 
 -- ---- the items by their ids
 

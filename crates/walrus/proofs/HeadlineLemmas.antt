@@ -41,7 +41,7 @@ use Rattle.walrus_model.proofs.PipelineRead.{live_read, accepted_comes_out_lem}
 use Rattle.walrus_module.specs.Emitted.{NamesDiffer, IsEmitted}
 use Rattle.walrus_module.specs.Flags.{Flags, config_of}
 use Rattle.walrus_module.specs.Parsed.{IsParsed}
-use Rattle.walrus_module.specs.Refused.{IsThere, HasImported, AreWellFormed, HasIllFormed, HasUnwritableType, HasUndeclared, HasTooMany, HasManyLocals, WritesTooLarge, RefusesToWrite}
+use Rattle.walrus_module.specs.Refused.{HasImported, AreWellFormed, HasIllFormed, HasUnwritableType, HasTooMany, HasManyLocals, WritesTooLarge, RefusesToWrite}
 use Rattle.walrus_module.proofs.Lookups.{mapped_some, got_map, zip_long}
 use Rattle.walrus_module.proofs.Rooms.{fits_indices}
 use Rattle.walrus_module.proofs.Steps.{zip_length, pairs_long}
@@ -51,6 +51,9 @@ use Rattle.walrus.specs.Headline.{ComesTo, ComesOutTooLarge, Answers}
 use Rattle.walrus.specs.Marked.{ReachesSound, ReachesUnsound}
 use Rattle.walrus.specs.Used.{IsRefusal}
 use Rattle.walrus_model.proofs.Supported.{supported, is_supported}
+use Rattle.walrus_contents.specs.References.{HasUndeclared}
+use Rattle.walrus_contents.specs.There.{IsThere}
+use Rattle.walrus_contents.proofs.LiveLemmas.{written_is_live}
 
 -- ---- names
 
@@ -136,21 +139,6 @@ nothing_in_memory v i y at = none (v.memories i) at
     none : (o : Option _) → Contains (named_by memory_names o) y → ⊥
     none None c = Contains-none y c
     none (Some x) c = Contains-none y c
-
--- what something is written in is there
-live_where : {X : Type 0} (names : X → List Item) (o : Option X) (y : Item) → Contains (named_by names o) y → IsSome o
-live_where names (Some x) y at = refl
-live_where names None y at = absurd (Contains-none y at)
-
-written_is_live : (w : Abstract) (x y : Item) → Contains (written_in w x) y → IsLive w x
-written_is_live w (Types, i) y at = live_where type_names (w.types i) y at
-written_is_live w (Functions, i) y at = live_where function_names (w.functions i) y at
-written_is_live w (Tables, i) y at = live_where table_names (w.tables i) y at
-written_is_live w (Memories, i) y at = live_where memory_names (w.memories i) y at
-written_is_live w (Tags, i) y at = live_where tag_names (w.tags i) y at
-written_is_live w (Globals, i) y at = live_where global_names (w.globals i) y at
-written_is_live w (Elements, i) y at = live_where element_names (w.elements i) y at
-written_is_live w (DataSegments, i) y at = live_where data_names (w.data_segments i) y at
 
 module _ (v w : Abstract) (c : Collected v w) where
   same_written : (x : Item) → Kept v x → written_in w x ≡ written_in v x

@@ -2,6 +2,5 @@ pub mod DeviceLemmas
 pub mod HeadlineLemmas
 pub mod Entered
 pub mod Followed
-pub mod NamedLemmas
 pub mod ReachedLemmas
 pub mod CollectedLemmas

@@ -21,7 +21,7 @@ use Rattle.walrus_model.proofs.Reach.{Contains-unmap}
 use Rattle.walrus_module.specs.View.{export_of, view_of}
 use Rattle.walrus_parts.specs.declared.error.Error.{Error}
 use Rattle.walrus.specs.Marked.{IsMarked, MarksKept, ReachesSound, ReachesUnsound}
-use Rattle.walrus.specs.Named.{all_names, export_names, kept_types}
+use Rattle.walrus_contents.specs.Named.{all_names, export_names, kept_types}
 use Rattle.walrus.specs.Used.{Followed, IsRefusal, has_mark}
 use Rattle.walrus.specs.declared.passes.used.Used.{Used}
 

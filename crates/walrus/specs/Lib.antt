@@ -8,4 +8,3 @@ pub mod Used
 pub mod Collected
 pub mod Headline
 pub mod Marked
-pub mod Named

@@ -1,12 +1,11 @@
 -- What a search for used items finds, in the words of the abstract module.
-use Rattle.std.specs.Prelude.{ℕ, Some, IsSome, ◌≡◌, ◌≢◌, ◌↔◌}
+use Rattle.std.specs.Prelude.{◌↔◌}
 use Rattle.walrus_base.specs.IdSet.{HasId}
 use Rattle.walrus_types.specs.Operators.{Types, Functions, Tables, Memories, Tags, Globals, Elements, DataSegments, Item}
-use Rattle.walrus_model.specs.Abstract.{Abstract, Body, Uninitialised, LocalFunction, Function}
+use Rattle.walrus_model.specs.Abstract.{Abstract}
 use Rattle.walrus_model.specs.Kept.{Kept}
-use Rattle.walrus_model.specs.Live.{IsLive}
 use Rattle.walrus_model.specs.Reached.{Reached}
-use Rattle.walrus_model.specs.Refers.{IsUsed}
+use Rattle.walrus_contents.specs.There.{IsSound}
 use Rattle.walrus.specs.declared.passes.used.Used.{Used}
 
 -- the item is in the set of its kind
@@ -23,12 +22,6 @@ IsMarked used (DataSegments, i) = HasId used.data_ i
 -- the eight sets are exactly what is kept
 abbrev pub MarksKept : Abstract → Used → Type 0
 MarksKept v used = (x : Item) → IsMarked used x ↔ Kept v x
-
--- the item is there; a function has an import or a body, and the locals that its body uses are there
-pub record IsSound (v : Abstract) (x : Item) : Type 0 where
-  pub live : IsLive v x
-  pub initialised : (i : ℕ) (f : Function) → x ≡ (Functions, i) → v.functions i ≡ Some f → f.kind ≢ Uninitialised
-  pub locals : (i : ℕ) (f : Function) (b : Body) (l : ℕ) → x ≡ (Functions, i) → v.functions i ≡ Some f → f.kind ≡ LocalFunction b → IsUsed b l → IsSome (b.local_type l)
 
 -- all that is reached is sound
 abbrev pub ReachesSound : Abstract → Type 0

@@ -1,23 +1,16 @@
 -- What a search for used items finds, and when it refuses.
-use Rattle.std.specs.Prelude.{ℕ, ◌≡◌, ◌≢◌, ◌↔◌, Bool, true, false, List, ◌++◌, take, Contains, ⊤}
+use Rattle.std.specs.Prelude.{ℕ, ◌≡◌, ◌≢◌, ◌↔◌, Bool, true, false, List, ◌++◌, take, Contains}
 use Rattle.walrus_base.specs.IdSet.{has_id}
 use Rattle.walrus_base.specs.declared.set.IdHashSet.{IdHashSet}
 use Rattle.walrus_types.specs.Operators.{Types, Functions, Tables, Memories, Tags, Globals, Elements, DataSegments, Item}
-use Rattle.walrus_parts.specs.declared.error.Error.{Error}
-use Rattle.walrus_parts.specs.declared.error.Error.TheVariants.{Memory, DeadItem}
 use Rattle.walrus_model.specs.Abstract.{Abstract}
 use Rattle.walrus_model.specs.Live.{IsLive}
 use Rattle.walrus_model.specs.Reached.{Reached}
 use Rattle.walrus_model.specs.Refers.{Refers}
 use Rattle.walrus_model.specs.Roots.{IsRoot}
-use Rattle.walrus.specs.Marked.{IsSound}
+pub use Rattle.walrus_contents.specs.There.{IsRefusal}
+use Rattle.walrus_contents.specs.There.{IsSound}
 use Rattle.walrus.specs.declared.passes.used.Used.{Used}
-
--- want of memory, or a reference to what isn't live, which comes only where P holds
-abbrev pub IsRefusal : Type 0 → Error → Type 0
-IsRefusal P (Memory e) = ⊤
-IsRefusal P DeadItem = P
-IsRefusal P _ = ⊥
 
 -- nothing is in the set
 abbrev pub IsNothing : {K : Type 0} → IdHashSet K → Type 0

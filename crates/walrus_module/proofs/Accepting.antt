@@ -21,13 +21,8 @@ use Rattle.walrus_model.proofs.PipelineRead.{simple_read}
 use Rattle.walrus_model.specs.Abstract.{Function, Export}
 use Rattle.walrus_model.specs.Config.{Config}
 use Rattle.walrus_model.specs.Declared.{NothingUndeclared}
-use Rattle.walrus_base.specs.Arena.{items}
-use Rattle.walrus_items.specs.Exports.{exports}
-use Rattle.walrus_items.specs.Functions.{functions}
-use Rattle.walrus_module.specs.References.{refs_are_exported, ChecksReferences}
 use Rattle.walrus_model.proofs.ReadOnce.{bodies_once}
 use Rattle.wasm_frames.proofs.Modules.{one_record_lem}
-use Rattle.walrus_module.proofs.ExportedRefs.{nothing_undeclared, one_undeclared}
 use Rattle.walrus_module.proofs.ParsedWhole.{writable, well_formed, references_read, references_seen}
 use Rattle.walrus_module.proofs.CountedLocals.{DeclaresFew, all_counted}
 use Rattle.walrus_module.proofs.FewLocals.{few_locals, locals_hold}
@@ -40,7 +35,7 @@ use Rattle.walrus_model.specs.Reads.{Reads, Accepts, ReadsBody, SectionsInOrder,
 use Rattle.walrus_model.specs.Sections.{Said, types_of, function_with, body_with, space_of, export_of, module_of}
 use Rattle.walrus_model.specs.Rules.{Holds, IsEarlier, IsFunctionComp}
 use Rattle.walrus_model.specs.Rules as rules
-use Rattle.walrus_module.specs.Parsed.{IsParsed, TakenFrom, AreModule, RefusesModule, RefusesBytes}
+use Rattle.walrus_module.specs.Parsed.{IsParsed, TakenFrom, AreModule, RefusesModule, RefusesBytes, ChecksReferences}
 use Rattle.walrus_module.specs.View.{view_of}
 use Rattle.walrus_module.proofs.Carrying.{parsed}
 use Rattle.walrus_module.proofs.Keeps.{keeps}
@@ -57,13 +52,12 @@ use Rattle.wasm_frames.specs.Frames.{Frames}
 
 -- ---- what was taken in was parsed
 
-module _ (c : Config) (bytes : List ℕ) (ts : ModuleTypes) (all : ModuleLocals) (fs : ModuleFunctions) (es : ModuleExports) (refs : refs_are_exported (items (functions fs)) (items (exports es)) ≡ true) where
+module _ (c : Config) (bytes : List ℕ) (ts : ModuleTypes) (all : ModuleLocals) (fs : ModuleFunctions) (es : ModuleExports) (declared : NothingUndeclared (view_of ts all fs es)) where
   abbrev Parses : wire.Module → Type 0
   Parses s = Frames bytes s → IsSupported s → Rules s → HasTaken c s ts all fs es → IsParsed c bytes (view_of ts all fs es)
 
   parses : (s : wire.Module) → All IsOfFunction s.exports → Parses (supported s)
   parses s of_functions framed only kept taken =
-      let declared : NothingUndeclared (view_of ts all fs es) = nothing_undeclared ts all fs es refs in
       let found : Reads c bytes (module_of (supported s) taken.bodies) = record {
         sections = supported s;
         framed = framed;
@@ -212,7 +206,7 @@ are_module c bytes a =
 
 -- the bodies that bytes are read as are those that were taken in, so that no module is read in which a reference isn't exported
 pub references_refused : (c : Config) (bytes : List ℕ) (ts : ModuleTypes) (all : ModuleLocals) (fs : ModuleFunctions) (es : ModuleExports) (t : TakenFrom c bytes ts all fs es) (e : Error)
-    → ChecksReferences (items (functions fs)) (items (exports es)) (Err e) → RefusesModule c bytes e
+    → ChecksReferences (view_of ts all fs es) (Err e) → RefusesModule c bytes e
 references_refused c bytes ts all fs es t (Parts.Memory m) h = tt
 references_refused c bytes ts all fs es t (Parts.InvalidWasm kind) h = λ a.
     let s : wire.Module = supported t.sections in
@@ -222,8 +216,7 @@ references_refused c bytes ts all fs es t (Parts.InvalidWasm kind) h = λ a.
     let read : AllZip (ReadsBody c s) (zip s.functions s.bodies) a.bodies = subst (λ (x : wire.Module). AllZip (ReadsBody c x) (zip x.functions x.bodies) a.bodies) same a.read in
     let one : a.bodies ≡ taken.bodies = bodies_once c s (zip s.functions s.bodies) a.bodies taken.bodies read taken.read in
     let there : NothingUndeclared (module_of s taken.bodies) = subst NothingUndeclared (ap₂ module_of same one) a.references in
-    let found = one_undeclared ts all fs es h in
-    references_seen c t.sections ts all fs es taken there found.0 found.1
+    references_seen c t.sections ts all fs es taken there h.0 h.1
 references_refused c bytes ts all fs es t _ h = absurd h
 
 pub refused_bytes : (c : Config) (bytes : List ℕ) (e : Error) → RefusesModule c bytes e → RefusesBytes c bytes e

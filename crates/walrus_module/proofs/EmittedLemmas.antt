@@ -12,15 +12,13 @@ use Rattle.walrus_model.specs.Out.{Written}
 use Rattle.walrus_model.specs.Placed.{Placed}
 use Rattle.walrus_model.specs.Reads.{features_of}
 use Rattle.walrus_model.specs.Rules.{LocalsHold}
-use Rattle.walrus_module.specs.References.{refs_are_exported}
-use Rattle.walrus_items.specs.Functions.{functions}
+use Rattle.walrus_model.specs.Declared.{NothingUndeclared}
 use Rattle.walrus_module.specs.Emitted.{NamesDiffer, IsEmitted, RefusesDeclared}
 use Rattle.walrus_parts.specs.declared.error.Error.{Error}
 use Rattle.walrus_module.proofs.PlacedLemmas.{placed_as_spelled}
 use Rattle.walrus_module.specs.Spells.{Records, Spells}
 use Rattle.walrus_module.specs.View.{view_of}
 use Rattle.walrus_module.proofs.CarriedOver.{held_of}
-use Rattle.walrus_module.proofs.ExportedRefs.{nothing_undeclared}
 use Rattle.walrus_module.proofs.WrittenAs.{written_as}
 use Rattle.walrus_module.proofs.WrittenLemmas.{written_lem, emitted_lem}
 
@@ -29,16 +27,16 @@ pub if_ok_both : {A E : Type 0} (result : Result A E) (P Q : A → Type 0) → (
 if_ok_both (Ok a) P Q f h = f a h
 if_ok_both (Err e) P Q f h = h
 
-module _ (c : Config) (no_names : c.writes_names ≡ false) (no_producers : c.writes_producers ≡ false) (types : ModuleTypes) (all : ModuleLocals) (funcs : ModuleFunctions) (es : ModuleExports) (declared : refs_are_exported (items (functions funcs)) (items (exports es)) ≡ true) where
+module _ (c : Config) (no_names : c.writes_names ≡ false) (no_producers : c.writes_producers ≡ false) (types : ModuleTypes) (all : ModuleLocals) (funcs : ModuleFunctions) (es : ModuleExports) (declared : NothingUndeclared (view_of types all funcs es)) where
   pub records_written : (r : Records (held_of types all funcs) (features_of c) (items (exports es))) → Written c (view_of types all funcs es) (written_as r)
-  records_written r = written_lem c no_names no_producers types all funcs es (nothing_undeclared types all funcs es declared) r
+  records_written r = written_lem c no_names no_producers types all funcs es declared r
 
   pub spelled_is_emitted : (bytes : List ℕ) → Spells (held_of types all funcs) (features_of c) (items (exports es)) bytes → Placed bytes → NamesDiffer (view_of types all funcs es) → LocalsHold (view_of types all funcs es) → IsEmitted c (view_of types all funcs es) bytes
-  spelled_is_emitted bytes s placed differ few = emitted_lem c no_names no_producers types all funcs es (nothing_undeclared types all funcs es declared) differ few bytes s placed
+  spelled_is_emitted bytes s placed differ few = emitted_lem c no_names no_producers types all funcs es declared differ few bytes s placed
 
 -- the same of what emission answers: where it isn't a refusal, nothing is undeclared
 pub emitted_ok : {X : Type 0} (c : Config) → c.writes_names ≡ false → c.writes_producers ≡ false → (types : ModuleTypes) (all : ModuleLocals) (funcs : ModuleFunctions) (es : ModuleExports) (seen : X → List ℕ) (result : Result X Error)
-    → NamesDiffer (view_of types all funcs es) → LocalsHold (view_of types all funcs es) → IfOk result (λ x. Spells (held_of types all funcs) (features_of c) (items (exports es)) (seen x)) → RefusesDeclared (held_of types all funcs) (features_of c) (items (exports es)) result
+    → NamesDiffer (view_of types all funcs es) → LocalsHold (view_of types all funcs es) → IfOk result (λ x. Spells (held_of types all funcs) (features_of c) (items (exports es)) (seen x)) → RefusesDeclared (view_of types all funcs es) (held_of types all funcs) (features_of c) (items (exports es)) result
     → IfOk result (λ x. IsEmitted c (view_of types all funcs es) (seen x))
 emitted_ok c no_names no_producers types all funcs es seen (Ok x) differ few s h =
     spelled_is_emitted c no_names no_producers types all funcs es h.1 (seen x) s (placed_as_spelled (held_of types all funcs) (features_of c) (items (exports es)) (seen x) s) differ few

@@ -19,7 +19,7 @@ use Rattle.walrus_model.proofs.Lists.{Contains-head, Contains-uncons, Contains-n
 use Rattle.walrus_module.specs.Parts.{Held as ModuleHeld}
 use Rattle.walrus_module.specs.Sizes.{local_sizes}
 use Rattle.walrus_module.specs.Spells.{Records}
-use Rattle.walrus_module.specs.Whole.{is_local}
+use Rattle.walrus_module.specs.Local.{is_local}
 use Rattle.walrus_module.proofs.Differ.{order_differs, sizes_places}
 use Rattle.walrus_module.proofs.Leads.{found_at}
 use Rattle.walrus_module.proofs.Lookups.{got_map}

@@ -2,8 +2,7 @@
 use Rattle.wasm_entries.specs.Record as entries
 use Rattle.wasm_entries.specs.declared.record.RawExportKind.TheVariants as kinds
 use Rattle.std.proofs.Common.{inl, inr, ◌≡◌, ℕ, suc, ◌&&◌, Bool, true, false, ⊎_elim, List, [], ◌∷◌, ◌++◌, map, refl, sym, ap, ◌∙◌, subst, arith, Some, None}
-use Rattle.std.specs.Prelude.{Option, IsSome, All, Err, Contains, option_map, option_and_then, ◌==◌, if◌then◌else◌}
-use Rattle.std.specs.List.{list_all}
+use Rattle.std.specs.Prelude.{Option, IsSome, All, Err, Contains, flat_map, option_map, option_and_then, ◌==◌, if◌then◌else◌}
 use Rattle.std.proofs.lemmas.List.{get_or-map, length-map}
 use Rattle.std.proofs.lemmas.List.Elements.{All-cons}
 use Rattle.walrus_base.specs.Arena.{item_at, entries, items}
@@ -21,19 +20,34 @@ use Rattle.walrus_types.specs.Shape.{place_in}
 use Rattle.walrus_bodies.specs.declared.features.Features.{Features}
 use Rattle.walrus_functions.specs.DeclaredLocals.{AreDeclared}
 use Rattle.walrus_functions.specs.EmittedBody.{EmitsBody, LacksAnIndex, index_in}
-use Rattle.walrus_items.specs.Exports.{ExportValue, exported}
-use Rattle.walrus_items.specs.Functions.{FunctionValue, local_at}
+use Rattle.walrus_items.specs.Exports.{ExportValue, exported, exports}
+use Rattle.walrus_items.specs.Functions.{FunctionValue, functions, kind_type, local_at}
+use Rattle.walrus_items.specs.declared.exports.ModuleExports.{ModuleExports}
+use Rattle.walrus_items.specs.declared.functions.ModuleFunctions.{ModuleFunctions}
+use Rattle.walrus_types.specs.ModuleTypes.{type_slots}
+use Rattle.walrus_types.specs.TypeDef.{TypeDef}
+use Rattle.walrus_types.specs.declared.locals.ModuleLocals.{ModuleLocals}
+use Rattle.walrus_types.specs.declared.module_types.ModuleTypes.{ModuleTypes}
+use Rattle.walrus_model.specs.Abstract as abstract
+use Rattle.walrus_model.specs.Abstract.{Abstract}
+use Rattle.walrus_model.specs.Live.{IsLive}
+use Rattle.walrus_model.specs.Names.{body_of_function}
+use Rattle.walrus_model.specs.Refers.{named_by, type_names, function_names, local_names}
+use Rattle.walrus_contents.specs.There.{AreLive, IsThere}
+use Rattle.walrus_contents.specs.View.{body, export_of, function, kind_of, view_of}
+use Rattle.walrus_contents.proofs.LiveLemmas.{was_there}
+use Rattle.walrus_contents.proofs.Slots.{item_seen}
 use Rattle.walrus_items.specs.declared.functions.FunctionKind.{FunctionKind}
 use Rattle.walrus_items.specs.declared.functions.FunctionKind.TheVariants as kind
 use Rattle.walrus_groups.specs.Indexed.{LacksAnIndex as TypesLackAnIndex}
 use Rattle.walrus_parts.specs.Errors.{error_of_ir}
-use Rattle.walrus_model.proofs.Lists.{Contains-map, Contains-uncons, Contains-none, Contains-append_2}
-use Rattle.walrus_module.specs.Emitted.{is_there_in, RefusesBodies}
+use Rattle.walrus_model.proofs.Lists.{Contains-head, Contains-tail, Contains-map, Contains-uncons, Contains-none, Contains-append_1, Contains-append_2}
+use Rattle.walrus_module.specs.Emitted.{RefusesBodies}
 use Rattle.walrus_module.specs.Numbered.{AreNumbered}
-use Rattle.walrus_module.specs.Parts.{Held, local_in, type_index, export_with_index, source, IsIndexed}
+use Rattle.walrus_module.specs.Parts.{Held, held_in, local_in, type_index, export_with_index, source, IsIndexed}
 use Rattle.walrus_module.specs.Sizes.{IsOrder}
-use Rattle.walrus_module.specs.Whole.{is_there, is_live, are_live, is_type_whole, is_local_whole, is_val_whole, is_whole, all_types_whole, all_functions_whole, all_exports_live, is_local, all_local}
-use Rattle.walrus_module.proofs.Entries.{both_pass, item_passes, entry_placed, contains_placed, LocalAt, order_live, order_placed}
+use Rattle.walrus_module.specs.Local.{is_local, all_local}
+use Rattle.walrus_module.proofs.Entries.{item_passes, entry_placed, contains_placed, LocalAt, order_live, order_placed}
 use Rattle.walrus_module.proofs.NamedAll.{val_named, ops_named}
 use Rattle.walrus_module.proofs.Somes.{none_there, some_inj, some_of, still_some}
 
@@ -44,11 +58,12 @@ local_of_kind (kind.Uninitialized ty) e = absurd (none_there e)
 
 -- ---- lists
 
-all_pass : {A : Type 0} (p : A → Bool) (xs : List A) (x : A) → list_all p xs ≡ true → Contains xs x → p x ≡ true
-all_pass p [] x h c = absurd (Contains-none x c)
-all_pass {A} p (y ∷ ys) x h c =
-    let q = both_pass (p y) (list_all p ys) h in
-    ⊎_elim (λ (e : y ≡ x). subst (λ (z : A). p z ≡ true) e q.0) (λ (d : Contains ys x). all_pass p ys x q.1 d) (Contains-uncons y x ys c)
+flat_in : {X A : Type 0} (f : X → List A) (xs : List X) (x : X) (y : A) → Contains xs x → Contains (f x) y → Contains (flat_map f xs) y
+flat_in f [] x y c d = absurd (Contains-none x c)
+flat_in {X} f (z ∷ xs) x y c d = ⊎_elim
+    (λ (e : z ≡ x). Contains-append_1 y (f z) (flat_map f xs) (subst (λ (w : X). Contains (f w) y) (sym e) d))
+    (λ k. Contains-append_2 y (f z) (flat_map f xs) (flat_in f xs x y k d))
+    (Contains-uncons z x xs c)
 
 -- ---- the locals of a function
 
@@ -72,8 +87,14 @@ local_numbered slots used parameters order declared x v c is None e =
 
 -- ---- what is there, and numbered
 
-module _ (h : Held) (exports : List ExportValue) (there : is_there_in h exports ≡ true) (local : all_local (items h.funcs) ≡ true)
-    (names : Lookup) (order : List ℕ) (ordered : IsOrder h.funcs order) (numbered : AreNumbered names (map (λ e. e.0) (entries h.types)) order) where
+module _ (types : ModuleTypes) (all : ModuleLocals) (funcs : ModuleFunctions) (es : ModuleExports) (there : IsThere (view_of types all funcs es)) (local : all_local (items (functions funcs)) ≡ true)
+    (names : Lookup) (order : List ℕ) (ordered : IsOrder (functions funcs) order) (numbered : AreNumbered names (map (λ e. e.0) (entries (type_slots types))) order) where
+  abbrev V : Abstract
+  V = view_of types all funcs es
+
+  abbrev h : Held
+  h = held_in types all funcs
+
   types_named : (n : ℕ) → IsSome (item_at h.types n) → IsSome (names Types n)
   types_named n live = subst (λ (o : Option ℕ). IsSome o) (sym (numbered.types_are n)) (entry_placed h.types n live)
 
@@ -87,9 +108,9 @@ module _ (h : Held) (exports : List ExportValue) (there : is_there_in h exports 
   functions_named n live = subst (λ (o : Option ℕ). IsSome o) (sym (numbered.functions_are n)) (order_placed h.funcs order ordered n (local_is n live))
 
   -- an item that is there has an index
-  item_named : (x : Item) → is_live h.types h.slots h.funcs x ≡ true → IsSome (names x.0 x.1)
+  item_named : (x : Item) → IsLive V x → IsSome (names x.0 x.1)
   item_named (Types, t) l = types_named t l
-  item_named (Functions, f) l = functions_named f l
+  item_named (Functions, f) l = functions_named f (was_there (function all) (item_at h.funcs f) l)
   item_named (Tables, i) l = absurd (none_there l)
   item_named (Memories, i) l = absurd (none_there l)
   item_named (Tags, i) l = absurd (none_there l)
@@ -97,67 +118,60 @@ module _ (h : Held) (exports : List ExportValue) (there : is_there_in h exports 
   item_named (Elements, i) l = absurd (none_there l)
   item_named (DataSegments, i) l = absurd (none_there l)
 
-  items_named : (xs : List Item) → are_live h.types h.slots h.funcs xs ≡ true → (x : Item) → Contains xs x → IsSome (names x.0 x.1)
-  items_named xs l x c = item_named x (all_pass (is_live h.types h.slots h.funcs) xs x l c)
-
-  -- what is there, in its parts
-  functions_whole : all_functions_whole h.types h.slots h.funcs ≡ true
-  functions_whole =
-      let front = both_pass (all_types_whole h.types h.slots h.funcs && all_functions_whole h.types h.slots h.funcs) (all_exports_live h.types h.slots h.funcs exports) there in
-      (both_pass (all_types_whole h.types h.slots h.funcs) (all_functions_whole h.types h.slots h.funcs) front.0).1
-
-  types_whole : all_types_whole h.types h.slots h.funcs ≡ true
-  types_whole =
-      let front = both_pass (all_types_whole h.types h.slots h.funcs && all_functions_whole h.types h.slots h.funcs) (all_exports_live h.types h.slots h.funcs exports) there in
-      (both_pass (all_types_whole h.types h.slots h.funcs) (all_functions_whole h.types h.slots h.funcs) front.0).0
-
   -- each type that a type names has an index
   pub no_type_lacks : TypesLackAnIndex names (items h.types) → ⊥
   no_type_lacks (x, (t, (has, named, none))) =
-      let items_in = map type_item (sub_names x.sub) in
-      let whole : are_live h.types h.slots h.funcs items_in ≡ true = all_pass (is_type_whole h.types h.slots h.funcs) (items h.types) x types_whole has in
-      none_there (subst (λ (o : Option ℕ). IsSome o) none (items_named items_in whole (Types, t) (Contains-map type_item t (sub_names x.sub) named)))
+      let at = item_seen h.types x has in
+      let inside : Contains (type_names x) (Types, t) = Contains-append_2 (Types, t) (map type_item x.group) (map type_item (sub_names x.sub)) (Contains-map type_item t (sub_names x.sub) named) in
+      let live : IsLive V (Types, t) = there.written (Types, at.0) (Types, t) (subst (λ (o : Option TypeDef). Contains (named_by type_names o) (Types, t)) (sym at.1) inside) in
+      none_there (subst (λ (o : Option ℕ). IsSome o) none (item_named (Types, t) live))
 
-  exports_live : all_exports_live h.types h.slots h.funcs exports ≡ true
-  exports_live = (both_pass (all_types_whole h.types h.slots h.funcs && all_functions_whole h.types h.slots h.funcs) (all_exports_live h.types h.slots h.funcs exports) there).1
-
-  -- a function's type is there, and so are the items and the locals that its body names
+  -- a function's type is there, and so are the items and the locals that its body names, and the types of these
   record IsWhole (f : LocalFunction) : Type 0 where
-    typed : is_there h.types (place (function_type f)) ≡ true
-    named : are_live h.types h.slots h.funcs (names_of (body_of f)) ≡ true
-    used : list_all (is_local_whole h.types h.slots h.funcs) (locals_of (body_of f)) ≡ true
+    typed : IsSome (item_at h.types (place (function_type f)))
+    named : AreLive V (names_of (body_of f))
+    used : (x : ℕ) → Contains (locals_of (body_of f)) x → IsSome (item_at h.slots x)
+    local_types : AreLive V (flat_map (local_names (body all f)) (locals_of (body_of f)))
 
   whole_is : (n : ℕ) (a : LocalAt h.funcs n) → IsWhole a.local
   whole_is n a =
-      let whole : is_whole h.types h.slots h.funcs a.value.kind ≡ true = item_passes (λ f. is_whole h.types h.slots h.funcs f.kind) h.funcs n a.value functions_whole a.item in
-      let tests : is_whole h.types h.slots h.funcs (kind.Local a.local) ≡ true = subst (λ k. is_whole h.types h.slots h.funcs k ≡ true) a.kind_is whole in
-      let typed = is_there h.types (place (function_type a.local)) in
-      let named = are_live h.types h.slots h.funcs (names_of (body_of a.local)) in
-      let used = list_all (is_local_whole h.types h.slots h.funcs) (locals_of (body_of a.local)) in
-      let front = both_pass (typed && named) used tests in
-      let both = both_pass typed named front.0 in
-      record { typed = both.0; named = both.1; used = front.1 }
+      let first = type_item (place (function_type a.local)) in
+      let inner = names_of (body_of a.local) in
+      let outer = flat_map (local_names (body all a.local)) (locals_of (body_of a.local)) in
+      let seen : V.functions n ≡ Some (record { ty = place (function_type a.local); kind = abstract.LocalFunction (body all a.local) }) =
+      ap (option_map (function all)) a.item ∙ ap (λ (k : FunctionKind). Some (let f : abstract.Function = record { ty = place (kind_type k); kind = kind_of all k } in f)) a.kind_is in
+      let live : (y : Item) → Contains (first ∷ inner ++ outer) y → IsLive V y = (λ y c. there.written (Functions, n) y (subst (λ (o : Option abstract.Function). Contains (named_by function_names o) y) (sym seen) c)) in
+      record {
+        typed = live first (Contains-head first (inner ++ outer));
+        named = λ y c. live y (Contains-tail first y (inner ++ outer) (Contains-append_1 y inner outer c));
+        used = λ x c. there.locals n (body all a.local) x (ap body_of_function seen) c;
+        local_types = λ y c. live y (Contains-tail first y (inner ++ outer) (Contains-append_2 y inner outer c));
+      }
 
-  -- a local that is there has a type, whose types are there
-  val_whole : (o : Option (ValType ℕ)) → is_val_whole h.types h.slots h.funcs o ≡ true → (v : ValType ℕ) × ((o ≡ Some v) × (are_live h.types h.slots h.funcs (map type_item (val_names v)) ≡ true))
-  val_whole (Some v) l = (v, (refl, l))
-  val_whole None l = absurd (none_there l)
-
-  local_whole : (f : LocalFunction) → IsWhole f → (x : ℕ) → Contains (locals_of (body_of f)) x → (v : ValType ℕ) × ((item_at h.slots x ≡ Some v) × (are_live h.types h.slots h.funcs (map type_item (val_names v)) ≡ true))
-  local_whole f w x c = val_whole (item_at h.slots x) (all_pass (is_local_whole h.types h.slots h.funcs) (locals_of (body_of f)) x w.used c)
+  -- a local that is used has a type, whose types are there
+  local_whole : (f : LocalFunction) → IsWhole f → (x : ℕ) → Contains (locals_of (body_of f)) x → (v : ValType ℕ) × ((item_at h.slots x ≡ Some v) × AreLive V (map type_item (val_names v)))
+  local_whole f w x c =
+      let v = some_of (item_at h.slots x) (w.used x c) in (
+        v.0,
+        (
+          v.1,
+          λ y d. w.local_types y (flat_in (local_names (body all f)) (locals_of (body_of f)) x y c
+              (subst (λ (o : Option (ValType ℕ)). Contains (named_by (λ u. map type_item (val_names u)) o) y) (sym v.1) d)),
+        ),
+      )
 
   module _ (features : Features) (f : LocalFunction) (w : IsWhole f) where
     operators_indexed : (declared : List ℕ) → AreDeclared h.slots (locals_of (body_of f)) (map place f.args.items) declared → IsSome (named_ops names (index_in (source h names features f) declared) (body_of f))
     operators_indexed declared d =
-        ops_named names (index_in (source h names features f) declared) (body_of f) (items_named (names_of (body_of f)) w.named)
+        ops_named names (index_in (source h names features f) declared) (body_of f) (λ y d. item_named y (w.named y d))
         (λ x c. let v = local_whole f w x c in local_numbered h.slots (locals_of (body_of f)) (map place f.args.items) declared d x v.0 c v.1.0 (place_in (map place f.args.items) x) refl)
 
     type_indexed : (x : ℕ) (v : ValType ℕ) → Contains (locals_of (body_of f)) x → item_at h.slots x ≡ Some v → IsSome (named_val names v)
     type_indexed x v c is =
         let u = local_whole f w x c in
         let same : u.0 ≡ v = some_inj u.0 v (sym u.1.0 ∙ is) in
-        let live : are_live h.types h.slots h.funcs (map type_item (val_names v)) ≡ true = subst (λ (z : ValType ℕ). are_live h.types h.slots h.funcs (map type_item (val_names z)) ≡ true) same u.1.1 in
-        val_named names v (λ t d. items_named (map type_item (val_names v)) live (Types, t) (Contains-map type_item t (val_names v) d))
+        let live : AreLive V (map type_item (val_names v)) = subst (λ (z : ValType ℕ). AreLive V (map type_item (val_names z))) same u.1.1 in
+        val_named names v (λ t d. item_named (Types, t) (live (Types, t) (Contains-map type_item t (val_names v) d)))
 
     none_lacks : LacksAnIndex (source h names features f) → ⊥
     none_lacks (inl l) = none_there (subst (λ (o : Option (List Op)). IsSome o) l.1.1 (operators_indexed l.0 l.1.0))
@@ -185,15 +199,16 @@ module _ (h : Held) (exports : List ExportValue) (there : is_there_in h exports 
   abbrev with_index : List ℕ → ℕ → entries.Export
   with_index name index = record { name = name; kind = kinds.Function; index = index }
 
-  exports_named : (es : List ExportValue) → all_exports_live h.types h.slots h.funcs es ≡ true → All (λ e. IsSome e) (map (export_with_index names) es)
+  exports_named : (vs : List ExportValue) → ((e : abstract.Export) → Contains (map export_of vs) e → IsLive V e.item) → All (λ e. IsSome e) (map (export_with_index names) vs)
   exports_named [] l = λ k d lt. absurd (omega (arith, lt))
-  exports_named (e ∷ es) l =
-      let q = both_pass (is_live h.types h.slots h.funcs (exported e.item)) (all_exports_live h.types h.slots h.funcs es) l in
-      All-cons (λ (x : Option entries.Export). IsSome x) (export_with_index names e) (map (export_with_index names) es) (still_some (with_index e.name) (names (exported e.item).0 (exported e.item).1) (item_named (exported e.item) q.0)) (exports_named es q.1)
+  exports_named (e ∷ vs) l =
+      All-cons (λ (x : Option entries.Export). IsSome x) (export_with_index names e) (map (export_with_index names) vs)
+      (still_some (with_index e.name) (names (exported e.item).0 (exported e.item).1) (item_named (exported e.item) (l (export_of e) (Contains-head (export_of e) (map export_of vs)))))
+      (exports_named vs (λ x c. l x (Contains-tail (export_of e) x (map export_of vs) c)))
 
   -- and what each export names
-  pub exports_indexed : All (λ e. IsSome e) (map (export_with_index names) exports)
-  exports_indexed = exports_named exports exports_live
+  pub exports_indexed : All (λ e. IsSome e) (map (export_with_index names) (items (exports es)))
+  exports_indexed = exports_named (items (exports es)) there.exports
 
 -- ---- the ids of the functions, wherever they are lent
 
@@ -202,13 +217,13 @@ lent_all P ids lent h same =
     subst (λ (l : List (Id FunctionKey)). All (λ id. P (place id)) l) (sym same)
     (λ k d lt. subst P (get_or-map place ids k d (place d) lt) (h k (place d) (omega (arith, lt, length-map ids place))))
 
-module _ (h : Held) (exports : List ExportValue) (names : Lookup) (ids lent : List (Id FunctionKey)) (there : is_there_in h exports ≡ true) (local : all_local (items h.funcs) ≡ true)
-    (ordered : IsOrder h.funcs (map place ids)) (numbered : AreNumbered names (map (λ e. e.0) (entries h.types)) (map place ids)) (same : lent ≡ ids) where
-  pub ids_indexed : (features : Features) → All (λ id. IsIndexed h names features (place id)) lent
-  ids_indexed features = lent_all (IsIndexed h names features) ids lent (order_indexed h exports there local names (map place ids) ordered numbered features) same
+module _ (types : ModuleTypes) (all : ModuleLocals) (funcs : ModuleFunctions) (es : ModuleExports) (names : Lookup) (ids lent : List (Id FunctionKey)) (there : IsThere (view_of types all funcs es)) (local : all_local (items (functions funcs)) ≡ true)
+    (ordered : IsOrder (functions funcs) (map place ids)) (numbered : AreNumbered names (map (λ e. e.0) (entries (type_slots types))) (map place ids)) (same : lent ≡ ids) where
+  pub ids_indexed : (features : Features) → All (λ id. IsIndexed (held_in types all funcs) names features (place id)) lent
+  ids_indexed features = lent_all (IsIndexed (held_in types all funcs) names features) ids lent (order_indexed types all funcs es there local names (map place ids) ordered numbered features) same
 
-  pub ids_typed : All (λ id. IsSome (type_index h.funcs names (place id))) lent
-  ids_typed = lent_all (λ n. IsSome (type_index h.funcs names n)) ids lent (order_typed h exports there local names (map place ids) ordered numbered) same
+  pub ids_typed : All (λ id. IsSome (type_index (functions funcs) names (place id))) lent
+  ids_typed = lent_all (λ n. IsSome (type_index (functions funcs) names n)) ids lent (order_typed types all funcs es there local names (map place ids) ordered numbered) same
 
 -- ---- why a body is refused
 

@@ -8,7 +8,6 @@ pub mod DeclaredTypes
 pub mod Differ
 pub mod EmittedLemmas
 pub mod Entries
-pub mod ExportedRefs
 pub mod FewLocals
 pub mod FewParams
 pub mod Found
@@ -19,8 +18,6 @@ pub mod InOrder
 pub mod Indexed
 pub mod Keeps
 pub mod Leads
-pub mod LiveLists
-pub mod LiveTests
 pub mod Lookups
 pub mod Named
 pub mod NamedAll
@@ -55,7 +52,6 @@ pub mod TakenBody
 pub mod TakenSections
 pub mod Taking
 pub mod TextsStand
-pub mod ThereLemmas
 pub mod Turns
 pub mod TypesTaken
 pub mod TypesRead

@@ -41,20 +41,21 @@ use Rattle.walrus_model.specs.Out.{Written}
 use Rattle.walrus_model.specs.Reads.{features_of}
 use Rattle.walrus_model.specs.Rules.{IsFunctionComp}
 use Rattle.walrus_model.specs.WellMade.{IsWellFormed}
-use Rattle.walrus_module.specs.Emitted.{HasUnwritable, HasTooManyIn, HasOther, DoesNotFit, PassesLimits, RefusesDeclared}
+use Rattle.walrus_module.specs.Emitted.{HasUnwritable, HasTooManyIn, HasOther, DoesNotFit, PassesLimits, RefusesDeclared, RefusesItems}
 use Rattle.walrus_module.specs.Parts.{Held, local_in, source, HasBytes, unplaced}
-use Rattle.walrus_module.specs.References.{refs_are_exported}
-use Rattle.walrus_module.specs.Refused.{IsThere, HasImported, HasIllFormed, AreWritable, HasUnwritableType, HasUndeclared, HasTooMany, HasManyLocals, WritesTooLarge, RefusesToWrite}
+use Rattle.walrus_module.specs.Refused.{HasImported, HasIllFormed, AreWritable, HasUnwritableType, HasTooMany, HasManyLocals, WritesTooLarge, RefusesToWrite}
 use Rattle.walrus_module.specs.Spells.{Records}
 use Rattle.walrus_module.specs.View.{body, kind_of, function, functions_of, view_of}
-use Rattle.walrus_module.specs.Whole.{is_whole, all_types_whole, all_functions_whole, all_exports_live, is_local, all_local, is_all_there}
+use Rattle.walrus_module.specs.Local.{is_local, all_local}
 use Rattle.walrus_module.proofs.DeclaredTypes.{texts_declare}
-use Rattle.walrus_module.proofs.Entries.{Failing, item_fails, both_pass, item_passes, entries_live, entries_rise, LocalAt, locals_live, locals_rise}
-use Rattle.walrus_module.proofs.ExportedRefs.{one_undeclared}
+use Rattle.walrus_module.proofs.Entries.{Failing, item_fails, entries_live, entries_rise, LocalAt, locals_live, locals_rise}
+use Rattle.walrus_contents.specs.References.{HasUndeclared}
+use Rattle.walrus_contents.proofs.Slots.{item_seen}
+use Rattle.walrus_contents.specs.There.{IsRefusal, IsThere}
+use Rattle.walrus_model.specs.Declared.{NothingUndeclared}
 use Rattle.walrus_model.proofs.Supported.{are_supported}
 use Rattle.walrus_module.proofs.ReadBack.{of_functions}
 use Rattle.walrus_module.proofs.WrittenAs.{texts_in, sections_of, texts_of, written_as}
-use Rattle.walrus_model.proofs.Lists.{Contains-uncons, Contains-none}
 use Rattle.walrus_parts.specs.declared.error.Error.{Error}
 use Rattle.walrus_parts.specs.declared.error.Error.TheVariants.{Memory, DeadItem, NoIndex, NotWritable, TooLarge}
 use Rattle.walrus_model.proofs.Standing.{none_there, some_inj}
@@ -77,20 +78,6 @@ local_case funcs n f (Some v) at e = record { value = v; item = at; kind_is = lo
 
 has_local : (funcs : List (Option FunctionValue)) (n : ℕ) (f : LocalFunction) → local_in funcs n ≡ Some (n, f) → HasLocal funcs n f
 has_local funcs n f e = local_case funcs n f (item_at funcs n) refl e
-
--- ---- entries
-
-item_later : {T : Type 0} (s : Option T) (rest : List (Option T)) (x : T) → (i : ℕ) × (item_at rest i ≡ Some x) → (i : ℕ) × (item_at (s ∷ rest) i ≡ Some x)
-item_later s rest x (i, at) = (suc i, at)
-
--- what is an item is at a place
-item_seen : {T : Type 0} (k : ℕ) (slots : List (Option T)) (x : T) → Contains (map (λ e. e.1) (entries_from k slots)) x → (i : ℕ) × (item_at slots i ≡ Some x)
-item_seen k [] x c = absurd (Contains-none x c)
-item_seen k (None ∷ rest) x c = item_later None rest x (item_seen (k + 1) rest x c)
-item_seen {T} k (Some y ∷ rest) x c = elim (Contains-uncons y x (map (λ (e : ℕ × T). e.1) (entries_from (k + 1) rest)) c) as (λ _. (i : ℕ) × (item_at (Some y ∷ rest) i ≡ Some x)) [
-  | inl e ↦ (0, ap (λ (z : T). Some z) e)
-  | inr d ↦ item_later (Some y) rest x (item_seen (k + 1) rest x d)
-]
 
 -- ---- declared locals
 
@@ -156,15 +143,15 @@ module _ (c : Config) (types : ModuleTypes) (all : ModuleLocals) (funcs : Module
 
   -- ---- a function with an import
 
-  imported_one : (i : ℕ) (v : FunctionValue) (k : FunctionKind) → item_at F i ≡ Some v → v.kind ≡ k → is_whole T L F k ≡ true → is_local k ≡ false → HasImported V
-  imported_one i v (kind.Import imported) at same whole not = (i, function all v, place imported.«import», ap (option_map (function all)) at, ap (kind_of all) same)
-  imported_one i v (kind.Local f) at same whole not = absurd (none_there (sym not))
-  imported_one i v (kind.Uninitialized ty) at same whole not = absurd (none_there whole)
+  imported_one : IsThere V → (i : ℕ) (v : FunctionValue) (k : FunctionKind) → item_at F i ≡ Some v → v.kind ≡ k → is_local k ≡ false → HasImported V
+  imported_one there i v (kind.Import imported) at same not = (i, function all v, place imported.«import», ap (option_map (function all)) at, ap (kind_of all) same)
+  imported_one there i v (kind.Local f) at same not = absurd (none_there (sym not))
+  imported_one there i v (kind.Uninitialized ty) at same not = absurd (there.initialised i (function all v) (ap (option_map (function all)) at) (ap (kind_of all) same))
 
-  imported : all_functions_whole T L F ≡ true → all_local (items F) ≡ false → HasImported V
-  imported whole not =
+  imported : IsThere V → all_local (items F) ≡ false → HasImported V
+  imported there not =
       let f : Failing (λ (v : FunctionValue). is_local v.kind) F = item_fails (λ (v : FunctionValue). is_local v.kind) F not in
-      imported_one f.at f.value f.value.kind f.item refl (item_passes (λ (v : FunctionValue). is_whole T L F v.kind) F f.at f.value whole f.item) f.fails
+      imported_one there f.at f.value f.value.kind f.item refl f.fails
 
   -- ---- a body that isn't well formed
 
@@ -200,7 +187,7 @@ module _ (c : Config) (types : ModuleTypes) (all : ModuleLocals) (funcs : Module
   unwritable : HasOther H → HasUnwritableType V
   unwritable other w =
       let exact : HasExact (items T) = other (in_order w) in
-      let seen = item_seen 0 T exact.0 exact.1.1.0 in
+      let seen = item_seen T exact.0 exact.1.1.0 in
       exact.1.1.2 (w.heaps seen.0 exact.0 exact.1.0 seen.1 exact.1.1.1)
 
   -- ---- too many items, and what can't be spelled
@@ -228,8 +215,8 @@ module _ (c : Config) (types : ModuleTypes) (all : ModuleLocals) (funcs : Module
       let parameters = map place f.args.items in
       (n, (body all f, (order, (found, order_differs L used parameters order declared, order_used L used parameters order declared, order_apart L used parameters order declared, many))))
 
-  module _ (written : refs_are_exported (items F) E ≡ true → (r : Records H (features_of c) E) → Written c V (written_as r)) where
-    too_large : refs_are_exported (items F) E ≡ true → DoesNotFit H (features_of c) E → WritesTooLarge c V
+  module _ (written : NothingUndeclared V → (r : Records H (features_of c) E) → Written c V (written_as r)) where
+    too_large : NothingUndeclared V → DoesNotFit H (features_of c) E → WritesTooLarge c V
     too_large declared d =
         let r = d.records in (
           written_as r,
@@ -245,26 +232,40 @@ module _ (c : Config) (types : ModuleTypes) (all : ModuleLocals) (funcs : Module
           },
         )
 
-    passes : refs_are_exported (items F) E ≡ true → PassesLimits H (features_of c) E → HasTooMany V ⊎ (HasManyLocals V ⊎ WritesTooLarge c V)
+    passes : NothingUndeclared V → PassesLimits H (features_of c) E → HasTooMany V ⊎ (HasManyLocals V ⊎ WritesTooLarge c V)
     passes declared (inl h) = inl (too_many_types h)
     passes declared (inr (inl h)) = inl (too_many_functions h)
     passes declared (inr (inr (inl h))) = inr (inl (many_locals h))
     passes declared (inr (inr (inr d))) = inr (inr (too_large declared d))
 
-    module _ (there : is_all_there types all funcs es ≡ true → IsThere V) (there_back : IsThere V → is_all_there types all funcs es ≡ true) where
-      -- the refusals of items are those of the module seen
-      pub refuses_lem : {X : Type 0} (result : Result X Error) → RefusesDeclared H (features_of c) E result → RefusesToWrite c V result
-      refuses_lem (Ok x) h = there h.0
-      refuses_lem (Err DeadItem) h = λ is. none_there (sym h ∙ there_back is)
-      refuses_lem (Err NoIndex) h =
-          let whole = both_pass (all_types_whole T L F) (all_functions_whole T L F) in
-          (there h.0, imported (whole (both_pass _ (all_exports_live T L F E) h.0).0).1 h.1)
-      refuses_lem (Err NotWritable) h = (there h.0, refused h.1)
-        where
-          refused : (HasUnwritable H (features_of c) ⊎ HasOther H) ⊎ (refs_are_exported (items F) E ≡ false) → HasIllFormed c V ⊎ (HasUnwritableType V ⊎ HasUndeclared V)
-          refused (inl (inl u)) = inl (not_formed u)
-          refused (inl (inr o)) = inr (inl (unwritable o))
-          refused (inr u) = inr (inr (one_undeclared types all funcs es u))
-      refuses_lem (Err TooLarge) h = (there h.0, passes h.1.0 h.1.1)
-      refuses_lem (Err (Memory e)) h = tt
-      refuses_lem (Err _) h = absurd h
+    -- the refusals of items are those of the module seen
+    pub refuses_lem : {X : Type 0} (result : Result X Error) → RefusesDeclared V H (features_of c) E result → RefusesToWrite c V result
+    refuses_lem (Ok x) h = h.0
+    refuses_lem (Err DeadItem) h = h
+    refuses_lem (Err NoIndex) h = (h.0, imported h.0 h.1)
+    refuses_lem (Err NotWritable) h = (h.0, refused h.1)
+      where
+        refused : (HasUnwritable H (features_of c) ⊎ HasOther H) ⊎ HasUndeclared V → HasIllFormed c V ⊎ (HasUnwritableType V ⊎ HasUndeclared V)
+        refused (inl (inl u)) = inl (not_formed u)
+        refused (inl (inr o)) = inr (inl (unwritable o))
+        refused (inr u) = inr (inr u)
+    refuses_lem (Err TooLarge) h = (h.0, passes h.1.0 h.1.1)
+    refuses_lem (Err (Memory e)) h = tt
+    refuses_lem (Err _) h = absurd h
+
+-- ---- the refusals of items of which each is there, and of any
+
+-- where nothing is undeclared, no refusal says more
+pub declared_refused : {X : Type 0} (v : Abstract) (h : Held) (features : Features) (exported : List ExportValue) → IsThere v → NothingUndeclared v → (result : Result X Error) → RefusesItems h features exported result → RefusesDeclared v h features exported result
+declared_refused v h features exported there declared (Ok x) r = (there, declared)
+declared_refused v h features exported there declared (Err NoIndex) r = (there, r)
+declared_refused v h features exported there declared (Err NotWritable) r = (there, inl r)
+declared_refused v h features exported there declared (Err TooLarge) r = (there, (declared, r))
+declared_refused v h features exported there declared (Err (Memory e)) r = tt
+declared_refused v h features exported there declared (Err _) r = absurd r
+
+-- something isn't there
+pub dead_refused : (X : Type 0) (v : Abstract) (h : Held) (features : Features) (exported : List ExportValue) (e : Error) → IsRefusal (IsThere v → ⊥) e → RefusesDeclared {X = X} v h features exported (Err e)
+dead_refused X v h features exported (Memory m) r = tt
+dead_refused X v h features exported DeadItem r = r
+dead_refused X v h features exported _ r = absurd r

@@ -22,12 +22,12 @@ use Rattle.walrus_items.specs.Exports.{ExportValue}
 use Rattle.walrus_groups.specs.Indexed.{AreIndexed, AreInOrder}
 use Rattle.walrus_items.specs.Functions.{local_functions}
 use Rattle.walrus_model.proofs.Lists.{map-map}
-use Rattle.walrus_module.specs.Emitted.{is_there_in, RefusesCounts, RefusesTypes, RefusesBodies, RefusesSections, RefusesItems}
+use Rattle.walrus_module.specs.Emitted.{RefusesCounts, RefusesTypes, RefusesBodies, RefusesSections, RefusesItems}
 use Rattle.walrus_module.specs.Numbered.{AreNumbered, NamesNoOthers}
 use Rattle.walrus_module.specs.Parts.{Held, type_index, export_with_index, HasBytes, unplaced}
 use Rattle.walrus_module.specs.Sizes.{IsOrder}
 use Rattle.walrus_module.specs.Spells.{Records}
-use Rattle.walrus_module.specs.Whole.{all_local}
+use Rattle.walrus_module.specs.Local.{all_local}
 use Rattle.walrus_module.proofs.Entries.{order_length}
 use Rattle.walrus_module.proofs.Somes.{none_there}
 use Rattle.walrus_module.proofs.SpellsLemmas.{zip_seen}
@@ -50,26 +50,26 @@ next_has {B} {C} done g left after e all is step h none =
 module _ (h : Held) (features : Features) (exports : List ExportValue) where
   -- ---- too many items
 
-  pub counts_refused : (X : Type 0) (ids lent : List (Id FunctionKey)) (e : Error) → is_there_in h exports ≡ true → IsOrder h.funcs (map place ids) → lent ≡ ids → RefusesCounts (length (entries h.types)) (length lent) e → RefusesItems {X = X} h features exports (Err e)
-  counts_refused X ids lent (Parts.Memory m) there ordered same r = tt
-  counts_refused X ids lent Parts.TooLarge there ordered same (inl r) = (there, inl r)
-  counts_refused X ids lent Parts.TooLarge there ordered same (inr r) =
+  pub counts_refused : (X : Type 0) (ids lent : List (Id FunctionKey)) (e : Error) → IsOrder h.funcs (map place ids) → lent ≡ ids → RefusesCounts (length (entries h.types)) (length lent) e → RefusesItems {X = X} h features exports (Err e)
+  counts_refused X ids lent (Parts.Memory m) ordered same r = tt
+  counts_refused X ids lent Parts.TooLarge ordered same (inl r) = inl r
+  counts_refused X ids lent Parts.TooLarge ordered same (inr r) =
       let as_many : length lent ≡ length (local_functions (entries h.funcs)) = ap (λ (l : List (Id FunctionKey)). length l) same ∙ sym (length-map ids place) ∙ order_length h.funcs (map place ids) ordered in
-      (there, inr (inl (omega (arith, r, as_many))))
-  counts_refused X ids lent _ there ordered same r = absurd r
+      inr (inl (omega (arith, r, as_many)))
+  counts_refused X ids lent _ ordered same r = absurd r
 
   -- ---- types and bodies
 
-  pub types_refused : (X : Type 0) (e : Error) → is_there_in h exports ≡ true → RefusesTypes h.types e → RefusesItems {X = X} h features exports (Err e)
-  types_refused X (Parts.Memory m) there r = tt
-  types_refused X Parts.NotWritable there r = (there, inr (λ ordered. r))
-  types_refused X _ there r = absurd r
+  pub types_refused : (X : Type 0) (e : Error) → RefusesTypes h.types e → RefusesItems {X = X} h features exports (Err e)
+  types_refused X (Parts.Memory m) r = tt
+  types_refused X Parts.NotWritable r = inr (λ ordered. r)
+  types_refused X _ r = absurd r
 
-  pub bodies_refused : (X : Type 0) (e : Error) → is_there_in h exports ≡ true → RefusesBodies h features e → RefusesItems {X = X} h features exports (Err e)
-  bodies_refused X (Parts.Memory m) there r = tt
-  bodies_refused X Parts.NotWritable there r = (there, inl r)
-  bodies_refused X Parts.TooLarge there r = (there, inr (inr (inl r)))
-  bodies_refused X _ there r = absurd r
+  pub bodies_refused : (X : Type 0) (e : Error) → RefusesBodies h features e → RefusesItems {X = X} h features exports (Err e)
+  bodies_refused X (Parts.Memory m) r = tt
+  bodies_refused X Parts.NotWritable r = inl r
+  bodies_refused X Parts.TooLarge r = inr (inr (inl r))
+  bodies_refused X _ r = absurd r
 
   -- ---- the records
 
@@ -102,18 +102,16 @@ module _ (h : Held) (features : Features) (exports : List ExportValue) where
 
   -- ---- records that can't be spelled
 
-  pub sections_refused : (X : Type 0) (r : Records h features exports) (ts : List Group) (fs : List ℕ) (es : List Export) (bs : List wire.Body) (e : Error) → is_there_in h exports ≡ true
+  pub sections_refused : (X : Type 0) (r : Records h features exports) (ts : List Group) (fs : List ℕ) (es : List Export) (bs : List wire.Body) (e : Error)
       → ts ≡ r.raw_types → fs ≡ r.raw_functions → es ≡ r.raw_exports → bs ≡ map unplaced r.bodies → RefusesSections ts fs es bs e → RefusesItems {X = X} h features exports (Err e)
-  sections_refused X r ts fs es bs (Parts.Memory m) there t f x b refused = tt
-  sections_refused X r ts fs es bs Parts.TooLarge there t f x b refused = (
-    there,
-    inr (inr (inr (record {
-      records = r;
-      too_large =
-          subst (λ u. RefusesSections r.raw_types r.raw_functions r.raw_exports u Parts.TooLarge) b
-          (subst (λ u. RefusesSections r.raw_types r.raw_functions u bs Parts.TooLarge) x
-          (subst (λ u. RefusesSections r.raw_types u es bs Parts.TooLarge) f
-          (subst (λ u. RefusesSections u fs es bs Parts.TooLarge) t refused)));
-    }))),
-  )
-  sections_refused X r ts fs es bs _ there t f x b refused = absurd refused
+  sections_refused X r ts fs es bs (Parts.Memory m) t f x b refused = tt
+  sections_refused X r ts fs es bs Parts.TooLarge t f x b refused =
+      inr (inr (inr (record {
+        records = r;
+        too_large =
+            subst (λ u. RefusesSections r.raw_types r.raw_functions r.raw_exports u Parts.TooLarge) b
+            (subst (λ u. RefusesSections r.raw_types r.raw_functions u bs Parts.TooLarge) x
+            (subst (λ u. RefusesSections r.raw_types u es bs Parts.TooLarge) f
+            (subst (λ u. RefusesSections u fs es bs Parts.TooLarge) t refused)));
+      })))
+  sections_refused X r ts fs es bs _ t f x b refused = absurd refused

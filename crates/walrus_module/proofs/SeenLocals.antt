@@ -1,5 +1,5 @@
 -- How many locals a body in memory declares: those that it uses beside its parameters, which are the ones that are written.
-use Rattle.std.proofs.Common.{◌≡◌, ℕ, ◌+◌, ◌<◌, ◌≤◌, ◌||◌, Bool, true, false, List, [], ◌∷◌, length, map, refl, sym, ap, subst, ◌∙◌, arith, inl, inr}
+use Rattle.std.proofs.Common.{◌≡◌, ℕ, ◌+◌, ◌<◌, ◌≤◌, ◌||◌, Bool, true, false, List, [], ◌∷◌, length, map, refl, sym, ap, subst, ◌∙◌, arith, inl, inr, ⊎_elim}
 use Rattle.std.specs.Prelude.{Option, Some, IsSome, Contains, filter, not, ◌==◌, cond, option_map}
 use Rattle.std.specs.List.{AllByRecursion, AllZip, range_with_len}
 use Rattle.std.proofs.lemmas.Bool.Decides.{Decides-eqb}
@@ -33,11 +33,29 @@ use Rattle.walrus_module.specs.View.{is_declared, body, kind_of, function, view_
 use Rattle.walrus_module.proofs.BodyBack.{types_in, as_many_further}
 use Rattle.walrus_module.proofs.Carrying.{item_within}
 use Rattle.walrus_module.proofs.CountedLocals.{DeclaresFew}
-use Rattle.walrus_module.proofs.LiveTests.{both_pass, pass_both, has_contained}
+use Rattle.walrus_model.proofs.Lists.{Contains-uncons, Contains-none}
+use Rattle.walrus_module.proofs.Entries.{both_pass, pass_both}
 use Rattle.walrus_model.proofs.Standing.{none_there, some_inj}
 use Rattle.walrus_module.proofs.Lookups.{then_some}
 use Rattle.walrus_module.proofs.TypeLists.{in_range}
 use Rattle.walrus_module.proofs.WrittenAs.{texts_in}
+
+-- ---- places in a list
+
+first_passes : (a b : Bool) → a ≡ true → (a || b) ≡ true
+first_passes true b h = refl
+first_passes false b h = absurd (none_there h)
+
+second_passes : (a b : Bool) → b ≡ true → (a || b) ≡ true
+second_passes true b h = refl
+second_passes false b h = h
+
+has_contained : (ns : List ℕ) (p : ℕ) → Contains ns p → has ns p ≡ true
+has_contained [] p c = absurd (Contains-none p c)
+has_contained (n ∷ ns) p c =
+    ⊎_elim (λ (e : n ≡ p). first_passes (n == p) (has ns p) ((Decides-eqb n p).1 e))
+    (λ (d : Contains ns p). second_passes (n == p) (has ns p) (has_contained ns p d))
+    (Contains-uncons n p ns c)
 
 -- ---- what passes a test
 

@@ -12,7 +12,7 @@ use Rattle.walrus_items.specs.declared.functions.FunctionKind.TheVariants as kin
 use Rattle.walrus_model.proofs.Lists.{Contains-map, Contains-head, Contains-append_2}
 use Rattle.walrus_types.specs.Shape.{place_in}
 use Rattle.walrus_module.specs.Sizes.{local_sizes, IsOrder}
-use Rattle.walrus_module.specs.Whole.{is_local, all_local}
+use Rattle.walrus_module.specs.Local.{is_local, all_local}
 use Rattle.walrus_module.proofs.Differ.{places_differ, order_differs}
 use Rattle.walrus_module.proofs.Lookups.{got_map}
 use Rattle.walrus_model.proofs.Standing.{some_inj, stands_at}

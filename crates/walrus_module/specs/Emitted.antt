@@ -20,8 +20,10 @@ use Rattle.walrus_model.specs.Rules.{Holds}
 use Rattle.walrus_module.specs.Parts.{Held, local_in, source, unplaced}
 use Rattle.walrus_module.specs.Spelled.{DoesNotSpell}
 use Rattle.walrus_module.specs.Spells.{Records}
-use Rattle.walrus_module.specs.References.{refs_are_exported}
-use Rattle.walrus_module.specs.Whole.{all_there, all_local}
+use Rattle.walrus_contents.specs.References.{HasUndeclared}
+use Rattle.walrus_contents.specs.There.{IsThere}
+use Rattle.walrus_model.specs.Declared.{NothingUndeclared}
+use Rattle.walrus_module.specs.Local.{all_local}
 use Rattle.walrus_parts.specs.declared.error.Error.{Error}
 use Rattle.walrus_parts.specs.declared.error.Error.TheVariants.{Memory, DeadItem, NoIndex, NotWritable, TooLarge}
 
@@ -38,10 +40,6 @@ pub record IsEmitted (c : Config) (v : Abstract) (bytes : List ℕ) : Type 0 whe
   pub placed : Placed bytes
 
 -- ---- refusals
-
--- all that types, functions and exports name is there
-abbrev pub is_there_in : Held → List ExportValue → Bool
-is_there_in h exports = all_there h.types h.slots h.funcs exports
 
 -- a function has a body that can't be spelled, under some indices
 abbrev pub HasUnwritable : Held → Features → Type 0
@@ -64,25 +62,25 @@ pub record DoesNotFit (h : Held) (features : Features) (exports : List ExportVal
 abbrev pub PassesLimits : Held → Features → List ExportValue → Type 0
 PassesLimits h features exports = (2 ^ 32 ≤ length (entries h.types)) ⊎ ((2 ^ 32 ≤ length (local_functions (entries h.funcs))) ⊎ (HasTooManyIn h features ⊎ DoesNotFit h features exports))
 
--- DeadItem comes exactly where not all is there, and before the refusals behind it, each of which comes with its cause
+-- items of which each is there that is named: each refusal comes with its cause
 abbrev pub RefusesItems : {X : Type 0} → Held → Features → List ExportValue → Result X Error → Type 0
-RefusesItems h features exports (Ok x) = is_there_in h exports ≡ true
-RefusesItems h features exports (Err DeadItem) = is_there_in h exports ≡ false
-RefusesItems h features exports (Err NoIndex) = (is_there_in h exports ≡ true) × (all_local (items h.funcs) ≡ false)
-RefusesItems h features exports (Err NotWritable) = (is_there_in h exports ≡ true) × (HasUnwritable h features ⊎ HasOther h)
-RefusesItems h features exports (Err TooLarge) = (is_there_in h exports ≡ true) × PassesLimits h features exports
+RefusesItems h features exports (Ok x) = ⊤
+RefusesItems h features exports (Err NoIndex) = all_local (items h.funcs) ≡ false
+RefusesItems h features exports (Err NotWritable) = HasUnwritable h features ⊎ HasOther h
+RefusesItems h features exports (Err TooLarge) = PassesLimits h features exports
 RefusesItems h features exports (Err (Memory e)) = ⊤
 RefusesItems h features exports (Err _) = ⊥
 
--- the same with one more cause behind DeadItem: ref.func names a function that isn't exported
-abbrev pub RefusesDeclared : {X : Type 0} → Held → Features → List ExportValue → Result X Error → Type 0
-RefusesDeclared h features exports (Ok x) = (is_there_in h exports ≡ true) × (refs_are_exported (items h.funcs) exports ≡ true)
-RefusesDeclared h features exports (Err DeadItem) = is_there_in h exports ≡ false
-RefusesDeclared h features exports (Err NoIndex) = (is_there_in h exports ≡ true) × (all_local (items h.funcs) ≡ false)
-RefusesDeclared h features exports (Err NotWritable) = (is_there_in h exports ≡ true) × ((HasUnwritable h features ⊎ HasOther h) ⊎ (refs_are_exported (items h.funcs) exports ≡ false))
-RefusesDeclared h features exports (Err TooLarge) = (is_there_in h exports ≡ true) × ((refs_are_exported (items h.funcs) exports ≡ true) × PassesLimits h features exports)
-RefusesDeclared h features exports (Err (Memory e)) = ⊤
-RefusesDeclared h features exports (Err _) = ⊥
+-- the same of any items of the module v: DeadItem comes exactly where not all is there, and before all others; and there is one
+-- more cause, a function that ref.func names and that isn't exported
+abbrev pub RefusesDeclared : {X : Type 0} → Abstract → Held → Features → List ExportValue → Result X Error → Type 0
+RefusesDeclared v h features exports (Ok x) = IsThere v × NothingUndeclared v
+RefusesDeclared v h features exports (Err DeadItem) = IsThere v → ⊥
+RefusesDeclared v h features exports (Err NoIndex) = IsThere v × (all_local (items h.funcs) ≡ false)
+RefusesDeclared v h features exports (Err NotWritable) = IsThere v × ((HasUnwritable h features ⊎ HasOther h) ⊎ HasUndeclared v)
+RefusesDeclared v h features exports (Err TooLarge) = IsThere v × (NothingUndeclared v × PassesLimits h features exports)
+RefusesDeclared v h features exports (Err (Memory e)) = ⊤
+RefusesDeclared v h features exports (Err _) = ⊥
 
 -- ---- refusals of the parts
 

@@ -2,14 +2,13 @@ pub mod Customs
 pub mod Emitted
 pub mod Entry
 pub mod Flags
-pub mod Held
 pub mod LendsSection
+pub mod Local
 pub mod Meaning
 pub mod Numbered
 pub mod Parsed
 pub mod Parts
 pub mod Raws
-pub mod References
 pub mod Refused
 pub mod Sections
 pub mod Settings
@@ -19,4 +18,3 @@ pub mod Spells
 pub mod SupportedOnly
 pub mod Taken
 pub mod View
-pub mod Whole

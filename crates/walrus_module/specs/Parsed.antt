@@ -1,6 +1,6 @@
 -- What parsing gives, and when it refuses.
 use Rattle.wasm_frames.specs.Record as wire
-use Rattle.std.specs.Prelude.{ℕ, List, zip, ⊤}
+use Rattle.std.specs.Prelude.{ℕ, List, zip, Result, Ok, Err, ⊤}
 use Rattle.walrus_model.specs.Abstract.{Abstract}
 use Rattle.walrus_model.specs.Config.{Config}
 use Rattle.walrus_model.specs.Declared.{NothingUndeclared}
@@ -14,6 +14,7 @@ use Rattle.walrus_types.specs.declared.locals.ModuleLocals.{ModuleLocals}
 use Rattle.walrus_types.specs.declared.module_types.ModuleTypes.{ModuleTypes}
 use Rattle.walrus_items.specs.declared.exports.ModuleExports.{ModuleExports}
 use Rattle.walrus_items.specs.declared.functions.ModuleFunctions.{ModuleFunctions}
+use Rattle.walrus_contents.specs.References.{HasUndeclared}
 use Rattle.walrus_module.specs.Refused.{AreWellFormed, AreWritable, HasManyLocals}
 use Rattle.walrus_items.specs.Functions.{functions}
 use Rattle.walrus_module.specs.Taken.{HasTaken, IsLocated}
@@ -71,3 +72,10 @@ abbrev pub RefusesModule : Config → List ℕ → Error → Type 0
 RefusesModule c bytes (Memory e) = ⊤
 RefusesModule c bytes (InvalidWasm kind) = AreModule c bytes → ⊥
 RefusesModule c bytes _ = ⊥
+
+-- tested: nothing is undeclared, or refused as what isn't handled so far
+abbrev pub ChecksReferences : Abstract → Result Unit Error → Type 0
+ChecksReferences v (Ok u) = NothingUndeclared v
+ChecksReferences v (Err (Memory e)) = ⊤
+ChecksReferences v (Err (InvalidWasm kind)) = HasUndeclared v
+ChecksReferences v (Err _) = ⊥

@@ -3,7 +3,7 @@ use Rattle.wasm_entries.specs.Record as entries
 use Rattle.wasm_entries.specs.declared.record.RawExportKind.TheVariants as kinds
 use Rattle.std.specs.Prelude.{ℕ, List, Option, Some, option_map, option_and_then, map, ◌≡◌}
 use Rattle.wasm_frames.specs.Record as wire
-use Rattle.walrus_base.specs.Arena.{item_at}
+use Rattle.walrus_base.specs.Arena.{item_at, items}
 use Rattle.walrus_base.specs.Id.{place}
 use Rattle.walrus_base.specs.Types.{ValType}
 use Rattle.walrus_types.specs.Locals.{locals}
@@ -18,9 +18,10 @@ use Rattle.walrus_code.specs.declared.function.LocalFunction.{LocalFunction}
 use Rattle.walrus_bodies.specs.FunctionTypes.{is_function_def}
 use Rattle.walrus_bodies.specs.declared.features.Features.{Features}
 use Rattle.walrus_functions.specs.EmittedBody.{Source, BodyWritten, LacksAnIndex, types_of as local_types}
-use Rattle.walrus_items.specs.Exports.{ExportValue, exported}
+use Rattle.walrus_items.specs.Exports.{ExportValue, exported, exports}
 use Rattle.walrus_items.specs.Functions.{FunctionValue, functions, local_at}
 use Rattle.walrus_items.specs.declared.functions.ModuleFunctions.{ModuleFunctions}
+use Rattle.walrus_contents.specs.declared.parts.Parts.{Parts}
 
 -- what a module holds that bodies are written by: the types, the types of locals, and the functions, by their places
 pub record Held : Type 0 where
@@ -31,6 +32,13 @@ pub record Held : Type 0 where
 -- what these types, locals and functions are
 abbrev pub held_in : ModuleTypes → ModuleLocals → ModuleFunctions → Held
 held_in types all funcs = record { types = type_slots types; slots = local_types (locals all); funcs = functions funcs }
+
+-- what these parts hold, and their exports
+abbrev pub parts_held : Parts → Held
+parts_held p = held_in p.types.now p.locals.now p.funcs.now
+
+abbrev pub parts_exports : Parts → List ExportValue
+parts_exports p = items (exports p.exports.now)
 
 -- the function with a body at a place, with that place, if there is one
 abbrev pub local_in : List (Option FunctionValue) → ℕ → Option (ℕ × LocalFunction)

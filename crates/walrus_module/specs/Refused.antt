@@ -1,14 +1,12 @@
 -- Why a module in memory can't be written.
 use Rattle.wasm_frames.specs.Record as wire
-use Rattle.std.specs.Prelude.{ℕ, List, [], map, length, Some, IsSome, All, AllPairs, Contains, ◌++◌, ◌≡◌, ◌≢◌, ◌<◌, ◌≤◌, ◌^◌, ◌⊎◌, ⊤, Result, Ok, Err}
+use Rattle.std.specs.Prelude.{ℕ, List, [], map, length, Some, All, AllPairs, Contains, ◌++◌, ◌≡◌, ◌≢◌, ◌<◌, ◌≤◌, ◌^◌, ◌⊎◌, ⊤, Result, Ok, Err}
 use Rattle.walrus_base.specs.Types.{HeapType, IsNotExact, comp_heaps}
 use Rattle.walrus_types.specs.Operators.{Space}
-use Rattle.walrus_model.specs.Abstract.{Abstract, TypeDef, Body, ImportedFunction, LocalFunction, Uninitialised, Function, Export}
+use Rattle.walrus_model.specs.Abstract.{Abstract, TypeDef, Body, ImportedFunction, LocalFunction, Function}
 use Rattle.walrus_model.specs.BodyText.{BodyText, DeclaresOnce, said, text_bytes}
-use Rattle.walrus_model.specs.Closed.{NamesAreLive}
 use Rattle.walrus_model.specs.Config.{Config}
-use Rattle.walrus_model.specs.Declared.{IsUndeclared}
-use Rattle.walrus_model.specs.Live.{Has, IsLive}
+use Rattle.walrus_model.specs.Live.{Has}
 use Rattle.walrus_model.specs.Names.{body_of}
 use Rattle.walrus_model.specs.Out.{Written}
 use Rattle.walrus_model.specs.Order.{ByImport}
@@ -17,17 +15,12 @@ use Rattle.walrus_model.specs.Refers.{IsUsed}
 use Rattle.walrus_model.specs.Rules.{TypesRefer}
 use Rattle.walrus_model.specs.Supported.{IsSupported}
 use Rattle.walrus_model.specs.WellMade.{IsWellFormed}
+use Rattle.walrus_contents.specs.References.{HasUndeclared}
+use Rattle.walrus_contents.specs.There.{IsThere}
 use Rattle.walrus_module.specs.Parts.{unplaced}
 use Rattle.walrus_module.specs.Spelled.{DoesNotSpell}
 use Rattle.walrus_parts.specs.declared.error.Error.{Error}
 use Rattle.walrus_parts.specs.declared.error.Error.TheVariants.{Memory, DeadItem, NoIndex, NotWritable, TooLarge}
-
--- what items and exports name is there, the locals that bodies use among it, and each function has an import or a body
-pub record IsThere (v : Abstract) : Type 0 where
-  pub written : NamesAreLive v
-  pub locals : (i : ℕ) (b : Body) (x : ℕ) → body_of v i ≡ Some b → IsUsed b x → IsSome (b.local_type x)
-  pub exports : (e : Export) → Contains v.exports e → IsLive v e.item
-  pub initialised : (i : ℕ) (f : Function) → v.functions i ≡ Some f → f.kind ≢ Uninitialised
 
 -- a function has an import, which can't be written so far
 abbrev pub HasImported : Abstract → Type 0
@@ -48,10 +41,6 @@ pub record AreWritable (v : Abstract) : Type 0 where
 
 abbrev pub HasUnwritableType : Abstract → Type 0
 HasUnwritableType v = AreWritable v → ⊥
-
--- ref.func names a function that isn't exported: a segment would have to declare it, which can't be written so far
-abbrev pub HasUndeclared : Abstract → Type 0
-HasUndeclared v = (f : ℕ) × IsUndeclared (IsLive v) v f
 
 -- an index space has 2 ^ 32 items or more
 abbrev pub HasTooMany : Abstract → Type 0

@@ -13,7 +13,7 @@ use Rattle.walrus_module.specs.Numbered.{AreNumbered, NamesNoOthers}
 use Rattle.walrus_module.specs.Parts.{Held, type_index, export_with_index, HasBytes, unplaced}
 use Rattle.walrus_module.specs.Sizes.{IsOrder}
 use Rattle.walrus_module.specs.Spelled.{IsWritten}
-use Rattle.walrus_module.specs.Whole.{all_local}
+use Rattle.walrus_module.specs.Local.{all_local}
 
 -- the records, entry by entry, of what a module holds
 pub record Records (h : Held) (features : Features) (exports : List ExportValue) : Type 0 where

@@ -22,14 +22,14 @@ ghost use Rattle.walrus_module.specs.Settings.{settings};
 ghost use Rattle.walrus_module.specs.View.{view};
 ghost use Rattle.walrus_module.specs.Spelled.{IsWritten};
 ghost use Rattle.walrus_module.specs.Spells.{Spells};
-ghost use Rattle.walrus_module.specs.Whole.{is_all_there};
-ghost use Rattle.walrus_module.specs.Parts.{held_in, local_in, type_index, export_with_index, HasBytes, IsIndexed, unplaced};
+ghost use Rattle.walrus_contents.specs.There.{IsThere};
+ghost use Rattle.walrus_contents.specs.View.{parts_view};
+ghost use Rattle.walrus_module.specs.Parts.{held_in, local_in, parts_exports, parts_held, type_index, export_with_index, HasBytes, IsIndexed, unplaced};
 
-use crate::live::{are_all_local, is_all_live};
 use crate::module::Module;
-use crate::order::{functions_by_size, number};
-use crate::references::are_references_exported;
+use crate::order::{are_all_local, functions_by_size, number};
 use std::alloc::Global;
+use walrus_contents::{Parts, are_references_declared, check_live};
 use walrus_groups::{are_in_order, index_types};
 use walrus_ir::{
     Features, FunctionId, IdsToIndices, LocalFunction, ModuleLocals, ModuleTypes, emit_body,
@@ -55,68 +55,50 @@ impl Module {
         ensures spells { IfOk result (λ bytes. Spells (held_in self.old.types self.old.locals self.old.funcs) (features_of (config_of (settings self.old))) (items (exports self.old.exports)) bytes.items) }
         ensures refused { RefusesToWrite (config_of (settings self.old)) (view self.old) result }
     {
-        self.types.groups_are_whole();
         let features = self.config.features();
-        emit_items(
-            alloc,
-            &self.types,
-            &self.locals,
-            &self.funcs,
-            &self.exports,
-            &features,
-        )
+        let parts = Parts {
+            types: &self.types,
+            locals: &self.locals,
+            funcs: &self.funcs,
+            exports: &self.exports,
+        };
+        emit_items(alloc, parts, &features)
     }
 }
 
-fn emit_items(
-    alloc: Global,
-    types: &ModuleTypes,
-    locals: &ModuleLocals,
-    funcs: &ModuleFunctions,
-    all_exports: &ModuleExports,
-    features: &Features,
-) -> Result<Vec<u8>>
-    ensures spells { IfOk result (λ bytes. Spells (held_in types.now locals.now funcs.now) features.now (items (exports all_exports.now)) bytes.items) }
-    ensures refused { RefusesDeclared (held_in types.now locals.now funcs.now) features.now (items (exports all_exports.now)) result }
+fn emit_items(alloc: Global, parts: Parts<'_>, features: &Features) -> Result<Vec<u8>>
+    ensures spells { IfOk result (λ bytes. Spells (parts_held parts.entry) features.now (parts_exports parts.entry) bytes.items) }
+    ensures refused { RefusesDeclared (parts_view parts.entry) (parts_held parts.entry) features.now (parts_exports parts.entry) result }
 {
-    if !is_all_live(types, locals, funcs, all_exports) {
-        return Err(Error::DeadItem);
-    }
-    if !are_references_exported(alloc, funcs, all_exports)? {
+    check_live(alloc, parts)?;
+    if !are_references_declared(alloc, parts)? {
         return Err(Error::NotWritable);
     }
-    emit_live(alloc, types, locals, funcs, all_exports, features)
+    emit_live(alloc, parts, features)
 }
 
 // The bytes of items of which each is there that is named.
-fn emit_live(
-    alloc: Global,
-    types: &ModuleTypes,
-    locals: &ModuleLocals,
-    funcs: &ModuleFunctions,
-    all_exports: &ModuleExports,
-    features: &Features,
-) -> Result<Vec<u8>>
-    requires there { is_all_there types.now locals.now funcs.now all_exports.now ≡ true }
-    ensures spells { IfOk result (λ bytes. Spells (held_in types.now locals.now funcs.now) features.now (items (exports all_exports.now)) bytes.items) }
-    ensures refused { RefusesItems (held_in types.now locals.now funcs.now) features.now (items (exports all_exports.now)) result }
+fn emit_live(alloc: Global, parts: Parts<'_>, features: &Features) -> Result<Vec<u8>>
+    requires there { IsThere (parts_view parts) }
+    ensures spells { IfOk result (λ bytes. Spells (parts_held parts.entry) features.now (parts_exports parts.entry) bytes.items) }
+    ensures refused { RefusesItems (parts_held parts.entry) features.now (parts_exports parts.entry) result }
 {
-    if !are_all_local(funcs) {
+    if !are_all_local(parts.funcs) {
         return Err(Error::NoIndex);
     }
-    if !are_in_order(types) {
+    if !are_in_order(parts.types) {
         return Err(Error::NotWritable);
     }
-    let order = functions_by_size(alloc, funcs)?;
-    let indices = number(alloc, types, order.as_slice())?;
-    let raws = raw_types(alloc, types, &indices)?;
-    let functions = raw_functions(alloc, funcs, order.as_slice(), &indices)?;
-    let exported = raw_exports(alloc, all_exports, &indices)?;
+    let order = functions_by_size(alloc, parts.funcs)?;
+    let indices = number(alloc, parts.types, order.as_slice())?;
+    let raws = raw_types(alloc, parts.types, &indices)?;
+    let functions = raw_functions(alloc, parts.funcs, order.as_slice(), &indices)?;
+    let exported = raw_exports(alloc, parts.exports, &indices)?;
     let bodies = body_bytes(
         alloc,
-        types,
-        locals,
-        funcs,
+        parts.types,
+        parts.locals,
+        parts.funcs,
         order.as_slice(),
         &indices,
         features,

@@ -6,11 +6,9 @@ pub mod customs;
 pub mod emit;
 pub mod entry;
 pub mod law;
-pub mod live;
 pub mod module;
 pub mod order;
 pub mod parse;
-pub mod references;
 mod supported;
 
 pub use config::ModuleConfig;

@@ -1,6 +1,6 @@
 //! The order in which items are numbered.
 ghost use Rattle.std.specs.Prelude.{◌≡◌, ℕ, map, length, IfOk, IfErr, IsOkUnless, None, nat_eq};
-ghost use Rattle.walrus_base.specs.Arena.{entries};
+ghost use Rattle.walrus_base.specs.Arena.{entries, items};
 ghost use Rattle.std.specs.List.{IsDistinct};
 ghost use Rattle.walrus_base.specs.Id.{place};
 ghost use Rattle.walrus_types.specs.ModuleTypes.{type_slots};
@@ -9,14 +9,36 @@ ghost use Rattle.walrus_types.specs.Operators.{Types, Functions};
 ghost use Rattle.walrus_items.specs.Functions.{functions};
 ghost use Rattle.walrus_parts.specs.Errors.{out_of_memory};
 ghost use Rattle.walrus_module.specs.Emitted.{RefusesCount, RefusesCounts};
+ghost use Rattle.walrus_module.specs.Local.{all_local, is_local};
 ghost use Rattle.walrus_module.specs.Sizes.{local_sizes, IsOrder};
 ghost use Rattle.walrus_module.specs.Numbered.{AreNumbered, NamesNoOthers, NumbersTypes, NumbersFunctions};
 
 use std::alloc::Global;
 use std::cmp::Reverse;
 use walrus_ir::{FunctionId, IdsToIndices, ModuleTypes};
-use walrus_items::ModuleFunctions;
+use walrus_items::{FunctionKind, ModuleFunctions};
 use walrus_parts::{Error, Result};
+
+fn is_kind_local(kind: &FunctionKind) -> bool
+    ensures { result ≡ is_local kind.now }
+{
+    match kind {
+        FunctionKind::Local(_) => true,
+        FunctionKind::Import(_) | FunctionKind::Uninitialized(_) => false,
+    }
+}
+
+/// Whether each function has a body.
+pub fn are_all_local(funcs: &ModuleFunctions) -> bool
+    ensures { result ≡ all_local (items (functions funcs.now)) }
+{
+    for function in funcs.iter() {
+        if !is_kind_local(&function.kind) {
+            return false;
+        }
+    }
+    true
+}
 
 // The functions with a body, with their sizes.
 fn sized_functions(

@@ -22,7 +22,8 @@ ghost use Rattle.walrus_groups.specs.Groups.{types_from, AreDeclared};
 ghost use Rattle.walrus_model.specs.Reads.{declared};
 ghost use Rattle.walrus_model.specs.Sections.{export_of};
 ghost use Rattle.walrus_module.specs.Flags.{flags, config_of};
-ghost use Rattle.walrus_module.specs.View.{exports_of};
+ghost use Rattle.walrus_contents.specs.View.{exports_of, parts_view};
+ghost use Rattle.walrus_module.specs.Parsed.{ChecksReferences};
 ghost use Rattle.walrus_module.specs.Taken.{AreEmpty, FitsIndices, IsPlace, IsLocated, AddsLocated, TakesFunction, TakesFunctions, TakesSections};
 ghost use Rattle.walrus_model.specs.Supported.{IsOfFunction, IsSupported};
 ghost use Rattle.walrus_module.specs.Sections.{Rules};
@@ -32,18 +33,18 @@ ghost use Rattle.wasm_frames.specs.Record.{body_record, sections};
 
 use crate::config::ModuleConfig;
 use crate::module::Module;
-use crate::references::check_references;
 use crate::supported::check_supported;
 use std::alloc::{AllocError, Global};
 use std::result;
 use walrus_bodies::{ReadBody, read_body_over};
+use walrus_contents::{Parts, are_references_declared};
 use walrus_groups::read_types;
 use walrus_ir::{
     Features, Id, IndicesToIds, InstrLocId, IrError, LocalFunction, LocalId, ModuleLocals,
     ModuleTypes, ValType,
 };
 use walrus_items::{ExportItem, ModuleExports, ModuleFunctions};
-use walrus_parts::{Error, Result};
+use walrus_parts::{Error, ErrorKind, Result};
 use wasm_wire::{Raw, RawBody, RawExport, RawGroup, check, read_module};
 
 impl ModuleConfig {
@@ -72,7 +73,13 @@ impl ModuleConfig {
             &mut module.funcs,
             &mut module.exports,
         )?;
-        check_references(alloc, &module.funcs, &module.exports)?;
+        let parts = Parts {
+            types: &module.types,
+            locals: &module.locals,
+            funcs: &module.funcs,
+            exports: &module.exports,
+        };
+        check_references(alloc, parts)?;
         Ok(module)
     }
 }
@@ -273,4 +280,15 @@ fn add_exports(raw: &[RawExport<'_>], indices: &IndicesToIds, all: &mut ModuleEx
         add_export(entry, indices, all)?;
     }
     Ok(())
+}
+
+// Refuses a module in which `ref.func` names a function that isn't exported, with `InvalidWasm`, since such a one isn't handled so far.
+fn check_references(alloc: Global, parts: Parts<'_>) -> Result<()>
+    ensures { ChecksReferences (parts_view parts.entry) result }
+{
+    if are_references_declared(alloc, parts)? {
+        Ok(())
+    } else {
+        Err(Error::InvalidWasm(ErrorKind::InvalidWasm))
+    }
 }

@@ -4,22 +4,23 @@ ghost use Rattle.std.specs.Prelude.{◌≡◌, ◌↔◌, ◌⊎◌, [], ◌∷�
 ghost use Rattle.walrus_code.specs.Code.{item_of};
 ghost use Rattle.walrus_model.specs.Live.{IsLive};
 ghost use Rattle.walrus_module.specs.View.{view};
-ghost use Rattle.walrus.specs.Marked.{IsSound, MarksKept, ReachesSound, ReachesUnsound};
-ghost use Rattle.walrus.specs.Named.{all_names, items_in, parts_view};
+ghost use Rattle.walrus_contents.specs.Named.{all_names, items_in};
+ghost use Rattle.walrus_contents.specs.There.{IsRefusal, IsSound};
+ghost use Rattle.walrus_contents.specs.View.{parts_view};
+ghost use Rattle.walrus.specs.Marked.{MarksKept, ReachesSound, ReachesUnsound};
 ghost use Rattle.walrus.specs.Used.{
   Enters,
   Followed,
   Follows,
   IsNothing,
-  IsRefusal,
   Marks,
   NamesDead,
   has_mark,
 };
 
-use crate::passes::names::{Parts, push_export_names, push_item_names};
 use std::alloc::{AllocError, Global};
 use std::result;
+use walrus_contents::{Parts, is_live, push_export_names, push_item_names};
 use walrus_module::{
     DataKey, ElementKey, Error, FunctionKey, GlobalKey, IdHashSet, ItemId, MemoryKey, Module,
     Result, TableKey, TagKey, TypeKey,
@@ -168,22 +169,6 @@ fn enter(parts: Parts<'_>, item: ItemId, used: &mut Used, found: &mut Vec<ItemId
         found.push(item)?;
     }
     Ok(())
-}
-
-// Whether the item is there. A module has types and functions so far.
-fn is_live(parts: Parts<'_>, item: ItemId) -> bool
-    ensures { IsTrue result ↔ IsLive (parts_view parts.entry) (item_of item) }
-{
-    match item {
-        ItemId::Type(id) => parts.types.contains(id),
-        ItemId::Function(id) => parts.funcs.contains(id),
-        ItemId::Table(_)
-        | ItemId::Memory(_)
-        | ItemId::Tag(_)
-        | ItemId::Global(_)
-        | ItemId::Element(_)
-        | ItemId::Data(_) => false,
-    }
 }
 
 // Marks an item, and answers whether it wasn't marked.

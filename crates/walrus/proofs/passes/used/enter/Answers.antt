@@ -3,7 +3,8 @@ use Rattle.std.proofs.lemmas.List.{map-append}
 use Rattle.walrus_code.specs.Code.{item_of}
 use Rattle.walrus_types.specs.Operators.{Item}
 use Rattle.walrus_model.specs.Live.{IsLive}
-use Rattle.walrus.specs.Named.{items_in, parts_view}
+use Rattle.walrus_contents.specs.Named.{items_in}
+use Rattle.walrus_contents.specs.View.{parts_view}
 use Rattle.walrus.specs.Used.{Enters}
 use Rattle.walrus.proofs.Entered.{enters_marked, enters_new}
 use Rattle.walrus.proofs.passes.used.enter.Goals as goal

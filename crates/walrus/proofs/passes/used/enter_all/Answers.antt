@@ -3,11 +3,12 @@ use Rattle.std.proofs.lemmas.List.{map_more}
 use Rattle.std.proofs.lemmas.Result.{err_from_is_err_and}
 use Rattle.walrus_code.specs.Code.{item_of}
 use Rattle.walrus_code.specs.declared.items.ItemId.{ItemId}
-use Rattle.walrus.specs.Named.{items_in, parts_view}
+use Rattle.walrus_contents.specs.Named.{items_in}
+use Rattle.walrus_contents.specs.View.{parts_view}
 use Rattle.walrus.specs.Used.{Enters, NamesDead}
 use Rattle.walrus.proofs.Entered.{enters_more}
 use Rattle.walrus.proofs.Followed.{dead_among}
-use Rattle.walrus.proofs.NamedLemmas.{refusal_map}
+use Rattle.walrus_contents.proofs.NamedLemmas.{refusal_map}
 use Rattle.walrus.proofs.passes.used.enter_all.Goals as goal
 
 pub returns-in_err-enter : goal.returns-in_err-enter

@@ -1,6 +1,7 @@
 use Rattle.std.proofs.Common.{map, take}
 use Rattle.walrus_code.specs.Code.{item_of}
-use Rattle.walrus.specs.Named.{items_in, parts_view}
+use Rattle.walrus_contents.specs.Named.{items_in}
+use Rattle.walrus_contents.specs.View.{parts_view}
 use Rattle.walrus.specs.Used.{Enters}
 use Rattle.walrus.proofs.passes.used.enter_all.Given as goal
 

@@ -2,11 +2,13 @@ use Rattle.std.proofs.Common.{◌⊎◌, ◌<◌, length, arith}
 use Rattle.std.proofs.lemmas.List.{length-map}
 use Rattle.std.proofs.lemmas.Result.{err_from_is_err_and}
 use Rattle.walrus_code.specs.Code.{item_of}
-use Rattle.walrus.specs.Marked.{IsSound, ReachesUnsound}
-use Rattle.walrus.specs.Named.{all_names, items_in, parts_view}
 use Rattle.walrus.specs.Used.{NamesDead}
+use Rattle.walrus.specs.Marked.{ReachesUnsound}
+use Rattle.walrus_contents.specs.Named.{all_names, items_in}
+use Rattle.walrus_contents.specs.View.{parts_view}
+use Rattle.walrus_contents.specs.There.{IsSound}
 use Rattle.walrus.proofs.Followed.{follows_end, follows_more, item_found, next_item, stays, unsound_by}
-use Rattle.walrus.proofs.NamedLemmas.{refusal_map}
+use Rattle.walrus_contents.proofs.NamedLemmas.{refusal_map}
 use Rattle.walrus.proofs.ReachedLemmas.{names_are}
 use Rattle.walrus.proofs.passes.used.follow.Goals as goal
 use Rattle.walrus.proofs.passes.used.follow.Goals.{else-loop-taken-test, then-loop-taken-test+then-taken-len}

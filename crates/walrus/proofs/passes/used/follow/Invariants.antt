@@ -1,4 +1,5 @@
-use Rattle.walrus.specs.Named.{items_in, parts_view}
+use Rattle.walrus_contents.specs.Named.{items_in}
+use Rattle.walrus_contents.specs.View.{parts_view}
 use Rattle.walrus.specs.Used.{Follows}
 use Rattle.walrus.proofs.passes.used.follow.Given as goal
 

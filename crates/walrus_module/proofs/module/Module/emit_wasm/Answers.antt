@@ -6,13 +6,12 @@ use Rattle.walrus_items.specs.Exports.{exports}
 use Rattle.walrus_model.specs.Placed.{Placed}
 use Rattle.walrus_module.specs.Emitted.{RefusesDeclared}
 use Rattle.walrus_module.specs.Flags.{config_of}
-use Rattle.walrus_module.specs.Parts.{held_in}
+use Rattle.walrus_module.specs.Parts.{Held, held_in}
 use Rattle.walrus_module.specs.Settings.{settings}
 use Rattle.walrus_module.specs.Spells.{Spells}
 use Rattle.walrus_module.proofs.EmittedLemmas.{if_ok_both, records_written, emitted_ok}
 use Rattle.walrus_module.proofs.PlacedLemmas.{placed_as_spelled}
 use Rattle.walrus_module.proofs.RefusedLemmas.{refuses_lem}
-use Rattle.walrus_module.proofs.ThereLemmas.{there, there_back}
 use Rattle.walrus_module.proofs.module.Module.emit_wasm.Goals as goal
 
 pub returns-clause-emitted : goal.returns-clause-emitted
@@ -21,7 +20,7 @@ returns-clause-emitted g c = λ differ few.
     let features = c.features-features.ensures in
     emitted_ok (config_of (settings m)) (refl {A = Bool} {a = false}) (refl {A = Bool} {a = false}) m.types m.locals m.funcs m.exports (λ bytes. bytes.items) c.emit_items.result differ few
     (subst (λ (f : Features). IfOk c.emit_items.result (λ bytes. Spells (held_in m.types m.locals m.funcs) f (items (exports m.exports)) bytes.items)) features c.emit_items.ensures.spells)
-    (subst (λ (f : Features). RefusesDeclared (held_in m.types m.locals m.funcs) f (items (exports m.exports)) c.emit_items.result) features c.emit_items.ensures.refused)
+    (subst (λ (f : Features). RefusesDeclared (view m) (held_in m.types m.locals m.funcs) f (items (exports m.exports)) c.emit_items.result) features c.emit_items.ensures.refused)
 
 pub returns-clause-placed : goal.returns-clause-placed
 returns-clause-placed g c =
@@ -37,7 +36,5 @@ returns-clause-refused g c =
     let m = c.args.self.now in
     refuses_lem (config_of (settings m)) m.types m.locals m.funcs m.exports
     (λ declared r. records_written (config_of (settings m)) (refl {A = Bool} {a = false}) (refl {A = Bool} {a = false}) m.types m.locals m.funcs m.exports declared r)
-    (there m.types m.locals m.funcs m.exports c.groups_are_whole.ensures)
-    (there_back m.types m.locals m.funcs m.exports)
     c.emit_items.result
-    (subst (λ (f : Features). RefusesDeclared (held_in m.types m.locals m.funcs) f (items (exports m.exports)) c.emit_items.result) c.features-features.ensures c.emit_items.ensures.refused)
+    (subst (λ (f : Features). RefusesDeclared (view m) (held_in m.types m.locals m.funcs) f (items (exports m.exports)) c.emit_items.result) c.features-features.ensures c.emit_items.ensures.refused)

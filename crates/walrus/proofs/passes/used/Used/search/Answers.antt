@@ -4,11 +4,12 @@ use Rattle.walrus_code.specs.Code.{item_of}
 use Rattle.walrus_code.specs.declared.items.ItemId.{ItemId}
 use Rattle.walrus_types.specs.Operators.{Item}
 use Rattle.walrus.specs.Marked.{ReachesUnsound}
-use Rattle.walrus.specs.Named.{export_names, items_in, parts_view}
+use Rattle.walrus_contents.specs.Named.{export_names, items_in}
+use Rattle.walrus_contents.specs.View.{parts_view}
 use Rattle.walrus.specs.Used.{Enters, NamesDead}
 use Rattle.walrus.proofs.Entered.{nothing_agrees}
 use Rattle.walrus.proofs.Followed.{follows_init, unsound_root}
-use Rattle.walrus.proofs.NamedLemmas.{refusal_map}
+use Rattle.walrus_contents.proofs.NamedLemmas.{refusal_map}
 use Rattle.walrus.proofs.ReachedLemmas.{roots_are}
 use Rattle.walrus.proofs.passes.used.Used.search.Goals as goal
 

@@ -1,0 +1,198 @@
+-- Where each function that ref.func names is exported, nothing is undeclared; else some function is.
+use Rattle.std.proofs.Common.{◌≡◌, ℕ, zero, suc, ◌+◌, Bool, true, false, ◌&&◌, ◌||◌, List, [], ◌∷◌, map, refl, sym, ap, ◌∙◌, subst, eqb-true, inl, ⊎_elim}
+use Rattle.std.proofs.lemmas.Bool.{eqb-false}
+use Rattle.std.specs.Prelude.{Option, Some, None, Contains, IsSome, option_map, ◌==◌, if◌then◌else◌}
+use Rattle.std.specs.List.{list_all, list_any}
+use Rattle.walrus_base.specs.Arena.{item_at, items, entries_from}
+use Rattle.walrus_code.specs.Function.{body_of}
+use Rattle.walrus_code.specs.declared.function.LocalFunction.{LocalFunction}
+use Rattle.walrus_types.specs.Operators.{Types, Functions, Tables, Memories, Tags, Globals, Elements, DataSegments, Arg, Index, Label, Local, Number, Count, Byte, S32, S64, Bits32, Bits64, Value, Heap, Block, Access, Op, Item, function_item}
+use Rattle.walrus_types.specs.declared.locals.ModuleLocals.{ModuleLocals}
+use Rattle.walrus_types.specs.declared.module_types.ModuleTypes.{ModuleTypes}
+use Rattle.walrus_items.specs.Exports.{ExportValue, exported, exports}
+use Rattle.walrus_items.specs.Functions.{FunctionValue, functions}
+use Rattle.walrus_items.specs.declared.exports.ExportItem.{ExportItem}
+use Rattle.walrus_items.specs.declared.exports.ExportItem.TheVariants as item
+use Rattle.walrus_items.specs.declared.exports.ModuleExports.{ModuleExports}
+use Rattle.walrus_items.specs.declared.functions.FunctionKind.{FunctionKind}
+use Rattle.walrus_items.specs.declared.functions.FunctionKind.TheVariants as kind
+use Rattle.walrus_items.specs.declared.functions.ModuleFunctions.{ModuleFunctions}
+use Rattle.walrus_model.specs.Abstract.{Abstract, Export, Body}
+use Rattle.walrus_model.specs.Abstract as abstract
+use Rattle.walrus_model.specs.Declared.{ref_func, IsRefInBody, IsUndeclared, NothingUndeclared}
+use Rattle.walrus_model.specs.Live.{IsLive}
+use Rattle.walrus_model.specs.Names.{body_of as body_in, body_of_function}
+use Rattle.walrus_model.proofs.Lists.{Contains-head, Contains-tail, Contains-uncons, Contains-none, Contains-map}
+use Rattle.walrus_contents.specs.References.{is_exported, arg_passes, args_pass, op_passes, kind_passes, all_pass, refs_are_exported}
+use Rattle.walrus_contents.specs.View.{export_of, body, kind_of, function, functions_of, view_of}
+
+-- ---- exports
+
+led : (x : ExportItem) (f : ℕ) → ((exported x).1 == f) ≡ true → exported x ≡ function_item f
+led (item.Function id) f is = ap function_item (eqb-true (exported (item.Function id)).1 f is)
+
+-- an export that leads to the function
+exported_at : (es : List ExportValue) (f : ℕ) → is_exported es f ≡ true → (e : Export) × Contains (map export_of es) e × (e.item ≡ function_item f)
+exported_at [] f h = absurd (cc)
+exported_at (e ∷ es) f h = by_test (λ k. exported_at es f k) ((exported e.item).1 == f) refl h
+  where
+    later : ((x : Export) × Contains (map export_of es) x × (x.item ≡ function_item f)) → (x : Export) × Contains (map export_of (e ∷ es)) x × (x.item ≡ function_item f)
+    later (x, at, is) = (x, Contains-tail (export_of e) x (map export_of es) at, is)
+
+    by_test : (is_exported es f ≡ true → (x : Export) × Contains (map export_of es) x × (x.item ≡ function_item f)) → (b : Bool) → ((exported e.item).1 == f) ≡ b → (b || is_exported es f) ≡ true → (x : Export) × Contains (map export_of (e ∷ es)) x × (x.item ≡ function_item f)
+    by_test rest true is h = (export_of e, Contains-head (export_of e) (map export_of es), led e.item f is)
+    by_test rest false is h = later (rest h)
+
+either_false : (b c : Bool) → (b || c) ≡ false → (b ≡ false) × (c ≡ false)
+either_false true c e = absurd (cc)
+either_false false c e = (refl, e)
+
+both_true : (b c : Bool) → (b && c) ≡ true → (b ≡ true) × (c ≡ true)
+both_true true c e = (refl, e)
+both_true false c e = absurd (cc)
+
+not_same : (n f : ℕ) → n ≡ f → (n == f) ≡ false → ⊥
+not_same n f e differs = eqb-false n f differs e
+
+-- no export leads to it
+none_exported : (es : List ExportValue) (f : ℕ) → is_exported es f ≡ false → (e : Export) → Contains (map export_of es) e → e.item ≡ function_item f → ⊥
+none_exported [] f h e at is = Contains-none e at
+none_exported (x ∷ es) f h e at is =
+    let both = either_false ((exported x.item).1 == f) (is_exported es f) h in
+    ⊎_elim
+    (λ (eq : export_of x ≡ e). not_same (exported x.item).1 f (ap (λ (y : Export). y.item.1) eq ∙ ap (λ (y : Item). y.1) is) both.0)
+    (λ d. none_exported es f both.1 e d is)
+    (Contains-uncons (export_of x) e (map export_of es) at)
+
+-- ---- operators
+
+module _ (p : ℕ → Bool) where
+  arg_bad : (a : Arg) → arg_passes p a ≡ false → (f : ℕ) × (a ≡ Index (function_item f)) × (p f ≡ false)
+  arg_bad (Index (Functions, f)) h = (f, refl, h)
+  arg_bad (Index (Types, i)) h = absurd (cc)
+  arg_bad (Index (Tables, i)) h = absurd (cc)
+  arg_bad (Index (Memories, i)) h = absurd (cc)
+  arg_bad (Index (Tags, i)) h = absurd (cc)
+  arg_bad (Index (Globals, i)) h = absurd (cc)
+  arg_bad (Index (Elements, i)) h = absurd (cc)
+  arg_bad (Index (DataSegments, i)) h = absurd (cc)
+  arg_bad (Label n) h = absurd (cc)
+  arg_bad (Local n) h = absurd (cc)
+  arg_bad (Number n) h = absurd (cc)
+  arg_bad (Count n) h = absurd (cc)
+  arg_bad (Byte n) h = absurd (cc)
+  arg_bad (S32 n) h = absurd (cc)
+  arg_bad (S64 n) h = absurd (cc)
+  arg_bad (Bits32 n) h = absurd (cc)
+  arg_bad (Bits64 n) h = absurd (cc)
+  arg_bad (Value v) h = absurd (cc)
+  arg_bad (Heap v) h = absurd (cc)
+  arg_bad (Block v) h = absurd (cc)
+  arg_bad (Access flags memory offset) h = absurd (cc)
+
+  args_bad : (xs : List Arg) → args_pass p xs ≡ false → (f : ℕ) × (xs ≡ Index (function_item f) ∷ []) × (p f ≡ false)
+  args_bad [] h = absurd (cc)
+  args_bad (a ∷ []) h = let q = arg_bad a h in (q.0, ap (λ (b : Arg). b ∷ []) q.1, q.2)
+  args_bad (a ∷ b ∷ rest) h = absurd (cc)
+
+  op_bad : (o : Op) → op_passes p o ≡ false → (f : ℕ) × (o ≡ ref_func f) × (p f ≡ false)
+  op_bad o h = by_test (o.op == 0xD2) refl h
+    where
+      made : (n : ℕ) (xs : List Arg) (f : ℕ) → n ≡ 0xD2 → xs ≡ Index (function_item f) ∷ [] → (let x : Op = record { op = n; args = xs } in x) ≡ ref_func f
+      made n xs f e d = subst (λ m. (let x : Op = record { op = m; args = xs } in x) ≡ ref_func f) (sym e) (ap (λ (bs : List Arg). (let x : Op = record { op = 0xD2; args = bs } in x)) d)
+
+      by_test : (b : Bool) → (o.op == 0xD2) ≡ b → (if b then args_pass p o.args else true) ≡ false → (f : ℕ) × (o ≡ ref_func f) × (p f ≡ false)
+      by_test true is h = let q = args_bad o.args h in (q.0, made o.op o.args q.0 (eqb-true o.op 0xD2 is) q.1, q.2)
+      by_test false is h = absurd (cc)
+
+  ops_bad : (os : List Op) → list_all (op_passes p) os ≡ false → (f : ℕ) × Contains os (ref_func f) × (p f ≡ false)
+  ops_bad [] h = absurd (cc)
+  ops_bad (o ∷ os) h = by_test (λ k. ops_bad os k) (op_passes p o) refl h
+    where
+      by_test : (list_all (op_passes p) os ≡ false → (f : ℕ) × Contains os (ref_func f) × (p f ≡ false)) → (b : Bool) → op_passes p o ≡ b → (b && list_all (op_passes p) os) ≡ false → (f : ℕ) × Contains (o ∷ os) (ref_func f) × (p f ≡ false)
+      by_test rest true is h = let q = rest h in (q.0, Contains-tail o (ref_func q.0) os q.1, q.2)
+      by_test rest false is h = let q = op_bad o is in (q.0, subst (λ x. Contains (o ∷ os) x) q.1 (Contains-head o os), q.2)
+
+  ref_good : (f : ℕ) → op_passes p (ref_func f) ≡ true → p f ≡ true
+  ref_good f h = h
+
+  ops_good : (os : List Op) (f : ℕ) → list_all (op_passes p) os ≡ true → Contains os (ref_func f) → p f ≡ true
+  ops_good [] f h at = absurd (Contains-none (ref_func f) at)
+  ops_good (o ∷ os) f h at =
+      let both = both_true (op_passes p o) (list_all (op_passes p) os) h in
+      ⊎_elim
+      (λ (e : o ≡ ref_func f). ref_good f (subst (λ (x : Op). op_passes p x ≡ true) e both.0))
+      (λ d. ops_good os f both.1 d)
+      (Contains-uncons o (ref_func f) os at)
+
+  kind_bad : (k : FunctionKind) → kind_passes p k ≡ false → (l : LocalFunction) × (k ≡ kind.Local l) × (f : ℕ) × Contains (body_of l) (ref_func f) × (p f ≡ false)
+  kind_bad (kind.Local l) h = let q = ops_bad (body_of l) h in (l, refl, q.0, q.1, q.2)
+  kind_bad (kind.Import i) h = absurd (cc)
+  kind_bad (kind.Uninitialized ty) h = absurd (cc)
+
+-- ---- slots
+
+found_from : {X : Type 0} (test : X → Bool) (p : ℕ) (slots : List (Option X)) → list_all test (map (λ e. e.1) (entries_from p slots)) ≡ false → (i : ℕ) × (x : X) × (item_at slots i ≡ Some x) × (test x ≡ false)
+found_from test p [] h = absurd (cc)
+found_from test p (None ∷ rest) h = let q = found_from test (p + 1) rest h in (suc q.0, q.1, q.2, q.3)
+found_from {X} test p (Some x ∷ rest) h = by_test (λ k. found_from test (p + 1) rest k) (test x) refl h
+  where
+    by_test : (list_all test (map (λ e. e.1) (entries_from (p + 1) rest)) ≡ false → (i : ℕ) × (y : X) × (item_at rest i ≡ Some y) × (test y ≡ false)) → (b : Bool) → test x ≡ b → (b && list_all test (map (λ e. e.1) (entries_from (p + 1) rest))) ≡ false → (i : ℕ) × (y : X) × (item_at (Some x ∷ rest) i ≡ Some y) × (test y ≡ false)
+    by_test more true is h = let q = more h in (suc q.0, q.1, q.2, q.3)
+    by_test more false is h = (0, x, refl, is)
+
+each_from : {X : Type 0} (test : X → Bool) (p : ℕ) (slots : List (Option X)) → list_all test (map (λ e. e.1) (entries_from p slots)) ≡ true → (i : ℕ) (x : X) → item_at slots i ≡ Some x → test x ≡ true
+each_from test p [] h i x e = absurd (cc)
+each_from test p (None ∷ rest) h zero x e = absurd (cc)
+each_from test p (None ∷ rest) h (suc i) x e = each_from test (p + 1) rest h i x e
+each_from test p (Some y ∷ rest) h zero x e =
+    let same : y ≡ x = cc in
+    subst (λ z. test z ≡ true) same (both_true (test y) (list_all test (map (λ e. e.1) (entries_from (p + 1) rest))) h).0
+each_from test p (Some y ∷ rest) h (suc i) x e = each_from test (p + 1) rest (both_true (test y) (list_all test (map (λ e. e.1) (entries_from (p + 1) rest))) h).1 i x e
+
+-- ---- the module
+
+module _ (types : ModuleTypes) (all : ModuleLocals) (funcs : ModuleFunctions) (es : ModuleExports) where
+  abbrev V : Abstract
+  V = view_of types all funcs es
+
+  abbrev E : List ExportValue
+  E = items (exports es)
+
+  -- the function at a place, seen
+  seen_at : (i : ℕ) (value : FunctionValue) → item_at (functions funcs) i ≡ Some value → V.functions i ≡ Some (function all value)
+  seen_at i value e = ap (option_map (function all)) e
+
+  slot_at : (o : Option FunctionValue) (b : Body) → body_of_function (option_map (function all) o) ≡ Some b → (value : FunctionValue) × (l : LocalFunction) × (o ≡ Some value) × (value.kind ≡ kind.Local l) × (b ≡ body all l)
+  slot_at None b e = absurd (cc)
+  slot_at (Some value) b e = by_kind value.kind refl e
+    where
+      by_kind : (k : FunctionKind) → value.kind ≡ k → body_of_function (Some (let f : abstract.Function = record { ty = (function all value).ty; kind = kind_of all k } in f)) ≡ Some b → (v : FunctionValue) × (l : LocalFunction) × (Some value ≡ Some v) × (v.kind ≡ kind.Local l) × (b ≡ body all l)
+      by_kind (kind.Local l) is e = let same : body all l ≡ b = cc in (value, l, refl, is, sym same)
+      by_kind (kind.Import i) is e = absurd (cc)
+      by_kind (kind.Uninitialized ty) is e = absurd (cc)
+
+  in_body : refs_are_exported (items (functions funcs)) E ≡ true → (f : ℕ) → IsUndeclared (IsLive V) V f → IsRefInBody (IsLive V) V f → ⊥
+  in_body h f u r =
+      let s = slot_at (item_at (functions funcs) r.0) r.1 r.3 in
+      let passes = each_from (λ (v : FunctionValue). kind_passes (is_exported E) v.kind) 0 (functions funcs) h r.0 s.0 s.2 in
+      let good = ops_good (is_exported E) (body_of s.1) f (subst (λ (k : FunctionKind). kind_passes (is_exported E) k ≡ true) s.3 passes) (subst (λ (c : Body). Contains c.operators (ref_func f)) s.4 r.4) in
+      let e = exported_at E f good in
+      u.not_exported e.0 e.1 e.2
+
+  pub nothing_undeclared : refs_are_exported (items (functions funcs)) E ≡ true → NothingUndeclared V
+  nothing_undeclared h f u = ⊎_elim (λ r. in_body h f u r) (λ global. let is = global.4 in absurd (cc)) u.named
+
+  pub one_undeclared : refs_are_exported (items (functions funcs)) E ≡ false → (f : ℕ) × IsUndeclared (IsLive V) V f
+  one_undeclared h =
+      let q = found_from (λ (v : FunctionValue). kind_passes (is_exported E) v.kind) 0 (functions funcs) h in
+      let k = kind_bad (is_exported E) q.1.kind q.3 in
+      let there : V.functions q.0 ≡ Some (function all q.1) = seen_at q.0 q.1 q.2 in
+      let found : body_in V q.0 ≡ Some (body all k.0) = ap body_of_function there ∙ ap (λ (x : FunctionKind). body_of_function (Some (let f : abstract.Function = record { ty = (function all q.1).ty; kind = kind_of all x } in f))) k.1 in (
+        k.2,
+        record {
+          named = inl (q.0, body all k.0, subst (λ o. IsSome o) (sym there) refl, found, k.3);
+          not_exported = none_exported E k.2 k.4;
+          not_listed = λ i e live is at. absurd (cc);
+        },
+      )

@@ -1,0 +1,5 @@
+pub mod ExportedRefs
+pub mod LiveLemmas
+pub mod NamedLemmas
+pub mod Slots
+pub mod Walked

@@ -1,0 +1,167 @@
+-- How what the parts of an item name comes together.
+use Rattle.std.proofs.Common.{◌≡◌, ℕ, zero, suc, ◌+◌, ◌<◌, ◌≤◌, ⊎_elim, List, [], ◌∷◌, ◌++◌, Option, Some, length, map, take, drop, get_or, ap, sym, ◌∙◌, subst, refl, arith, add-one, append_assoc, drop-cons}
+use Rattle.std.specs.Prelude.{Contains, IsSome, option_map, flat_map, Result, Ok, Err, MatchResult}
+use Rattle.std.proofs.lemmas.List.{append-nil, drop_all, map-append, map_more}
+use Rattle.std.proofs.lemmas.List.Elements.{Contains-push_cases}
+use Rattle.std.specs.Global.{Vec}
+use Rattle.walrus_base.specs.Arena.{item_at}
+use Rattle.walrus_base.specs.Id.{place}
+use Rattle.walrus_base.specs.declared.id.Id.{Id}
+use Rattle.walrus_base.specs.declared.keys.LocalKey.{LocalKey}
+use Rattle.walrus_types.specs.declared.locals.ModuleLocals.{ModuleLocals}
+use Rattle.walrus_types.specs.declared.module_types.ModuleTypes.{ModuleTypes}
+use Rattle.walrus_types.specs.Operators.{Functions, Item, type_item, locals_of, names_of}
+use Rattle.walrus_code.specs.Function.{body_of}
+use Rattle.walrus_code.specs.declared.function.LocalFunction.{LocalFunction}
+use Rattle.walrus_code.specs.declared.items.ItemId.{ItemId}
+use Rattle.walrus_items.specs.Functions.{FunctionValue, functions}
+use Rattle.walrus_items.specs.declared.exports.ModuleExports.{ModuleExports}
+use Rattle.walrus_items.specs.declared.functions.FunctionKind.{FunctionKind}
+use Rattle.walrus_items.specs.declared.functions.FunctionKind.TheVariants.{Import, Local, Uninitialized}
+use Rattle.walrus_items.specs.declared.functions.ModuleFunctions.{ModuleFunctions}
+use Rattle.walrus_model.specs.Abstract as abstract
+use Rattle.walrus_model.specs.Refers.{IsUsed, body_names, function_names, named_by, written_in}
+use Rattle.walrus_contents.specs.View.{body, function, handlers_at, kind_handlers, kind_of, view_of}
+use Rattle.walrus_parts.specs.declared.error.Error.{Error}
+use Rattle.walrus_parts.specs.declared.error.Error.TheVariants.{Memory, DeadItem}
+use Rattle.walrus_model.proofs.Lists.{Contains-head, Contains-tail, Contains-none}
+use Rattle.walrus_contents.specs.Named.{AreThere, IsReady, Puts, items_in, kept_types, local_type_names, type_at}
+use Rattle.walrus_contents.specs.There.{IsRefusal, IsSound}
+
+-- a refusal for one reason is one for each reason that follows from it
+pub refusal_map : (P Q : Type 0) → (P → Q) → (e : Error) → IsRefusal P e → IsRefusal Q e
+refusal_map P Q f (Memory m) h = h
+refusal_map P Q f DeadItem h = f h
+refusal_map P Q f e h = absurd h
+
+-- ---- rows
+
+module _ {X Z : Type 0} (value : X → Z) where
+  -- what stands at a place is among the whole
+  pub among : (xs : List X) (i : ℕ) (d : X) → i < length xs → Contains (map value xs) (value (get_or xs i d))
+  among [] i d lt = absurd (omega arith)
+  among (x ∷ xs) zero d lt = Contains-head (value x) (map value xs)
+  among (x ∷ xs) (suc i) d lt = Contains-tail (value x) (value (get_or xs i d)) (map value xs) (among xs i d (omega arith))
+
+  -- what holds of those before, and of the next one, holds of all up to it
+  pub row_more : (P : Z → Type 0) (xs : List X) (i : ℕ) (d : X) → i < length xs → ((z : Z) → Contains (map value (take i xs)) z → P z) → P (value (get_or xs i d)) → (z : Z) → Contains (map value (take (i + 1) xs)) z → P z
+  row_more P xs i d lt before now z c =
+      let next = value (get_or xs i d) in
+      let at : Contains (map value (take i xs) ++ next ∷ []) z = subst (λ (zs : List Z). Contains zs z) (map_more value xs i d lt) c in
+      ⊎_elim (λ h. before z h) (λ (e : next ≡ z). subst P e now) (Contains-push_cases (map value (take i xs)) next z at)
+
+  -- a step of "what was put and what is left to put are the whole"
+  pub row_step : {Y : Type 0} (names : Z → List Y) (xs : List X) (i : ℕ) (d : X) (before now all : List Y) → i < length xs
+      → before ++ flat_map names (map value (drop i xs)) ≡ all → now ≡ before ++ names (value (get_or xs i d))
+      → now ++ flat_map names (map value (drop (i + 1) xs)) ≡ all
+  row_step {Y = Y} names xs i d before now all lt so_far puts =
+      let x = get_or xs i d in
+      let rest = flat_map names (map value (drop (i + 1) xs)) in
+      let whole : drop i xs ≡ x ∷ drop (i + 1) xs = rw add-one (drop-cons xs i d lt) in
+      ap (λ (t : List Y). t ++ rest) puts ∙ append_assoc before (names (value x)) rest
+      ∙ ap (λ (t : List X). before ++ flat_map names (map value t)) (sym whole) ∙ so_far
+
+  -- its end
+  pub row_end : {Y : Type 0} (names : Z → List Y) (xs : List X) (i : ℕ) (before all : List Y) → length xs ≤ i
+      → before ++ flat_map names (map value (drop i xs)) ≡ all → before ≡ all
+  row_end {Y = Y} names xs i before all le so_far =
+      sym (append-nil before) ∙ ap (λ (t : List X). before ++ flat_map names (map value t)) (sym (drop_all i xs le)) ∙ so_far
+
+  -- a step where each puts one
+  pub map_step : {W Y : Type 0} (f : W → Y) (g : Z → Y) (put : List W) (one : W) (xs : List X) (i : ℕ) (d : X) (all : List Y) → i < length xs
+      → map f put ++ map g (map value (drop i xs)) ≡ all → f one ≡ g (value (get_or xs i d))
+      → map f (put ++ one ∷ []) ++ map g (map value (drop (i + 1) xs)) ≡ all
+  map_step {Y = Y} f g put one xs i d all lt so_far same =
+      let x = get_or xs i d in
+      let rest = map g (map value (drop (i + 1) xs)) in
+      let whole : drop i xs ≡ x ∷ drop (i + 1) xs = rw add-one (drop-cons xs i d lt) in
+      ap (λ (t : List Y). t ++ rest) (map-append f put (one ∷ [])) ∙ append_assoc (map f put) (f one ∷ []) rest
+      ∙ ap (λ (y : Y). map f put ++ y ∷ rest) same
+      ∙ ap (λ (t : List X). map f put ++ map g (map value t)) (sym whole) ∙ so_far
+
+-- ---- locals
+
+module _ (all : ModuleLocals) where
+  pub there_none : AreThere all []
+  there_none l c = absurd (Contains-none l c)
+
+  pub there_more : (ids : List (Id LocalKey)) (i : ℕ) (d : Id LocalKey) → i < length ids → AreThere all (map place (take i ids)) → IsSome (type_at all (place (get_or ids i d))) → AreThere all (map place (take (i + 1) ids))
+  there_more ids i d lt before now = row_more place (λ l. IsSome (type_at all l)) ids i d lt before now
+
+  pub there_dead : (ids : List (Id LocalKey)) (i : ℕ) (d : Id LocalKey) → i < length ids → (IsSome (type_at all (place (get_or ids i d))) → ⊥) → AreThere all (map place ids) → ⊥
+  there_dead ids i d lt dead there = dead (there (place (get_or ids i d)) (among place ids i d lt))
+
+-- two rows, one behind another
+pub two_rows : {Y : Type 0} (old n1 n2 a b : List Y) → n1 ≡ old ++ a → n2 ≡ n1 ++ b → n2 ≡ old ++ (a ++ b)
+two_rows {Y = Y} old n1 n2 a b e1 e2 = e2 ∙ ap (λ (t : List Y). t ++ b) e1 ∙ append_assoc old a b
+
+-- ---- functions
+
+same_some : {X : Type 0} (o : Option X) (x y : X) → o ≡ Some x → o ≡ Some y → x ≡ y
+same_some {X = X} o x y p q = let e : ◌≡◌ {A = Option X} (Some x) (Some y) = sym p ∙ q in cc
+
+pub result_map : {T : Type 0} (A B P Q : Type 0) → (A → B) → (P → Q) → (r : Result T Error) → MatchResult r (λ _. A) (IsRefusal P) → MatchResult r (λ _. B) (IsRefusal Q)
+result_map A B P Q f g (Ok x) h = f h
+result_map A B P Q f g (Err e) h = refusal_map P Q g e h
+
+-- what a body names: what its operators do, and then the types of its locals
+pub body_named : {T : Type 0} (all : ModuleLocals) (f : LocalFunction) (r : Result T Error) (old now new : Vec ItemId) (used : List ℕ) → used ≡ locals_of (body_of f) → Puts old now (names_of (body_of f))
+    → MatchResult r (λ _. AreThere all used × Puts now new (flat_map (local_type_names all) used)) (IsRefusal (AreThere all used → ⊥))
+    → MatchResult r (λ _. AreThere all (locals_of (body_of f)) × Puts old new (body_names (body all f))) (IsRefusal (AreThere all (locals_of (body_of f)) → ⊥))
+body_named all f r old now new used same first h = result_map
+    (AreThere all (locals_of (body_of f)) × Puts now new (flat_map (local_type_names all) (locals_of (body_of f))))
+    (AreThere all (locals_of (body_of f)) × Puts old new (body_names (body all f)))
+    (AreThere all (locals_of (body_of f)) → ⊥) (AreThere all (locals_of (body_of f)) → ⊥)
+    (λ x. (x.0, two_rows (items_in old) (items_in now) (items_in new) (names_of (body_of f)) (flat_map (local_type_names all) (locals_of (body_of f))) first x.1))
+    (λ dead. dead)
+    r (subst (λ (ps : List ℕ). MatchResult r (λ _. AreThere all ps × Puts now new (flat_map (local_type_names all) ps)) (IsRefusal (AreThere all ps → ⊥))) same h)
+
+module _ (types : ModuleTypes) (all : ModuleLocals) (funcs : ModuleFunctions) (es : ModuleExports) where
+  abbrev v : abstract.Abstract
+  v = view_of types all funcs es
+
+  ready_kind : (k : FunctionKind) → IsReady all k → kind_of all k ≡ abstract.Uninitialised → ⊥
+  ready_kind (Import i) h e = absurd (cc)
+  ready_kind (Local f) h e = absurd (cc)
+  ready_kind (Uninitialized ty) h e = absurd h
+
+  ready_locals : (k : FunctionKind) → IsReady all k → (b : abstract.Body) → kind_of all k ≡ abstract.LocalFunction b → (l : ℕ) → IsUsed b l → IsSome (b.local_type l)
+  ready_locals (Import i) h b e l u = absurd (cc)
+  ready_locals (Local f) h b e l u =
+      let same : body all f ≡ b = cc in
+      subst (λ (x : abstract.Body). IsUsed x l → IsSome (x.local_type l)) same (h l) u
+  ready_locals (Uninitialized ty) h b e l u = absurd h
+
+  module _ (i : ℕ) (f : FunctionValue) (is : item_at (functions funcs) i ≡ Some f) where
+    seen_at : (j : ℕ) (g : abstract.Function) → ◌≡◌ {A = Item} (Functions, i) (Functions, j) → v.functions j ≡ Some g → function all f ≡ g
+    seen_at j g same at =
+        let number : i ≡ j = ap (λ (x : Item). x.1) same in
+        same_some (v.functions j) (function all f) g (ap (option_map (function all)) (subst (λ (n : ℕ). item_at (functions funcs) n ≡ Some f) number is)) at
+
+    sound_ready : IsReady all f.kind → IsSound v (Functions, i)
+    sound_ready h = record {
+      live = subst (λ (o : Option FunctionValue). IsSome (option_map (function all) o)) (sym is) refl;
+      initialised = λ j g same at e. ready_kind f.kind h (ap (λ (x : abstract.Function). x.kind) (seen_at j g same at) ∙ e);
+      locals = λ j g b l same at e u. ready_locals f.kind h b (ap (λ (x : abstract.Function). x.kind) (seen_at j g same at) ∙ e) l u;
+    }
+
+    ready_sound : (k : FunctionKind) → f.kind ≡ k → IsSound v (Functions, i) → IsReady all k
+    ready_sound (Import n) e s = tt
+    ready_sound (Local n) e s = λ l u. s.locals i (function all f) (body all n) l refl (ap (option_map (function all)) is) (ap (kind_of all) e) u
+    ready_sound (Uninitialized ty) e s = s.initialised i (function all f) refl (ap (option_map (function all)) is) (ap (kind_of all) e)
+
+    -- what stands written in a function, in the words of the abstract module
+    pub function_named : {T : Type 0} (r : Result T Error) (old new : Vec ItemId)
+        → MatchResult r (λ _. IsReady all f.kind × Puts old new (function_names (function all f))) (IsRefusal (IsReady all f.kind → ⊥))
+        → MatchResult r (λ _. IsSound v (Functions, i) × Puts old new (written_in v (Functions, i))) (IsRefusal (IsSound v (Functions, i) → ⊥))
+    function_named r old new h = result_map
+        (IsReady all f.kind × Puts old new (function_names (function all f)))
+        (IsSound v (Functions, i) × Puts old new (written_in v (Functions, i)))
+        (IsReady all f.kind → ⊥) (IsSound v (Functions, i) → ⊥)
+        (λ x. (sound_ready x.0, subst (λ (o : Option FunctionValue). Puts old new (named_by function_names (option_map (function all) o))) (sym is) x.1))
+        (λ dead s. dead (ready_sound f.kind refl s))
+        r h
+
+  -- what a function keeps beside that
+  pub function_kept : (i : ℕ) (f : FunctionValue) → item_at (functions funcs) i ≡ Some f → kept_types v (Functions, i) ≡ map type_item (kind_handlers f.kind)
+  function_kept i f is = ap (λ (o : Option FunctionValue). map type_item (handlers_at o)) is

@@ -1,0 +1,40 @@
+use Rattle.std.proofs.Common.{◌≡◌, ℕ, Some, ap, ◌∙◌, refl}
+use Rattle.std.specs.Prelude.{IsSome, option_map}
+use Rattle.std.proofs.lemmas.Result.{err_from_is_err_and}
+use Rattle.walrus_base.specs.Arena.{item_at}
+use Rattle.walrus_base.specs.Id.{place}
+use Rattle.walrus_types.specs.Operators.{Functions}
+use Rattle.walrus_items.specs.Functions.{functions, function_entries_left, function_value}
+use Rattle.walrus_contents.specs.There.{AreWhole, IsWhole}
+use Rattle.walrus_contents.specs.View.{function, functions_of, parts_view}
+use Rattle.walrus_contents.proofs.LiveLemmas.{none_whole, was_there}
+use Rattle.walrus_contents.proofs.NamedLemmas.{refusal_map}
+use Rattle.walrus_contents.proofs.Walked.{walk_begins, walk_goes, walk_ends, next_there}
+use Rattle.walrus_contents.proofs.live.check_functions.Goals as goal
+
+pub loop-id-init : goal.loop-id-init
+loop-id-init c =
+    let p = c.args.parts in
+    (tt, tt, walk_begins (λ i. IsWhole (parts_view p) (Functions, i)) (functions p.funcs.now) _ (ap function_entries_left c.into_iter-id-iterator.ensures.into_iter_gives ∙ c.iter_entries-id-items.ensures))
+
+pub loop-id-preserved : goal.loop-id-preserved
+loop-id-preserved c =
+    let p = c.args.parts in
+    (tt, tt, walk_goes (λ i. IsWhole (parts_view p) (Functions, i)) (functions p.funcs.now) _ _ (place c.in-Some.id, function_value c.in-Some._function.now) c.in-Some.ensures.steps c.in_ok-check_item.ensures c.loop-id.invariant.2)
+
+pub returns-in_err-check_item : goal.returns-in_err-check_item
+returns-in_err-check_item c =
+    let p = err_from_is_err_and c.from_residual.result c.from_residual.ensures.1 in
+    let parts = c.args.parts in
+    let v = parts_view parts in
+    let slots = functions parts.funcs.now in
+    let n = place c.in-Some.id in
+    let value = function_value c.in-Some._function.now in
+    let at : item_at slots n ≡ Some value = next_there (λ i. IsWhole v (Functions, i)) slots _ _ (n, value) c.in-Some.ensures.steps c.loop-id.invariant.2 in
+    let live : IsSome (functions_of parts.locals.now parts.funcs.now n) = rw at refl in
+    rw (p.1, p.2) (refusal_map (IsWhole v (Functions, n) → ⊥) (AreWhole v Functions → ⊥) (none_whole v Functions n live) c.in_err-check_item.field-0.0 c.in_err-check_item.ensures)
+
+pub returns : goal.returns
+returns c = λ i live.
+    let p = c.args.parts in
+    walk_ends (λ i. IsWhole (parts_view p) (Functions, i)) (functions p.funcs.now) _ c.in-None.ensures.steps.0 c.loop-id.invariant.2 i (was_there (function p.locals.now) (item_at (functions p.funcs.now) i) live)

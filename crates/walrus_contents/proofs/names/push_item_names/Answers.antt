@@ -1,0 +1,15 @@
+use Rattle.walrus_code.specs.Code.{item_of}
+use Rattle.walrus_model.specs.Refers.{written_in}
+use Rattle.walrus_contents.specs.Named.{items_in, kept_types}
+use Rattle.walrus_contents.specs.View.{parts_view}
+use Rattle.walrus_contents.proofs.NamedLemmas.{two_rows}
+use Rattle.walrus_contents.proofs.names.push_item_names.Goals as goal
+
+pub returns : goal.returns
+returns c =
+    let v = parts_view c.args.parts in
+    let x = item_of c.args.item in
+    let put = c.in_ok-push_written_names.ensures in (
+      put.0,
+      two_rows (items_in c.args.to.now) (items_in c.push_written_names.new.to) (items_in c.push_kept_types.new.to) (written_in v x) (kept_types v x) put.1 c.in_ok-push_kept_types.ensures,
+    )

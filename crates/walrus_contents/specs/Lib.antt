@@ -1,0 +1,4 @@
+pub mod Named
+pub mod References
+pub mod There
+pub mod View

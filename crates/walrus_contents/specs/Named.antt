@@ -1,0 +1,63 @@
+-- What an item of a module in memory names, and what has to be there so that it can be told.
+use Rattle.std.specs.Prelude.{◌≡◌, ℕ, List, [], ◌++◌, map, Option, IsSome, Contains, ⊤}
+use Rattle.std.specs.Global.{Vec}
+use Rattle.walrus_base.specs.Arena.{item_at, items}
+use Rattle.walrus_base.specs.Types.{ValType, val_names}
+use Rattle.walrus_types.specs.Locals.{locals}
+use Rattle.walrus_types.specs.Operators.{Types, Functions, Tables, Memories, Tags, Globals, Elements, DataSegments, Item, type_item, locals_of}
+use Rattle.walrus_types.specs.declared.locals.ModuleLocals.{ModuleLocals}
+use Rattle.walrus_code.specs.Code.{item_of}
+use Rattle.walrus_code.specs.Function.{body_of}
+use Rattle.walrus_code.specs.declared.items.ItemId.{ItemId}
+use Rattle.walrus_functions.specs.EmittedBody.{types_of as local_types}
+use Rattle.walrus_items.specs.Exports.{exported, exports}
+use Rattle.walrus_items.specs.declared.exports.ModuleExports.{ModuleExports}
+use Rattle.walrus_items.specs.declared.functions.FunctionKind.{FunctionKind}
+use Rattle.walrus_items.specs.declared.functions.FunctionKind.TheVariants.{Import, Local, Uninitialized}
+use Rattle.walrus_model.specs.Abstract.{Abstract}
+use Rattle.walrus_model.specs.Refers.{named_by, written_in}
+
+-- the items of the ids, in order
+abbrev pub items_in : Vec ItemId → List Item
+items_in ids = map item_of ids.items
+
+-- behind the ids that were there stand those of these items, in order
+abbrev pub Puts : Vec ItemId → Vec ItemId → List Item → Type 0
+Puts old new names = items_in new ≡ items_in old ++ names
+
+-- what an item keeps beside what is written in it: a function the types of its legacy handlers
+abbrev pub kept_types : Abstract → Item → List Item
+kept_types m (Functions, f) = map type_item (m.handler_types f)
+kept_types m (Types, i) = []
+kept_types m (Tables, i) = []
+kept_types m (Memories, i) = []
+kept_types m (Tags, i) = []
+kept_types m (Globals, i) = []
+kept_types m (Elements, i) = []
+kept_types m (DataSegments, i) = []
+
+-- all that an item names
+abbrev pub all_names : Abstract → Item → List Item
+all_names m x = written_in m x ++ kept_types m x
+
+-- what the exports name
+abbrev pub export_names : ModuleExports → List Item
+export_names all = map (λ e. exported e.item) (items (exports all))
+
+-- the type of the local at a place, if one is there
+abbrev pub type_at : ModuleLocals → ℕ → Option (ValType ℕ)
+type_at all l = item_at (local_types (locals all)) l
+
+-- the concrete types of the local at a place
+abbrev pub local_type_names : ModuleLocals → ℕ → List Item
+local_type_names all l = named_by (λ v. map type_item (val_names v)) (type_at all l)
+
+-- locals are at all these places
+abbrev pub AreThere : ModuleLocals → List ℕ → Type 0
+AreThere all used = (l : ℕ) → Contains used l → IsSome (type_at all l)
+
+-- a function of this kind has an import or a body, and the locals that its body uses are there
+abbrev pub IsReady : ModuleLocals → FunctionKind → Type 0
+IsReady all (Import i) = ⊤
+IsReady all (Local f) = AreThere all (locals_of (body_of f))
+IsReady all (Uninitialized ty) = ⊥

@@ -1,0 +1,12 @@
+//! What a module contains: its parts, what its items name, and whether all that is named is there.
+#![tactic(auto)]
+
+mod live;
+mod names;
+mod parts;
+mod references;
+
+pub use live::check_live;
+pub use names::{push_export_names, push_item_names, push_written_names};
+pub use parts::{Parts, is_live};
+pub use references::are_references_declared;

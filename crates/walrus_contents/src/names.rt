@@ -1,0 +1,277 @@
+//! What the items of a module name.
+
+ghost use Rattle.std.specs.Prelude.{◌≡◌, ◌++◌, map, flat_map, IfOk, IsSome, OnOk, MatchResult};
+ghost use Rattle.walrus_base.specs.Arena.{IsLive as IsLiveAt};
+ghost use Rattle.walrus_base.specs.Id.{place};
+ghost use Rattle.walrus_base.specs.Types.{heap_names, val_names};
+ghost use Rattle.walrus_code.specs.Code.{item_of, ops_of};
+ghost use Rattle.walrus_code.specs.Function.{body_of};
+ghost use Rattle.walrus_items.specs.Functions.{function_value};
+ghost use Rattle.walrus_model.specs.Live.{IsLive};
+ghost use Rattle.walrus_model.specs.Refers.{body_names, function_names, kind_names, named_by, type_names, written_in};
+ghost use Rattle.walrus_contents.specs.View.{body, function as function_of, kind_handlers, kind_of, parts_view, types_of};
+ghost use Rattle.walrus_types.specs.ModuleTypes.{type_slots};
+ghost use Rattle.walrus_types.specs.Operators.{locals_of, names_of, type_item};
+ghost use Rattle.walrus_types.specs.TypeSlots.{group_at};
+ghost use Rattle.walrus_types.specs.Value.{heap_type, val_type};
+ghost use Rattle.walrus_contents.specs.There.{IsRefusal, IsSound};
+ghost use Rattle.walrus_contents.specs.Named.{AreThere, IsReady, Puts, all_names, export_names, kept_types, local_type_names, type_at};
+
+use crate::parts::Parts;
+use std::alloc::{AllocError, Global};
+use std::result;
+use walrus_items::{
+    Error, ExportItem, Function, FunctionKind, HeapType, ItemId, LocalFunction, LocalId,
+    ModuleExports, ModuleFunctions, ModuleLocals, ModuleTypes, Operator, Result, TypeId, ValType,
+};
+
+/// Puts what the exports name behind `to`, in order.
+pub fn push_export_names(
+    exports: &ModuleExports,
+    to: &mut Vec<ItemId>,
+) -> result::Result<(), AllocError>
+    ensures { OnOk result (Puts to.old to.new (export_names exports.now)) }
+{
+    for export in exports.iter() {
+        let ExportItem::Function(id) = export.item;
+        to.push(ItemId::Function(id))?;
+    }
+    Ok(())
+}
+
+/// Puts all that a live item names behind `to`: what is written in it, then the types of its legacy handlers. Refused as
+/// [`push_written_names`] is.
+pub fn push_item_names(
+    alloc: Global,
+    parts: Parts<'_>,
+    item: ItemId,
+    to: &mut Vec<ItemId>,
+) -> Result<()>
+    requires { IsLive (parts_view parts) (item_of item) }
+    ensures { MatchResult result
+        (λ _. IsSound (parts_view parts.entry) (item_of item) × Puts to.old to.new (all_names (parts_view parts.entry) (item_of item)))
+        (IsRefusal (IsSound (parts_view parts.entry) (item_of item) → ⊥)) }
+{
+    push_written_names(alloc, parts, item, to)?;
+    push_kept_types(parts, item, to)?;
+    Ok(())
+}
+
+/// Puts what is written in a live item behind `to`. Refused with `DeadItem` where it is an uninitialised function, or one that
+/// uses a local that isn't there, and with `Memory`.
+pub fn push_written_names(
+    alloc: Global,
+    parts: Parts<'_>,
+    item: ItemId,
+    to: &mut Vec<ItemId>,
+) -> Result<()>
+    requires { IsLive (parts_view parts) (item_of item) }
+    ensures { MatchResult result
+        (λ _. IsSound (parts_view parts.entry) (item_of item) × Puts to.old to.new (written_in (parts_view parts.entry) (item_of item)))
+        (IsRefusal (IsSound (parts_view parts.entry) (item_of item) → ⊥)) }
+{
+    match item {
+        ItemId::Type(id) => Ok(push_type_names(alloc, parts.types, id, to)?),
+        ItemId::Function(id) => push_function_names(alloc, parts.locals, parts.funcs.get(id), to),
+        ItemId::Table(_)
+        | ItemId::Memory(_)
+        | ItemId::Tag(_)
+        | ItemId::Global(_)
+        | ItemId::Element(_)
+        | ItemId::Data(_) => Ok(()),
+    }
+}
+
+// Puts what a live item keeps beside that behind `to`: a function the types of its legacy handlers.
+fn push_kept_types(
+    parts: Parts<'_>,
+    item: ItemId,
+    to: &mut Vec<ItemId>,
+) -> result::Result<(), AllocError>
+    requires { IsLive (parts_view parts) (item_of item) }
+    ensures { OnOk result (Puts to.old to.new (kept_types (parts_view parts.entry) (item_of item))) }
+{
+    match item {
+        ItemId::Function(id) => push_handler_types(&parts.funcs.get(id).kind, to),
+        ItemId::Type(_)
+        | ItemId::Table(_)
+        | ItemId::Memory(_)
+        | ItemId::Tag(_)
+        | ItemId::Global(_)
+        | ItemId::Element(_)
+        | ItemId::Data(_) => Ok(()),
+    }
+}
+
+// The types of the legacy handlers of a function of this kind.
+fn push_handler_types(kind: &FunctionKind, to: &mut Vec<ItemId>) -> result::Result<(), AllocError>
+    ensures { OnOk result (Puts to.old to.new (map type_item (kind_handlers kind.now))) }
+{
+    match kind {
+        FunctionKind::Local(function) => push_type_ids(function.handler_types.as_slice(), to),
+        FunctionKind::Import(_) | FunctionKind::Uninitialized(_) => Ok(()),
+    }
+}
+
+// Puts what is written in a live type behind `to`: the members of its group, and the types that it names.
+fn push_type_names(
+    alloc: Global,
+    types: &ModuleTypes,
+    id: TypeId,
+    to: &mut Vec<ItemId>,
+) -> result::Result<(), AllocError>
+    requires { IsLiveAt (type_slots types.now) (place id) }
+    ensures { OnOk result (Puts to.old to.new (named_by type_names (types_of types.now (place id)))) }
+{
+    push_group(types, id, to)?;
+    let mut named = Vec::new(alloc);
+    walrus_types::push_names(&mut named, types.get(id))?;
+    push_type_ids(named.as_slice(), to)
+}
+
+// The same for the members of a live type's group.
+fn push_group(
+    types: &ModuleTypes,
+    id: TypeId,
+    to: &mut Vec<ItemId>,
+) -> result::Result<(), AllocError>
+    requires { IsLiveAt (type_slots types.now) (place id) }
+    ensures { OnOk result (Puts to.old to.new (map type_item (group_at (type_slots types.now) (place id)))) }
+{
+    for member in types.group(id) {
+        to.push(ItemId::Type(member))?;
+    }
+    Ok(())
+}
+
+// The same for types.
+fn push_type_ids(ids: &[TypeId], to: &mut Vec<ItemId>) -> result::Result<(), AllocError>
+    ensures { OnOk result (Puts to.old to.new (map type_item (map place ids.now))) }
+{
+    for id in ids {
+        to.push(ItemId::Type(*id))?;
+    }
+    Ok(())
+}
+
+// The same for a function: its type, and what its body names, or a refusal as of [`push_written_names`].
+fn push_function_names(
+    alloc: Global,
+    locals: &ModuleLocals,
+    function: &Function,
+    to: &mut Vec<ItemId>,
+) -> Result<()>
+    ensures { MatchResult result
+        (λ _. IsReady locals.now function.now.kind × Puts to.old to.new
+        (function_names (function_of locals.now (function_value function.now))))
+        (IsRefusal (IsReady locals.now function.now.kind → ⊥)) }
+{
+    to.push(ItemId::Type(function.ty()))?;
+    push_kind_names(alloc, locals, &function.kind, to)
+}
+
+// The same for what a function of this kind has beside its type.
+fn push_kind_names(
+    alloc: Global,
+    locals: &ModuleLocals,
+    kind: &FunctionKind,
+    to: &mut Vec<ItemId>,
+) -> Result<()>
+    ensures { MatchResult result
+        (λ _. IsReady locals.now kind.now × Puts to.old to.new
+        (kind_names (kind_of locals.now kind.now)))
+        (IsRefusal (IsReady locals.now kind.now → ⊥)) }
+{
+    match kind {
+        FunctionKind::Import(_) => Ok(()),
+        FunctionKind::Local(function) => push_body_names(alloc, locals, function, to),
+        FunctionKind::Uninitialized(_) => Err(Error::DeadItem),
+    }
+}
+
+// The same for a body, which names the types of the locals that it uses too.
+fn push_body_names(
+    alloc: Global,
+    locals: &ModuleLocals,
+    function: &LocalFunction,
+    to: &mut Vec<ItemId>,
+) -> Result<()>
+    ensures { MatchResult result
+        (λ _. AreThere locals.now (locals_of (body_of function.now)) × Puts to.old to.new
+        (body_names (body locals.now function.now)))
+        (IsRefusal (AreThere locals.now (locals_of (body_of function.now)) → ⊥)) }
+{
+    push_operator_names(function.operators.as_slice(), to)?;
+    let used = used_locals(alloc, function.operators.as_slice())?;
+    push_local_types(locals, used.as_slice(), to)
+}
+
+// The same for operators.
+fn push_operator_names(
+    operators: &[Operator],
+    to: &mut Vec<ItemId>,
+) -> result::Result<(), AllocError>
+    ensures { OnOk result (Puts to.old to.new (names_of (ops_of operators.now))) }
+{
+    for operator in operators {
+        walrus_code::push_names(to, operator)?;
+    }
+    Ok(())
+}
+
+// The locals that operators use, in order, each as often as it is used.
+fn used_locals(alloc: Global, operators: &[Operator]) -> result::Result<Vec<LocalId>, AllocError>
+    ensures { IfOk result (λ used. map place used.items ≡ locals_of (ops_of operators.now)) }
+{
+    let mut used = Vec::new(alloc);
+    for operator in operators {
+        walrus_code::push_locals(&mut used, operator)?;
+    }
+    Ok(used)
+}
+
+// Puts the concrete types of locals behind `to`. Refused with `DeadItem` where one isn't there, and with `Memory`.
+fn push_local_types(locals: &ModuleLocals, used: &[LocalId], to: &mut Vec<ItemId>) -> Result<()>
+    ensures { MatchResult result
+        (λ _. AreThere locals.now (map place used.now)
+        × Puts to.old to.new (flat_map (local_type_names locals.now) (map place used.now)))
+        (IsRefusal (AreThere locals.now (map place used.now) → ⊥)) }
+{
+    for id in used {
+        push_local_type(locals, *id, to)?;
+    }
+    Ok(())
+}
+
+// The same for one local.
+fn push_local_type(locals: &ModuleLocals, id: LocalId, to: &mut Vec<ItemId>) -> Result<()>
+    ensures { MatchResult result
+        (λ _. IsSome (type_at locals.now (place id)) × Puts to.old to.new (local_type_names locals.now (place id)))
+        (IsRefusal (IsSome (type_at locals.now (place id)) → ⊥)) }
+{
+    if !locals.contains(id) {
+        return Err(Error::DeadItem);
+    }
+    push_value_type(locals.get(id).ty(), to)?;
+    Ok(())
+}
+
+// The same for a value type.
+fn push_value_type(ty: ValType, to: &mut Vec<ItemId>) -> result::Result<(), AllocError>
+    ensures { OnOk result (Puts to.old to.new (map type_item (val_names (val_type ty)))) }
+{
+    match ty {
+        ValType::I32 | ValType::I64 | ValType::F32 | ValType::F64 | ValType::V128 => Ok(()),
+        ValType::Ref(reference) => push_heap_type(reference.heap_type, to),
+    }
+}
+
+// The same for a heap type.
+fn push_heap_type(heap: HeapType, to: &mut Vec<ItemId>) -> result::Result<(), AllocError>
+    ensures { OnOk result (Puts to.old to.new (map type_item (heap_names (heap_type heap)))) }
+{
+    match heap {
+        HeapType::Abstract(_) => Ok(()),
+        HeapType::Concrete(id) | HeapType::Exact(id) => Ok(to.push(ItemId::Type(id))?),
+    }
+}

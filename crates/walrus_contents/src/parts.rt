@@ -1,0 +1,36 @@
+//! The parts of a module.
+ghost use Rattle.std.specs.Prelude.{◌↔◌, IsTrue};
+ghost use Rattle.walrus_code.specs.Code.{item_of};
+ghost use Rattle.walrus_model.specs.Live.{IsLive};
+ghost use Rattle.walrus_contents.specs.View.{parts_view};
+
+use walrus_items::{ItemId, ModuleExports, ModuleFunctions, ModuleLocals, ModuleTypes};
+
+/// The collections in which a module keeps its items, and what these are made of.
+#[derive(Clone, Copy)]
+pub struct Parts<'a> {
+    /// The types.
+    pub types: &'a ModuleTypes,
+    /// The locals of all local functions.
+    pub locals: &'a ModuleLocals,
+    /// The functions.
+    pub funcs: &'a ModuleFunctions,
+    /// The exports.
+    pub exports: &'a ModuleExports,
+}
+
+/// Whether the item is there. A module has types and functions so far.
+pub fn is_live(parts: Parts<'_>, item: ItemId) -> bool
+    ensures { IsTrue result ↔ IsLive (parts_view parts.entry) (item_of item) }
+{
+    match item {
+        ItemId::Type(id) => parts.types.contains(id),
+        ItemId::Function(id) => parts.funcs.contains(id),
+        ItemId::Table(_)
+        | ItemId::Memory(_)
+        | ItemId::Tag(_)
+        | ItemId::Global(_)
+        | ItemId::Element(_)
+        | ItemId::Data(_) => false,
+    }
+}
