@@ -9,6 +9,7 @@ use Rattle.walrus_module.specs.Flags.{config_of}
 use Rattle.walrus_module.specs.Parts.{Held, held_in}
 use Rattle.walrus_module.specs.Settings.{settings}
 use Rattle.walrus_module.specs.Spells.{Spells}
+use Rattle.walrus_module.specs.View.{view}
 use Rattle.walrus_module.proofs.EmittedLemmas.{if_ok_both, records_written, emitted_ok}
 use Rattle.walrus_module.proofs.PlacedLemmas.{placed_as_spelled}
 use Rattle.walrus_module.proofs.RefusedLemmas.{refuses_lem}
