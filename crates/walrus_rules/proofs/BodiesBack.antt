@@ -2,7 +2,7 @@
 use Rattle.std.proofs.Common.{◌≡◌, ℕ, ◌+◌, ◌≤◌, ◌<◌, true, List, [], ◌∷◌, ◌++◌, length, map, zip, refl, sym, ap, subst, ◌∙◌, arith, length-append, inr}
 use Rattle.std.specs.Prelude.{Option, Some, None, IsSome, All, Contains, flat_map, replicate, slice_get, unwrap_or}
 use Rattle.std.specs.List.{AllByRecursion, AllZip}
-use Rattle.std.proofs.lemmas.List.{length-map}
+use Rattle.std.proofs.lemmas.List.{length-map, length-replicate}
 use Rattle.std.proofs.lemmas.List.FromFn.{length-range_with_len}
 use Rattle.std.proofs.lemmas.List.Elements.{All-head, All-tail, recursion_from_All}
 use Rattle.wasm_forms.specs.declared.types.RawVal.{RawVal}
@@ -17,13 +17,12 @@ use Rattle.walrus_types.specs.Operators.{Space, Types, Functions, Tables, Memori
 use Rattle.walrus_code.specs.FromRaw.{val_of}
 use Rattle.walrus_code.specs.Names.{named_val}
 use Rattle.walrus_bodies.specs.Blocks.{are_nested, blocks_hold}
-use Rattle.walrus_bodies.specs.Body.{how_many}
 use Rattle.walrus_bodies.specs.Emitting.{AllStand}
 use Rattle.walrus_bodies.specs.Features.{are_allowed}
 use Rattle.walrus_bodies.specs.FunctionTypes.{is_function_def}
 use Rattle.walrus_functions.specs.EmittedBody.{declarations_bytes}
 use Rattle.walrus_functions.specs.Handlers.{params_of}
-use Rattle.walrus_functions.proofs.CountLemmas.{declarations_stand}
+use Rattle.walrus_functions.proofs.CountLemmas.{how_many, declarations_stand}
 use Rattle.walrus_groups.specs.Groups.{types_from}
 use Rattle.walrus_model.specs.Abstract.{Abstract, Body, Function, LocalFunction, FunctionKind}
 use Rattle.walrus_model.specs.Config.{Config}
@@ -46,7 +45,6 @@ use Rattle.walrus_rules.proofs.OneSpelling.{told}
 use Rattle.walrus_rules.proofs.ReadFits.{some_there, zip_short}
 use Rattle.walrus_rules.proofs.SpelledFits.{all_each, all_back}
 use Rattle.walrus_rules.proofs.TypesAlike.{Contains-flat_map}
-use Rattle.walrus_rules.proofs.UsedFound.{many_long}
 use Rattle.walrus_rules.proofs.UsedLocals.{behind}
 
 -- ---- one body
@@ -57,7 +55,9 @@ row_is (x ∷ xs) h = (op_bytes x, (row_bytes op_bytes xs, (refl, h.0, row_is xs
 
 how_many_long : (ds : List (ℕ × RawVal)) → length (flat_map (λ d. replicate d.0 (val_of d.1)) ds) ≡ how_many ds
 how_many_long [] = refl
-how_many_long (d ∷ ds) = many_long d.0 (val_of d.1) (flat_map (λ e. replicate e.0 (val_of e.1)) ds) ∙ ap (λ n. d.0 + n) (how_many_long ds)
+how_many_long (d ∷ ds) =
+    let rest : List (ValType ℕ) = flat_map (λ e. replicate e.0 (val_of e.1)) ds in
+    omega (arith, length-append (replicate d.0 (val_of d.1)) rest, length-replicate d.0 (val_of d.1), how_many_long ds)
 
 as_few : (ds : List (ℕ × RawVal)) → AllByRecursion (λ (d : ℕ × RawVal). 0 < d.0) ds → length ds ≤ how_many ds
 as_few [] h = omega arith
@@ -111,7 +111,6 @@ module _ (c : Config) (s : wire.Module) (ty : ℕ) (x : BodyText) (stands : Body
     parts = refl;
     declared = x.declarations;
     declares = declarations_stand x.declarations (omega (arith, small, as_few x.declarations filled)) (omega (arith, small)) stands.types;
-    few = small;
     typed = types_named_back (declared s) x.declarations filled type_found;
     operators = record {
       texts = x.operators;

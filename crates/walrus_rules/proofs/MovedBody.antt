@@ -148,7 +148,6 @@ module _ (c : Context) (l : ℕ → ℕ) (locals others : ℕ → Option ℕ) (m
     parts = body.parts;
     declared = body.declared;
     declares = body.declares;
-    few = body.few;
     typed = body.typed;
     operators = moved_ops body.back ops body.operators;
   }

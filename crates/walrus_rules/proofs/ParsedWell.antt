@@ -237,4 +237,5 @@ module _ (c : Config) (m v : Abstract) (p : ParsedAs c m v) (plain : IsPlain m) 
     bodies = body_formed;
     rules = rules_parsed;
     customs = λ s at. read.customs s (subst (λ l. Contains l s) p.customs at);
+    counted = λ f b at. let w = was f b at in w.whole.counted;
   }

@@ -1,21 +1,12 @@
--- A well-formed body uses its parameters and at most 50,000 further locals.
-use Rattle.std.proofs.Common.{◌≡◌, ℕ, zero, suc, ◌+◌, ◌≤◌, List, [], ◌∷◌, ◌++◌, length, refl, sym, ap, ◌∙◌, subst, ⊎_elim, arith}
-use Rattle.std.specs.Prelude.{Option, Some, Contains, flat_map, slice_get, replicate}
+-- The locals that operators use are what the look-up of locals finds for those that their text names.
+use Rattle.std.proofs.Common.{◌≡◌, ℕ, List, [], ◌∷◌, refl, sym, ap, ◌∙◌, subst, ⊎_elim}
+use Rattle.std.specs.Prelude.{Option, Some, Contains, flat_map}
 use Rattle.std.specs.List.{AllByRecursion}
-use Rattle.std.proofs.lemmas.List.{length-map}
 use Rattle.wasm_forms.specs.Reading.{◌>>=◌}
-use Rattle.wasm_forms.specs.declared.types.RawVal.{RawVal}
 use Rattle.wasm_forms.proofs.Bind.{some_same, bind_some}
-use Rattle.walrus_base.specs.Types.{ValType}
 use Rattle.walrus_types.specs.Operators.{Memories, Arg, Index, Label, Local, Number, Count, Byte, S32, S64, Bits32, Bits64, Value, Heap, Block, Access, Op, arg_locals, op_locals, locals_of}
-use Rattle.walrus_code.specs.FromRaw.{val_of, ops_of}
 use Rattle.walrus_code.specs.Names.{Lookup, named_heap, named_val, named_block, named_arg, named_args, named_op, named_ops}
-use Rattle.walrus_bodies.specs.Body.{declared_types, how_many}
-use Rattle.walrus_model.specs.Abstract.{Abstract, Body}
-use Rattle.walrus_model.specs.Config.{Config}
-use Rattle.walrus_model.specs.Refers.{IsUsed}
-use Rattle.walrus_rules.specs.WellMade.{IsWellFormed}
-use Rattle.walrus_model.proofs.Lists.{Contains-none, Contains-uncons, Contains-head, Contains-tail}
+use Rattle.walrus_model.proofs.Lists.{Contains-none, Contains-uncons}
 use Rattle.walrus_rules.proofs.StepHandlers.{Contains-split}
 
 -- P holds of the numbers of locals that an argument, or operators, name
@@ -78,33 +69,3 @@ any_args (arg ∷ args) = (tt, any_args args)
 any_ops : (ops : List Op) → OpsHold (λ n. Unit {0}) ops
 any_ops [] = tt
 any_ops (o ∷ ops) = (any_args o.args, any_ops ops)
-
-pub many_long : (n : ℕ) (v : ValType ℕ) (rest : List (ValType ℕ)) → length (replicate n v ++ rest) ≡ n + length rest
-many_long zero v rest = omega arith
-many_long (suc n) v rest = let h : length (replicate n v ++ rest) ≡ n + length rest = many_long n v rest in omega (arith, h)
-
-types_long : (names : Lookup) (ds : List (ℕ × RawVal)) (types : List (ValType ℕ)) → declared_types names ds ≡ Some types → length types ≡ how_many ds
-types_long names [] types e = ap length (sym (some_same [] types e))
-types_long names (d ∷ ds) types e =
-    let x = bind_some (named_val names (val_of d.1)) (λ v. declared_types names ds >>= λ others. Some (replicate d.0 v ++ others)) types e in
-    let y = bind_some (declared_types names ds) (λ others. Some (replicate d.0 x.0 ++ others)) types x.2 in
-    ap length (sym (some_same (replicate d.0 x.0 ++ y.0) types y.2)) ∙ many_long d.0 x.0 y.0 ∙ ap (λ n. d.0 + n) (types_long names ds y.0 y.1)
-
-slice_in : (xs : List ℕ) (n x : ℕ) → slice_get xs n ≡ Some x → Contains xs x
-slice_in [] n x e = absurd (cc)
-slice_in (y ∷ ys) zero x e = subst (λ z. Contains (y ∷ ys) z) (some_same y x e) (Contains-head y ys)
-slice_in (y ∷ ys) (suc n) x e = Contains-tail y x ys (slice_in ys n x e)
-
-module _ (c : Config) (m : Abstract) (ty : ℕ) (b : Body) (h : IsWellFormed c m ty b) where
-  -- what it uses is a parameter or a further local
-  pub used_further : (x : ℕ) → IsUsed b x → (Contains b.parameters x → ⊥) → Contains h.further x
-  used_further x used new =
-      let f = ops_found h.names (slice_get (b.parameters ++ h.further)) (λ n. Unit {0}) (ops_of h.read.operators.texts) b.operators (any_ops (ops_of h.read.operators.texts)) h.read.operators.named x used in
-      ⊎_elim (λ at. absurd (new at)) (λ at. at) (Contains-split x b.parameters h.further (slice_in (b.parameters ++ h.further) f.0 x f.1.1))
-
-  pub few_further : length h.further ≤ 50_000
-  few_further =
-      let n : length h.types ≡ length h.further = sym (length-map h.types (λ v. Some v)) ∙ ap length h.further_typed ∙ length-map h.further b.local_type in
-      let k : length h.types ≡ how_many h.read.declared = types_long h.names h.read.declared h.types h.read.typed in
-      let most : how_many h.read.declared ≤ 50_000 = h.read.few in
-      omega (arith, n, k, most)

@@ -84,7 +84,6 @@ reads_in names p q f locals text types ops same h = record {
   parts = h.parts;
   declared = h.declared;
   declares = h.declares;
-  few = h.few;
   typed = h.typed;
   operators = record {
     texts = h.operators.texts;
@@ -218,6 +217,7 @@ collected_well config v w made live c = record {
       (made.bodies i f b left.1 is);
   rules = rules_carried (collected_taken v w c live (λ i f at un. made.writable.initialised i f at un)) (λ f b at. made.rules.locals f b (body_stays v w c f b (w.functions f) refl at)) made.rules;
   customs = λ s at. made.customs s (subst (λ l. Contains l s) c.customs at);
+  counted = λ f b at. made.counted f b (body_stays v w c f b (w.functions f) refl at);
 }
 
 -- ---- the declared segment
@@ -279,6 +279,7 @@ module _ (c : Config) (w : Abstract) (fs : List ℕ) (are : AreUndeclared (IsLiv
         bodies = λ i f body at is. well_formed_in c w u f.ty body refl (λ t has. refl) (made.bodies i f body at is);
         rules = rules_carried (segment_taken w elements fs b are made.rules.indices lives.made lives.imports) made.rules.locals made.rules;
         customs = made.customs;
+        counted = made.counted;
       }
 
   both : IsWellMade c u × NothingUndeclared u

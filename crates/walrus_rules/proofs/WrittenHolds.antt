@@ -17,8 +17,7 @@ use Rattle.walrus_model.specs.Refers.{IsUsed}
 use Rattle.walrus_model.specs.Sections.{body_with}
 use Rattle.std.proofs.lemmas.Grind.{get_or_default_zero}
 use Rattle.walrus_rules.specs.Text.{said_by}
-use Rattle.walrus_rules.specs.WellMade.{IsWellFormed, IsWellMade}
-use Rattle.walrus_rules.proofs.UsedFound.{used_further, few_further}
+use Rattle.walrus_rules.specs.WellMade.{IsCounted, IsWellMade}
 use Rattle.walrus_rules.specs.WellMadeLaws.{WrittenHolds}
 use Rattle.walrus_rules.specs.Once.{Premises}
 use Rattle.walrus_rules.proofs.Counting.{has_room}
@@ -27,7 +26,7 @@ use Rattle.walrus_rules.proofs.RulesBase.{TakenOver}
 use Rattle.walrus_rules.proofs.Shaped.{Side}
 use Rattle.walrus_rules.proofs.StepLeaves.{declares_none}
 use Rattle.walrus_rules.proofs.TextShaped.{side}
-use Rattle.walrus_rules.proofs.Things.{Stands, stands}
+use Rattle.walrus_rules.proofs.Things.{Stands, stands, body_is}
 use Rattle.walrus_rules.proofs.TypeRules.{body_came, body_was}
 use Rattle.walrus_rules.proofs.UsedLocals.{stands_for, no_parameter}
 
@@ -80,33 +79,33 @@ module _ (c : Config) (u n : Abstract) (made : IsWellMade c u) (nothing : Nothin
   premises = premises_hold_of u made.rules
 
   -- each local that the new body declares stands for one that the old one counts
-  module _ (i : ℕ) (x : Function) (a : Body) (at : u.functions i ≡ Some x) (is : x.kind ≡ LocalFunction a) (formed : IsWellFormed c u x.ty a) (typed : (y : ℕ) → IsUsed a y → IsSome (a.local_type y)) where
+  module _ (i : ℕ) (x : Function) (a : Body) (at : u.functions i ≡ Some x) (is : x.kind ≡ LocalFunction a) (counted : IsCounted a) (typed : (y : ℕ) → IsUsed a y → IsSome (a.local_type y)) where
     abbrev stood : Stands c u premises n s i x a typed
     stood = stands c u premises n s i x a typed at is
 
     few : length stood.said.0 ≤ 50_000
     few =
         let ps = params_of (n.types stood.function.ty) in
-        let room : length stood.said.0 ≤ length formed.further = has_room (length formed.further) (λ m k. r.locals i (get_or formed.further k 0) ≡ m) (length ps) (length stood.said.0)
+        let room : length stood.said.0 ≤ length counted.locals = has_room (length counted.locals) (λ m k. r.locals i (get_or counted.locals k 0) ≡ m) (length ps) (length stood.said.0)
         (λ m le lt.
         let z = stands_for a i ps typed r stood.said stood.comes m le lt in
-        let in_list : Contains formed.further z.0 = used_further c u x.ty a formed z.0 z.1 (no_parameter a i ps typed r stood.said stood.comes z.0 m z.1 z.2 le) in
-        (in_list.0, in_list.1, ap (r.locals i) (sym (get_or_default_zero formed.further in_list.0 z.0 in_list.1) ∙ in_list.2) ∙ z.2))
+        let in_list : Contains counted.locals z.0 = (counted.are z.0).1 (z.1, no_parameter a i ps typed r stood.said stood.comes z.0 m z.1 z.2 le) in
+        (in_list.0, in_list.1, ap (r.locals i) (sym (get_or_default_zero counted.locals in_list.0 z.0 in_list.1) ∙ in_list.2) ∙ z.2))
         (λ m l k p q. sym p ∙ q) in
-        let most : length formed.further ≤ 50_000 = few_further c u x.ty a formed in
-        omega (arith, room, most)
+        let most : a.declared ≤ 50_000 = made.rules.locals i a (body_is u i x a at is) in
+        omega (arith, room, most, counted.count)
 
   locals_hold : LocalsHold n
   locals_hold f b at =
       let w = body_came taken f b at in
       let was = body_was taken f b w in
-      let formed = made.bodies w.from w.function w.body w.is w.has in
+      let counted = made.counted w.from w.body was in
       let typed : (y : ℕ) → IsUsed w.body y → IsSome (w.body.local_type y) = λ y used. made.rules.indices.locals w.from w.body y was used in
       let st = stands c u premises n s w.from w.function w.body typed w.is w.has in
       let there : n.functions f ≡ Some st.function = subst (λ j. n.functions j ≡ Some st.function) w.number st.at in
       let body : Some (body_with (params_of (n.types st.function.ty)) st.said) ≡ Some b = sym (ap body_of_function there ∙ ap body_of_kind st.kind) ∙ at in
       let same : length st.said.0 ≡ b.declared = ap (λ (x : Body). x.declared) (some_same (body_with (params_of (n.types st.function.ty)) st.said) b body) in
-      let low : length st.said.0 ≤ 50_000 = few w.from w.function w.body w.is w.has formed typed in
+      let low : length st.said.0 ≤ 50_000 = few w.from w.function w.body w.is w.has counted typed in
       omega (arith, same, low)
 
   holds : Holds n

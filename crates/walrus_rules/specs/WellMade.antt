@@ -7,6 +7,7 @@ use Rattle.walrus_bodies.specs.FunctionTypes.{is_function_def}
 use Rattle.walrus_functions.specs.Handlers.{params_of}
 use Rattle.walrus_model.specs.Abstract.{Abstract, Body, LocalFunction, Function, Custom}
 use Rattle.walrus_model.specs.Config.{Config}
+use Rattle.walrus_model.specs.Names.{body_of}
 use Rattle.walrus_model.specs.Order.{ByImport}
 use Rattle.walrus_model.specs.Rules.{IsFunctionType, RulesHold}
 use Rattle.walrus_model.specs.WellMade.{ImportsMatch, IsWritable}
@@ -43,3 +44,4 @@ pub record IsWellMade (c : Config) (m : Abstract) : Type 0 where
   pub bodies : (i : ℕ) (f : Function) (b : Body) → m.functions i ≡ Some f → f.kind ≡ LocalFunction b → IsWellFormed c m f.ty b
   pub rules : RulesHold (ByImport m) m
   pub customs : (s : Custom) → Contains m.customs s → (s.name ≢ codes "name") × (s.name ≢ codes "producers")
+  pub counted : (f : ℕ) (b : Body) → body_of m f ≡ Some b → IsCounted b
