@@ -193,7 +193,7 @@ are_module c bytes a =
     let many : length m.bodies ≡ length m.sections.functions = sym (zip_length (ReadsBody c m.sections) (zip m.sections.functions m.sections.bodies) m.bodies m.read) ∙ pairs_long m.sections.functions m.sections.bodies m.as_many_bodies in
     let h : Holds (module_of (supported m.sections) m.bodies) = subst Holds (is_supported c bytes a.0 m) a.2 in
     let read : AllZip (ReadsBody c (supported m.sections)) (zip m.sections.functions m.sections.bodies) m.bodies =
-        subst (λ s. AllZip (ReadsBody c s) (zip m.sections.functions m.sections.bodies) m.bodies) (all_supported m.sections m.supported) m.read in
+    subst (λ s. AllZip (ReadsBody c s) (zip m.sections.functions m.sections.bodies) m.bodies) (all_supported m.sections m.supported) m.read in
     record {
       sections = m.sections;
       framed = m.framed;
