@@ -129,7 +129,7 @@ module _ (c : Config) (bytes : List ℕ) (m d n : Abstract) (reads : Reads c byt
   fits_all (ManyLocals f body further e apart used away (inr many)) = too_many_locals c bytes m b.module_parsed w n reads holds b.parsed b.collected premises t spells is fits f body further (ap (λ (fs : ℕ → Option Function). body_of_function (fs f)) (sym same.0) ∙ e) apart used away many
   fits_all (TableLimit i x e h) = table_fits i x (ap (λ f. f i) (sym same.1.0) ∙ e) h
   fits_all (MemoryLimit i x e h) = memory_fits i x (ap (λ f. f i) (sym same.1.1) ∙ e) h
-  fits_all (Unfit h) = writes_fit h
+  fits_all (Unfit there h) = writes_fit h
 
 outputs : (c : Config) (bytes a : List ℕ) (m u d n : Abstract) → Reads c bytes m → Holds m → BringsTo c m u → BringsTo c m d → IsWrittenAs c u n → IsSpelledAs n a → Reads c a n → PassesLimits c d → ⊥
 outputs c bytes a m u d n reads holds bu bd wn sa back =
