@@ -13,7 +13,7 @@ pub mod OneSections
 pub mod OneCustom
 pub mod OneStanding
 pub mod OneSpelling
-pub mod Needed
+pub mod Alternatives
 pub mod Agree
 pub mod TypesAlike
 pub mod Alike

@@ -1,14 +1,15 @@
 -- What may be written isn't too large.
-use Rattle.std.proofs.Common.{◌≡◌, ℕ, ◌<◌, ◌≤◌, List, [], ◌∷◌, length, sym, ap, ◌∙◌, subst, arith}
-use Rattle.std.specs.Prelude.{Option, Some, IsSome, Contains, AllPairs, All, ◌^◌}
+use Rattle.std.proofs.Common.{◌≡◌, ℕ, ◌<◌, ◌≤◌, List, [], ◌∷◌, length, get_or, sym, ap, ◌∙◌, subst, arith, inl, inr}
+use Rattle.std.specs.Prelude.{Option, Some, IsSome, Contains, AllPairs, All, ◌≢◌, ◌^◌}
 use Rattle.wasm_frames.specs.Frames.{Section}
 use Rattle.wasm_writer.specs.Spelling.{SectionFits}
 use Rattle.walrus_types.specs.Operators.{Space, Types, Functions, Tables, Memories, Tags, Globals, Elements, DataSegments, Item}
-use Rattle.walrus_model.specs.Abstract.{Abstract, Function, Table, Memory}
+use Rattle.walrus_model.specs.Abstract.{Abstract, Body, Function, Table, Memory}
 use Rattle.walrus_model.specs.Config.{Config}
 use Rattle.walrus_model.specs.Declared.{AreUndeclared}
 use Rattle.walrus_model.specs.Live.{Has, IsLive}
-use Rattle.walrus_model.specs.Names.{body_of_function}
+use Rattle.walrus_model.specs.Names.{body_of, body_of_function}
+use Rattle.walrus_model.specs.Refers.{IsUsed}
 use Rattle.walrus_model.specs.Renaming.{renamed_table, renamed_memory}
 use Rattle.walrus_model.specs.Rules.{Holds}
 use Rattle.walrus_rules.specs.Chain.{AddsSegment, HasSegment, BringsTo}
@@ -19,7 +20,9 @@ use Rattle.walrus_rules.specs.Pinned.{IsWrittenAs}
 use Rattle.walrus_rules.specs.Refused.{PassesLimit, PassesLimits, ManyItems, ManyLocals, TableLimit, MemoryLimit, Unfit, WritesUnfit}
 use Rattle.walrus_rules.specs.Spelling.{IsSpelling, IsSpelledAs, written_as}
 use Rattle.walrus_rules.specs.Text.{Text, sections_of}
+use Rattle.walrus_rules.proofs.BroughtWell.{brought_well}
 use Rattle.walrus_rules.proofs.BytesOnce.{one_module}
+use Rattle.walrus_rules.proofs.Counting.{no_longer}
 use Rattle.walrus_rules.proofs.KeptLives.{kept_lives}
 use Rattle.walrus_model.proofs.Lists.{Contains-head}
 use Rattle.walrus_rules.proofs.ManyItems.{segment_by, too_many, too_many_segments}
@@ -100,6 +103,18 @@ module _ (c : Config) (bytes : List ℕ) (m d n : Abstract) (reads : Reads c byt
       let is_it : n.memories (s.numbers Memories i) ≡ Some (renamed_memory s x) = both.3 ∙ ap Some (both.4 ∙ ap (renamed_memory s) one) in
       fits.memories (s.numbers Memories i) (renamed_memory s x) is_it h
 
+  -- it declares as many locals as its body counts, which the rules bound
+  few_locals : (f : ℕ) (body : Body) (further : List ℕ) → body_of d f ≡ Some body → AllPairs (λ (x : ℕ) (y : ℕ). x ≢ y) further → All (IsUsed body) further → All (λ (x : ℕ). Contains body.parameters x → ⊥) further → 2 ^ 32 ≤ length further → ⊥
+  few_locals f body further e apart used away many =
+      let made = (brought_well c bytes m d reads holds b).made in
+      let counted = made.counted f body e in
+      let low : length further ≤ length counted.locals = no_longer further counted.locals apart (λ k x lt. (counted.are (get_or further k x)).1 (used k x lt, away k x lt)) in
+      let most : body.declared ≤ 50_000 = made.rules.locals f body e in
+      less (length further) (length counted.locals) body.declared low counted.count most many
+    where
+      less : (x y z : ℕ) → x ≤ y → z ≡ y → z ≤ 50_000 → 2 ^ 32 ≤ x → ⊥
+      less x y z low is most many = omega (arith, low, is, most, many)
+
   writes_fit : WritesUnfit c d → ⊥
   writes_fit h =
       let other = h.unfit in
@@ -110,10 +125,11 @@ module _ (c : Config) (bytes : List ℕ) (m d n : Abstract) (reads : Reads c byt
 
   pub fits_all : PassesLimits c d → ⊥
   fits_all (ManyItems space numbers rise has many) = items_fit numbers rise many space b.leaves.functions b.leaves.undeclared b.leaves.added has
-  fits_all (ManyLocals f body further e apart used away many) = too_many_locals c bytes m b.module_parsed w n reads holds b.parsed b.collected premises t spells is fits f body further (ap (λ (fs : ℕ → Option Function). body_of_function (fs f)) (sym same.0) ∙ e) apart used away many
+  fits_all (ManyLocals f body further e apart used away (inl many)) = few_locals f body further e apart used away many
+  fits_all (ManyLocals f body further e apart used away (inr many)) = too_many_locals c bytes m b.module_parsed w n reads holds b.parsed b.collected premises t spells is fits f body further (ap (λ (fs : ℕ → Option Function). body_of_function (fs f)) (sym same.0) ∙ e) apart used away many
   fits_all (TableLimit i x e h) = table_fits i x (ap (λ f. f i) (sym same.1.0) ∙ e) h
   fits_all (MemoryLimit i x e h) = memory_fits i x (ap (λ f. f i) (sym same.1.1) ∙ e) h
-  fits_all (Unfit h) = writes_fit h
+  fits_all (Unfit there h) = writes_fit h
 
 outputs : (c : Config) (bytes a : List ℕ) (m u d n : Abstract) → Reads c bytes m → Holds m → BringsTo c m u → BringsTo c m d → IsWrittenAs c u n → IsSpelledAs n a → Reads c a n → PassesLimits c d → ⊥
 outputs c bytes a m u d n reads holds bu bd wn sa back =

@@ -1,5 +1,5 @@
 -- What is parsed is well made.
-use Rattle.std.proofs.Common.{◌≡◌, ℕ, ◌+◌, ◌-◌, ◌<◌, ◌≤◌, true, false, List, ◌++◌, length, get_or, refl, sym, ap, ◌∙◌, subst, arith, length-append, inl, inr, ⊎_elim}
+use Rattle.std.proofs.Common.{◌≡◌, ℕ, ◌+◌, ◌-◌, ◌<◌, ◌≤◌, true, false, List, ◌++◌, length, get_or, refl, sym, ap, ◌∙◌, subst, arith, length-append, ⊎_elim}
 use Rattle.std.specs.Prelude.{Option, Some, None, IsSome, is_some, Contains, slice_get}
 use Rattle.std.specs.List.{range_with_len}
 use Rattle.std.proofs.lemmas.Bool.{cases_lt}
@@ -28,8 +28,7 @@ use Rattle.walrus_rules.specs.Chain.{IsWholeBody, ParsedAs}
 use Rattle.walrus_rules.specs.Features.{features_of}
 use Rattle.walrus_rules.specs.Pinned.{IsDeclared}
 use Rattle.walrus_rules.specs.WellMade.{IsWellFormed, IsWellMade}
-use Rattle.walrus_rules.proofs.Agree.{Compared, compared}
-use Rattle.walrus_rules.proofs.Counting.{has_room}
+use Rattle.walrus_rules.proofs.Counting.{one_place, has_room}
 use Rattle.walrus_model.proofs.Follow.{used_follow}
 use Rattle.walrus_model.proofs.Lists.{Contains-map}
 use Rattle.walrus_rules.proofs.MovedBody.{ops_are}
@@ -84,13 +83,8 @@ module _ (r : Renaming) (i : ℕ) (ps : List (ValType ℕ)) (said : Said) (b : B
       let y = get_or counted.locals m 0 in
       let k = from_declared (get_or counted.locals m 0) ((counted.are (get_or counted.locals m 0)).0 (m, in_list, get_or_default_zero counted.locals m (get_or counted.locals m 0) in_list)) in
       (k.0, k.1, (in_list, k.2)))
-      (λ m o k p q. one m o p.0 q.0 (sym p.1 ∙ q.1) (compared m o)) in
+      (λ m o k p q. one_place counted.locals counted.distinct m o p.0 q.0 (sym p.1 ∙ q.1)) in
       subst (λ d. d ≤ length said.0) (sym counted.count) room
-    where
-      one : (m o : ℕ) → m < length whole.counted.locals → o < length whole.counted.locals → get_or whole.counted.locals m 0 ≡ get_or whole.counted.locals o 0 → Compared m o → m ≡ o
-      one m o lm lo e (inl lt) = absurd (whole.counted.distinct m o 0 lt lo e)
-      one m o lm lo e (inr (inl is)) = is
-      one m o lm lo e (inr (inr lt)) = absurd (whole.counted.distinct o m 0 lt lm (sym e))
 
 -- ---- parsing
 

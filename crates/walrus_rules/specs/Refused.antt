@@ -73,7 +73,8 @@ pub record IsSayable (v : Abstract) : Type 0 where
   pub imports : ImportsMatch v
   pub customs : (s : Custom) → Contains v.customs s → (s.name ≢ codes "name") × (s.name ≢ codes "producers")
 
--- all that is live, numbered as emission does, has a section that doesn't fit
+-- All that is live, numbered as emission does, has a section that doesn't fit. Where something that isn't there is named, its number is open,
+-- and so is how large what names it comes out.
 pub record WritesUnfit (c : Config) (v : Abstract) : Type 0 where
   pub module_out : Abstract
   pub written : IsWrittenAs c v module_out
@@ -85,10 +86,10 @@ PassesLimit l = (l.wide ≡ false) × ((2 ^ 32 ≤ l.minimum) ⊎ ((n : ℕ) × 
 
 pub data PassesLimits (c : Config) (v : Abstract) : Type 0 where
   ManyItems : (space : Space) (numbers : List ℕ) → AllPairs (λ i j. i < j) numbers → All (Has v space) numbers → 2 ^ 32 ≤ length numbers → PassesLimits c v
-  ManyLocals : (f : ℕ) (b : Body) (further : List ℕ) → body_of v f ≡ Some b → AllPairs (λ (x : ℕ) (y : ℕ). x ≢ y) further → All (IsUsed b) further → All (λ (x : ℕ). Contains b.parameters x → ⊥) further → 2 ^ 32 < length (b.parameters ++ further) → PassesLimits c v
+  ManyLocals : (f : ℕ) (b : Body) (further : List ℕ) → body_of v f ≡ Some b → AllPairs (λ (x : ℕ) (y : ℕ). x ≢ y) further → All (IsUsed b) further → All (λ (x : ℕ). Contains b.parameters x → ⊥) further → (2 ^ 32 ≤ length further) ⊎ (2 ^ 32 < length (b.parameters ++ further)) → PassesLimits c v
   TableLimit : (i : ℕ) (t : Table) → v.tables i ≡ Some t → PassesLimit t.ty.limits → PassesLimits c v
   MemoryLimit : (i : ℕ) (t : model.Memory) → v.memories i ≡ Some t → PassesLimit t.ty.limits → PassesLimits c v
-  Unfit : WritesUnfit c v → PassesLimits c v
+  Unfit : (HasDead v → ⊥) → WritesUnfit c v → PassesLimits c v
 
 -- ---- what is answered
 

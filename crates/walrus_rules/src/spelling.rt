@@ -2,6 +2,7 @@
 
 ghost use Rattle.std.specs.Prelude.{ℕ, List, ◌≡◌};
 ghost use Rattle.walrus_model.specs.Abstract.{Abstract};
+ghost use Rattle.walrus_rules.specs.Alternatives.{HasAlternatives};
 ghost use Rattle.walrus_rules.specs.Examples.{AreRefused, one_function, one_function_bytes};
 ghost use Rattle.walrus_rules.specs.Needs.{IsWrittenOnce};
 ghost use Rattle.walrus_rules.specs.OneRun.{ReadFits, ReadsOnce, SpelledFits};
@@ -15,6 +16,13 @@ pub fn worked_row()
     ensures one { IsSpelledAs one_function one_function_bytes }
     ensures refused { AreRefused }
     ensures written { IsWrittenOnce }
+{}
+
+/// Texts may differ and say one module: in the bodies a local type that is declared twice or for no local, or a byte that
+/// is no heap type; an empty group of types, more bodies than functions, a flag that nothing takes, the place of a custom
+/// section, the order of names. So that a module has one spelling is due to what a spelling has to be beside what it says.
+pub fn has_alternatives()
+    ensures { HasAlternatives }
 {}
 
 /// A module has one text, section by section, and so one spelling: bytes that are spelled as it are these bytes.
