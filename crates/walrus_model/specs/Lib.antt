@@ -1,5 +1,6 @@
 pub mod Abstract
 pub mod Live
+pub mod Dead
 pub mod Refers
 pub mod Roots
 pub mod Reached

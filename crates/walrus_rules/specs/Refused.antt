@@ -6,6 +6,7 @@ use Rattle.walrus_model.specs.Abstract.{Abstract, TypeDef, Limits, Table, Global
 use Rattle.walrus_model.specs.Abstract as model
 use Rattle.walrus_model.specs.Config.{Config}
 use Rattle.walrus_model.specs.Customs.{is_debug_name}
+pub use Rattle.walrus_model.specs.Dead.{HasDead, DeadName, DeadLocal, DeadExport, DeadStart, DeadImport, NoKind}
 use Rattle.walrus_model.specs.Live.{Has, IsLive}
 use Rattle.walrus_model.specs.Names.{body_of}
 use Rattle.walrus_model.specs.Order.{ByImport}
@@ -15,16 +16,6 @@ use Rattle.walrus_model.specs.WellMade.{ImportsMatch, import_of, heaps_in, const
 use Rattle.walrus_rules.specs.Pinned.{IsWrittenAs}
 use Rattle.walrus_rules.specs.Spelling.{HasUnfit}
 use Rattle.walrus_rules.specs.WellMade.{IsWellFormed}
-
--- ---- DeadItem: what is named isn't there
-
-pub data HasDead (v : Abstract) : Type 0 where
-  DeadName : (x y : Item) → Contains (written_in v x) y → (IsLive v y → ⊥) → HasDead v
-  DeadLocal : (f x : ℕ) (b : Body) → body_of v f ≡ Some b → IsUsed b x → b.local_type x ≡ None → HasDead v
-  DeadExport : (e : Export) → Contains v.exports e → (IsLive v e.item → ⊥) → HasDead v
-  DeadStart : (f : ℕ) → v.start ≡ Some f → v.functions f ≡ None → HasDead v
-  DeadImport : (i : ℕ) (x : Import) → v.imports i ≡ Some x → (IsLive v x.item → ⊥) → HasDead v
-  NoKind : (i : ℕ) (f : Function) → v.functions i ≡ Some f → f.kind ≡ Uninitialised → HasDead v
 
 -- ---- TwoIndices: an import names a local item, or two imports name one; both are there
 

@@ -136,10 +136,8 @@ SpelledOnce = (n : Abstract) (s t : Text) → IsSpelling n s → IsSpelling n t 
 
 -- ---- too large
 
--- a section of its one spelling has a count, a size or a limit past 32 bits
+-- its one spelling has sections that don't all fit: one has a count, a size or a limit past 32 bits
 pub record HasUnfit (n : Abstract) : Type 0 where
   pub text : Text
   pub spells : IsSpelling n text
-  pub section : Section
-  pub stands : Contains (sections_of text) section
-  pub unfit : SectionFits section → ⊥
+  pub unfit : All SectionFits (sections_of text) → ⊥
