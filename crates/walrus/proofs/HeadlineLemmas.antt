@@ -38,13 +38,13 @@ use Rattle.walrus_model.proofs.Lists.{Contains-none, Contains-head, Contains-tai
 use Rattle.walrus_model.proofs.PipelineCollected.{some_of, left_is_kept}
 use Rattle.walrus_model.proofs.PipelineParsed.{exports_same, function_of_v, initialised, live_back, live_parsed}
 use Rattle.walrus_model.proofs.PipelineRead.{live_read, accepted_comes_out_lem}
-use Rattle.walrus_module.specs.Emitted.{NamesDiffer, IsEmitted}
+use Rattle.walrus_writing.specs.Emitted.{NamesDiffer, IsEmitted}
 use Rattle.walrus_module.specs.Flags.{Flags, config_of}
-use Rattle.walrus_module.specs.Parsed.{IsParsed}
-use Rattle.walrus_module.specs.Refused.{HasImported, AreWellFormed, HasIllFormed, HasUnwritableType, HasTooMany, HasManyLocals, WritesTooLarge, RefusesToWrite}
-use Rattle.walrus_module.proofs.Lookups.{mapped_some, got_map, zip_long}
-use Rattle.walrus_module.proofs.Rooms.{fits_indices}
-use Rattle.walrus_module.proofs.Steps.{zip_length, pairs_long}
+use Rattle.walrus_reading.specs.Parsed.{IsParsed}
+use Rattle.walrus_writing.specs.Refused.{HasImported, AreWellFormed, HasIllFormed, HasUnwritableType, HasTooMany, HasManyLocals, WritesTooLarge, RefusesToWrite}
+use Rattle.walrus_contents.proofs.Lookups.{mapped_some, got_map, zip_long}
+use Rattle.walrus_reading.proofs.Rooms.{fits_indices}
+use Rattle.walrus_contents.proofs.Steps.{zip_length, pairs_long}
 use Rattle.walrus_parts.specs.declared.error.Error.{Error}
 use Rattle.walrus_parts.specs.declared.error.Error.TheVariants as error
 use Rattle.walrus.specs.Headline.{ComesTo, ComesOutTooLarge, Answers}

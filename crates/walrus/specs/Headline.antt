@@ -7,7 +7,7 @@ use Rattle.walrus_model.specs.Out.{Out}
 use Rattle.walrus_model.specs.Placed.{Placed}
 use Rattle.walrus_model.specs.Reads.{Reads, Accepts}
 use Rattle.walrus_model.specs.Rules.{Holds}
-use Rattle.walrus_module.specs.Refused.{IsTooLarge}
+use Rattle.walrus_writing.specs.Refused.{IsTooLarge}
 use Rattle.walrus_parts.specs.declared.error.Error.{Error}
 use Rattle.walrus_parts.specs.declared.error.Error.TheVariants.{Memory, InvalidWasm, TooLarge}
 use Rattle.walrus.specs.declared.tool.ToolError.{ToolError}

@@ -3,3 +3,7 @@ pub mod LiveLemmas
 pub mod NamedLemmas
 pub mod Slots
 pub mod Walked
+pub mod Lookups
+pub mod Steps
+pub mod Taking
+pub mod TypeLists

@@ -1,6 +1,6 @@
 -- The parts of a module in memory as an abstract module: the number of an item is the place of its id. What isn't read or written so
 -- far is absent: imports, tables, memories, tags, globals, segments, a start function, custom sections, names, producers.
-use Rattle.std.specs.Prelude.{ℕ, Bool, true, false, ◌&&◌, not, List, [], map, filter, length, Option, Some, None, option_map}
+use Rattle.std.specs.Prelude.{ℕ, Bool, true, false, ◌&&◌, not, List, [], map, filter, length, Option, Some, None, option_map, ◌≡◌}
 use Rattle.std.specs.List.{range_with_len}
 use Rattle.walrus_base.specs.Arena.{item_at, items}
 use Rattle.walrus_base.specs.Id.{place}
@@ -20,6 +20,7 @@ use Rattle.walrus_items.specs.declared.functions.FunctionKind.TheVariants as kin
 use Rattle.walrus_items.specs.declared.functions.FunctionKind.{FunctionKind}
 use Rattle.walrus_items.specs.declared.functions.ModuleFunctions.{ModuleFunctions}
 use Rattle.walrus_model.specs.Abstract as abstract
+use Rattle.walrus_contents.specs.declared.parts.Contents.{Contents}
 use Rattle.walrus_contents.specs.declared.parts.Parts.{Parts}
 
 -- the type at each place, by its group
@@ -92,3 +93,14 @@ view_of types all funcs es = record {
 -- the module of these parts
 abbrev pub parts_view : Parts → abstract.Abstract
 parts_view p = view_of p.types.now p.locals.now p.funcs.now p.exports.now
+
+-- the same of contents
+abbrev pub contents_view : Contents → abstract.Abstract
+contents_view c = view_of c.types c.locals c.funcs c.exports
+
+-- they hold nothing, dropped items included
+pub record HoldsNothing (c : Contents) : Type 0 where
+  pub types : type_slots c.types ≡ []
+  pub locals : locals c.locals ≡ []
+  pub functions : functions c.funcs ≡ []
+  pub exports : exports c.exports ≡ []

@@ -1,9 +1,11 @@
 //! The parts of a module.
-ghost use Rattle.std.specs.Prelude.{◌↔◌, IsTrue};
+ghost use Rattle.std.specs.Prelude.{◌↔◌, ◌≡◌, IfOk, IsTrue};
 ghost use Rattle.walrus_code.specs.Code.{item_of};
 ghost use Rattle.walrus_model.specs.Live.{IsLive};
-ghost use Rattle.walrus_contents.specs.View.{parts_view};
+ghost use Rattle.walrus_contents.specs.View.{HoldsNothing, contents_view, parts_view};
 
+use std::alloc::{AllocError, Global};
+use std::result;
 use walrus_items::{ItemId, ModuleExports, ModuleFunctions, ModuleLocals, ModuleTypes};
 
 /// The collections in which a module keeps its items, and what these are made of.
@@ -17,6 +19,45 @@ pub struct Parts<'a> {
     pub funcs: &'a ModuleFunctions,
     /// The exports.
     pub exports: &'a ModuleExports,
+}
+
+/// The same, owned: what a module that was read holds.
+#[derive(Drop)]
+pub struct Contents {
+    /// The types.
+    pub types: ModuleTypes,
+    /// The locals of all local functions.
+    pub locals: ModuleLocals,
+    /// The functions.
+    pub funcs: ModuleFunctions,
+    /// The exports.
+    pub exports: ModuleExports,
+}
+
+impl Contents {
+    /// Nothing yet. Want of memory is the only refusal.
+    pub fn new(alloc: Global) -> result::Result<Contents, AllocError>
+        ensures empty { IfOk result HoldsNothing }
+    {
+        Ok(Contents {
+            types: ModuleTypes::new(alloc),
+            locals: ModuleLocals::new(alloc),
+            funcs: ModuleFunctions::new(alloc)?,
+            exports: ModuleExports::new(alloc),
+        })
+    }
+
+    /// All of it, lent.
+    pub fn parts(&self) -> Parts<'_>
+        ensures { parts_view result ≡ contents_view self.now }
+    {
+        Parts {
+            types: &self.types,
+            locals: &self.locals,
+            funcs: &self.funcs,
+            exports: &self.exports,
+        }
+    }
 }
 
 /// Whether the item is there. A module has types and functions so far.

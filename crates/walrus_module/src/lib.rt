@@ -3,18 +3,14 @@
 
 pub mod config;
 pub mod customs;
-pub mod emit;
+mod emit;
 pub mod entry;
-pub mod law;
 pub mod module;
-pub mod order;
-pub mod parse;
-mod supported;
+mod parse;
 
 pub use config::ModuleConfig;
 pub use customs::{ModuleCustomSections, SectionIter};
 pub use entry::SectionEntry;
-pub use law::spelled_once;
 pub use module::Module;
 pub use walrus_items::{
     AbstractHeapType, ArenaIter, Arg, Args, ArrayType, BlockType, CodeTransform, CompositeType,

@@ -29,14 +29,14 @@ pub struct Module {
 
 impl Module {
     ghost use Rattle.walrus_module.specs.Flags.{flags, defaults, config_of};
-    ghost use Rattle.walrus_module.specs.Parsed.{IsParsed, RefusesBytes, AreLocated};
+    ghost use Rattle.walrus_reading.specs.Parsed.{IsParsed, RefusesBytes, AreLocated};
     ghost use Rattle.walrus_module.specs.Settings.{settings};
-    ghost use Rattle.walrus_module.specs.Taken.{AreEmpty};
+    ghost use Rattle.walrus_module.specs.View.{IsEmpty};
     ghost use Rattle.walrus_module.specs.View.{view};
 
     /// An empty module, to be written as the configuration says. Want of memory is the only refusal.
     pub fn with_config(alloc: Global, config: ModuleConfig) -> Result<Module>
-        ensures empty { IfOk result (λ m. AreEmpty m.types m.locals m.funcs m.exports) }
+        ensures empty { IfOk result (λ m. IsEmpty m) }
         ensures configured { IfOk result (λ m. settings m ≡ flags config) }
         ensures fails { IsOkUnless result out_of_memory }
     {

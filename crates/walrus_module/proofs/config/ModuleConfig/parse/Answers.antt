@@ -1,10 +1,10 @@
 use Rattle.std.proofs.lemmas.Result.{err_from_is_err_and}
 use Rattle.wasm_frames.specs.Record.{sections}
 use Rattle.walrus_module.specs.Flags.{flags, config_of}
-use Rattle.walrus_module.proofs.Accepting.{is_parsed, references_refused, refused_bytes}
-use Rattle.walrus_module.proofs.SupportedRules.{narrow_rules}
-use Rattle.walrus_module.proofs.Refusals.{frames_refused, rules_refused, supported_refused, bodies_refused}
-use Rattle.walrus_module.proofs.Rooms.{fits_indices}
+use Rattle.walrus_reading.proofs.Accepting.{is_parsed, references_refused, refused_bytes}
+use Rattle.walrus_reading.proofs.SupportedRules.{narrow_rules}
+use Rattle.walrus_reading.proofs.Refusals.{frames_refused, rules_refused, supported_refused, bodies_refused}
+use Rattle.walrus_reading.proofs.Rooms.{fits_indices}
 use Rattle.walrus_module.proofs.config.ModuleConfig.parse.Goals as goal
 
 pub returns-in_err-raw-clause-refused : goal.returns-in_err-raw-clause-refused

@@ -4,15 +4,15 @@ use Rattle.walrus_base.specs.Arena.{items}
 use Rattle.walrus_bodies.specs.declared.features.Features.{Features}
 use Rattle.walrus_items.specs.Exports.{exports}
 use Rattle.walrus_model.specs.Placed.{Placed}
-use Rattle.walrus_module.specs.Emitted.{RefusesDeclared}
+use Rattle.walrus_writing.specs.Emitted.{RefusesDeclared}
 use Rattle.walrus_module.specs.Flags.{config_of}
-use Rattle.walrus_module.specs.Parts.{Held, held_in}
+use Rattle.walrus_writing.specs.Parts.{Held, held_in}
 use Rattle.walrus_module.specs.Settings.{settings}
-use Rattle.walrus_module.specs.Spells.{Spells}
+use Rattle.walrus_writing.specs.Spells.{Spells}
 use Rattle.walrus_module.specs.View.{view}
-use Rattle.walrus_module.proofs.EmittedLemmas.{if_ok_both, records_written, emitted_ok}
-use Rattle.walrus_module.proofs.PlacedLemmas.{placed_as_spelled}
-use Rattle.walrus_module.proofs.RefusedLemmas.{refuses_lem}
+use Rattle.walrus_writing.proofs.EmittedLemmas.{if_ok_both, records_written, emitted_ok}
+use Rattle.walrus_writing.proofs.PlacedLemmas.{placed_as_spelled}
+use Rattle.walrus_writing.proofs.RefusedLemmas.{refuses_lem}
 use Rattle.walrus_module.proofs.module.Module.emit_wasm.Goals as goal
 
 pub returns-clause-emitted : goal.returns-clause-emitted

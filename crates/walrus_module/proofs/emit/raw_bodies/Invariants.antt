@@ -1,8 +1,0 @@
-use Rattle.std.proofs.Common.{◌≡◌, ◌++◌, map, drop}
-use Rattle.wasm_frames.specs.Record.{body_record}
-use Rattle.walrus_module.specs.Parts.{unplaced}
-use Rattle.walrus_module.proofs.emit.raw_bodies.Given as goal
-
--- the bodies so far, and those that are still to come
-abbrev pub invariant-loop-body : goal.invariant-loop-body
-invariant-loop-body l = map body_record l.raw.items ++ map (λ bytes. unplaced bytes.items) (drop l.body-index l.bodies) ≡ map (λ bytes. unplaced bytes.items) l.bodies

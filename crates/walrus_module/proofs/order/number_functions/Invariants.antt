@@ -1,8 +1,0 @@
-use Rattle.std.proofs.Common.{map, take}
-use Rattle.walrus_base.specs.Id.{place}
-use Rattle.walrus_module.specs.Numbered.{NumbersFunctions}
-use Rattle.walrus_module.proofs.order.number_functions.Given as goal
-
--- the functions so far are numbered
-abbrev pub invariant-loop-id : goal.invariant-loop-id
-invariant-loop-id l = NumbersFunctions l.initial.indices l.indices (map place (take l.id-index l.order))

@@ -1,0 +1,16 @@
+pub mod Accepting
+pub mod FewLocals
+pub mod FewParams
+pub mod Locating
+pub mod MovedRefs
+pub mod ParsedWhole
+pub mod Refusals
+pub mod Rooms
+pub mod SmallLocals
+pub mod SupportedOnly
+pub mod SupportedRules
+pub mod TakenBody
+pub mod TakenSections
+pub mod TypesRead
+pub mod TypesTaken
+pub mod WholeLists

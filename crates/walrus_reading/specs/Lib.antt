@@ -1,0 +1,4 @@
+pub mod Parsed
+pub mod Sections
+pub mod SupportedOnly
+pub mod Taken

@@ -1,0 +1,257 @@
+//! Reading a module from its bytes.
+ghost use Rattle.std.specs.Prelude.{true, ◌≡◌, ◌≢◌, ◌++◌, ◌∷◌, ◌<◌, ◌≤◌, ◌^◌, ℕ, [], length, map, zip, Some, All, IfOk, IfErr, OnOk, IsOkUnless};
+ghost use Rattle.std.specs.List.{range_with_len, AllZip};
+ghost use Rattle.walrus_base.specs.Arena.{item_at};
+ghost use Rattle.walrus_base.specs.Id.{place};
+ghost use Rattle.walrus_types.specs.Locals.{locals};
+ghost use Rattle.walrus_types.specs.ModuleTypes.{type_slots};
+ghost use Rattle.walrus_types.specs.Operators.{Space, Types, Functions};
+ghost use Rattle.walrus_types.specs.Value.{val_type};
+ghost use Rattle.walrus_code.specs.Indices.{places_in, ids_at};
+ghost use Rattle.walrus_code.specs.Location.{location, location_at};
+ghost use Rattle.walrus_bodies.specs.Body.{context};
+ghost use Rattle.std.specs.Fn.{FnReturnsAt};
+ghost use Rattle.walrus_bodies.specs.BodyRead.{ReadsBody, BodyLocated};
+ghost use Rattle.walrus_bodies.specs.Results.{locations};
+ghost use Rattle.walrus_bodies.specs.FunctionTypes.{is_function_at};
+ghost use Rattle.walrus_functions.specs.EmittedBody.{types_of as local_types};
+ghost use Rattle.walrus_functions.specs.ReadFunction.{StaysInFront};
+ghost use Rattle.walrus_items.specs.Exports.{exports};
+ghost use Rattle.walrus_items.specs.Functions.{functions};
+ghost use Rattle.walrus_groups.specs.Groups.{types_from, AreDeclared};
+ghost use Rattle.walrus_model.specs.Reads.{declared};
+ghost use Rattle.walrus_model.specs.Sections.{export_of};
+ghost use Rattle.walrus_module.specs.Flags.{flags, config_of};
+ghost use Rattle.walrus_contents.specs.View.{exports_of, parts_view};
+ghost use Rattle.walrus_reading.specs.Parsed.{ChecksReferences};
+ghost use Rattle.walrus_reading.specs.Taken.{AreEmpty, FitsIndices, IsPlace, IsLocated, AddsLocated, TakesFunction, TakesFunctions, TakesSections};
+ghost use Rattle.walrus_model.specs.Supported.{IsOfFunction, IsSupported};
+ghost use Rattle.walrus_reading.specs.Sections.{Rules};
+ghost use Rattle.walrus_parts.specs.Errors.{out_of_memory};
+ghost use Rattle.wasm_entries.specs.Record.{group, export_entry};
+ghost use Rattle.wasm_frames.specs.Record.{body_record, sections};
+
+use crate::config::ModuleConfig;
+use crate::module::Module;
+use crate::supported::check_supported;
+use std::alloc::{AllocError, Global};
+use std::result;
+use walrus_bodies::{ReadBody, read_body_over};
+use walrus_contents::{Parts, are_references_declared};
+use walrus_groups::read_types;
+use walrus_ir::{
+    Features, Id, IndicesToIds, InstrLocId, IrError, LocalFunction, LocalId, ModuleLocals,
+    ModuleTypes, ValType,
+};
+use walrus_items::{ExportItem, ModuleExports, ModuleFunctions};
+use walrus_parts::{Error, ErrorKind, Result};
+use wasm_wire::{Raw, RawBody, RawExport, RawGroup, check, read_module};
+
+// Takes in all sections that keep the rules.
+fn add_sections(
+    alloc: Global,
+    config: &ModuleConfig,
+    raw: &Raw<'_>,
+    types: &mut ModuleTypes,
+    all: &mut ModuleLocals,
+    funcs: &mut ModuleFunctions,
+    module_exports: &mut ModuleExports,
+) -> Result<()>
+    requires rules { Rules (sections raw.now) }
+    requires supported { IsSupported (sections raw.now) }
+    requires room { FitsIndices (sections raw.now) }
+    requires empty { AreEmpty types.old all.old funcs.old module_exports.old }
+    ensures taken { TakesSections (config_of (flags config.now)) (sections raw.now) types.new all.new funcs.new module_exports.new result }
+    ensures located { OnOk result (AllZip IsLocated (sections raw.now).bodies (functions funcs.new)) }
+{
+    let features = config.features();
+    let mut indices = IndicesToIds::new(alloc);
+    add_types(alloc, &raw.types, &mut indices, types)?;
+    number_functions(raw.functions.len(), &mut indices)?;
+    add_functions(
+        alloc,
+        &features,
+        &raw.functions,
+        &raw.bodies,
+        &indices,
+        types,
+        all,
+        funcs,
+    )?;
+    add_exports(&raw.exports, &indices, module_exports)
+}
+
+// The indices of so many functions.
+fn number_functions(count: usize, indices: &mut IndicesToIds) -> Result<()>
+    requires none { places_in indices.old Functions ≡ [] }
+    requires room { count < 2 ^ 32 }
+    ensures numbered { OnOk result (places_in indices.new Functions ≡ range_with_len 0 count) }
+    ensures others { OnOk result ((space : Space) → space ≢ Functions → places_in indices.new space ≡ places_in indices.old space) }
+    ensures fails { IsOkUnless result out_of_memory }
+{
+    for place in 0..count {
+        indices.push_func(Id::at(place))?;
+    }
+    Ok(())
+}
+
+// Each type gets the next id and the next index.
+fn add_types(
+    alloc: Global,
+    raw: &[RawGroup],
+    indices: &mut IndicesToIds,
+    types: &mut ModuleTypes,
+) -> Result<()>
+    requires none { type_slots types.old ≡ [] }
+    requires no_indices { (space : Space) → places_in indices.old space ≡ [] }
+    requires declared { AreDeclared 0 (map group raw.now) }
+    ensures added { OnOk result (type_slots types.new ≡ map Some (types_from 0 (map group raw.now))) }
+    ensures numbered { OnOk result (places_in indices.new Types ≡ range_with_len 0 (length (types_from 0 (map group raw.now)))) }
+    ensures others { OnOk result ((space : Space) → space ≢ Types → places_in indices.new space ≡ []) }
+    ensures fails { IsOkUnless result out_of_memory }
+{
+    match read_types(alloc, raw, indices, types) {
+        Ok(()) => Ok(()),
+        Err(IrError::Memory(error)) => Err(Error::Memory(error)),
+        // A section has fewer than 2^32 bytes, and so fewer types.
+        Err(IrError::TooLarge) => Err(Error::Memory(AllocError)),
+        Err(_) => unreachable!(),
+    }
+}
+
+// A local for each parameter.
+fn add_params(alloc: Global, params: &[ValType], all: &mut ModuleLocals) -> Result<Vec<LocalId>>
+    ensures args { IfOk result (λ args. map place args.items ≡ range_with_len (length (locals all.old)) (length params.now)) }
+    ensures typed { OnOk result (local_types (locals all.new) ≡ local_types (locals all.old) ++ map Some (map val_type params.now)) }
+    ensures fails { IsOkUnless result out_of_memory }
+{
+    let mut args = Vec::with_capacity(alloc, params.len())?;
+    for ty in params {
+        args.push(all.add(*ty)?)?;
+    }
+    Ok(args)
+}
+
+// Reads the body of a function of this type. The function gets the next id; its locals are its parameters, and behind them
+// those that the body declares.
+fn add_function(
+    alloc: Global,
+    features: &Features,
+    index: u32,
+    body: &RawBody<'_>,
+    indices: &IndicesToIds,
+    types: &ModuleTypes,
+    all: &mut ModuleLocals,
+    funcs: &mut ModuleFunctions,
+) -> Result<()>
+    requires declared { ids_at indices.now Types index ≡ Some index }
+    requires typed { is_function_at types.now index ≡ true }
+    ensures taken { TakesFunction (context (ids_at indices.now) (is_function_at types.now) features.now) (item_at (type_slots types.now)) (index, body_record body.now) all.new (functions funcs.old) (functions funcs.new) result }
+    ensures stays { OnOk result (StaysInFront (local_types (locals all.old)) (local_types (locals all.new))) }
+    ensures located { OnOk result (AddsLocated (body_record body.now) (functions funcs.old) (functions funcs.new)) }
+{
+    let Some(ty) = indices.get_type(index) else {
+        unreachable!();
+    };
+    let args = add_params(alloc, types.get(ty).params(), all)?;
+    let locate = |place: &usize| -> InstrLocId
+        ensures { location result ≡ location_at place.now }
+    { InstrLocId::of_place(*place) };
+    let read = read_located(alloc, body, features, indices, types, &args, all, &locate)?;
+    funcs.add_local(LocalFunction::new(alloc, ty, args, read.operators))?;
+    Ok(())
+}
+
+// Reads a body, each operator of which is located where it stands.
+fn read_located<L: Fn(&usize) -> InstrLocId>(
+    alloc: Global,
+    body: &RawBody<'_>,
+    features: &Features,
+    indices: &IndicesToIds,
+    types: &ModuleTypes,
+    args: &[LocalId],
+    all: &mut ModuleLocals,
+    locate: &L,
+) -> result::Result<ReadBody, IrError>
+    requires callable { L.IsAlwaysCallable locate.now }
+    requires tells { (place : ℕ) (loc : _) → FnReturnsAt L.Fn locate.now place loc → IsPlace place loc }
+    ensures read { ReadsBody (context (ids_at indices.now) (is_function_at types.now) features.now) (map place args.now) (locals all.old) (locals all.new) body.now.bytes.now result }
+    ensures located { IfOk result (λ read. BodyLocated IsPlace body.now.start body.now.bytes.now (locations read.operators.items)) }
+{
+    read_body_over(
+        alloc, body.bytes, body.start, features, indices, types, args, all, locate,
+    )
+}
+
+// Reads the bodies of the functions of these types, which get the next ids.
+fn add_functions(
+    alloc: Global,
+    features: &Features,
+    of_types: &[u32],
+    bodies: &[RawBody<'_>],
+    indices: &IndicesToIds,
+    types: &ModuleTypes,
+    all: &mut ModuleLocals,
+    funcs: &mut ModuleFunctions,
+) -> Result<()>
+    requires none { functions funcs.old ≡ [] }
+    requires as_many { length bodies.now ≡ length of_types.now }
+    requires declared { All (λ t. ids_at indices.now Types t ≡ Some t) of_types.now }
+    requires typed { All (λ t. is_function_at types.now t ≡ true) of_types.now }
+    ensures taken { TakesFunctions (context (ids_at indices.now) (is_function_at types.now) features.now) (item_at (type_slots types.now)) (zip of_types.now (map body_record bodies.now)) all.new funcs.new result }
+    ensures located { OnOk result (AllZip IsLocated (map body_record bodies.now) (functions funcs.new)) }
+{
+    funcs.reserve(of_types.len())?;
+    for place in 0..of_types.len() {
+        add_function(
+            alloc,
+            features,
+            of_types[place],
+            &bodies[place],
+            indices,
+            types,
+            all,
+            funcs,
+        )?;
+    }
+    Ok(())
+}
+
+// The export leads to the function of its index: what is supported exports functions alone.
+fn add_export(entry: &RawExport<'_>, indices: &IndicesToIds, all: &mut ModuleExports) -> Result<()>
+    requires declared { ids_at indices.now Functions entry.now.index ≡ Some entry.now.index }
+    requires function { IsOfFunction (export_entry entry.now) }
+    ensures added { OnOk result (exports_of all.new ≡ exports_of all.old ++ export_of (export_entry entry.now) ∷ []) }
+    ensures fails { IsOkUnless result out_of_memory }
+{
+    let Some(id) = indices.get_func(entry.index) else {
+        unreachable!();
+    };
+    all.add(entry.name, ExportItem::Function(id))?;
+    Ok(())
+}
+
+fn add_exports(raw: &[RawExport<'_>], indices: &IndicesToIds, all: &mut ModuleExports) -> Result<()>
+    requires none { exports all.old ≡ [] }
+    requires declared { All (λ e. ids_at indices.now Functions e.index ≡ Some e.index) (map export_entry raw.now) }
+    requires functions { All IsOfFunction (map export_entry raw.now) }
+    ensures added { OnOk result (exports_of all.new ≡ map export_of (map export_entry raw.now)) }
+    ensures fails { IsOkUnless result out_of_memory }
+{
+    all.reserve(raw.len())?;
+    for entry in raw {
+        add_export(entry, indices, all)?;
+    }
+    Ok(())
+}
+
+// Refuses a module in which `ref.func` names a function that isn't exported, with `InvalidWasm`, since such a one isn't handled so far.
+fn check_references(alloc: Global, parts: Parts<'_>) -> Result<()>
+    ensures { ChecksReferences (parts_view parts.entry) result }
+{
+    if are_references_declared(alloc, parts)? {
+        Ok(())
+    } else {
+        Err(Error::InvalidWasm(ErrorKind::InvalidWasm))
+    }
+}

@@ -1,0 +1,8 @@
+//! The contents of a module that bytes are: from bytes to records, and from records to items.
+#![tactic(auto)]
+
+mod contents;
+mod read;
+mod supported;
+
+pub use read::read;

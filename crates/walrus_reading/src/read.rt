@@ -1,0 +1,35 @@
+//! Reading a module ("Binary Format > Modules").
+ghost use Rattle.std.specs.Prelude.{IfOk, IfErr};
+ghost use Rattle.walrus_model.specs.Config.{Config};
+ghost use Rattle.walrus_contents.specs.View.{contents_view};
+ghost use Rattle.walrus_reading.specs.Parsed.{AreLocated, IsParsed, IsReadWith, RefusesBytes};
+
+use crate::contents::read_contents;
+use crate::supported::check_supported;
+use std::alloc::Global;
+use walrus_contents::{Contents, are_references_declared};
+use walrus_ir::Features;
+use walrus_parts::{Error, ErrorKind, Result};
+use wasm_wire::{check, read_module};
+
+/// What the module holds that the bytes are, whose bodies may use these proposals ("Binary Format > Modules"). Each item gets the id
+/// of its index, and each operator the place of its first byte.
+///
+/// # Errors
+///
+/// `InvalidWasm` exactly where the bytes are no module, or hold what isn't supported so far, and `Memory`.
+pub fn read(alloc: Global, bytes: &[u8], features: &Features) -> Result<Contents>
+    ensures found { (c : Config) → IsReadWith c features.now → IfOk result (λ m. IsParsed c bytes.now (contents_view m)) }
+    ensures refused { (c : Config) → IsReadWith c features.now → IfErr result (RefusesBytes c bytes.now) }
+    ensures located { IfOk result (λ m. AreLocated bytes.now m.funcs) }
+{
+    let raw = read_module(alloc, bytes)?;
+    check(alloc, &raw)?;
+    check_supported(&raw)?;
+    let contents = read_contents(alloc, &raw, features)?;
+    if are_references_declared(alloc, contents.parts())? {
+        Ok(contents)
+    } else {
+        Err(Error::InvalidWasm(ErrorKind::InvalidWasm))
+    }
+}

@@ -1,0 +1,22 @@
+use Rattle.std.proofs.Common.{sym, map}
+use Rattle.std.proofs.lemmas.Result.{err_from_is_err_and}
+use Rattle.walrus_base.specs.Id.{place}
+use Rattle.walrus_code.specs.Indices.{index_of, local_index}
+use Rattle.walrus_functions.specs.declared.emit.EmittedBody.{EmittedBody}
+use Rattle.walrus_writing.specs.Parts.{held_in}
+use Rattle.walrus_writing.proofs.Indexed.{body_refused}
+use Rattle.walrus_module.proofs.emit.one_body.Goals as goal
+
+pub returns-clause-value : goal.returns-clause-value
+returns-clause-value c = record {
+  local = c.in-Some.local.now;
+  is = sym c.in-Some.ensures;
+  places = map (λ p. p.1) c.in_ok-body.body.places.items;
+  numbers = local_index c.in_ok-body.body.locals;
+  written = c.in_ok-body.ensures.written;
+}
+
+pub returns-in_err-body-clause-fails : goal.returns-in_err-body-clause-fails
+returns-in_err-body-clause-fails c =
+    let p = err_from_is_err_and c.from_residual.result c.from_residual.ensures.1 in
+    rw (p.1, p.2) (body_refused (held_in c.args.types.now c.args.locals.now c.args.funcs.now) (index_of c.args.indices.now) c.args.features.now (place c.args.id) c.in-Some.local.now (λ (b : EmittedBody). b.bytes.items) (λ b. map (λ p. p.1) b.places.items) (λ b. local_index b.locals) _ c.requires.indexed (sym c.in-Some.ensures) c.in_err-body.ensures.written)

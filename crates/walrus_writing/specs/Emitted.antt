@@ -1,0 +1,54 @@
+-- What emission gives, and when it refuses, in the words of the abstract module.
+use Rattle.std.specs.Prelude.{ℕ, false, List, ◌≡◌, Result, Ok, Err}
+use Rattle.walrus_bodies.specs.declared.features.Features.{Features}
+use Rattle.walrus_model.specs.Abstract.{Abstract}
+use Rattle.walrus_model.specs.Config.{Config}
+use Rattle.walrus_model.specs.Declared.{NothingUndeclared}
+use Rattle.walrus_model.specs.Rules.{Holds}
+use Rattle.walrus_parts.specs.declared.error.Error.{Error}
+use Rattle.walrus_parts.specs.declared.error.Error.TheVariants as errors
+use Rattle.walrus_rules.specs.Features.{features_of}
+use Rattle.walrus_rules.specs.Headline.{Reads}
+use Rattle.walrus_rules.specs.Pinned.{IsWrittenAs}
+use Rattle.walrus_rules.specs.Refused.{Refusal}
+use Rattle.walrus_rules.specs.Refused as causes
+use Rattle.walrus_rules.specs.Spelling.{IsSpelledAs}
+use Rattle.walrus_rules.specs.WellMade.{IsWellMade}
+
+-- a configuration with these features that writes neither names nor producers: neither is written so far
+pub record IsPlain (c : Config) (features : Features) : Type 0 where
+  pub features_are : features ≡ features_of c
+  pub no_names : c.writes_names ≡ false
+  pub no_producers : c.writes_producers ≡ false
+
+-- The module v is written as a module of indices, and the bytes are its one spelling. Where v is well made and nothing is undeclared,
+-- they read as that module, and it keeps the rules.
+pub record IsEmitted (c : Config) (v : Abstract) (bytes : List ℕ) : Type 0 where
+  pub module_written : Abstract
+  pub written : IsWrittenAs c v module_written
+  pub spelled : IsSpelledAs module_written bytes
+  pub reads : IsWellMade c v → NothingUndeclared v → Reads c bytes module_written
+  pub holds : IsWellMade c v → NothingUndeclared v → Holds module_written
+
+-- which refusal an error tells of
+abbrev pub refusal_of : Error → Refusal
+refusal_of (errors.Memory e) = causes.Memory
+refusal_of errors.DeadItem = causes.DeadItem
+refusal_of errors.NoIndex = causes.NoIndex
+refusal_of errors.TwoIndices = causes.TwoIndices
+refusal_of errors.TooLarge = causes.TooLarge
+refusal_of errors.NotWritable = causes.NotWritable
+refusal_of (errors.Caller text) = causes.Caller
+refusal_of (errors.InvalidWasm kind) = causes.Another
+refusal_of errors.NotFound = causes.Another
+refusal_of errors.SeveralMemories = causes.Another
+refusal_of errors.NoMemory = causes.Another
+refusal_of errors.SeveralFunctionTables = causes.Another
+refusal_of errors.NotExported = causes.Another
+refusal_of errors.NotImported = causes.Another
+refusal_of errors.NotReplaceable = causes.Another
+
+-- an answer, with its error as a refusal
+abbrev pub told : {X : Type 0} → Result X Error → Result X Refusal
+told (Ok x) = Ok x
+told (Err e) = Err (refusal_of e)

@@ -1,0 +1,10 @@
+//! What a module's parts are written as: the order of their items, the records of their sections, and the bytes of these.
+#![tactic(auto)]
+
+mod bodies;
+mod plan;
+mod records;
+mod write;
+
+pub use plan::Plan;
+pub use write::write_parts;

@@ -1,0 +1,163 @@
+//! The order in which items are written, and their indices ("Structure > Modules > Indices").
+ghost use Rattle.std.specs.Prelude.{◌≡◌, ℕ, map, length, IfOk, IfErr, IsOkUnless, None, nat_eq};
+ghost use Rattle.walrus_base.specs.Arena.{entries, items};
+ghost use Rattle.std.specs.List.{IsDistinct};
+ghost use Rattle.walrus_base.specs.Id.{place};
+ghost use Rattle.walrus_types.specs.ModuleTypes.{type_slots};
+ghost use Rattle.walrus_code.specs.Indices.{index_of, given};
+ghost use Rattle.walrus_types.specs.Operators.{Types, Functions};
+ghost use Rattle.walrus_items.specs.Functions.{functions};
+ghost use Rattle.walrus_model.specs.Plan.{AreNumbered};
+ghost use Rattle.walrus_parts.specs.Errors.{out_of_memory};
+ghost use Rattle.walrus_writing.specs.Local.{all_local, is_local};
+ghost use Rattle.walrus_writing.specs.Numbered.{NumbersTypes, NumbersFunctions, planned};
+ghost use Rattle.walrus_writing.specs.Places.{places};
+ghost use Rattle.walrus_writing.specs.Refusals.{RefusesCount, RefusesCounts};
+ghost use Rattle.walrus_writing.specs.Sizes.{local_sizes, IsOrder};
+
+use std::alloc::Global;
+use std::cmp::Reverse;
+use walrus_contents::Parts;
+use walrus_ir::{FunctionId, IdsToIndices, ModuleTypes, TypeId};
+use walrus_items::{FunctionKind, ModuleFunctions};
+use walrus_parts::{Error, Result};
+
+/// For each index space the ids of the items in the order in which they are written, so that each one's place in it is its index.
+#[derive(Drop)]
+pub struct Plan {
+    /// The types, by rising id.
+    pub types: Vec<TypeId>,
+    /// The functions: those with a body, the larger ones first, and of two as large the one of the smaller id.
+    pub functions: Vec<FunctionId>,
+}
+
+impl Plan {
+    /// The order in which the items of these parts are written. Want of memory is the only refusal.
+    pub fn new(alloc: Global, parts: Parts<'_>) -> Result<Plan>
+        ensures types { IfOk result (λ plan. map place plan.types.items ≡ map (λ e. e.0) (entries (type_slots parts.entry.types.now))) }
+        ensures functions { IfOk result (λ plan. IsOrder (functions parts.entry.funcs.now) (map place plan.functions.items)) }
+        ensures fails { IsOkUnless result out_of_memory }
+    {
+        Ok(Plan {
+            types: types_in_order(alloc, parts.types)?,
+            functions: functions_by_size(alloc, parts.funcs)?,
+        })
+    }
+
+    /// The index of each item; what the plan doesn't hold has none. Refused with `TooLarge` where an index space has 2^32 items or more,
+    /// and with `Memory`.
+    pub fn indices(&self, alloc: Global) -> Result<IdsToIndices>
+        requires types { IsDistinct nat_eq (map place self.now.types.items) }
+        requires functions { IsDistinct nat_eq (map place self.now.functions.items) }
+        ensures value { IfOk result (λ indices. AreNumbered (index_of indices) (places self.now)) }
+        ensures fails { IfErr result (RefusesCounts (length self.now.types.items) (length self.now.functions.items)) }
+    {
+        let mut indices = IdsToIndices::new(alloc);
+        number_types(&mut indices, self.types.as_slice())?;
+        number_functions(&mut indices, self.functions.as_slice())?;
+        Ok(indices)
+    }
+}
+fn is_kind_local(kind: &FunctionKind) -> bool
+    ensures { result ≡ is_local kind.now }
+{
+    match kind {
+        FunctionKind::Local(_) => true,
+        FunctionKind::Import(_) | FunctionKind::Uninitialized(_) => false,
+    }
+}
+
+/// Whether each function has a body.
+pub fn are_all_local(funcs: &ModuleFunctions) -> bool
+    ensures { result ≡ all_local (items (functions funcs.now)) }
+{
+    for function in funcs.iter() {
+        if !is_kind_local(&function.kind) {
+            return false;
+        }
+    }
+    true
+}
+
+// The functions with a body, with their sizes.
+fn sized_functions(
+    alloc: Global,
+    funcs: &ModuleFunctions,
+) -> Result<Vec<(Reverse<usize>, FunctionId)>>
+    ensures value { IfOk result (λ sized. map (λ s. (s.0.0, place s.1)) sized.items ≡ local_sizes (functions funcs.now)) }
+    ensures fails { IsOkUnless result out_of_memory }
+{
+    let mut sized = Vec::new(alloc);
+    for (id, local) in funcs.iter_local() {
+        sized.push((Reverse(local.size()), id))?;
+    }
+    Ok(sized)
+}
+
+// The functions with a body, the larger ones first, and of two as large the one of the smaller id.
+pub fn functions_by_size(alloc: Global, funcs: &ModuleFunctions) -> Result<Vec<FunctionId>>
+    ensures value { IfOk result (λ order. IsOrder (functions funcs.now) (map place order.items)) }
+    ensures fails { IsOkUnless result out_of_memory }
+{
+    let mut sized = sized_functions(alloc, funcs)?;
+    sized.sort_unstable();
+    let ids = ids_of(alloc, sized.as_slice())?;
+    Ok(ids)
+}
+
+fn ids_of(alloc: Global, sized: &[(Reverse<usize>, FunctionId)]) -> Result<Vec<FunctionId>>
+    ensures value { IfOk result (λ ids. map place ids.items ≡ map (λ s. place s.1) sized.now) }
+    ensures fails { IsOkUnless result out_of_memory }
+{
+    let mut ids = Vec::with_capacity(alloc, sized.len())?;
+    for (_, id) in sized {
+        ids.push(*id)?;
+    }
+    Ok(ids)
+}
+
+// The types, by rising id.
+fn types_in_order(alloc: Global, types: &ModuleTypes) -> Result<Vec<TypeId>>
+    ensures value { IfOk result (λ ids. map place ids.items ≡ map (λ e. e.0) (entries (type_slots types.now))) }
+    ensures fails { IsOkUnless result out_of_memory }
+{
+    let mut ids = Vec::with_capacity(alloc, types.len())?;
+    for ty in types.iter() {
+        ids.push(ty.id())?;
+    }
+    Ok(ids)
+}
+
+// Gives each of these types its index.
+fn number_types(indices: &mut IdsToIndices, order: &[TypeId]) -> Result<()>
+    requires distinct { IsDistinct nat_eq (map place order.now) }
+    requires none { (number : ℕ) → index_of indices.old Types number ≡ None }
+    requires count { given indices.old Types ≡ 0 }
+    ensures value { IfOk result (λ _. NumbersTypes indices.old indices.new (map place order.now)) }
+    ensures fails { IfErr result (RefusesCount (length order.now)) }
+{
+    if order.len() > u32::MAX as usize {
+        return Err(Error::TooLarge);
+    }
+    for id in order {
+        indices.push_type(*id)?;
+    }
+    Ok(())
+}
+
+// Gives each of these functions its index.
+fn number_functions(indices: &mut IdsToIndices, order: &[FunctionId]) -> Result<()>
+    requires distinct { IsDistinct nat_eq (map place order.now) }
+    requires none { (number : ℕ) → index_of indices.old Functions number ≡ None }
+    requires count { given indices.old Functions ≡ 0 }
+    ensures value { IfOk result (λ _. NumbersFunctions indices.old indices.new (map place order.now)) }
+    ensures fails { IfErr result (RefusesCount (length order.now)) }
+{
+    if order.len() > u32::MAX as usize {
+        return Err(Error::TooLarge);
+    }
+    for id in order {
+        indices.push_func(*id)?;
+    }
+    Ok(())
+}

@@ -1,0 +1,110 @@
+//! The records of the sections that a module is written as ("Binary Format > Modules").
+ghost use Rattle.std.specs.Prelude.{◌≡◌, map, All, Some, IsSome, IfOk, IfErr, IfSome, IsOkUnless, option_map};
+ghost use Rattle.std.specs.Str.{IsUtf8};
+ghost use Rattle.walrus_base.specs.Arena.{items};
+ghost use Rattle.walrus_base.specs.Id.{place};
+ghost use Rattle.walrus_types.specs.ModuleTypes.{type_slots};
+ghost use Rattle.walrus_groups.specs.Indexed.{NumbersTypes, AreIndexed, LacksAnIndex};
+ghost use Rattle.walrus_code.specs.Indices.{index_of};
+ghost use Rattle.walrus_items.specs.Exports.{exports, export_value};
+ghost use Rattle.walrus_items.specs.Functions.{functions};
+ghost use Rattle.walrus_parts.specs.Errors.{out_of_memory};
+ghost use Rattle.wasm_entries.specs.Record.{group, export_entry};
+ghost use Rattle.wasm_frames.specs.Record.{body_record};
+ghost use Rattle.walrus_writing.specs.Parts.{type_index, export_with_index, unplaced};
+ghost use Rattle.walrus_writing.specs.Refusals.{RefusesTypes};
+
+use crate::bodies::local_of;
+use std::alloc::Global;
+use walrus_groups::index_types;
+use walrus_ir::{FunctionId, IdsToIndices, ModuleTypes};
+use walrus_items::{Export, ExportItem, ModuleExports, ModuleFunctions};
+use walrus_parts::{Error, Result};
+use wasm_wire::{RawBody, RawExport, RawExportKind, RawGroup};
+
+// The groups of the type section.
+pub fn raw_types(alloc: Global, types: &ModuleTypes, indices: &IdsToIndices) -> Result<Vec<RawGroup>>
+    requires numbered { NumbersTypes (index_of indices.now) (type_slots types.now) }
+    requires indexed { LacksAnIndex (index_of indices.now) (items (type_slots types.now)) → ⊥ }
+    ensures value { IfOk result (λ raw. AreIndexed (index_of indices.now) (items (type_slots types.now)) (map group raw.items)) }
+    ensures fails { IfErr result (RefusesTypes (type_slots types.now)) }
+{
+    let groups = index_types(alloc, types, indices)?;
+    Ok(groups)
+}
+
+// The index of a function's type.
+fn raw_function(funcs: &ModuleFunctions, id: FunctionId, indices: &IdsToIndices) -> Option<u32>
+    ensures { result ≡ type_index (functions funcs.now) (index_of indices.now) (place id) }
+{
+    let local = local_of(funcs, id)?;
+    indices.get_type_index(local.ty())
+}
+
+// The index of each function's type, in the order of the functions.
+pub fn raw_functions(
+    alloc: Global,
+    funcs: &ModuleFunctions,
+    order: &[FunctionId],
+    indices: &IdsToIndices,
+) -> Result<Vec<u32>>
+    requires indexed { All (λ id. IsSome (type_index (functions funcs.now) (index_of indices.now) (place id))) order.now }
+    ensures value { IfOk result (λ raw. map Some raw.items ≡ map (λ id. type_index (functions funcs.now) (index_of indices.now) (place id)) order.now) }
+    ensures fails { IsOkUnless result out_of_memory }
+{
+    let mut raw = Vec::with_capacity(alloc, order.len())?;
+    for id in order {
+        let Some(index) = raw_function(funcs, *id, indices) else {
+            return Err(Error::NoIndex);
+        };
+        raw.push(index)?;
+    }
+    Ok(raw)
+}
+
+fn raw_export<'a>(export: &'a Export, indices: &IdsToIndices) -> Option<RawExport<'a>>
+    ensures value { option_map export_entry result ≡ export_with_index (index_of indices.now) (export_value export.now) }
+    ensures text { IfSome result (λ raw. IsUtf8 raw.name.now) }
+{
+    let ExportItem::Function(id) = export.item;
+    let index = indices.get_func_index(id)?;
+    Some(RawExport {
+        name: export.name.as_str(),
+        kind: RawExportKind::Function,
+        index,
+    })
+}
+
+pub fn raw_exports<'a>(
+    alloc: Global,
+    all_exports: &'a ModuleExports,
+    indices: &IdsToIndices,
+) -> Result<Vec<RawExport<'a>>>
+    requires indexed { All (λ e. IsSome e) (map (export_with_index (index_of indices.now)) (items (exports all_exports.now))) }
+    ensures value { IfOk result (λ raw. map (λ e. Some (export_entry e)) raw.items ≡ map (export_with_index (index_of indices.now)) (items (exports all_exports.now))) }
+    ensures text { IfOk result (λ raw. All (λ e. IsUtf8 e.name.now) raw.items) }
+    ensures fails { IsOkUnless result out_of_memory }
+{
+    let mut raw = Vec::new(alloc);
+    for export in all_exports.iter() {
+        let Some(one) = raw_export(export, indices) else {
+            return Err(Error::NoIndex);
+        };
+        raw.push(one)?;
+    }
+    Ok(raw)
+}
+
+pub fn raw_bodies<'a>(alloc: Global, bodies: &'a [Vec<u8>]) -> Result<Vec<RawBody<'a>>>
+    ensures value { IfOk result (λ raw. map body_record raw.items ≡ map (λ bytes. unplaced bytes.items) bodies.now) }
+    ensures fails { IsOkUnless result out_of_memory }
+{
+    let mut raw = Vec::with_capacity(alloc, bodies.len())?;
+    for body in bodies {
+        raw.push(RawBody {
+            start: 0,
+            bytes: body.as_slice(),
+        })?;
+    }
+    Ok(raw)
+}
