@@ -101,3 +101,6 @@ pub mod NamedBack
 pub mod BodiesBack
 pub mod NamesBack
 pub mod SpelledReads
+pub mod DeclaredStays
+pub mod ReadLocal
+pub mod Runs
