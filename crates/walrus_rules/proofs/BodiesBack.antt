@@ -1,4 +1,4 @@
--- What is spelled of bodies reads back, where they are well formed and the module keeps the rules.
+-- What is spelled of bodies reads back, where their blocks nest, their operators are allowed and the module keeps the rules.
 use Rattle.std.proofs.Common.{◌≡◌, ℕ, ◌+◌, ◌≤◌, ◌<◌, true, List, [], ◌∷◌, ◌++◌, length, map, zip, refl, sym, ap, subst, ◌∙◌, arith, length-append, inr}
 use Rattle.std.specs.Prelude.{Option, Some, None, IsSome, All, Contains, flat_map, replicate, slice_get, unwrap_or, option_to_list}
 use Rattle.std.specs.List.{AllByRecursion, AllZip}
@@ -40,9 +40,10 @@ use Rattle.walrus_model.proofs.PipelineOps.{from_map}
 use Rattle.walrus_rules.specs.Features.{features_of}
 use Rattle.walrus_rules.specs.Headline.{ReadsBody}
 use Rattle.walrus_rules.specs.Spelling.{BodyStands, UsesAll, NeedsCount, NamesData, IsCount, IsSpelling}
-use Rattle.walrus_rules.specs.SpelledLaws.{HasBodies}
+use Rattle.walrus_rules.specs.SpelledLaws.{BodiesNest}
 use Rattle.walrus_rules.specs.Text.{Text, BodyText, said, unplaced}
 use Rattle.walrus_rules.proofs.NamedBack.{IsFound, below_is, val_found, ops_named_back, types_named_back}
+use Rattle.walrus_rules.proofs.NestedBack.{function_def, blocks_fine}
 use Rattle.walrus_rules.proofs.OneSections.{laid, later}
 use Rattle.walrus_rules.proofs.OneSpelling.{told}
 use Rattle.walrus_rules.proofs.ReadFits.{some_there, zip_short}
@@ -176,7 +177,7 @@ module _ (c : Config) (t : Text) (spells : IsSpelling (told t) t) where
   live_found (Elements, i) h d = below_is (length (elements_of s)) i (some_there (elements_of s) i h)
   live_found (DataSegments, i) h d = counted t.data_count i spells.data_count (d refl) (omega (arith, some_there (map data_of t.data_segments) i h, length-map t.data_segments data_of))
 
-module _ (c : Config) (t : Text) (spells : IsSpelling (told t) t) (holds : Holds (told t)) (formed : HasBodies c (told t)) where
+module _ (c : Config) (t : Text) (spells : IsSpelling (told t) t) (holds : Holds (told t)) (nest : BodiesNest c (told t)) where
   abbrev w : wire.Module
   w = laid t
 
@@ -188,15 +189,15 @@ module _ (c : Config) (t : Text) (spells : IsSpelling (told t) t) (holds : Holds
 
   known : (f : ℕ) (g : Function) → n.functions f ≡ Some g → Fine g
   known f g at b is =
-      let formed_b = formed f g b at is in
+      let nest_b = nest f g b at is in
       let here : body_of n f ≡ Some b = ap body_of_function at ∙ kind_body g.kind b is in
       let live : (y : Item) → Contains (body_names b) y → IsLive n y = λ y has. holds.indices.written (Functions, f) y
       (subst (λ (o : Option Function). Contains (named_by function_names o) y) (sym at)
       (Contains-tail (type_item g.ty) y (kind_names g.kind) (subst (λ (k : FunctionKind). Contains (kind_names k) y) (sym is) has))) in
       record {
-        nested = formed_b.read.operators.nested;
-        allowed = formed_b.read.operators.allowed;
-        blocks = formed_b.read.operators.blocks;
+        nested = nest_b.0;
+        allowed = nest_b.1;
+        blocks = blocks_fine (λ t. is_function_def (n.types t)) b.operators (λ t o has names. function_def n t (holds.function_types.blocks f t b o here has names));
         names = λ y has. live_found c t spells y (live y (Contains-append_1 y (names_of b.operators) (flat_map (local_names b) (locals_of b.operators)) has))
             (λ is_data. inr (f, (y.1, subst (λ (o : Option Body). NamesData o y.1) (sym here) (subst (λ (z : Space). Contains (names_of b.operators) (z, y.1)) is_data has))));
         locals = λ x u. holds.indices.locals f b x here u;

@@ -101,6 +101,8 @@ pub mod NamedBack
 pub mod BodiesBack
 pub mod NamesBack
 pub mod SpelledReads
+pub mod NestedBack
+pub mod WrittenReads
 pub mod DeclaredStays
 pub mod ReadLocal
 pub mod Runs

@@ -1,34 +1,27 @@
 -- What a run comes to, of what is supported so far. For those who prove it: each of these is one line to use.
-use Rattle.std.proofs.Common.{◌≡◌, ℕ, true, false, List, [], refl, sym, subst, arith, ⊎_elim}
-use Rattle.std.specs.Prelude.{All, Result, Ok, Err}
-use Rattle.wasm_writer.specs.Spelling.{SectionFits}
+use Rattle.std.proofs.Common.{◌≡◌, ℕ, true, false, List, [], refl, arith, ⊎_elim}
+use Rattle.std.specs.Prelude.{Result, Ok, Err}
 use Rattle.walrus_model.specs.Abstract.{Abstract}
 use Rattle.walrus_model.specs.Config.{Config}
 use Rattle.walrus_model.specs.Declared.{NothingUndeclared}
-use Rattle.walrus_model.specs.Live.{IsLive}
 use Rattle.walrus_model.specs.Pipeline.{Collected, ReachedIsLive}
 use Rattle.walrus_model.specs.Rules.{Holds}
 use Rattle.walrus_model.proofs.Lists.{Contains-none}
 use Rattle.walrus_rules.specs.Chain.{BringsTo, Leaves, ParsedAs}
-use Rattle.walrus_rules.specs.Headline.{Reads, ComesTo, ComesOutTooLarge}
-use Rattle.walrus_rules.specs.Pinned.{IsWrittenAs}
+use Rattle.walrus_rules.specs.Headline.{ComesOutTooLarge}
 use Rattle.walrus_rules.specs.Refused.{Refusal, Memory, DeadItem, NoIndex, TwoIndices, TooLarge, NotWritable, Caller, Another, PassesLimits, IsSayable}
-use Rattle.walrus_rules.specs.RunLaws.{IsFineSoFar, AreFineSoFar, FineSoFar, IsOutput, OutputSoFar, TooLargeSoFar, IsFewSoFar}
+use Rattle.walrus_rules.specs.RunLaws.{IsFineSoFar, FineSoFar, OutputSoFar, TooLargeSoFar, IsFewSoFar}
 use Rattle.walrus_rules.specs.SoFar.{ReadsSoFar, HasImported, RefusesSoFar}
-use Rattle.walrus_rules.specs.SpelledLaws.{HasBodies}
-use Rattle.walrus_rules.specs.Spelling.{IsSpelling, IsSpelledAs}
-use Rattle.walrus_rules.specs.Text.{said_by, sections_of}
 use Rattle.walrus_rules.specs.WellMade.{IsWellMade}
 use Rattle.walrus_rules.proofs.DeclaredStays.{parsed_declared, left_declared}
 use Rattle.walrus_rules.proofs.NoCause.{well_no_cause}
 use Rattle.walrus_rules.proofs.ReadLocal.{parsed_local, parsed_elements, left_local}
-use Rattle.walrus_rules.proofs.SpelledReads.{spelled_reads}
 use Rattle.walrus_rules.proofs.StepParsed.{live_v}
 use Rattle.walrus_rules.proofs.StepRead.{read_is_plain, steps_come_out_lem}
 use Rattle.walrus_rules.proofs.Straight.{not_there}
 use Rattle.walrus_rules.proofs.WellStays.{collected_well}
 use Rattle.walrus_rules.proofs.WritableParsed.{parsed_is_well}
-use Rattle.walrus_rules.proofs.WrittenHolds.{written_holds}
+use Rattle.walrus_rules.proofs.WrittenReads.{written_reads}
 
 -- ---- of any module
 
@@ -45,15 +38,6 @@ brings_itself c m v w parsed collected nothing = record { module_parsed = v; mod
 
 pub well_sayable : (c : Config) (w : Abstract) → IsWellMade c w → IsSayable w
 well_sayable c w made = record { imports = made.imports; customs = made.customs }
-
--- what a well-made module is written as keeps the rules, and its one spelling reads as it
-pub output_holds : (c : Config) (w n : Abstract) (output : List ℕ) → IsWellMade c w → NothingUndeclared w → IsWrittenAs c w n → IsSpelledAs n output → Holds n
-output_holds c w n output made nothing written spelled =
-    let is = spelled.spells.says in
-    subst Holds (sym is) (written_holds c w spelled.text made nothing (subst (IsWrittenAs c w) is written) (subst (λ x. IsSpelling x spelled.text) is spelled.spells))
-
-pub output_reads : (c : Config) (w n : Abstract) (output : List ℕ) → IsWellMade c w → NothingUndeclared w → IsWrittenAs c w n → (spelled : IsSpelledAs n output) → All SectionFits (sections_of spelled.text) → HasBodies c n → Reads c output n
-output_reads c w n output made nothing written spelled fits bodies = spelled_reads c n output spelled fits bodies (output_holds c w n output made nothing written spelled)
 
 -- ---- of what is supported so far
 
@@ -90,6 +74,7 @@ fine_so_far c bytes m v w read holds parsed collected = record {
 pub output_so_far : OutputSoFar
 output_so_far c bytes output m v w read holds parsed collected out =
     let are = fine_so_far c bytes m v w read holds parsed collected in
+    let back = written_reads c w out.module_written output are.left.made are.left.declared out.written out.spelled out.fits in
     record {
       module_read = m;
       reads = read.reads;
@@ -99,8 +84,8 @@ output_so_far c bytes output m v w read holds parsed collected out =
       module_written = out.module_written;
       written = out.written;
       spelled = out.spelled;
-      output_reads = output_reads c w out.module_written output are.left.made are.left.declared out.written out.spelled out.fits out.bodies;
-      output_holds = output_holds c w out.module_written output are.left.made are.left.declared out.written out.spelled;
+      output_reads = back.0;
+      output_holds = back.1;
       out = steps_come_out_lem c bytes m w out.module_written read.reads holds are.brings out.written;
     }
 

@@ -26,8 +26,8 @@ use Rattle.walrus_rules.specs.Namings.{naming_of, space_of, has, has_local, is_i
 use Rattle.walrus_rules.specs.OneRun.{Fits}
 use Rattle.walrus_model.specs.Sections.{function_types, is_apart}
 use Rattle.walrus_rules.specs.Sections.{module_of}
-use Rattle.walrus_rules.specs.SpelledLaws.{HasBodies, SpelledReads}
-use Rattle.walrus_rules.specs.Spelling.{MapStands, IsSpelling, is_dylink, is_other, written_as}
+use Rattle.walrus_rules.specs.SpelledLaws.{BodiesNest, SpelledReads}
+use Rattle.walrus_rules.specs.Spelling.{MapStands, IsSpelling, IsSpelledAs, is_dylink, is_other, written_as}
 use Rattle.walrus_rules.specs.Text.{Text, NameMap, NameText, listed, if_some, custom, sections_of, said, said_by, unplaced, names_bytes, field_bytes, namings_of, module_naming, space_namings, function_namings, further_spaces}
 use Rattle.walrus_rules.proofs.BodiesBack.{function_below, bodies_back}
 use Rattle.walrus_rules.proofs.NamesBack.{raw_value, raw_field, fields_back, EntryStands, FunctionStands, names_back}
@@ -270,12 +270,12 @@ fields_small (f ∷ fs) h lt = payload_small (codes "producers") (vector_bytes f
 
 -- ---- all of it
 
-module _ (c : Config) (t : Text) (spells : IsSpelling (said_by t) t) (fits : All SectionFits (sections_of t)) (formed : HasBodies c (said_by t)) (holds : Holds (said_by t)) where
+module _ (c : Config) (t : Text) (spells : IsSpelling (said_by t) t) (fits : All SectionFits (sections_of t)) (nest : BodiesNest c (said_by t)) (holds : Holds (said_by t)) where
   own : IsSpelling (told t) t
   own = subst (λ z. IsSpelling z t) (as_told t) spells
 
   bodies : AllZip (ReadsBody c (laid t)) (zip t.functions (map unplaced t.bodies)) (map said t.bodies)
-  bodies = bodies_back c t own (subst Holds (as_told t) holds) (subst (HasBodies c) (as_told t) formed)
+  bodies = bodies_back c t own (subst Holds (as_told t) holds) (subst (BodiesNest c) (as_told t) nest)
 
   small : Fits (told t)
   small =
@@ -317,8 +317,12 @@ module _ (c : Config) (t : Text) (spells : IsSpelling (said_by t) t) (fits : All
       (field_zip t.producers (λ lt. fields_back t.producers spells.producers (fields_small t.producers (All-back SectionFits (before_names ++ with_names) with_producers up_to_producers) lt))))
       (field_all t.producers)
 
+pub nested_reads : (c : Config) (n : Abstract) (bytes : List ℕ) (spelled : IsSpelledAs n bytes) → All SectionFits (sections_of spelled.text) → BodiesNest c n → Holds n → Reads c bytes n
+nested_reads c n bytes sp fits nest holds =
+    let is = sp.spells.says in
+    let back : Reads c (written_as sp.text) (said_by sp.text) = all_back_again c sp.text (subst (λ z. IsSpelling z sp.text) is sp.spells) fits (subst (BodiesNest c) is nest) (subst Holds is holds) in
+    subst (λ z. Reads c bytes z) (sym is) (subst (λ l. Reads c l (said_by sp.text)) (sym sp.written) back)
+
 pub spelled_reads : SpelledReads
 spelled_reads c n bytes sp fits formed holds =
-    let is = sp.spells.says in
-    let back : Reads c (written_as sp.text) (said_by sp.text) = all_back_again c sp.text (subst (λ z. IsSpelling z sp.text) is sp.spells) fits (subst (HasBodies c) is formed) (subst Holds is holds) in
-    subst (λ z. Reads c bytes z) (sym is) (subst (λ l. Reads c l (said_by sp.text)) (sym sp.written) back)
+    nested_reads c n bytes sp fits (λ f g b at is. let r = (formed f g b at is).read.operators in (r.nested, r.allowed)) holds

@@ -12,7 +12,6 @@ use Rattle.walrus_rules.specs.Headline.{ComesTo, ComesOutTooLarge}
 use Rattle.walrus_rules.specs.Pinned.{IsWrittenAs}
 use Rattle.walrus_rules.specs.Refused.{Refusal, Memory, DeadItem, NoIndex, TwoIndices, TooLarge, NotWritable, Caller, Another, IsSayable}
 use Rattle.walrus_rules.specs.SoFar.{ReadsSoFar, HasImported, RefusesSoFar}
-use Rattle.walrus_rules.specs.SpelledLaws.{HasBodies}
 use Rattle.walrus_rules.specs.Spelling.{IsSpelledAs}
 use Rattle.walrus_rules.specs.Text.{sections_of}
 use Rattle.walrus_rules.specs.WellMade.{IsWellMade}
@@ -42,7 +41,6 @@ pub record IsOutput (c : Config) (w : Abstract) (output : List ℕ) : Type 0 whe
   pub written : IsWrittenAs c w module_written
   pub spelled : IsSpelledAs module_written output
   pub fits : All SectionFits (sections_of spelled.text)
-  pub bodies : HasBodies c module_written
 
 -- what is written comes to the output
 abbrev pub OutputSoFar : Type 0
