@@ -1,6 +1,10 @@
 -- The parts of a module in memory as an abstract module: the number of an item is the place of its id. What isn't read or written so
 -- far is absent: imports, tables, memories, tags, globals, segments, a start function, custom sections, names, producers.
+<<<<<<< HEAD
 use Rattle.std.specs.Prelude.{ℕ, Bool, true, false, ◌&&◌, not, List, [], map, filter, length, Option, Some, None, option_map, ◌≡◌}
+=======
+use Rattle.std.specs.Prelude.{ℕ, Bool, false, ◌&&◌, not, List, [], map, filter, length, Option, Some, None, option_map}
+>>>>>>> 4f4196bb5dd8590266fadda551e07afdf2ea2493
 use Rattle.std.specs.List.{range_with_len}
 use Rattle.walrus_base.specs.Arena.{item_at, items}
 use Rattle.walrus_base.specs.Id.{place}
