@@ -103,6 +103,7 @@ pub mod NamesBack
 pub mod SpelledReads
 pub mod NestedBack
 pub mod WrittenReads
+pub mod WrittenBodies
 pub mod DeclaredStays
 pub mod ReadLocal
 pub mod Runs
