@@ -104,6 +104,7 @@ pub mod SpelledReads
 pub mod NestedBack
 pub mod WrittenReads
 pub mod WrittenBodies
+pub mod FitsTold
 pub mod DeclaredStays
 pub mod ReadLocal
 pub mod Runs

@@ -10,10 +10,11 @@ use Rattle.walrus_model.proofs.Lists.{Contains-none}
 use Rattle.walrus_rules.specs.Chain.{BringsTo, Leaves, ParsedAs}
 use Rattle.walrus_rules.specs.Headline.{ComesOutTooLarge}
 use Rattle.walrus_rules.specs.Refused.{Refusal, Memory, DeadItem, NoIndex, TwoIndices, TooLarge, NotWritable, Caller, Another, PassesLimits, IsSayable}
-use Rattle.walrus_rules.specs.RunLaws.{IsFineSoFar, FineSoFar, OutputSoFar, TooLargeSoFar, IsFewSoFar}
+use Rattle.walrus_rules.specs.RunLaws.{IsFineSoFar, FineSoFar, OutputSoFar, OkSoFar, TooLargeSoFar, IsFewSoFar}
 use Rattle.walrus_rules.specs.SoFar.{ReadsSoFar, HasImported, RefusesSoFar}
 use Rattle.walrus_rules.specs.WellMade.{IsWellMade}
 use Rattle.walrus_rules.proofs.DeclaredStays.{parsed_declared, left_declared}
+use Rattle.walrus_rules.proofs.FitsTold.{ok_fits}
 use Rattle.walrus_rules.proofs.NoCause.{well_no_cause}
 use Rattle.walrus_rules.proofs.ReadLocal.{parsed_local, parsed_elements, left_local}
 use Rattle.walrus_rules.proofs.StepParsed.{live_v}
@@ -88,6 +89,11 @@ output_so_far c bytes output m v w read holds parsed collected out =
       output_holds = back.1;
       out = steps_come_out_lem c bytes m w out.module_written read.reads holds are.brings out.written;
     }
+
+pub ok_so_far : OkSoFar
+ok_so_far c bytes output m v w n read holds parsed collected ok written spelled =
+    output_so_far c bytes output m v w read holds parsed collected
+    (record { module_written = n; written = written; spelled = spelled; fits = ok_fits c w n spelled.text ok.0 written spelled.spells })
 
 pub limits_so_far : (c : Config) (bytes : List ℕ) (m v w : Abstract) → ReadsSoFar c bytes m → Holds m → ParsedAs c m v → Collected v w → PassesLimits c w → ComesOutTooLarge c bytes
 limits_so_far c bytes m v w read holds parsed collected large = record {
