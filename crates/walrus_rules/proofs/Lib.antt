@@ -107,4 +107,5 @@ pub mod WrittenBodies
 pub mod FitsTold
 pub mod DeclaredStays
 pub mod ReadLocal
+pub mod ReadSoFar
 pub mod Runs
