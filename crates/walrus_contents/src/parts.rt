@@ -1,12 +1,12 @@
 //! The parts of a module.
-ghost use Rattle.std.specs.Prelude.{◌↔◌, ◌≡◌, IfOk, IsTrue};
+ghost use Rattle.std.specs.Prelude.{◌↔◌, ◌≡◌, IfOk, IsOkUnless, IsTrue};
 ghost use Rattle.walrus_code.specs.Code.{item_of};
 ghost use Rattle.walrus_model.specs.Live.{IsLive};
+ghost use Rattle.walrus_parts.specs.Errors.{out_of_memory};
 ghost use Rattle.walrus_contents.specs.View.{HoldsNothing, contents_view, parts_view};
 
-use std::alloc::{AllocError, Global};
-use std::result;
-use walrus_items::{ItemId, ModuleExports, ModuleFunctions, ModuleLocals, ModuleTypes};
+use std::alloc::Global;
+use walrus_items::{ItemId, ModuleExports, ModuleFunctions, ModuleLocals, ModuleTypes, Result};
 
 /// The collections in which a module keeps its items, and what these are made of.
 #[derive(Clone, Copy)]
@@ -36,8 +36,9 @@ pub struct Contents {
 
 impl Contents {
     /// Nothing yet. Want of memory is the only refusal.
-    pub fn new(alloc: Global) -> result::Result<Contents, AllocError>
+    pub fn new(alloc: Global) -> Result<Contents>
         ensures empty { IfOk result HoldsNothing }
+        ensures fails { IsOkUnless result out_of_memory }
     {
         Ok(Contents {
             types: ModuleTypes::new(alloc),
