@@ -20,6 +20,7 @@ use Rattle.walrus_types.specs.Whole.{KeepsGroups}
 use Rattle.walrus_types.proofs.Noted.{or_cases}
 use Rattle.walrus_items.specs.Functions.{functions}
 use Rattle.walrus_items.specs.declared.exports.ModuleExports.{ModuleExports}
+use Rattle.walrus_producers.specs.declared.producers.ModuleProducers.{ModuleProducers}
 use Rattle.walrus_items.specs.declared.functions.ModuleFunctions.{ModuleFunctions}
 use Rattle.walrus_model.specs.Kept.{Kept}
 use Rattle.walrus_model.specs.Pipeline.{Collected, KeepsOnly}
@@ -60,23 +61,23 @@ nothing_kept : {X : Type 0} (K : ℕ → Type 0) → KeepsOnly {X = X} K (λ i. 
 nothing_kept K = record { kept = λ i h. refl; left = λ i x e. absurd (none-some x e) }
 
 -- what is kept of the types keeps its group
-keeps_groups : (types : ModuleTypes) (all : ModuleLocals) (funcs : ModuleFunctions) (es : ModuleExports) (i q : ℕ) (x : TypeDef) → item_at (type_slots types) i ≡ Some x → Kept (view_of types all funcs es) (Types, i) → has x.group q ≡ true → Kept (view_of types all funcs es) (Types, q)
-keeps_groups types all funcs es i q x at (inl reached) g =
+keeps_groups : (types : ModuleTypes) (all : ModuleLocals) (funcs : ModuleFunctions) (es : ModuleExports) (made : ModuleProducers) (i q : ℕ) (x : TypeDef) → item_at (type_slots types) i ≡ Some x → Kept (view_of types all funcs es made) (Types, i) → has x.group q ≡ true → Kept (view_of types all funcs es made) (Types, q)
+keeps_groups types all funcs es made i q x at (inl reached) g =
     let written : Contains (type_names x) (Types, q) = Contains-append_left (map type_item x.group) (map type_item (sub_names x.sub)) (Types, q) (Contains-map type_item q x.group (has_contains x.group q g)) in
     inl (step (Types, i) (Types, q) reached (inl (subst (λ (o : Option TypeDef). Contains (named_by type_names o) (Types, q)) (sym at) written)))
-keeps_groups types all funcs es i q x at (inr spare) g = let apart : Types ≡ Memories = ap (λ (y : Item). y.0) spare.is in absurd (cc)
+keeps_groups types all funcs es made i q x at (inr spare) g = let apart : Types ≡ Memories = ap (λ (y : Item). y.0) spare.is in absurd (cc)
 
 -- the marked types are groups that are whole
-pub marks_groups : (types : ModuleTypes) (all : ModuleLocals) (funcs : ModuleFunctions) (es : ModuleExports) (marks : IdHashSet TypeKey)
-    → ((t : ℕ) → HasId marks t ↔ Kept (view_of types all funcs es) (Types, t)) → KeepsGroups (has_id marks) (type_slots types)
-marks_groups types all funcs es marks same t x at marked p g = (same p).1 (keeps_groups types all funcs es t p x at ((same t).0 marked) g)
+pub marks_groups : (types : ModuleTypes) (all : ModuleLocals) (funcs : ModuleFunctions) (es : ModuleExports) (made : ModuleProducers) (marks : IdHashSet TypeKey)
+    → ((t : ℕ) → HasId marks t ↔ Kept (view_of types all funcs es made) (Types, t)) → KeepsGroups (has_id marks) (type_slots types)
+marks_groups types all funcs es made marks same t x at marked p g = (same p).1 (keeps_groups types all funcs es made t p x at ((same t).0 marked) g)
 
-module _ (types types_left : ModuleTypes) (all : ModuleLocals) (funcs funcs_left : ModuleFunctions) (es : ModuleExports) where
-  pub is_collected : slots.KeepsOnly (λ i. Kept (view_of types all funcs es) (Functions, i)) (functions funcs) (functions funcs_left) → slots.KeepsOnly (λ t. Kept (view_of types all funcs es) (Types, t)) (type_slots types) (type_slots types_left) → Collected (view_of types all funcs es) (view_of types_left all funcs_left es)
+module _ (types types_left : ModuleTypes) (all : ModuleLocals) (funcs funcs_left : ModuleFunctions) (es : ModuleExports) (made : ModuleProducers) where
+  pub is_collected : slots.KeepsOnly (λ i. Kept (view_of types all funcs es made) (Functions, i)) (functions funcs) (functions funcs_left) → slots.KeepsOnly (λ t. Kept (view_of types all funcs es made) (Types, t)) (type_slots types) (type_slots types_left) → Collected (view_of types all funcs es made) (view_of types_left all funcs_left es made)
   is_collected f t = record {
     types = record { kept = t.kept; left = t.left };
     imports = nothing_kept _;
-    functions = seen_kept (λ i. function all) (λ i. Kept (view_of types all funcs es) (Functions, i)) (functions funcs) (functions funcs_left) f;
+    functions = seen_kept (λ i. function all) (λ i. Kept (view_of types all funcs es made) (Functions, i)) (functions funcs) (functions funcs_left) f;
     tables = nothing_kept _;
     memories = nothing_kept _;
     tags = nothing_kept _;

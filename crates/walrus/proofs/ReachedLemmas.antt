@@ -10,6 +10,7 @@ use Rattle.walrus_types.specs.declared.locals.ModuleLocals.{ModuleLocals}
 use Rattle.walrus_types.specs.declared.module_types.ModuleTypes.{ModuleTypes}
 use Rattle.walrus_items.specs.Exports.{ExportValue, exported, exports}
 use Rattle.walrus_items.specs.declared.exports.ModuleExports.{ModuleExports}
+use Rattle.walrus_producers.specs.declared.producers.ModuleProducers.{ModuleProducers}
 use Rattle.walrus_items.specs.declared.functions.ModuleFunctions.{ModuleFunctions}
 use Rattle.walrus_model.specs.Abstract as abstract
 use Rattle.walrus_model.specs.Kept.{Kept}
@@ -35,9 +36,9 @@ is_marked used (Globals, i) = (λ h. h, λ h. h)
 is_marked used (Elements, i) = (λ h. h, λ h. h)
 is_marked used (DataSegments, i) = (λ h. h, λ h. h)
 
-module _ (types : ModuleTypes) (all : ModuleLocals) (funcs : ModuleFunctions) (es : ModuleExports) where
+module _ (types : ModuleTypes) (all : ModuleLocals) (funcs : ModuleFunctions) (es : ModuleExports) (made : ModuleProducers) where
   abbrev v : abstract.Abstract
-  v = view_of types all funcs es
+  v = view_of types all funcs es made
 
   -- ---- what an item refers to is what it names
 

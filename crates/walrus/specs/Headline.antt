@@ -1,38 +1,14 @@
--- THE MAIN THEOREM: what a run comes to, for all that was read and all that was written.
+-- THE MAIN THEOREM: what a run comes to, for all that was read and all that was written. What the bytes of a module come to stands in
+-- `walrus_rules`, with the laws that leave one answer.
 use Rattle.std.specs.Prelude.{ℕ, List, ◌++◌, Option, ⊤, Result, Ok, Err}
 use Rattle.std.specs.Io.KnownBytes.{Appends, Consumes, IsAtEnd, Keeps}
-use Rattle.walrus_model.specs.Abstract.{Abstract}
 use Rattle.walrus_model.specs.Config.{Config}
-use Rattle.walrus_model.specs.Out.{Out}
-use Rattle.walrus_model.specs.Placed.{Placed}
-use Rattle.walrus_model.specs.Reads.{Reads, Accepts}
-use Rattle.walrus_model.specs.Rules.{Holds}
-use Rattle.walrus_writing.specs.Refused.{IsTooLarge}
 use Rattle.walrus_parts.specs.declared.error.Error.{Error}
 use Rattle.walrus_parts.specs.declared.error.Error.TheVariants.{Memory, InvalidWasm, TooLarge}
+pub use Rattle.walrus_rules.specs.Headline.{ComesTo, ComesOutTooLarge}
+use Rattle.walrus_rules.specs.SoFar.{AcceptsSoFar}
 use Rattle.walrus.specs.declared.tool.ToolError.{ToolError}
 use Rattle.walrus.specs.declared.tool.ToolError.TheVariants as tool
-
--- the bytes read as a module that keeps the rules; the output reads as what has to come out for it, which keeps the
--- rules too, with each section in its place and its one spelling
-pub record ComesTo (c : Config) (bytes output : List ℕ) : Type 0 where
-  pub module_read : Abstract
-  pub reads : Reads c bytes module_read
-  pub holds : Holds module_read
-  pub module_written : Abstract
-  pub output_reads : Reads c output module_written
-  pub output_holds : Holds module_written
-  pub out : Out c module_read module_written
-  pub placed : Placed output
-
--- the bytes are accepted, but what has to come out has a count or a size past 32 bits
-pub record ComesOutTooLarge (c : Config) (bytes : List ℕ) : Type 0 where
-  pub module_read : Abstract
-  pub reads : Reads c bytes module_read
-  pub holds : Holds module_read
-  pub module_out : Abstract
-  pub out : Out c module_read module_out
-  pub too_large : IsTooLarge module_out
 
 -- ---- the devices; where their bytes aren't known, this says nothing of them
 
@@ -65,7 +41,7 @@ RefusesAll Cause old new = (bytes : List ℕ) × ReadsWhole old new bytes × Cau
 -- why a module is refused: memory ran out, or all was read and isn't accepted, or what comes out is too large
 abbrev pub RefusesRead : Config → Option (List ℕ) → Option (List ℕ) → Error → Type 0
 RefusesRead c old new (Memory e) = ⊤
-RefusesRead c old new (InvalidWasm kind) = RefusesAll (λ bytes. Accepts c bytes → ⊥) old new
+RefusesRead c old new (InvalidWasm kind) = RefusesAll (λ bytes. AcceptsSoFar c bytes → ⊥) old new
 RefusesRead c old new TooLarge = RefusesAll (ComesOutTooLarge c) old new
 RefusesRead c old new _ = ⊥
 
@@ -80,6 +56,6 @@ Runs c from_old from_new to_old to_new (Err (tool.Module e)) = Keeps to_old to_n
 abbrev pub Answers : {X : Type 0} → Config → List ℕ → (X → List ℕ) → Result X Error → Type 0
 Answers c bytes view (Ok x) = ComesTo c bytes (view x)
 Answers c bytes view (Err (Memory e)) = ⊤
-Answers c bytes view (Err (InvalidWasm kind)) = Accepts c bytes → ⊥
+Answers c bytes view (Err (InvalidWasm kind)) = AcceptsSoFar c bytes → ⊥
 Answers c bytes view (Err TooLarge) = ComesOutTooLarge c bytes
 Answers c bytes view (Err _) = ⊥

@@ -14,6 +14,7 @@ use Rattle.walrus_items.specs.Functions.{FunctionValue, functions}
 use Rattle.walrus_items.specs.declared.exports.ExportItem.{ExportItem}
 use Rattle.walrus_items.specs.declared.exports.ExportItem.TheVariants as item
 use Rattle.walrus_items.specs.declared.exports.ModuleExports.{ModuleExports}
+use Rattle.walrus_producers.specs.declared.producers.ModuleProducers.{ModuleProducers}
 use Rattle.walrus_items.specs.declared.functions.FunctionKind.{FunctionKind}
 use Rattle.walrus_items.specs.declared.functions.FunctionKind.TheVariants as kind
 use Rattle.walrus_items.specs.declared.functions.ModuleFunctions.{ModuleFunctions}
@@ -152,9 +153,9 @@ each_from test p (Some y ∷ rest) h (suc i) x e = each_from test (p + 1) rest (
 
 -- ---- the module
 
-module _ (types : ModuleTypes) (all : ModuleLocals) (funcs : ModuleFunctions) (es : ModuleExports) where
+module _ (types : ModuleTypes) (all : ModuleLocals) (funcs : ModuleFunctions) (es : ModuleExports) (made : ModuleProducers) where
   abbrev V : Abstract
-  V = view_of types all funcs es
+  V = view_of types all funcs es made
 
   abbrev E : List ExportValue
   E = items (exports es)

@@ -10,6 +10,7 @@ use Rattle.walrus_code.specs.Code.{item_of}
 use Rattle.walrus_code.specs.declared.items.ItemId.{ItemId}
 use Rattle.walrus_items.specs.Exports.{ExportValue, exported, exports}
 use Rattle.walrus_items.specs.declared.exports.ModuleExports.{ModuleExports}
+use Rattle.walrus_producers.specs.declared.producers.ModuleProducers.{ModuleProducers}
 use Rattle.walrus_items.specs.declared.functions.ModuleFunctions.{ModuleFunctions}
 use Rattle.walrus_model.specs.Abstract as abstract
 use Rattle.walrus_model.specs.Abstract.{Abstract}
@@ -103,9 +104,9 @@ pub was_there : {A B : Type 0} (f : A → B) (o : Option A) → IsSome (option_m
 was_there f (Some x) h = refl
 was_there f None h = h
 
-module _ (types : ModuleTypes) (all : ModuleLocals) (funcs : ModuleFunctions) (es : ModuleExports) where
+module _ (types : ModuleTypes) (all : ModuleLocals) (funcs : ModuleFunctions) (es : ModuleExports) (made : ModuleProducers) where
   abbrev V : Abstract
-  V = view_of types all funcs es
+  V = view_of types all funcs es made
 
   pub exports_dead : OneIsDead V (export_names es) → HasDead V
   exports_dead dead =

@@ -17,6 +17,7 @@ use Rattle.walrus_code.specs.declared.function.LocalFunction.{LocalFunction}
 use Rattle.walrus_code.specs.declared.items.ItemId.{ItemId}
 use Rattle.walrus_items.specs.Functions.{FunctionValue, functions}
 use Rattle.walrus_items.specs.declared.exports.ModuleExports.{ModuleExports}
+use Rattle.walrus_producers.specs.declared.producers.ModuleProducers.{ModuleProducers}
 use Rattle.walrus_items.specs.declared.functions.FunctionKind.{FunctionKind}
 use Rattle.walrus_items.specs.declared.functions.FunctionKind.TheVariants.{Import, Local, Uninitialized}
 use Rattle.walrus_items.specs.declared.functions.ModuleFunctions.{ModuleFunctions}
@@ -126,9 +127,9 @@ body_named all f r old now new used same first h = result_map
     (λ missing. missing)
     r (subst (λ (ps : List ℕ). MatchResult r (λ _. AreThere all ps × Puts now new (flat_map (local_type_names all) ps)) (IsRefusal (OneIsMissing all ps))) same h)
 
-module _ (types : ModuleTypes) (all : ModuleLocals) (funcs : ModuleFunctions) (es : ModuleExports) where
+module _ (types : ModuleTypes) (all : ModuleLocals) (funcs : ModuleFunctions) (es : ModuleExports) (made : ModuleProducers) where
   abbrev v : abstract.Abstract
-  v = view_of types all funcs es
+  v = view_of types all funcs es made
 
   ready_kind : (k : FunctionKind) → IsReady all k → kind_of all k ≡ abstract.Uninitialised → ⊥
   ready_kind (Import i) h e = absurd (cc)

@@ -9,7 +9,7 @@ use Rattle.walrus_base.specs.Arena.{entries_from, items}
 use Rattle.walrus_types.specs.Operators.{Functions}
 use Rattle.walrus_items.specs.Exports.{ExportValue}
 use Rattle.walrus_model.specs.Sections.{space_of}
-use Rattle.walrus_module.specs.View.{export_of}
+use Rattle.walrus_contents.specs.View.{export_of}
 use Rattle.walrus_model.specs.Supported.{IsOfFunction}
 
 -- ---- lists that are taken whole

@@ -1,5 +1,5 @@
 -- The parts of a module in memory as an abstract module: the number of an item is the place of its id. What isn't read or written so
--- far is absent: imports, tables, memories, tags, globals, segments, a start function, custom sections, names, producers.
+-- far is absent: imports, tables, memories, tags, globals, segments, a start function, custom sections, names.
 use Rattle.std.specs.Prelude.{ℕ, Bool, false, ◌&&◌, not, List, [], map, filter, length, Option, Some, None, option_map, ◌≡◌}
 use Rattle.std.specs.List.{range_with_len}
 use Rattle.walrus_base.specs.Arena.{item_at, items}
@@ -20,6 +20,8 @@ use Rattle.walrus_items.specs.declared.functions.FunctionKind.TheVariants as kin
 use Rattle.walrus_items.specs.declared.functions.FunctionKind.{FunctionKind}
 use Rattle.walrus_items.specs.declared.functions.ModuleFunctions.{ModuleFunctions}
 use Rattle.walrus_model.specs.Abstract as abstract
+use Rattle.walrus_producers.specs.Seen.{producers}
+use Rattle.walrus_producers.specs.declared.producers.ModuleProducers.{ModuleProducers}
 use Rattle.walrus_contents.specs.declared.parts.Contents.{Contents}
 use Rattle.walrus_contents.specs.declared.parts.Parts.{Parts}
 
@@ -67,9 +69,9 @@ export_of e = record { name = e.name; item = exported e.item }
 abbrev pub exports_of : ModuleExports → List abstract.Export
 exports_of all = map export_of (items (exports all))
 
--- a module of these types, locals, functions and exports
-abbrev pub view_of : ModuleTypes → ModuleLocals → ModuleFunctions → ModuleExports → abstract.Abstract
-view_of types all funcs es = record {
+-- a module of these types, locals, functions, exports and producers
+abbrev pub view_of : ModuleTypes → ModuleLocals → ModuleFunctions → ModuleExports → ModuleProducers → abstract.Abstract
+view_of types all funcs es made = record {
   types = types_of types;
   imports = λ i. None;
   functions = functions_of all funcs;
@@ -82,7 +84,7 @@ view_of types all funcs es = record {
   exports = exports_of es;
   start = None;
   customs = [];
-  producers = [];
+  producers = producers made;
   named = λ x. [];
   table_segments = λ t e. false;
   memory_segments = λ y d. false;
@@ -92,11 +94,11 @@ view_of types all funcs es = record {
 
 -- the module of these parts
 abbrev pub parts_view : Parts → abstract.Abstract
-parts_view p = view_of p.types.now p.locals.now p.funcs.now p.exports.now
+parts_view p = view_of p.types.now p.locals.now p.funcs.now p.exports.now p.producers.now
 
 -- the same of contents
 abbrev pub contents_view : Contents → abstract.Abstract
-contents_view c = view_of c.types c.locals c.funcs c.exports
+contents_view c = view_of c.types c.locals c.funcs c.exports c.producers
 
 -- they hold nothing, dropped items included
 pub record HoldsNothing (c : Contents) : Type 0 where
@@ -104,3 +106,4 @@ pub record HoldsNothing (c : Contents) : Type 0 where
   pub locals : locals c.locals ≡ []
   pub functions : functions c.funcs ≡ []
   pub exports : exports c.exports ≡ []
+  pub producers : producers c.producers ≡ []

@@ -4,9 +4,9 @@ ghost use Rattle.walrus_code.specs.Code.{item_of};
 ghost use Rattle.walrus_model.specs.Live.{IsLive};
 ghost use Rattle.walrus_contents.specs.View.{HoldsNothing, contents_view, parts_view};
 
-use std::alloc::{AllocError, Global};
-use std::result;
-use walrus_items::{ItemId, ModuleExports, ModuleFunctions, ModuleLocals, ModuleTypes};
+use std::alloc::Global;
+use walrus_items::{ItemId, ModuleExports, ModuleFunctions, ModuleLocals, ModuleTypes, Result};
+use walrus_producers::ModuleProducers;
 
 /// The collections in which a module keeps its items, and what these are made of.
 #[derive(Clone, Copy)]
@@ -19,6 +19,8 @@ pub struct Parts<'a> {
     pub funcs: &'a ModuleFunctions,
     /// The exports.
     pub exports: &'a ModuleExports,
+    /// The producers.
+    pub producers: &'a ModuleProducers,
 }
 
 /// The same, owned: what a module that was read holds.
@@ -32,11 +34,13 @@ pub struct Contents {
     pub funcs: ModuleFunctions,
     /// The exports.
     pub exports: ModuleExports,
+    /// The producers.
+    pub producers: ModuleProducers,
 }
 
 impl Contents {
     /// Nothing yet. Want of memory is the only refusal.
-    pub fn new(alloc: Global) -> result::Result<Contents, AllocError>
+    pub fn new(alloc: Global) -> Result<Contents>
         ensures empty { IfOk result HoldsNothing }
     {
         Ok(Contents {
@@ -44,6 +48,7 @@ impl Contents {
             locals: ModuleLocals::new(alloc),
             funcs: ModuleFunctions::new(alloc)?,
             exports: ModuleExports::new(alloc),
+            producers: ModuleProducers::new(alloc),
         })
     }
 
@@ -56,6 +61,7 @@ impl Contents {
             locals: &self.locals,
             funcs: &self.funcs,
             exports: &self.exports,
+            producers: &self.producers,
         }
     }
 }

@@ -34,6 +34,7 @@ impl Module {
             locals: &self.locals,
             funcs: &self.funcs,
             exports: &self.exports,
+            producers: &self.producers,
         }
     }
 }

@@ -12,6 +12,7 @@ pub use config::ModuleConfig;
 pub use customs::{ModuleCustomSections, SectionIter};
 pub use entry::SectionEntry;
 pub use module::Module;
+pub use walrus_producers::{ModuleProducers, ProducerField, ProducerValue};
 pub use walrus_items::{
     AbstractHeapType, ArenaIter, Arg, Args, ArrayType, BlockType, CodeTransform, CompositeType,
     ConstExpr, ConstOp, CustomSection, DataId, DataKey, ElementId, ElementKey, Error, ErrorKind,

@@ -10,6 +10,7 @@ use std::alloc::Global;
 use walrus_ir::{ModuleLocals, ModuleTypes};
 use walrus_items::{ModuleExports, ModuleFunctions};
 use walrus_parts::Result;
+use walrus_producers::ModuleProducers;
 
 /// A WebAssembly module ("Structure > Modules"). Its items are named by ids, which stay when other items come and go.
 #[derive(Drop)]
@@ -22,6 +23,8 @@ pub struct Module {
     pub locals: ModuleLocals,
     /// The exports.
     pub exports: ModuleExports,
+    /// The producers. They are kept and not written so far.
+    pub producers: ModuleProducers,
     /// The custom sections.
     pub customs: ModuleCustomSections,
     pub(crate) config: ModuleConfig,
@@ -46,6 +49,7 @@ impl Module {
             funcs: ModuleFunctions::new(alloc)?,
             locals: ModuleLocals::new(alloc),
             exports: ModuleExports::new(alloc),
+            producers: ModuleProducers::new(alloc),
             customs,
             config,
         })

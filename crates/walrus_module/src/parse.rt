@@ -31,6 +31,7 @@ impl ModuleConfig {
             funcs: contents.funcs,
             locals: contents.locals,
             exports: contents.exports,
+            producers: contents.producers,
             customs: ModuleCustomSections::<SectionEntry>::new(alloc),
             config: self.clone()?,
         })

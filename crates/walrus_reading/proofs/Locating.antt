@@ -1,6 +1,6 @@
 -- The locations of operators that were read.
 use Rattle.std.proofs.Common.{◌≡◌, ℕ, ◌+◌, ◌<◌, ◌≤◌, List, [], ◌∷◌, ◌++◌, length, map, take, get_or, refl, sym, ap, subst, ◌∙◌, arith}
-use Rattle.std.specs.Prelude.{Option, Result, Ok, Err, OnOk, IfOk}
+use Rattle.std.specs.Prelude.{Option, Result, Ok, Err, IfOk}
 use Rattle.std.specs.List.{AllZip}
 use Rattle.std.proofs.lemmas.List.{take_more, take_all, length-map, get_or-map}
 use Rattle.walrus_code.specs.declared.location.InstrLocId.{InstrLocId}
@@ -44,7 +44,3 @@ module _ (fs : List ℕ) (raw : List RawBody) (many : length raw ≡ length fs) 
   pub all_located : (i : ℕ) (after : List (Option FunctionValue)) → length fs ≤ i → AllZip IsLocated (take i (map wire.body_record raw)) after → AllZip IsLocated (map wire.body_record raw) after
   all_located i after le done =
       subst (λ (l : List wire.Body). AllZip IsLocated l after) (take_all i (map wire.body_record raw) (omega (arith, le, many, length-map raw wire.body_record))) done
-
-pub if_done : {A E : Type 0} {P : Type 0} (result : Result A E) → P → OnOk result P
-if_done (Ok x) p = p
-if_done (Err e) p = tt

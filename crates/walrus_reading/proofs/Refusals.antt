@@ -10,12 +10,8 @@ use Rattle.wasm_frames.specs.Record as wire
 use Rattle.wasm_wire.specs.Rules as wire_rules
 use Rattle.wasm_wire.specs.Rules.{Checks}
 use Rattle.wasm_frames.proofs.Modules.{one_record_lem}
-use Rattle.walrus_types.specs.declared.module_types.ModuleTypes.{ModuleTypes}
-use Rattle.walrus_items.specs.declared.exports.ModuleExports.{ModuleExports}
-use Rattle.walrus_items.specs.declared.functions.ModuleFunctions.{ModuleFunctions}
-use Rattle.walrus_model.specs.Config.{Config}
-use Rattle.walrus_model.specs.Reads.{ReadsBody}
-use Rattle.walrus_types.specs.declared.locals.ModuleLocals.{ModuleLocals}
+use Rattle.walrus_bodies.specs.declared.features.Features.{Features}
+use Rattle.walrus_model.specs.Reads.{ReadsBodyWith}
 use Rattle.walrus_reading.specs.Parsed.{RefusesModule}
 use Rattle.walrus_model.specs.Supported.{IsSupported}
 use Rattle.walrus_reading.specs.Taken.{TakesSections}
@@ -24,24 +20,24 @@ use Rattle.walrus_parts.specs.Errors.{error_of_wire}
 use Rattle.walrus_parts.specs.declared.error.Error.{Error}
 use Rattle.walrus_parts.specs.declared.error.Error.TheVariants as Parts
 
-pub frames_refused : {T : Type 0} (c : Config) (bytes : List ℕ) (e : WireError) → ((m : wire.Module) → Frames bytes m → Refuses e (Some m)) → (◌≡◌ {A = Result T WireError} (Err e) (Err Wire.TooLarge) → ⊥) → RefusesModule c bytes (error_of_wire e)
+pub frames_refused : {T : Type 0} (c : Features) (bytes : List ℕ) (e : WireError) → ((m : wire.Module) → Frames bytes m → Refuses e (Some m)) → (◌≡◌ {A = Result T WireError} (Err e) (Err Wire.TooLarge) → ⊥) → RefusesModule c bytes (error_of_wire e)
 frames_refused c bytes Wire.Malformed only small = λ a. let n : ◌≡◌ {A = Option wire.Module} (Some a.sections) None = only a.sections a.framed in let no : ⊥ = cc in no
 frames_refused c bytes (Wire.Memory m) only small = tt
 frames_refused c bytes Wire.TooLarge only small = absurd (small refl)
 
-pub rules_refused : (c : Config) (bytes : List ℕ) (w : wire.Module) (e : WireError) → Frames bytes w → Checks (Err e) (wire_rules.Rules w) → RefusesModule c bytes (error_of_wire e)
+pub rules_refused : (c : Features) (bytes : List ℕ) (w : wire.Module) (e : WireError) → Frames bytes w → Checks (Err e) (wire_rules.Rules w) → RefusesModule c bytes (error_of_wire e)
 rules_refused c bytes w Wire.Malformed f h = λ a. h (subst wire_rules.Rules (one_record_lem bytes a.sections w a.framed f) (widen_rules a.sections a.supported a.rules))
 rules_refused c bytes w (Wire.Memory m) f h = tt
 rules_refused c bytes w Wire.TooLarge f h = absurd h
 
-pub supported_refused : (c : Config) (bytes : List ℕ) (w : wire.Module) (e : WireError) → Frames bytes w → Checks (Err e) (IsSupported w) → RefusesModule c bytes (error_of_wire e)
+pub supported_refused : (c : Features) (bytes : List ℕ) (w : wire.Module) (e : WireError) → Frames bytes w → Checks (Err e) (IsSupported w) → RefusesModule c bytes (error_of_wire e)
 supported_refused c bytes w Wire.Malformed f h = λ a. h (subst IsSupported (one_record_lem bytes a.sections w a.framed f) a.supported)
 supported_refused c bytes w (Wire.Memory m) f h = tt
 supported_refused c bytes w Wire.TooLarge f h = absurd h
 
-pub bodies_refused : (c : Config) (bytes : List ℕ) (r : wire.Module) (ts : ModuleTypes) (all : ModuleLocals) (fs : ModuleFunctions) (es : ModuleExports) (e : Error) → Frames bytes r → TakesSections c r ts all fs es (Err e) → RefusesModule c bytes e
-bodies_refused c bytes r ts all fs es (Parts.Memory m) f h = tt
-bodies_refused c bytes r ts all fs es (Parts.InvalidWasm kind) f h = λ a.
+pub bodies_refused : (c : Features) (bytes : List ℕ) (r : wire.Module) (e : Error) → Frames bytes r → TakesSections c r (Err e) → RefusesModule c bytes e
+bodies_refused c bytes r (Parts.Memory m) f h = tt
+bodies_refused c bytes r (Parts.InvalidWasm kind) f h = λ a.
     let same : a.sections ≡ r = one_record_lem bytes a.sections r a.framed f in
-    h a.bodies (subst (λ (x : wire.Module). AllZip (ReadsBody c x) (zip x.functions x.bodies) a.bodies) same a.read)
-bodies_refused c bytes r ts all fs es _ f h = absurd h
+    h a.bodies (subst (λ (x : wire.Module). AllZip (ReadsBodyWith c x) (zip x.functions x.bodies) a.bodies) same a.read)
+bodies_refused c bytes r _ f h = absurd h

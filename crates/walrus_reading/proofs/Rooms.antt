@@ -4,7 +4,6 @@ use Rattle.std.proofs.Common.{◌≡◌, ℕ, zero, suc, ◌+◌, ◌<◌, ◌^�
 use Rattle.std.specs.Prelude.{Contains, AllPairs}
 use Rattle.std.proofs.lemmas.List.{append-nil, append_assoc, get_or-append-add}
 use Rattle.std.proofs.lemmas.List.Elements.{Contains-append_left, Contains-push}
-use Rattle.wasm_entries.specs.Record.{Group}
 use Rattle.wasm_frames.specs.Record.{Module, no_sections}
 use Rattle.wasm_frames.specs.Order.{StandsBefore}
 use Rattle.wasm_frames.specs.Frames.{Section, CustomSection, Types, Imports, Functions, Tables, Memories, Globals, Exports, Start, Elements, Code, DataSegments, DataCount, Tags, IsSection, AreSections, with_section, gathered_onto, Frames}
@@ -104,39 +103,7 @@ module _ {X : Type 0} (list : Module → List X) (id : ℕ) (entries : Section �
       let n = step m s ss lt e h (few place f.0 s f.1.1.1) in
       room (place + length f.0) f.1.0 (with_section m s) ss f.1.1.2 n.0 n.1 h
 
--- ---- types and functions
-
-abbrev pub types_in : Section → List Group
-types_in (CustomSection c) = []
-types_in (Types gs) = gs
-types_in (Imports is) = []
-types_in (Functions fs) = []
-types_in (Tables ts) = []
-types_in (Memories ms) = []
-types_in (Globals gs) = []
-types_in (Exports es) = []
-types_in (Start f) = []
-types_in (Elements es) = []
-types_in (Code bs) = []
-types_in (DataSegments ds) = []
-types_in (DataCount n) = []
-types_in (Tags ts) = []
-
-pub types_added : (m : Module) (s : Section) → (with_section m s).types ≡ m.types ++ types_in s
-types_added m (CustomSection c) = sym (append-nil m.types)
-types_added m (Types gs) = refl
-types_added m (Imports is) = sym (append-nil m.types)
-types_added m (Functions fs) = sym (append-nil m.types)
-types_added m (Tables ts) = sym (append-nil m.types)
-types_added m (Memories ms) = sym (append-nil m.types)
-types_added m (Globals gs) = sym (append-nil m.types)
-types_added m (Exports es) = sym (append-nil m.types)
-types_added m (Start f) = sym (append-nil m.types)
-types_added m (Elements es) = sym (append-nil m.types)
-types_added m (Code bs) = sym (append-nil m.types)
-types_added m (DataSegments ds) = sym (append-nil m.types)
-types_added m (DataCount n) = sym (append-nil m.types)
-types_added m (Tags ts) = sym (append-nil m.types)
+-- ---- functions
 
 abbrev functions_in : Section → List ℕ
 functions_in (CustomSection c) = []

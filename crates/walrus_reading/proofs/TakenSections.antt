@@ -1,7 +1,7 @@
 -- The fields of a module that took in all sections.
 use Rattle.wasm_entries.specs.Record as entries
 use Rattle.std.proofs.Common.{◌≡◌, ℕ, ◌<◌, true, List, length, map, get_or, sym, ap, subst, ◌∙◌}
-use Rattle.std.specs.Prelude.{Some, Result, Ok, Err, All, OnOk, IsOkUnless, zip}
+use Rattle.std.specs.Prelude.{Some, Result, Ok, Err, All, zip}
 use Rattle.walrus_base.specs.Arena.{item_at}
 use Rattle.walrus_types.specs.ModuleTypes.{type_slots}
 use Rattle.walrus_types.specs.Operators.{Types, Functions}
@@ -16,17 +16,16 @@ use Rattle.walrus_functions.specs.EmittedBody.{types_of as local_types}
 use Rattle.walrus_types.specs.Locals.{locals}
 use Rattle.walrus_items.specs.Functions.{functions}
 use Rattle.walrus_items.specs.declared.exports.ModuleExports.{ModuleExports}
+use Rattle.walrus_contents.specs.declared.parts.Contents.{Contents}
 use Rattle.walrus_items.specs.declared.functions.ModuleFunctions.{ModuleFunctions}
 use Rattle.walrus_groups.specs.Groups.{types_from}
-use Rattle.walrus_model.specs.Config.{Config}
-use Rattle.walrus_model.specs.Reads.{declared, is_function, features_of, context_of}
+use Rattle.walrus_model.specs.Reads.{declared, is_function, context_with}
 use Rattle.walrus_model.specs.Sections.{types_of, export_of}
 use Rattle.wasm_entries.specs.Record.{export_entry}
-use Rattle.walrus_reading.specs.Taken.{TakesFunctions, TakesSections}
-use Rattle.walrus_module.specs.View.{exports_of}
+use Rattle.walrus_reading.specs.Taken.{HasTaken, TakesFunctions, TakesSections}
+use Rattle.walrus_contents.specs.View.{exports_of}
 use Rattle.walrus_contents.proofs.Steps.{own_index, same_types, same_functions, function_declared}
 use Rattle.walrus_reading.proofs.TakenBody.{saids_of}
-use Rattle.walrus_parts.specs.Errors.{out_of_memory}
 use Rattle.walrus_parts.specs.declared.error.Error.{Error}
 use Rattle.walrus_parts.specs.declared.error.Error.TheVariants as Parts
 use Rattle.wasm_entries.specs.declared.record.RawExport.{RawExport}
@@ -34,7 +33,7 @@ use Rattle.wasm_frames.specs.Record as wire
 use Rattle.walrus_model.proofs.Supported.{supported, all_supported}
 use Rattle.walrus_model.specs.Supported.{IsSupported}
 
-module _ (c : Config) (r : wire.Module) (indices : IndicesToIds) (ts : ModuleTypes) (names : ids_at indices ≡ declared (supported r)) (typed : type_slots ts ≡ map Some (types_from 0 r.types)) where
+module _ (c : Features) (r : wire.Module) (indices : IndicesToIds) (ts : ModuleTypes) (names : ids_at indices ≡ declared (supported r)) (typed : type_slots ts ≡ map Some (types_from 0 r.types)) where
   -- what functions and exports name is declared
   pub types_named : (fs : List ℕ) → fs ≡ r.functions → All (λ t. is_function r t ≡ true) r.functions → All (λ t. ids_at indices Types t ≡ Some t) fs
   types_named fs same h = λ k d lt.
@@ -51,47 +50,38 @@ module _ (c : Config) (r : wire.Module) (indices : IndicesToIds) (ts : ModuleTyp
       ap (λ n. n Functions (get_or (map export_entry x) k d).index) names ∙ own_index (length r.functions) (get_or (map export_entry x) k d).index small
 
   -- the look-ups in memory are those of the sections
-  same_context : (features : Features) → features ≡ features_of c → context (ids_at indices) (is_function_at ts) features ≡ context_of c (supported r)
-  same_context features same =
-      ap (λ n. context n (is_function_at ts) features) names ∙ ap (λ p. context (declared (supported r)) p features) (same_functions r ts typed) ∙ ap (context (declared (supported r)) (is_function r)) same
+  same_context : context (ids_at indices) (is_function_at ts) c ≡ context_with c (supported r)
+  same_context = ap (λ n. context n (is_function_at ts) c) names ∙ ap (λ p. context (declared (supported r)) p c) (same_functions r ts typed)
 
-  under_sections : (features : Features) → features ≡ features_of c → (fs : List ℕ) (bs : List wire.Body) → fs ≡ r.functions → bs ≡ r.bodies → (all : ModuleLocals) (funcs : ModuleFunctions) (result : Result (Unit {0}) Error)
-      → TakesFunctions (context (ids_at indices) (is_function_at ts) features) (item_at (type_slots ts)) (zip fs bs) all funcs result → TakesFunctions (context_of c (supported r)) (types_of r) (zip r.functions r.bodies) all funcs result
-  under_sections features same fs bs same_fs same_bs all funcs result h =
-      subst (λ (x : Context). TakesFunctions x (types_of r) (zip r.functions r.bodies) all funcs result) (same_context features same)
-      (subst (λ types. TakesFunctions (context (ids_at indices) (is_function_at ts) features) types (zip r.functions r.bodies) all funcs result) (same_types r ts typed)
-      (subst (λ (l : List wire.Body). TakesFunctions (context (ids_at indices) (is_function_at ts) features) (item_at (type_slots ts)) (zip r.functions l) all funcs result) same_bs
-      (subst (λ (l : List ℕ). TakesFunctions (context (ids_at indices) (is_function_at ts) features) (item_at (type_slots ts)) (zip l bs) all funcs result) same_fs h)))
+  module _ (fs : List ℕ) (bs : List wire.Body) (same_fs : fs ≡ r.functions) (same_bs : bs ≡ r.bodies) (all : ModuleLocals) (funcs : ModuleFunctions) where
+    under_sections : (result : Result (Unit {0}) Error) → TakesFunctions (context (ids_at indices) (is_function_at ts) c) (item_at (type_slots ts)) (zip fs bs) all funcs result
+        → TakesFunctions (context_with c (supported r)) (types_of r) (zip r.functions r.bodies) all funcs result
+    under_sections result h =
+        subst (λ (x : Context). TakesFunctions x (types_of r) (zip r.functions r.bodies) all funcs result) same_context
+        (subst (λ types. TakesFunctions (context (ids_at indices) (is_function_at ts) c) types (zip r.functions r.bodies) all funcs result) (same_types r ts typed)
+        (subst (λ (l : List wire.Body). TakesFunctions (context (ids_at indices) (is_function_at ts) c) (item_at (type_slots ts)) (zip r.functions l) all funcs result) same_bs
+        (subst (λ (l : List ℕ). TakesFunctions (context (ids_at indices) (is_function_at ts) c) (item_at (type_slots ts)) (zip l bs) all funcs result) same_fs h)))
 
-  refused : (all : ModuleLocals) (funcs : ModuleFunctions) (es : ModuleExports) (e : Error) → TakesFunctions (context_of c (supported r)) (types_of r) (zip r.functions r.bodies) all funcs (Err e) → TakesSections c (supported r) ts all funcs es (Err e)
-  refused all funcs es (Parts.Memory m) h = tt
-  refused all funcs es (Parts.InvalidWasm kind) h = h
-  refused all funcs es _ h = absurd h
+    refused : (e : Error) → TakesFunctions (context_with c (supported r)) (types_of r) (zip r.functions r.bodies) all funcs (Err e) → TakesSections c (supported r) (Err e)
+    refused (Parts.Memory m) h = tt
+    refused (Parts.InvalidWasm kind) h = h
+    refused _ h = absurd h
 
-  -- the same of the sections, where they hold nothing else
-  of_sections : IsSupported r → (all : ModuleLocals) (funcs : ModuleFunctions) (es : ModuleExports) (result : Result (Unit {0}) Error) → TakesSections c (supported r) ts all funcs es result → TakesSections c r ts all funcs es result
-  of_sections only all funcs es result h = subst (λ s. TakesSections c s ts all funcs es result) (sym (all_supported r only)) h
+    -- where they hold nothing else
+    module _ (only : IsSupported r) where
+      pub sections_refused : (e : Error) → TakesFunctions (context (ids_at indices) (is_function_at ts) c) (item_at (type_slots ts)) (zip fs bs) all funcs (Err e) → TakesSections c r (Err e)
+      sections_refused e h = subst (λ s. TakesSections c s (Err e)) (sym (all_supported r only)) (refused e (under_sections (Err e) h))
 
-  pub sections_refused : IsSupported r → (features : Features) → features ≡ features_of c → (fs : List ℕ) (bs : List wire.Body) → fs ≡ r.functions → bs ≡ r.bodies → (all : ModuleLocals) (funcs : ModuleFunctions) (es : ModuleExports) (e : Error)
-      → TakesFunctions (context (ids_at indices) (is_function_at ts) features) (item_at (type_slots ts)) (zip fs bs) all funcs (Err e) → TakesSections c r ts all funcs es (Err e)
-  sections_refused only features same fs bs same_fs same_bs all funcs es e h = of_sections only all funcs es (Err e) (refused all funcs es e (under_sections features same fs bs same_fs same_bs all funcs (Err e) h))
-
-  taken : (features : Features) → features ≡ features_of c → (fs : List ℕ) (bs : List wire.Body) → fs ≡ r.functions → bs ≡ r.bodies → length r.bodies ≡ length r.functions → (all : ModuleLocals) (funcs : ModuleFunctions) (es : ModuleExports) (u : Unit {0}) (x : List RawExport) (result : Result (Unit {0}) Error)
-      → TakesFunctions (context (ids_at indices) (is_function_at ts) features) (item_at (type_slots ts)) (zip fs bs) all funcs (Ok u)
-      → map export_entry x ≡ r.exports → OnOk result (exports_of es ≡ map export_of (map export_entry x)) → IsOkUnless result out_of_memory → TakesSections c (supported r) ts all funcs es result
-  taken features same fs bs same_fs same_bs many all funcs es u x (Ok w) h exported added fails =
-      let s = saids_of (context_of c (supported r)) (types_of r) (local_types (locals all)) r.functions r.bodies (functions funcs) many (under_sections features same fs bs same_fs same_bs all funcs (Ok u) h) in
-      record {
-        bodies = s.0;
-        read = s.1.0;
-        types = typed;
-        functions = s.1.1;
-        exports = added ∙ ap (map export_of) exported;
-      }
-  taken features same fs bs same_fs same_bs many all funcs es u x (Err e) h exported added fails = subst (λ y. TakesSections c (supported r) ts all funcs es (Err y)) (sym fails) tt
-
-  pub sections_taken : IsSupported r → (features : Features) → features ≡ features_of c → (fs : List ℕ) (bs : List wire.Body) → fs ≡ r.functions → bs ≡ r.bodies → length r.bodies ≡ length r.functions → (all : ModuleLocals) (funcs : ModuleFunctions) (es : ModuleExports) (u : Unit {0}) (x : List RawExport) (result : Result (Unit {0}) Error)
-      → TakesFunctions (context (ids_at indices) (is_function_at ts) features) (item_at (type_slots ts)) (zip fs bs) all funcs (Ok u)
-      → map export_entry x ≡ r.exports → OnOk result (exports_of es ≡ map export_of (map export_entry x)) → IsOkUnless result out_of_memory → TakesSections c r ts all funcs es result
-  sections_taken only features same fs bs same_fs same_bs many all funcs es u x result h exported added fails =
-      of_sections only all funcs es result (taken features same fs bs same_fs same_bs many all funcs es u x result h exported added fails)
+      pub sections_taken : length r.bodies ≡ length r.functions → (es : ModuleExports) (u : Unit {0}) (x : List RawExport)
+          → TakesFunctions (context (ids_at indices) (is_function_at ts) c) (item_at (type_slots ts)) (zip fs bs) all funcs (Ok u)
+          → map export_entry x ≡ r.exports → exports_of es ≡ map export_of (map export_entry x)
+          → HasTaken c r (record { types = ts; locals = all; funcs = funcs; exports = es })
+      sections_taken many es u x h exported added =
+          let s = saids_of (context_with c (supported r)) (types_of r) (local_types (locals all)) r.functions r.bodies (functions funcs) many (under_sections (Ok u) h) in
+          subst (λ s. HasTaken c s (record { types = ts; locals = all; funcs = funcs; exports = es })) (sym (all_supported r only)) (record {
+            bodies = s.0;
+            read = s.1.0;
+            types = typed;
+            functions = s.1.1;
+            exports = added ∙ ap (map export_of) exported;
+          })

@@ -1,24 +1,21 @@
 -- What parsing gives, and when it refuses.
 use Rattle.wasm_frames.specs.Record as wire
-use Rattle.std.specs.Prelude.{ℕ, List, false, zip, ◌≡◌, Result, Ok, Err, ⊤}
+use Rattle.std.specs.Prelude.{ℕ, List, false, zip, ◌≡◌, ⊤}
 use Rattle.walrus_model.specs.Abstract.{Abstract}
 use Rattle.walrus_model.specs.Config.{Config}
 use Rattle.walrus_model.specs.Declared.{NothingUndeclared}
 use Rattle.walrus_rules.specs.Chain.{ParsedAs}
 use Rattle.walrus_rules.specs.Features.{features_of}
 use Rattle.walrus_rules.specs.SoFar.{ReadsSoFar, AcceptsSoFar}
-use Rattle.walrus_model.specs.Reads.{ReadsBody}
+use Rattle.walrus_model.specs.Reads.{ReadsBodyWith}
 use Rattle.walrus_bodies.specs.declared.features.Features.{Features}
 use Rattle.walrus_model.specs.Sections.{Said, module_of}
 use Rattle.walrus_model.specs.Rules.{Holds}
 use Rattle.walrus_model.specs.Supported.{IsSupported}
 use Rattle.std.specs.List.{AllZip}
-use Rattle.walrus_types.specs.declared.locals.ModuleLocals.{ModuleLocals}
-use Rattle.walrus_types.specs.declared.module_types.ModuleTypes.{ModuleTypes}
-use Rattle.walrus_items.specs.declared.exports.ModuleExports.{ModuleExports}
 use Rattle.walrus_items.specs.declared.functions.ModuleFunctions.{ModuleFunctions}
-use Rattle.walrus_contents.specs.References.{HasUndeclared}
 use Rattle.walrus_items.specs.Functions.{functions}
+use Rattle.walrus_contents.specs.declared.parts.Contents.{Contents}
 use Rattle.walrus_reading.specs.Taken.{HasTaken, IsLocated}
 use Rattle.walrus_reading.specs.Sections.{Rules}
 use Rattle.wasm_frames.specs.Frames.{Frames}
@@ -50,33 +47,28 @@ pub record AreLocated (bytes : List ℕ) (funcs : ModuleFunctions) : Type 0 wher
   pub framed : Frames bytes sections
   pub located : AllZip IsLocated sections.bodies (functions funcs)
 
--- the bytes frame sections that keep the rules, and the fields hold them
-pub record TakenFrom (c : Config) (bytes : List ℕ) (ts : ModuleTypes) (all : ModuleLocals) (funcs : ModuleFunctions) (es : ModuleExports) : Type 0 where
+-- ---- for the functions inside
+
+-- the bytes frame sections that keep the rules, and the module holds them
+pub record TakenFrom (features : Features) (bytes : List ℕ) (m : Contents) : Type 0 where
   pub sections : wire.Module
   pub framed : Frames bytes sections
   pub supported : IsSupported sections
   pub rules : Rules sections
-  pub taken : HasTaken c sections ts all funcs es
+  pub taken : HasTaken features sections m
 
 -- the bytes frame sections that keep the rules, each body is read, and each function that ref.func names is exported
-pub record AreModule (c : Config) (bytes : List ℕ) : Type 0 where
+pub record AreModule (features : Features) (bytes : List ℕ) : Type 0 where
   pub sections : wire.Module
   pub framed : Frames bytes sections
   pub supported : IsSupported sections
   pub rules : Rules sections
   pub bodies : List Said
-  pub read : AllZip (ReadsBody c sections) (zip sections.functions sections.bodies) bodies
+  pub read : AllZip (ReadsBodyWith features sections) (zip sections.functions sections.bodies) bodies
   pub references : NothingUndeclared (module_of sections bodies)
 
 -- refused for want of memory, or since the bytes are no module
-abbrev pub RefusesModule : Config → List ℕ → Error → Type 0
-RefusesModule c bytes (Memory e) = ⊤
-RefusesModule c bytes (InvalidWasm kind) = AreModule c bytes → ⊥
-RefusesModule c bytes _ = ⊥
-
--- tested: nothing is undeclared, or refused as what isn't handled so far
-abbrev pub ChecksReferences : Abstract → Result Unit Error → Type 0
-ChecksReferences v (Ok u) = NothingUndeclared v
-ChecksReferences v (Err (Memory e)) = ⊤
-ChecksReferences v (Err (InvalidWasm kind)) = HasUndeclared v
-ChecksReferences v (Err _) = ⊥
+abbrev pub RefusesModule : Features → List ℕ → Error → Type 0
+RefusesModule features bytes (Memory e) = ⊤
+RefusesModule features bytes (InvalidWasm kind) = AreModule features bytes → ⊥
+RefusesModule features bytes _ = ⊥

@@ -8,7 +8,6 @@ use Rattle.walrus_types.specs.Locals.{locals}
 use Rattle.walrus_types.specs.ModuleTypes.{type_slots}
 use Rattle.walrus_types.specs.TypeDef.{TypeDef}
 use Rattle.walrus_types.specs.declared.locals.ModuleLocals.{ModuleLocals}
-use Rattle.walrus_types.specs.declared.module_types.ModuleTypes.{ModuleTypes}
 use Rattle.walrus_code.specs.Function.{function_type, body_of}
 use Rattle.walrus_code.specs.declared.function.LocalFunction.{LocalFunction}
 use Rattle.walrus_code.specs.Location.{location, location_at}
@@ -19,17 +18,19 @@ use Rattle.walrus_functions.specs.EmittedBody.{types_of as local_types}
 use Rattle.walrus_functions.specs.Handlers.{params_of}
 use Rattle.walrus_functions.specs.Laws.{moved_op}
 use Rattle.walrus_functions.specs.ReadFunction.{locals_from}
-use Rattle.walrus_bodies.specs.Body.{Context, BodyReads}
-use Rattle.walrus_items.specs.Exports.{exports}
+use Rattle.walrus_bodies.specs.Body.{Context, context, BodyReads}
+use Rattle.walrus_bodies.specs.FunctionTypes.{is_function_at}
+use Rattle.walrus_bodies.specs.declared.features.Features.{Features}
+use Rattle.walrus_code.specs.Indices.{ids_at}
 use Rattle.walrus_items.specs.Functions.{FunctionValue, functions}
-use Rattle.walrus_items.specs.declared.exports.ModuleExports.{ModuleExports}
 use Rattle.walrus_items.specs.declared.functions.FunctionKind.TheVariants.{Local}
 use Rattle.walrus_items.specs.declared.functions.ModuleFunctions.{ModuleFunctions}
-use Rattle.walrus_model.specs.Config.{Config}
 use Rattle.walrus_groups.specs.Groups.{types_from}
-use Rattle.walrus_model.specs.Reads.{ReadsBody}
+use Rattle.walrus_model.specs.Reads.{ReadsBodyWith}
 use Rattle.walrus_model.specs.Sections.{Said, types_of, export_of}
-use Rattle.walrus_module.specs.View.{exports_of}
+use Rattle.walrus_contents.specs.View.{exports_of}
+use Rattle.walrus_contents.specs.declared.parts.Contents.{Contents}
+use Rattle.walrus_reading.specs.declared.contents.Under.{Under}
 use Rattle.wasm_frames.specs.Record as wire
 use Rattle.walrus_parts.specs.declared.error.Error.{Error}
 use Rattle.walrus_parts.specs.declared.error.Error.TheVariants.{Memory, InvalidWasm}
@@ -64,33 +65,33 @@ pub record IsLocated (body : wire.Body) (slot : Option FunctionValue) : Type 0 w
   pub kind : value.kind ≡ Local local
   pub places : BodyLocated IsPlace body.start body.bytes (locations local.operators.items)
 
--- the fields hold nothing
-pub record AreEmpty (ts : ModuleTypes) (all : ModuleLocals) (funcs : ModuleFunctions) (es : ModuleExports) : Type 0 where
-  pub types : type_slots ts ≡ []
-  pub locals : locals all ≡ []
-  pub functions : functions funcs ≡ []
-  pub exports : exports es ≡ []
-
 -- the functions have room for their indices
 pub record FitsIndices (r : wire.Module) : Type 0 where
   pub functions : length r.functions < 2 ^ 32
 
--- the fields hold these sections, whose bodies say this
-pub record HasTaken (c : Config) (r : wire.Module) (ts : ModuleTypes) (all : ModuleLocals) (funcs : ModuleFunctions) (es : ModuleExports) : Type 0 where
+-- the module holds these sections, whose bodies say this
+pub record HasTaken (features : Features) (r : wire.Module) (m : Contents) : Type 0 where
   pub bodies : List Said
-  pub read : AllZip (ReadsBody c r) (zip r.functions r.bodies) bodies
-  pub types : type_slots ts ≡ map Some (types_from 0 r.types)
-  pub functions : AllZip (HoldsFunction (types_of r) (local_types (locals all))) (zip r.functions bodies) (functions funcs)
-  pub exports : exports_of es ≡ map export_of r.exports
+  pub read : AllZip (ReadsBodyWith features r) (zip r.functions r.bodies) bodies
+  pub types : type_slots m.types ≡ map Some (types_from 0 r.types)
+  pub functions : AllZip (HoldsFunction (types_of r) (local_types (locals m.locals))) (zip r.functions bodies) (functions m.funcs)
+  pub exports : exports_of m.exports ≡ map export_of r.exports
 
--- taken in: the fields hold the sections; refused: the bodies aren't read, or memory ran out
-abbrev pub TakesSections : Config → wire.Module → ModuleTypes → ModuleLocals → ModuleFunctions → ModuleExports → Result Unit Error → Type 0
-TakesSections c r types all funcs es (Ok u) = HasTaken c r types all funcs es
-TakesSections c r types all funcs es (Err (Memory e)) = Unit {0}
-TakesSections c r types all funcs es (Err (InvalidWasm kind)) = (bodies : List Said) → AllZip (ReadsBody c r) (zip r.functions r.bodies) bodies → ⊥
-TakesSections c r types all funcs es (Err _) = ⊥
+-- taken in: the module holds the sections; refused: the bodies aren't read, or memory ran out
+abbrev pub TakesSections : Features → wire.Module → Result Contents Error → Type 0
+TakesSections features r (Ok m) = HasTaken features r m
+TakesSections features r (Err (Memory e)) = Unit {0}
+TakesSections features r (Err (InvalidWasm kind)) = (bodies : List Said) → AllZip (ReadsBodyWith features r) (zip r.functions r.bodies) bodies → ⊥
+TakesSections features r (Err _) = ⊥
 
 -- ---- for the functions inside
+
+-- what a body may name, and the types by their places
+abbrev pub context_under : Under → Context
+context_under u = context (ids_at u.indices.now) (is_function_at u.types.now) u.features.now
+
+abbrev pub types_under : Under → ℕ → Option TypeDef
+types_under u = item_at (type_slots u.types.now)
 
 -- the bytes of the body of a function of this type say this, as far as the types are known by their places
 abbrev pub SaysUnder : Context → (ℕ → Option TypeDef) → ℕ × wire.Body → Said → Type 0

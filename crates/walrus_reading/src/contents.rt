@@ -1,7 +1,7 @@
-//! Reading a module from its bytes.
-ghost use Rattle.std.specs.Prelude.{true, ◌≡◌, ◌≢◌, ◌++◌, ◌∷◌, ◌<◌, ◌≤◌, ◌^◌, ℕ, [], length, map, zip, Some, All, IfOk, IfErr, OnOk, IsOkUnless};
+//! From the records of a module's sections to what a module in memory holds.
+ghost use Rattle.std.specs.Prelude.{true, ◌≡◌, ◌≢◌, ◌++◌, ◌∷◌, ◌<◌, ◌^◌, ℕ, [], length, map, zip, All, IfOk, OnOk, IsOkUnless, Some};
+ghost use Rattle.std.specs.Fn.{FnReturnsAt};
 ghost use Rattle.std.specs.List.{range_with_len, AllZip};
-ghost use Rattle.walrus_base.specs.Arena.{item_at};
 ghost use Rattle.walrus_base.specs.Id.{place};
 ghost use Rattle.walrus_types.specs.Locals.{locals};
 ghost use Rattle.walrus_types.specs.ModuleTypes.{type_slots};
@@ -9,8 +9,6 @@ ghost use Rattle.walrus_types.specs.Operators.{Space, Types, Functions};
 ghost use Rattle.walrus_types.specs.Value.{val_type};
 ghost use Rattle.walrus_code.specs.Indices.{places_in, ids_at};
 ghost use Rattle.walrus_code.specs.Location.{location, location_at};
-ghost use Rattle.walrus_bodies.specs.Body.{context};
-ghost use Rattle.std.specs.Fn.{FnReturnsAt};
 ghost use Rattle.walrus_bodies.specs.BodyRead.{ReadsBody, BodyLocated};
 ghost use Rattle.walrus_bodies.specs.Results.{locations};
 ghost use Rattle.walrus_bodies.specs.FunctionTypes.{is_function_at};
@@ -19,66 +17,70 @@ ghost use Rattle.walrus_functions.specs.ReadFunction.{StaysInFront};
 ghost use Rattle.walrus_items.specs.Exports.{exports};
 ghost use Rattle.walrus_items.specs.Functions.{functions};
 ghost use Rattle.walrus_groups.specs.Groups.{types_from, AreDeclared};
-ghost use Rattle.walrus_model.specs.Reads.{declared};
 ghost use Rattle.walrus_model.specs.Sections.{export_of};
-ghost use Rattle.walrus_module.specs.Flags.{flags, config_of};
-ghost use Rattle.walrus_contents.specs.View.{exports_of, parts_view};
-ghost use Rattle.walrus_reading.specs.Parsed.{ChecksReferences};
-ghost use Rattle.walrus_reading.specs.Taken.{AreEmpty, FitsIndices, IsPlace, IsLocated, AddsLocated, TakesFunction, TakesFunctions, TakesSections};
+ghost use Rattle.walrus_contents.specs.View.{exports_of};
+ghost use Rattle.walrus_reading.specs.Taken.{FitsIndices, IsPlace, IsLocated, AddsLocated, TakesFunction, TakesFunctions, TakesSections, context_under, types_under};
 ghost use Rattle.walrus_model.specs.Supported.{IsOfFunction, IsSupported};
 ghost use Rattle.walrus_reading.specs.Sections.{Rules};
 ghost use Rattle.walrus_parts.specs.Errors.{out_of_memory};
 ghost use Rattle.wasm_entries.specs.Record.{group, export_entry};
 ghost use Rattle.wasm_frames.specs.Record.{body_record, sections};
 
-use crate::config::ModuleConfig;
-use crate::module::Module;
-use crate::supported::check_supported;
 use std::alloc::{AllocError, Global};
 use std::result;
 use walrus_bodies::{ReadBody, read_body_over};
-use walrus_contents::{Parts, are_references_declared};
+use walrus_contents::Contents;
 use walrus_groups::read_types;
 use walrus_ir::{
     Features, Id, IndicesToIds, InstrLocId, IrError, LocalFunction, LocalId, ModuleLocals,
     ModuleTypes, ValType,
 };
 use walrus_items::{ExportItem, ModuleExports, ModuleFunctions};
-use walrus_parts::{Error, ErrorKind, Result};
-use wasm_wire::{Raw, RawBody, RawExport, RawGroup, check, read_module};
+use walrus_parts::{Error, Result};
+use wasm_wire::{Raw, RawBody, RawExport, RawGroup};
 
-// Takes in all sections that keep the rules.
-fn add_sections(
-    alloc: Global,
-    config: &ModuleConfig,
-    raw: &Raw<'_>,
-    types: &mut ModuleTypes,
-    all: &mut ModuleLocals,
-    funcs: &mut ModuleFunctions,
-    module_exports: &mut ModuleExports,
-) -> Result<()>
+/// What sections that keep the rules hold, where bodies may use these proposals.
+///
+/// # Errors
+///
+/// `InvalidWasm` exactly where a body isn't read, and `Memory`.
+pub(crate) fn read_contents(alloc: Global, raw: &Raw<'_>, features: &Features) -> Result<Contents>
     requires rules { Rules (sections raw.now) }
     requires supported { IsSupported (sections raw.now) }
     requires room { FitsIndices (sections raw.now) }
-    requires empty { AreEmpty types.old all.old funcs.old module_exports.old }
-    ensures taken { TakesSections (config_of (flags config.now)) (sections raw.now) types.new all.new funcs.new module_exports.new result }
-    ensures located { OnOk result (AllZip IsLocated (sections raw.now).bodies (functions funcs.new)) }
+    ensures taken { TakesSections features.now (sections raw.now) result }
+    ensures located { IfOk result (λ m. AllZip IsLocated (sections raw.now).bodies (functions m.funcs)) }
 {
-    let features = config.features();
+    let mut types = ModuleTypes::new(alloc);
+    let mut locals = ModuleLocals::new(alloc);
+    let mut funcs = ModuleFunctions::new(alloc)?;
+    let mut exports = ModuleExports::new(alloc);
     let mut indices = IndicesToIds::new(alloc);
-    add_types(alloc, &raw.types, &mut indices, types)?;
+    add_types(alloc, &raw.types, &mut indices, &mut types)?;
     number_functions(raw.functions.len(), &mut indices)?;
-    add_functions(
+    let under = Under {
         alloc,
-        &features,
-        &raw.functions,
-        &raw.bodies,
-        &indices,
+        features,
+        indices: &indices,
+        types: &types,
+    };
+    add_functions(under, &raw.functions, &raw.bodies, &mut locals, &mut funcs)?;
+    add_exports(&raw.exports, &indices, &mut exports)?;
+    Ok(Contents {
         types,
-        all,
+        locals,
         funcs,
-    )?;
-    add_exports(&raw.exports, &indices, module_exports)
+        exports,
+    })
+}
+
+// What bodies are read under: the proposals that they may use, what indices name, and the types.
+#[derive(Clone, Copy)]
+struct Under<'a> {
+    alloc: Global,
+    features: &'a Features,
+    indices: &'a IndicesToIds,
+    types: &'a ModuleTypes,
 }
 
 // The indices of so many functions.
@@ -135,84 +137,78 @@ fn add_params(alloc: Global, params: &[ValType], all: &mut ModuleLocals) -> Resu
 // Reads the body of a function of this type. The function gets the next id; its locals are its parameters, and behind them
 // those that the body declares.
 fn add_function(
-    alloc: Global,
-    features: &Features,
+    under: Under<'_>,
     index: u32,
     body: &RawBody<'_>,
-    indices: &IndicesToIds,
-    types: &ModuleTypes,
     all: &mut ModuleLocals,
     funcs: &mut ModuleFunctions,
 ) -> Result<()>
-    requires declared { ids_at indices.now Types index ≡ Some index }
-    requires typed { is_function_at types.now index ≡ true }
-    ensures taken { TakesFunction (context (ids_at indices.now) (is_function_at types.now) features.now) (item_at (type_slots types.now)) (index, body_record body.now) all.new (functions funcs.old) (functions funcs.new) result }
+    requires declared { ids_at under.indices.now Types index ≡ Some index }
+    requires typed { is_function_at under.types.now index ≡ true }
+    ensures taken { TakesFunction (context_under under.entry) (types_under under.entry) (index, body_record body.now)
+        all.new (functions funcs.old) (functions funcs.new) result }
     ensures stays { OnOk result (StaysInFront (local_types (locals all.old)) (local_types (locals all.new))) }
     ensures located { OnOk result (AddsLocated (body_record body.now) (functions funcs.old) (functions funcs.new)) }
 {
-    let Some(ty) = indices.get_type(index) else {
+    let Some(ty) = under.indices.get_type(index) else {
         unreachable!();
     };
-    let args = add_params(alloc, types.get(ty).params(), all)?;
+    let args = add_params(under.alloc, under.types.get(ty).params(), all)?;
     let locate = |place: &usize| -> InstrLocId
         ensures { location result ≡ location_at place.now }
     { InstrLocId::of_place(*place) };
-    let read = read_located(alloc, body, features, indices, types, &args, all, &locate)?;
-    funcs.add_local(LocalFunction::new(alloc, ty, args, read.operators))?;
+    let read = read_located(under, body, &args, all, &locate)?;
+    funcs.add_local(LocalFunction::new(under.alloc, ty, args, read.operators))?;
     Ok(())
 }
 
 // Reads a body, each operator of which is located where it stands.
 fn read_located<L: Fn(&usize) -> InstrLocId>(
-    alloc: Global,
+    under: Under<'_>,
     body: &RawBody<'_>,
-    features: &Features,
-    indices: &IndicesToIds,
-    types: &ModuleTypes,
     args: &[LocalId],
     all: &mut ModuleLocals,
     locate: &L,
 ) -> result::Result<ReadBody, IrError>
     requires callable { L.IsAlwaysCallable locate.now }
     requires tells { (place : ℕ) (loc : _) → FnReturnsAt L.Fn locate.now place loc → IsPlace place loc }
-    ensures read { ReadsBody (context (ids_at indices.now) (is_function_at types.now) features.now) (map place args.now) (locals all.old) (locals all.new) body.now.bytes.now result }
-    ensures located { IfOk result (λ read. BodyLocated IsPlace body.now.start body.now.bytes.now (locations read.operators.items)) }
+    ensures read { ReadsBody (context_under under.entry) (map place args.now) (locals all.old) (locals all.new)
+        body.now.bytes.now result }
+    ensures located { IfOk result (λ read. BodyLocated IsPlace body.now.start body.now.bytes.now
+        (locations read.operators.items)) }
 {
     read_body_over(
-        alloc, body.bytes, body.start, features, indices, types, args, all, locate,
+        under.alloc,
+        body.bytes,
+        body.start,
+        under.features,
+        under.indices,
+        under.types,
+        args,
+        all,
+        locate,
     )
 }
 
 // Reads the bodies of the functions of these types, which get the next ids.
 fn add_functions(
-    alloc: Global,
-    features: &Features,
+    under: Under<'_>,
     of_types: &[u32],
     bodies: &[RawBody<'_>],
-    indices: &IndicesToIds,
-    types: &ModuleTypes,
     all: &mut ModuleLocals,
     funcs: &mut ModuleFunctions,
 ) -> Result<()>
     requires none { functions funcs.old ≡ [] }
     requires as_many { length bodies.now ≡ length of_types.now }
-    requires declared { All (λ t. ids_at indices.now Types t ≡ Some t) of_types.now }
-    requires typed { All (λ t. is_function_at types.now t ≡ true) of_types.now }
-    ensures taken { TakesFunctions (context (ids_at indices.now) (is_function_at types.now) features.now) (item_at (type_slots types.now)) (zip of_types.now (map body_record bodies.now)) all.new funcs.new result }
+    requires declared { All (λ t. ids_at under.indices.now Types t ≡ Some t) of_types.now }
+    requires typed { All (λ t. is_function_at under.types.now t ≡ true) of_types.now }
+    ensures taken { TakesFunctions (context_under under.entry) (types_under under.entry)
+        (zip of_types.now (map body_record bodies.now)) all.new funcs.new result }
     ensures located { OnOk result (AllZip IsLocated (map body_record bodies.now) (functions funcs.new)) }
 {
     funcs.reserve(of_types.len())?;
     for place in 0..of_types.len() {
-        add_function(
-            alloc,
-            features,
-            of_types[place],
-            &bodies[place],
-            indices,
-            types,
-            all,
-            funcs,
-        )?;
+        add_function(under, of_types[place], &bodies[place], all, funcs)?;
     }
     Ok(())
 }
@@ -243,15 +239,4 @@ fn add_exports(raw: &[RawExport<'_>], indices: &IndicesToIds, all: &mut ModuleEx
         add_export(entry, indices, all)?;
     }
     Ok(())
-}
-
-// Refuses a module in which `ref.func` names a function that isn't exported, with `InvalidWasm`, since such a one isn't handled so far.
-fn check_references(alloc: Global, parts: Parts<'_>) -> Result<()>
-    ensures { ChecksReferences (parts_view parts.entry) result }
-{
-    if are_references_declared(alloc, parts)? {
-        Ok(())
-    } else {
-        Err(Error::InvalidWasm(ErrorKind::InvalidWasm))
-    }
 }

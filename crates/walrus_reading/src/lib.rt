@@ -2,7 +2,7 @@
 #![tactic(auto)]
 
 mod contents;
-mod read;
+mod module;
 mod supported;
 
-pub use read::read;
+pub use module::read;

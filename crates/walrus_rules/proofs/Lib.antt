@@ -103,6 +103,9 @@ pub mod NamesBack
 pub mod SpelledReads
 pub mod NestedBack
 pub mod WrittenReads
+pub mod WrittenBodies
+pub mod FitsTold
 pub mod DeclaredStays
 pub mod ReadLocal
+pub mod ReadSoFar
 pub mod Runs

@@ -1,6 +1,7 @@
 -- What a run comes to, of what is supported so far. For those who prove it: each of these is one line to use.
 use Rattle.std.proofs.Common.{◌≡◌, ℕ, true, false, List, [], refl, arith, ⊎_elim}
-use Rattle.std.specs.Prelude.{Result, Ok, Err}
+use Rattle.std.specs.Prelude.{All, Result, Ok, Err}
+use Rattle.wasm_writer.specs.Spelling.{SectionFits}
 use Rattle.walrus_model.specs.Abstract.{Abstract}
 use Rattle.walrus_model.specs.Config.{Config}
 use Rattle.walrus_model.specs.Declared.{NothingUndeclared}
@@ -8,13 +9,20 @@ use Rattle.walrus_model.specs.Pipeline.{Collected, ReachedIsLive}
 use Rattle.walrus_model.specs.Rules.{Holds}
 use Rattle.walrus_model.proofs.Lists.{Contains-none}
 use Rattle.walrus_rules.specs.Chain.{BringsTo, Leaves, ParsedAs}
-use Rattle.walrus_rules.specs.Headline.{ComesOutTooLarge}
+use Rattle.walrus_rules.specs.Headline.{Reads, ComesTo, ComesOutTooLarge}
+use Rattle.walrus_rules.specs.Pinned.{IsWrittenAs}
 use Rattle.walrus_rules.specs.Refused.{Refusal, Memory, DeadItem, NoIndex, TwoIndices, TooLarge, NotWritable, Caller, Another, PassesLimits, IsSayable}
-use Rattle.walrus_rules.specs.RunLaws.{IsFineSoFar, FineSoFar, OutputSoFar, TooLargeSoFar, IsFewSoFar}
+use Rattle.walrus_rules.specs.RunLaws.{IsFineSoFar, FineSoFar, OutputSoFar, OkSoFar, TooLargeSoFar, IsFewSoFar}
 use Rattle.walrus_rules.specs.SoFar.{ReadsSoFar, HasImported, RefusesSoFar}
+use Rattle.walrus_rules.specs.Spelling.{IsSpelledAs}
+use Rattle.walrus_rules.specs.Text.{sections_of}
 use Rattle.walrus_rules.specs.WellMade.{IsWellMade}
+use Rattle.walrus_rules.specs.WellMadeLaws.{IsFine}
+use Rattle.walrus_rules.proofs.BroughtWell.{brought_well}
 use Rattle.walrus_rules.proofs.DeclaredStays.{parsed_declared, left_declared}
+use Rattle.walrus_rules.proofs.FitsTold.{ok_fits}
 use Rattle.walrus_rules.proofs.NoCause.{well_no_cause}
+pub use Rattle.walrus_rules.proofs.ReadSoFar.{reads_so_far, so_far_says}
 use Rattle.walrus_rules.proofs.ReadLocal.{parsed_local, parsed_elements, left_local}
 use Rattle.walrus_rules.proofs.StepParsed.{live_v}
 use Rattle.walrus_rules.proofs.StepRead.{read_is_plain, steps_come_out_lem}
@@ -39,7 +47,33 @@ brings_itself c m v w parsed collected nothing = record { module_parsed = v; mod
 pub well_sayable : (c : Config) (w : Abstract) → IsWellMade c w → IsSayable w
 well_sayable c w made = record { imports = made.imports; customs = made.customs }
 
--- ---- of what is supported so far
+-- what gc leaves of what is parsed, where nothing in it is undeclared, is well made, and nothing is in its way but its size
+pub left_fine : (c : Config) (bytes : List ℕ) (m v w : Abstract) → Reads c bytes m → Holds m → ParsedAs c m v → Collected v w → NothingUndeclared w → IsFine c w
+left_fine c bytes m v w reads holds parsed collected nothing = brought_well c bytes m w reads holds (brings_itself c m v w parsed collected nothing)
+
+-- the output that is the one spelling of what the steps bring a module to, all of whose sections fit
+pub comes_to : (c : Config) (bytes output : List ℕ) (m u n : Abstract) → Reads c bytes m → Holds m → BringsTo c m u → IsWrittenAs c u n → (spelled : IsSpelledAs n output) → All SectionFits (sections_of spelled.text) → ComesTo c bytes output
+comes_to c bytes output m u n reads holds brings written spelled fits =
+    let fine = brought_well c bytes m u reads holds brings in
+    let back = written_reads c u n output fine.made fine.declared written spelled fits in
+    record {
+      module_read = m;
+      reads = reads;
+      holds = holds;
+      module_left = u;
+      brought = brings;
+      module_written = n;
+      written = written;
+      spelled = spelled;
+      output_reads = back.0;
+      output_holds = back.1;
+      out = steps_come_out_lem c bytes m u n reads holds brings written;
+    }
+
+pub comes_out_too_large : (c : Config) (bytes : List ℕ) (m u : Abstract) → Reads c bytes m → Holds m → BringsTo c m u → PassesLimits c u → ComesOutTooLarge c bytes
+comes_out_too_large c bytes m u reads holds brings large = record { module_read = m; reads = reads; holds = holds; module_left = u; brought = brings; too_large = large }
+
+-- ---- of what is supported so far: it says what its sections say (`ReadSoFar`)
 
 module _ (c : Config) (bytes : List ℕ) (m v w : Abstract) (read : ReadsSoFar c bytes m) (holds : Holds m) (parsed : ParsedAs c m v) (collected : Collected v w) where
   pub declared_parsed : NothingUndeclared v
@@ -73,35 +107,16 @@ fine_so_far c bytes m v w read holds parsed collected = record {
 
 pub output_so_far : OutputSoFar
 output_so_far c bytes output m v w read holds parsed collected out =
-    let are = fine_so_far c bytes m v w read holds parsed collected in
-    let back = written_reads c w out.module_written output are.left.made are.left.declared out.written out.spelled out.fits in
-    record {
-      module_read = m;
-      reads = read.reads;
-      holds = holds;
-      module_left = w;
-      brought = are.brings;
-      module_written = out.module_written;
-      written = out.written;
-      spelled = out.spelled;
-      output_reads = back.0;
-      output_holds = back.1;
-      out = steps_come_out_lem c bytes m w out.module_written read.reads holds are.brings out.written;
-    }
+    comes_to c bytes output m w out.module_written read.reads holds (brought c bytes m v w read holds parsed collected) out.written out.spelled out.fits
 
-pub limits_so_far : (c : Config) (bytes : List ℕ) (m v w : Abstract) → ReadsSoFar c bytes m → Holds m → ParsedAs c m v → Collected v w → PassesLimits c w → ComesOutTooLarge c bytes
-limits_so_far c bytes m v w read holds parsed collected large = record {
-  module_read = m;
-  reads = read.reads;
-  holds = holds;
-  module_left = w;
-  brought = brought c bytes m v w read holds parsed collected;
-  too_large = large;
-}
+pub ok_so_far : OkSoFar
+ok_so_far c bytes output m v w n read holds parsed collected ok written spelled =
+    output_so_far c bytes output m v w read holds parsed collected
+    (record { module_written = n; written = written; spelled = spelled; fits = ok_fits c w n spelled.text ok.0 written spelled.spells })
 
 pub too_large_so_far : TooLargeSoFar
 too_large_so_far c bytes m v w read holds parsed collected large =
-    limits_so_far c bytes m v w read holds parsed collected (large.2 (well_sayable c w (made_left c bytes m v w read holds parsed collected)))
+    comes_out_too_large c bytes m w read.reads holds (brought c bytes m v w read holds parsed collected) (large.2 (well_sayable c w (made_left c bytes m v w read holds parsed collected)))
 
 pub few_so_far : {X : Type 0} (c : Config) (w : Abstract) (result : Result X Refusal) → IsFineSoFar c w → RefusesSoFar c w result → IsFewSoFar result
 few_so_far c w (Ok x) are h = tt

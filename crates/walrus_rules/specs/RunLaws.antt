@@ -49,6 +49,13 @@ OutputSoFar =
     → ReadsSoFar c bytes m → Holds m → ParsedAs c m v → Collected v w
     → IsOutput c w output → ComesTo c bytes output
 
+-- the same where emission says that it refuses nothing: then the sections fit
+abbrev pub OkSoFar : Type 0
+OkSoFar =
+    (c : Config) (bytes output : List ℕ) (m v w n : Abstract)
+    → ReadsSoFar c bytes m → Holds m → ParsedAs c m v → Collected v w
+    → RefusesSoFar c w (Ok output) → IsWrittenAs c w n → IsSpelledAs n output → ComesTo c bytes output
+
 -- what is refused for its size comes out too large
 abbrev pub TooLargeSoFar : Type 0
 TooLargeSoFar =

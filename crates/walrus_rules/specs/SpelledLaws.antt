@@ -10,8 +10,8 @@ use Rattle.walrus_model.specs.Rules.{Holds}
 use Rattle.walrus_rules.specs.Features.{features_of}
 use Rattle.walrus_rules.specs.Headline.{Reads}
 use Rattle.walrus_rules.specs.Pinned.{IsWrittenAs}
-use Rattle.walrus_rules.specs.Spelling.{IsSpelledAs}
-use Rattle.walrus_rules.specs.Text.{sections_of}
+use Rattle.walrus_rules.specs.Spelling.{IsSpelling, IsSpelledAs}
+use Rattle.walrus_rules.specs.Text.{Text, sections_of}
 use Rattle.walrus_rules.specs.WellMade.{IsWellFormed, IsWellMade}
 
 -- each body is well formed under the configuration's flags
@@ -26,7 +26,11 @@ BodiesNest c n = (f : ℕ) (g : Function) (b : Body) → n.functions f ≡ Some 
 abbrev pub SpelledReads : Type 0
 SpelledReads = (c : Config) (n : Abstract) (bytes : List ℕ) (spelled : IsSpelledAs n bytes) → All SectionFits (sections_of spelled.text) → HasBodies c n → Holds n → Reads c bytes n
 
--- So does what a well-made module is written as, where nothing is undeclared and its sections fit.
+-- what a well-made module is written with are well-formed bodies, where nothing is undeclared
+abbrev pub WrittenBodies : Type 0
+WrittenBodies = (c : Config) (u n : Abstract) (t : Text) → IsWellMade c u → NothingUndeclared u → IsWrittenAs c u n → IsSpelling n t → HasBodies c n
+
+-- What a well-made module is written as reads back, where nothing is undeclared and its sections fit.
 abbrev pub WrittenReads : Type 0
 WrittenReads =
     (c : Config) (u n : Abstract) (bytes : List ℕ) → IsWellMade c u → NothingUndeclared u → IsWrittenAs c u n

@@ -6,7 +6,7 @@ ghost use Rattle.walrus_rules.specs.Alternatives.{HasAlternatives};
 ghost use Rattle.walrus_rules.specs.Examples.{AreRefused, one_function, one_function_bytes};
 ghost use Rattle.walrus_rules.specs.Needs.{IsWrittenOnce};
 ghost use Rattle.walrus_rules.specs.OneRun.{ReadFits, ReadsOnce, SpelledFits};
-ghost use Rattle.walrus_rules.specs.SpelledLaws.{SpelledReads, WrittenReads};
+ghost use Rattle.walrus_rules.specs.SpelledLaws.{SpelledReads, WrittenBodies, WrittenReads};
 ghost use Rattle.walrus_rules.specs.Spelling.{IsSpelledAs, SpelledOnce};
 
 /// A module of one function is spelled and written so. Other bytes that read as the same module, or as one that differs
@@ -45,4 +45,5 @@ pub fn spelled_reads()
     ensures fits { SpelledFits }
     ensures back { SpelledReads }
     ensures written { WrittenReads }
+    ensures bodies { WrittenBodies }
 {}

@@ -82,6 +82,7 @@ impl Used {
             locals: &module.locals,
             funcs: &module.funcs,
             exports: &module.exports,
+            producers: &module.producers,
         };
         Used::search(alloc, parts)
     }

@@ -19,7 +19,7 @@ returns-in_err-check_all c =
     let names = export_names parts.exports.now in
     let are : map item_of c.as_slice.result.now ≡ names = ap (λ (ids : List ItemId). map item_of ids) c.as_slice.ensures.value ∙ c.in_ok-push_export_names.ensures ∙ ap (λ (ids : List ItemId). map item_of ids ++ names) c.new-named.ensures.items in
     rw (p.1, p.2) (refusal_map (OneIsDead v (map item_of c.as_slice.result.now)) (HasDead v)
-    (λ dead. exports_dead parts.types.now parts.locals.now parts.funcs.now parts.exports.now (subst (OneIsDead v) are dead))
+    (λ dead. exports_dead parts.types.now parts.locals.now parts.funcs.now parts.exports.now parts.producers.now (subst (OneIsDead v) are dead))
     c.in_err-check_all.field-0.0 c.in_err-check_all.ensures)
 
 pub returns-in_err-check_types : goal.returns-in_err-check_types
@@ -33,4 +33,4 @@ returns c =
     let v = parts_view parts in
     let names = export_names parts.exports.now in
     let are : map item_of c.as_slice.result.now ≡ names = ap (λ (ids : List ItemId). map item_of ids) c.as_slice.ensures.value ∙ c.in_ok-push_export_names.ensures ∙ ap (λ (ids : List ItemId). map item_of ids ++ names) c.new-named.ensures.items in
-    functions_checked parts.types.now parts.locals.now parts.funcs.now parts.exports.now (subst (λ (xs : List Item). AreLive v xs) are c.in_ok-check_all.ensures) c.in_ok-check_types.ensures c.check_functions.result c.check_functions.ensures
+    functions_checked parts.types.now parts.locals.now parts.funcs.now parts.exports.now parts.producers.now (subst (λ (xs : List Item). AreLive v xs) are c.in_ok-check_all.ensures) c.in_ok-check_types.ensures c.check_functions.result c.check_functions.ensures

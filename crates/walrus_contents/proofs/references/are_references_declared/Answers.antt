@@ -11,10 +11,10 @@ pub returns-clause-declared : goal.returns-clause-declared
 returns-clause-declared c = λ is.
     let p = c.args.parts in
     let told : c.are_functions_marked.result ≡ refs_are_exported (items (functions p.funcs.now)) (items (exports p.exports.now)) = c.are_functions_marked.ensures ∙ ap (λ (holds : ℕ → Bool). all_pass holds (items (functions p.funcs.now))) (fun_ext (λ f. c.in_ok-marks.ensures.marks f)) in
-    nothing_undeclared p.types.now p.locals.now p.funcs.now p.exports.now (sym told ∙ is)
+    nothing_undeclared p.types.now p.locals.now p.funcs.now p.exports.now p.producers.now (sym told ∙ is)
 
 pub returns-clause-undeclared : goal.returns-clause-undeclared
 returns-clause-undeclared c = λ is.
     let p = c.args.parts in
     let told : c.are_functions_marked.result ≡ refs_are_exported (items (functions p.funcs.now)) (items (exports p.exports.now)) = c.are_functions_marked.ensures ∙ ap (λ (holds : ℕ → Bool). all_pass holds (items (functions p.funcs.now))) (fun_ext (λ f. c.in_ok-marks.ensures.marks f)) in
-    one_undeclared p.types.now p.locals.now p.funcs.now p.exports.now (sym told ∙ is)
+    one_undeclared p.types.now p.locals.now p.funcs.now p.exports.now p.producers.now (sym told ∙ is)

@@ -7,7 +7,7 @@ use Rattle.walrus_model.proofs.Lists.{map-map}
 use Rattle.wasm_entries.specs.Record.{Export, export_entry}
 use Rattle.walrus_model.specs.Supported.{IsOfFunction}
 use Rattle.walrus_contents.proofs.Taking.{mapped_all, whole}
-use Rattle.walrus_module.proofs.parse.add_exports.Goals as goal
+use Rattle.walrus_reading.proofs.contents.add_exports.Goals as goal
 
 pub add_export-requires : goal.add_export-requires
 add_export-requires c = record {

@@ -1,31 +1,26 @@
 use Rattle.walrus_bodies.specs.Results.{locations}
-use Rattle.walrus_reading.specs.Taken.{IsPlace}
+use Rattle.walrus_reading.specs.Taken.{IsPlace, context_under, types_under}
 use Rattle.walrus_bodies.specs.BodyRead.{BodyLocated}
 use Rattle.std.proofs.Common.{refl, subst, ◌≡◌, map, sym, ap, ◌∙◌}
 use Rattle.std.proofs.lemmas.Result.{err_from_is_err_and}
-use Rattle.walrus_base.specs.Arena.{item_at}
 use Rattle.walrus_base.specs.Id.{place}
 use Rattle.walrus_types.specs.Locals.{locals}
-use Rattle.walrus_types.specs.ModuleTypes.{type_slots}
 use Rattle.walrus_types.specs.Value.{val_type}
 use Rattle.walrus_code.specs.Code.{ops_of}
-use Rattle.walrus_code.specs.Indices.{ids_at}
-use Rattle.walrus_bodies.specs.Body.{context}
-use Rattle.walrus_bodies.specs.FunctionTypes.{is_function_at}
 use Rattle.walrus_functions.specs.Handlers.{params_of}
 use Rattle.walrus_items.specs.Functions.{functions}
 use Rattle.wasm_frames.specs.Record.{body_record}
 use Rattle.walrus_contents.proofs.Taking.{some_same}
 use Rattle.walrus_reading.proofs.TakenBody.{not_taken, taken, stays}
-use Rattle.walrus_module.proofs.parse.add_function.Goals as goal
+use Rattle.walrus_reading.proofs.contents.add_function.Goals as goal
 
 pub returns-in_err-read-clause-taken : goal.returns-in_err-read-clause-taken
 returns-in_err-read-clause-taken c =
     let own : place c.in-Some.ty ≡ c.args.index = some_same _ _ (c.in-Some.ensures ∙ c.requires.declared) in
-    let takes : params_of (item_at (type_slots c.args.types.now) c.args.index) ≡ map val_type c.params.result.now =
-    ap (λ i. params_of (item_at (type_slots c.args.types.now) i)) (sym own) ∙ ap params_of c.get.ensures.value ∙ sym c.params.ensures in
+    let takes : params_of (types_under c.args.under c.args.index) ≡ map val_type c.params.result.now =
+    ap (λ i. params_of (types_under c.args.under i)) (sym own) ∙ ap params_of c.get.ensures.value ∙ sym c.params.ensures in
     let p = err_from_is_err_and c.from_residual-in_err-read.result c.from_residual-in_err-read.ensures.1 in
-    rw (p.1, p.2) (not_taken (context (ids_at c.args.indices.now) (is_function_at c.args.types.now) c.args.features.now) (item_at (type_slots c.args.types.now)) (c.args.index, body_record c.args.body.now)
+    rw (p.1, p.2) (not_taken (context_under c.args.under) (types_under c.args.under) (c.args.index, body_record c.args.body.now)
     (locals c.args.all.now) (locals c.add_params.new.all) (map place c.deref.result.now) c.params.result.now takes
     (ap (map place) c.deref.ensures.value ∙ c.in_ok-args.ensures.args) c.in_ok-args.ensures.typed
     (locals c.read_located.new.all) c.read_located.new.all (functions c.args.funcs.now) (functions c.args.funcs.now) _ c.in_err-read.ensures.read)
@@ -33,12 +28,12 @@ returns-in_err-read-clause-taken c =
 pub returns-clause-taken : goal.returns-clause-taken
 returns-clause-taken c =
     let own : place c.in-Some.ty ≡ c.args.index = some_same _ _ (c.in-Some.ensures ∙ c.requires.declared) in
-    let takes : params_of (item_at (type_slots c.args.types.now) c.args.index) ≡ map val_type c.params.result.now =
-    ap (λ i. params_of (item_at (type_slots c.args.types.now) i)) (sym own) ∙ ap params_of c.get.ensures.value ∙ sym c.params.ensures in (
+    let takes : params_of (types_under c.args.under c.args.index) ≡ map val_type c.params.result.now =
+    ap (λ i. params_of (types_under c.args.under i)) (sym own) ∙ ap params_of c.get.ensures.value ∙ sym c.params.ensures in (
       _,
       (
         c.in_ok-add_local.ensures.1,
-        taken (context (ids_at c.args.indices.now) (is_function_at c.args.types.now) c.args.features.now) (item_at (type_slots c.args.types.now)) (c.args.index, body_record c.args.body.now)
+        taken (context_under c.args.under) (types_under c.args.under) (c.args.index, body_record c.args.body.now)
             (locals c.args.all.now) (locals c.add_params.new.all) (map place c.deref.result.now) c.params.result.now takes
             (ap (map place) c.deref.ensures.value ∙ c.in_ok-args.ensures.args) c.in_ok-args.ensures.typed
             (locals c.read_located.new.all) c.in_ok-read.read c.in_ok-read.ensures.read
@@ -49,9 +44,9 @@ returns-clause-taken c =
 pub returns-clause-stays : goal.returns-clause-stays
 returns-clause-stays c =
     let own : place c.in-Some.ty ≡ c.args.index = some_same _ _ (c.in-Some.ensures ∙ c.requires.declared) in
-    let takes : params_of (item_at (type_slots c.args.types.now) c.args.index) ≡ map val_type c.params.result.now =
-    ap (λ i. params_of (item_at (type_slots c.args.types.now) i)) (sym own) ∙ ap params_of c.get.ensures.value ∙ sym c.params.ensures in
-    stays (context (ids_at c.args.indices.now) (is_function_at c.args.types.now) c.args.features.now) (item_at (type_slots c.args.types.now)) (c.args.index, body_record c.args.body.now)
+    let takes : params_of (types_under c.args.under c.args.index) ≡ map val_type c.params.result.now =
+    ap (λ i. params_of (types_under c.args.under i)) (sym own) ∙ ap params_of c.get.ensures.value ∙ sym c.params.ensures in
+    stays (context_under c.args.under) (types_under c.args.under) (c.args.index, body_record c.args.body.now)
     (locals c.args.all.now) (locals c.add_params.new.all) (map place c.deref.result.now) c.params.result.now takes
     (ap (map place) c.deref.ensures.value ∙ c.in_ok-args.ensures.args) c.in_ok-args.ensures.typed
     (locals c.read_located.new.all) c.in_ok-read.read c.in_ok-read.ensures.read

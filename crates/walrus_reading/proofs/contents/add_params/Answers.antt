@@ -4,7 +4,7 @@ use Rattle.walrus_base.specs.Id.{place}
 use Rattle.walrus_types.specs.Locals.{locals}
 use Rattle.walrus_contents.proofs.Taking.{placed_more}
 use Rattle.walrus_reading.proofs.TakenBody.{typed_more}
-use Rattle.walrus_module.proofs.parse.add_params.Goals as goal
+use Rattle.walrus_reading.proofs.contents.add_params.Goals as goal
 
 pub loop-ty-preserved : goal.loop-ty-preserved
 loop-ty-preserved c =

@@ -5,7 +5,7 @@ use Rattle.walrus_base.specs.Id.{place}
 use Rattle.walrus_types.specs.Locals.{locals}
 use Rattle.walrus_types.specs.Value.{val_type}
 use Rattle.walrus_functions.specs.EmittedBody.{types_of as local_types}
-use Rattle.walrus_module.proofs.parse.add_params.Given as goal
+use Rattle.walrus_reading.proofs.contents.add_params.Given as goal
 
 abbrev pub invariant-loop-ty : goal.invariant-loop-ty
 invariant-loop-ty l = record {

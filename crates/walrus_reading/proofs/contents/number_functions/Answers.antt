@@ -2,7 +2,7 @@ use Rattle.std.proofs.Common.{length, refl, ap, ◌∙◌, arith}
 use Rattle.std.specs.List.{range_with_len}
 use Rattle.std.proofs.lemmas.List.FromFn.{length-range_with_len}
 use Rattle.walrus_contents.proofs.Taking.{not_in_range, range_grown, reached}
-use Rattle.walrus_module.proofs.parse.number_functions.Goals as goal
+use Rattle.walrus_reading.proofs.contents.number_functions.Goals as goal
 
 pub loop-place-init : goal.loop-place-init
 loop-place-init c = record { numbered = c.requires.none; others = λ space other. refl }

@@ -2,7 +2,7 @@ use Rattle.std.proofs.Common.{◌≡◌, ◌≢◌}
 use Rattle.std.specs.List.{range_with_len}
 use Rattle.walrus_code.specs.Indices.{places_in}
 use Rattle.walrus_types.specs.Operators.{Space, Functions}
-use Rattle.walrus_module.proofs.parse.number_functions.Given as goal
+use Rattle.walrus_reading.proofs.contents.number_functions.Given as goal
 
 abbrev pub invariant-loop-place : goal.invariant-loop-place
 invariant-loop-place l = record {

@@ -1,3 +1,4 @@
+use Rattle.walrus_rules.proofs.WrittenBodies.{written_bodies}
 use Rattle.walrus_rules.proofs.WrittenReads.{written_reads}
 use Rattle.walrus_rules.proofs.SpelledFits as spelled
 use Rattle.walrus_rules.proofs.SpelledReads as back
@@ -11,3 +12,6 @@ returns-clause-back c = back.spelled_reads
 
 pub returns-clause-written : goal.returns-clause-written
 returns-clause-written c = written_reads
+
+pub returns-clause-bodies : goal.returns-clause-bodies
+returns-clause-bodies c = written_bodies

@@ -10,7 +10,7 @@ use Rattle.walrus.proofs.passes.gc.run.Goals as goal
 pub keep_only-requires-2 : goal.keep_only-requires-2
 keep_only-requires-2 g c =
     let old = c.args.module.now in
-    marks_groups old.types old.locals old.funcs old.exports c.in_ok-used.used.types (λ t. c.in_ok-used.ensures.kept (Types, t))
+    marks_groups old.types old.locals old.funcs old.exports old.producers c.in_ok-used.used.types (λ t. c.in_ok-used.ensures.kept (Types, t))
 
 pub returns-clause-functions : goal.returns-clause-functions
 returns-clause-functions g c =
@@ -25,9 +25,9 @@ returns-clause-types g c =
 pub returns-clause-collected : goal.returns-clause-collected
 returns-clause-collected g c =
     let old = c.args.module.now in
-    is_collected old.types c.keep_only-2.new.self old.locals old.funcs c.keep_only.new.self old.exports (returns-clause-functions g c) (returns-clause-types g c)
+    is_collected old.types c.keep_only-2.new.self old.locals old.funcs c.keep_only.new.self old.exports old.producers (returns-clause-functions g c) (returns-clause-types g c)
 
 pub returns-clause-settled : goal.returns-clause-settled
 returns-clause-settled g c =
     let old = c.args.module.now in
-    (stays_collected_lem (view old) (view_of c.keep_only-2.new.self old.locals c.keep_only.new.self old.exports) (returns-clause-collected g c)).items
+    (stays_collected_lem (view old) (view_of c.keep_only-2.new.self old.locals c.keep_only.new.self old.exports old.producers) (returns-clause-collected g c)).items

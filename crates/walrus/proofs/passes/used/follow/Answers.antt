@@ -32,7 +32,7 @@ returns-in_err-follow_item c =
     let x = item_of id in
     let lt : n < length f = omega (arith, c.loop-taken.found.ok.0) in
     rw (p.1, p.2) (refusal_map ((IsSound v x → ⊥) ⊎ NamesDead v (all_names v x)) (ReachesUnsound v)
-    (unsound_by v n c.loop-taken.used (items_in c.loop-taken.found) c.loop-taken.invariant x (next_item f n id lt c.index-item.ensures) (item_found f n id lt c.index-item.ensures) (all_names v x) (names_are parts.types.now parts.locals.now parts.funcs.now parts.exports.now x))
+    (unsound_by v n c.loop-taken.used (items_in c.loop-taken.found) c.loop-taken.invariant x (next_item f n id lt c.index-item.ensures) (item_found f n id lt c.index-item.ensures) (all_names v x) (names_are parts.types.now parts.locals.now parts.funcs.now parts.exports.now parts.producers.now x))
     c.in_err-follow_item.field-0.0 c.in_err-follow_item.ensures)
 
 pub loop-taken-preserved : goal.loop-taken-preserved
@@ -47,7 +47,7 @@ loop-taken-preserved c =
     let before = items_in c.loop-taken.found in
     let after = items_in c.follow_item.new.found in
     let entered = c.in_ok-follow_item.ensures in
-    follows_more v n c.loop-taken.used before c.loop-taken.invariant x (next_item f n id lt c.index-item.ensures) (item_found f n id lt c.index-item.ensures) (all_names v x) (names_are parts.types.now parts.locals.now parts.funcs.now parts.exports.now x)
+    follows_more v n c.loop-taken.used before c.loop-taken.invariant x (next_item f n id lt c.index-item.ensures) (item_found f n id lt c.index-item.ensures) (all_names v x) (names_are parts.types.now parts.locals.now parts.funcs.now parts.exports.now parts.producers.now x)
     c.follow_item.new.used after
     (stays v (all_names v x) c.loop-taken.used c.follow_item.new.used before after n (omega (arith, lt, length-map f item_of)) entered.1) entered.0 entered.1
 

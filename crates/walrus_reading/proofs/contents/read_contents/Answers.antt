@@ -1,7 +1,6 @@
 use Rattle.std.specs.List.{AllZip}
 use Rattle.std.specs.Global.{Vec}
 use Rattle.walrus_items.specs.Functions.{functions}
-use Rattle.walrus_reading.proofs.Locating.{if_done}
 use Rattle.wasm_frames.specs.declared.record.RawBody.{RawBody}
 use Rattle.wasm_entries.specs.declared.record.RawSub.{RawSub}
 use Rattle.wasm_entries.specs.Record.{group, export_entry}
@@ -16,14 +15,13 @@ use Rattle.walrus_types.specs.Operators.{Types, Functions}
 use Rattle.walrus_code.specs.Indices.{ids_at}
 use Rattle.walrus_groups.specs.Groups.{types_from, AreDeclared}
 use Rattle.walrus_model.specs.Reads.{declared}
-use Rattle.walrus_module.specs.Flags.{flags, config_of}
 use Rattle.walrus_model.proofs.Supported.{supported}
 use Rattle.walrus_reading.specs.Taken.{IsLocated}
 use Rattle.walrus_reading.proofs.TakenSections.{types_named, types_are_functions, exports_named, sections_refused, sections_taken}
-use Rattle.walrus_contents.proofs.TypeLists.{types_declared}
+use Rattle.walrus_reading.proofs.TypesRefer.{types_declared}
 use Rattle.walrus_reading.proofs.TypesTaken.{both_named}
 use Rattle.wasm_frames.specs.Record.{body_record, sections}
-use Rattle.walrus_module.proofs.parse.add_sections.Goals as goal
+use Rattle.walrus_reading.proofs.contents.read_contents.Goals as goal
 
 pub add_types-requires-clause-declared : goal.add_types-requires-clause-declared
 add_types-requires-clause-declared c =
@@ -43,7 +41,7 @@ add_functions-requires-clause-declared c =
     let named : ids_at c.number_functions.new.indices ≡ declared (supported (sections c.args.raw.now)) =
     both_named (sections c.args.raw.now) (map group c.deref.result.now) c.len.result c.add_types.new.indices c.number_functions.new.indices (ap (map group) c.deref.ensures.value) many
     c.in_ok-add_types.ensures.numbered c.in_ok-add_types.ensures.others c.in_ok-number_functions.ensures.numbered c.in_ok-number_functions.ensures.others in
-    types_named (config_of (flags c.args.config.now)) (sections c.args.raw.now) c.number_functions.new.indices c.add_types.new.types named typed c.deref-2.result.now c.deref-2.ensures.value c.requires.rules.function_types
+    types_named c.args.features.now (sections c.args.raw.now) c.number_functions.new.indices c.add_types.new.types named typed c.deref-2.result.now c.deref-2.ensures.value c.requires.rules.function_types
 
 pub add_functions-requires-clause-typed : goal.add_functions-requires-clause-typed
 add_functions-requires-clause-typed c =
@@ -52,7 +50,7 @@ add_functions-requires-clause-typed c =
     let named : ids_at c.number_functions.new.indices ≡ declared (supported (sections c.args.raw.now)) =
     both_named (sections c.args.raw.now) (map group c.deref.result.now) c.len.result c.add_types.new.indices c.number_functions.new.indices (ap (map group) c.deref.ensures.value) many
     c.in_ok-add_types.ensures.numbered c.in_ok-add_types.ensures.others c.in_ok-number_functions.ensures.numbered c.in_ok-number_functions.ensures.others in
-    types_are_functions (config_of (flags c.args.config.now)) (sections c.args.raw.now) c.number_functions.new.indices c.add_types.new.types named typed c.deref-2.result.now c.deref-2.ensures.value c.requires.rules.function_types
+    types_are_functions c.args.features.now (sections c.args.raw.now) c.number_functions.new.indices c.add_types.new.types named typed c.deref-2.result.now c.deref-2.ensures.value c.requires.rules.function_types
 
 pub returns-in_err-add_functions-clause-taken : goal.returns-in_err-add_functions-clause-taken
 returns-in_err-add_functions-clause-taken c =
@@ -62,9 +60,9 @@ returns-in_err-add_functions-clause-taken c =
     both_named (sections c.args.raw.now) (map group c.deref.result.now) c.len.result c.add_types.new.indices c.number_functions.new.indices (ap (map group) c.deref.ensures.value) many
     c.in_ok-add_types.ensures.numbered c.in_ok-add_types.ensures.others c.in_ok-number_functions.ensures.numbered c.in_ok-number_functions.ensures.others in
     let p = err_from_is_err_and c.from_residual-in_err-add_functions.result c.from_residual-in_err-add_functions.ensures.1 in
-    rw (p.1, p.2) (sections_refused (config_of (flags c.args.config.now)) (sections c.args.raw.now) c.number_functions.new.indices c.add_types.new.types named typed c.requires.supported
-    c.features-features.result c.features-features.ensures c.deref-2.result.now (map body_record c.deref-3.result.now) c.deref-2.ensures.value (ap (map body_record) c.deref-3.ensures.value)
-    c.add_functions.new.all c.add_functions.new.funcs c.args.module_exports.now _ c.in_err-add_functions.ensures.taken)
+    rw (p.1, p.2) (sections_refused c.args.features.now (sections c.args.raw.now) c.number_functions.new.indices c.add_types.new.types named typed
+    c.deref-2.result.now (map body_record c.deref-3.result.now) c.deref-2.ensures.value (ap (map body_record) c.deref-3.ensures.value)
+    c.add_functions.new.all c.add_functions.new.funcs c.requires.supported _ c.in_err-add_functions.ensures.taken)
 
 pub add_exports-requires-clause-declared : goal.add_exports-requires-clause-declared
 add_exports-requires-clause-declared c =
@@ -73,7 +71,7 @@ add_exports-requires-clause-declared c =
     let named : ids_at c.number_functions.new.indices ≡ declared (supported (sections c.args.raw.now)) =
     both_named (sections c.args.raw.now) (map group c.deref.result.now) c.len.result c.add_types.new.indices c.number_functions.new.indices (ap (map group) c.deref.ensures.value) many
     c.in_ok-add_types.ensures.numbered c.in_ok-add_types.ensures.others c.in_ok-number_functions.ensures.numbered c.in_ok-number_functions.ensures.others in
-    exports_named (config_of (flags c.args.config.now)) (sections c.args.raw.now) c.number_functions.new.indices c.add_types.new.types named typed c.deref-4.result.now (ap (map export_entry) c.deref-4.ensures.value) c.requires.rules.exports_hold
+    exports_named c.args.features.now (sections c.args.raw.now) c.number_functions.new.indices c.add_types.new.types named typed c.deref-4.result.now (ap (map export_entry) c.deref-4.ensures.value) c.requires.rules.exports_hold
 
 pub add_exports-requires-clause-functions : goal.add_exports-requires-clause-functions
 add_exports-requires-clause-functions c = subst (λ (l : List RawExport). All IsOfFunction (map export_entry l)) (sym c.deref-4.ensures.value) c.requires.supported.exports
@@ -85,10 +83,11 @@ returns-clause-taken c =
     let named : ids_at c.number_functions.new.indices ≡ declared (supported (sections c.args.raw.now)) =
     both_named (sections c.args.raw.now) (map group c.deref.result.now) c.len.result c.add_types.new.indices c.number_functions.new.indices (ap (map group) c.deref.ensures.value) many
     c.in_ok-add_types.ensures.numbered c.in_ok-add_types.ensures.others c.in_ok-number_functions.ensures.numbered c.in_ok-number_functions.ensures.others in
-    sections_taken (config_of (flags c.args.config.now)) (sections c.args.raw.now) c.number_functions.new.indices c.add_types.new.types named typed c.requires.supported
-    c.features-features.result c.features-features.ensures c.deref-2.result.now (map body_record c.deref-3.result.now) c.deref-2.ensures.value (ap (map body_record) c.deref-3.ensures.value) c.requires.rules.as_many_bodies
-    c.add_functions.new.all c.add_functions.new.funcs c.add_exports.new.all _ c.deref-4.result.now c.add_exports.result c.in_ok-add_functions.ensures.taken (ap (map export_entry) c.deref-4.ensures.value) c.add_exports.ensures.added c.add_exports.ensures.fails
+    sections_taken c.args.features.now (sections c.args.raw.now) c.number_functions.new.indices c.add_types.new.types named typed
+    c.deref-2.result.now (map body_record c.deref-3.result.now) c.deref-2.ensures.value (ap (map body_record) c.deref-3.ensures.value)
+    c.add_functions.new.all c.add_functions.new.funcs c.requires.supported c.requires.rules.as_many_bodies
+    c.add_exports.new.all _ c.deref-4.result.now c.in_ok-add_functions.ensures.taken (ap (map export_entry) c.deref-4.ensures.value) c.in_ok-add_exports.ensures.added
 
 pub returns-clause-located : goal.returns-clause-located
 returns-clause-located c =
-    if_done c.add_exports.result (subst (λ (l : List RawBody). AllZip IsLocated (map body_record l) (functions c.add_functions.new.funcs)) c.deref-3.ensures.value c.in_ok-add_functions.ensures.located)
+    subst (λ (l : List RawBody). AllZip IsLocated (map body_record l) (functions c.add_functions.new.funcs)) c.deref-3.ensures.value c.in_ok-add_functions.ensures.located

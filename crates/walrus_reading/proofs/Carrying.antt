@@ -1,0 +1,398 @@
+-- A module in memory that took in the sections is made of the module that was read.
+use Rattle.std.proofs.Common.{◌≡◌, ℕ, zero, suc, ◌+◌, ◌<◌, Bool, true, false, List, [], ◌∷◌, ◌++◌, length, length-append, map, refl, sym, ap, ap₂, subst, ◌∙◌, arith, inl, eqb-true}
+use Rattle.std.proofs.lemmas.Bool.{eqb-false}
+use Rattle.std.specs.Prelude.{Option, Some, None, IsSome, Contains, slice_get, zip, option_map, ◌==◌, ◌≤◌, ◌↔◌, if◌then◌else◌}
+use Rattle.std.specs.List.{AllZip, range_with_len}
+use Rattle.walrus_base.specs.Arena.{item_at}
+use Rattle.walrus_base.specs.Id.{place}
+use Rattle.walrus_base.specs.Types.{ValType, map_val}
+use Rattle.walrus_types.specs.Locals.{locals, local_type}
+use Rattle.walrus_types.specs.Value.{val_type}
+use Rattle.walrus_code.specs.Function.{body_of as body_of_local}
+use Rattle.walrus_groups.specs.Groups.{types_from}
+use Rattle.std.proofs.lemmas.List.{length-map}
+use Rattle.walrus_types.specs.Operators.{NoResult, OneResult, OfType, Arg, Index, Label, Local as LocalArg, Number, Count, Byte, S32, S64, Bits32, Bits64, Value, Heap, Block, Access, Op, locals_of}
+use Rattle.walrus_types.specs.declared.locals.ModuleLocals.{ModuleLocals}
+use Rattle.walrus_code.specs.declared.function.LocalFunction.{LocalFunction}
+use Rattle.walrus_functions.specs.EmittedBody.{types_of as local_types}
+use Rattle.walrus_functions.specs.Handlers.{params_of}
+use Rattle.walrus_functions.specs.Laws.{moved_arg, moved_op}
+use Rattle.walrus_items.specs.Functions.{FunctionValue, functions, kind_type}
+use Rattle.walrus_items.specs.declared.functions.FunctionKind.{FunctionKind}
+use Rattle.walrus_items.specs.declared.functions.FunctionKind.TheVariants.{Local}
+use Rattle.walrus_model.specs.Abstract.{Abstract, Name, TypeDef, Function, Body, Subject, TheModule, AnItem, ALocal}
+use Rattle.walrus_model.specs.Carried.{Carries}
+use Rattle.walrus_bodies.specs.declared.features.Features.{Features}
+use Rattle.walrus_rules.specs.Chain.{AreFoundOrAdded, NoMore, handlers_by, AddsHandlers, NoFunction, AndThose, IsBehind, IsWholeBody, ParsedAs}
+use Rattle.walrus_rules.specs.WellMade.{IsCounted}
+use Rattle.walrus_rules.specs.Namings.{is_in_range}
+use Rattle.walrus_rules.specs.Sections.{items_of, module_of}
+use Rattle.walrus_reading.proofs.DeclaredLocals.{counts}
+use Rattle.walrus_model.specs.Reads.{arity, ReadsBodyWith}
+use Rattle.walrus_model.specs.Sections.{Said, function_with, body_with, types_of}
+use Rattle.walrus_model.specs.Config.{Config}
+use Rattle.walrus_model.specs.Handlers.{handlers_of}
+use Rattle.walrus_model.specs.Names.{body_of, body_of_function, name_of, names_that_count, synthetic_name, last_name, or_else}
+use Rattle.walrus_model.specs.Producers.{produced}
+use Rattle.walrus_model.proofs.Follow.{used_follow}
+use Rattle.walrus_model.proofs.Reach.{Contains-unmap}
+use Rattle.walrus_model.specs.Renaming.{Renaming, renamed_arg, renamed_op, renamed_ops, renamed_export}
+use Rattle.walrus_model.specs.Same.{SameType, SameBody, SameFunction, BothAnd}
+use Rattle.walrus_types.specs.Shape.{Seen, Own, Other, in_its_group, others_through, place_in}
+use Rattle.walrus_model.proofs.Lists.{map-itself, map-same}
+use Rattle.walrus_model.proofs.TypeMaps.{sub-itself, val-itself, heap-itself}
+use Rattle.walrus_reading.specs.Taken.{HoldsBody, HoldsFunction, HasTaken}
+use Rattle.walrus_contents.specs.View.{body, kind_of, kind_handlers, handlers_at, function, contents_view}
+use Rattle.walrus_contents.specs.declared.parts.Contents.{Contents}
+use Rattle.walrus_contents.proofs.Lookups.{got_map, there, there_mapped, still_some}
+use Rattle.walrus_reading.proofs.Parsing.{read_at, used_below}
+use Rattle.walrus_contents.proofs.Steps.{type_there, zip_length}
+use Rattle.wasm_frames.specs.Record as wire
+use Rattle.walrus_model.proofs.Supported.{supported}
+use Rattle.walrus_model.proofs.Standing.{none_there, some_inj, got_in}
+
+-- ---- types
+
+others_same : (s : Seen) → others_through (λ k. k) s ≡ s
+others_same (Own k) = refl
+others_same (Other t) = refl
+
+same_type : (i : ℕ) (x : TypeDef) → SameType (λ k. k) i x x
+same_type i x = record {
+  group = sym (map-itself (λ (k : ℕ). k) x.group (λ k. refl));
+  position = refl;
+  sub = sym (sub-itself (others_through (λ k. k)) others_same (in_its_group x));
+}
+
+both_types : (i : ℕ) (o : Option TypeDef) → IsSome o → BothAnd (SameType (λ k. k) i) o o
+both_types i (Some x) h = same_type i x
+both_types i None h = absurd (none_there h)
+
+-- ---- a range of numbers further on
+
+range_moved : (by first count : ℕ) → range_with_len (by + first) count ≡ map (λ (n : ℕ). by + n) (range_with_len first count)
+range_moved by first zero = refl
+range_moved by first (suc count) =
+    let next : by + first + 1 ≡ by + (first + 1) = omega arith in
+    ap (λ (ns : List ℕ). (by + first) ∷ ns) (ap (λ (n : ℕ). range_with_len n count) next ∙ range_moved by (first + 1) count)
+
+same_test : (by n x : ℕ) (b c : Bool) → (by + n == by + x) ≡ b → (n == x) ≡ c → b ≡ c
+same_test by n x true true p q = refl
+same_test by n x false false p q = refl
+same_test by n x true false p q = absurd (eqb-false n x q (let e : by + n ≡ by + x = eqb-true (by + n) (by + x) p in omega (arith, e)))
+same_test by n x false true p q = absurd (eqb-false (by + n) (by + x) p (ap (λ (k : ℕ). by + k) (eqb-true n x q)))
+
+place_moved : (by : ℕ) (ns : List ℕ) (x : ℕ) → place_in (map (λ (n : ℕ). by + n) ns) (by + x) ≡ place_in ns x
+place_moved by [] x = refl
+place_moved by (n ∷ ns) x =
+    ap₂ (λ (t : Bool) (o : Option ℕ). if t then Some 0 else option_map suc o) (same_test by n x (by + n == by + x) (n == x) refl refl) (place_moved by ns x)
+
+parameter_places : (first count x : ℕ) → place_in (range_with_len first count) (first + x) ≡ place_in (range_with_len 0 count) x
+parameter_places first count x =
+    let start : first ≡ first + 0 = omega arith in
+    ap (λ (n : ℕ). place_in (range_with_len n count) (first + x)) start ∙ ap (λ (ns : List ℕ). place_in ns (first + x)) (range_moved first 0 count) ∙ place_moved first (range_with_len 0 count) x
+
+types_stay : (o : Option (ValType ℕ)) → option_map (map_val (λ i. i)) o ≡ o
+types_stay None = refl
+types_stay (Some v) = ap Some (val-itself (λ (i : ℕ). i) (λ i. refl) v)
+
+abbrev of_kind : ModuleLocals → FunctionKind → Function
+of_kind all k = record { ty = place (kind_type k); kind = kind_of all k }
+
+-- ---- where every number stays, and a local moves
+
+module _ (moved : ℕ → ℕ → ℕ) where
+  abbrev pub moving : Renaming
+  moving = record { numbers = λ space i. i; imports = λ i. i; locals = moved }
+
+  arg_moved : (by : ℕ) (x : Arg) → moved_arg by x ≡ renamed_arg moving (λ n. by + n) x
+  arg_moved by (Index x) = refl
+  arg_moved by (LocalArg n) = refl
+  arg_moved by (Value v) = ap Value (sym (val-itself (λ (i : ℕ). i) (λ i. refl) v))
+  arg_moved by (Heap h) = ap Heap (sym (heap-itself (λ (i : ℕ). i) (λ i. refl) h))
+  arg_moved by (Block NoResult) = refl
+  arg_moved by (Block (OneResult v)) = ap (λ (w : ValType ℕ). Block (OneResult w)) (sym (val-itself (λ (i : ℕ). i) (λ i. refl) v))
+  arg_moved by (Block (OfType t)) = refl
+  arg_moved by (Access flags memory offset) = refl
+  arg_moved by (Label n) = refl
+  arg_moved by (Number n) = refl
+  arg_moved by (Count n) = refl
+  arg_moved by (Byte n) = refl
+  arg_moved by (S32 n) = refl
+  arg_moved by (S64 n) = refl
+  arg_moved by (Bits32 n) = refl
+  arg_moved by (Bits64 n) = refl
+
+  op_moved : (by : ℕ) (o : Op) → moved_op by o ≡ renamed_op moving (λ n. by + n) o
+  op_moved by o = ap (λ (args : List Arg). record { op = o.op; args = args }) (map-same (moved_arg by) (renamed_arg moving (λ n. by + n)) o.args (arg_moved by))
+
+  ops_moved : (by : ℕ) (ops : List Op) → map (moved_op by) ops ≡ renamed_ops moving (λ n. by + n) ops
+  ops_moved by ops = map-same (moved_op by) (renamed_op moving (λ n. by + n)) ops (op_moved by)
+
+  module _ (all : ModuleLocals) (c : Features) (r : wire.Module) (i : ℕ) where
+    same_body : (p : ℕ × Said) (b : wire.Body) (f : LocalFunction) (h : HoldsBody (local_types (locals all)) p.0 (params_of (types_of r p.0)) p.1 f) → ReadsBodyWith c r (p.0, b) p.1 → moved i ≡ (λ n. h.first + n)
+        → SameBody moving i (body_with (params_of (types_of r p.0)) p.1) (body all f)
+    same_body p b f h read at =
+        let params = params_of (types_of r p.0) in
+        let by : (x : ℕ) → moved i x ≡ h.first + x = λ x. ap (λ (g : ℕ → ℕ). g x) at in
+        record {
+          operators = h.operators ∙ ops_moved h.first p.1.1 ∙ ap (λ (g : ℕ → ℕ). renamed_ops moving g p.1.1) (sym at);
+          apart = λ x y u v e. let e' : h.first + x ≡ h.first + y = sym (by x) ∙ e ∙ by y in omega (arith, e');
+          types = λ x u.
+              let small : x < arity r p.0 + length p.1.0 = used_below c r (p.0, b) p.1 x read u in
+              ap (item_at (local_types (locals all))) (by x) ∙ h.local_types x (within params p.1.0 x small) ∙ sym (types_stay (slice_get (params ++ p.1.0) x));
+          parameters = λ x u. ap₂ place_in h.parameters (by x) ∙ parameter_places h.first (length params) x;
+        }
+      where
+        within : (xs ys : List (ValType ℕ)) (x : ℕ) → x < length xs + length ys → x < length (xs ++ ys)
+        within xs ys x lt = omega (arith, lt, length-append xs ys)
+
+    same_held : (p : ℕ × Said) (b : wire.Body) (slot : Option FunctionValue) (h : HoldsFunction (types_of r) (local_types (locals all)) p slot) → ReadsBodyWith c r (p.0, b) p.1 → moved i ≡ (λ n. h.body.first + n)
+        → BothAnd (SameFunction moving i) (Some (function_with r p)) (option_map (function all) slot)
+    same_held p b slot h read at =
+        let same : SameFunction moving i (function_with r p) (of_kind all (Local h.local)) = record { ty = h.body.typed; kind = same_body p b h.local h.body read at } in
+        let known : option_map (function all) slot ≡ Some (of_kind all (Local h.local)) = ap (option_map (function all)) h.is ∙ ap (λ (k : FunctionKind). Some (of_kind all k)) h.kind in
+        subst (λ (o : Option Function). BothAnd (SameFunction moving i) (Some (function_with r p)) o) (sym known) same
+
+-- ---- slot by slot
+
+module _ (types : ℕ → Option TypeDef) (slots : List (Option (ValType ℕ))) where
+  abbrev Holds : ℕ × Said → Option FunctionValue → Type 0
+  Holds p slot = HoldsFunction types slots p slot
+
+  -- the first local of each function
+  first_at : (ps : List (ℕ × Said)) (fs : List (Option FunctionValue)) → AllZip Holds ps fs → ℕ → ℕ
+  first_at [] [] h i = 0
+  first_at [] (f ∷ fs) h i = absurd h
+  first_at (p ∷ ps) [] h i = absurd h
+  first_at (p ∷ ps) (f ∷ fs) h zero = h.0.body.first
+  first_at (p ∷ ps) (f ∷ fs) h (suc i) = first_at ps fs h.1 i
+
+  -- function i is held
+  record HeldAt (ps : List (ℕ × Said)) (fs : List (Option FunctionValue)) (first : ℕ) (i : ℕ) : Type 0 where
+    pub pair : ℕ × Said
+    pub got : slice_get ps i ≡ Some pair
+    pub slot : Option FunctionValue
+    pub at : item_at fs i ≡ slot
+    pub holds : Holds pair slot
+    pub same : first ≡ holds.body.first
+
+  held_at : (ps : List (ℕ × Said)) (fs : List (Option FunctionValue)) (h : AllZip Holds ps fs) (i : ℕ) → i < length ps → HeldAt ps fs (first_at ps fs h i) i
+  unfolding first_at
+  held_at [] fs h i lt = absurd (omega arith)
+  held_at (p ∷ ps) [] h i lt = absurd h
+  held_at (p ∷ ps) (f ∷ fs) h zero lt = record { pair = p; got = refl; slot = f; at = refl; holds = h.0; same = refl }
+  held_at (p ∷ ps) (f ∷ fs) h (suc i) lt =
+      let r = held_at ps fs h.1 i (omega arith) in
+      record { pair = r.pair; got = r.got; slot = r.slot; at = r.at; holds = r.holds; same = r.same }
+
+  no_handlers : (p : ℕ × Said) (slot : Option FunctionValue) → Holds p slot → handlers_at slot ≡ []
+  no_handlers p slot h = ap handlers_at h.is ∙ ap kind_handlers h.kind ∙ ap (map place) h.body.handlers
+
+  none_handled : (ps : List (ℕ × Said)) (fs : List (Option FunctionValue)) (i : ℕ) → AllZip Holds ps fs → handlers_at (item_at fs i) ≡ []
+  none_handled [] [] i h = refl
+  none_handled [] (f ∷ fs) i h = absurd h
+  none_handled (p ∷ ps) [] i h = absurd h
+  none_handled (p ∷ ps) (f ∷ fs) zero h = no_handlers p f h.0
+  none_handled (p ∷ ps) (f ∷ fs) (suc i) h = none_handled ps fs i h.1
+
+pub item_within : {A : Type 0} (xs : List (Option A)) (i : ℕ) → IsSome (item_at xs i) → i < length xs
+item_within [] i h = absurd (none_there h)
+item_within (x ∷ xs) zero h = omega arith
+item_within (x ∷ xs) (suc i) h = let lt : i < length xs = item_within xs i h in omega (arith, lt)
+
+got_within : {A : Type 0} (xs : List A) (i : ℕ) → IsSome (slice_get xs i) → i < length xs
+got_within [] i h = absurd (none_there h)
+got_within (x ∷ xs) zero h = omega arith
+got_within (x ∷ xs) (suc i) h = let lt : i < length xs = got_within xs i h in omega (arith, lt)
+
+was_some : {A B : Type 0} (f : A → B) (o : Option A) → IsSome (option_map f o) → IsSome o
+was_some f (Some x) h = refl
+was_some f None h = absurd (none_there h)
+
+no_items : {X : Type 0} (A : ℕ → Type 0) (S : ℕ → X → X → Type 0) → Carries (λ i. IsSome {T = X} None) A (λ i. i) S (λ i. None) (λ i. None)
+no_items A S = record { same = λ i h. absurd (none_there h); onto = λ j h. absurd (none_there h) }
+
+-- ---- bodies are whole
+
+module _ (moved : ℕ → ℕ → ℕ) (all : ModuleLocals) (c : Features) (r : wire.Module) (i : ℕ) (p : ℕ × Said) (b : wire.Body) (g : LocalFunction)
+    (h : HoldsBody (local_types (locals all)) p.0 (params_of (types_of r p.0)) p.1 g) (read : ReadsBodyWith c r (p.0, b) p.1) (at : moved i ≡ (λ n. h.first + n)) where
+  abbrev params : List (ValType ℕ)
+  params = params_of (types_of r p.0)
+
+  at_place : (x : ℕ) → moved i x ≡ h.first + x
+  at_place x = ap (λ (f : ℕ → ℕ). f x) at
+
+  -- a used local is one of those that were added
+  used_there : (y : ℕ) → Contains (locals_of (body_of_local g)) y → y < length (locals all)
+  used_there y used =
+      let same = same_body moved all c r i p b g h read at in
+      let u = Contains-unmap (moved i) (locals_of p.1.1) y (subst (λ xs. Contains xs y) (used_follow (moving moved) i (body_with params p.1) (body all g) same) used) in
+      let small : u.0 < length params + length p.1.0 = used_below c r (p.0, b) p.1 u.0 read u.1 in
+      let within : u.0 < length (params ++ p.1.0) = omega (arith, small, length-append params p.1.0) in
+      let typed : item_at (local_types (locals all)) y ≡ slice_get (params ++ p.1.0) u.0 =
+      ap (item_at (local_types (locals all))) (sym u.2 ∙ at_place u.0) ∙ h.local_types u.0 within in
+      let below : y < length (local_types (locals all)) = item_within (local_types (locals all)) y (subst (λ (o : Option (ValType ℕ)). IsSome o) (sym typed) (there (params ++ p.1.0) u.0 within)) in
+      omega (arith, below, length-map (locals all) (option_map (λ l. val_type (local_type l))))
+
+  whole : IsWholeBody (moving moved) i (body_with params p.1) (body all g)
+  whole = record {
+    parameters =
+        h.parameters ∙ ap (λ (n : ℕ). range_with_len n (length params)) (let e : h.first ≡ h.first + 0 = omega arith in e)
+        ∙ range_moved h.first 0 (length params) ∙ ap (λ (f : ℕ → ℕ). map f (range_with_len 0 (length params))) (sym at);
+    types = λ x v e. ap (item_at (local_types (locals all))) (at_place x) ∙ h.local_types x (got_in (params ++ p.1.0) x v e).0 ∙ e;
+    counted = counts g all used_there;
+    rise = λ x y is too lt. omega (arith, at_place x, at_place y, lt);
+  }
+
+-- ---- the whole
+
+module _ (c : Features) (r : wire.Module) (x : Contents) (many : length r.bodies ≡ length r.functions) (h : HasTaken c (supported r) x) where
+  abbrev all : ModuleLocals
+  all = x.locals
+
+  abbrev slots : List (Option FunctionValue)
+  slots = functions x.funcs
+
+  abbrev M : Abstract
+  M = module_of (supported r) h.bodies [] []
+
+  abbrev v : Abstract
+  v = contents_view x
+
+  abbrev pairs : List (ℕ × Said)
+  pairs = zip r.functions h.bodies
+
+  abbrev types : List TypeDef
+  types = types_from 0 r.types
+
+  -- a function's locals begin where its first one stands
+  abbrev moved : ℕ → ℕ → ℕ
+  moved i n = first_at (types_of r) (local_types (locals all)) pairs slots h.functions i + n
+
+  abbrev further : ℕ → ℕ → ℕ
+  further k n = k + n
+
+  function_carried : (i : ℕ) → IsSome (M.functions i) → BothAnd (SameFunction (moving moved) i) (M.functions i) (v.functions i)
+  function_carried i live =
+      let e = got_map (function_with r) pairs i in
+      let some : IsSome (slice_get pairs i) = was_some (function_with r) (slice_get pairs i) (subst (λ o. IsSome o) e live) in
+      let a = held_at (types_of r) (local_types (locals all)) pairs slots h.functions i (got_within pairs i some) in
+      let b = read_at (ReadsBodyWith c (supported r)) r.functions r.bodies h.bodies i a.pair many h.read a.got in
+      let at : moved i ≡ (λ n. a.holds.body.first + n) = ap further a.same in
+      let was : Some (function_with r a.pair) ≡ M.functions i = sym (e ∙ ap (option_map (function_with r)) a.got) in
+      subst (λ (o : Option Function). BothAnd (SameFunction (moving moved) i) o (v.functions i)) was
+      (subst (λ (s : Option FunctionValue). BothAnd (SameFunction (moving moved) i) (Some (function_with r a.pair)) (option_map (function all) s)) (sym a.at)
+      (same_held moved all c (supported r) i a.pair b.0 a.slot a.holds b.1 at))
+
+  function_within : (i : ℕ) → IsSome (M.functions i) → i < length pairs
+  function_within i live = got_within pairs i (was_some (function_with r) (slice_get pairs i) (subst (λ o. IsSome o) (got_map (function_with r) pairs i) live))
+
+  function_there : (i : ℕ) → IsSome (v.functions i) → IsSome (M.functions i)
+  function_there i live =
+      let lt : i < length slots = item_within slots i (was_some (function all) (item_at slots i) live) in
+      let as_many : length pairs ≡ length slots = zip_length (HoldsFunction (types_of r) (local_types (locals all))) pairs slots h.functions in
+      let within : i < length pairs = omega (arith, lt, as_many) in
+      there_mapped (function_with r) pairs i within
+
+  type_at : (i : ℕ) → v.types i ≡ types_of r i
+  type_at i = type_there r x.types h.types i
+
+  -- ---- no handlers
+
+  handled : (f : ℕ) → v.handler_types f ≡ []
+  handled f = none_handled (types_of r) (local_types (locals all)) pairs slots f h.functions
+
+  module _ (none : (f : ℕ) (b : Body) → body_of M f ≡ Some b → handlers_of M b ≡ []) where
+    no_handler : (f : ℕ) (o : Option Body) → body_of M f ≡ o → handlers_by M o ≡ []
+    no_handler f None e = refl
+    no_handler f (Some b) e = none f b e
+
+    adds : (fs : List ℕ) → AddsHandlers M v.handler_types fs types types
+    adds [] = NoFunction types
+    adds (f ∷ fs) =
+        let found : AreFoundOrAdded (handlers_by M (body_of M f)) types types (v.handler_types f) =
+        subst (λ ks. AreFoundOrAdded ks types types (v.handler_types f)) (sym (no_handler f (body_of M f) refl))
+        (subst (λ ps. AreFoundOrAdded [] types types ps) (sym (handled f)) (NoMore types)) in
+        AndThose f fs types types types found (adds fs)
+
+  -- ---- bodies
+
+  said_by : (o : Option (ℕ × Said)) (a : Body) → body_of_function (option_map (function_with r) o) ≡ Some a → (p : ℕ × Said) × (o ≡ Some p) × (body_with (params_of (types_of r p.0)) p.1 ≡ a)
+  said_by (Some p) a e = (p, refl, some_inj (body_with (params_of (types_of r p.0)) p.1) a e)
+  said_by None a e = absurd (let no : ◌≡◌ {A = Option Body} None (Some a) = e in cc)
+
+  held_body : (slot : Option FunctionValue) (p : ℕ × Said) (k : HoldsFunction (types_of r) (local_types (locals all)) p slot) → body_of_function (option_map (function all) slot) ≡ Some (body all k.local)
+  held_body slot p k = ap body_of_function (ap (option_map (function all)) k.is ∙ ap (λ (o : FunctionKind). Some (of_kind all o)) k.kind)
+
+  whole_bodies : (f : ℕ) (a b : Body) → body_of M f ≡ Some a → body_of v f ≡ Some b → IsWholeBody (moving moved) f a b
+  whole_bodies f a b was is =
+      let s = said_by (slice_get pairs f) a (sym (ap body_of_function (got_map (function_with r) pairs f)) ∙ was) in
+      let k = held_at (types_of r) (local_types (locals all)) pairs slots h.functions f (got_in pairs f s.0 s.1).0 in
+      let one : k.pair ≡ s.0 = some_inj k.pair s.0 (sym k.got ∙ s.1) in
+      let t = read_at (ReadsBodyWith c (supported r)) r.functions r.bodies h.bodies f k.pair many h.read k.got in
+      let at : moved f ≡ (λ n. k.holds.body.first + n) = ap further k.same in
+      let old : body_with (params_of (types_of r k.pair.0)) k.pair.1 ≡ a = ap (λ (q : ℕ × Said). body_with (params_of (types_of r q.0)) q.1) one ∙ s.2 in
+      let new : body all k.holds.local ≡ b = some_inj (body all k.holds.local) b (sym (ap (λ (o : Option FunctionValue). body_of_function (option_map (function all) o)) k.at ∙ held_body k.slot k.pair k.holds) ∙ is) in
+      subst (λ (y : Body). IsWholeBody (moving moved) f a y) new
+      (subst (λ (y : Body). IsWholeBody (moving moved) f y (body all k.holds.local)) old
+      (whole moved all c (supported r) f k.pair t.0 k.holds.local k.holds.body t.1 at))
+
+  -- ---- nothing is named
+
+  either_none : (t : Bool) → ◌≡◌ {A = List Name} (if t then [] else []) []
+  either_none true = refl
+  either_none false = refl
+
+  unnamed : (y : Subject) → M.named y ≡ []
+  unnamed y = either_none (is_in_range (items_of (supported r) h.bodies []) y)
+
+  module _ (config : Config) (own_names : config.synthetic_names ≡ false) where
+    nameless : (y : Subject) → None ≡ name_of config M y
+    nameless y =
+        sym (ap (λ (t : Bool). or_else (last_name (names_that_count t M y)) (if t then synthetic_name M y else None)) own_names
+        ∙ ap (λ names. or_else (last_name names) None) (unnamed y))
+
+  -- ---- all of it; the producers of the module in memory are given
+  pub parsed : (config : Config) → config.synthetic_names ≡ false → ((f : ℕ) (b : Body) → body_of M f ≡ Some b → handlers_of M b ≡ []) → v.producers ≡ produced [] → ParsedAs config M v
+  parsed config own_names none put_in = record {
+    types = types;
+    functions = length pairs;
+    all_types = types;
+    types_read = λ i. refl;
+    functions_read = λ f. (function_within f, there_mapped (function_with r) pairs f);
+    handlers = adds none (range_with_len 0 (length pairs));
+    types_made = type_at;
+    no_handlers = λ f past. handled f;
+    renaming = moving moved;
+    carried = record {
+      types = record {
+        same = λ i live. subst (λ o. BothAnd (SameType (λ k. k) i) (types_of r i) o) (sym (type_at i)) (both_types i (types_of r i) live);
+        onto = λ j live. inl (j, subst (λ o. IsSome o) (type_at j) live, refl);
+      };
+      imports = record { same = λ i x. (let e = x.1 in cc); onto = λ j live. absurd (none_there live) };
+      functions = record { same = function_carried; onto = λ j live. inl (j, function_there j live, refl) };
+      tables = no_items _ _;
+      memories = no_items _ _;
+      tags = no_items _ _;
+      globals = no_items _ _;
+      elements = no_items _ _;
+      data_segments = no_items _ _;
+      imports_apart = λ i j k l e. e;
+      apart = λ space no i j k l e. e;
+      exports = h.exports ∙ sym (map-itself (renamed_export (moving moved)) _ (λ e. refl));
+      start = refl;
+    };
+    bodies = whole_bodies;
+    in_place = λ y. refl;
+    imports_in_place = λ i. refl;
+    table_segments = λ table segment. refl;
+    memory_segments = λ memory segment. refl;
+    section_roots = refl;
+    customs = refl;
+    producers = put_in;
+    own = nameless config own_names TheModule;
+    items = λ y live. nameless config own_names (AnItem y);
+    added = λ i past. refl;
+    locals = λ f b y is typed. nameless config own_names (ALocal f y);
+  }

@@ -1,0 +1,107 @@
+-- The locals that a body in memory declares: those that it uses beside its parameters.
+use Rattle.std.proofs.Common.{◌≡◌, ◌≢◌, ℕ, ◌+◌, ◌<◌, ◌||◌, ◌&&◌, Bool, true, false, List, [], ◌∷◌, length, map, refl, sym, ap, subst, ◌∙◌, arith, ⊎_elim, ◌⊎◌, inl, inr}
+use Rattle.std.specs.Prelude.{Contains, AllPairs, filter, not, ◌==◌, cond}
+use Rattle.std.specs.List.{range_with_len}
+use Rattle.std.proofs.lemmas.Bool.Decides.{Decides-eqb}
+use Rattle.std.proofs.lemmas.List.Kept.{AllPairs-filter}
+use Rattle.walrus_base.specs.Id.{place}
+use Rattle.walrus_types.specs.Locals.{locals}
+use Rattle.walrus_types.specs.Operators.{locals_of}
+use Rattle.walrus_types.specs.PlaceList.{has}
+use Rattle.walrus_types.specs.declared.locals.ModuleLocals.{ModuleLocals}
+use Rattle.walrus_code.specs.Function.{body_of}
+use Rattle.walrus_code.specs.declared.function.LocalFunction.{LocalFunction}
+use Rattle.walrus_contents.specs.View.{is_declared, body}
+use Rattle.walrus_contents.proofs.TypeLists.{in_range}
+use Rattle.walrus_model.proofs.Lists.{Contains-head, Contains-tail, Contains-uncons, Contains-none}
+use Rattle.walrus_model.proofs.Standing.{none_there}
+use Rattle.walrus_rules.specs.Pinned.{IsDeclared}
+use Rattle.walrus_rules.specs.WellMade.{IsCounted}
+use Rattle.walrus_reading.proofs.WholeLists.{range_apart}
+
+-- ---- tests
+
+both_pass : (a b : Bool) → (a && b) ≡ true → (a ≡ true) × (b ≡ true)
+both_pass true b e = (refl, e)
+both_pass false b e = absurd (none_there e)
+
+pass_both : (a b : Bool) → a ≡ true → b ≡ true → (a && b) ≡ true
+pass_both true b p q = q
+pass_both false b p q = absurd (none_there p)
+
+not_true : (b : Bool) → not b ≡ true → b ≡ true → ⊥
+not_true true h e = none_there h
+not_true false h e = none_there e
+
+true_not : (b : Bool) → (b ≡ true → ⊥) → not b ≡ true
+true_not true h = absurd (h refl)
+true_not false h = refl
+
+first_passes : (a b : Bool) → a ≡ true → (a || b) ≡ true
+first_passes true b h = refl
+first_passes false b h = absurd (none_there h)
+
+second_passes : (a b : Bool) → b ≡ true → (a || b) ≡ true
+second_passes true b h = refl
+second_passes false b h = h
+
+has_contained : (ns : List ℕ) (p : ℕ) → Contains ns p → has ns p ≡ true
+has_contained [] p c = absurd (Contains-none p c)
+has_contained (n ∷ ns) p c =
+    ⊎_elim (λ (e : n ≡ p). first_passes (n == p) (has ns p) ((Decides-eqb n p).1 e))
+    (λ (d : Contains ns p). second_passes (n == p) (has ns p) (has_contained ns p d))
+    (Contains-uncons n p ns c)
+
+contained_has : (ns : List ℕ) (p : ℕ) → has ns p ≡ true → Contains ns p
+contained_has [] p h = absurd (none_there h)
+contained_has (n ∷ ns) p h = by (n == p) refl h (contained_has ns p)
+  where
+    by : (t : Bool) → (n == p) ≡ t → (t || has ns p) ≡ true → (has ns p ≡ true → Contains ns p) → Contains (n ∷ ns) p
+    by true e h rest = subst (Contains (n ∷ ns)) ((Decides-eqb n p).0 e) (Contains-head n ns)
+    by false e h rest = Contains-tail n p ns (rest h)
+
+-- ---- what passes a test
+
+in_filter : (p : ℕ → Bool) (xs : List ℕ) (x : ℕ) → Contains xs x → p x ≡ true → Contains (filter p xs) x
+in_filter p [] x c passes = absurd (Contains-none x c)
+in_filter p (y ∷ xs) x c passes = by (p y) refl (Contains-uncons y x xs c) (λ d. in_filter p xs x d passes)
+  where
+    by : (t : Bool) → p y ≡ t → (y ≡ x) ⊎ Contains xs x → (Contains xs x → Contains (filter p xs) x) → Contains (cond t (y ∷ filter p xs) (filter p xs)) x
+    by true e (inl same) rest = subst (Contains (y ∷ filter p xs)) same (Contains-head y (filter p xs))
+    by true e (inr is) rest = Contains-tail y x (filter p xs) (rest is)
+    by false e (inl same) rest = absurd (none_there (sym e ∙ ap p same ∙ passes))
+    by false e (inr is) rest = rest is
+
+passed : (p : ℕ → Bool) (xs : List ℕ) (x : ℕ) → Contains (filter p xs) x → p x ≡ true
+passed p [] x c = absurd (Contains-none x c)
+passed p (y ∷ xs) x c = by (p y) refl c (passed p xs x)
+  where
+    by : (t : Bool) → p y ≡ t → Contains (cond t (y ∷ filter p xs) (filter p xs)) x → (Contains (filter p xs) x → p x ≡ true) → p x ≡ true
+    by true e d rest = ⊎_elim (λ (same : y ≡ x). ap p (sym same) ∙ e) rest (Contains-uncons y x (filter p xs) d)
+    by false e d rest = rest d
+
+-- ---- a body whose used locals are all there counts them
+
+module _ (f : LocalFunction) (all : ModuleLocals) where
+  abbrev ones : List ℕ
+  ones = filter (is_declared f) (range_with_len 0 (length (locals all)))
+
+  one_is : (x : ℕ) → Contains ones x → IsDeclared (body all f) x
+  one_is x c =
+      let parts = both_pass (has (locals_of (body_of f)) x) (not (has (map place f.args.items) x)) (passed (is_declared f) (range_with_len 0 (length (locals all))) x c) in
+      (contained_has (locals_of (body_of f)) x parts.0, λ among. not_true (has (map place f.args.items) x) parts.1 (has_contained (map place f.args.items) x among))
+
+  is_one : (x : ℕ) → x < length (locals all) → IsDeclared (body all f) x → Contains ones x
+  is_one x within d =
+      let ranged : Contains (range_with_len 0 (length (locals all))) x = subst (Contains (range_with_len 0 (length (locals all)))) (let e : 0 + x ≡ x = omega arith in e) (in_range 0 (length (locals all)) x within) in
+      in_filter (is_declared f) (range_with_len 0 (length (locals all))) x ranged
+      (pass_both (has (locals_of (body_of f)) x) (not (has (map place f.args.items) x)) (has_contained (locals_of (body_of f)) x d.0)
+      (true_not (has (map place f.args.items) x) (λ h. d.1 (contained_has (map place f.args.items) x h))))
+
+  pub counts : ((x : ℕ) → Contains (locals_of (body_of f)) x → x < length (locals all)) → IsCounted (body all f)
+  counts there = record {
+    locals = ones;
+    distinct = AllPairs-filter (λ (x : ℕ) (y : ℕ). x ≢ y) (is_declared f) (range_with_len 0 (length (locals all))) (range_apart 0 (length (locals all)));
+    are = λ x. (one_is x, λ d. is_one x (there x d.0) d);
+    count = refl;
+  }
