@@ -38,3 +38,6 @@ pub mod WireTypes
 pub mod WrittenAs
 pub mod WrittenFrames
 pub mod WrittenLemmas
+pub mod RefusesUnspelled
+pub mod RefusesIndex
+pub mod RefusesLarge
