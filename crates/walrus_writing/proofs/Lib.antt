@@ -41,3 +41,5 @@ pub mod WrittenLemmas
 pub mod RefusesUnspelled
 pub mod RefusesIndex
 pub mod RefusesLarge
+pub mod NoCauseBodies
+pub mod NoCauseHeaps
