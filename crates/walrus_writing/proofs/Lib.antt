@@ -43,3 +43,5 @@ pub mod RefusesIndex
 pub mod RefusesLarge
 pub mod NoCauseBodies
 pub mod NoCauseHeaps
+pub mod NoCauseLocals
+pub mod NoCauseItems

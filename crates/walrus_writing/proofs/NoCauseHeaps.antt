@@ -109,23 +109,25 @@ module _ (names : Lookup) where
       let x = bind_some (named_field names element) (λ found. Some (Array found)) l e in
       field_back element x.0 x.1 (subst (λ (z : CompType ℕ). Plain (comp_heaps z)) (sym (some_same (Array x.0) l x.2)) n)
 
-  def_back : (x y : TypeDef) → named_def names x ≡ Some y → TypePlain y → TypePlain x
-  def_back x y e n =
+  -- the composite type of a type that was looked up
+  pub comp_named : (x y : TypeDef) → named_def names x ≡ Some y → named_comp names x.sub.comp ≡ Some y.sub.comp
+  comp_named x y e =
       let g = bind_some (named_types names x.group) (λ group. named_sub names x.sub >>= λ sub. let made : TypeDef = record { group = group; sub = sub } in Some made) y e in
       let s = bind_some (named_sub names x.sub) (λ sub. let made : TypeDef = record { group = g.0; sub = sub } in Some made) y g.2 in
       let sub_is = ap (λ (d : TypeDef). d.sub) (some_same _ y s.2) in
       let t = bind_some (named_types names x.sub.supertypes) (λ supertypes. named_comp names x.sub.comp >>= λ comp. Some (record { is_final = x.sub.is_final; supertypes = supertypes; comp = comp })) s.0 s.1 in
       let k = bind_some (named_comp names x.sub.comp) (λ comp. Some (record { is_final = x.sub.is_final; supertypes = t.0; comp = comp })) s.0 t.2 in
       let comp_is = ap (λ z. z.comp) (some_same _ s.0 k.2) in
-      comp_back x.sub.comp k.0 k.1 (subst (λ (z : CompType ℕ). Plain (comp_heaps z)) (sym (comp_is ∙ ap (λ z. z.comp) sub_is)) n)
+      k.1 ∙ ap (λ (z : CompType ℕ). Some z) (comp_is ∙ ap (λ z. z.comp) sub_is)
 
-  defs_back : (ys xs : List TypeDef) → map Some ys ≡ map (named_def names) xs → AllByRecursion TypePlain ys → AllByRecursion TypePlain xs
-  defs_back ys [] e h = tt
-  defs_back [] (x ∷ xs) e h = absurd (cc)
-  defs_back (y ∷ ys) (x ∷ xs) e h =
+  -- what holds of each type that was found holds so of each that was looked up
+  pub defs_back : (P Q : TypeDef → Type 0) → ((x y : TypeDef) → named_comp names x.sub.comp ≡ Some y.sub.comp → Q y → P x) → (ys xs : List TypeDef) → map Some ys ≡ map (named_def names) xs → AllByRecursion Q ys → AllByRecursion P xs
+  defs_back P Q law ys [] e h = tt
+  defs_back P Q law [] (x ∷ xs) e h = absurd (cc)
+  defs_back P Q law (y ∷ ys) (x ∷ xs) e h =
       let head : Some y ≡ named_def names x = cc in
       let tail : map Some ys ≡ map (named_def names) xs = cc in
-      (def_back x y (sym head) h.0, defs_back ys xs tail h.1)
+      (law x y (comp_named x y (sym head)) h.0, defs_back P Q law ys xs tail h.1)
 
 -- ---- a body that is well formed
 
@@ -178,7 +180,7 @@ module _ (c : Config) (p : Parts) (r : Records (parts_held p) (features_of c) (p
 
   type_plain : (i : ℕ) (x : TypeDef) → V.types i ≡ Some x → TypePlain x
   type_plain i x at =
-      each_in TypePlain (items H.types) x (defs_back r.names (types_from 0 r.raw_types) (items H.types) r.types_are.read (types_plain 0 r.raw_types))
+      each_in TypePlain (items H.types) x (defs_back r.names TypePlain TypePlain (λ y z e n. comp_back r.names y.sub.comp z.sub.comp e n) (types_from 0 r.raw_types) (items H.types) r.types_are.read (types_plain 0 r.raw_types))
       (Contains-map (λ (e : ℕ × TypeDef). e.1) (i, x) (entries H.types) (entry_in H.types i x at))
 
   types_are_plain : (o : Option TypeDef) → ((x : TypeDef) → o ≡ Some x → TypePlain x) → Plain (heaps_by (λ (t : TypeDef). comp_heaps t.sub.comp) o)
