@@ -21,7 +21,6 @@ pub mod PlacedLemmas
 pub mod Placing
 pub mod ReadBack
 pub mod RefsCarried
-pub mod RefusedLemmas
 pub mod Refusing
 pub mod Renamed
 pub mod Rows
@@ -45,3 +44,6 @@ pub mod NoCauseBodies
 pub mod NoCauseHeaps
 pub mod NoCauseLocals
 pub mod NoCauseItems
+pub mod NoCauseAll
+pub mod NoCauseLimits
+pub mod RefusesAll
