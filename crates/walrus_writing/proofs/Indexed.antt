@@ -22,12 +22,8 @@ use Rattle.walrus_functions.specs.DeclaredLocals.{AreDeclared}
 use Rattle.walrus_functions.specs.EmittedBody.{EmitsBody, LacksAnIndex, index_in}
 use Rattle.walrus_items.specs.Exports.{ExportValue, exported, exports}
 use Rattle.walrus_items.specs.Functions.{FunctionValue, functions, kind_type, local_at}
-use Rattle.walrus_items.specs.declared.exports.ModuleExports.{ModuleExports}
-use Rattle.walrus_items.specs.declared.functions.ModuleFunctions.{ModuleFunctions}
 use Rattle.walrus_types.specs.ModuleTypes.{type_slots}
 use Rattle.walrus_types.specs.TypeDef.{TypeDef}
-use Rattle.walrus_types.specs.declared.locals.ModuleLocals.{ModuleLocals}
-use Rattle.walrus_types.specs.declared.module_types.ModuleTypes.{ModuleTypes}
 use Rattle.walrus_model.specs.Abstract as abstract
 use Rattle.walrus_model.specs.Abstract.{Abstract}
 use Rattle.walrus_model.specs.Dead.{HasDead}
@@ -35,7 +31,8 @@ use Rattle.walrus_model.specs.Live.{IsLive}
 use Rattle.walrus_model.specs.Names.{body_of_function}
 use Rattle.walrus_model.specs.Refers.{named_by, type_names, function_names, local_names}
 use Rattle.walrus_contents.specs.There.{AreLive}
-use Rattle.walrus_contents.specs.View.{body, export_of, function, kind_of, view_of}
+use Rattle.walrus_contents.specs.View.{body, export_of, function, kind_of, parts_view}
+use Rattle.walrus_contents.specs.declared.parts.Parts.{Parts}
 use Rattle.walrus_contents.proofs.LiveLemmas.{was_there}
 use Rattle.walrus_contents.proofs.Slots.{item_seen}
 use Rattle.walrus_items.specs.declared.functions.FunctionKind.{FunctionKind}
@@ -47,7 +44,7 @@ use Rattle.walrus_model.proofs.Lists.{Contains-head, Contains-tail, Contains-map
 use Rattle.walrus_model.specs.Plan.{AreNumbered}
 use Rattle.walrus_writing.specs.Refusals.{RefusesBodies}
 use Rattle.walrus_writing.specs.Numbered.{planned}
-use Rattle.walrus_writing.specs.Parts.{Held, held_in, local_in, type_index, export_with_index, source, IsIndexed}
+use Rattle.walrus_writing.specs.Parts.{Held, parts_held, local_in, type_index, export_with_index, source, IsIndexed}
 use Rattle.walrus_writing.specs.Sizes.{IsOrder}
 use Rattle.walrus_writing.specs.Local.{is_local, all_local}
 use Rattle.walrus_writing.proofs.Entries.{item_passes, entry_placed, contains_placed, LocalAt, order_live, order_placed}
@@ -90,16 +87,16 @@ local_numbered slots used parameters order declared x v c is None e =
 
 -- ---- what is there, and numbered
 
-module _ (types : ModuleTypes) (all : ModuleLocals) (funcs : ModuleFunctions) (es : ModuleExports) (none_dead : HasDead (view_of types all funcs es) → ⊥) (local : all_local (items (functions funcs)) ≡ true)
-    (names : Lookup) (order : List ℕ) (ordered : IsOrder (functions funcs) order) (numbered : AreNumbered names (planned (map (λ e. e.0) (entries (type_slots types))) order)) where
+module _ (p : Parts) (none_dead : HasDead (parts_view p) → ⊥) (local : all_local (items (functions p.funcs.now)) ≡ true)
+    (names : Lookup) (order : List ℕ) (ordered : IsOrder (functions p.funcs.now) order) (numbered : AreNumbered names (planned (map (λ e. e.0) (entries (type_slots p.types.now))) order)) where
   abbrev V : Abstract
-  V = view_of types all funcs es
+  V = parts_view p
 
   there : AllLive V
   there = all_live V none_dead
 
   abbrev h : Held
-  h = held_in types all funcs
+  h = parts_held p
 
   types_named : (n : ℕ) → IsSome (item_at h.types n) → IsSome (names Types n)
   types_named n live = subst (λ (o : Option ℕ). IsSome o) (sym (numbered Types n)) (entry_placed h.types n live)
@@ -116,7 +113,7 @@ module _ (types : ModuleTypes) (all : ModuleLocals) (funcs : ModuleFunctions) (e
   -- an item that is there has an index
   item_named : (x : Item) → IsLive V x → IsSome (names x.0 x.1)
   item_named (Types, t) l = types_named t l
-  item_named (Functions, f) l = functions_named f (was_there (function all) (item_at h.funcs f) l)
+  item_named (Functions, f) l = functions_named f (was_there (function p.locals.now) (item_at h.funcs f) l)
   item_named (Tables, i) l = absurd (none_there l)
   item_named (Memories, i) l = absurd (none_there l)
   item_named (Tags, i) l = absurd (none_there l)
@@ -137,20 +134,20 @@ module _ (types : ModuleTypes) (all : ModuleLocals) (funcs : ModuleFunctions) (e
     typed : IsSome (item_at h.types (place (function_type f)))
     named : AreLive V (names_of (body_of f))
     used : (x : ℕ) → Contains (locals_of (body_of f)) x → IsSome (item_at h.slots x)
-    local_types : AreLive V (flat_map (local_names (body all f)) (locals_of (body_of f)))
+    local_types : AreLive V (flat_map (local_names (body p.locals.now f)) (locals_of (body_of f)))
 
   whole_is : (n : ℕ) (a : LocalAt h.funcs n) → IsWhole a.local
   whole_is n a =
       let first = type_item (place (function_type a.local)) in
       let inner = names_of (body_of a.local) in
-      let outer = flat_map (local_names (body all a.local)) (locals_of (body_of a.local)) in
-      let seen : V.functions n ≡ Some (record { ty = place (function_type a.local); kind = abstract.LocalFunction (body all a.local) }) =
-      ap (option_map (function all)) a.item ∙ ap (λ (k : FunctionKind). Some (let f : abstract.Function = record { ty = place (kind_type k); kind = kind_of all k } in f)) a.kind_is in
+      let outer = flat_map (local_names (body p.locals.now a.local)) (locals_of (body_of a.local)) in
+      let seen : V.functions n ≡ Some (record { ty = place (function_type a.local); kind = abstract.LocalFunction (body p.locals.now a.local) }) =
+      ap (option_map (function p.locals.now)) a.item ∙ ap (λ (k : FunctionKind). Some (let f : abstract.Function = record { ty = place (kind_type k); kind = kind_of p.locals.now k } in f)) a.kind_is in
       let live : (y : Item) → Contains (first ∷ inner ++ outer) y → IsLive V y = (λ y c. there.written (Functions, n) y (subst (λ (o : Option abstract.Function). Contains (named_by function_names o) y) (sym seen) c)) in
       record {
         typed = live first (Contains-head first (inner ++ outer));
         named = λ y c. live y (Contains-tail first y (inner ++ outer) (Contains-append_1 y inner outer c));
-        used = λ x c. there.locals n (body all a.local) x (ap body_of_function seen) c;
+        used = λ x c. there.locals n (body p.locals.now a.local) x (ap body_of_function seen) c;
         local_types = λ y c. live y (Contains-tail first y (inner ++ outer) (Contains-append_2 y inner outer c));
       }
 
@@ -161,7 +158,7 @@ module _ (types : ModuleTypes) (all : ModuleLocals) (funcs : ModuleFunctions) (e
         v.0,
         (
           v.1,
-          λ y d. w.local_types y (flat_in (local_names (body all f)) (locals_of (body_of f)) x y c
+          λ y d. w.local_types y (flat_in (local_names (body p.locals.now f)) (locals_of (body_of f)) x y c
               (subst (λ (o : Option (ValType ℕ)). Contains (named_by (λ u. map type_item (val_names u)) o) y) (sym v.1) d)),
         ),
       )
@@ -213,8 +210,8 @@ module _ (types : ModuleTypes) (all : ModuleLocals) (funcs : ModuleFunctions) (e
       (exports_named vs (λ x c. l x (Contains-tail (export_of e) x (map export_of vs) c)))
 
   -- and what each export names
-  pub exports_indexed : All (λ e. IsSome e) (map (export_with_index names) (items (exports es)))
-  exports_indexed = exports_named (items (exports es)) there.exports
+  pub exports_indexed : All (λ e. IsSome e) (map (export_with_index names) (items (exports p.exports.now)))
+  exports_indexed = exports_named (items (exports p.exports.now)) there.exports
 
 -- ---- the ids of the functions, wherever they are lent
 
@@ -223,13 +220,13 @@ lent_all P ids lent h same =
     subst (λ (l : List (Id FunctionKey)). All (λ id. P (place id)) l) (sym same)
     (λ k d lt. subst P (get_or-map place ids k d (place d) lt) (h k (place d) (omega (arith, lt, length-map ids place))))
 
-module _ (types : ModuleTypes) (all : ModuleLocals) (funcs : ModuleFunctions) (es : ModuleExports) (names : Lookup) (ids lent : List (Id FunctionKey)) (none_dead : HasDead (view_of types all funcs es) → ⊥) (local : all_local (items (functions funcs)) ≡ true)
-    (ordered : IsOrder (functions funcs) (map place ids)) (numbered : AreNumbered names (planned (map (λ e. e.0) (entries (type_slots types))) (map place ids))) (same : lent ≡ ids) where
-  pub ids_indexed : (features : Features) → All (λ id. IsIndexed (held_in types all funcs) names features (place id)) lent
-  ids_indexed features = lent_all (IsIndexed (held_in types all funcs) names features) ids lent (order_indexed types all funcs es none_dead local names (map place ids) ordered numbered features) same
+module _ (p : Parts) (names : Lookup) (ids lent : List (Id FunctionKey)) (none_dead : HasDead (parts_view p) → ⊥) (local : all_local (items (functions p.funcs.now)) ≡ true)
+    (ordered : IsOrder (functions p.funcs.now) (map place ids)) (numbered : AreNumbered names (planned (map (λ e. e.0) (entries (type_slots p.types.now))) (map place ids))) (same : lent ≡ ids) where
+  pub ids_indexed : (features : Features) → All (λ id. IsIndexed (parts_held p) names features (place id)) lent
+  ids_indexed features = lent_all (IsIndexed (parts_held p) names features) ids lent (order_indexed p none_dead local names (map place ids) ordered numbered features) same
 
-  pub ids_typed : All (λ id. IsSome (type_index (functions funcs) names (place id))) lent
-  ids_typed = lent_all (λ n. IsSome (type_index (functions funcs) names n)) ids lent (order_typed types all funcs es none_dead local names (map place ids) ordered numbered) same
+  pub ids_typed : All (λ id. IsSome (type_index (functions p.funcs.now) names (place id))) lent
+  ids_typed = lent_all (λ n. IsSome (type_index (functions p.funcs.now) names n)) ids lent (order_typed p none_dead local names (map place ids) ordered numbered) same
 
 -- ---- why a body is refused
 

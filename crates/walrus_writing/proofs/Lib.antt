@@ -47,3 +47,4 @@ pub mod NoCauseItems
 pub mod NoCauseAll
 pub mod NoCauseLimits
 pub mod RefusesAll
+pub mod Emitting

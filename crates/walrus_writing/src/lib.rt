@@ -7,3 +7,4 @@ mod records;
 mod write;
 
 pub use plan::Plan;
+pub use write::write_parts;

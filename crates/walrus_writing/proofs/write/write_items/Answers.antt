@@ -36,7 +36,7 @@ raw_types-requires c =
     let numbered = numbered_so _ _ _ _ c.in_ok-plan.ensures.types c.in_ok-indices.ensures.value in
     record {
       numbered = λ t. numbered Types t;
-      indexed = no_type_lacks c.args.parts.types.now c.args.parts.locals.now c.args.parts.funcs.now c.args.parts.exports.now c.requires.there c.requires.local names _ c.in_ok-plan.ensures.functions numbered;
+      indexed = no_type_lacks c.args.parts c.requires.there c.requires.local names _ c.in_ok-plan.ensures.functions numbered;
     }
 
 pub returns-in_err-types-clause-refused : goal.returns-in_err-types-clause-refused
@@ -48,19 +48,19 @@ pub raw_functions-requires : goal.raw_functions-requires
 raw_functions-requires c =
     let names = index_of c.in_ok-indices.indices in
     let numbered = numbered_so _ _ _ _ c.in_ok-plan.ensures.types c.in_ok-indices.ensures.value in
-    record { indexed = ids_typed c.args.parts.types.now c.args.parts.locals.now c.args.parts.funcs.now c.args.parts.exports.now names c.in_ok-plan.plan.functions.items _ c.requires.there c.requires.local c.in_ok-plan.ensures.functions numbered c.as_slice-order.ensures.value }
+    record { indexed = ids_typed c.args.parts names c.in_ok-plan.plan.functions.items _ c.requires.there c.requires.local c.in_ok-plan.ensures.functions numbered c.as_slice-order.ensures.value }
 
 pub raw_exports-requires : goal.raw_exports-requires
 raw_exports-requires c =
     let names = index_of c.in_ok-indices.indices in
     let numbered = numbered_so _ _ _ _ c.in_ok-plan.ensures.types c.in_ok-indices.ensures.value in
-    record { indexed = exports_indexed c.args.parts.types.now c.args.parts.locals.now c.args.parts.funcs.now c.args.parts.exports.now c.requires.there c.requires.local names _ c.in_ok-plan.ensures.functions numbered }
+    record { indexed = exports_indexed c.args.parts c.requires.there c.requires.local names _ c.in_ok-plan.ensures.functions numbered }
 
 pub body_bytes-requires : goal.body_bytes-requires
 body_bytes-requires c =
     let names = index_of c.in_ok-indices.indices in
     let numbered = numbered_so _ _ _ _ c.in_ok-plan.ensures.types c.in_ok-indices.ensures.value in
-    record { indexed = ids_indexed c.args.parts.types.now c.args.parts.locals.now c.args.parts.funcs.now c.args.parts.exports.now names c.in_ok-plan.plan.functions.items _ c.requires.there c.requires.local c.in_ok-plan.ensures.functions numbered c.as_slice-order.ensures.value c.args.features.now }
+    record { indexed = ids_indexed c.args.parts names c.in_ok-plan.plan.functions.items _ c.requires.there c.requires.local c.in_ok-plan.ensures.functions numbered c.as_slice-order.ensures.value c.args.features.now }
 
 pub returns-in_err-bodies-clause-refused : goal.returns-in_err-bodies-clause-refused
 returns-in_err-bodies-clause-refused c =
