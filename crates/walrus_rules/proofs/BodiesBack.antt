@@ -53,7 +53,7 @@ use Rattle.walrus_rules.proofs.UsedLocals.{behind}
 
 -- ---- one body
 
-row_is : (texts : List wire_operators.Op) → AllStand texts → IsRow (Is operator) (row_bytes op_bytes texts) texts
+pub row_is : (texts : List wire_operators.Op) → AllStand texts → IsRow (Is operator) (row_bytes op_bytes texts) texts
 row_is [] h = refl
 row_is (x ∷ xs) h = (op_bytes x, (row_bytes op_bytes xs, (refl, h.0, row_is xs h.1)))
 
