@@ -1,6 +1,6 @@
 -- What is spelled in sections that fit has counts, limits and numbers of locals that 32 bits hold, whatever its bodies are.
-use Rattle.std.proofs.Common.{◌≡◌, ℕ, zero, suc, ◌+◌, ◌≤◌, ◌<◌, ◌^◌, ◌%◌, ◌/◌, Bool, true, false, List, [], ◌∷◌, ◌++◌, length, map, zip, refl, sym, ap, subst, arith, length-append, ⊎_elim}
-use Rattle.std.specs.Prelude.{Option, Some, All, Contains, flat_map, if◌then◌else◌, nat_lt, slice_get}
+use Rattle.std.proofs.Common.{◌≡◌, ℕ, zero, suc, ◌+◌, ◌≤◌, ◌<◌, ◌^◌, ◌/◌, Bool, true, false, List, [], ◌∷◌, ◌++◌, length, map, zip, sym, subst, arith, length-append, ⊎_elim}
+use Rattle.std.specs.Prelude.{Some, All, Contains, flat_map, if◌then◌else◌, nat_lt, slice_get}
 use Rattle.std.specs.List.{AllByRecursion}
 use Rattle.std.proofs.lemmas.List.Elements.{All-head, recursion_from_All}
 use Rattle.std.proofs.lemmas.List.{length-map}
@@ -20,7 +20,7 @@ use Rattle.walrus_types.specs.Operators.{Arg, Index, Label, Local, Number, Count
 use Rattle.walrus_code.specs.FromRaw.{arg_of, op_of, ops_of}
 use Rattle.walrus_functions.specs.EmittedBody.{declaration_bytes, declarations_bytes}
 use Rattle.walrus_functions.specs.Handlers.{params_of}
-use Rattle.walrus_model.specs.Abstract.{Abstract, Body, Function, LocalFunction}
+use Rattle.walrus_model.specs.Abstract.{Body, Function, LocalFunction}
 use Rattle.walrus_model.specs.Names.{body_of}
 use Rattle.walrus_model.specs.Sections.{body_with, types_of, imported, imported_function, function_with}
 use Rattle.walrus_model.specs.Refers.{IsUsed, used_locals}
