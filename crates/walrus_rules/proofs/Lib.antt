@@ -110,4 +110,5 @@ pub mod FitsLimits
 pub mod DeclaredStays
 pub mod ReadLocal
 pub mod ReadSoFar
+pub mod OlderReads
 pub mod Runs
