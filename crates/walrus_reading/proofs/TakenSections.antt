@@ -16,6 +16,7 @@ use Rattle.walrus_functions.specs.EmittedBody.{types_of as local_types}
 use Rattle.walrus_types.specs.Locals.{locals}
 use Rattle.walrus_items.specs.Functions.{functions}
 use Rattle.walrus_items.specs.declared.exports.ModuleExports.{ModuleExports}
+use Rattle.walrus_producers.specs.declared.producers.ModuleProducers.{ModuleProducers}
 use Rattle.walrus_contents.specs.declared.parts.Contents.{Contents}
 use Rattle.walrus_items.specs.declared.functions.ModuleFunctions.{ModuleFunctions}
 use Rattle.walrus_groups.specs.Groups.{types_from}
@@ -72,13 +73,13 @@ module _ (c : Features) (r : wire.Module) (indices : IndicesToIds) (ts : ModuleT
       pub sections_refused : (e : Error) → TakesFunctions (context (ids_at indices) (is_function_at ts) c) (item_at (type_slots ts)) (zip fs bs) all funcs (Err e) → TakesSections c r (Err e)
       sections_refused e h = subst (λ s. TakesSections c s (Err e)) (sym (all_supported r only)) (refused e (under_sections (Err e) h))
 
-      pub sections_taken : length r.bodies ≡ length r.functions → (es : ModuleExports) (u : Unit {0}) (x : List RawExport)
+      pub sections_taken : length r.bodies ≡ length r.functions → (es : ModuleExports) (made : ModuleProducers) (u : Unit {0}) (x : List RawExport)
           → TakesFunctions (context (ids_at indices) (is_function_at ts) c) (item_at (type_slots ts)) (zip fs bs) all funcs (Ok u)
           → map export_entry x ≡ r.exports → exports_of es ≡ map export_of (map export_entry x)
-          → HasTaken c r (record { types = ts; locals = all; funcs = funcs; exports = es })
-      sections_taken many es u x h exported added =
+          → HasTaken c r (record { types = ts; locals = all; funcs = funcs; exports = es; producers = made })
+      sections_taken many es made u x h exported added =
           let s = saids_of (context_with c (supported r)) (types_of r) (local_types (locals all)) r.functions r.bodies (functions funcs) many (under_sections (Ok u) h) in
-          subst (λ s. HasTaken c s (record { types = ts; locals = all; funcs = funcs; exports = es })) (sym (all_supported r only)) (record {
+          subst (λ s. HasTaken c s (record { types = ts; locals = all; funcs = funcs; exports = es; producers = made })) (sym (all_supported r only)) (record {
             bodies = s.0;
             read = s.1.0;
             types = typed;

@@ -17,6 +17,8 @@ ghost use Rattle.walrus_functions.specs.ReadFunction.{StaysInFront};
 ghost use Rattle.walrus_items.specs.Exports.{exports};
 ghost use Rattle.walrus_items.specs.Functions.{functions};
 ghost use Rattle.walrus_groups.specs.Groups.{types_from, AreDeclared};
+ghost use Rattle.walrus_model.specs.Producers.{produced};
+ghost use Rattle.walrus_producers.specs.Seen.{producers};
 ghost use Rattle.walrus_model.specs.Sections.{export_of};
 ghost use Rattle.walrus_contents.specs.View.{exports_of};
 ghost use Rattle.walrus_reading.specs.Taken.{FitsIndices, IsPlace, IsLocated, AddsLocated, TakesFunction, TakesFunctions, TakesSections, context_under, types_under};
@@ -37,6 +39,7 @@ use walrus_ir::{
 };
 use walrus_items::{ExportItem, ModuleExports, ModuleFunctions};
 use walrus_parts::{Error, Result};
+use walrus_producers::ModuleProducers;
 use wasm_wire::{Raw, RawBody, RawExport, RawGroup};
 
 /// What sections that keep the rules hold, where bodies may use these proposals.
@@ -50,6 +53,7 @@ pub(crate) fn read_contents(alloc: Global, raw: &Raw<'_>, features: &Features) -
     requires room { FitsIndices (sections raw.now) }
     ensures taken { TakesSections features.now (sections raw.now) result }
     ensures located { IfOk result (λ m. AllZip IsLocated (sections raw.now).bodies (functions m.funcs)) }
+    ensures produced { IfOk result (λ m. producers m.producers ≡ produced []) }
 {
     let mut types = ModuleTypes::new(alloc);
     let mut locals = ModuleLocals::new(alloc);
@@ -71,7 +75,18 @@ pub(crate) fn read_contents(alloc: Global, raw: &Raw<'_>, features: &Features) -
         locals,
         funcs,
         exports,
+        producers: own_producers(alloc)?,
     })
+}
+
+// The producers of what this program read: itself, since what the bytes say of producers isn't read so far.
+fn own_producers(alloc: Global) -> Result<ModuleProducers>
+    ensures value { IfOk result (λ made. producers made ≡ produced []) }
+    ensures fails { IsOkUnless result out_of_memory }
+{
+    let mut made = ModuleProducers::new(alloc);
+    made.add_processed_by("walrus", "0.28.0")?;
+    Ok(made)
 }
 
 // What bodies are read under: the proposals that they may use, what indices name, and the types.

@@ -53,7 +53,7 @@ use Rattle.walrus_rules.proofs.UsedLocals.{behind}
 
 -- ---- one body
 
-row_is : (texts : List wire_operators.Op) → AllStand texts → IsRow (Is operator) (row_bytes op_bytes texts) texts
+pub row_is : (texts : List wire_operators.Op) → AllStand texts → IsRow (Is operator) (row_bytes op_bytes texts) texts
 row_is [] h = refl
 row_is (x ∷ xs) h = (op_bytes x, (row_bytes op_bytes xs, (refl, h.0, row_is xs h.1)))
 
@@ -160,8 +160,15 @@ module _ (c : Config) (t : Text) (spells : IsSpelling (told t) t) where
   function_below i h =
       let front : List Function = imported imported_function 0 t.imports in
       let back : List (ℕ × Said) = zip t.functions (map said t.bodies) in
-      omega (arith, some_there (front ++ map (function_with s) back) i h, length-append front (map (function_with s) back), length-map back (function_with s), zipped,
-      as_many_imported 0 t.imports, length-append (imported imported_type 0 t.imports) t.functions)
+      omega (
+        arith,
+        some_there (front ++ map (function_with s) back) i h,
+        length-append front (map (function_with s) back),
+        length-map back (function_with s),
+        zipped,
+        as_many_imported 0 t.imports,
+        length-append (imported imported_type 0 t.imports) t.functions,
+      )
 
   counted : (o : Option ℕ) (d : ℕ) → IsCount m (length t.data_segments) o → NeedsCount m → d < length t.data_segments → below (unwrap_or (later o None) 0) d ≡ Some d
   counted None d h needs lt = absurd (h needs)

@@ -1,5 +1,5 @@
 -- What the steps bring a module to names nothing that isn't there.
-use Rattle.std.proofs.Common.{◌≡◌, ℕ, List, refl, sym, ◌∙◌, subst, false, true}
+use Rattle.std.proofs.Common.{◌≡◌, ℕ, List, refl, sym, ◌∙◌, subst}
 use Rattle.std.specs.Prelude.{Option, Some, None, IsSome}
 use Rattle.walrus_model.specs.Abstract.{Abstract, Function, Uninitialised, Element, Import}
 use Rattle.walrus_model.specs.Config.{Config}

@@ -2,8 +2,8 @@
 -- element segments.
 use Rattle.std.proofs.Common.{◌≡◌, ℕ, refl, sym, ap, ◌∙◌, subst, inl, inr, ⊎_elim}
 use Rattle.std.specs.Prelude.{Option, Some, None, IsSome, is_some, Contains}
-use Rattle.walrus_types.specs.Operators.{Functions, Elements}
-use Rattle.walrus_model.specs.Abstract.{Abstract, Body, Function, Export}
+use Rattle.walrus_types.specs.Operators.{Elements}
+use Rattle.walrus_model.specs.Abstract.{Abstract, Body, Function}
 use Rattle.walrus_model.specs.Config.{Config}
 use Rattle.walrus_model.specs.Declared.{ref_func, IsRefInBody, IsRefInGlobal, IsUndeclared, NothingUndeclared}
 use Rattle.walrus_model.specs.Kept.{Kept}

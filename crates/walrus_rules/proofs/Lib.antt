@@ -105,7 +105,10 @@ pub mod NestedBack
 pub mod WrittenReads
 pub mod WrittenBodies
 pub mod FitsTold
+pub mod TextFits
+pub mod FitsLimits
 pub mod DeclaredStays
 pub mod ReadLocal
 pub mod ReadSoFar
+pub mod OlderReads
 pub mod Runs

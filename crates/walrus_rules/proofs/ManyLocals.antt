@@ -62,7 +62,7 @@ module _ (a d : Body) (i : ℕ) (t : Renaming) (s : SameBody t i a d) (qs : List
   is_past : (x : ℕ) → IsUsed a x → (Contains a.parameters x → ⊥) → length qs ≤ t.locals i x
   is_past x u away = past_range (length qs) (t.locals i x) (ap (λ (z : Body). place_in z.parameters (t.locals i x)) (sym e) ∙ s.parameters x u ∙ unplaced a.parameters x away)
 
-  few : (k : ℕ) → length qs ≤ k → ((y : ℕ) → IsUsed a y → t.locals i y < k) → (ys : List ℕ) → Distinct ys → ((y : ℕ) → In y ys → IsUsed a y × (Contains a.parameters y → ⊥)) → length qs + length ys ≤ k
+  pub few : (k : ℕ) → length qs ≤ k → ((y : ℕ) → IsUsed a y → t.locals i y < k) → (ys : List ℕ) → Distinct ys → ((y : ℕ) → In y ys → IsUsed a y × (Contains a.parameters y → ⊥)) → length qs + length ys ≤ k
   few k low used ys dist are =
       let g = gap (length qs) k low in
       let long : length (map (t.locals i) ys) ≤ g.0 = pigeon (length qs) g.0 (map (t.locals i) ys)
@@ -80,7 +80,7 @@ params_long g (Func params results) = as_long (map_val g) params
 params_long g (Struct fields) = refl
 params_long g (Array element) = refl
 
-same_params : (g : ℕ → ℕ) (i : ℕ) (x y : TypeDef) → SameType g i x y → length (params_of (Some y)) ≡ length (params_of (Some x))
+pub same_params : (g : ℕ → ℕ) (i : ℕ) (x y : TypeDef) → SameType g i x y → length (params_of (Some y)) ≡ length (params_of (Some x))
 same_params g i x y s = ap (λ z. length (type_params z.comp)) (same_sub g i x y s) ∙ params_long g x.sub.comp
 
 unmasked : {X Y : Type 0} (o : Option X) (q : Option Y) (y : Y) → masked o q ≡ Some y → q ≡ Some y

@@ -3,8 +3,7 @@ use Rattle.std.proofs.Common.{◌≡◌, ℕ, Bool, true, false, List, [], ◌�
 use Rattle.std.specs.Prelude.{◌&&◌, if◌then◌else◌, Option, Some, None, Contains}
 use Rattle.std.specs.List.{list_all}
 use Rattle.walrus_base.specs.Types.{CompType, Func, Struct, Array}
-use Rattle.walrus_types.specs.Operators.{BlockType, NoResult, OneResult, OfType, Arg, Index, Local, Value, Heap, Block, Access, Label, Number, Count, Byte, S32, S64, Bits32, Bits64, Op}
-use Rattle.walrus_types.specs.TypeDef.{TypeDef}
+use Rattle.walrus_types.specs.Operators.{NoResult, OneResult, OfType, Arg, Index, Local, Value, Heap, Block, Access, Label, Number, Count, Byte, S32, S64, Bits32, Bits64, Op}
 use Rattle.walrus_bodies.specs.declared.blocks.Opened.{Opened}
 use Rattle.walrus_bodies.specs.declared.blocks.Opened.TheVariants.{Plain}
 use Rattle.walrus_bodies.specs.declared.features.Features.{Features}
@@ -12,7 +11,7 @@ use Rattle.walrus_bodies.specs.Blocks.{label_below, blocks_meant, blocks_behind,
 use Rattle.walrus_bodies.specs.Features.{is_allowed, are_allowed}
 use Rattle.walrus_bodies.specs.FunctionTypes.{is_function_comp, is_function_def}
 use Rattle.walrus_model.specs.Abstract.{Abstract}
-use Rattle.walrus_model.specs.Renaming.{Renaming, renamed_arg, renamed_op, renamed_ops}
+use Rattle.walrus_model.specs.Renaming.{Renaming, renamed_arg, renamed_ops}
 use Rattle.walrus_model.specs.Rules.{IsFunctionComp, IsFunctionType}
 use Rattle.walrus_model.proofs.Lists.{Contains-head, Contains-tail}
 

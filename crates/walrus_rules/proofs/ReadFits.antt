@@ -76,6 +76,41 @@ zip_short [] (b ∷ bs) = omega arith
 zip_short (a ∷ as_) [] = omega arith
 zip_short (a ∷ as_) (b ∷ bs) = omega (arith, zip_short as_ bs)
 
+-- ---- what holds of each body holds of each function, since an imported one has none
+
+module _ (Q : Body → Type 0) where
+  abbrev pub OnBody : Function → Type 0
+  OnBody g = (b : Body) → g.kind ≡ LocalFunction b → Q b
+
+  import_on : (i : ℕ) (d : RawDesc) → AllByRecursion OnBody (option_to_list (imported_function i d))
+  import_on i (descs.Function ty) = ((λ b e. absurd cc), tt)
+  import_on i (descs.Table ty) = tt
+  import_on i (descs.Memory l) = tt
+  import_on i (descs.Global ty) = tt
+  import_on i (descs.Tag ty) = tt
+
+  pub imports_on : (i : ℕ) (xs : List entries.Import) → AllByRecursion OnBody (imported imported_function i xs)
+  imports_on i [] = tt
+  imports_on i (x ∷ xs) = all_append OnBody (option_to_list (imported_function i x.desc)) (imported imported_function (i + 1) xs) (import_on i x.desc) (imports_on (i + 1) xs)
+
+-- each used local has a small number
+abbrev pub UsesSmall : Body → Type 0
+UsesSmall b = (y : ℕ) → IsUsed b y → y < 2 ^ 32
+
+-- ---- locals: their numbers are indices that were read
+
+local_small : (x : RawArg) → ArgGood x → ArgHolds (λ n. n < 2 ^ 32) (arg_of x)
+local_small (raw.Local n) h = h
+local_small x h = tt
+
+args_small : (xs : List RawArg) → AllByRecursion ArgGood xs → AllByRecursion (ArgHolds (λ n. n < 2 ^ 32)) (map arg_of xs)
+args_small [] h = tt
+args_small (x ∷ xs) h = (local_small x h.0, args_small xs h.1)
+
+pub ops_small : (os : List wire_operators.Op) → AllByRecursion (λ (o : wire_operators.Op). AllByRecursion ArgGood o.args) os → OpsHold (λ n. n < 2 ^ 32) (ops_of os)
+ops_small [] h = tt
+ops_small (o ∷ os) h = (args_small o.args h.0, ops_small os h.1)
+
 module _ (c : Config) (s : wire.Module) where
   body_long : (f : ℕ × wire.Body) (x : Said) → ReadsBody c s f x → 1 ≤ length f.1.bytes
   unfolding declarations
@@ -94,20 +129,6 @@ module _ (c : Config) (s : wire.Module) where
       let first : 2 ≤ length are.0 = omega (arith, ap length one.spelled, length-append one.size b.bytes, number_long 5 (2 ^ 32) one.size (length b.bytes) one.sized, body_long (f, b) x all.0) in
       omega (arith, ap length are.1.1.0, length-append are.0 are.1.0, first, bodies_long fs bs xs (place + length are.0) are.1.0 are.1.1.2 all.1)
 
-  -- ---- locals: their numbers are indices that were read
-
-  local_small : (x : RawArg) → ArgGood x → ArgHolds (λ n. n < 2 ^ 32) (arg_of x)
-  local_small (raw.Local n) h = h
-  local_small x h = tt
-
-  args_small : (xs : List RawArg) → AllByRecursion ArgGood xs → AllByRecursion (ArgHolds (λ n. n < 2 ^ 32)) (map arg_of xs)
-  args_small [] h = tt
-  args_small (x ∷ xs) h = (local_small x h.0, args_small xs h.1)
-
-  ops_small : (os : List wire_operators.Op) → AllByRecursion (λ (o : wire_operators.Op). AllByRecursion ArgGood o.args) os → OpsHold (λ n. n < 2 ^ 32) (ops_of os)
-  ops_small [] h = tt
-  ops_small (o ∷ os) h = (args_small o.args h.0, ops_small os h.1)
-
   range_at : (first count n x : ℕ) → slice_get (range_with_len first count) n ≡ Some x → x ≡ first + n
   range_at first zero n x e = absurd cc
   range_at first (suc count) zero x e = let f : first ≡ x = cc in omega (arith, f)
@@ -120,24 +141,10 @@ module _ (c : Config) (s : wire.Module) where
       let found = ops_found (declared s) (locals_from 0 count) (λ n. n < 2 ^ 32) (ops_of h.operators.texts) x.1 (ops_small h.operators.texts good) h.operators.named y at in
       omega (arith, range_at 0 count found.0 y found.1.1, found.1.0)
 
-  abbrev UsesSmall : Function → Type 0
-  UsesSmall g = (b : Body) → g.kind ≡ LocalFunction b → (y : ℕ) → IsUsed b y → y < 2 ^ 32
-
   same_body : (b d : Body) → LocalFunction b ≡ LocalFunction d → b ≡ d
   same_body b d e = cc
 
-  import_uses : (i : ℕ) (d : RawDesc) → AllByRecursion UsesSmall (option_to_list (imported_function i d))
-  import_uses i (descs.Function ty) = ((λ b e. absurd cc), tt)
-  import_uses i (descs.Table ty) = tt
-  import_uses i (descs.Memory l) = tt
-  import_uses i (descs.Global ty) = tt
-  import_uses i (descs.Tag ty) = tt
-
-  imports_use : (i : ℕ) (xs : List entries.Import) → AllByRecursion UsesSmall (imported imported_function i xs)
-  imports_use i [] = tt
-  imports_use i (x ∷ xs) = all_append UsesSmall (option_to_list (imported_function i x.desc)) (imported imported_function (i + 1) xs) (import_uses i x.desc) (imports_use (i + 1) xs)
-
-  bodies_use : (fs : List ℕ) (bs : List wire.Body) (said : List Said) → AllZip (ReadsBody c s) (zip fs bs) said → AllByRecursion UsesSmall (map (function_with s) (zip fs said))
+  bodies_use : (fs : List ℕ) (bs : List wire.Body) (said : List Said) → AllZip (ReadsBody c s) (zip fs bs) said → AllByRecursion (OnBody UsesSmall) (map (function_with s) (zip fs said))
   bodies_use [] [] [] all = tt
   bodies_use [] [] (x ∷ xs) all = absurd all
   bodies_use [] (b ∷ bs) [] all = tt
@@ -205,16 +212,13 @@ kind_body : (k : FunctionKind) (b : Body) → body_of_kind k ≡ Some b → k �
 kind_body (LocalFunction d) b e = let f : d ≡ b = cc in ap LocalFunction f
 kind_body k b e = absurd cc
 
-function_body : (o : Option Function) (b : Body) → body_of_function o ≡ Some b → (g : Function) × ((o ≡ Some g) × (g.kind ≡ LocalFunction b))
+pub function_body : (o : Option Function) (b : Body) → body_of_function o ≡ Some b → (g : Function) × ((o ≡ Some g) × (g.kind ≡ LocalFunction b))
 function_body None b e = absurd cc
 function_body (Some g) b e = (g, (refl, kind_body g.kind b e))
 
-module _ (c : Config) (bytes : List ℕ) (s : wire.Module) (r : Rows s) (said : List Said) (read : AllZip (ReadsBody c s) (zip s.functions s.bodies) said) (fields : List ProducerField) (namings : List Named) where
+module _ (s : wire.Module) (r : Rows s) (said : List Said) (few_said : length said + length said < 2 ^ 32) (uses : AllByRecursion (OnBody UsesSmall) (map (function_with s) (zip s.functions said))) (fields : List ProducerField) (namings : List Named) where
   abbrev the : Abstract
   the = module_of s said fields namings
-
-  few_said : length said + length said < 2 ^ 32
-  few_said = omega (arith, bodies_long c s s.functions s.bodies said r.bodies.0 r.bodies.1.0 r.bodies.1.1.1 read, r.bodies.1.1.0)
 
   few_zipped : length (zip s.functions said) + length (zip s.functions said) < 2 ^ 32
   few_zipped = omega (arith, zip_short s.functions said, few_said)
@@ -248,8 +252,8 @@ module _ (c : Config) (bytes : List ℕ) (s : wire.Module) (r : Rows s) (said : 
   unfolding functions
   used f b x e =
       let g = function_at f b e in
-      all_at (UsesSmall c s) functions f g.0
-      (all_append (UsesSmall c s) (imported imported_function 0 s.imports) (map (function_with s) (zip s.functions said)) (imports_use c s 0 s.imports) (bodies_use c s s.functions s.bodies said read))
+      all_at (OnBody UsesSmall) functions f g.0
+      (all_append (OnBody UsesSmall) (imported imported_function 0 s.imports) (map (function_with s) (zip s.functions said)) (imports_on UsesSmall 0 s.imports) uses)
       g.1.0 b g.1.1 x
 
   imports_fine : AllByRecursion ImportFine s.imports
@@ -275,4 +279,8 @@ module _ (c : Config) (bytes : List ℕ) (s : wire.Module) (r : Rows s) (said : 
   all_fits = record { items = items; parameters = parameters; used = used; tables = tables; memories = memories }
 
 pub read_fits : ReadFits
-read_fits c bytes n h = subst Fits (sym h.is) (all_fits c bytes h.sections (rows bytes h.sections h.framed h.in_order) h.bodies h.read _ _)
+read_fits c bytes n h =
+    let s = h.sections in
+    let r = rows bytes s h.framed h.in_order in
+    let few : length h.bodies + length h.bodies < 2 ^ 32 = omega (arith, bodies_long c s s.functions s.bodies h.bodies r.bodies.0 r.bodies.1.0 r.bodies.1.1.1 h.read, r.bodies.1.1.0) in
+    subst Fits (sym h.is) (all_fits s r h.bodies few (bodies_use c s s.functions s.bodies h.bodies h.read) _ _)

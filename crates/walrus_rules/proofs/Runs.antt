@@ -22,6 +22,7 @@ use Rattle.walrus_rules.proofs.BroughtWell.{brought_well}
 use Rattle.walrus_rules.proofs.DeclaredStays.{parsed_declared, left_declared}
 use Rattle.walrus_rules.proofs.FitsTold.{ok_fits}
 use Rattle.walrus_rules.proofs.NoCause.{well_no_cause}
+pub use Rattle.walrus_rules.proofs.OlderReads.{so_far_of, older_of}
 pub use Rattle.walrus_rules.proofs.ReadSoFar.{reads_so_far, so_far_says}
 use Rattle.walrus_rules.proofs.ReadLocal.{parsed_local, parsed_elements, left_local}
 use Rattle.walrus_rules.proofs.StepParsed.{live_v}

@@ -25,7 +25,6 @@ use Rattle.walrus_rules.specs.Headline.{ReadsBody, Reads, has_function, value_of
 use Rattle.walrus_rules.specs.Namings.{naming_of, space_of, has, has_local, is_in_range}
 use Rattle.walrus_rules.specs.OneRun.{Fits}
 use Rattle.walrus_model.specs.Sections.{function_types, is_apart}
-use Rattle.walrus_rules.specs.Sections.{module_of}
 use Rattle.walrus_rules.specs.SpelledLaws.{BodiesNest, SpelledReads}
 use Rattle.walrus_rules.specs.Spelling.{MapStands, IsSpelling, IsSpelledAs, is_dylink, is_other, written_as}
 use Rattle.walrus_rules.specs.Text.{Text, NameMap, NameText, listed, if_some, custom, sections_of, said, said_by, unplaced, names_bytes, field_bytes, namings_of, module_naming, space_namings, function_namings, further_spaces}
@@ -34,10 +33,9 @@ use Rattle.walrus_rules.proofs.NamesBack.{raw_value, raw_field, fields_back, Ent
 use Rattle.walrus_rules.proofs.OneList.{All-front, All-back}
 use Rattle.walrus_rules.proofs.OneSections.{laid, more, customs_in}
 use Rattle.walrus_rules.proofs.OneSpelling.{told, as_told}
-use Rattle.walrus_rules.proofs.ReadFits.{all_fits}
-use Rattle.walrus_rules.proofs.ReadsBack.{held, held_laid, held_in_order, framed_back, read_held, reads_back}
-use Rattle.walrus_rules.proofs.SectionRows.{rows}
+use Rattle.walrus_rules.proofs.ReadsBack.{reads_back}
 use Rattle.walrus_rules.proofs.SpelledFits.{all_front, all_back}
+use Rattle.walrus_rules.proofs.TextFits.{text_fits}
 
 -- ---- what is named is there, so its numbers are those that 32 bits hold
 
@@ -278,9 +276,7 @@ module _ (c : Config) (t : Text) (spells : IsSpelling (said_by t) t) (fits : All
   bodies = bodies_back c t own (subst Holds (as_told t) holds) (subst (BodiesNest c) (as_told t) nest)
 
   small : Fits (told t)
-  small =
-      subst (λ (s : wire.Module). Fits (module_of s (map said t.bodies) t.producers (namings_of t.names))) (held_laid t)
-      (all_fits c (written_as t) (held t) (rows (written_as t) (held t) (framed_back t spells.stand fits) (held_in_order t)) (map said t.bodies) (read_held c t bodies) t.producers (namings_of t.names))
+  small = text_fits t own fits
 
   abbrev with_names : List Section
   with_names = listed (λ b. custom (codes "name") b) (names_bytes t.names)

@@ -4,7 +4,7 @@ use Rattle.wasm_writer.specs.Spelling.{SectionFits}
 use Rattle.walrus_model.specs.Abstract.{Abstract, Custom}
 use Rattle.walrus_model.specs.Config.{Config}
 use Rattle.walrus_rules.specs.Pinned.{IsWrittenAs}
-use Rattle.walrus_rules.specs.Refused.{HasNoCause, Refusal, Memory, DeadItem, NoIndex, TwoIndices, TooLarge, NotWritable, Caller, Another, RefusesToWrite}
+use Rattle.walrus_rules.specs.Refused.{HasDead, HasUnspelled, PassesLimits, HasNoCause, Refusal, Memory, DeadItem, NoIndex, TwoIndices, TooLarge, NotWritable, Caller, Another, RefusesToWrite}
 use Rattle.walrus_rules.specs.Spelling.{IsSpelling}
 use Rattle.walrus_rules.specs.Text.{Text, sections_of}
 use Rattle.walrus_rules.specs.WellMade.{IsWellMade}
@@ -32,3 +32,9 @@ OkOrTooLarge = (may_refuse : Custom → Bool) (c : Config) (u : Abstract) (bytes
 -- of what may be written all sections fit
 abbrev pub OkFits : Type 0
 OkFits = (c : Config) (v n : Abstract) (t : Text) → HasNoCause c v → IsWrittenAs c v n → IsSpelling n t → All SectionFits (sections_of t)
+
+-- What has a spelling whose sections fit passes no limit, where nothing in it is named and not there, and no form in it can't be spelled.
+abbrev pub FitsNoLimit : Type 0
+FitsNoLimit =
+    (c : Config) (v n : Abstract) (t : Text) → (HasDead v → ⊥) → (HasUnspelled c v → ⊥)
+    → IsWrittenAs c v n → IsSpelling n t → All SectionFits (sections_of t) → PassesLimits c v → ⊥

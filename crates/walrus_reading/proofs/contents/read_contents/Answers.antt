@@ -86,7 +86,7 @@ returns-clause-taken c =
     sections_taken c.args.features.now (sections c.args.raw.now) c.number_functions.new.indices c.add_types.new.types named typed
     c.deref-2.result.now (map body_record c.deref-3.result.now) c.deref-2.ensures.value (ap (map body_record) c.deref-3.ensures.value)
     c.add_functions.new.all c.add_functions.new.funcs c.requires.supported c.requires.rules.as_many_bodies
-    c.add_exports.new.all _ c.deref-4.result.now c.in_ok-add_functions.ensures.taken (ap (map export_entry) c.deref-4.ensures.value) c.in_ok-add_exports.ensures.added
+    c.add_exports.new.all _ _ c.deref-4.result.now c.in_ok-add_functions.ensures.taken (ap (map export_entry) c.deref-4.ensures.value) c.in_ok-add_exports.ensures.added
 
 pub returns-clause-located : goal.returns-clause-located
 returns-clause-located c =

@@ -46,7 +46,7 @@ returns-then-branch-clause-found c = λ config with.
       rules = narrow_rules (sections c.in_ok-raw.raw) c.in_ok-check_supported.ensures c.in_ok-check.ensures;
       taken = c.in_ok-contents.ensures.taken;
     } in
-    is_parsed config c.args.features.now with c.args.bytes.now c.in_ok-contents.contents ?
+    is_parsed config c.args.features.now with c.args.bytes.now c.in_ok-contents.contents c.in_ok-contents.ensures.produced
     (subst NothingUndeclared c.parts.ensures (c.in_ok-are_references_declared.ensures.declared c.if-branch.true)) t
 
 pub returns-clause-refused : goal.returns-clause-refused

@@ -1,3 +1,4 @@
+use Rattle.walrus_rules.proofs.FitsLimits.{fits_no_limit}
 use Rattle.walrus_rules.proofs.FitsTold.{ok_fits}
 use Rattle.walrus_rules.proofs.FewRefusals as few
 use Rattle.walrus_rules.proofs.well_made.few_refusals.Goals as goal
@@ -10,3 +11,6 @@ returns-clause-size c = few.ok_or_too_large
 
 pub returns-clause-fits : goal.returns-clause-fits
 returns-clause-fits c = ok_fits
+
+pub returns-clause-no_limit : goal.returns-clause-no_limit
+returns-clause-no_limit c = fits_no_limit
