@@ -36,3 +36,4 @@ pub mod ItemRules
 pub mod OffsetRules
 pub mod RulesTaken
 pub mod RulesSteps
+pub mod Living

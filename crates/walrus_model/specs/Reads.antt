@@ -45,8 +45,12 @@ is_function s t = is_function_def (types_of s t)
 abbrev pub features_of : Config → Features
 features_of c = record { legacy_exceptions = false; only_stable = c.only_stable_features }
 
+-- what a body may name, and what its types are, under these features
+abbrev pub context_with : Features → wire.Module → Context
+context_with features s = context (declared s) (is_function s) features
+
 abbrev pub context_of : Config → wire.Module → Context
-context_of c s = context (declared s) (is_function s) (features_of c)
+context_of c s = context_with (features_of c) s
 
 -- ---- bodies
 
@@ -55,8 +59,11 @@ abbrev pub arity : wire.Module → ℕ → ℕ
 arity s ty = length (params_of (types_of s ty))
 
 -- the bytes of the body of a function of this type say this, where each index names a declared item, or a parameter or a declared local
+abbrev pub ReadsBodyWith : Features → wire.Module → ℕ × wire.Body → Said → Type 0
+ReadsBodyWith features s f body = BodyReads (context_with features s) (locals_from 0 (arity s f.0 + length body.0)) f.1.bytes body.0 body.1
+
 abbrev pub ReadsBody : Config → wire.Module → ℕ × wire.Body → Said → Type 0
-ReadsBody c s f body = BodyReads (context_of c s) (locals_from 0 (arity s f.0 + length body.0)) f.1.bytes body.0 body.1
+ReadsBody c s f body = ReadsBodyWith (features_of c) s f body
 
 -- ---- the module
 

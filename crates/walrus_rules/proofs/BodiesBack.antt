@@ -1,11 +1,14 @@
--- What is spelled of bodies reads back, where they are well formed and the module keeps the rules.
+-- What is spelled of bodies reads back, where their blocks nest, their operators are allowed and the module keeps the rules.
 use Rattle.std.proofs.Common.{◌≡◌, ℕ, ◌+◌, ◌≤◌, ◌<◌, true, List, [], ◌∷◌, ◌++◌, length, map, zip, refl, sym, ap, subst, ◌∙◌, arith, length-append, inr}
-use Rattle.std.specs.Prelude.{Option, Some, None, IsSome, All, Contains, flat_map, replicate, slice_get, unwrap_or}
+use Rattle.std.specs.Prelude.{Option, Some, None, IsSome, All, Contains, flat_map, replicate, slice_get, unwrap_or, option_to_list}
 use Rattle.std.specs.List.{AllByRecursion, AllZip}
 use Rattle.std.proofs.lemmas.List.{length-map, length-replicate}
 use Rattle.std.proofs.lemmas.List.FromFn.{length-range_with_len}
 use Rattle.std.proofs.lemmas.List.Elements.{All-head, All-tail, recursion_from_All}
 use Rattle.wasm_forms.specs.declared.types.RawVal.{RawVal}
+use Rattle.wasm_entries.specs.declared.record.RawDesc.{RawDesc}
+use Rattle.wasm_entries.specs.declared.record.RawDesc.TheVariants as descs
+use Rattle.wasm_entries.specs.Record as entries
 use Rattle.wasm_forms.specs.Grammar.{Is, IsRow}
 use Rattle.wasm_forms.specs.Spelling.{row_bytes}
 use Rattle.wasm_frames.specs.Record as wire
@@ -28,18 +31,19 @@ use Rattle.walrus_model.specs.Abstract.{Abstract, Body, Function, LocalFunction,
 use Rattle.walrus_model.specs.Config.{Config}
 use Rattle.walrus_model.specs.Live.{IsLive}
 use Rattle.walrus_model.specs.Names.{body_of, body_of_kind, body_of_function}
-use Rattle.walrus_model.specs.Reads.{below}
-use Rattle.walrus_model.specs.Sections.{body_with, types_of, imported, imported_function, imported_table, imported_memory, imported_tag, imported_global, function_with, table_of, memory_of, tag_of, global_of, element_of, data_of}
+use Rattle.walrus_model.specs.Reads.{below, declared}
+use Rattle.walrus_model.specs.Sections.{Said, body_with, types_of, imported, imported_type, imported_function, function_with, function_types, tables_of, memories_of, tags_of, globals_of, elements_of, data_of}
 use Rattle.walrus_model.specs.Refers.{IsUsed, named_by, local_names, body_names, kind_names, function_names}
 use Rattle.walrus_model.specs.Rules.{Holds}
 use Rattle.walrus_model.proofs.Lists.{Contains-tail, Contains-none, Contains-append_1, Contains-append_2}
 use Rattle.walrus_model.proofs.PipelineOps.{from_map}
 use Rattle.walrus_rules.specs.Features.{features_of}
-use Rattle.walrus_rules.specs.Headline.{declared, ReadsBody}
+use Rattle.walrus_rules.specs.Headline.{ReadsBody}
 use Rattle.walrus_rules.specs.Spelling.{BodyStands, UsesAll, NeedsCount, NamesData, IsCount, IsSpelling}
-use Rattle.walrus_rules.specs.SpelledLaws.{HasBodies}
+use Rattle.walrus_rules.specs.SpelledLaws.{BodiesNest}
 use Rattle.walrus_rules.specs.Text.{Text, BodyText, said, unplaced}
 use Rattle.walrus_rules.proofs.NamedBack.{IsFound, below_is, val_found, ops_named_back, types_named_back}
+use Rattle.walrus_rules.proofs.NestedBack.{function_def, blocks_fine}
 use Rattle.walrus_rules.proofs.OneSections.{laid, later}
 use Rattle.walrus_rules.proofs.OneSpelling.{told}
 use Rattle.walrus_rules.proofs.ReadFits.{some_there, zip_short}
@@ -127,6 +131,20 @@ module _ (c : Config) (s : wire.Module) (ty : ℕ) (x : BodyText) (stands : Body
 kind_body : (k : FunctionKind) (b : Body) → k ≡ LocalFunction b → body_of_kind k ≡ Some b
 kind_body k b e = ap body_of_kind e
 
+-- imports bring as many types of functions as functions
+
+one_imported : (i : ℕ) (d : RawDesc) → length (option_to_list (imported_type i d)) ≡ length (option_to_list (imported_function i d))
+one_imported i (descs.Function ty) = refl
+one_imported i (descs.Table ty) = refl
+one_imported i (descs.Memory l) = refl
+one_imported i (descs.Global ty) = refl
+one_imported i (descs.Tag ty) = refl
+
+as_many_imported : (i : ℕ) (xs : List entries.Import) → length (imported imported_type i xs) ≡ length (imported imported_function i xs)
+as_many_imported i [] = refl
+as_many_imported i (x ∷ xs) =
+    omega (arith, length-append (option_to_list (imported_type i x.desc)) (imported imported_type (i + 1) xs), length-append (option_to_list (imported_function i x.desc)) (imported imported_function (i + 1) xs), one_imported i x.desc, as_many_imported (i + 1) xs)
+
 module _ (c : Config) (t : Text) (spells : IsSpelling (told t) t) where
   abbrev s : wire.Module
   s = laid t
@@ -134,11 +152,16 @@ module _ (c : Config) (t : Text) (spells : IsSpelling (told t) t) where
   abbrev m : Abstract
   m = told t
 
-  pub both_in : {X Y : Type 0} (xs : List X) (make : Y → X) (ys : List Y) (i : ℕ) → IsSome (slice_get (xs ++ map make ys) i) → i < length xs + length ys
-  both_in xs make ys i there = omega (arith, some_there (xs ++ map make ys) i there, length-append xs (map make ys), length-map ys make)
-
-  pub zipped : length (zip t.functions (map said t.bodies)) ≤ length t.functions
+  zipped : length (zip t.functions (map said t.bodies)) ≤ length t.functions
   zipped = omega (arith, zip_short t.functions (map said t.bodies), length-map t.bodies said, spells.as_many_bodies)
+
+  -- as many functions as types of functions
+  pub function_below : (i : ℕ) → IsSome (m.functions i) → i < length (function_types s)
+  function_below i h =
+      let front : List Function = imported imported_function 0 t.imports in
+      let back : List (ℕ × Said) = zip t.functions (map said t.bodies) in
+      omega (arith, some_there (front ++ map (function_with s) back) i h, length-append front (map (function_with s) back), length-map back (function_with s), zipped,
+      as_many_imported 0 t.imports, length-append (imported imported_type 0 t.imports) t.functions)
 
   counted : (o : Option ℕ) (d : ℕ) → IsCount m (length t.data_segments) o → NeedsCount m → d < length t.data_segments → below (unwrap_or (later o None) 0) d ≡ Some d
   counted None d h needs lt = absurd (h needs)
@@ -146,15 +169,15 @@ module _ (c : Config) (t : Text) (spells : IsSpelling (told t) t) where
 
   live_found : (y : Item) → IsLive m y → (y.0 ≡ DataSegments → NeedsCount m) → IsFound (declared s) y
   live_found (Types, i) h d = below_is (length (types_from 0 t.types)) i (some_there (types_from 0 t.types) i h)
-  live_found (Functions, i) h d = below_is (length (imported imported_function 0 t.imports) + length t.functions) i (omega (arith, both_in (imported imported_function 0 t.imports) (function_with s) (zip t.functions (map said t.bodies)) i h, zipped))
-  live_found (Tables, i) h d = below_is (length (imported imported_table 0 t.imports) + length t.tables) i (both_in (imported imported_table 0 t.imports) table_of t.tables i h)
-  live_found (Memories, i) h d = below_is (length (imported imported_memory 0 t.imports) + length t.memories) i (both_in (imported imported_memory 0 t.imports) memory_of t.memories i h)
-  live_found (Tags, i) h d = below_is (length (imported imported_tag 0 t.imports) + length t.tags) i (both_in (imported imported_tag 0 t.imports) tag_of t.tags i h)
-  live_found (Globals, i) h d = below_is (length (imported imported_global 0 t.imports) + length t.globals) i (both_in (imported imported_global 0 t.imports) global_of t.globals i h)
-  live_found (Elements, i) h d = below_is (length t.elements) i (omega (arith, some_there (map element_of t.elements) i h, length-map t.elements element_of))
+  live_found (Functions, i) h d = below_is (length (function_types s)) i (function_below i h)
+  live_found (Tables, i) h d = below_is (length (tables_of s)) i (some_there (tables_of s) i h)
+  live_found (Memories, i) h d = below_is (length (memories_of s)) i (some_there (memories_of s) i h)
+  live_found (Tags, i) h d = below_is (length (tags_of s)) i (some_there (tags_of s) i h)
+  live_found (Globals, i) h d = below_is (length (globals_of s)) i (some_there (globals_of s) i h)
+  live_found (Elements, i) h d = below_is (length (elements_of s)) i (some_there (elements_of s) i h)
   live_found (DataSegments, i) h d = counted t.data_count i spells.data_count (d refl) (omega (arith, some_there (map data_of t.data_segments) i h, length-map t.data_segments data_of))
 
-module _ (c : Config) (t : Text) (spells : IsSpelling (told t) t) (holds : Holds (told t)) (formed : HasBodies c (told t)) where
+module _ (c : Config) (t : Text) (spells : IsSpelling (told t) t) (holds : Holds (told t)) (nest : BodiesNest c (told t)) where
   abbrev w : wire.Module
   w = laid t
 
@@ -166,15 +189,15 @@ module _ (c : Config) (t : Text) (spells : IsSpelling (told t) t) (holds : Holds
 
   known : (f : ℕ) (g : Function) → n.functions f ≡ Some g → Fine g
   known f g at b is =
-      let formed_b = formed f g b at is in
+      let nest_b = nest f g b at is in
       let here : body_of n f ≡ Some b = ap body_of_function at ∙ kind_body g.kind b is in
       let live : (y : Item) → Contains (body_names b) y → IsLive n y = λ y has. holds.indices.written (Functions, f) y
       (subst (λ (o : Option Function). Contains (named_by function_names o) y) (sym at)
       (Contains-tail (type_item g.ty) y (kind_names g.kind) (subst (λ (k : FunctionKind). Contains (kind_names k) y) (sym is) has))) in
       record {
-        nested = formed_b.read.operators.nested;
-        allowed = formed_b.read.operators.allowed;
-        blocks = formed_b.read.operators.blocks;
+        nested = nest_b.0;
+        allowed = nest_b.1;
+        blocks = blocks_fine (λ t. is_function_def (n.types t)) b.operators (λ t o has names. function_def n t (holds.function_types.blocks f t b o here has names));
         names = λ y has. live_found c t spells y (live y (Contains-append_1 y (names_of b.operators) (flat_map (local_names b) (locals_of b.operators)) has))
             (λ is_data. inr (f, (y.1, subst (λ (o : Option Body). NamesData o y.1) (sym here) (subst (λ (z : Space). Contains (names_of b.operators) (z, y.1)) is_data has))));
         locals = λ x u. holds.indices.locals f b x here u;

@@ -11,7 +11,8 @@ use Rattle.walrus_model.specs.Pipeline.{Collected, ReachedIsLive}
 use Rattle.walrus_model.specs.Rules.{Holds, IndicesHold}
 use Rattle.walrus_rules.specs.Chain.{BringsTo, Leaves}
 use Rattle.walrus_rules.specs.Headline.{Reads}
-use Rattle.walrus_rules.specs.Refused.{HasDead, DeadName, DeadLocal, DeadExport, DeadStart, DeadImport, NoKind}
+use Rattle.walrus_rules.specs.Refused.{HasDead}
+use Rattle.walrus_model.proofs.Living.{none_dead}
 use Rattle.walrus_rules.proofs.ItemRules.{indices_hold}
 use Rattle.walrus_rules.proofs.RulesSteps.{parsed_taken, collected_taken}
 use Rattle.walrus_rules.proofs.SegmentStep.{segment_taken, live_too}
@@ -33,17 +34,8 @@ pub record Lives (v : Abstract) : Type 0 where
   pub imports : (i : ℕ) (x : Import) → v.imports i ≡ Some x → IsLive v x.item
   pub made : (i : ℕ) (f : Function) → v.functions i ≡ Some f → f.kind ≡ Uninitialised → ⊥
 
-none_is : {X : Type 0} (o : Option X) → o ≡ None → IsSome o → ⊥
-none_is None e h = let no : false ≡ true = h in cc
-none_is (Some x) e h = absurd (cc)
-
 pub lives_no_dead : (v : Abstract) → Lives v → HasDead v → ⊥
-lives_no_dead v l (DeadName x y at dead) = dead (l.indices.written x y at)
-lives_no_dead v l (DeadLocal f x b at used none) = none_is (b.local_type x) none (l.indices.locals f b x at used)
-lives_no_dead v l (DeadExport e at dead) = dead (l.indices.exports e at)
-lives_no_dead v l (DeadStart f at none) = none_is (v.functions f) none (l.indices.start f at)
-lives_no_dead v l (DeadImport i x at dead) = dead (l.imports i x at)
-lives_no_dead v l (NoKind i f at un) = l.made i f at un
+lives_no_dead v l = none_dead v (record { written = l.indices.written; locals = l.indices.locals; exports = l.indices.exports; start = l.indices.start; imports = l.imports; made = l.made })
 
 -- what gc leaves
 pub collected_lives : (v w : Abstract) → Collected v w → ReachedIsLive v → ((i : ℕ) (f : Function) → v.functions i ≡ Some f → f.kind ≡ Uninitialised → ⊥) → IndicesHold (ByImport v) v → Lives w

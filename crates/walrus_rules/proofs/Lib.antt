@@ -101,3 +101,11 @@ pub mod NamedBack
 pub mod BodiesBack
 pub mod NamesBack
 pub mod SpelledReads
+pub mod NestedBack
+pub mod WrittenReads
+pub mod WrittenBodies
+pub mod FitsTold
+pub mod DeclaredStays
+pub mod ReadLocal
+pub mod ReadSoFar
+pub mod Runs

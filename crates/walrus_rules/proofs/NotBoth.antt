@@ -1,6 +1,7 @@
 -- What may be written isn't too large.
 use Rattle.std.proofs.Common.{◌≡◌, ℕ, ◌<◌, ◌≤◌, List, [], ◌∷◌, length, get_or, sym, ap, ◌∙◌, subst, arith, inl, inr}
 use Rattle.std.specs.Prelude.{Option, Some, IsSome, Contains, AllPairs, All, ◌≢◌, ◌^◌}
+use Rattle.std.proofs.lemmas.List.Elements.{All-contains_itself}
 use Rattle.wasm_frames.specs.Frames.{Section}
 use Rattle.wasm_writer.specs.Spelling.{SectionFits}
 use Rattle.walrus_types.specs.Operators.{Space, Types, Functions, Tables, Memories, Tags, Globals, Elements, DataSegments, Item}
@@ -121,7 +122,8 @@ module _ (c : Config) (bytes : List ℕ) (m d n : Abstract) (reads : Reads c byt
       let written : IsWrittenAs c u h.module_out = from_read c bytes m d h.module_out reads holds b h.written in
       let one : h.module_out ≡ n = one_module c u h.module_out n other.text t premises written is other.spells spells in
       let text : t ≡ other.text = spelled_once n other.text t (subst (λ z. IsSpelling z other.text) one other.spells) spells in
-      other.unfit (sections other.section (subst (λ z. Contains (sections_of z) other.section) (sym text) other.stands))
+      let fit : All SectionFits (sections_of t) = λ k s lt. sections (get_or (sections_of t) k s) (All-contains_itself (sections_of t) k s lt) in
+      other.unfit (subst (λ z. All SectionFits (sections_of z)) text fit)
 
   pub fits_all : PassesLimits c d → ⊥
   fits_all (ManyItems space numbers rise has many) = items_fit numbers rise many space b.leaves.functions b.leaves.undeclared b.leaves.added has

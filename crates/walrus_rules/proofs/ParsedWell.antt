@@ -108,7 +108,7 @@ module _ (c : Config) (m v : Abstract) (p : ParsedAs c m v) (plain : IsPlain m) 
   abbrev r : Renaming
   r = in_place c m v p
 
-  import_same : (x : Item) → import_of v x ≡ import_of m x
+  pub import_same : (x : Item) → import_of v x ≡ import_of m x
   import_same (Functions, i) = both_import r (λ i. refl) i (m.functions i) (v.functions i) (λ there. (carried_parsed c m v p).functions.same i there)
       (λ there. ⊎_elim
       (λ found. subst (λ j. IsSome (m.functions j)) found.2 found.1)

@@ -17,10 +17,11 @@ use Rattle.walrus_functions.specs.Handlers.{params_of}
 use Rattle.walrus_functions.specs.ReadFunction.{locals_from}
 use Rattle.walrus_model.specs.Abstract.{Abstract, Body, Function, LocalFunction, ProducerField, Custom}
 use Rattle.walrus_model.specs.Config.{Config}
+use Rattle.walrus_model.specs.Reads.{declared}
 use Rattle.walrus_model.specs.Sections.{Said, body_with, types_of, imported, imported_function, function_with, is_apart, custom_of}
 use Rattle.walrus_model.specs.WellMade.{ImportsMatch}
 use Rattle.walrus_rules.specs.Features.{features_of}
-use Rattle.walrus_rules.specs.Headline.{declared, ReadsBody, Reads}
+use Rattle.walrus_rules.specs.Headline.{ReadsBody, Reads}
 use Rattle.walrus_rules.specs.Sections.{module_of}
 use Rattle.walrus_model.proofs.PipelineOps.{from_map}
 use Rattle.walrus_rules.proofs.TextImports.{imports_match}

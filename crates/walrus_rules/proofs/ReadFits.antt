@@ -32,9 +32,10 @@ use Rattle.walrus_model.specs.Abstract.{Abstract, Body, FunctionKind, LocalFunct
 use Rattle.walrus_model.specs.Config.{Config}
 use Rattle.walrus_model.specs.Live.{Has}
 use Rattle.walrus_model.specs.Names.{body_of, body_of_kind, body_of_function}
+use Rattle.walrus_model.specs.Reads.{declared}
 use Rattle.walrus_model.specs.Sections.{Said, body_with, limits_of, types_of, imported, imported_function, imported_table, imported_memory, imported_tag, imported_global, function_with, table_of, memory_of, tag_of, global_of, element_of, data_of}
 use Rattle.walrus_model.specs.Refers.{IsUsed}
-use Rattle.walrus_rules.specs.Headline.{declared, ReadsBody}
+use Rattle.walrus_rules.specs.Headline.{ReadsBody}
 use Rattle.walrus_rules.specs.OneRun.{Fits, ReadFits}
 use Rattle.walrus_rules.specs.Refused.{PassesLimit}
 use Rattle.walrus_rules.specs.Sections.{module_of}

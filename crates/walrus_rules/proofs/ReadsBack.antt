@@ -19,7 +19,7 @@ use Rattle.wasm_writer.proofs.WrittenModule.{written_frames_lem}
 use Rattle.walrus_model.specs.Abstract.{Abstract, ProducerField}
 use Rattle.walrus_model.specs.Config.{Config}
 use Rattle.walrus_model.specs.Sections.{Said}
-use Rattle.walrus_rules.specs.Headline.{ReadsBody, Reads, is_function, payloads, field_of, CountHolds}
+use Rattle.walrus_rules.specs.Headline.{ReadsBody, Reads, has_function, payloads, field_of, CountHolds}
 use Rattle.walrus_rules.specs.Sections.{module_of}
 use Rattle.walrus_rules.specs.Spelling.{IsCount, IsSpelling, written_as}
 use Rattle.walrus_rules.specs.Text.{Text, listed, if_some, custom, sections_of, said, said_by, unplaced, names_bytes, field_bytes, namings_of}
@@ -205,7 +205,7 @@ read_held c t bodies =
 
 module _ (c : Config) (t : Text) (spells : IsSpelling (said_by t) t) (fits : All SectionFits (sections_of t))
     (bodies : AllZip (ReadsBody c (laid t)) (zip t.functions (map unplaced t.bodies)) (map said t.bodies))
-    (namings : List (List Named)) (named : AllZip (Names (is_function (laid t))) (payloads (codes "name") (laid t)) namings) (are_named : flat_map (λ xs. xs) namings ≡ namings_of t.names)
+    (namings : List (List Named)) (named : AllZip (Names (has_function (laid t))) (payloads (codes "name") (laid t)) namings) (are_named : flat_map (λ xs. xs) namings ≡ namings_of t.names)
     (fields : List (List Field)) (produced : AllZip Fields (payloads (codes "producers") (laid t)) fields) (are_produced : flat_map (map field_of) fields ≡ t.producers) where
   e : bare (unstarted (held t)) ≡ unstarted (laid t)
   e = held_laid t
@@ -240,7 +240,7 @@ module _ (c : Config) (t : Text) (spells : IsSpelling (said_by t) t) (fits : All
     bodies = map said t.bodies;
     read = read_held c t bodies;
     namings = namings;
-    named = subst (λ (m : wire.Module). AllZip (Names (is_function m)) (payloads (codes "name") m) namings) (sym e) named;
+    named = subst (λ (m : wire.Module). AllZip (Names (has_function m)) (payloads (codes "name") m) namings) (sym e) named;
     fields = fields;
     produced = subst (λ (m : wire.Module). AllZip Fields (payloads (codes "producers") m) fields) (sym e) produced;
     is = is;

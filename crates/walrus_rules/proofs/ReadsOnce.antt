@@ -9,16 +9,15 @@ use Rattle.wasm_payloads.specs.Producers.{Field, Fields}
 use Rattle.wasm_payloads.proofs.Agreed.{names_once_lem, fields_once_lem}
 use Rattle.walrus_base.specs.Types.{ValType}
 use Rattle.walrus_types.specs.Operators.{Op}
-use Rattle.walrus_bodies.specs.Body.{Context, context}
-use Rattle.walrus_bodies.specs.FunctionTypes.{is_function_def}
-use Rattle.walrus_functions.specs.Handlers.{params_of}
+use Rattle.walrus_bodies.specs.Body.{Context}
 use Rattle.walrus_functions.specs.ReadFunction.{locals_from}
 use Rattle.walrus_model.specs.Abstract.{ProducerField}
 use Rattle.walrus_model.specs.Config.{Config}
-use Rattle.walrus_model.specs.Sections.{Said, types_of}
+use Rattle.walrus_model.specs.Reads.{arity, context_with}
+use Rattle.walrus_model.specs.Sections.{Said}
 use Rattle.walrus_model.proofs.ReadOnce.{types_once, operators_once}
 use Rattle.walrus_rules.specs.Features.{features_of}
-use Rattle.walrus_rules.specs.Headline.{declared, ReadsBody, is_function, payloads, field_of}
+use Rattle.walrus_rules.specs.Headline.{ReadsBody, has_function, payloads, field_of}
 use Rattle.walrus_rules.specs.OneRun.{ReadsOnce}
 use Rattle.walrus_rules.specs.Sections.{module_of}
 
@@ -33,8 +32,8 @@ zip_once R once (a ∷ ks) (x ∷ xs) (y ∷ ys) p q = ap₂ ◌∷◌ (once a x
 
 body_once : (c : Config) (s : wire.Module) (f : ℕ × wire.Body) (x y : Said) → ReadsBody c s f x → ReadsBody c s f y → x ≡ y
 body_once c s f (ts, xs) (us, ys) p q =
-    let k : Context = context (declared s) (λ t. is_function_def (types_of s t)) (features_of c) in
-    let locals : List (ValType ℕ) → ℕ → Option ℕ = λ l. locals_from 0 (length (params_of (types_of s f.0)) + length l) in
+    let k : Context = context_with (features_of c) s in
+    let locals : List (ValType ℕ) → ℕ → Option ℕ = λ l. locals_from 0 (arity s f.0 + length l) in
     let types = types_once k (locals ts) (locals us) f.1.bytes ts us xs ys p q in
     ap₂ (λ (l : List (ValType ℕ)) (o : List Op). (l, o)) types (operators_once k (locals ts) (locals us) f.1.bytes ts us xs ys p q (ap locals types))
 
@@ -46,8 +45,8 @@ reads_once_lem c bytes m n x y =
     zip_once (ReadsBody c s) (body_once c s) (zip s.functions s.bodies) y.bodies x.bodies
     (subst (λ (z : wire.Module). AllZip (ReadsBody c z) (zip z.functions z.bodies) y.bodies) one y.read) x.read in
     let namings : y.namings ≡ x.namings =
-    zip_once (Names (is_function s)) (names_once_lem (is_function s)) (payloads (codes "name") s) y.namings x.namings
-    (subst (λ (z : wire.Module). AllZip (Names (is_function z)) (payloads (codes "name") z) y.namings) one y.named) x.named in
+    zip_once (Names (has_function s)) (names_once_lem (has_function s)) (payloads (codes "name") s) y.namings x.namings
+    (subst (λ (z : wire.Module). AllZip (Names (has_function z)) (payloads (codes "name") z) y.namings) one y.named) x.named in
     let fields : y.fields ≡ x.fields =
     zip_once Fields fields_once_lem (payloads (codes "producers") s) y.fields x.fields
     (subst (λ (z : wire.Module). AllZip Fields (payloads (codes "producers") z) y.fields) one y.produced) x.produced in

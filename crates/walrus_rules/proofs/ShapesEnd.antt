@@ -41,7 +41,7 @@ module _ {X : Type 0} where
   slice_front (z ∷ xs) ys zero x e = e
   slice_front (z ∷ xs) ys (suc i) x e = slice_front xs ys i x e
 
-range_has : (lo count t : ℕ) → lo ≤ t → t < lo + count → Contains (range_with_len lo count) t
+pub range_has : (lo count t : ℕ) → lo ≤ t → t < lo + count → Contains (range_with_len lo count) t
 range_has lo zero t le lt = absurd (omega arith)
 range_has lo (suc count) t le lt = ⊎_elim
     (λ before. Contains-tail lo t (range_with_len (lo + 1) count) (range_has (lo + 1) count t (let b : lo < t = before in omega arith) (let l : t < lo + suc count = lt in omega arith)))
@@ -51,7 +51,7 @@ range_has lo (suc count) t le lt = ⊎_elim
     rest)
     (compared lo t)
 
-range_in : (lo count t : ℕ) → Contains (range_with_len lo count) t → (lo ≤ t) × (t < lo + count)
+pub range_in : (lo count t : ℕ) → Contains (range_with_len lo count) t → (lo ≤ t) × (t < lo + count)
 range_in lo zero t at = absurd (Contains-none t at)
 range_in lo (suc count) t at = ⊎_elim
     (λ e. ((let q : lo ≡ t = e in omega arith), (let q : lo ≡ t = e in omega arith)))

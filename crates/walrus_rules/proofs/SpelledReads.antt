@@ -21,15 +21,15 @@ use Rattle.walrus_model.specs.Abstract.{Abstract, Name, Body, Function, Producer
 use Rattle.walrus_model.specs.Config.{Config}
 use Rattle.walrus_model.specs.Names.{body_of, body_of_function}
 use Rattle.walrus_model.specs.Rules.{Holds}
-use Rattle.walrus_rules.specs.Headline.{ReadsBody, Reads, is_function, value_of, field_of}
+use Rattle.walrus_rules.specs.Headline.{ReadsBody, Reads, has_function, value_of, field_of}
 use Rattle.walrus_rules.specs.Namings.{naming_of, space_of, has, has_local, is_in_range}
 use Rattle.walrus_rules.specs.OneRun.{Fits}
-use Rattle.walrus_model.specs.Sections.{imported, imported_function, function_with, is_apart}
+use Rattle.walrus_model.specs.Sections.{function_types, is_apart}
 use Rattle.walrus_rules.specs.Sections.{module_of}
-use Rattle.walrus_rules.specs.SpelledLaws.{HasBodies, SpelledReads}
-use Rattle.walrus_rules.specs.Spelling.{MapStands, IsSpelling, is_dylink, is_other, written_as}
+use Rattle.walrus_rules.specs.SpelledLaws.{BodiesNest, SpelledReads}
+use Rattle.walrus_rules.specs.Spelling.{MapStands, IsSpelling, IsSpelledAs, is_dylink, is_other, written_as}
 use Rattle.walrus_rules.specs.Text.{Text, NameMap, NameText, listed, if_some, custom, sections_of, said, said_by, unplaced, names_bytes, field_bytes, namings_of, module_naming, space_namings, function_namings, further_spaces}
-use Rattle.walrus_rules.proofs.BodiesBack.{both_in, zipped, bodies_back}
+use Rattle.walrus_rules.proofs.BodiesBack.{function_below, bodies_back}
 use Rattle.walrus_rules.proofs.NamesBack.{raw_value, raw_field, fields_back, EntryStands, FunctionStands, names_back}
 use Rattle.walrus_rules.proofs.OneList.{All-front, All-back}
 use Rattle.walrus_rules.proofs.OneSections.{laid, more, customs_in}
@@ -75,8 +75,8 @@ module _ (c : Config) (t : Text) (spells : IsSpelling (told t) t) (fits : Fits (
   some_function : (f x : ℕ) → has_local x (body_of m f) ≡ true → IsSome (m.functions f)
   some_function f x h = some_body (m.functions f) x h
 
-  known_function : (f : ℕ) → IsSome (m.functions f) → is_function (laid t) f ≡ true
-  known_function f h = lt-ltb f (length (imported imported_function 0 t.imports) + length t.functions) (omega (arith, both_in c t spells (imported imported_function 0 t.imports) (function_with (laid t)) (zip t.functions (map said t.bodies)) f h, zipped c t spells))
+  known_function : (f : ℕ) → IsSome (m.functions f) → has_function (laid t) f ≡ true
+  known_function f h = lt-ltb f (length (function_types (laid t))) (function_below c t spells f h)
 
   abbrev There : Named → Type 0
   There x = is_in_range m (naming_of x).0 ≡ true
@@ -93,12 +93,12 @@ module _ (c : Config) (t : Text) (spells : IsSpelling (told t) t) (fits : Fits (
   in_function f [] some h = absurd (some refl)
   in_function f (e ∷ es) some h = some_function f e.0 h.0
 
-  function_stands : (f : ℕ × NameMap) → (f.1 ≡ [] → ⊥) → MapStands f.1 → AllByRecursion There (function_namings f) → FunctionStands (is_function (laid t)) f
+  function_stands : (f : ℕ × NameMap) → (f.1 ≡ [] → ⊥) → MapStands f.1 → AllByRecursion There (function_namings f) → FunctionStands (has_function (laid t)) f
   function_stands f some stands h =
       let there = in_function f.0 f.1 some h in
       (omega (arith, fits.items Functions f.0 there), (known_function f.0 there, locals_stand f.0 f.1 h (recursion_from_All (λ (e : ℕ × Name). IsUtf8 e.1) f.1 stands.1)))
 
-  functions_stand : (fs : List (ℕ × NameMap)) → All (λ (f : ℕ × NameMap). (f.1 ≡ [] → ⊥) × MapStands f.1) fs → AllByRecursion There (flat_map function_namings fs) → AllByRecursion (FunctionStands (is_function (laid t))) fs
+  functions_stand : (fs : List (ℕ × NameMap)) → All (λ (f : ℕ × NameMap). (f.1 ≡ [] → ⊥) × MapStands f.1) fs → AllByRecursion There (flat_map function_namings fs) → AllByRecursion (FunctionStands (has_function (laid t))) fs
   functions_stand [] h k = tt
   functions_stand (f ∷ fs) h k =
       let one = All-head (λ (g : ℕ × NameMap). (g.1 ≡ [] → ⊥) × MapStands g.1) f fs h in (
@@ -135,9 +135,9 @@ module _ (c : Config) (t : Text) (spells : IsSpelling (told t) t) (fits : Fits (
   space_there spaces.DataSegments = further.1.1.1.1.1.0
   space_there spaces.Tags = further.1.1.1.1.1.1.0
 
-  pub named_back : length (names_bytes names) < 2 ^ 32 → Names (is_function (laid t)) (names_bytes names) (namings_of names)
+  pub named_back : length (names_bytes names) < 2 ^ 32 → Names (has_function (laid t)) (names_bytes names) (namings_of names)
   named_back lt =
-      names_back (is_function (laid t)) names spells.names.module_name
+      names_back (has_function (laid t)) names spells.names.module_name
       (λ space. items_stand space (names.items space) (space_there space) (recursion_from_All (λ (e : ℕ × Name). IsUtf8 e.1) (names.items space) (spells.names.items space).1))
       (functions_stand names.locals spells.names.locals
       (all_back There (module_naming names.module_name ++ space_namings names spaces.Functions) (flat_map function_namings names.locals) (all_front There first_three (flat_map (space_namings names) further_spaces) there)))
@@ -270,12 +270,12 @@ fields_small (f ∷ fs) h lt = payload_small (codes "producers") (vector_bytes f
 
 -- ---- all of it
 
-module _ (c : Config) (t : Text) (spells : IsSpelling (said_by t) t) (fits : All SectionFits (sections_of t)) (formed : HasBodies c (said_by t)) (holds : Holds (said_by t)) where
+module _ (c : Config) (t : Text) (spells : IsSpelling (said_by t) t) (fits : All SectionFits (sections_of t)) (nest : BodiesNest c (said_by t)) (holds : Holds (said_by t)) where
   own : IsSpelling (told t) t
   own = subst (λ z. IsSpelling z t) (as_told t) spells
 
   bodies : AllZip (ReadsBody c (laid t)) (zip t.functions (map unplaced t.bodies)) (map said t.bodies)
-  bodies = bodies_back c t own (subst Holds (as_told t) holds) (subst (HasBodies c) (as_told t) formed)
+  bodies = bodies_back c t own (subst Holds (as_told t) holds) (subst (BodiesNest c) (as_told t) nest)
 
   small : Fits (told t)
   small =
@@ -296,7 +296,7 @@ module _ (c : Config) (t : Text) (spells : IsSpelling (said_by t) t) (fits : All
   up_to_producers : All SectionFits (before_names ++ with_names ++ with_producers)
   up_to_producers = All-front SectionFits (before_names ++ with_names ++ with_producers) (map CustomSection t.others) fits
 
-  names_read : Names (is_function (laid t)) (names_bytes t.names) (namings_of t.names)
+  names_read : Names (has_function (laid t)) (names_bytes t.names) (namings_of t.names)
   names_read = named_back c t own small (names_small (names_bytes t.names) (All-back SectionFits before_names with_names (All-front SectionFits (before_names ++ with_names) with_producers up_to_producers)))
 
   dylinks : AllByRecursion (λ d. is_dylink d ≡ true) t.dylinks
@@ -310,15 +310,19 @@ module _ (c : Config) (t : Text) (spells : IsSpelling (said_by t) t) (fits : All
   all_back_again =
       reads_back c t spells fits bodies
       (if_any (names_bytes t.names) (namings_of t.names))
-      (subst (λ cs. AllZip (Names (is_function (laid t))) (bytes_in cs) (if_any (names_bytes t.names) (namings_of t.names))) (sym (names_alone t dylinks others)) (name_zip (is_function (laid t)) (names_bytes t.names) (namings_of t.names) names_read))
-      (name_all (is_function (laid t)) (names_bytes t.names) (namings_of t.names) names_read)
+      (subst (λ cs. AllZip (Names (has_function (laid t))) (bytes_in cs) (if_any (names_bytes t.names) (namings_of t.names))) (sym (names_alone t dylinks others)) (name_zip (has_function (laid t)) (names_bytes t.names) (namings_of t.names) names_read))
+      (name_all (has_function (laid t)) (names_bytes t.names) (namings_of t.names) names_read)
       (if_any t.producers (map raw_field t.producers))
       (subst (λ cs. AllZip Fields (bytes_in cs) (if_any t.producers (map raw_field t.producers))) (sym (producers_alone t dylinks others))
       (field_zip t.producers (λ lt. fields_back t.producers spells.producers (fields_small t.producers (All-back SectionFits (before_names ++ with_names) with_producers up_to_producers) lt))))
       (field_all t.producers)
 
+pub nested_reads : (c : Config) (n : Abstract) (bytes : List ℕ) (spelled : IsSpelledAs n bytes) → All SectionFits (sections_of spelled.text) → BodiesNest c n → Holds n → Reads c bytes n
+nested_reads c n bytes sp fits nest holds =
+    let is = sp.spells.says in
+    let back : Reads c (written_as sp.text) (said_by sp.text) = all_back_again c sp.text (subst (λ z. IsSpelling z sp.text) is sp.spells) fits (subst (BodiesNest c) is nest) (subst Holds is holds) in
+    subst (λ z. Reads c bytes z) (sym is) (subst (λ l. Reads c l (said_by sp.text)) (sym sp.written) back)
+
 pub spelled_reads : SpelledReads
 spelled_reads c n bytes sp fits formed holds =
-    let is = sp.spells.says in
-    let back : Reads c (written_as sp.text) (said_by sp.text) = all_back_again c sp.text (subst (λ z. IsSpelling z sp.text) is sp.spells) fits (subst (HasBodies c) is formed) (subst Holds is holds) in
-    subst (λ z. Reads c bytes z) (sym is) (subst (λ l. Reads c l (said_by sp.text)) (sym sp.written) back)
+    nested_reads c n bytes sp fits (λ f g b at is. let r = (formed f g b at is).read.operators in (r.nested, r.allowed)) holds

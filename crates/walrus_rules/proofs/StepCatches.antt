@@ -21,8 +21,9 @@ use Rattle.walrus_functions.specs.ReadFunction.{locals_from}
 use Rattle.walrus_model.specs.Abstract.{Body, Function}
 use Rattle.walrus_model.specs.Config.{Config}
 use Rattle.walrus_model.specs.Names.{body_of_kind, body_of_function}
+use Rattle.walrus_model.specs.Reads.{declared}
 use Rattle.walrus_model.specs.Sections.{Said, body_with, types_of, function_with}
-use Rattle.walrus_rules.specs.Headline.{declared, ReadsBody}
+use Rattle.walrus_rules.specs.Headline.{ReadsBody}
 use Rattle.walrus_rules.proofs.StepPlain.{CatchesTags}
 use Rattle.walrus_model.proofs.Lists.{Contains-none, Contains-uncons}
 

@@ -4,6 +4,8 @@ use Rattle.std.specs.Prelude.{Some, None, IsSome, Contains}
 use Rattle.wasm_forms.proofs.Bind.{some_same}
 use Rattle.walrus_types.specs.Operators.{Space, Types, Functions, Tables, Memories, Tags, Globals, Elements, DataSegments, Item}
 use Rattle.walrus_functions.specs.Handlers.{params_of}
+use Rattle.walrus_bodies.specs.Blocks.{are_nested}
+use Rattle.walrus_bodies.specs.Features.{are_allowed}
 use Rattle.walrus_model.specs.Abstract.{Abstract, Body, Function, LocalFunction}
 use Rattle.walrus_model.specs.Config.{Config}
 use Rattle.walrus_model.specs.Declared.{NothingUndeclared}
@@ -16,12 +18,17 @@ use Rattle.walrus_model.specs.Rules.{Holds, LocalsHold, RulesHold}
 use Rattle.walrus_model.specs.Refers.{IsUsed}
 use Rattle.walrus_model.specs.Sections.{body_with}
 use Rattle.std.proofs.lemmas.Grind.{get_or_default_zero}
-use Rattle.walrus_rules.specs.Text.{said_by}
+use Rattle.walrus_rules.specs.Features.{features_of}
+use Rattle.walrus_rules.specs.Pinned.{IsWrittenAs}
+use Rattle.walrus_rules.specs.SpelledLaws.{BodiesNest}
+use Rattle.walrus_rules.specs.Spelling.{IsSpelling}
+use Rattle.walrus_rules.specs.Text.{Text, said_by}
 use Rattle.walrus_rules.specs.WellMade.{IsCounted, IsWellMade}
 use Rattle.walrus_rules.specs.WellMadeLaws.{WrittenHolds}
 use Rattle.walrus_rules.specs.Once.{Premises}
 use Rattle.walrus_rules.proofs.Counting.{has_room}
 use Rattle.walrus_rules.proofs.OffsetRules.{rules_carried}
+use Rattle.walrus_rules.proofs.NestedBack.{nested_renamed, allowed_renamed}
 use Rattle.walrus_rules.proofs.RulesBase.{TakenOver}
 use Rattle.walrus_rules.proofs.Shaped.{Side}
 use Rattle.walrus_rules.proofs.StepLeaves.{declares_none}
@@ -111,5 +118,18 @@ module _ (c : Config) (u n : Abstract) (made : IsWellMade c u) (nothing : Nothin
   holds : Holds n
   holds = rules_carried taken locals_hold made.rules
 
+  -- the operators of a body are those that it had, renamed
+  nest : BodiesNest c n
+  nest f g b at is =
+      let w = body_came taken f b (ap body_of_function at ∙ ap body_of_kind is) in
+      let old = (made.bodies w.from w.function w.body w.is w.has).read.operators in (
+        ap are_nested w.same.operators ∙ nested_renamed r (r.locals w.from) w.body.operators ∙ old.nested,
+        ap (are_allowed (features_of c)) w.same.operators ∙ allowed_renamed r (r.locals w.from) (features_of c) w.body.operators ∙ old.allowed,
+      )
+
 pub written_holds : WrittenHolds
 written_holds c u t made nothing written spelling = holds c u (said_by t) made nothing (side c u t spelling written)
+
+-- and in its bodies blocks nest
+pub written_nest : (c : Config) (u : Abstract) (t : Text) → IsWellMade c u → NothingUndeclared u → IsWrittenAs c u (said_by t) → IsSpelling (said_by t) t → BodiesNest c (said_by t)
+written_nest c u t made nothing written spelling = nest c u (said_by t) made nothing (side c u t spelling written)

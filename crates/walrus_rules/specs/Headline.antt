@@ -1,23 +1,16 @@
 -- What bytes read as at full breadth, and what a run comes to.
-use Rattle.std.specs.Prelude.{ℕ, Bool, List, ◌+◌, map, filter, flat_map, length, zip, Some, unwrap_or, codes, bytes_eq, nat_lt, ◌≡◌}
+use Rattle.std.specs.Prelude.{ℕ, Bool, List, map, filter, flat_map, length, zip, Some, codes, bytes_eq, nat_lt, ◌≡◌}
 use Rattle.std.specs.List.{AllZip}
 use Rattle.wasm_frames.specs.Record as wire
 use Rattle.wasm_frames.specs.Frames.{Frames}
 use Rattle.wasm_frames.specs.Order.{InOrder}
 use Rattle.wasm_payloads.specs.Names.{Named, Names}
 use Rattle.wasm_payloads.specs.Producers.{Field, Fields}
-use Rattle.walrus_types.specs.Operators.{Types, Functions, Tables, Memories, Tags, Globals, Elements, DataSegments}
-use Rattle.walrus_code.specs.Names.{Lookup}
-use Rattle.walrus_bodies.specs.Body.{context, BodyReads}
-use Rattle.walrus_bodies.specs.FunctionTypes.{is_function_def}
-use Rattle.walrus_groups.specs.Groups.{types_from}
-use Rattle.walrus_functions.specs.Handlers.{params_of}
-use Rattle.walrus_functions.specs.ReadFunction.{locals_from}
 use Rattle.walrus_model.specs.Abstract.{Abstract, Name, ProducerValue, ProducerField}
 use Rattle.walrus_model.specs.Config.{Config}
 use Rattle.walrus_model.specs.Out.{Out}
-use Rattle.walrus_model.specs.Reads.{below}
-use Rattle.walrus_model.specs.Sections.{Said, types_of, imported, imported_function, imported_table, imported_memory, imported_tag, imported_global}
+use Rattle.walrus_model.specs.Reads.{ReadsBodyWith}
+use Rattle.walrus_model.specs.Sections.{Said, function_types}
 use Rattle.walrus_model.specs.Rules.{Holds}
 use Rattle.walrus_rules.specs.Chain.{BringsTo}
 use Rattle.walrus_rules.specs.Features.{features_of}
@@ -26,28 +19,19 @@ use Rattle.walrus_rules.specs.Refused.{PassesLimits}
 use Rattle.walrus_rules.specs.Sections.{module_of}
 use Rattle.walrus_rules.specs.Spelling.{IsSpelledAs}
 
--- ---- what is declared; data segments where a data count stands
-
-abbrev pub declared : wire.Module → Lookup
-declared s Types = below (length (types_from 0 s.types))
-declared s Functions = below (length (imported imported_function 0 s.imports) + length s.functions)
-declared s Tables = below (length (imported imported_table 0 s.imports) + length s.tables)
-declared s Memories = below (length (imported imported_memory 0 s.imports) + length s.memories)
-declared s Tags = below (length (imported imported_tag 0 s.imports) + length s.tags)
-declared s Globals = below (length (imported imported_global 0 s.imports) + length s.globals)
-declared s Elements = below (length s.elements)
-declared s DataSegments = below (unwrap_or s.data_count 0)
+-- ---- bodies, legacy exceptions included where the configuration has them
 
 abbrev pub ReadsBody : Config → wire.Module → ℕ × wire.Body → Said → Type 0
-ReadsBody c s f body = BodyReads (context (declared s) (λ t. is_function_def (types_of s t)) (features_of c)) (locals_from 0 (length (params_of (types_of s f.0)) + length body.0)) f.1.bytes body.0 body.1
+ReadsBody c s f body = ReadsBodyWith (features_of c) s f body
 
 -- ---- names and producers: of each payload what stands whole before its first fault
 
 abbrev pub payloads : Name → wire.Module → List (List ℕ)
 payloads name s = map (λ (c : wire.Custom). c.bytes) (filter (λ (c : wire.Custom). bytes_eq c.name name) s.customs)
 
-abbrev pub is_function : wire.Module → ℕ → Bool
-is_function s f = nat_lt f (length (imported imported_function 0 s.imports) + length s.functions)
+-- it is the index of a function
+abbrev pub has_function : wire.Module → ℕ → Bool
+has_function s f = nat_lt f (length (function_types s))
 
 -- a data count counts the data segments
 abbrev pub CountHolds : wire.Module → Type 0
@@ -68,7 +52,7 @@ pub record Reads (c : Config) (bytes : List ℕ) (m : Abstract) : Type 0 where
   pub bodies : List Said
   pub read : AllZip (ReadsBody c sections) (zip sections.functions sections.bodies) bodies
   pub namings : List (List Named)
-  pub named : AllZip (Names (is_function sections)) (payloads (codes "name") sections) namings
+  pub named : AllZip (Names (has_function sections)) (payloads (codes "name") sections) namings
   pub fields : List (List Field)
   pub produced : AllZip Fields (payloads (codes "producers") sections) fields
   pub is : m ≡ module_of sections bodies (flat_map (map field_of) fields) (flat_map (λ xs. xs) namings)

@@ -6,11 +6,11 @@ use Rattle.walrus_model.specs.Config.{Config}
 use Rattle.walrus_model.specs.Live.{IsLive}
 use Rattle.walrus_model.specs.Names.{body_of}
 use Rattle.walrus_model.specs.Refers.{written_in, IsUsed}
-use Rattle.walrus_model.specs.WellMade.{WellMade}
 use Rattle.walrus_rules.specs.Pinned.{IsWrittenAs}
 use Rattle.walrus_rules.specs.Refused.{HasDead}
 use Rattle.walrus_rules.specs.Spelling.{IsSpelling, IsSpelledAs, SpelledOnce}
 use Rattle.walrus_rules.specs.Text.{Text, said_by}
+use Rattle.walrus_rules.specs.WellMade.{IsWellMade}
 
 -- what is named in items is there, each used local has a type, and what is exported or is where it starts is there
 
@@ -39,7 +39,7 @@ WrittenOnce = (c : Config) (v : Abstract) (s t : Text) → Premises v → IsSpel
 
 -- they hold of each
 abbrev pub PremisesHold : Type 0
-PremisesHold = (c : Config) (v : Abstract) → WellMade c v → Premises v
+PremisesHold = (c : Config) (v : Abstract) → IsWellMade c v → Premises v
 
 -- and of each that names nothing dead: one that names something dead is refused
 abbrev pub LivingKeeps : Type 0

@@ -1,8 +1,12 @@
 -- The laws on refusals: which of them a well-made module meets, and that what may be written isn't too large.
-use Rattle.std.specs.Prelude.{ℕ, Bool, List, Result, Ok, Err, ⊤}
+use Rattle.std.specs.Prelude.{ℕ, Bool, List, All, Result, Ok, Err, ⊤}
+use Rattle.wasm_writer.specs.Spelling.{SectionFits}
 use Rattle.walrus_model.specs.Abstract.{Abstract, Custom}
 use Rattle.walrus_model.specs.Config.{Config}
-use Rattle.walrus_rules.specs.Refused.{Refusal, Memory, DeadItem, NoIndex, TwoIndices, TooLarge, NotWritable, Caller, Another, RefusesToWrite}
+use Rattle.walrus_rules.specs.Pinned.{IsWrittenAs}
+use Rattle.walrus_rules.specs.Refused.{HasNoCause, Refusal, Memory, DeadItem, NoIndex, TwoIndices, TooLarge, NotWritable, Caller, Another, RefusesToWrite}
+use Rattle.walrus_rules.specs.Spelling.{IsSpelling}
+use Rattle.walrus_rules.specs.Text.{Text, sections_of}
 use Rattle.walrus_rules.specs.WellMade.{IsWellMade}
 
 -- written, or refused for lack of memory, for its size or by one of its own sections
@@ -24,3 +28,7 @@ FewRefusals = (may_refuse : Custom → Bool) (c : Config) (u : Abstract) (result
 abbrev pub OkOrTooLarge : Type 0
 OkOrTooLarge = (may_refuse : Custom → Bool) (c : Config) (u : Abstract) (bytes : List ℕ) → IsWellMade c u
     → RefusesToWrite may_refuse c u (Ok bytes) → RefusesToWrite {X = List ℕ} may_refuse c u (Err TooLarge) → ⊥
+
+-- of what may be written all sections fit
+abbrev pub OkFits : Type 0
+OkFits = (c : Config) (v n : Abstract) (t : Text) → HasNoCause c v → IsWrittenAs c v n → IsSpelling n t → All SectionFits (sections_of t)

@@ -6,7 +6,7 @@ use Rattle.wasm_forms.specs.Types.{ValueStands}
 use Rattle.wasm_entries.specs.Forms.{any_function}
 use Rattle.wasm_entries.specs.Record as entries
 use Rattle.wasm_frames.specs.Record as wire
-use Rattle.wasm_frames.specs.Frames.{Section, header}
+use Rattle.wasm_frames.specs.Frames.{header}
 use Rattle.wasm_payloads.specs.declared.naming.NameSpace.{NameSpace}
 use Rattle.wasm_payloads.specs.Names.{Named}
 use Rattle.wasm_writer.specs.Spelling.{SectionStands, SectionFits, all_spelled}

@@ -7,12 +7,14 @@
 #![tactic(auto)]
 
 mod settled;
+mod so_far;
 mod spelling;
 mod steps;
 mod well_made;
 mod written;
 
 pub use settled::{one_report, settles_again};
+pub use so_far::runs_come_out;
 pub use spelling::{has_alternatives, reads_once, spelled_once, spelled_reads, worked_row};
 pub use steps::{brought_lives, one_run, steps_come_out};
 pub use well_made::{few_refusals, parsed_well, well_made_stays};

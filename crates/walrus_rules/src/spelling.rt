@@ -6,7 +6,7 @@ ghost use Rattle.walrus_rules.specs.Alternatives.{HasAlternatives};
 ghost use Rattle.walrus_rules.specs.Examples.{AreRefused, one_function, one_function_bytes};
 ghost use Rattle.walrus_rules.specs.Needs.{IsWrittenOnce};
 ghost use Rattle.walrus_rules.specs.OneRun.{ReadFits, ReadsOnce, SpelledFits};
-ghost use Rattle.walrus_rules.specs.SpelledLaws.{SpelledReads};
+ghost use Rattle.walrus_rules.specs.SpelledLaws.{SpelledReads, WrittenBodies, WrittenReads};
 ghost use Rattle.walrus_rules.specs.Spelling.{IsSpelledAs, SpelledOnce};
 
 /// A module of one function is spelled and written so. Other bytes that read as the same module, or as one that differs
@@ -40,7 +40,10 @@ pub fn reads_once()
 
 /// What is spelled reads back: sections that are spelled and read again fit; and the one spelling of a module reads as
 /// the module, where its sections fit, its bodies are well formed under the configuration's flags and it keeps the rules.
+/// What a well-made module is written as is such, where nothing in it is undeclared.
 pub fn spelled_reads()
     ensures fits { SpelledFits }
     ensures back { SpelledReads }
+    ensures written { WrittenReads }
+    ensures bodies { WrittenBodies }
 {}

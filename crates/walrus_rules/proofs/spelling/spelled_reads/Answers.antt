@@ -1,3 +1,5 @@
+use Rattle.walrus_rules.proofs.WrittenBodies.{written_bodies}
+use Rattle.walrus_rules.proofs.WrittenReads.{written_reads}
 use Rattle.walrus_rules.proofs.SpelledFits as spelled
 use Rattle.walrus_rules.proofs.SpelledReads as back
 use Rattle.walrus_rules.proofs.spelling.spelled_reads.Goals as goal
@@ -7,3 +9,9 @@ returns-clause-fits c = spelled.spelled_fits
 
 pub returns-clause-back : goal.returns-clause-back
 returns-clause-back c = back.spelled_reads
+
+pub returns-clause-written : goal.returns-clause-written
+returns-clause-written c = written_reads
+
+pub returns-clause-bodies : goal.returns-clause-bodies
+returns-clause-bodies c = written_bodies

@@ -1,0 +1,17 @@
+-- What a well-made module is written as is what its one spelling reads as.
+use Rattle.std.proofs.Common.{sym, subst}
+use Rattle.walrus_model.specs.Rules.{Holds}
+use Rattle.walrus_rules.specs.Pinned.{IsWrittenAs}
+use Rattle.walrus_rules.specs.SpelledLaws.{BodiesNest, WrittenReads}
+use Rattle.walrus_rules.specs.Spelling.{IsSpelling}
+use Rattle.walrus_rules.proofs.SpelledReads.{nested_reads}
+use Rattle.walrus_rules.proofs.WrittenHolds.{written_holds, written_nest}
+
+pub written_reads : WrittenReads
+written_reads c u n bytes made nothing written spelled fits =
+    let is = spelled.spells.says in
+    let as_text = subst (IsWrittenAs c u) is written in
+    let spelling = subst (λ x. IsSpelling x spelled.text) is spelled.spells in
+    let holds = subst Holds (sym is) (written_holds c u spelled.text made nothing as_text spelling) in
+    let nest = subst (BodiesNest c) (sym is) (written_nest c u spelled.text made nothing as_text spelling) in
+    (nested_reads c n bytes spelled fits nest holds, holds)
