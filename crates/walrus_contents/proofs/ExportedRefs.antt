@@ -2,7 +2,7 @@
 use Rattle.std.proofs.Common.{◌≡◌, ℕ, zero, suc, ◌+◌, Bool, true, false, ◌&&◌, ◌||◌, List, [], ◌∷◌, map, refl, sym, ap, ◌∙◌, subst, eqb-true, inl, ⊎_elim}
 use Rattle.std.proofs.lemmas.Bool.{eqb-false}
 use Rattle.std.specs.Prelude.{Option, Some, None, Contains, IsSome, option_map, ◌==◌, if◌then◌else◌}
-use Rattle.std.specs.List.{list_all, list_any}
+use Rattle.std.specs.List.{list_all}
 use Rattle.walrus_base.specs.Arena.{item_at, items, entries_from}
 use Rattle.walrus_code.specs.Function.{body_of}
 use Rattle.walrus_code.specs.declared.function.LocalFunction.{LocalFunction}
@@ -22,9 +22,9 @@ use Rattle.walrus_model.specs.Abstract as abstract
 use Rattle.walrus_model.specs.Declared.{ref_func, IsRefInBody, IsUndeclared, NothingUndeclared}
 use Rattle.walrus_model.specs.Live.{IsLive}
 use Rattle.walrus_model.specs.Names.{body_of as body_in, body_of_function}
-use Rattle.walrus_model.proofs.Lists.{Contains-head, Contains-tail, Contains-uncons, Contains-none, Contains-map}
-use Rattle.walrus_contents.specs.References.{is_exported, arg_passes, args_pass, op_passes, kind_passes, all_pass, refs_are_exported}
-use Rattle.walrus_contents.specs.View.{export_of, body, kind_of, function, functions_of, view_of}
+use Rattle.walrus_model.proofs.Lists.{Contains-head, Contains-tail, Contains-uncons, Contains-none}
+use Rattle.walrus_contents.specs.References.{is_exported, arg_passes, args_pass, op_passes, kind_passes, refs_are_exported}
+use Rattle.walrus_contents.specs.View.{export_of, body, kind_of, function, view_of}
 
 -- ---- exports
 

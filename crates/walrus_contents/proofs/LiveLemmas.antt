@@ -1,9 +1,9 @@
--- Where each item is whole, and what is exported is there, all is there; and the other way round.
-use Rattle.std.proofs.Common.{◌≡◌, ℕ, ◌<◌, ◌+◌, List, [], ◌∷◌, length, map, take, get_or, Some, None, sym, ap, ◌∙◌, subst, refl}
+-- Where each item is whole, and what is exported is there, nothing that is named is missing; and where nothing is, all is there.
+use Rattle.std.proofs.Common.{◌≡◌, ℕ, ◌<◌, ◌+◌, List, length, map, take, get_or, Some, None, sym, ap, ◌∙◌, subst, refl}
 use Rattle.std.proofs.lemmas.Bool.{false≢true}
 use Rattle.std.specs.Prelude.{Option, IsSome, Contains, option_map, Result, MatchResult}
 use Rattle.walrus_base.specs.Arena.{items}
-use Rattle.walrus_types.specs.Operators.{Space, Types, Functions, Tables, Memories, Tags, Globals, Elements, DataSegments, Item}
+use Rattle.walrus_types.specs.Operators.{Types, Functions, Tables, Memories, Tags, Globals, Elements, DataSegments, Item}
 use Rattle.walrus_types.specs.declared.locals.ModuleLocals.{ModuleLocals}
 use Rattle.walrus_types.specs.declared.module_types.ModuleTypes.{ModuleTypes}
 use Rattle.walrus_code.specs.Code.{item_of}
@@ -13,16 +13,17 @@ use Rattle.walrus_items.specs.declared.exports.ModuleExports.{ModuleExports}
 use Rattle.walrus_items.specs.declared.functions.ModuleFunctions.{ModuleFunctions}
 use Rattle.walrus_model.specs.Abstract as abstract
 use Rattle.walrus_model.specs.Abstract.{Abstract}
-use Rattle.walrus_model.specs.Live.{Has, IsLive}
+use Rattle.walrus_model.specs.Dead.{HasDead, DeadName, DeadLocal, DeadExport, DeadStart, DeadImport, NoKind}
+use Rattle.walrus_model.specs.Live.{IsLive}
 use Rattle.walrus_model.specs.Names.{body_of_kind, body_of_function}
 use Rattle.walrus_model.specs.Refers.{named_by, written_in, type_names, function_names, table_names, memory_names, tag_names, global_names, element_names, data_names}
 use Rattle.walrus_model.proofs.Lists.{Contains-map, Contains-none}
 use Rattle.walrus_model.proofs.Reach.{Contains-unmap}
 use Rattle.walrus_parts.specs.declared.error.Error.{Error}
 use Rattle.walrus_contents.specs.Named.{export_names}
-use Rattle.walrus_contents.specs.There.{AreLive, AreWhole, IsRefusal, IsSound, IsThere, IsWhole}
+use Rattle.walrus_contents.specs.There.{AreLive, AreWhole, IsRefusal, IsSound, IsThere, IsUnsound, IsWhole, NoBody, NoLocal, OneIsDead}
 use Rattle.walrus_contents.specs.View.{export_of, view_of}
-use Rattle.walrus_contents.proofs.NamedLemmas.{result_map, row_more}
+use Rattle.walrus_contents.proofs.NamedLemmas.{result_map, row_more, some_none}
 
 -- what something is written in is there
 live_where : {X : Type 0} (names : X → List Item) (o : Option X) (y : Item) → Contains (named_by names o) y → IsSome o
@@ -56,30 +57,47 @@ module _ (v : Abstract) (ids : List ItemId) (i : ℕ) (d : ItemId) (lt : i < len
   pub live_more : AreLive v (map item_of (take i ids)) → IsLive v (item_of (get_or ids i d)) → AreLive v (map item_of (take (i + 1) ids))
   live_more before now = row_more item_of (λ x. IsLive v x) ids i d lt before now
 
--- ---- what is there, item by item
+-- ---- what isn't there
 
-module _ (v : Abstract) (h : IsThere v) where
-  pub each_whole : (space : Space) → AreWhole v space
-  each_whole space i live = record {
-    sound = record {
-      live = live;
-      initialised = λ j f same at. h.initialised j f at;
-      locals = λ j f b l same at is used. h.locals j b l (ap body_of_function at ∙ ap body_of_kind is) used;
-    };
-    written = λ y c. h.written (space, i) y c;
-  }
-
--- one that isn't whole
-pub none_whole : (v : Abstract) (space : Space) (i : ℕ) → Has v space i → (IsWhole v (space, i) → ⊥) → AreWhole v space → ⊥
-none_whole v space i live not all = not (all i live)
+pub unsound_dead : (v : Abstract) (x : Item) → IsUnsound v x → HasDead v
+unsound_dead v x (NoBody i f same at e) = NoKind i f at e
+unsound_dead v x (NoLocal i f b l same at e used none) = DeadLocal i l b (ap body_of_function at ∙ ap body_of_kind e) used none
 
 -- what was named is what is written in an item
 pub item_checked : {T : Type 0} (v : Abstract) (x : Item) (named : List Item) → named ≡ written_in v x → IsSound v x → (r : Result T Error)
-    → MatchResult r (λ _. AreLive v named) (IsRefusal (AreLive v named → ⊥)) → MatchResult r (λ _. IsWhole v x) (IsRefusal (IsWhole v x → ⊥))
-item_checked v x named is sound r h = result_map (AreLive v named) (IsWhole v x) (AreLive v named → ⊥) (IsWhole v x → ⊥)
+    → MatchResult r (λ _. AreLive v named) (IsRefusal (OneIsDead v named)) → MatchResult r (λ _. IsWhole v x) (IsRefusal (HasDead v))
+item_checked v x named is sound r h = result_map (AreLive v named) (IsWhole v x) (OneIsDead v named) (HasDead v)
     (λ live. record { sound = sound; written = subst (AreLive v) is live })
-    (λ dead whole. dead (subst (AreLive v) (sym is) whole.written))
+    (λ dead. DeadName x dead.0 (subst (λ (ys : List Item). Contains ys dead.0) is dead.1.0) dead.1.1)
     r h
+
+-- ---- where nothing that is named is missing, all is there
+
+some_unless : {X : Type 0} (o : Option X) → ((IsSome o → ⊥) → ⊥) → IsSome o
+some_unless (Some x) h = refl
+some_unless None h = absurd (h (λ e. false≢true e))
+
+live_unless : (v : Abstract) (x : Item) → ((IsLive v x → ⊥) → ⊥) → IsLive v x
+live_unless v (Types, i) h = some_unless (v.types i) h
+live_unless v (Functions, i) h = some_unless (v.functions i) h
+live_unless v (Tables, i) h = some_unless (v.tables i) h
+live_unless v (Memories, i) h = some_unless (v.memories i) h
+live_unless v (Tags, i) h = some_unless (v.tags i) h
+live_unless v (Globals, i) h = some_unless (v.globals i) h
+live_unless v (Elements, i) h = some_unless (v.elements i) h
+live_unless v (DataSegments, i) h = some_unless (v.data_segments i) h
+
+not_some : {X : Type 0} (o : Option X) → (IsSome o → ⊥) → o ≡ None
+not_some (Some x) h = absurd (h refl)
+not_some None h = refl
+
+pub none_dead : (v : Abstract) → (HasDead v → ⊥) → IsThere v
+none_dead v h = record {
+  written = λ x y c. live_unless v y (λ dead. h (DeadName x y c dead));
+  locals = λ i b x is used. some_unless (b.local_type x) (λ dead. h (DeadLocal i x b is used (not_some (b.local_type x) dead)));
+  exports = λ e c. live_unless v e.item (λ dead. h (DeadExport e c dead));
+  initialised = λ i f at none. h (NoKind i f at none);
+}
 
 pub was_there : {A B : Type 0} (f : A → B) (o : Option A) → IsSome (option_map f o) → IsSome o
 was_there f (Some x) h = refl
@@ -89,10 +107,10 @@ module _ (types : ModuleTypes) (all : ModuleLocals) (funcs : ModuleFunctions) (e
   abbrev V : Abstract
   V = view_of types all funcs es
 
-  pub exports_there : IsThere V → AreLive V (export_names es)
-  exports_there h x c =
-      let from = Contains-unmap (λ (e : ExportValue). exported e.item) (items (exports es)) x c in
-      subst (λ (y : Item). IsLive V y) from.2 (h.exports (export_of from.0) (Contains-map export_of from.0 (items (exports es)) from.1))
+  pub exports_dead : OneIsDead V (export_names es) → HasDead V
+  exports_dead dead =
+      let from = Contains-unmap (λ (e : ExportValue). exported e.item) (items (exports es)) dead.0 dead.1.0 in
+      DeadExport (export_of from.0) (Contains-map export_of from.0 (items (exports es)) from.1) (λ live. dead.1.1 (subst (λ (y : Item). IsLive V y) from.2 live))
 
   whole_at : AreWhole V Types → AreWhole V Functions → (x : Item) → IsLive V x → IsWhole V x
   whole_at t f (Types, i) live = t i live
@@ -104,7 +122,7 @@ module _ (types : ModuleTypes) (all : ModuleLocals) (funcs : ModuleFunctions) (e
   whole_at t f (Elements, i) live = absurd (false≢true live)
   whole_at t f (DataSegments, i) live = absurd (false≢true live)
 
-  pub all_there : AreLive V (export_names es) → AreWhole V Types → AreWhole V Functions → IsThere V
+  all_there : AreLive V (export_names es) → AreWhole V Types → AreWhole V Functions → IsThere V
   all_there e t f = record {
     written = λ x y c. (whole_at t f x (written_is_live V x y c)).written y c;
     locals = λ i b x is used.
@@ -116,7 +134,15 @@ module _ (types : ModuleTypes) (all : ModuleLocals) (funcs : ModuleFunctions) (e
     initialised = λ i g at. (f i (subst (λ (o : Option abstract.Function). IsSome o) (sym at) refl)).sound.initialised i g refl at;
   }
 
+  there_dead : IsThere V → HasDead V → ⊥
+  there_dead h (DeadName x y c dead) = dead (h.written x y c)
+  there_dead h (DeadLocal f x b is used none) = some_none (b.local_type x) (h.locals f b x is used) none
+  there_dead h (DeadExport e c dead) = dead (h.exports e c)
+  there_dead h (DeadStart f is none) = absurd cc
+  there_dead h (DeadImport i x at dead) = absurd cc
+  there_dead h (NoKind i f at none) = h.initialised i f at none
+
   -- at the end of the check the functions decide
   pub functions_checked : {T : Type 0} → AreLive V (export_names es) → AreWhole V Types → (r : Result T Error)
-      → MatchResult r (λ _. AreWhole V Functions) (IsRefusal (AreWhole V Functions → ⊥)) → MatchResult r (λ _. IsThere V) (IsRefusal (IsThere V → ⊥))
-  functions_checked e t r h = result_map (AreWhole V Functions) (IsThere V) (AreWhole V Functions → ⊥) (IsThere V → ⊥) (λ f. all_there e t f) (λ not there. not (each_whole V there Functions)) r h
+      → MatchResult r (λ _. AreWhole V Functions) (IsRefusal (HasDead V)) → MatchResult r (λ _. HasDead V → ⊥) (IsRefusal (HasDead V))
+  functions_checked e t r h = result_map (AreWhole V Functions) (HasDead V → ⊥) (HasDead V) (HasDead V) (λ f. there_dead (all_there e t f)) (λ dead. dead) r h

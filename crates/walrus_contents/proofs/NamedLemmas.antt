@@ -1,6 +1,7 @@
 -- How what the parts of an item name comes together.
-use Rattle.std.proofs.Common.{◌≡◌, ℕ, zero, suc, ◌+◌, ◌<◌, ◌≤◌, ⊎_elim, List, [], ◌∷◌, ◌++◌, Option, Some, length, map, take, drop, get_or, ap, sym, ◌∙◌, subst, refl, arith, add-one, append_assoc, drop-cons}
+use Rattle.std.proofs.Common.{◌≡◌, ℕ, zero, suc, ◌+◌, ◌<◌, ◌≤◌, ⊎_elim, List, [], ◌∷◌, ◌++◌, Option, Some, None, length, map, take, drop, get_or, ap, sym, ◌∙◌, subst, refl, arith, add-one, append_assoc, drop-cons}
 use Rattle.std.specs.Prelude.{Contains, IsSome, option_map, flat_map, Result, Ok, Err, MatchResult}
+use Rattle.std.proofs.lemmas.Bool.{false≢true}
 use Rattle.std.proofs.lemmas.List.{append-nil, drop_all, map-append, map_more}
 use Rattle.std.proofs.lemmas.List.Elements.{Contains-push_cases}
 use Rattle.std.specs.Global.{Vec}
@@ -25,14 +26,23 @@ use Rattle.walrus_contents.specs.View.{body, function, handlers_at, kind_handler
 use Rattle.walrus_parts.specs.declared.error.Error.{Error}
 use Rattle.walrus_parts.specs.declared.error.Error.TheVariants.{Memory, DeadItem}
 use Rattle.walrus_model.proofs.Lists.{Contains-head, Contains-tail, Contains-none}
-use Rattle.walrus_contents.specs.Named.{AreThere, IsReady, Puts, items_in, kept_types, local_type_names, type_at}
-use Rattle.walrus_contents.specs.There.{IsRefusal, IsSound}
+use Rattle.walrus_contents.specs.Named.{AreThere, IsReady, IsUnready, OneIsMissing, Puts, items_in, kept_types, local_type_names, type_at}
+use Rattle.walrus_contents.specs.There.{IsRefusal, IsSound, IsUnsound, NoBody, NoLocal}
+
+pub some_none : {X : Type 0} (o : Option X) → IsSome o → o ≡ None → ⊥
+some_none (Some x) h e = absurd cc
+some_none None h e = false≢true h
 
 -- a refusal for one reason is one for each reason that follows from it
 pub refusal_map : (P Q : Type 0) → (P → Q) → (e : Error) → IsRefusal P e → IsRefusal Q e
 refusal_map P Q f (Memory m) h = h
 refusal_map P Q f DeadItem h = f h
 refusal_map P Q f e h = absurd h
+
+-- what isn't sound can't be
+pub unsound_not : (v : abstract.Abstract) (x : Item) → IsUnsound v x → IsSound v x → ⊥
+unsound_not v x (NoBody i f same at e) s = s.initialised i f same at e
+unsound_not v x (NoLocal i f b l same at e used none) s = let there : IsSome (b.local_type l) = s.locals i f b l same at e used in absurd (some_none (b.local_type l) there none)
 
 -- ---- rows
 
@@ -88,8 +98,8 @@ module _ (all : ModuleLocals) where
   pub there_more : (ids : List (Id LocalKey)) (i : ℕ) (d : Id LocalKey) → i < length ids → AreThere all (map place (take i ids)) → IsSome (type_at all (place (get_or ids i d))) → AreThere all (map place (take (i + 1) ids))
   there_more ids i d lt before now = row_more place (λ l. IsSome (type_at all l)) ids i d lt before now
 
-  pub there_dead : (ids : List (Id LocalKey)) (i : ℕ) (d : Id LocalKey) → i < length ids → (IsSome (type_at all (place (get_or ids i d))) → ⊥) → AreThere all (map place ids) → ⊥
-  there_dead ids i d lt dead there = dead (there (place (get_or ids i d)) (among place ids i d lt))
+  pub one_missing : (ids : List (Id LocalKey)) (i : ℕ) (d : Id LocalKey) → i < length ids → type_at all (place (get_or ids i d)) ≡ None → OneIsMissing all (map place ids)
+  one_missing ids i d lt none = (place (get_or ids i d), (among place ids i d lt, none))
 
 -- two rows, one behind another
 pub two_rows : {Y : Type 0} (old n1 n2 a b : List Y) → n1 ≡ old ++ a → n2 ≡ n1 ++ b → n2 ≡ old ++ (a ++ b)
@@ -106,15 +116,15 @@ result_map A B P Q f g (Err e) h = refusal_map P Q g e h
 
 -- what a body names: what its operators do, and then the types of its locals
 pub body_named : {T : Type 0} (all : ModuleLocals) (f : LocalFunction) (r : Result T Error) (old now new : Vec ItemId) (used : List ℕ) → used ≡ locals_of (body_of f) → Puts old now (names_of (body_of f))
-    → MatchResult r (λ _. AreThere all used × Puts now new (flat_map (local_type_names all) used)) (IsRefusal (AreThere all used → ⊥))
-    → MatchResult r (λ _. AreThere all (locals_of (body_of f)) × Puts old new (body_names (body all f))) (IsRefusal (AreThere all (locals_of (body_of f)) → ⊥))
+    → MatchResult r (λ _. AreThere all used × Puts now new (flat_map (local_type_names all) used)) (IsRefusal (OneIsMissing all used))
+    → MatchResult r (λ _. AreThere all (locals_of (body_of f)) × Puts old new (body_names (body all f))) (IsRefusal (OneIsMissing all (locals_of (body_of f))))
 body_named all f r old now new used same first h = result_map
     (AreThere all (locals_of (body_of f)) × Puts now new (flat_map (local_type_names all) (locals_of (body_of f))))
     (AreThere all (locals_of (body_of f)) × Puts old new (body_names (body all f)))
-    (AreThere all (locals_of (body_of f)) → ⊥) (AreThere all (locals_of (body_of f)) → ⊥)
+    (OneIsMissing all (locals_of (body_of f))) (OneIsMissing all (locals_of (body_of f)))
     (λ x. (x.0, two_rows (items_in old) (items_in now) (items_in new) (names_of (body_of f)) (flat_map (local_type_names all) (locals_of (body_of f))) first x.1))
-    (λ dead. dead)
-    r (subst (λ (ps : List ℕ). MatchResult r (λ _. AreThere all ps × Puts now new (flat_map (local_type_names all) ps)) (IsRefusal (AreThere all ps → ⊥))) same h)
+    (λ missing. missing)
+    r (subst (λ (ps : List ℕ). MatchResult r (λ _. AreThere all ps × Puts now new (flat_map (local_type_names all) ps)) (IsRefusal (OneIsMissing all ps))) same h)
 
 module _ (types : ModuleTypes) (all : ModuleLocals) (funcs : ModuleFunctions) (es : ModuleExports) where
   abbrev v : abstract.Abstract
@@ -145,21 +155,21 @@ module _ (types : ModuleTypes) (all : ModuleLocals) (funcs : ModuleFunctions) (e
       locals = λ j g b l same at e u. ready_locals f.kind h b (ap (λ (x : abstract.Function). x.kind) (seen_at j g same at) ∙ e) l u;
     }
 
-    ready_sound : (k : FunctionKind) → f.kind ≡ k → IsSound v (Functions, i) → IsReady all k
-    ready_sound (Import n) e s = tt
-    ready_sound (Local n) e s = λ l u. s.locals i (function all f) (body all n) l refl (ap (option_map (function all)) is) (ap (kind_of all) e) u
-    ready_sound (Uninitialized ty) e s = s.initialised i (function all f) refl (ap (option_map (function all)) is) (ap (kind_of all) e)
+    unready_unsound : (k : FunctionKind) → f.kind ≡ k → IsUnready all k → IsUnsound v (Functions, i)
+    unready_unsound (Import n) e u = absurd u
+    unready_unsound (Local n) e u = NoLocal i (function all f) (body all n) u.0 refl (ap (option_map (function all)) is) (ap (kind_of all) e) u.1.0 u.1.1
+    unready_unsound (Uninitialized ty) e u = NoBody i (function all f) refl (ap (option_map (function all)) is) (ap (kind_of all) e)
 
     -- what stands written in a function, in the words of the abstract module
     pub function_named : {T : Type 0} (r : Result T Error) (old new : Vec ItemId)
-        → MatchResult r (λ _. IsReady all f.kind × Puts old new (function_names (function all f))) (IsRefusal (IsReady all f.kind → ⊥))
-        → MatchResult r (λ _. IsSound v (Functions, i) × Puts old new (written_in v (Functions, i))) (IsRefusal (IsSound v (Functions, i) → ⊥))
+        → MatchResult r (λ _. IsReady all f.kind × Puts old new (function_names (function all f))) (IsRefusal (IsUnready all f.kind))
+        → MatchResult r (λ _. IsSound v (Functions, i) × Puts old new (written_in v (Functions, i))) (IsRefusal (IsUnsound v (Functions, i)))
     function_named r old new h = result_map
         (IsReady all f.kind × Puts old new (function_names (function all f)))
         (IsSound v (Functions, i) × Puts old new (written_in v (Functions, i)))
-        (IsReady all f.kind → ⊥) (IsSound v (Functions, i) → ⊥)
+        (IsUnready all f.kind) (IsUnsound v (Functions, i))
         (λ x. (sound_ready x.0, subst (λ (o : Option FunctionValue). Puts old new (named_by function_names (option_map (function all) o))) (sym is) x.1))
-        (λ dead s. dead (ready_sound f.kind refl s))
+        (unready_unsound f.kind refl)
         r h
 
   -- what a function keeps beside that

@@ -1,5 +1,5 @@
 -- What an item of a module in memory names, and what has to be there so that it can be told.
-use Rattle.std.specs.Prelude.{◌≡◌, ℕ, List, [], ◌++◌, map, Option, IsSome, Contains, ⊤}
+use Rattle.std.specs.Prelude.{◌≡◌, ℕ, List, [], ◌++◌, map, Option, None, IsSome, Contains, ⊤}
 use Rattle.std.specs.Global.{Vec}
 use Rattle.walrus_base.specs.Arena.{item_at, items}
 use Rattle.walrus_base.specs.Types.{ValType, val_names}
@@ -56,8 +56,18 @@ local_type_names all l = named_by (λ v. map type_item (val_names v)) (type_at a
 abbrev pub AreThere : ModuleLocals → List ℕ → Type 0
 AreThere all used = (l : ℕ) → Contains used l → IsSome (type_at all l)
 
+-- at one of these places is none
+abbrev pub OneIsMissing : ModuleLocals → List ℕ → Type 0
+OneIsMissing all used = (l : ℕ) × (Contains used l × (type_at all l ≡ None))
+
 -- a function of this kind has an import or a body, and the locals that its body uses are there
 abbrev pub IsReady : ModuleLocals → FunctionKind → Type 0
 IsReady all (Import i) = ⊤
 IsReady all (Local f) = AreThere all (locals_of (body_of f))
 IsReady all (Uninitialized ty) = ⊥
+
+-- it has neither, or its body uses a local that isn't there
+abbrev pub IsUnready : ModuleLocals → FunctionKind → Type 0
+IsUnready all (Import i) = ⊥
+IsUnready all (Local f) = OneIsMissing all (locals_of (body_of f))
+IsUnready all (Uninitialized ty) = ⊤

@@ -1,5 +1,5 @@
 -- What has to be there: what items and exports name, and the locals that bodies use.
-use Rattle.std.specs.Prelude.{ℕ, List, Some, IsSome, Contains, ◌≡◌, ◌≢◌, ⊤}
+use Rattle.std.specs.Prelude.{ℕ, List, Some, None, IsSome, Contains, ◌≡◌, ◌≢◌, ⊤}
 use Rattle.walrus_types.specs.Operators.{Space, Functions, Item}
 use Rattle.walrus_model.specs.Abstract.{Abstract, Body, Uninitialised, LocalFunction, Function, Export}
 use Rattle.walrus_model.specs.Closed.{NamesAreLive}
@@ -24,9 +24,18 @@ pub record IsSound (v : Abstract) (x : Item) : Type 0 where
   pub initialised : (i : ℕ) (f : Function) → x ≡ (Functions, i) → v.functions i ≡ Some f → f.kind ≢ Uninitialised
   pub locals : (i : ℕ) (f : Function) (b : Body) (l : ℕ) → x ≡ (Functions, i) → v.functions i ≡ Some f → f.kind ≡ LocalFunction b → IsUsed b l → IsSome (b.local_type l)
 
+-- it isn't: a function with neither an import nor a body, or one whose body uses a local that isn't there
+pub data IsUnsound (v : Abstract) (x : Item) : Type 0 where
+  NoBody : (i : ℕ) (f : Function) → x ≡ (Functions, i) → v.functions i ≡ Some f → f.kind ≡ Uninitialised → IsUnsound v x
+  NoLocal : (i : ℕ) (f : Function) (b : Body) (l : ℕ) → x ≡ (Functions, i) → v.functions i ≡ Some f → f.kind ≡ LocalFunction b → IsUsed b l → b.local_type l ≡ None → IsUnsound v x
+
 -- these items are there
 abbrev pub AreLive : Abstract → List Item → Type 0
 AreLive v named = (x : Item) → Contains named x → IsLive v x
+
+-- one of them isn't
+abbrev pub OneIsDead : Abstract → List Item → Type 0
+OneIsDead v named = (x : Item) × (Contains named x × (IsLive v x → ⊥))
 
 -- the item is sound, and what is written in it is there
 pub record IsWhole (v : Abstract) (x : Item) : Type 0 where

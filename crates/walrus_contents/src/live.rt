@@ -1,9 +1,10 @@
 //! Whether all that a module names is there.
-ghost use Rattle.std.specs.Prelude.{◌↔◌, IsTrue, MatchResult, map};
+ghost use Rattle.std.specs.Prelude.{MatchResult, map};
 ghost use Rattle.walrus_code.specs.Code.{item_of};
+ghost use Rattle.walrus_model.specs.Dead.{HasDead};
 ghost use Rattle.walrus_model.specs.Live.{IsLive};
 ghost use Rattle.walrus_types.specs.Operators.{Functions, Types};
-ghost use Rattle.walrus_contents.specs.There.{AreLive, AreWhole, IsRefusal, IsThere, IsWhole};
+ghost use Rattle.walrus_contents.specs.There.{AreLive, AreWhole, IsRefusal, IsWhole, OneIsDead};
 ghost use Rattle.walrus_contents.specs.View.{parts_view};
 
 use crate::names::{push_export_names, push_written_names};
@@ -12,9 +13,9 @@ use std::alloc::Global;
 use walrus_items::{Error, ItemId, Result};
 
 /// Checks that each function has an import or a body, and that all that types, functions and exports name is there, the locals of
-/// bodies among it. Refused with `DeadItem` exactly where that isn't so, and with `Memory`.
+/// bodies among it. Refused with `DeadItem` exactly where one of these isn't so, and with `Memory`.
 pub fn check_live(alloc: Global, parts: Parts<'_>) -> Result<()>
-    ensures { MatchResult result (λ _. IsThere (parts_view parts.entry)) (IsRefusal (IsThere (parts_view parts.entry) → ⊥)) }
+    ensures { MatchResult result (λ _. HasDead (parts_view parts.entry) → ⊥) (IsRefusal (HasDead (parts_view parts.entry))) }
 {
     let mut named = Vec::new(alloc);
     push_export_names(parts.exports, &mut named)?;
@@ -25,7 +26,7 @@ pub fn check_live(alloc: Global, parts: Parts<'_>) -> Result<()>
 
 // The same for what types name. What was in `named` is let go.
 fn check_types(alloc: Global, parts: Parts<'_>, named: &mut Vec<ItemId>) -> Result<()>
-    ensures { MatchResult result (λ _. AreWhole (parts_view parts.entry) Types) (IsRefusal (AreWhole (parts_view parts.entry) Types → ⊥)) }
+    ensures { MatchResult result (λ _. AreWhole (parts_view parts.entry) Types) (IsRefusal (HasDead (parts_view parts.entry))) }
 {
     for ty in parts.types.iter() {
         check_item(alloc, parts, ItemId::Type(ty.id()), named)?;
@@ -35,7 +36,7 @@ fn check_types(alloc: Global, parts: Parts<'_>, named: &mut Vec<ItemId>) -> Resu
 
 // The same for what functions name.
 fn check_functions(alloc: Global, parts: Parts<'_>, named: &mut Vec<ItemId>) -> Result<()>
-    ensures { MatchResult result (λ _. AreWhole (parts_view parts.entry) Functions) (IsRefusal (AreWhole (parts_view parts.entry) Functions → ⊥)) }
+    ensures { MatchResult result (λ _. AreWhole (parts_view parts.entry) Functions) (IsRefusal (HasDead (parts_view parts.entry))) }
 {
     for (id, _function) in parts.funcs.iter_entries() {
         check_item(alloc, parts, ItemId::Function(id), named)?;
@@ -46,7 +47,7 @@ fn check_functions(alloc: Global, parts: Parts<'_>, named: &mut Vec<ItemId>) -> 
 // The same for what is written in one item.
 fn check_item(alloc: Global, parts: Parts<'_>, item: ItemId, named: &mut Vec<ItemId>) -> Result<()>
     requires { IsLive (parts_view parts) (item_of item) }
-    ensures { MatchResult result (λ _. IsWhole (parts_view parts.entry) (item_of item)) (IsRefusal (IsWhole (parts_view parts.entry) (item_of item) → ⊥)) }
+    ensures { MatchResult result (λ _. IsWhole (parts_view parts.entry) (item_of item)) (IsRefusal (HasDead (parts_view parts.entry))) }
 {
     named.clear();
     push_written_names(alloc, parts, item, named)?;
@@ -55,7 +56,9 @@ fn check_item(alloc: Global, parts: Parts<'_>, item: ItemId, named: &mut Vec<Ite
 
 // Whether items are there: refused with `DeadItem` where one isn't.
 fn check_all(parts: Parts<'_>, named: &[ItemId]) -> Result<()>
-    ensures { MatchResult result (λ _. AreLive (parts_view parts.entry) (map item_of named.now)) (IsRefusal (AreLive (parts_view parts.entry) (map item_of named.now) → ⊥)) }
+    ensures { MatchResult result
+        (λ _. AreLive (parts_view parts.entry) (map item_of named.now))
+        (IsRefusal (OneIsDead (parts_view parts.entry) (map item_of named.now))) }
 {
     for item in named {
         if !is_live(parts, *item) {

@@ -1,6 +1,6 @@
 //! What the items of a module name.
 
-ghost use Rattle.std.specs.Prelude.{◌≡◌, ◌++◌, map, flat_map, IfOk, IsSome, OnOk, MatchResult};
+ghost use Rattle.std.specs.Prelude.{◌≡◌, ◌++◌, map, flat_map, IfOk, IsSome, None, OnOk, MatchResult};
 ghost use Rattle.walrus_base.specs.Arena.{IsLive as IsLiveAt};
 ghost use Rattle.walrus_base.specs.Id.{place};
 ghost use Rattle.walrus_base.specs.Types.{heap_names, val_names};
@@ -14,8 +14,8 @@ ghost use Rattle.walrus_types.specs.ModuleTypes.{type_slots};
 ghost use Rattle.walrus_types.specs.Operators.{locals_of, names_of, type_item};
 ghost use Rattle.walrus_types.specs.TypeSlots.{group_at};
 ghost use Rattle.walrus_types.specs.Value.{heap_type, val_type};
-ghost use Rattle.walrus_contents.specs.There.{IsRefusal, IsSound};
-ghost use Rattle.walrus_contents.specs.Named.{AreThere, IsReady, Puts, all_names, export_names, kept_types, local_type_names, type_at};
+ghost use Rattle.walrus_contents.specs.There.{IsRefusal, IsSound, IsUnsound};
+ghost use Rattle.walrus_contents.specs.Named.{AreThere, IsReady, IsUnready, OneIsMissing, Puts, all_names, export_names, kept_types, local_type_names, type_at};
 
 use crate::parts::Parts;
 use std::alloc::{AllocError, Global};
@@ -68,7 +68,7 @@ pub fn push_written_names(
     requires { IsLive (parts_view parts) (item_of item) }
     ensures { MatchResult result
         (λ _. IsSound (parts_view parts.entry) (item_of item) × Puts to.old to.new (written_in (parts_view parts.entry) (item_of item)))
-        (IsRefusal (IsSound (parts_view parts.entry) (item_of item) → ⊥)) }
+        (IsRefusal (IsUnsound (parts_view parts.entry) (item_of item))) }
 {
     match item {
         ItemId::Type(id) => Ok(push_type_names(alloc, parts.types, id, to)?),
@@ -164,7 +164,7 @@ fn push_function_names(
     ensures { MatchResult result
         (λ _. IsReady locals.now function.now.kind × Puts to.old to.new
         (function_names (function_of locals.now (function_value function.now))))
-        (IsRefusal (IsReady locals.now function.now.kind → ⊥)) }
+        (IsRefusal (IsUnready locals.now function.now.kind)) }
 {
     to.push(ItemId::Type(function.ty()))?;
     push_kind_names(alloc, locals, &function.kind, to)
@@ -180,7 +180,7 @@ fn push_kind_names(
     ensures { MatchResult result
         (λ _. IsReady locals.now kind.now × Puts to.old to.new
         (kind_names (kind_of locals.now kind.now)))
-        (IsRefusal (IsReady locals.now kind.now → ⊥)) }
+        (IsRefusal (IsUnready locals.now kind.now)) }
 {
     match kind {
         FunctionKind::Import(_) => Ok(()),
@@ -199,7 +199,7 @@ fn push_body_names(
     ensures { MatchResult result
         (λ _. AreThere locals.now (locals_of (body_of function.now)) × Puts to.old to.new
         (body_names (body locals.now function.now)))
-        (IsRefusal (AreThere locals.now (locals_of (body_of function.now)) → ⊥)) }
+        (IsRefusal (OneIsMissing locals.now (locals_of (body_of function.now)))) }
 {
     push_operator_names(function.operators.as_slice(), to)?;
     let used = used_locals(alloc, function.operators.as_slice())?;
@@ -235,7 +235,7 @@ fn push_local_types(locals: &ModuleLocals, used: &[LocalId], to: &mut Vec<ItemId
     ensures { MatchResult result
         (λ _. AreThere locals.now (map place used.now)
         × Puts to.old to.new (flat_map (local_type_names locals.now) (map place used.now)))
-        (IsRefusal (AreThere locals.now (map place used.now) → ⊥)) }
+        (IsRefusal (OneIsMissing locals.now (map place used.now))) }
 {
     for id in used {
         push_local_type(locals, *id, to)?;
@@ -247,7 +247,7 @@ fn push_local_types(locals: &ModuleLocals, used: &[LocalId], to: &mut Vec<ItemId
 fn push_local_type(locals: &ModuleLocals, id: LocalId, to: &mut Vec<ItemId>) -> Result<()>
     ensures { MatchResult result
         (λ _. IsSome (type_at locals.now (place id)) × Puts to.old to.new (local_type_names locals.now (place id)))
-        (IsRefusal (IsSome (type_at locals.now (place id)) → ⊥)) }
+        (IsRefusal (type_at locals.now (place id) ≡ None)) }
 {
     if !locals.contains(id) {
         return Err(Error::DeadItem);

@@ -2,7 +2,8 @@
 use Rattle.std.proofs.Common.{◌≡◌, ℕ, zero, suc, ◌+◌, ◌-◌, ◌<◌, ◌≤◌, ◌&&◌, ◌⊎◌, inl, inr, Bool, true, false, List, [], ◌∷◌, length, flat_map, Option, Some, refl, sym, ap, ap₂, ◌∙◌, ⊎_elim, subst, arith, IsTrue}
 use Rattle.std.specs.Prelude.{Contains, ◌↔◌, nat_le, nat_lt}
 use Rattle.std.specs.List.{list_all, range_with_len}
-use Rattle.std.proofs.lemmas.Bool.{ltb-true, lt-ltb, leb-true, le-leb, ltb-false}
+use Rattle.std.specs.Bool.{OnFalse}
+use Rattle.std.proofs.lemmas.Bool.{false≢true, ltb-true, lt-ltb, leb-true, le-leb, ltb-false, OnFalse_from}
 use Rattle.std.proofs.lemmas.List.Folds.{list_all-append}
 use Rattle.std.proofs.lemmas.List.FromFn.{length-range_with_len, get_or-range_with_len}
 use Rattle.walrus_base.specs.Arena.{item_at, entries}
@@ -13,7 +14,7 @@ use Rattle.walrus_types.specs.TypeSlots.{defs}
 use Rattle.walrus_types.specs.Whole.{AreWhole}
 use Rattle.walrus_types.specs.declared.types.Type.{«Type»}
 use Rattle.walrus_types.proofs.Lists.{Contains-head, Contains-tail}
-use Rattle.walrus_groups.specs.Indexed.{AreInOrder}
+use Rattle.walrus_groups.specs.Indexed.{AreInOrder, IsOutOfOrder, LaterSupertype, LaterType}
 use Rattle.walrus_groups.specs.Ordered.{heap_within, val_within, vals_within, storage_within, field_within, comp_within, last_of, all_below, is_ordered}
 use Rattle.walrus_groups.proofs.WrittenLists.{AllThere, IsRow, entries_there, group-row, has-row, entry_contained}
 
@@ -47,6 +48,18 @@ each_passes p (z ∷ xs) x h (suc k, lt, e) = each_passes p xs x (both (p z) (li
 all_pass : {X : Type 0} (p : X → Bool) (xs : List X) → ((x : X) → Contains xs x → p x ≡ true) → list_all p xs ≡ true
 all_pass p [] h = refl
 all_pass p (x ∷ xs) h = and_true (p x) (list_all p xs) (h x (Contains-head x xs)) (all_pass p xs (λ y at. h y (Contains-tail x y xs at)))
+
+one_of_two : (a b : Bool) → (a && b) ≡ false → (a ≡ false) ⊎ (b ≡ false)
+one_of_two true b h = inr h
+one_of_two false b h = inl refl
+
+-- where not all pass, one fails
+one_fails : {X : Type 0} (p : X → Bool) (xs : List X) → list_all p xs ≡ false → (x : X) × (Contains xs x × (p x ≡ false))
+one_fails p [] h = absurd (false≢true (sym h))
+one_fails {X} p (z ∷ xs) h = ⊎_elim
+    (λ (here : p z ≡ false). (z, (Contains-head z xs, here)))
+    (λ (behind : list_all p xs ≡ false). let found = one_fails p xs behind in (found.0, (Contains-tail z found.0 xs found.1.0, found.1.1)))
+    (one_of_two (p z) (list_all p xs) h)
 
 -- ---- the names of a composite type
 
@@ -157,8 +170,36 @@ module _ (slots : List (Option TypeDef)) (whole : AreWhole slots) (rows : (t : �
       (type_ordered row.0 row.1.0 e.0 e.1 row.1.1.0 row.1.1.1.0 row.1.1.1.1 (λ u at. order.supertypes e.0 u e.1 there.0 at) (λ u at. order.others e.0 u e.1 there.0 at))
       (all_ordered order es there.1)
 
+  -- what isn't in order, of a type of a group that is this row
+  row_out : (t a n : ℕ) (x : TypeDef) → item_at slots t ≡ Some x → x.group ≡ range_with_len a n → a ≤ t → t < a + n → is_ordered (t, x) ≡ false → IsOutOfOrder slots
+  row_out t a zero x here row low high h = absurd (omega (arith, low, high))
+  row_out t a (suc n) x here row low high h = ⊎_elim
+      (λ (early : all_below t x.sub.supertypes ≡ false).
+      let found = one_fails (λ u. nat_lt u t) x.sub.supertypes early in
+      LaterSupertype t found.0 x here found.1.0 (λ before. false≢true (sym found.1.1 ∙ lt-ltb found.0 t before)))
+      (λ (out : comp_within (last_of x.group t) x.sub.comp ≡ false).
+      let last : last_of x.group t ≡ a + n = ap (λ g. last_of g t) row ∙ last_row a n t in
+      let found = one_fails (within (last_of x.group t)) (comp_names x.sub.comp) (sym (comp_names_within (last_of x.group t) x.sub.comp) ∙ out) in
+      let behind : found.0 ≤ a + n → ⊥ = λ up_to. false≢true (sym found.1.1 ∙ le-leb found.0 (last_of x.group t) (omega (arith, up_to, last))) in
+      LaterType t found.0 x here found.1.0 (⊎_elim
+      (λ (own : Contains x.group found.0). behind (let inside : found.0 < a + suc n = (contains_row a (suc n) found.0 (subst (λ g. Contains g found.0) row own)).1 in omega (arith, inside)))
+      (λ (before : (q : ℕ) → Contains x.group q → found.0 < q). behind (let under : found.0 < t = before t (subst (λ g. Contains g t) (sym row) (row_contains a (suc n) t low high)) in omega (arith, under, high)))))
+      (one_of_two (all_below t x.sub.supertypes) (comp_within (last_of x.group t) x.sub.comp) h)
+
+  type_out : (t : ℕ) (x : TypeDef) → item_at slots t ≡ Some x → is_ordered (t, x) ≡ false → IsOutOfOrder slots
+  type_out t x here h =
+      let row = member_row t x here in
+      row_out t row.0 row.1.0 x here row.1.1.0 row.1.1.1.0 row.1.1.1.1 h
+
+  one_out : (es : List (ℕ × TypeDef)) → AllThere slots es → list_all is_ordered es ≡ false → IsOutOfOrder slots
+  one_out [] there h = absurd (false≢true (sym h))
+  one_out (e ∷ es) there h = ⊎_elim (type_out e.0 e.1 there.0) (one_out es there.1) (one_of_two (is_ordered e) (list_all is_ordered es) h)
+
 pub told : (places : List (Option «Type»)) (r : Bool) → AreWhole (defs places) → r ≡ list_all is_ordered (entries (defs places)) → IsTrue r ↔ AreInOrder (defs places)
 told places r whole is = (
   λ h. in_order (defs places) whole (group-row places) (sym is ∙ h),
   λ order. is ∙ all_ordered (defs places) whole (group-row places) order (entries (defs places)) (entries_there (defs places)),
 )
+
+pub told_out : (places : List (Option «Type»)) (r : Bool) → AreWhole (defs places) → r ≡ list_all is_ordered (entries (defs places)) → OnFalse r (IsOutOfOrder (defs places))
+told_out places r whole is = OnFalse_from r (IsOutOfOrder (defs places)) (λ not. one_out (defs places) whole (group-row places) (entries (defs places)) (entries_there (defs places)) (sym is ∙ not))

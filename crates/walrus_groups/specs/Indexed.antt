@@ -42,7 +42,16 @@ IndexesTypes view names defs (Err TooLarge) = ⊥
 
 -- ---- the order in which types may be written ("Validation > Types > Recursive Types")
 
+-- the type is of this group, or before all its members
+abbrev pub IsInOrBefore : List ℕ → ℕ → Type 0
+IsInOrBefore group u = Contains group u ⊎ ((p : ℕ) → Contains group p → u < p)
+
 -- a supertype comes before its subtype; every other type that is named is of an earlier group or of the own one
 pub record AreInOrder (slots : List (Option TypeDef)) : Type 0 where
   pub supertypes : (t u : ℕ) (x : TypeDef) → item_at slots t ≡ Some x → Contains x.sub.supertypes u → u < t
-  pub others : (t u : ℕ) (x : TypeDef) → item_at slots t ≡ Some x → Contains (comp_names x.sub.comp) u → Contains x.group u ⊎ ((p : ℕ) → Contains x.group p → u < p)
+  pub others : (t u : ℕ) (x : TypeDef) → item_at slots t ≡ Some x → Contains (comp_names x.sub.comp) u → IsInOrBefore x.group u
+
+-- a type has a supertype that isn't before it, or names another type that is neither of its group nor before all of that
+pub data IsOutOfOrder (slots : List (Option TypeDef)) : Type 0 where
+  LaterSupertype : (t u : ℕ) (x : TypeDef) → item_at slots t ≡ Some x → Contains x.sub.supertypes u → (u < t → ⊥) → IsOutOfOrder slots
+  LaterType : (t u : ℕ) (x : TypeDef) → item_at slots t ≡ Some x → Contains (comp_names x.sub.comp) u → (IsInOrBefore x.group u → ⊥) → IsOutOfOrder slots

@@ -1,6 +1,7 @@
 //! The order in which types may be written (Validation > Types > Recursive Types).
 
 ghost use Rattle.std.specs.Prelude.{◌≡◌, ◌↔◌, IsTrue, Some, map};
+ghost use Rattle.std.specs.Bool.{OnFalse};
 ghost use Rattle.walrus_base.specs.Arena.{item_at, IsLive};
 ghost use Rattle.walrus_base.specs.Id.{place};
 ghost use Rattle.walrus_types.specs.Composite.{storage_type, field_type, comp_type, supertypes};
@@ -9,17 +10,18 @@ ghost use Rattle.walrus_types.specs.TypeDef.{type_def, type_place};
 ghost use Rattle.walrus_types.specs.TypeSlots.{group_at};
 ghost use Rattle.walrus_types.specs.TypesLeft.{place_and_def};
 ghost use Rattle.walrus_types.specs.Value.{heap_type, val_type};
-ghost use Rattle.walrus_groups.specs.Indexed.{AreInOrder};
+ghost use Rattle.walrus_groups.specs.Indexed.{AreInOrder, IsOutOfOrder};
 ghost use Rattle.walrus_groups.specs.Ordered.{heap_within, val_within, vals_within, storage_within, field_within, fields_within, comp_within, last_of, all_below, is_ordered};
 
 use walrus_base::TypeId;
 use walrus_types::{CompositeType, FieldType, HeapType, ModuleTypes, StorageType, Type, ValType};
 
 /// Whether the types, written in the order of their ids, name only such as they may: a supertype comes before its subtype, and
-/// every other type that is named is of an earlier group or of the own one (Validation > Types > Recursive Types). Takes no
-/// memory.
+/// every other type that is named is of an earlier group or of the own one (Validation > Types > Recursive Types). Where it
+/// answers no, a type names one that it may not. Takes no memory.
 pub fn are_in_order(types: &ModuleTypes) -> bool
-    ensures { IsTrue result ↔ AreInOrder (type_slots types.now) }
+    ensures in_order { IsTrue result ↔ AreInOrder (type_slots types.now) }
+    ensures cause { OnFalse result (IsOutOfOrder (type_slots types.now)) }
 {
     types.groups_are_whole();
     for ty in types.iter() {

@@ -21,6 +21,8 @@ mod parts;
 #[cfg(test)]
 mod producers;
 #[cfg(test)]
+mod producers_held;
+#[cfg(test)]
 mod sample;
 #[cfg(test)]
 mod told;

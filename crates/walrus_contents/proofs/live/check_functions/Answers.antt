@@ -1,15 +1,13 @@
-use Rattle.std.proofs.Common.{◌≡◌, ℕ, Some, ap, ◌∙◌, refl}
-use Rattle.std.specs.Prelude.{IsSome, option_map}
+use Rattle.std.proofs.Common.{ap, ◌∙◌}
 use Rattle.std.proofs.lemmas.Result.{err_from_is_err_and}
 use Rattle.walrus_base.specs.Arena.{item_at}
 use Rattle.walrus_base.specs.Id.{place}
 use Rattle.walrus_types.specs.Operators.{Functions}
 use Rattle.walrus_items.specs.Functions.{functions, function_entries_left, function_value}
-use Rattle.walrus_contents.specs.There.{AreWhole, IsWhole}
-use Rattle.walrus_contents.specs.View.{function, functions_of, parts_view}
-use Rattle.walrus_contents.proofs.LiveLemmas.{none_whole, was_there}
-use Rattle.walrus_contents.proofs.NamedLemmas.{refusal_map}
-use Rattle.walrus_contents.proofs.Walked.{walk_begins, walk_goes, walk_ends, next_there}
+use Rattle.walrus_contents.specs.There.{IsWhole}
+use Rattle.walrus_contents.specs.View.{function, parts_view}
+use Rattle.walrus_contents.proofs.LiveLemmas.{was_there}
+use Rattle.walrus_contents.proofs.Walked.{walk_begins, walk_goes, walk_ends}
 use Rattle.walrus_contents.proofs.live.check_functions.Goals as goal
 
 pub loop-id-init : goal.loop-id-init
@@ -25,14 +23,7 @@ loop-id-preserved c =
 pub returns-in_err-check_item : goal.returns-in_err-check_item
 returns-in_err-check_item c =
     let p = err_from_is_err_and c.from_residual.result c.from_residual.ensures.1 in
-    let parts = c.args.parts in
-    let v = parts_view parts in
-    let slots = functions parts.funcs.now in
-    let n = place c.in-Some.id in
-    let value = function_value c.in-Some._function.now in
-    let at : item_at slots n ≡ Some value = next_there (λ i. IsWhole v (Functions, i)) slots _ _ (n, value) c.in-Some.ensures.steps c.loop-id.invariant.2 in
-    let live : IsSome (functions_of parts.locals.now parts.funcs.now n) = rw at refl in
-    rw (p.1, p.2) (refusal_map (IsWhole v (Functions, n) → ⊥) (AreWhole v Functions → ⊥) (none_whole v Functions n live) c.in_err-check_item.field-0.0 c.in_err-check_item.ensures)
+    rw (p.1, p.2) c.in_err-check_item.ensures
 
 pub returns : goal.returns
 returns c = λ i live.

@@ -2,15 +2,12 @@ use Rattle.std.proofs.Common.{◌≡◌, ℕ, Some, sym, ap, ◌∙◌, subst, r
 use Rattle.std.specs.Prelude.{IsSome}
 use Rattle.std.proofs.lemmas.Result.{err_from_is_err_and}
 use Rattle.walrus_base.specs.Arena.{item_at}
-use Rattle.walrus_base.specs.Id.{place}
 use Rattle.walrus_types.specs.ModuleTypes.{type_slots}
 use Rattle.walrus_types.specs.Operators.{Types}
 use Rattle.walrus_types.specs.TypeDef.{type_def, type_place}
 use Rattle.walrus_types.specs.TypesLeft.{place_and_def, types_left}
-use Rattle.walrus_contents.specs.There.{AreWhole, IsWhole}
+use Rattle.walrus_contents.specs.There.{IsWhole}
 use Rattle.walrus_contents.specs.View.{parts_view}
-use Rattle.walrus_contents.proofs.LiveLemmas.{none_whole}
-use Rattle.walrus_contents.proofs.NamedLemmas.{refusal_map}
 use Rattle.walrus_contents.proofs.Walked.{walk_begins, walk_goes, walk_ends, next_there}
 use Rattle.walrus_contents.proofs.live.check_types.Goals as goal
 
@@ -37,13 +34,7 @@ loop-ty-preserved c =
 pub returns-in_err-check_item : goal.returns-in_err-check_item
 returns-in_err-check_item c =
     let p = err_from_is_err_and c.from_residual.result c.from_residual.ensures.1 in
-    let parts = c.args.parts in
-    let v = parts_view parts in
-    let slots = type_slots parts.types.now in
-    let ty = c.in-Some.ty.now in
-    let at : item_at slots (type_place ty) ≡ Some (type_def ty) = next_there (λ i. IsWhole v (Types, i)) slots _ _ (place_and_def ty) c.in-Some.ensures.steps c.loop-ty.invariant.2 in
-    let live : IsSome (item_at slots (place c.id.result)) = subst (λ (n : ℕ). IsSome (item_at slots n)) (sym c.id.ensures) (rw at refl) in
-    rw (p.1, p.2) (refusal_map (IsWhole v (Types, place c.id.result) → ⊥) (AreWhole v Types → ⊥) (none_whole v Types (place c.id.result) live) c.in_err-check_item.field-0.0 c.in_err-check_item.ensures)
+    rw (p.1, p.2) c.in_err-check_item.ensures
 
 pub returns : goal.returns
 returns c =

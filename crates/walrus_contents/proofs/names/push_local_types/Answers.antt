@@ -3,14 +3,14 @@ use Rattle.std.proofs.lemmas.Result.{err_from_is_err_and}
 use Rattle.walrus_base.specs.Id.{place}
 use Rattle.walrus_base.specs.declared.id.Id.{Id}
 use Rattle.walrus_base.specs.declared.keys.LocalKey.{LocalKey}
-use Rattle.walrus_contents.specs.Named.{AreThere, items_in, local_type_names}
-use Rattle.walrus_contents.proofs.NamedLemmas.{refusal_map, row_end, row_step, there_dead, there_more}
+use Rattle.walrus_contents.specs.Named.{AreThere, OneIsMissing, items_in, local_type_names}
+use Rattle.walrus_contents.proofs.NamedLemmas.{one_missing, refusal_map, row_end, row_step, there_more}
 use Rattle.walrus_contents.proofs.names.push_local_types.Goals as goal
 
 pub returns-in_err-push_local_type : goal.returns-in_err-push_local_type
 returns-in_err-push_local_type c =
     let p = err_from_is_err_and c.from_residual.result c.from_residual.ensures.1 in
-    rw (p.1, p.2) (refusal_map _ (AreThere c.args.locals.now (map place c.args.used.now) → ⊥) (there_dead c.args.locals.now c.args.used.now c.loop-id.id-index _ c.loop-id-test.true) c.in_err-push_local_type.field-0.0 c.in_err-push_local_type.ensures)
+    rw (p.1, p.2) (refusal_map _ (OneIsMissing c.args.locals.now (map place c.args.used.now)) (one_missing c.args.locals.now c.args.used.now c.loop-id.id-index _ c.loop-id-test.true) c.in_err-push_local_type.field-0.0 c.in_err-push_local_type.ensures)
 
 pub loop-id-preserved : goal.loop-id-preserved
 loop-id-preserved c =

@@ -1,10 +1,10 @@
-use Rattle.std.proofs.Common.{ap, ◌∙◌, sym, subst, ◌&&◌}
+use Rattle.std.proofs.Common.{false, ap, ◌∙◌, sym, subst, ◌&&◌}
 use Rattle.std.specs.List.{list_all}
 use Rattle.walrus_types.specs.ModuleTypes.{type_slots}
 use Rattle.walrus_types.specs.TypesLeft.{types_left}
 use Rattle.walrus_groups.specs.Ordered.{is_ordered}
 use Rattle.walrus_groups.proofs.WrittenLists.{AllThere, entries_there}
-use Rattle.walrus_groups.proofs.OrderWhole.{told}
+use Rattle.walrus_groups.proofs.OrderWhole.{told, told_out}
 use Rattle.walrus_groups.proofs.order.are_in_order.Goals as goal
 
 pub loop-ty-init : goal.loop-ty-init
@@ -16,10 +16,15 @@ loop-ty-init c =
       ap (list_all is_ordered) (sym same),
     )
 
-pub returns : goal.returns
-returns c = told _ _ c.groups_are_whole.ensures (sym (c.loop-ty.invariant.3 ∙ ap (list_all is_ordered) c.in-None.ensures.steps.0))
+pub returns-clause-in_order : goal.returns-clause-in_order
+returns-clause-in_order c = told _ _ c.groups_are_whole.ensures (sym (c.loop-ty.invariant.3 ∙ ap (list_all is_ordered) c.in-None.ensures.steps.0))
 
-pub returns-then-not-is_in_order : goal.returns-then-not-is_in_order
-returns-then-not-is_in_order c =
+pub returns-then-not-is_in_order-clause-in_order : goal.returns-then-not-is_in_order-clause-in_order
+returns-then-not-is_in_order-clause-in_order c =
     let after = types_left c.next.new.self in
     told _ _ c.groups_are_whole.ensures (sym (c.loop-ty.invariant.3 ∙ ap (list_all is_ordered) c.in-Some.ensures.steps ∙ ap (λ b. b && list_all is_ordered after) (sym c.is_in_order.ensures ∙ c.if-not-is_in_order.true)))
+
+pub returns-then-not-is_in_order-clause-cause : goal.returns-then-not-is_in_order-clause-cause
+returns-then-not-is_in_order-clause-cause c =
+    let after = types_left c.next.new.self in
+    told_out _ false c.groups_are_whole.ensures (sym (c.loop-ty.invariant.3 ∙ ap (list_all is_ordered) c.in-Some.ensures.steps ∙ ap (λ b. b && list_all is_ordered after) (sym c.is_in_order.ensures ∙ c.if-not-is_in_order.true)))

@@ -1,0 +1,2 @@
+pub mod Producers
+pub mod Seen
