@@ -18,7 +18,7 @@ use Rattle.walrus_types.specs.TypeDef.{TypeDef}
 use Rattle.walrus_model.proofs.Lists.{Contains-head, Contains-uncons, Contains-none, Contains-map, Contains-append_2}
 use Rattle.walrus_writing.specs.Parts.{Held as ModuleHeld}
 use Rattle.walrus_writing.specs.Sizes.{local_sizes}
-use Rattle.walrus_writing.specs.Spells.{Records}
+use Rattle.walrus_writing.specs.Records.{Records}
 use Rattle.walrus_writing.specs.Local.{is_local}
 use Rattle.walrus_writing.proofs.Differ.{order_differs, sizes_places}
 use Rattle.walrus_writing.proofs.Leads.{found_at}
@@ -134,13 +134,13 @@ module _ {h : ModuleHeld} {features : Features} {exports : List ExportValue} (r 
         within = moved.1;
         sized = (got_in r.ordered.sized moved.0 (length f.0.operators.items, i) got).1;
         stands = stands;
-        named = r.numbered.functions_are i ∙ stands_at r.order i moved.0 (order_differs funcs r.order r.ordered) stands;
+        named = r.numbered Functions i ∙ stands_at r.order i moved.0 (order_differs funcs r.order r.ordered) stands;
       }
 
   -- and what has an index is a function
   pub function_there : (i k : ℕ) → r.names Functions i ≡ Some k → IsSome (item_at funcs i)
   function_there i k e =
-      let c : Contains r.order i = in_by_place r.order i k (sym (r.numbered.functions_are i) ∙ e) in
+      let c : Contains r.order i = in_by_place r.order i k (sym (r.numbered Functions i) ∙ e) in
       let d : Contains (map (λ (s : ℕ × ℕ). s.1) r.ordered.sized) i = subst (λ l. Contains l i) r.ordered.is c in
       let back : IsPermutation (map (λ (s : ℕ × ℕ). s.1) r.ordered.sized) (map (λ (s : ℕ × ℕ). s.1) (local_sizes funcs)) =
       IsPermutation-sym (map (λ (s : ℕ × ℕ). s.1) (local_sizes funcs)) (map (λ (s : ℕ × ℕ). s.1) r.ordered.sized) (IsPermutation-map (λ (s : ℕ × ℕ). s.1) (local_sizes funcs) r.ordered.sized r.ordered.moved) in
@@ -149,7 +149,7 @@ module _ {h : ModuleHeld} {features : Features} {exports : List ExportValue} (r 
 
   -- a type has an index, and nothing else has one in that space
   pub type_named : (i : ℕ) → IsSome (item_at types i) → IsSome (r.names Types i)
-  type_named i live = subst (λ (o : Option ℕ). IsSome o) (sym (r.numbered.types_are i)) (entry_placed types i live)
+  type_named i live = subst (λ (o : Option ℕ). IsSome o) (sym (r.numbered Types i)) (entry_placed types i live)
 
   pub type_there : (i k : ℕ) → r.names Types i ≡ Some k → IsSome (item_at types i)
-  type_there i k e = entry_there types i k (sym (r.numbered.types_are i) ∙ e)
+  type_there i k e = entry_there types i k (sym (r.numbered Types i) ∙ e)

@@ -1,10 +1,10 @@
-pub mod BodiesBack
-pub mod BodyBack
+pub mod BodyTypes
 pub mod CarriedOver
 pub mod Carrying
 pub mod CountedLocals
 pub mod DeclaredTypes
 pub mod Differ
+pub mod Emitted
 pub mod EmittedLemmas
 pub mod Entries
 pub mod InOrder
@@ -19,6 +19,7 @@ pub mod Numbering
 pub mod Parsing
 pub mod PlacedLemmas
 pub mod Placing
+pub mod Ranked
 pub mod ReadBack
 pub mod RefsCarried
 pub mod Refusing
@@ -29,10 +30,12 @@ pub mod SeenLocals
 pub mod Somes
 pub mod SpellsLemmas
 pub mod Standing
+pub mod TextStands
 pub mod Turns
 pub mod TypeRefusals
 pub mod TypeSizes
 pub mod TypesBack
+pub mod TypesEntered
 pub mod WireTypes
 pub mod WrittenAs
 pub mod WrittenFrames

@@ -1,12 +1,13 @@
 -- A body that is written is the same body, under the indices that its items and locals are given.
-use Rattle.std.proofs.Common.{inl, inr, ◌≡◌, ◌⊎◌, ℕ, suc, ◌+◌, ◌<◌, ◌≤◌, Bool, true, false, List, [], ◌∷◌, ◌++◌, length, map, refl, sym, ap, ap₂, subst, ◌∙◌, arith, Some}
-use Rattle.std.specs.Prelude.{◌≢◌, Option, Contains, nat_eq, option_map, slice_get, unwrap_or, if◌then◌else◌}
-use Rattle.std.specs.List.{AllZip, range_with_len}
+use Rattle.std.proofs.Common.{inl, inr, ◌≡◌, ◌⊎◌, ℕ, zero, suc, get_or, None, ◌+◌, ◌<◌, ◌≤◌, Bool, true, false, List, [], ◌∷◌, ◌++◌, length, map, refl, sym, ap, ap₂, subst, ◌∙◌, arith, Some}
+use Rattle.std.specs.Prelude.{◌≢◌, Option, IsSome, Contains, nat_eq, option_map, slice_get, unwrap_or, if◌then◌else◌}
+use Rattle.std.specs.List.{AllByRecursion, AllZip, IsDistinct, range_with_len}
+use Rattle.std.proofs.lemmas.Bool.{ne_eqb}
 use Rattle.std.proofs.lemmas.Bool.Decides.{eqb_tells}
 use Rattle.walrus_base.specs.Arena.{item_at}
 use Rattle.walrus_base.specs.Id.{place}
 use Rattle.walrus_base.specs.Types.{ValType, map_val}
-use Rattle.walrus_types.specs.Operators.{Space, Types, locals_of}
+use Rattle.walrus_types.specs.Operators.{Space, Types, DataSegments, Item, locals_of, names_of}
 use Rattle.walrus_types.specs.Shape.{place_in}
 use Rattle.walrus_code.specs.FromRaw.{ops_of}
 use Rattle.walrus_code.specs.Function.{body_of}
@@ -18,18 +19,27 @@ use Rattle.walrus_items.specs.Exports.{ExportValue}
 use Rattle.walrus_model.specs.Abstract.{Body}
 use Rattle.walrus_model.specs.Sections.{types_of, body_with}
 use Rattle.walrus_model.specs.Refers.{IsUsed}
-use Rattle.walrus_model.specs.Renaming.{Renaming, renamed_ops}
+use Rattle.walrus_model.specs.Renaming.{Renaming, renamed, renamed_ops}
 use Rattle.walrus_model.specs.Same.{SameBody}
 use Rattle.walrus_writing.specs.Parts.{Held, type_index, HasBytes, source}
-use Rattle.walrus_writing.specs.Spells.{Records}
-use Rattle.walrus_writing.proofs.BodiesBack.{params_typed}
-use Rattle.walrus_writing.proofs.BodyBack.{types_in, typed_by, further_typed}
+use Rattle.walrus_writing.specs.Records.{Records}
+use Rattle.walrus_writing.proofs.TypesEntered.{params_typed}
+use Rattle.walrus_writing.proofs.BodyTypes.{types_in, typed_by, further_typed, as_many_further}
 use Rattle.walrus_writing.proofs.Leads.{found_at}
-use Rattle.walrus_contents.proofs.Lookups.{then_some, mapped_some, got_map, mapped_append, as_long, where_placed, place_range, place_past, Stands}
-use Rattle.walrus_writing.proofs.NamedFound.{locals_found}
+use Rattle.walrus_contents.proofs.Lookups.{then_some, mapped_some, got_map, mapped_append, as_long, where_placed, place_range, place_past, Stands, there, range_length}
+use Rattle.walrus_writing.proofs.NamedFound.{locals_found, names_found}
 use Rattle.walrus_writing.proofs.Renamed.{val_renamed, ops_renamed}
-use Rattle.walrus_writing.proofs.WrittenAs.{texts_in, local_in_order, sections_of, renaming_of}
-use Rattle.walrus_model.proofs.Standing.{some_of, some_inj, self_eq}
+use Rattle.walrus_writing.proofs.WrittenAs.{texts_in, local_in_order, laid_of, renaming_of}
+use Rattle.walrus_model.proofs.Lists.{Contains-map}
+use Rattle.walrus_model.proofs.TakingOver.{Contains-map_back}
+use Rattle.walrus_model.proofs.OpsFollow.{ops_follow, ops_locals_follow}
+use Rattle.walrus_model.proofs.Standing.{got_in, got_where, none_there, some_of, some_inj, self_eq, stands_at}
+use Rattle.walrus_functions.specs.DeclaredLocals.{GoesBefore, IsDeclared}
+use Rattle.walrus_functions.proofs.ApartLemmas.{locals_differ}
+use Rattle.walrus_functions.proofs.LawOrder.{Sorted, sorted_of, turn}
+use Rattle.walrus_rules.specs.Spelling.{UsesAll}
+use Rattle.walrus_rules.proofs.Agree.{Compared, compared}
+use Rattle.walrus_rules.proofs.SameVal.{unplaced}
 
 -- ---- the body of a function among the texts
 
@@ -72,6 +82,40 @@ module _ (h : Held) (names : Lookup) (features : Features) where
   spelled_as_text [] (b ∷ bs) a f k e = elim a [ ]
   spelled_as_text (i ∷ is) [] a f k e = elim a [ ]
 
+-- ---- places behind a list
+
+no_some : {A X : Type 0} (x : X) → Some x ≡ None → A
+no_some x e = absurd (cc)
+
+none_by : (o : Option ℕ) → option_map suc o ≡ None → o ≡ None
+none_by None e = refl
+none_by (Some k) e = no_some (suc k) e
+
+place_next : (x y : ℕ) (xs ys : List ℕ) (m : ℕ) → ((nat_eq x y ≡ true) × (x ≡ y)) ⊎ ((nat_eq x y ≡ false) × (x ≢ y)) → place_in (x ∷ xs) y ≡ None → (place_in xs y ≡ None → place_in (xs ++ ys) y ≡ Some m) → place_in (x ∷ (xs ++ ys)) y ≡ Some (suc m)
+place_next x y xs ys m (inl q) none later = no_some 0 (sym (ap (λ (t : Bool). if t then Some 0 else option_map suc (place_in xs y)) q.0) ∙ none)
+place_next x y xs ys m (inr q) none later =
+    let left : option_map suc (place_in xs y) ≡ None = sym (ap (λ (t : Bool). if t then Some 0 else option_map suc (place_in xs y)) q.0) ∙ none in
+    ap (λ (t : Bool). if t then Some 0 else option_map suc (place_in (xs ++ ys) y)) q.0 ∙ ap (option_map suc) (later (none_by (place_in xs y) left))
+
+place_behind : (xs ys : List ℕ) (y k m : ℕ) → m ≡ length xs + k → place_in xs y ≡ None → place_in ys y ≡ Some k → place_in (xs ++ ys) y ≡ Some m
+place_behind [] ys y k m n none e = e ∙ ap (λ (j : ℕ). Some j) (let p : k ≡ m = omega (arith, n) in p)
+place_behind (x ∷ xs) ys y k zero n none e = absurd (omega (arith, n))
+place_behind (x ∷ xs) ys y k (suc m) n none e = place_next x y xs ys m (eqb_tells x y) none (λ left. place_behind xs ys y k m (omega (arith, n)) left e)
+
+all_differ : (x : ℕ) (xs : List ℕ) → AllByRecursion (λ (y : ℕ). x ≢ y) xs → AllByRecursion (λ (y : ℕ). nat_eq x y ≡ false) xs
+all_differ x [] h = tt
+all_differ x (y ∷ ys) h = (ne_eqb x y h.0, all_differ x ys h.1)
+
+distinct_by : (xs : List ℕ) → Sorted (λ (x : ℕ) (y : ℕ). x ≢ y) xs → IsDistinct nat_eq xs
+unfolding IsDistinct
+distinct_by [] h = tt
+distinct_by (x ∷ xs) h = (all_differ x xs h.0, distinct_by xs h.1)
+
+rest_of : (a x : ℕ) → a ≤ x → (k : ℕ) × (x ≡ a + k)
+rest_of zero x h = (x, omega arith)
+rest_of (suc a) zero h = absurd (omega (arith, h))
+rest_of (suc a) (suc x) h = let d = rest_of a x (omega (arith, h)) in (d.0, let p : x ≡ a + d.0 = d.1 in omega (arith, p))
+
 -- ---- the types of its locals
 
 module _ {h : Held} {features : Features} {exports : List ExportValue} (r : Records h features exports) (i t : ℕ) (bytes : List ℕ) (b : HasBytes h r.names features i bytes) (e : type_index h.funcs r.names i ≡ Some t)
@@ -86,7 +130,7 @@ module _ {h : Held} {features : Features} {exports : List ExportValue} (r : Reco
   all_locals = parameters ++ b.written.order
 
   abbrev params : List (ValType ℕ)
-  params = params_of (types_of (sections_of r) t)
+  params = params_of (types_of (laid_of r) t)
 
   abbrev further : List (ValType ℕ)
   further = types_in S bytes b.places b.numbers b.written
@@ -98,7 +142,7 @@ module _ {h : Held} {features : Features} {exports : List ExportValue} (r : Reco
   ren = renaming_of r
 
   params_looked_up : map Some params ≡ map (typed_by r.names h.slots) parameters
-  params_looked_up = params_typed r (sections_of r) refl refl i t bytes b e
+  params_looked_up = params_typed r (laid_of r) refl i t bytes b e
 
   locals_typed : map Some (params ++ further) ≡ map (typed_by r.names h.slots) all_locals
   locals_typed =
@@ -162,3 +206,80 @@ module _ {h : Held} {features : Features} {exports : List ExportValue} (r : Reco
         types = λ x u. type_kept x (used x u) ∙ ap (option_map (map_val (ren.numbers Types))) (sym (ts x));
         parameters = λ x u. place_kept x (used x u) ∙ ap (λ (l : List ℕ). place_in l x) (sym ps);
       }
+
+  -- ---- the locals that it declares
+
+  abbrev order : List ℕ
+  order = b.written.order
+
+  abbrev Before : ℕ → ℕ → Type 0
+  Before x y = GoesBefore h.slots (locals_of (body_of b.local)) parameters x y
+
+  order_differs : IsDistinct nat_eq order
+  order_differs = distinct_by order (sorted_of (λ (x : ℕ) (y : ℕ). x ≢ y) order (locals_differ h.slots (locals_of (body_of b.local)) parameters order b.written.declared.sorted))
+
+  among : (k y : ℕ) → slice_get order k ≡ Some y → Contains order y
+  among k y at = let g = got_in order k y at in (k, g.0, g.1 y)
+
+  -- a declared local stands behind the parameters, in the order
+  declared_at : (k y : ℕ) → slice_get order k ≡ Some y → ren.locals i y ≡ length parameters + k
+  declared_at k y at =
+      let d = (b.written.declared.which y).0 (among k y at) in
+      found_locals y
+      ∙ ap (λ (o : Option ℕ). unwrap_or o 0) (place_behind parameters order y k (length parameters + k) refl (unplaced parameters y d.no_parameter) (stands_at order y k order_differs at))
+
+  in_turn : (x y k l : ℕ) → slice_get order k ≡ Some x → slice_get order l ≡ Some y → Before x y → Compared k l → k < l
+  in_turn x y k l at there g (inl lt) = lt
+  in_turn x y k l at there g (inr (inl same)) =
+      let one : x ≡ y = some_inj x y (sym at ∙ ap (slice_get order) same ∙ there) in
+      let self : Before x x = subst (λ (z : ℕ). Before x z) (sym one) g in
+      absurd (turn h.slots (locals_of (body_of b.local)) parameters x x self self)
+  in_turn x y k l at there g (inr (inr lt)) =
+      let p = got_in order l y there in
+      let q = got_in order k x at in
+      let back : Before y x = subst (λ (z : ℕ). Before z x) (p.1 x) (subst (λ (z : ℕ). Before (get_or order l x) z) (q.1 x) (b.written.declared.sorted l k x lt q.0)) in
+      absurd (turn h.slots (locals_of (body_of b.local)) parameters x y g back)
+
+  pub locals_rise : (x y : ℕ) → IsDeclared h.slots (locals_of (body_of b.local)) parameters x → IsDeclared h.slots (locals_of (body_of b.local)) parameters y → Before x y → ren.locals i x < ren.locals i y
+  locals_rise x y dx dy g =
+      let cx = (b.written.declared.which x).1 dx in
+      let cy = (b.written.declared.which y).1 dy in
+      let at : slice_get order cx.0 ≡ Some x = got_where order x cx in
+      let there : slice_get order cy.0 ≡ Some y = got_where order y cy in
+      let less : cx.0 < cy.0 = in_turn x y cx.0 cy.0 at there g (compared cx.0 cy.0) in
+      let first : ren.locals i x ≡ length parameters + cx.0 = declared_at cx.0 x at in
+      let second : ren.locals i y ≡ length parameters + cy.0 = declared_at cy.0 y there in
+      omega (arith, less, first, second)
+
+  operators_renamed : ops_of b.written.texts ≡ renamed_ops ren (ren.locals i) (body_of b.local)
+  operators_renamed = ops_renamed r.names ren number_is (index_in S b.written.order) (ren.locals i) (λ p j g. sym (found_locals p ∙ ap (λ (o : Option ℕ). unwrap_or o 0) g)) S.ops (ops_of b.written.texts) b.written.named
+
+  used_again : (y : ℕ) → Contains (locals_of (body_of b.local)) y → Contains (locals_of (ops_of b.written.texts)) (ren.locals i y)
+  used_again y u =
+      subst (λ l. Contains l (ren.locals i y)) (sym (ap locals_of operators_renamed ∙ ops_locals_follow ren (ren.locals i) (body_of b.local)))
+      (Contains-map (ren.locals i) y (locals_of (body_of b.local)) u)
+
+  uses_at : (x k : ℕ) → x ≡ length parameters + k → k < length order → Contains (locals_of (ops_of b.written.texts)) x
+  uses_at x k e low =
+      let y = some_of (slice_get order k) (there order k low) in
+      let d = (b.written.declared.which y.0).0 (among k y.0 y.1) in
+      subst (λ z. Contains (locals_of (ops_of b.written.texts)) z) (declared_at k y.0 y.1 ∙ sym e) (used_again y.0 d.is_used)
+
+  -- each of them is used
+  pub uses_all : UsesAll new
+  uses_all x low high =
+      let range : length new.parameters ≡ length params = range_length 0 (length params) in
+      let above : length parameters ≤ x = omega (arith, low, range, many) in
+      let k = rest_of (length parameters) x above in
+      let as_many : length further ≡ length order = as_many_further S bytes b.places b.numbers b.written in
+      let at : x ≡ length parameters + k.0 = k.1 in
+      let below : k.0 < length order = omega (arith, high, range, many, as_many, at) in
+      uses_at x k.0 at below
+
+  -- no data segment is named
+  pub names_no_data : (d : ℕ) → Contains (names_of new.operators) (DataSegments, d) → ⊥
+  names_no_data d at =
+      let x = Contains-map_back (renamed ren) (names_of (body_of b.local)) (DataSegments, d) (subst (λ l. Contains l (DataSegments, d)) (ap names_of operators_renamed ∙ ops_follow ren (ren.locals i) (body_of b.local)) at) in
+      let there = names_found r.names (index_in S b.written.order) S.ops (ops_of b.written.texts) b.written.named x.0 x.1 in
+      let space : x.0.0 ≡ DataSegments = ap (λ (z : Item). z.0) x.2 in
+      none_there (subst (λ (o : Option ℕ). IsSome o) (r.numbered DataSegments x.0.1) (subst (λ (s : Space). IsSome (r.names s x.0.1)) space there))

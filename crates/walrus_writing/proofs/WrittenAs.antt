@@ -1,4 +1,4 @@
--- The module of indices that records make.
+-- The text that records make, and the module of indices that it says.
 use Rattle.wasm_frames.specs.Record as wire
 use Rattle.std.proofs.Common.{ℕ, List, [], ◌∷◌, ◌++◌, map}
 use Rattle.std.specs.Prelude.{unwrap_or, ◌==◌, if◌then◌else◌}
@@ -9,11 +9,13 @@ use Rattle.walrus_code.specs.Names.{Lookup}
 use Rattle.walrus_bodies.specs.declared.features.Features.{Features}
 use Rattle.walrus_items.specs.Exports.{ExportValue}
 use Rattle.walrus_model.specs.Abstract.{Abstract}
-use Rattle.walrus_model.specs.BodyText.{BodyText, said}
-use Rattle.walrus_model.specs.Sections.{module_of}
 use Rattle.walrus_model.specs.Renaming.{Renaming}
 use Rattle.walrus_writing.specs.Parts.{Held, HasBytes}
-use Rattle.walrus_writing.specs.Spells.{Records}
+use Rattle.walrus_rules.specs.Examples.{empty_text}
+use Rattle.walrus_rules.specs.Text.{BodyText, Text}
+use Rattle.walrus_rules.proofs.OneSections.{laid}
+use Rattle.walrus_rules.proofs.OneSpelling.{told}
+use Rattle.walrus_writing.specs.Records.{Records}
 
 module _ (h : Held) (names : Lookup) (features : Features) where
   -- the text of each body
@@ -31,16 +33,20 @@ module _ (h : Held) (names : Lookup) (features : Features) where
   local_in_order (i ∷ is) [] a f x = elim a [ ]
 
 module _ {h : Held} {features : Features} {exports : List ExportValue} (r : Records h features exports) where
-  -- the entries of the sections, wherever they stand
-  abbrev pub sections_of : wire.Module
-  sections_of = record wire.no_sections { types = r.raw_types; functions = r.raw_functions; exports = r.raw_exports }
-
   abbrev pub texts_of : List BodyText
   texts_of = texts_in h r.names features r.order r.bodies r.bodies_are
 
-  -- the module that the records are read as
-  abbrev pub written_as : Abstract
-  written_as = module_of sections_of (map said texts_of)
+  -- the text made of the records
+  abbrev pub text_of : Text
+  text_of = record empty_text { types = r.raw_types; functions = r.raw_functions; exports = r.raw_exports; bodies = texts_of }
+
+  -- the entries of its sections
+  abbrev pub laid_of : wire.Module
+  laid_of = laid text_of
+
+  -- the module that it says
+  abbrev pub module_said : Abstract
+  module_said = told text_of
 
   -- each item gets its index, each local of a function its own there
   abbrev pub renaming_of : Renaming

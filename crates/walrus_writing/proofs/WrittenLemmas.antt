@@ -1,7 +1,7 @@
 -- The module of indices that records make is what a module in memory is written as: the larger functions first, no function that is
 -- left to be declared, and an index for each item that is live.
-use Rattle.std.proofs.Common.{inl, inr, ◌≡◌, ℕ, zero, suc, ◌<◌, ◌≤◌, Bool, true, false, List, [], ◌∷◌, length, get_or, refl, sym, ap, ap₂, ◌∙◌, subst, arith}
-use Rattle.std.specs.Prelude.{Option, Some, None, IsSome, unwrap_or, option_map, nat_lt, ◌⊎◌, Contains}
+use Rattle.std.proofs.Common.{inl, inr, ◌≡◌, ℕ, ◌<◌, ◌≤◌, ◌+◌, map, Bool, true, false, List, [], ◌∷◌, length, get_or, refl, sym, ap, ap₂, ◌∙◌, subst, arith}
+use Rattle.std.specs.Prelude.{if◌then◌else◌, Option, Some, None, IsSome, unwrap_or, option_map, nat_lt, ◌⊎◌, Contains}
 use Rattle.std.specs.Cmp.{IsTotalOrder}
 use Rattle.std.specs.Ordering.{nat_cmp, ordering_then, is_lt}
 use Rattle.std.specs.declared.cmp.Ordering.{Ordering}
@@ -9,18 +9,12 @@ use Rattle.std.specs.declared.cmp.Ordering.TheVariants.{Less, Equal}
 use Rattle.std.proofs.lemmas.Bool.{ltb-true, ltb-false}
 use Rattle.std.proofs.lemmas.Cmp.{nat_cmp_total, on_total, back_total, then_total}
 use Rattle.std.proofs.lemmas.List.{length-map}
-use Rattle.std.proofs.lemmas.List.Elements.{All-from_recursion}
 use Rattle.std.proofs.lemmas.List.MinMax.{ranks_by}
 use Rattle.std.proofs.lemmas.List.Sorted.{sorted_far}
 use Rattle.std.specs.Cmp.{nat_cmp_is}
-use Rattle.walrus_base.specs.Arena.{item_at, items}
-use Rattle.walrus_base.specs.declared.id.Id.{Id}
-use Rattle.walrus_base.specs.declared.keys.TypeKey.{TypeKey}
-use Rattle.walrus_types.specs.Composite.{supertypes}
+use Rattle.std.specs.List.{AllByRecursion}
+use Rattle.walrus_base.specs.Arena.{item_at, items, entries, entries_from}
 use Rattle.walrus_types.specs.ModuleTypes.{type_slots}
-use Rattle.walrus_types.specs.TypeDef.{TypeDef, type_def}
-use Rattle.walrus_types.specs.TypeSlots.{defs}
-use Rattle.walrus_types.specs.declared.types.Type.{«Type»}
 use Rattle.walrus_types.specs.declared.locals.ModuleLocals.{ModuleLocals}
 use Rattle.walrus_types.specs.declared.module_types.ModuleTypes.{ModuleTypes}
 use Rattle.walrus_types.specs.Operators.{Space, Types, Functions, Tables, Memories, Tags, Globals, Elements, DataSegments}
@@ -32,35 +26,37 @@ use Rattle.walrus_items.specs.Functions.{FunctionValue, functions}
 use Rattle.walrus_items.specs.declared.exports.ModuleExports.{ModuleExports}
 use Rattle.walrus_items.specs.declared.functions.FunctionKind.{FunctionKind}
 use Rattle.walrus_items.specs.declared.functions.ModuleFunctions.{ModuleFunctions}
-use Rattle.walrus_model.specs.Abstract.{Abstract, Function, LocalFunction as with_body}
+use Rattle.walrus_model.specs.Abstract.{Abstract, Name, Function, LocalFunction as with_body}
 use Rattle.walrus_model.specs.Config.{Config}
 use Rattle.walrus_model.specs.Customs.{AreIndices}
-use Rattle.walrus_model.specs.Declared.{IsUndeclared, Declares}
+use Rattle.walrus_model.specs.Declared.{IsUndeclared, Declares, NothingUndeclared}
+use Rattle.walrus_functions.proofs.LawOrder.{Sorted}
+use Rattle.walrus_rules.specs.Namings.{is_in_range}
+use Rattle.walrus_rules.specs.Sections.{items_of}
+use Rattle.walrus_rules.specs.Text.{said}
+use Rattle.walrus_rules.specs.Pinned.{IsWrittenAs}
+use Rattle.walrus_types.specs.Shape.{place_in}
+use Rattle.walrus_writing.specs.Emitted.{IsPlain}
+use Rattle.walrus_writing.proofs.Ranked.{pairs_of}
+use Rattle.walrus_model.proofs.Orders.{ordered_entries, rises_in_order}
 use Rattle.walrus_model.specs.Kept.{IsImportOf}
 use Rattle.walrus_model.specs.Live.{IsLive}
 use Rattle.walrus_model.specs.Names.{own_name, WritesNames}
 use Rattle.walrus_model.specs.Order.{Rises, ByImport, FunctionsByImport, LargerFirst}
 use Rattle.walrus_model.specs.Out.{Written}
-use Rattle.walrus_model.specs.Placed.{Placed}
 use Rattle.walrus_model.specs.Producers.{if_written}
-use Rattle.walrus_model.specs.Reads.{features_of}
 use Rattle.walrus_model.specs.Renaming.{Renaming}
-use Rattle.walrus_model.specs.Rules.{LocalsHold}
 use Rattle.walrus_model.specs.Same.{BothAnd}
 use Rattle.walrus_model.proofs.Lists.{Contains-none}
-use Rattle.walrus_writing.specs.Emitted.{IsEmitted, NamesDiffer}
 use Rattle.walrus_writing.specs.Sizes.{by_size}
-use Rattle.walrus_writing.specs.Spells.{Records, Spells}
-use Rattle.walrus_module.specs.View.{body, function, kind_of, view_of}
-use Rattle.walrus_writing.proofs.CarriedOver.{held_of, carried_over}
+use Rattle.walrus_writing.specs.Parts.{held_in}
+use Rattle.walrus_writing.specs.Records.{Records}
+use Rattle.walrus_contents.specs.View.{body, function, kind_of, view_of}
+use Rattle.walrus_writing.proofs.CarriedOver.{carried_over, pinned_locals}
 use Rattle.walrus_writing.proofs.InOrder.{StandsIn, stands_in, function_there, type_named, type_there}
 use Rattle.walrus_contents.proofs.Lookups.{was_some, still_some}
-use Rattle.walrus_writing.proofs.ReadBack.{reads_back, holds_back}
-use Rattle.walrus_writing.proofs.RefsCarried.{none_undeclared_in}
-use Rattle.walrus_writing.proofs.CountedLocals.{DeclaresFew}
-use Rattle.walrus_writing.proofs.SeenLocals.{texts_few}
-use Rattle.walrus_writing.proofs.WrittenAs.{written_as, renaming_of}
-use Rattle.walrus_model.proofs.Standing.{none_there, some_inj}
+use Rattle.walrus_writing.proofs.WrittenAs.{laid_of, module_said, renaming_of, texts_of}
+use Rattle.walrus_model.proofs.Standing.{none_there}
 
 -- ---- the larger one first
 
@@ -87,7 +83,7 @@ nothing_by : (o : Option ℕ) → ((k : ℕ) → o ≡ Some k → ⊥) → o ≡
 nothing_by (Some k) h = absurd (h k refl)
 nothing_by None h = refl
 
-module _ (types : ModuleTypes) (all : ModuleLocals) (funcs : ModuleFunctions) (es : ModuleExports) {features : Features} (r : Records (held_of types all funcs) features (items (exports es))) where
+module _ (types : ModuleTypes) (all : ModuleLocals) (funcs : ModuleFunctions) (es : ModuleExports) {features : Features} (r : Records (held_in types all funcs) features (items (exports es))) where
   abbrev pub V : Abstract
   V = view_of types all funcs es
 
@@ -147,7 +143,7 @@ module _ (types : ModuleTypes) (all : ModuleLocals) (funcs : ModuleFunctions) (e
 
   -- ---- nothing is left to be declared
 
-  declares : ((f : ℕ) → IsUndeclared (IsLive V) V f → ⊥) → Declares (IsLive V) (renaming_of r) V (written_as r) None
+  declares : ((f : ℕ) → IsUndeclared (IsLive V) V f → ⊥) → Declares (IsLive V) (renaming_of r) V (module_said r) None
   declares no_undeclared = record {
     functions = [];
     undeclared = record {
@@ -178,65 +174,78 @@ module _ (types : ModuleTypes) (all : ModuleLocals) (funcs : ModuleFunctions) (e
   dead_unnamed : (space : Space) (i : ℕ) → (IsLive V (space, i) → ⊥) → r.names space i ≡ None
   dead_unnamed Types i dead = nothing_by (r.names Types i) (λ k e. dead (type_there r i k e))
   dead_unnamed Functions i dead = nothing_by (r.names Functions i) (λ k e. dead (still_some (function all) (item_at (functions funcs) i) (function_there r i k e)))
-  dead_unnamed Tables i dead = r.no_others Tables (λ h. cc) (λ h. cc) i
-  dead_unnamed Memories i dead = r.no_others Memories (λ h. cc) (λ h. cc) i
-  dead_unnamed Tags i dead = r.no_others Tags (λ h. cc) (λ h. cc) i
-  dead_unnamed Globals i dead = r.no_others Globals (λ h. cc) (λ h. cc) i
-  dead_unnamed Elements i dead = r.no_others Elements (λ h. cc) (λ h. cc) i
-  dead_unnamed DataSegments i dead = r.no_others DataSegments (λ h. cc) (λ h. cc) i
+  dead_unnamed Tables i dead = r.numbered Tables i
+  dead_unnamed Memories i dead = r.numbered Memories i
+  dead_unnamed Tags i dead = r.numbered Tags i
+  dead_unnamed Globals i dead = r.numbered Globals i
+  dead_unnamed Elements i dead = r.numbered Elements i
+  dead_unnamed DataSegments i dead = r.numbered DataSegments i
 
   pub indexed : AreIndices V (renaming_of r) (λ x. r.names x.0 x.1)
   indexed = record { live = λ x l. live_indexed x.0 x.1 l; dead = λ x d. dead_unnamed x.0 x.1 d }
 
--- ---- types in memory have one supertype at most
+-- ---- types by rising place
 
-few_supertypes : (o : Option (Id TypeKey)) → length (supertypes o) ≤ 1
-few_supertypes None = omega arith
-few_supertypes (Some id) = omega arith
+all_above : {T : Type 0} (x k : ℕ) (slots : List (Option T)) → x < k → AllByRecursion (λ (y : ℕ). x < y) (map (λ e. e.0) (entries_from k slots))
+all_above x k [] h = tt
+all_above x k (None ∷ rest) h = all_above x (k + 1) rest (omega (arith, h))
+all_above x k (Some item ∷ rest) h = (h, all_above x (k + 1) rest (omega (arith, h)))
 
-one_in_slot : (s : Option «Type») (x : TypeDef) → option_map type_def s ≡ Some x → length x.sub.supertypes ≤ 1
-one_in_slot None x e = absurd (cc)
-one_in_slot (Some ty) x e = subst (λ (y : TypeDef). length y.sub.supertypes ≤ 1) (some_inj (type_def ty) x e) (few_supertypes ty.supertype)
+rising_from : {T : Type 0} (k : ℕ) (slots : List (Option T)) → Sorted (λ (x : ℕ) (y : ℕ). x < y) (map (λ e. e.0) (entries_from k slots))
+rising_from k [] = tt
+rising_from k (None ∷ rest) = rising_from (k + 1) rest
+rising_from k (Some item ∷ rest) = (all_above k (k + 1) rest (omega arith), rising_from (k + 1) rest)
 
-one_in_slots : (slots : List (Option «Type»)) (p : ℕ) (x : TypeDef) → item_at (defs slots) p ≡ Some x → length x.sub.supertypes ≤ 1
-one_in_slots [] p x e = absurd (cc)
-one_in_slots (s ∷ slots) zero x e = one_in_slot s x e
-one_in_slots (s ∷ slots) (suc p) x e = one_in_slots slots p x e
+less_one_way : (i j : ℕ) → i < j → j < i → ⊥
+less_one_way i j a b = omega (arith, a, b)
 
-one_supertype : (types : ModuleTypes) (p : ℕ) (x : TypeDef) → item_at (type_slots types) p ≡ Some x → length x.sub.supertypes ≤ 1
-one_supertype types p x e = one_in_slots types.places.items p x e
+abbrev nothing : List Name
+nothing = []
+
+none_given : (b : Bool) → (if b then nothing else nothing) ≡ nothing
+none_given true = refl
+none_given false = refl
 
 -- ---- what is written
 
--- A module in memory is written as this, where each function that ref.func names in a body is exported: nothing else is written so far
--- that would declare it.
-pub written_lem : (c : Config) → c.writes_names ≡ false → c.writes_producers ≡ false → (types : ModuleTypes) (all : ModuleLocals) (funcs : ModuleFunctions) (es : ModuleExports)
-    → ((f : ℕ) → IsUndeclared (IsLive (view_of types all funcs es)) (view_of types all funcs es) f → ⊥)
-    → (r : Records (held_of types all funcs) (features_of c) (items (exports es))) → Written c (view_of types all funcs es) (written_as r)
-written_lem c no_names no_producers types all funcs es no_undeclared r =
-    let v : Abstract = view_of types all funcs es in
-    record {
-      renaming = renaming_of r;
-      segment = None;
-      indices = λ x. r.names x.0 x.1;
-      carried = carried_over types all funcs es (features_of c) r;
-      rises = rises types all funcs es r;
-      declares = declares types all funcs es r no_undeclared;
-      names = subst (λ b. WritesNames b (own_name v) (IsLive v) (renaming_of r) v (written_as r)) (sym no_names) (λ y. refl);
-      producers = sym (ap (λ b. if_written b []) no_producers);
-      indexed = indexed types all funcs es r;
-      customs = refl;
-    }
+-- A module in memory is written as this, where each function that ref.func names is declared: nothing is written so far that would
+-- declare it.
+module _ (c : Config) (features : Features) (plain : IsPlain c features) (types : ModuleTypes) (all : ModuleLocals) (funcs : ModuleFunctions) (es : ModuleExports) (declared : NothingUndeclared (view_of types all funcs es)) (r : Records (held_in types all funcs) features (items (exports es))) where
+  abbrev v : Abstract
+  v = view_of types all funcs es
 
--- what is spelled is what emission promises
-pub emitted_lem : (c : Config) → c.writes_names ≡ false → c.writes_producers ≡ false → (types : ModuleTypes) (all : ModuleLocals) (funcs : ModuleFunctions) (es : ModuleExports)
-    → ((f : ℕ) → IsUndeclared (IsLive (view_of types all funcs es)) (view_of types all funcs es) f → ⊥)
-    → NamesDiffer (view_of types all funcs es) → LocalsHold (view_of types all funcs es) → (bytes : List ℕ) → Spells (held_of types all funcs) (features_of c) (items (exports es)) bytes → Placed bytes → IsEmitted c (view_of types all funcs es) bytes
-emitted_lem c no_names no_producers types all funcs es no_undeclared differ few bytes s placed = record {
-  module_written = written_as s.records;
-  reads = reads_back c bytes s (none_undeclared_in (renaming_of s.records) (view_of types all funcs es) (written_as s.records) (carried_over types all funcs es (features_of c) s.records) (λ i. refl) (λ i. refl) no_undeclared);
-  holds = holds_back c s.records (one_supertype types) differ
-      (All-from_recursion DeclaresFew _ (texts_few types all funcs es few s.records.names (features_of c) s.records.order s.records.bodies s.records.bodies_are));
-  written = written_lem c no_names no_producers types all funcs es no_undeclared s.records;
-  placed = placed;
-}
+  abbrev places : List ℕ
+  places = map (λ e. e.0) (entries (type_slots types))
+
+  number_of : (p k : ℕ) → place_in places p ≡ Some k → (renaming_of r).numbers Types p ≡ k
+  number_of p k e = ap (λ (o : Option ℕ). unwrap_or o 0) (r.numbered Types p ∙ e)
+
+  types_rise : (i j : ℕ) → IsLive v (Types, i) → IsLive v (Types, j) → i < j → (renaming_of r).numbers Types i < (renaming_of r).numbers Types j
+  types_rise i j a b less =
+      rises_in_order (item_at (type_slots types)) places (ordered_entries (type_slots types)) ((renaming_of r).numbers Types) number_of
+      (λ (x : ℕ) (y : ℕ). x < y) less_one_way (pairs_of (λ (x : ℕ) (y : ℕ). x < y) places (rising_from 0 (type_slots types))) i j a b less
+
+  written_so : Written c v (module_said r)
+  written_so = record {
+    renaming = renaming_of r;
+    segment = None;
+    indices = λ x. r.names x.0 x.1;
+    carried = carried_over types all funcs es features r;
+    rises = rises types all funcs es r;
+    declares = declares types all funcs es r declared;
+    names = subst (λ b. WritesNames b (own_name v) (IsLive v) (renaming_of r) v (module_said r)) (sym plain.no_names) (λ y. none_given (is_in_range (items_of (laid_of r) (map said (texts_of r)) []) y));
+    producers = sym (ap (λ b. if_written b []) plain.no_producers);
+    indexed = indexed types all funcs es r;
+    customs = refl;
+  }
+
+  pub written_as_said : IsWrittenAs c v (module_said r)
+  unfolding written_so
+  written_as_said = record {
+    written = written_so;
+    pinned = record {
+      types_rise = types_rise;
+      type_names = λ names. absurd (none_there (sym plain.no_names ∙ names));
+      locals = pinned_locals types all funcs es features r;
+    };
+  }
