@@ -40,6 +40,7 @@ use Rattle.walrus_model.specs.Renaming.{Renaming, renamed_export}
 use Rattle.walrus_model.specs.Same.{SameType, SameFunction, BothAnd}
 use Rattle.walrus_writing.specs.Parts.{Held, held_in, local_in, type_index, export_with_index, HasBytes}
 use Rattle.walrus_writing.specs.Records.{Records}
+use Rattle.walrus_producers.specs.declared.producers.ModuleProducers.{ModuleProducers}
 use Rattle.walrus_contents.specs.View.{body, kind_of, function, export_of as export_seen, view_of}
 use Rattle.walrus_writing.proofs.TypesEntered.{new_types, Entered, type_entry, entry_of, types_apart}
 use Rattle.walrus_contents.proofs.Lookups.{was_some, mapped_some, then_some, got_map, got_zip, got_both, heads}
@@ -101,12 +102,12 @@ some_function None b e = absurd (cc)
 no_items : {X : Type 0} (A : ℕ → Type 0) (f : ℕ → ℕ) (S : ℕ → X → X → Type 0) → Carries (λ i. IsSome {T = X} None) A f S (λ i. None) (λ i. None)
 no_items A f S = record { same = λ i h. absurd (none_there h); onto = λ j h. absurd (none_there h) }
 
-module _ (types : ModuleTypes) (all : ModuleLocals) (funcs : ModuleFunctions) (es : ModuleExports) (features : Features) (r : Records (held_in types all funcs) features (items (exports es))) where
+module _ (types : ModuleTypes) (all : ModuleLocals) (funcs : ModuleFunctions) (es : ModuleExports) (made : ModuleProducers) (features : Features) (r : Records (held_in types all funcs) features (items (exports es))) where
   abbrev held : Held
   held = held_in types all funcs
 
   abbrev before : Abstract
-  before = view_of types all funcs es
+  before = view_of types all funcs es made
 
   abbrev after : Abstract
   after = module_said r
@@ -275,9 +276,17 @@ module _ (types : ModuleTypes) (all : ModuleLocals) (funcs : ModuleFunctions) (e
       (λ z t d h. record { is_used = d.0; no_parameter = d.1; ty = t; typed = h }) in
       let begins : BeginsBefore (body all w.has.local) g.0 g.1.0 → declared.BeginsBefore held.slots (locals_of (ops_in w.has.local)) (map place w.has.local.args.items) g.0 g.1.0 =
       (λ b. (b.0, (as_declared b.0 g.0 b.1.0 b.1.1, b.1.1, λ z d h. b.1.2 z (d.is_used, d.no_parameter) h))) in
-      locals_rise r f w.t w.bytes w.has w.typed w.locals_at x y (as_declared x g.0 dx g.1.1.0) (as_declared y g.1.0 dy g.1.1.1)
-      (g.0, (g.1.0, (g.1.1.0, g.1.1.1,
-      ⊎_elim (λ before. inl (⊎_elim (λ (low : rank g.0 < rank g.1.0). inl low) (λ same. inr (same.0, begins same.1)) before)) (λ same. inr same) g.1.1.2)))
+      locals_rise r f w.t w.bytes w.has w.typed w.locals_at x y (as_declared x g.0 dx g.1.1.0) (as_declared y g.1.0 dy g.1.1.1) (
+        g.0,
+        (
+          g.1.0,
+          (
+            g.1.1.0,
+            g.1.1.1,
+            ⊎_elim (λ before. inl (⊎_elim (λ (low : rank g.0 < rank g.1.0). inl low) (λ same. inr (same.0, begins same.1)) before)) (λ same. inr same) g.1.1.2,
+          ),
+        ),
+      )
 
   pub pinned_locals : (f : ℕ) (b : Body) (x y : ℕ) → body_of before f ≡ Some b → IsDeclared b x → IsDeclared b y → GoesBefore b x y → renaming.locals f x < renaming.locals f y
   pinned_locals f b x y e dx dy g =
@@ -306,7 +315,7 @@ module _ (types : ModuleTypes) (all : ModuleLocals) (funcs : ModuleFunctions) (e
 
   -- ---- all of it
 
-  pub carried_over : Carried (IsLive (view_of types all funcs es)) (IsTheSegment None) (renaming_of r) (view_of types all funcs es) (module_said r)
+  pub carried_over : Carried (IsLive (view_of types all funcs es made)) (IsTheSegment None) (renaming_of r) (view_of types all funcs es made) (module_said r)
   carried_over = record {
     types = record { same = type_carried; onto = λ j live. inl (type_there j live) };
     imports = record { same = λ i x. (let e = x.1 in cc); onto = λ j live. absurd (none_there live) };

@@ -51,7 +51,7 @@ module _ (p : Parts) (features : Features) (r : Records (parts_held p) features 
 
   counts_none : NeedsCount (module_said r) → ⊥
   counts_none (inl (d, is)) = is
-  counts_none (inr (f, (d, at))) = no_passive (body_of (module_said r) f) d (λ b e. carried.no_data p.types.now p.locals.now p.funcs.now p.exports.now features r f b d e) at
+  counts_none (inr (f, (d, at))) = no_passive (body_of (module_said r) f) d (λ b e. carried.no_data p.types.now p.locals.now p.funcs.now p.exports.now p.producers.now features r f b d e) at
 
   -- the text is the one spelling of what it says
   pub spelling : length (entries (parts_held p).types) < 2 ^ 32 → length r.order < 2 ^ 32 → IsSpelling (module_said r) (text_of r)
@@ -60,7 +60,7 @@ module _ (p : Parts) (features : Features) (r : Records (parts_held p) features 
     stand = sections_stand (parts_held p) features (parts_exports p) r few_types few_functions;
     filled = r.types_are.none_empty;
     bodies = all_bodies_stand (parts_held p) features (parts_exports p) r;
-    used = carried.used p.types.now p.locals.now p.funcs.now p.exports.now features r;
+    used = carried.used p.types.now p.locals.now p.funcs.now p.exports.now p.producers.now features r;
     as_many_bodies = as_many_texts (parts_held p) features (parts_exports p) r ∙ sym (as_many_functions r);
     elements = All-nil _;
     data_count = counts_none;
@@ -96,17 +96,17 @@ module _ (p : Parts) (features : Features) (r : Records (parts_held p) features 
       ∙ length_permutation (local_sizes (parts_held p).funcs) r.ordered.sized r.ordered.moved
       ∙ length-map (local_functions (entries (parts_held p).funcs)) (λ (e : ℕ × LocalFunction). (length e.1.operators.items, e.0))
 
-  spelled_so : ModuleFits (records.sections_of r) → IsSpelling (module_said r) (text_of r)
+  pub spelled_so : ModuleFits (records.sections_of r) → IsSpelling (module_said r) (text_of r)
   spelled_so f = spelling p features r (types_few f) (functions_few f)
 
-  fit_so : ModuleFits (records.sections_of r) → All SectionFits (sections_of (text_of r))
+  pub fit_so : ModuleFits (records.sections_of r) → All SectionFits (sections_of (text_of r))
   fit_so f = fits_to (parts_held p) features (parts_exports p) r f
 
 -- ---- what emission promises, where ref.func names only what is declared: a segment that declares it can't be written so far
 
 module _ (c : Config) (p : Parts) (features : Features) (plain : IsPlain c features) (declared : NothingUndeclared (parts_view p)) where
   pub written : (r : Records (parts_held p) features (parts_exports p)) → IsWrittenAs c (parts_view p) (module_said r)
-  written r = written_as_said c features plain p.types.now p.locals.now p.funcs.now p.exports.now declared r
+  written r = written_as_said c features plain p.types.now p.locals.now p.funcs.now p.exports.now p.producers.now declared r
 
   -- what is spelled is what the module is written as
   pub emitted : (bytes : List ℕ) → Spells (parts_held p) features (parts_exports p) bytes → IsEmitted c (parts_view p) bytes

@@ -1,6 +1,4 @@
 -- Where all is there and the records of the sections are, there is no cause to refuse but the size.
-use Rattle.std.proofs.Common.{◌≡◌, ℕ, refl}
-use Rattle.std.specs.Prelude.{Some}
 use Rattle.walrus_contents.specs.View.{parts_view}
 use Rattle.walrus_contents.specs.declared.parts.Parts.{Parts}
 use Rattle.walrus_model.specs.Abstract.{Abstract}
@@ -18,7 +16,7 @@ module _ (c : Config) (p : Parts) (r : Records (parts_held p) (features_of c) (p
   abbrev V : Abstract
   V = parts_view p
 
-  none_unspelled : HasUnspelled c V → ⊥
+  pub none_unspelled : HasUnspelled c V → ⊥
   none_unspelled (ExactType x h at not) = not (not_exact c p r x h at)
   none_unspelled (ExactConstant x ops h at has not) = no_constants c p r x ops at
   none_unspelled (EmptyConstant x at) = no_constants c p r x _ at

@@ -12,13 +12,11 @@ use Rattle.walrus_code.specs.declared.function.LocalFunction.{LocalFunction}
 use Rattle.walrus_bodies.specs.Body.{context}
 use Rattle.walrus_functions.specs.EmittedBody.{Source, comp_takes, takes, index_in}
 use Rattle.walrus_functions.specs.Handlers.{params_of}
-use Rattle.walrus_items.specs.Functions.{FunctionValue}
 use Rattle.walrus_items.specs.declared.functions.FunctionKind.{FunctionKind}
 use Rattle.walrus_items.specs.declared.functions.FunctionKind.TheVariants as kind
 use Rattle.walrus_contents.specs.View.{body, function, kind_of, parts_view}
 use Rattle.walrus_contents.specs.declared.parts.Parts.{Parts}
 use Rattle.walrus_contents.proofs.Lookups.{mapped_some}
-use Rattle.walrus_model.specs.Abstract as abstract
 use Rattle.walrus_model.specs.Abstract.{Abstract, Body, Function, LocalFunction as OfBody}
 use Rattle.walrus_model.specs.Config.{Config}
 use Rattle.walrus_model.specs.Plan.{Plan}

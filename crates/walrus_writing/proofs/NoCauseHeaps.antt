@@ -4,7 +4,7 @@ use Rattle.std.specs.Prelude.{Option, Contains, flat_map, option_map, slice_get}
 use Rattle.std.specs.List.{AllByRecursion}
 use Rattle.wasm_forms.specs.Reading.{◌>>=◌}
 use Rattle.wasm_forms.proofs.Bind.{some_same, bind_some}
-use Rattle.walrus_base.specs.Arena.{entries, item_at, items}
+use Rattle.walrus_base.specs.Arena.{entries, items}
 use Rattle.walrus_base.specs.Types.{HeapType, OfHeap, Concrete, Exact, ValType, I32, I64, F32, F64, V128, Ref, StorageType, Unpacked, I8, I16, FieldType, CompType, Func, Struct, Array, IsNotExact, val_heaps, storage_heaps, field_heaps, comp_heaps}
 use Rattle.walrus_types.specs.Operators.{Types, Functions, Tables, Memories, Tags, Globals, Elements, DataSegments, Item, Op}
 use Rattle.walrus_types.specs.TypeDef.{TypeDef, type_params}
@@ -13,7 +13,7 @@ use Rattle.walrus_code.specs.Names.{Lookup, named_heap, named_val}
 use Rattle.walrus_functions.specs.Handlers.{params_of}
 use Rattle.walrus_functions.proofs.LawNamed.{HasIndex, ops_found}
 use Rattle.walrus_groups.specs.Groups.{types_from}
-use Rattle.walrus_groups.specs.Named.{each, named_vals, named_storage, named_field, named_fields, named_function, named_comp, named_types, named_sub, named_def}
+use Rattle.walrus_groups.specs.Named.{each, named_vals, named_storage, named_field, named_fields, named_comp, named_types, named_sub, named_def}
 use Rattle.walrus_contents.specs.View.{parts_view}
 use Rattle.walrus_contents.specs.declared.parts.Parts.{Parts}
 use Rattle.walrus_contents.proofs.Lookups.{got_map, mapped_some, mapped_append}
@@ -23,7 +23,7 @@ use Rattle.walrus_model.specs.Config.{Config}
 use Rattle.walrus_model.specs.Refers.{used_locals}
 use Rattle.walrus_model.specs.WellMade.{heaps_by, heaps_in, consts_in, op_heaps, body_heaps, kind_heaps}
 use Rattle.walrus_model.proofs.Lists.{Contains-none, Contains-map}
-use Rattle.walrus_model.proofs.Standing.{some_inj, got_in}
+use Rattle.walrus_model.proofs.Standing.{got_in}
 use Rattle.walrus_rules.specs.Features.{features_of}
 use Rattle.walrus_rules.specs.WellMade.{IsWellFormed}
 use Rattle.walrus_rules.proofs.PlainBodies.{ops_named, types_named}

@@ -1,5 +1,5 @@
 -- What has no index: a function with an import, and a type that names a later one.
-use Rattle.std.proofs.Common.{◌≡◌, ℕ, List, ◌++◌, map, false, refl, sym, ap, subst, Some, None, inl, inr}
+use Rattle.std.proofs.Common.{◌≡◌, ℕ, map, false, refl, sym, ap, subst, Some, None}
 use Rattle.std.specs.Prelude.{Option, IsSome, Contains, option_map}
 use Rattle.walrus_base.specs.Arena.{item_at, items}
 use Rattle.walrus_base.specs.Id.{place}

@@ -1,5 +1,5 @@
 -- What passes 32 bits; and that where it does, each item has one index.
-use Rattle.std.proofs.Common.{inl, inr, ◌≡◌, ℕ, zero, suc, ◌<◌, ◌≤◌, ◌^◌, ◌⊎◌, true, false, List, [], ◌∷◌, map, length, refl, sym, ap, ◌∙◌, subst, arith, Some, None}
+use Rattle.std.proofs.Common.{inl, inr, ◌≡◌, ℕ, zero, suc, ◌<◌, ◌≤◌, ◌^◌, true, List, [], ◌∷◌, map, length, refl, sym, ap, ◌∙◌, subst, arith, Some, None}
 use Rattle.std.specs.Prelude.{◌≢◌, Option, IsSome, All, AllPairs, Contains, slice_index_or, option_map}
 use Rattle.std.proofs.lemmas.List.{length-map}
 use Rattle.walrus_base.specs.Arena.{item_at, entries, items}
@@ -19,12 +19,11 @@ use Rattle.walrus_contents.specs.View.{body, function, functions_of, kind_of, pa
 use Rattle.walrus_contents.specs.declared.parts.Parts.{Parts}
 use Rattle.walrus_model.specs.Abstract.{Abstract}
 use Rattle.walrus_model.specs.Config.{Config}
-use Rattle.walrus_model.specs.Dead.{HasDead}
 use Rattle.walrus_model.specs.Names.{body_of, body_of_function}
 use Rattle.walrus_model.specs.WellMade.{import_in, import_of, kind_import}
 use Rattle.walrus_model.proofs.Standing.{none_there}
 use Rattle.walrus_rules.specs.Features.{features_of}
-use Rattle.walrus_rules.specs.Refused.{HasTwoIndices, LocalImported, ImportedTwice, LacksIndex, NotBrought, LocalGlobalRead, LaterGlobalRead, LaterSupertype, LaterType, WritesUnfit, PassesLimits, ManyItems, ManyLocals, Unfit}
+use Rattle.walrus_rules.specs.Refused.{HasTwoIndices, LocalImported, ImportedTwice, LacksIndex, NotBrought, LocalGlobalRead, LaterGlobalRead, LaterSupertype, LaterType, PassesLimits, ManyItems, ManyLocals}
 use Rattle.walrus_rules.specs.SoFar.{HasImported}
 use Rattle.walrus_writing.specs.Local.{is_local, all_local}
 use Rattle.walrus_writing.specs.Parts.{Held, parts_held, parts_exports}
@@ -66,13 +65,13 @@ module _ (c : Config) (p : Parts) where
 
   -- ---- too many items or locals
 
-  too_many_types : 2 ^ 32 ≤ length (entries H.types) → PassesLimits c V
+  pub too_many_types : 2 ^ 32 ≤ length (entries H.types) → PassesLimits c V
   too_many_types h =
       let numbers = map (λ (e : ℕ × TypeDef). e.0) (entries H.types) in
       let long : 2 ^ 32 ≤ length numbers = omega (arith, h, length-map (entries H.types) (λ (e : ℕ × TypeDef). e.0)) in
       ManyItems Types numbers (entries_rise H.types) (entries_live H.types) long
 
-  too_many_functions : 2 ^ 32 ≤ length (local_functions (entries H.funcs)) → PassesLimits c V
+  pub too_many_functions : 2 ^ 32 ≤ length (local_functions (entries H.funcs)) → PassesLimits c V
   too_many_functions h =
       let numbers = map (λ (e : ℕ × LocalFunction). e.0) (local_functions (entries H.funcs)) in
       let long : 2 ^ 32 ≤ length numbers = omega (arith, h, length-map (local_functions (entries H.funcs)) (λ (e : ℕ × LocalFunction). e.0)) in
@@ -89,11 +88,11 @@ module _ (c : Config) (p : Parts) where
       ManyLocals n (body p.locals.now f) order found (order_differs H.slots used parameters order declared) (order_used H.slots used parameters order declared) (order_apart H.slots used parameters order declared) many
 
   -- a count or a size passes 32 bits
-  pub passes : (HasDead V → ⊥) → (DoesNotFit H (features_of c) (parts_exports p) → WritesUnfit c V) → refusals.PassesLimits H (features_of c) (parts_exports p) → PassesLimits c V
-  passes lives unfit (inl h) = too_many_types h
-  passes lives unfit (inr (inl h)) = too_many_functions h
-  passes lives unfit (inr (inr (inl h))) = many_locals h
-  passes lives unfit (inr (inr (inr h))) = Unfit lives (unfit h)
+  pub passes : (DoesNotFit H (features_of c) (parts_exports p) → PassesLimits c V) → refusals.PassesLimits H (features_of c) (parts_exports p) → PassesLimits c V
+  passes unfit (inl h) = too_many_types h
+  passes unfit (inr (inl h)) = too_many_functions h
+  passes unfit (inr (inr (inl h))) = many_locals h
+  passes unfit (inr (inr (inr h))) = unfit h
 
   -- ---- nothing has two indices
 

@@ -25,9 +25,9 @@ use Rattle.walrus_model.proofs.Lists.{map-map}
 use Rattle.walrus_model.specs.Plan.{AreNumbered}
 use Rattle.walrus_writing.specs.Refusals.{RefusesCounts, RefusesTypes, RefusesBodies, RefusesItems}
 use Rattle.walrus_writing.specs.Numbered.{planned}
-use Rattle.walrus_writing.specs.Parts.{Held, type_index, export_with_index, HasBytes, unplaced}
+use Rattle.walrus_writing.specs.Parts.{Held, type_index, export_with_index, HasBytes}
 use Rattle.walrus_writing.specs.Sizes.{IsOrder}
-use Rattle.walrus_writing.specs.Records.{Records, Spells, sections_of, sections_with}
+use Rattle.walrus_writing.specs.Records.{Records, Spells, sections_of}
 use Rattle.wasm_wire.specs.ModuleSpelling.{ModuleFits, WritesModule, module_bytes}
 use Rattle.wasm_forms.specs.declared.error.WireError.{WireError}
 use Rattle.wasm_forms.specs.declared.error.WireError.TheVariants as Wire

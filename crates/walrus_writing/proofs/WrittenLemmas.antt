@@ -51,6 +51,7 @@ use Rattle.walrus_model.proofs.Lists.{Contains-none}
 use Rattle.walrus_writing.specs.Sizes.{by_size}
 use Rattle.walrus_writing.specs.Parts.{held_in}
 use Rattle.walrus_writing.specs.Records.{Records}
+use Rattle.walrus_producers.specs.declared.producers.ModuleProducers.{ModuleProducers}
 use Rattle.walrus_contents.specs.View.{body, function, kind_of, view_of}
 use Rattle.walrus_writing.proofs.CarriedOver.{carried_over, pinned_locals}
 use Rattle.walrus_writing.proofs.InOrder.{StandsIn, stands_in, function_there, type_named, type_there}
@@ -83,9 +84,9 @@ nothing_by : (o : Option ℕ) → ((k : ℕ) → o ≡ Some k → ⊥) → o ≡
 nothing_by (Some k) h = absurd (h k refl)
 nothing_by None h = refl
 
-module _ (types : ModuleTypes) (all : ModuleLocals) (funcs : ModuleFunctions) (es : ModuleExports) {features : Features} (r : Records (held_in types all funcs) features (items (exports es))) where
+module _ (types : ModuleTypes) (all : ModuleLocals) (funcs : ModuleFunctions) (es : ModuleExports) (made : ModuleProducers) {features : Features} (r : Records (held_in types all funcs) features (items (exports es))) where
   abbrev pub V : Abstract
-  V = view_of types all funcs es
+  V = view_of types all funcs es made
 
   abbrev pub R : Renaming
   R = renaming_of r
@@ -210,9 +211,9 @@ none_given false = refl
 
 -- A module in memory is written as this, where each function that ref.func names is declared: nothing is written so far that would
 -- declare it.
-module _ (c : Config) (features : Features) (plain : IsPlain c features) (types : ModuleTypes) (all : ModuleLocals) (funcs : ModuleFunctions) (es : ModuleExports) (declared : NothingUndeclared (view_of types all funcs es)) (r : Records (held_in types all funcs) features (items (exports es))) where
+module _ (c : Config) (features : Features) (plain : IsPlain c features) (types : ModuleTypes) (all : ModuleLocals) (funcs : ModuleFunctions) (es : ModuleExports) (made : ModuleProducers) (declared : NothingUndeclared (view_of types all funcs es made)) (r : Records (held_in types all funcs) features (items (exports es))) where
   abbrev v : Abstract
-  v = view_of types all funcs es
+  v = view_of types all funcs es made
 
   abbrev places : List ℕ
   places = map (λ e. e.0) (entries (type_slots types))
@@ -230,12 +231,12 @@ module _ (c : Config) (features : Features) (plain : IsPlain c features) (types 
     renaming = renaming_of r;
     segment = None;
     indices = λ x. r.names x.0 x.1;
-    carried = carried_over types all funcs es features r;
-    rises = rises types all funcs es r;
-    declares = declares types all funcs es r declared;
+    carried = carried_over types all funcs es made features r;
+    rises = rises types all funcs es made r;
+    declares = declares types all funcs es made r declared;
     names = subst (λ b. WritesNames b (own_name v) (IsLive v) (renaming_of r) v (module_said r)) (sym plain.no_names) (λ y. none_given (is_in_range (items_of (laid_of r) (map said (texts_of r)) []) y));
-    producers = sym (ap (λ b. if_written b []) plain.no_producers);
-    indexed = indexed types all funcs es r;
+    producers = sym (ap (λ b. if_written b v.producers) plain.no_producers);
+    indexed = indexed types all funcs es made r;
     customs = refl;
   }
 
@@ -246,6 +247,6 @@ module _ (c : Config) (features : Features) (plain : IsPlain c features) (types 
     pinned = record {
       types_rise = types_rise;
       type_names = λ names. absurd (none_there (sym plain.no_names ∙ names));
-      locals = pinned_locals types all funcs es features r;
+      locals = pinned_locals types all funcs es made features r;
     };
   }

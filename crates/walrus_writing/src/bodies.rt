@@ -44,12 +44,23 @@ fn one_body(alloc: Global, under: Indexed<'_, '_, '_>, id: FunctionId) -> Result
     let Some(local) = local_of(under.parts.funcs, id) else {
         return Err(Error::NoIndex);
     };
-    let body = emit_body(alloc, local, under.parts.types, under.parts.locals, under.indices, under.features)?;
+    let body = emit_body(
+        alloc,
+        local,
+        under.parts.types,
+        under.parts.locals,
+        under.indices,
+        under.features,
+    )?;
     Ok(body.bytes)
 }
 
 /// The bytes of each function's body, in the order of the functions.
-pub fn body_bytes(alloc: Global, under: Indexed<'_, '_, '_>, order: &[FunctionId]) -> Result<Vec<Vec<u8>>>
+pub fn body_bytes(
+    alloc: Global,
+    under: Indexed<'_, '_, '_>,
+    order: &[FunctionId],
+) -> Result<Vec<Vec<u8>>>
     requires indexed { All (λ id. IsIndexed (parts_held under.parts) (index_of under.indices.now) under.features.now (place id)) order.now }
     ensures value { IfOk result (λ bodies. AllZip (λ id bytes.
         HasBytes (parts_held under.entry.parts) (index_of under.entry.indices.now) under.entry.features.now (place id) bytes.items)

@@ -58,6 +58,7 @@ impl Plan {
         Ok(indices)
     }
 }
+
 fn is_kind_local(kind: &FunctionKind) -> bool
     ensures { result ≡ is_local kind.now }
 {

@@ -24,7 +24,11 @@ use walrus_parts::{Error, Result};
 use wasm_wire::{Raw, RawBody, RawExport, RawExportKind, RawGroup};
 
 // The groups of the type section.
-pub fn raw_types(alloc: Global, types: &ModuleTypes, indices: &IdsToIndices) -> Result<Vec<RawGroup>>
+pub fn raw_types(
+    alloc: Global,
+    types: &ModuleTypes,
+    indices: &IdsToIndices,
+) -> Result<Vec<RawGroup>>
     requires numbered { NumbersTypes (index_of indices.now) (type_slots types.now) }
     requires indexed { LacksAnIndex (index_of indices.now) (items (type_slots types.now)) → ⊥ }
     ensures value { IfOk result (λ raw. AreIndexed (index_of indices.now) (items (type_slots types.now)) (map group raw.items)) }

@@ -1,10 +1,9 @@
-use Rattle.std.proofs.Common.{◌≡◌, ◌∙◌, ℕ, map, sym, ap, subst}
+use Rattle.std.proofs.Common.{◌∙◌, ℕ, map, sym, ap, subst}
 use Rattle.std.specs.Prelude.{nat_eq}
 use Rattle.std.specs.Global.{Vec}
 use Rattle.std.specs.List.{AllZip, IsDistinct}
 use Rattle.std.proofs.lemmas.Result.{err_from_is_err_and}
 use Rattle.wasm_entries.specs.Record.{group, export_entry}
-use Rattle.wasm_frames.specs.Record.{body_record}
 use Rattle.walrus_base.specs.Id.{place}
 use Rattle.walrus_types.specs.ModuleTypes.{type_slots}
 use Rattle.walrus_types.specs.Operators.{Types}
@@ -79,7 +78,7 @@ returns-in_err-bytes-clause-refused c =
     c.in_ok-exports.ensures.value c.in_ok-exports.ensures.text
     (subst (λ ids. AllZip (λ id bytes. HasBytes held names c.args.features.now (place id) bytes.items) ids c.in_ok-bodies.bodies.items) c.as_slice-order.ensures.value c.in_ok-bodies.ensures.value) in
     let same = c.raw_module-raw.ensures ∙ ap (sections_with (map group c.in_ok-types.types.items) c.in_ok-functions.functions.items (map export_entry c.in_ok-exports.exports.items))
-        (c.in_ok-code.ensures.value ∙ ap (map (λ (v : Vec ℕ). unplaced v.items)) c.as_slice.ensures.value ∙ sym (map-map unplaced (λ (v : Vec ℕ). v.items) c.in_ok-bodies.bodies.items)) in
+    (c.in_ok-code.ensures.value ∙ ap (map (λ (v : Vec ℕ). unplaced v.items)) c.as_slice.ensures.value ∙ sym (map-map unplaced (λ (v : Vec ℕ). v.items) c.in_ok-bodies.bodies.items)) in
     let p = err_from_is_err_and c.from_residual-in_err-bytes.result c.from_residual-in_err-bytes.ensures.1 in
     rw (p.1, p.2) (records_refused held c.args.features.now (parts_exports c.args.parts) records _ same (Vec ℕ) _ c.in_err-bytes.ensures)
 
@@ -95,5 +94,5 @@ returns-clause-spells c =
     c.in_ok-exports.ensures.value c.in_ok-exports.ensures.text
     (subst (λ ids. AllZip (λ id bytes. HasBytes held names c.args.features.now (place id) bytes.items) ids c.in_ok-bodies.bodies.items) c.as_slice-order.ensures.value c.in_ok-bodies.ensures.value) in
     let same = c.raw_module-raw.ensures ∙ ap (sections_with (map group c.in_ok-types.types.items) c.in_ok-functions.functions.items (map export_entry c.in_ok-exports.exports.items))
-        (c.in_ok-code.ensures.value ∙ ap (map (λ (v : Vec ℕ). unplaced v.items)) c.as_slice.ensures.value ∙ sym (map-map unplaced (λ (v : Vec ℕ). v.items) c.in_ok-bodies.bodies.items)) in
+    (c.in_ok-code.ensures.value ∙ ap (map (λ (v : Vec ℕ). unplaced v.items)) c.as_slice.ensures.value ∙ sym (map-map unplaced (λ (v : Vec ℕ). v.items) c.in_ok-bodies.bodies.items)) in
     records_written held c.args.features.now (parts_exports c.args.parts) records _ same c.in_ok-bytes.bytes.items c.in_ok-bytes.ensures.0 c.in_ok-bytes.ensures.1

@@ -1,13 +1,10 @@
-use Rattle.std.proofs.Common.{◌≡◌, ◌∙◌, ℕ, true, inl, inr, sym, subst}
+use Rattle.std.proofs.Common.{◌∙◌, ℕ, inl, inr, sym, subst}
 use Rattle.std.specs.Bool.{OnFalse}
 use Rattle.std.specs.Global.{Vec}
 use Rattle.std.proofs.lemmas.Result.{err_from_is_err_and}
-use Rattle.walrus_base.specs.Arena.{items}
 use Rattle.walrus_types.specs.ModuleTypes.{type_slots}
 use Rattle.walrus_groups.specs.Indexed.{IsOutOfOrder}
-use Rattle.walrus_items.specs.Functions.{functions}
 use Rattle.walrus_contents.specs.View.{parts_view}
-use Rattle.walrus_writing.specs.Local.{all_local}
 use Rattle.walrus_writing.proofs.Emitting.{emitted_ok, unfit, small}
 use Rattle.walrus_writing.proofs.RefusesAll.{dead_refused, items_refused}
 use Rattle.walrus_writing.proofs.RefusesIndex.{imported, out_of_order}
