@@ -30,10 +30,11 @@ use Rattle.walrus_types.specs.declared.locals.ModuleLocals.{ModuleLocals}
 use Rattle.walrus_types.specs.declared.module_types.ModuleTypes.{ModuleTypes}
 use Rattle.walrus_model.specs.Abstract as abstract
 use Rattle.walrus_model.specs.Abstract.{Abstract}
+use Rattle.walrus_model.specs.Dead.{HasDead}
 use Rattle.walrus_model.specs.Live.{IsLive}
 use Rattle.walrus_model.specs.Names.{body_of_function}
 use Rattle.walrus_model.specs.Refers.{named_by, type_names, function_names, local_names}
-use Rattle.walrus_contents.specs.There.{AreLive, IsThere}
+use Rattle.walrus_contents.specs.There.{AreLive}
 use Rattle.walrus_contents.specs.View.{body, export_of, function, kind_of, view_of}
 use Rattle.walrus_contents.proofs.LiveLemmas.{was_there}
 use Rattle.walrus_contents.proofs.Slots.{item_seen}
@@ -41,9 +42,11 @@ use Rattle.walrus_items.specs.declared.functions.FunctionKind.{FunctionKind}
 use Rattle.walrus_items.specs.declared.functions.FunctionKind.TheVariants as kind
 use Rattle.walrus_groups.specs.Indexed.{LacksAnIndex as TypesLackAnIndex}
 use Rattle.walrus_parts.specs.Errors.{error_of_ir}
+use Rattle.walrus_model.proofs.Living.{AllLive, all_live}
 use Rattle.walrus_model.proofs.Lists.{Contains-head, Contains-tail, Contains-map, Contains-uncons, Contains-none, Contains-append_1, Contains-append_2}
-use Rattle.walrus_writing.specs.Emitted.{RefusesBodies}
-use Rattle.walrus_writing.specs.Numbered.{AreNumbered}
+use Rattle.walrus_model.specs.Plan.{AreNumbered}
+use Rattle.walrus_writing.specs.Refusals.{RefusesBodies}
+use Rattle.walrus_writing.specs.Numbered.{planned}
 use Rattle.walrus_writing.specs.Parts.{Held, held_in, local_in, type_index, export_with_index, source, IsIndexed}
 use Rattle.walrus_writing.specs.Sizes.{IsOrder}
 use Rattle.walrus_writing.specs.Local.{is_local, all_local}
@@ -87,16 +90,19 @@ local_numbered slots used parameters order declared x v c is None e =
 
 -- ---- what is there, and numbered
 
-module _ (types : ModuleTypes) (all : ModuleLocals) (funcs : ModuleFunctions) (es : ModuleExports) (there : IsThere (view_of types all funcs es)) (local : all_local (items (functions funcs)) ≡ true)
-    (names : Lookup) (order : List ℕ) (ordered : IsOrder (functions funcs) order) (numbered : AreNumbered names (map (λ e. e.0) (entries (type_slots types))) order) where
+module _ (types : ModuleTypes) (all : ModuleLocals) (funcs : ModuleFunctions) (es : ModuleExports) (none_dead : HasDead (view_of types all funcs es) → ⊥) (local : all_local (items (functions funcs)) ≡ true)
+    (names : Lookup) (order : List ℕ) (ordered : IsOrder (functions funcs) order) (numbered : AreNumbered names (planned (map (λ e. e.0) (entries (type_slots types))) order)) where
   abbrev V : Abstract
   V = view_of types all funcs es
+
+  there : AllLive V
+  there = all_live V none_dead
 
   abbrev h : Held
   h = held_in types all funcs
 
   types_named : (n : ℕ) → IsSome (item_at h.types n) → IsSome (names Types n)
-  types_named n live = subst (λ (o : Option ℕ). IsSome o) (sym (numbered.types_are n)) (entry_placed h.types n live)
+  types_named n live = subst (λ (o : Option ℕ). IsSome o) (sym (numbered Types n)) (entry_placed h.types n live)
 
   local_is : (n : ℕ) → IsSome (item_at h.funcs n) → LocalAt h.funcs n
   local_is n live =
@@ -105,7 +111,7 @@ module _ (types : ModuleTypes) (all : ModuleLocals) (funcs : ModuleFunctions) (e
       record { value = v.0; item = v.1; local = f.0; kind_is = f.1 }
 
   functions_named : (n : ℕ) → IsSome (item_at h.funcs n) → IsSome (names Functions n)
-  functions_named n live = subst (λ (o : Option ℕ). IsSome o) (sym (numbered.functions_are n)) (order_placed h.funcs order ordered n (local_is n live))
+  functions_named n live = subst (λ (o : Option ℕ). IsSome o) (sym (numbered Functions n)) (order_placed h.funcs order ordered n (local_is n live))
 
   -- an item that is there has an index
   item_named : (x : Item) → IsLive V x → IsSome (names x.0 x.1)
@@ -217,13 +223,13 @@ lent_all P ids lent h same =
     subst (λ (l : List (Id FunctionKey)). All (λ id. P (place id)) l) (sym same)
     (λ k d lt. subst P (get_or-map place ids k d (place d) lt) (h k (place d) (omega (arith, lt, length-map ids place))))
 
-module _ (types : ModuleTypes) (all : ModuleLocals) (funcs : ModuleFunctions) (es : ModuleExports) (names : Lookup) (ids lent : List (Id FunctionKey)) (there : IsThere (view_of types all funcs es)) (local : all_local (items (functions funcs)) ≡ true)
-    (ordered : IsOrder (functions funcs) (map place ids)) (numbered : AreNumbered names (map (λ e. e.0) (entries (type_slots types))) (map place ids)) (same : lent ≡ ids) where
+module _ (types : ModuleTypes) (all : ModuleLocals) (funcs : ModuleFunctions) (es : ModuleExports) (names : Lookup) (ids lent : List (Id FunctionKey)) (none_dead : HasDead (view_of types all funcs es) → ⊥) (local : all_local (items (functions funcs)) ≡ true)
+    (ordered : IsOrder (functions funcs) (map place ids)) (numbered : AreNumbered names (planned (map (λ e. e.0) (entries (type_slots types))) (map place ids))) (same : lent ≡ ids) where
   pub ids_indexed : (features : Features) → All (λ id. IsIndexed (held_in types all funcs) names features (place id)) lent
-  ids_indexed features = lent_all (IsIndexed (held_in types all funcs) names features) ids lent (order_indexed types all funcs es there local names (map place ids) ordered numbered features) same
+  ids_indexed features = lent_all (IsIndexed (held_in types all funcs) names features) ids lent (order_indexed types all funcs es none_dead local names (map place ids) ordered numbered features) same
 
   pub ids_typed : All (λ id. IsSome (type_index (functions funcs) names (place id))) lent
-  ids_typed = lent_all (λ n. IsSome (type_index (functions funcs) names n)) ids lent (order_typed types all funcs es there local names (map place ids) ordered numbered) same
+  ids_typed = lent_all (λ n. IsSome (type_index (functions funcs) names n)) ids lent (order_typed types all funcs es none_dead local names (map place ids) ordered numbered) same
 
 -- ---- why a body is refused
 

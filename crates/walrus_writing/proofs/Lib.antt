@@ -21,7 +21,6 @@ pub mod PlacedLemmas
 pub mod Placing
 pub mod ReadBack
 pub mod RefsCarried
-pub mod RefusedLemmas
 pub mod Refusing
 pub mod Renamed
 pub mod Rows
@@ -38,3 +37,13 @@ pub mod WireTypes
 pub mod WrittenAs
 pub mod WrittenFrames
 pub mod WrittenLemmas
+pub mod RefusesUnspelled
+pub mod RefusesIndex
+pub mod RefusesLarge
+pub mod NoCauseBodies
+pub mod NoCauseHeaps
+pub mod NoCauseLocals
+pub mod NoCauseItems
+pub mod NoCauseAll
+pub mod NoCauseLimits
+pub mod RefusesAll

@@ -2,11 +2,13 @@
 use Rattle.std.proofs.Common.{inl, inr, ◌≡◌, ℕ, ◌+◌, List, [], ◌∷◌, ◌++◌, refl, sym, ap, ◌∙◌, subst, Some, None, length-append}
 use Rattle.std.specs.Prelude.{◌≢◌, ◌⊎◌, true, false, ◌==◌}
 use Rattle.std.proofs.lemmas.Bool.Decides.{eqb_tells}
-use Rattle.walrus_types.specs.Operators.{Space, Types, Functions}
+use Rattle.walrus_types.specs.Operators.{Space, Types, Functions, Tables, Memories, Tags, Globals, Elements, DataSegments}
 use Rattle.walrus_code.specs.Indices.{index_of, given, Numbers, SameIn}
+use Rattle.walrus_code.specs.Names.{Lookup}
 use Rattle.walrus_code.specs.declared.indices.IdsToIndices.{IdsToIndices}
 use Rattle.walrus_types.specs.Shape.{place_in}
-use Rattle.walrus_writing.specs.Numbered.{NumbersIn, NumbersTypes, NumbersFunctions}
+use Rattle.walrus_model.specs.Plan.{AreNumbered}
+use Rattle.walrus_writing.specs.Numbered.{NumbersIn, NumbersTypes, NumbersFunctions, planned}
 use Rattle.walrus_writing.proofs.Placing.{placed_last, placed_other}
 
 -- the next one of a space
@@ -48,3 +50,24 @@ types_begin now none count = record { numbered = record { count = count; are = n
 
 pub functions_begin : (now : IdsToIndices) → ((n : ℕ) → index_of now Functions n ≡ None) → given now Functions ≡ 0 → NumbersFunctions now now []
 functions_begin now none count = record { numbered = record { count = count; are = none }; others = λ space apart. (refl, λ n. refl) }
+
+-- ---- all of a plan
+
+-- where types are numbered, and functions behind them, all is numbered by the plan
+module _ (start now new : IdsToIndices) (types functions : List ℕ) (none : (s : Space) (n : ℕ) → index_of start s n ≡ None) (t : NumbersTypes start now types) (f : NumbersFunctions now new functions) where
+  still_none : (s : Space) → s ≢ Types → s ≢ Functions → (n : ℕ) → index_of new s n ≡ None
+  still_none s no_type no_function n = (f.others s no_function).1 n ∙ (t.others s no_type).1 n ∙ none s n
+
+  pub numbers_all : AreNumbered (index_of new) (planned types functions)
+  numbers_all Types n = (f.others Types types_no_functions).1 n ∙ t.numbered.are n
+  numbers_all Functions n = f.numbered.are n
+  numbers_all Tables n = still_none Tables (λ e. cc) (λ e. cc) n
+  numbers_all Memories n = still_none Memories (λ e. cc) (λ e. cc) n
+  numbers_all Tags n = still_none Tags (λ e. cc) (λ e. cc) n
+  numbers_all Globals n = still_none Globals (λ e. cc) (λ e. cc) n
+  numbers_all Elements n = still_none Elements (λ e. cc) (λ e. cc) n
+  numbers_all DataSegments n = still_none DataSegments (λ e. cc) (λ e. cc) n
+
+-- the same, of places that are said otherwise
+pub numbered_so : (names : Lookup) (types types' functions : List ℕ) → types ≡ types' → AreNumbered names (planned types functions) → AreNumbered names (planned types' functions)
+numbered_so names types types' functions same h = subst (λ ts. AreNumbered names (planned ts functions)) same h

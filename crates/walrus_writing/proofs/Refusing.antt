@@ -22,11 +22,17 @@ use Rattle.walrus_items.specs.Exports.{ExportValue}
 use Rattle.walrus_groups.specs.Indexed.{AreIndexed, AreInOrder}
 use Rattle.walrus_items.specs.Functions.{local_functions}
 use Rattle.walrus_model.proofs.Lists.{map-map}
-use Rattle.walrus_writing.specs.Emitted.{RefusesCounts, RefusesTypes, RefusesBodies, RefusesSections, RefusesItems}
-use Rattle.walrus_writing.specs.Numbered.{AreNumbered, NamesNoOthers}
+use Rattle.walrus_model.specs.Plan.{AreNumbered}
+use Rattle.walrus_writing.specs.Refusals.{RefusesCounts, RefusesTypes, RefusesBodies, RefusesItems}
+use Rattle.walrus_writing.specs.Numbered.{planned}
 use Rattle.walrus_writing.specs.Parts.{Held, type_index, export_with_index, HasBytes, unplaced}
 use Rattle.walrus_writing.specs.Sizes.{IsOrder}
-use Rattle.walrus_writing.specs.Spells.{Records}
+use Rattle.walrus_writing.specs.Records.{Records, Spells, sections_of, sections_with}
+use Rattle.wasm_wire.specs.ModuleSpelling.{ModuleFits, WritesModule, module_bytes}
+use Rattle.wasm_forms.specs.declared.error.WireError.{WireError}
+use Rattle.wasm_forms.specs.declared.error.WireError.TheVariants as Wire
+use Rattle.walrus_parts.specs.Errors.{error_of_wire}
+use Rattle.walrus_base.specs.declared.keys.TypeKey.{TypeKey}
 use Rattle.walrus_writing.specs.Local.{all_local}
 use Rattle.walrus_writing.proofs.Entries.{order_length}
 use Rattle.walrus_writing.proofs.Somes.{none_there}
@@ -50,19 +56,22 @@ next_has {B} {C} done g left after e all is step h none =
 module _ (h : Held) (features : Features) (exports : List ExportValue) where
   -- ---- too many items
 
-  pub counts_refused : (X : Type 0) (ids lent : List (Id FunctionKey)) (e : Error) → IsOrder h.funcs (map place ids) → lent ≡ ids → RefusesCounts (length (entries h.types)) (length lent) e → RefusesItems {X = X} h features exports (Err e)
-  counts_refused X ids lent (Parts.Memory m) ordered same r = tt
-  counts_refused X ids lent Parts.TooLarge ordered same (inl r) = inl r
-  counts_refused X ids lent Parts.TooLarge ordered same (inr r) =
-      let as_many : length lent ≡ length (local_functions (entries h.funcs)) = ap (λ (l : List (Id FunctionKey)). length l) same ∙ sym (length-map ids place) ∙ order_length h.funcs (map place ids) ordered in
+  pub counts_refused : (X : Type 0) (types : List (Id TypeKey)) (ids : List (Id FunctionKey)) (e : Error) → map place types ≡ map (λ e. e.0) (entries h.types) → IsOrder h.funcs (map place ids)
+      → RefusesCounts (length types) (length ids) e → RefusesItems {X = X} h features exports (Err e)
+  counts_refused X types ids (Parts.Memory m) are ordered r = tt
+  counts_refused X types ids Parts.TooLarge are ordered (inl r) =
+      let as_many : length types ≡ length (entries h.types) = sym (length-map types place) ∙ ap (λ (l : List ℕ). length l) are ∙ length-map (entries h.types) (λ e. e.0) in
+      inl (omega (arith, r, as_many))
+  counts_refused X types ids Parts.TooLarge are ordered (inr r) =
+      let as_many : length ids ≡ length (local_functions (entries h.funcs)) = sym (length-map ids place) ∙ order_length h.funcs (map place ids) ordered in
       inr (inl (omega (arith, r, as_many)))
-  counts_refused X ids lent _ ordered same r = absurd r
+  counts_refused X types ids _ are ordered r = absurd r
 
   -- ---- types and bodies
 
   pub types_refused : (X : Type 0) (e : Error) → RefusesTypes h.types e → RefusesItems {X = X} h features exports (Err e)
   types_refused X (Parts.Memory m) r = tt
-  types_refused X Parts.NotWritable r = inr (λ ordered. r)
+  types_refused X Parts.NotWritable r = inr r
   types_refused X _ r = absurd r
 
   pub bodies_refused : (X : Type 0) (e : Error) → RefusesBodies h features e → RefusesItems {X = X} h features exports (Err e)
@@ -74,20 +83,19 @@ module _ (h : Held) (features : Features) (exports : List ExportValue) where
   -- ---- the records
 
   abbrev pub records_of : (names : Lookup) (ids : List (Id FunctionKey)) (raws : List (Vec RawSub)) (raw_functions : List ℕ) (exported : List RawExport) (bodies : List (Vec ℕ)) → all_local (items h.funcs) ≡ true → IsOrder h.funcs (map place ids)
-      → AreNumbered names (map (λ e. e.0) (entries h.types)) (map place ids) → NamesNoOthers names
+      → AreNumbered names (planned (map (λ e. e.0) (entries h.types)) (map place ids))
       → AreIndexed names (items h.types) (map group raws) → AreInOrder h.types
       → map Some raw_functions ≡ map (λ id. type_index h.funcs names (place id)) ids
       → map (λ e. Some (export_entry e)) exported ≡ map (export_with_index names) exports
       → All (λ e. IsUtf8 e.name.now) exported
       → AllZip (λ id bytes. HasBytes h names features (place id) bytes.items) ids bodies
       → Records h features exports
-  records_of names ids raws raw_functions exported bodies local ordered numbered no_others types_are in_order functions_are exports_are texts bodies_are = record {
+  records_of names ids raws raw_functions exported bodies local ordered numbered types_are in_order functions_are exports_are texts bodies_are = record {
     all_are_local = local;
     order = map place ids;
     ordered = ordered;
     names = names;
     numbered = numbered;
-    no_others = no_others;
     raw_types = map group raws;
     types_are = types_are;
     in_order = in_order;
@@ -100,18 +108,13 @@ module _ (h : Held) (features : Features) (exports : List ExportValue) where
     bodies_are = zip_seen place (λ (v : Vec ℕ). v.items) (HasBytes h names features) ids bodies bodies_are;
   }
 
-  -- ---- records that can't be spelled
+  -- ---- the records are written
 
-  pub sections_refused : (X : Type 0) (r : Records h features exports) (ts : List Group) (fs : List ℕ) (es : List Export) (bs : List wire.Body) (e : Error)
-      → ts ≡ r.raw_types → fs ≡ r.raw_functions → es ≡ r.raw_exports → bs ≡ map unplaced r.bodies → RefusesSections ts fs es bs e → RefusesItems {X = X} h features exports (Err e)
-  sections_refused X r ts fs es bs (Parts.Memory m) t f x b refused = tt
-  sections_refused X r ts fs es bs Parts.TooLarge t f x b refused =
-      inr (inr (inr (record {
-        records = r;
-        too_large =
-            subst (λ u. RefusesSections r.raw_types r.raw_functions r.raw_exports u Parts.TooLarge) b
-            (subst (λ u. RefusesSections r.raw_types r.raw_functions u bs Parts.TooLarge) x
-            (subst (λ u. RefusesSections r.raw_types u es bs Parts.TooLarge) f
-            (subst (λ u. RefusesSections u fs es bs Parts.TooLarge) t refused)));
-      })))
-  sections_refused X r ts fs es bs _ t f x b refused = absurd refused
+  module _ (r : Records h features exports) (m : wire.Module) (same : m ≡ sections_of r) where
+    pub records_written : (bytes : List ℕ) → bytes ≡ module_bytes m → ModuleFits m → Spells h features exports bytes
+    records_written bytes are fit = record { records = r; fit = subst ModuleFits same fit; are = are ∙ ap module_bytes same }
+
+    pub records_refused : (X : Type 0) (e : WireError) → WritesModule (Err e) m → RefusesItems {X = X} h features exports (Err (error_of_wire e))
+    records_refused X Wire.Malformed refused = absurd refused
+    records_refused X (Wire.Memory e) refused = tt
+    records_refused X Wire.TooLarge refused = inr (inr (inr (record { records = r; too_large = λ fit. refused (subst ModuleFits (sym same) fit) })))

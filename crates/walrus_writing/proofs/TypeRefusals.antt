@@ -8,7 +8,7 @@ use Rattle.walrus_code.specs.declared.error.IrError.{IrError}
 use Rattle.walrus_code.specs.declared.error.IrError.TheVariants as Ir
 use Rattle.walrus_groups.specs.Indexed.{LacksAnIndex, IndexesTypes}
 use Rattle.walrus_parts.specs.Errors.{error_of_ir}
-use Rattle.walrus_writing.specs.Emitted.{RefusesTypes}
+use Rattle.walrus_writing.specs.Refusals.{RefusesTypes}
 
 pub index_refused : {X : Type 0} (view : X → List Group) (names : Lookup) (types : List (Option TypeDef)) (e : IrError) → (LacksAnIndex names (items types) → ⊥) → IndexesTypes view names (items types) (Err e) → RefusesTypes types (error_of_ir e)
 index_refused view names types Ir.NoIndex indexed lacks = absurd (indexed lacks)

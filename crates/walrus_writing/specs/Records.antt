@@ -39,9 +39,13 @@ pub record Records (h : Held) (features : Features) (exports : List ExportValue)
   pub bodies : List (List ℕ)
   pub bodies_are : AllZip (HasBytes h names features) order bodies
 
--- the sections that hold them
+-- a module of these sections
+abbrev pub sections_with : List Group → List ℕ → List entries.Export → List wire.Body → wire.Module
+sections_with types functions exports bodies = record wire.no_sections { types = types; functions = functions; exports = exports; bodies = bodies }
+
+-- the sections that hold the records
 abbrev pub sections_of : {h : Held} {features : Features} {exports : List ExportValue} → Records h features exports → wire.Module
-sections_of r = record wire.no_sections { types = r.raw_types; functions = r.raw_functions; exports = r.raw_exports; bodies = map unplaced r.bodies }
+sections_of r = sections_with r.raw_types r.raw_functions r.raw_exports (map unplaced r.bodies)
 
 -- the bytes are those of the sections, which fit
 pub record Spells (h : Held) (features : Features) (exports : List ExportValue) (bytes : List ℕ) : Type 0 where

@@ -15,9 +15,9 @@ use walrus_parts::{Error, Result};
 
 /// What bodies are written under: the module's parts, the indices of its items, and the proposals that bodies may use.
 #[derive(Clone, Copy)]
-pub struct Indexed<'a> {
+pub struct Indexed<'a, 'b> {
     pub parts: Parts<'a>,
-    pub indices: &'a IdsToIndices,
+    pub indices: &'b IdsToIndices,
     pub features: &'a Features,
 }
 
@@ -35,7 +35,7 @@ pub fn local_of(funcs: &ModuleFunctions, id: FunctionId) -> Option<&LocalFunctio
 }
 
 // The body of the function of this id, under these indices.
-fn one_body(alloc: Global, under: Indexed<'_>, id: FunctionId) -> Result<Vec<u8>>
+fn one_body(alloc: Global, under: Indexed<'_, '_>, id: FunctionId) -> Result<Vec<u8>>
     requires indexed { IsIndexed (parts_held under.parts) (index_of under.indices.now) under.features.now (place id) }
     ensures value { IfOk result (λ bytes.
         HasBytes (parts_held under.entry.parts) (index_of under.entry.indices.now) under.entry.features.now (place id) bytes.items) }
@@ -49,7 +49,7 @@ fn one_body(alloc: Global, under: Indexed<'_>, id: FunctionId) -> Result<Vec<u8>
 }
 
 /// The bytes of each function's body, in the order of the functions.
-pub fn body_bytes(alloc: Global, under: Indexed<'_>, order: &[FunctionId]) -> Result<Vec<Vec<u8>>>
+pub fn body_bytes(alloc: Global, under: Indexed<'_, '_>, order: &[FunctionId]) -> Result<Vec<Vec<u8>>>
     requires indexed { All (λ id. IsIndexed (parts_held under.parts) (index_of under.indices.now) under.features.now (place id)) order.now }
     ensures value { IfOk result (λ bodies. AllZip (λ id bytes.
         HasBytes (parts_held under.entry.parts) (index_of under.entry.indices.now) under.entry.features.now (place id) bytes.items)

@@ -7,4 +7,3 @@ mod records;
 mod write;
 
 pub use plan::Plan;
-pub use write::write_parts;

@@ -10,8 +10,9 @@ ghost use Rattle.walrus_items.specs.Exports.{exports, export_value};
 ghost use Rattle.walrus_items.specs.Functions.{functions};
 ghost use Rattle.walrus_parts.specs.Errors.{out_of_memory};
 ghost use Rattle.wasm_entries.specs.Record.{group, export_entry};
-ghost use Rattle.wasm_frames.specs.Record.{body_record};
+ghost use Rattle.wasm_frames.specs.Record.{body_record, sections};
 ghost use Rattle.walrus_writing.specs.Parts.{type_index, export_with_index, unplaced};
+ghost use Rattle.walrus_writing.specs.Records.{sections_with};
 ghost use Rattle.walrus_writing.specs.Refusals.{RefusesTypes};
 
 use crate::bodies::local_of;
@@ -20,7 +21,7 @@ use walrus_groups::index_types;
 use walrus_ir::{FunctionId, IdsToIndices, ModuleTypes};
 use walrus_items::{Export, ExportItem, ModuleExports, ModuleFunctions};
 use walrus_parts::{Error, Result};
-use wasm_wire::{RawBody, RawExport, RawExportKind, RawGroup};
+use wasm_wire::{Raw, RawBody, RawExport, RawExportKind, RawGroup};
 
 // The groups of the type section.
 pub fn raw_types(alloc: Global, types: &ModuleTypes, indices: &IdsToIndices) -> Result<Vec<RawGroup>>
@@ -107,4 +108,34 @@ pub fn raw_bodies<'a>(alloc: Global, bodies: &'a [Vec<u8>]) -> Result<Vec<RawBod
         })?;
     }
     Ok(raw)
+}
+
+// A module of these sections.
+pub fn raw_module<'a>(
+    alloc: Global,
+    types: Vec<RawGroup>,
+    functions: Vec<u32>,
+    exports: Vec<RawExport<'a>>,
+    bodies: Vec<RawBody<'a>>,
+) -> Raw<'a>
+    ensures { sections result ≡ sections_with (map group types.items) functions.items
+        (map export_entry exports.entry.items) (map body_record bodies.entry.items) }
+{
+    Raw {
+        order: Vec::new(alloc),
+        types,
+        imports: Vec::new(alloc),
+        functions,
+        tables: Vec::new(alloc),
+        memories: Vec::new(alloc),
+        tags: Vec::new(alloc),
+        globals: Vec::new(alloc),
+        exports,
+        start: None,
+        elements: Vec::new(alloc),
+        data_count: None,
+        bodies,
+        data_: Vec::new(alloc),
+        customs: Vec::new(alloc),
+    }
 }

@@ -1,54 +1,27 @@
 //! Writing a module's parts as bytes.
-ghost use Rattle.std.specs.Prelude.{true, ◌≡◌, map, IfOk};
+ghost use Rattle.std.specs.Prelude.{true, ◌≡◌, IfOk};
 ghost use Rattle.walrus_base.specs.Arena.{items};
 ghost use Rattle.walrus_types.specs.ModuleTypes.{type_slots};
 ghost use Rattle.walrus_groups.specs.Indexed.{AreInOrder};
 ghost use Rattle.walrus_items.specs.Functions.{functions};
 ghost use Rattle.walrus_writing.specs.Local.{all_local};
-ghost use Rattle.walrus_code.specs.Indices.{index_of};
-ghost use Rattle.walrus_model.specs.Config.{Config};
 ghost use Rattle.walrus_model.specs.Dead.{HasDead};
-ghost use Rattle.walrus_rules.specs.SoFar.{RefusesSoFar};
 ghost use Rattle.walrus_contents.specs.View.{parts_view};
-ghost use Rattle.walrus_writing.specs.Emitted.{IsEmitted, IsPlain, told};
 ghost use Rattle.walrus_writing.specs.Parts.{parts_exports, parts_held};
 ghost use Rattle.walrus_writing.specs.Records.{Spells};
 ghost use Rattle.walrus_writing.specs.Refusals.{RefusesItems};
 
 use crate::bodies::{Indexed, body_bytes};
-use crate::plan::{Plan, are_all_local};
-use crate::records::{raw_bodies, raw_exports, raw_functions, raw_types};
+use crate::plan::Plan;
+use crate::records::{raw_bodies, raw_exports, raw_functions, raw_module, raw_types};
 use std::alloc::Global;
-use walrus_contents::{Parts, are_references_declared, check_live};
-use walrus_groups::are_in_order;
+use walrus_contents::Parts;
 use walrus_ir::Features;
-use walrus_parts::{Error, Result};
-use wasm_wire::{Raw, written_module};
-
-/// The bytes of a module of these parts, whose bodies may use these proposals; neither names nor producers are written.
-///
-/// # Errors
-///
-/// `DeadItem` exactly where something that isn't there is named, or a function has neither an import nor a body. Behind that, each with
-/// a cause of its own: `NoIndex` where a function has an import, which can't be written so far, or a type names one of a later group
-/// or a later supertype; `NotWritable` where a body isn't well formed, an exact heap type is written, or `ref.func` names a function
-/// that isn't exported; `TooLarge` where a count or a size passes 32 bits; and `Memory`.
-pub fn write_parts(alloc: Global, parts: Parts<'_>, features: &Features) -> Result<Vec<u8>>
-    ensures written { (c : Config) → IsPlain c features.now → IfOk result (λ bytes. IsEmitted c (parts_view parts.entry) bytes.items) }
-    ensures refused { (c : Config) → IsPlain c features.now → RefusesSoFar c (parts_view parts.entry) (told result) }
-{
-    check_live(alloc, parts)?;
-    if !are_references_declared(alloc, parts)? {
-        return Err(Error::NotWritable);
-    }
-    if !are_all_local(parts.funcs) || !are_in_order(parts.types) {
-        return Err(Error::NoIndex);
-    }
-    write_items(alloc, parts, features)
-}
+use walrus_parts::Result;
+use wasm_wire::written_module;
 
 // The bytes of items that name nothing dead, and that all have an index.
-fn write_items(alloc: Global, parts: Parts<'_>, features: &Features) -> Result<Vec<u8>>
+pub fn write_items<'a>(alloc: Global, parts: Parts<'a>, features: &'a Features) -> Result<Vec<u8>>
     requires there { HasDead (parts_view parts) → ⊥ }
     requires local { all_local (items (functions parts.funcs.now)) ≡ true }
     requires in_order { AreInOrder (type_slots parts.types.now) }
@@ -57,29 +30,18 @@ fn write_items(alloc: Global, parts: Parts<'_>, features: &Features) -> Result<V
 {
     let plan = Plan::new(alloc, parts)?;
     let indices = plan.indices(alloc)?;
+    let order = plan.functions.as_slice();
+    let types = raw_types(alloc, parts.types, &indices)?;
+    let functions = raw_functions(alloc, parts.funcs, order, &indices)?;
     let under = Indexed {
         parts,
         indices: &indices,
         features,
     };
-    let types = raw_types(alloc, parts.types, &indices)?;
-    let bodies = body_bytes(alloc, under, plan.functions.as_slice())?;
-    let raw = Raw {
-        order: Vec::new(alloc),
-        types,
-        imports: Vec::new(alloc),
-        functions: raw_functions(alloc, parts.funcs, plan.functions.as_slice(), &indices)?,
-        tables: Vec::new(alloc),
-        memories: Vec::new(alloc),
-        tags: Vec::new(alloc),
-        globals: Vec::new(alloc),
-        exports: raw_exports(alloc, parts.exports, &indices)?,
-        start: None,
-        elements: Vec::new(alloc),
-        data_count: None,
-        bodies: raw_bodies(alloc, bodies.as_slice())?,
-        data_: Vec::new(alloc),
-        customs: Vec::new(alloc),
-    };
-    Ok(written_module(alloc, &raw)?)
+    let bodies = body_bytes(alloc, under, order)?;
+    let code = raw_bodies(alloc, bodies.as_slice())?;
+    let exports = raw_exports(alloc, parts.exports, &indices)?;
+    let raw = raw_module(alloc, types, functions, exports, code);
+    let bytes = written_module(alloc, &raw)?;
+    Ok(bytes)
 }

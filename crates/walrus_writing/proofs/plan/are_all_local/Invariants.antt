@@ -2,7 +2,7 @@ use Rattle.std.proofs.Common.{◌≡◌}
 use Rattle.walrus_base.specs.Arena.{items}
 use Rattle.walrus_items.specs.Functions.{functions, functions_left}
 use Rattle.walrus_writing.specs.Local.{all_local}
-use Rattle.walrus_module.proofs.order.are_all_local.Given as goal
+use Rattle.walrus_writing.proofs.plan.are_all_local.Given as goal
 
 -- all pass exactly where all that are still to come do
 abbrev pub invariant-loop-function : goal.invariant-loop-function

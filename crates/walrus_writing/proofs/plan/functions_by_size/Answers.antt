@@ -6,7 +6,7 @@ use Rattle.walrus_base.specs.Id.{place}
 use Rattle.walrus_model.proofs.Lists.{map-map}
 use Rattle.walrus_writing.specs.Sizes.{by_size}
 use Rattle.walrus_writing.proofs.Turns.{sorted_seen}
-use Rattle.walrus_module.proofs.order.functions_by_size.Goals as goal
+use Rattle.walrus_writing.proofs.plan.functions_by_size.Goals as goal
 
 pub returns-clause-value : goal.returns-clause-value
 returns-clause-value c = record {

@@ -1,7 +1,7 @@
 use Rattle.std.proofs.Common.{refl}
 use Rattle.walrus_base.specs.Id.{place}
 use Rattle.walrus_writing.proofs.Rows.{left_turn, left_end}
-use Rattle.walrus_module.proofs.order.ids_of.Goals as goal
+use Rattle.walrus_writing.proofs.plan.ids_of.Goals as goal
 
 pub loop-id-preserved : goal.loop-id-preserved
 loop-id-preserved c =

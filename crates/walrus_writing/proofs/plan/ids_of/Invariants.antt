@@ -1,6 +1,6 @@
 use Rattle.std.proofs.Common.{◌≡◌, ◌++◌, map, drop}
 use Rattle.walrus_base.specs.Id.{place}
-use Rattle.walrus_module.proofs.order.ids_of.Given as goal
+use Rattle.walrus_writing.proofs.plan.ids_of.Given as goal
 
 -- the places so far, and those that are still to come
 abbrev pub invariant-loop-id : goal.invariant-loop-id

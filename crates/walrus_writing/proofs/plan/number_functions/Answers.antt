@@ -6,7 +6,7 @@ use Rattle.walrus_writing.specs.Numbered.{NumbersFunctions}
 use Rattle.walrus_writing.proofs.Placing.{fresh}
 use Rattle.walrus_writing.proofs.Numbering.{functions_next}
 use Rattle.walrus_writing.proofs.Turns.{split_at, one_more, map_snoc}
-use Rattle.walrus_module.proofs.order.number_functions.Goals as goal
+use Rattle.walrus_writing.proofs.plan.number_functions.Goals as goal
 
 pub push_func-requires-clause-is_new : goal.push_func-requires-clause-is_new
 push_func-requires-clause-is_new c =

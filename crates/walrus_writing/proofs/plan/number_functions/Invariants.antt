@@ -1,7 +1,7 @@
 use Rattle.std.proofs.Common.{map, take}
 use Rattle.walrus_base.specs.Id.{place}
 use Rattle.walrus_writing.specs.Numbered.{NumbersFunctions}
-use Rattle.walrus_module.proofs.order.number_functions.Given as goal
+use Rattle.walrus_writing.proofs.plan.number_functions.Given as goal
 
 -- the functions so far are numbered
 abbrev pub invariant-loop-id : goal.invariant-loop-id

@@ -2,7 +2,7 @@ use Rattle.std.proofs.Common.{◌≡◌, ◌++◌, map, length}
 use Rattle.walrus_base.specs.Id.{place}
 use Rattle.walrus_items.specs.Functions.{functions, locals_left}
 use Rattle.walrus_writing.specs.Sizes.{local_sizes}
-use Rattle.walrus_module.proofs.order.sized_functions.Given as goal
+use Rattle.walrus_writing.proofs.plan.sized_functions.Given as goal
 
 -- the sizes so far, and those of the functions that are still to come
 abbrev pub invariant-loop-id : goal.invariant-loop-id

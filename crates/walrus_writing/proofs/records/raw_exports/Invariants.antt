@@ -6,7 +6,7 @@ use Rattle.walrus_base.specs.Arena.{items}
 use Rattle.walrus_code.specs.Indices.{index_of}
 use Rattle.walrus_items.specs.Exports.{exports, exports_left}
 use Rattle.walrus_writing.specs.Parts.{export_with_index}
-use Rattle.walrus_module.proofs.emit.raw_exports.Given as goal
+use Rattle.walrus_writing.proofs.records.raw_exports.Given as goal
 
 -- the exports so far, and those that are still to come
 abbrev pub invariant-loop-export : goal.invariant-loop-export

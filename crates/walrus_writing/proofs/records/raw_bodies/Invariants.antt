@@ -1,7 +1,7 @@
 use Rattle.std.proofs.Common.{◌≡◌, ◌++◌, map, drop}
 use Rattle.wasm_frames.specs.Record.{body_record}
 use Rattle.walrus_writing.specs.Parts.{unplaced}
-use Rattle.walrus_module.proofs.emit.raw_bodies.Given as goal
+use Rattle.walrus_writing.proofs.records.raw_bodies.Given as goal
 
 -- the bodies so far, and those that are still to come
 abbrev pub invariant-loop-body : goal.invariant-loop-body

@@ -3,7 +3,7 @@ use Rattle.walrus_base.specs.Id.{place}
 use Rattle.walrus_code.specs.Indices.{index_of}
 use Rattle.walrus_items.specs.Functions.{functions}
 use Rattle.walrus_writing.specs.Parts.{type_index}
-use Rattle.walrus_module.proofs.emit.raw_functions.Given as goal
+use Rattle.walrus_writing.proofs.records.raw_functions.Given as goal
 
 -- the indices so far, and those that are still to come
 abbrev pub invariant-loop-id : goal.invariant-loop-id

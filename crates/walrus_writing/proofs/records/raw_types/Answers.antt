@@ -6,7 +6,7 @@ use Rattle.wasm_entries.specs.declared.record.RawSub.{RawSub}
 use Rattle.walrus_types.specs.ModuleTypes.{type_slots}
 use Rattle.walrus_code.specs.Indices.{index_of}
 use Rattle.walrus_writing.proofs.TypeRefusals.{index_refused}
-use Rattle.walrus_module.proofs.emit.raw_types.Goals as goal
+use Rattle.walrus_writing.proofs.records.raw_types.Goals as goal
 
 pub returns-in_err-groups-clause-fails : goal.returns-in_err-groups-clause-fails
 returns-in_err-groups-clause-fails c =

@@ -1,0 +1,34 @@
+-- Where all is there and the records of the sections are, there is no cause to refuse but the size.
+use Rattle.std.proofs.Common.{◌≡◌, ℕ, refl}
+use Rattle.std.specs.Prelude.{Some}
+use Rattle.walrus_contents.specs.View.{parts_view}
+use Rattle.walrus_contents.specs.declared.parts.Parts.{Parts}
+use Rattle.walrus_model.specs.Abstract.{Abstract}
+use Rattle.walrus_model.specs.Config.{Config}
+use Rattle.walrus_model.specs.Dead.{HasDead}
+use Rattle.walrus_rules.specs.Features.{features_of}
+use Rattle.walrus_rules.specs.Refused.{HasUnspelled, ExactType, ExactConstant, EmptyConstant, IllFormed, PassesLimits, HasNoCause}
+use Rattle.walrus_writing.specs.Parts.{parts_held, parts_exports}
+use Rattle.walrus_writing.specs.Records.{Records}
+use Rattle.walrus_writing.proofs.NoCauseBodies.{formed}
+use Rattle.walrus_writing.proofs.NoCauseHeaps.{not_exact, no_constants}
+use Rattle.walrus_writing.proofs.RefusesLarge.{no_two_indices, lacks_none}
+
+module _ (c : Config) (p : Parts) (r : Records (parts_held p) (features_of c) (parts_exports p)) where
+  abbrev V : Abstract
+  V = parts_view p
+
+  none_unspelled : HasUnspelled c V → ⊥
+  none_unspelled (ExactType x h at not) = not (not_exact c p r x h at)
+  none_unspelled (ExactConstant x ops h at has not) = no_constants c p r x ops at
+  none_unspelled (EmptyConstant x at) = no_constants c p r x _ at
+  none_unspelled (IllFormed lives i f b at is not) = not (formed c p r i f b at is)
+
+  pub no_cause : (HasDead V → ⊥) → (PassesLimits c V → ⊥) → HasNoCause c V
+  no_cause lives small = record {
+    all_there = lives;
+    one_index = no_two_indices c p;
+    indices = lacks_none c p r.all_are_local r.in_order;
+    spelled = none_unspelled;
+    fits = small;
+  }

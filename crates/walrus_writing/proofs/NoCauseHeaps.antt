@@ -1,0 +1,221 @@
+-- No exact heap type stands in what is written.
+use Rattle.std.proofs.Common.{◌≡◌, ℕ, List, [], ◌∷◌, ◌++◌, map, refl, sym, ap, ap₂, ◌∙◌, subst, Some, None}
+use Rattle.std.specs.Prelude.{Option, Contains, flat_map, option_map, slice_get}
+use Rattle.std.specs.List.{AllByRecursion}
+use Rattle.wasm_forms.specs.Reading.{◌>>=◌}
+use Rattle.wasm_forms.proofs.Bind.{some_same, bind_some}
+use Rattle.walrus_base.specs.Arena.{entries, item_at, items}
+use Rattle.walrus_base.specs.Types.{HeapType, OfHeap, Concrete, Exact, ValType, I32, I64, F32, F64, V128, Ref, StorageType, Unpacked, I8, I16, FieldType, CompType, Func, Struct, Array, IsNotExact, val_heaps, storage_heaps, field_heaps, comp_heaps}
+use Rattle.walrus_types.specs.Operators.{Types, Functions, Tables, Memories, Tags, Globals, Elements, DataSegments, Item, Op}
+use Rattle.walrus_types.specs.TypeDef.{TypeDef, type_params}
+use Rattle.walrus_code.specs.FromRaw.{ops_of}
+use Rattle.walrus_code.specs.Names.{Lookup, named_heap, named_val}
+use Rattle.walrus_functions.specs.Handlers.{params_of}
+use Rattle.walrus_functions.proofs.LawNamed.{HasIndex, ops_found}
+use Rattle.walrus_groups.specs.Groups.{types_from}
+use Rattle.walrus_groups.specs.Named.{each, named_vals, named_storage, named_field, named_fields, named_function, named_comp, named_types, named_sub, named_def}
+use Rattle.walrus_contents.specs.View.{parts_view}
+use Rattle.walrus_contents.specs.declared.parts.Parts.{Parts}
+use Rattle.walrus_contents.proofs.Lookups.{got_map, mapped_some, mapped_append}
+use Rattle.walrus_contents.proofs.Slots.{entry_in}
+use Rattle.walrus_model.specs.Abstract.{Abstract, Body, Function, FunctionKind, LocalFunction, ImportedFunction, Uninitialised}
+use Rattle.walrus_model.specs.Config.{Config}
+use Rattle.walrus_model.specs.Refers.{used_locals}
+use Rattle.walrus_model.specs.WellMade.{heaps_by, heaps_in, consts_in, op_heaps, body_heaps, kind_heaps}
+use Rattle.walrus_model.proofs.Lists.{Contains-none, Contains-map}
+use Rattle.walrus_model.proofs.Standing.{some_inj, got_in}
+use Rattle.walrus_rules.specs.Features.{features_of}
+use Rattle.walrus_rules.specs.WellMade.{IsWellFormed}
+use Rattle.walrus_rules.proofs.PlainBodies.{ops_named, types_named}
+use Rattle.walrus_rules.proofs.PlainTypes.{Plain, plain_append, plain_left, plain_right, each_in, types_plain, TypePlain, ValsPlain}
+use Rattle.walrus_rules.proofs.TextShaped.{all_append}
+use Rattle.walrus_writing.specs.Parts.{Held, parts_held, parts_exports}
+use Rattle.walrus_writing.specs.Records.{Records}
+use Rattle.walrus_writing.proofs.NoCauseBodies.{formed}
+
+-- ---- heap types one behind another
+
+module _ {A : Type 0} (f : A → List (HeapType ℕ)) where
+  apart : (xs : List A) → Plain (flat_map f xs) → AllByRecursion (λ (x : A). Plain (f x)) xs
+  apart [] h = tt
+  apart (x ∷ xs) h = (plain_left (f x) (flat_map f xs) h, apart xs (plain_right (f x) (flat_map f xs) h))
+
+  together : (xs : List A) → AllByRecursion (λ (x : A). Plain (f x)) xs → Plain (flat_map f xs)
+  together [] h = tt
+  together (x ∷ xs) h = plain_append (f x) (flat_map f xs) h.0 (together xs h.1)
+
+each_follows : {A : Type 0} (P Q : A → Type 0) → ((x : A) → P x → Q x) → (xs : List A) → AllByRecursion P xs → AllByRecursion Q xs
+each_follows P Q law [] h = tt
+each_follows P Q law (x ∷ xs) h = (law x h.0, each_follows P Q law xs h.1)
+
+-- what is looked up item by item
+each_back : {X Y : Type 0} (find : X → Option Y) (P : X → Type 0) (Q : Y → Type 0) → ((x : X) (y : Y) → find x ≡ Some y → Q y → P x) → (xs : List X) (ys : List Y) → each find xs ≡ Some ys → AllByRecursion Q ys → AllByRecursion P xs
+each_back find P Q law [] ys e h = tt
+each_back find P Q law (x ∷ xs) ys e h =
+    let y = bind_some (find x) (λ found. each find xs >>= λ others. Some (found ∷ others)) ys e in
+    let z = bind_some (each find xs) (λ others. Some (y.0 ∷ others)) ys y.2 in
+    let all = subst (AllByRecursion Q) (sym (some_same (y.0 ∷ z.0) ys z.2)) h in
+    (law x y.0 y.1 all.0, each_back find P Q law xs z.0 z.1 all.1)
+
+-- ---- where nothing exact stands behind a look-up, nothing exact stood before it
+
+module _ (names : Lookup) where
+  heap_back : (h k : HeapType ℕ) → named_heap names h ≡ Some k → IsNotExact k → IsNotExact h
+  heap_back (OfHeap b) k e n = tt
+  heap_back (Concrete t) k e n = tt
+  heap_back (Exact t) k e n =
+      let x = bind_some (names Types t) (λ found. Some (Exact found)) k e in
+      subst (λ (z : HeapType ℕ). IsNotExact z) (sym (some_same (Exact x.0) k x.2)) n
+
+  val_back : (v w : ValType ℕ) → named_val names v ≡ Some w → Plain (val_heaps w) → Plain (val_heaps v)
+  val_back (Ref r) w e n =
+      let x = bind_some (named_heap names r.heap) (λ heap. Some (Ref (record { nullable = r.nullable; heap = heap }))) w e in
+      let one = subst (λ (z : ValType ℕ). Plain (val_heaps z)) (sym (some_same _ w x.2)) n in
+      (heap_back r.heap x.0 x.1 one.0, tt)
+  val_back I32 w e n = tt
+  val_back I64 w e n = tt
+  val_back F32 w e n = tt
+  val_back F64 w e n = tt
+  val_back V128 w e n = tt
+
+  vals_back : (vs ws : List (ValType ℕ)) → named_vals names vs ≡ Some ws → Plain (flat_map val_heaps ws) → Plain (flat_map val_heaps vs)
+  vals_back vs ws e n = together val_heaps vs (each_back (named_val names) (λ v. Plain (val_heaps v)) (λ v. Plain (val_heaps v)) val_back vs ws e (apart val_heaps ws n))
+
+  storage_back : (s t : StorageType ℕ) → named_storage names s ≡ Some t → Plain (storage_heaps t) → Plain (storage_heaps s)
+  storage_back (Unpacked v) t e n =
+      let x = bind_some (named_val names v) (λ found. Some (Unpacked found)) t e in
+      val_back v x.0 x.1 (subst (λ (z : StorageType ℕ). Plain (storage_heaps z)) (sym (some_same (Unpacked x.0) t x.2)) n)
+  storage_back I8 t e n = tt
+  storage_back I16 t e n = tt
+
+  field_back : (f g : FieldType ℕ) → named_field names f ≡ Some g → Plain (field_heaps g) → Plain (field_heaps f)
+  field_back f g e n =
+      let x = bind_some (named_storage names f.storage) (λ storage. let made : FieldType ℕ = record { storage = storage; mutable = f.mutable } in Some made) g e in
+      storage_back f.storage x.0 x.1 (subst (λ (z : FieldType ℕ). Plain (field_heaps z)) (sym (some_same _ g x.2)) n)
+
+  comp_back : (k l : CompType ℕ) → named_comp names k ≡ Some l → Plain (comp_heaps l) → Plain (comp_heaps k)
+  comp_back (Func params results) l e n =
+      let x = bind_some (named_vals names params) (λ takes. named_vals names results >>= λ gives. Some (Func takes gives)) l e in
+      let y = bind_some (named_vals names results) (λ gives. Some (Func x.0 gives)) l x.2 in
+      let both = subst (λ (z : CompType ℕ). Plain (comp_heaps z)) (sym (some_same (Func x.0 y.0) l y.2)) n in
+      plain_append (flat_map val_heaps params) (flat_map val_heaps results)
+      (vals_back params x.0 x.1 (plain_left (flat_map val_heaps x.0) (flat_map val_heaps y.0) both))
+      (vals_back results y.0 y.1 (plain_right (flat_map val_heaps x.0) (flat_map val_heaps y.0) both))
+  comp_back (Struct fields) l e n =
+      let x = bind_some (named_fields names fields) (λ found. Some (Struct found)) l e in
+      let all = subst (λ (z : CompType ℕ). Plain (comp_heaps z)) (sym (some_same (Struct x.0) l x.2)) n in
+      together field_heaps fields (each_back (named_field names) (λ f. Plain (field_heaps f)) (λ f. Plain (field_heaps f)) field_back fields x.0 x.1 (apart field_heaps x.0 all))
+  comp_back (Array element) l e n =
+      let x = bind_some (named_field names element) (λ found. Some (Array found)) l e in
+      field_back element x.0 x.1 (subst (λ (z : CompType ℕ). Plain (comp_heaps z)) (sym (some_same (Array x.0) l x.2)) n)
+
+  -- the composite type of a type that was looked up
+  pub comp_named : (x y : TypeDef) → named_def names x ≡ Some y → named_comp names x.sub.comp ≡ Some y.sub.comp
+  comp_named x y e =
+      let g = bind_some (named_types names x.group) (λ group. named_sub names x.sub >>= λ sub. let made : TypeDef = record { group = group; sub = sub } in Some made) y e in
+      let s = bind_some (named_sub names x.sub) (λ sub. let made : TypeDef = record { group = g.0; sub = sub } in Some made) y g.2 in
+      let sub_is = ap (λ (d : TypeDef). d.sub) (some_same _ y s.2) in
+      let t = bind_some (named_types names x.sub.supertypes) (λ supertypes. named_comp names x.sub.comp >>= λ comp. Some (record { is_final = x.sub.is_final; supertypes = supertypes; comp = comp })) s.0 s.1 in
+      let k = bind_some (named_comp names x.sub.comp) (λ comp. Some (record { is_final = x.sub.is_final; supertypes = t.0; comp = comp })) s.0 t.2 in
+      let comp_is = ap (λ z. z.comp) (some_same _ s.0 k.2) in
+      k.1 ∙ ap (λ (z : CompType ℕ). Some z) (comp_is ∙ ap (λ z. z.comp) sub_is)
+
+  -- what holds of each type that was found holds so of each that was looked up
+  pub defs_back : (P Q : TypeDef → Type 0) → ((x y : TypeDef) → named_comp names x.sub.comp ≡ Some y.sub.comp → Q y → P x) → (ys xs : List TypeDef) → map Some ys ≡ map (named_def names) xs → AllByRecursion Q ys → AllByRecursion P xs
+  defs_back P Q law ys [] e h = tt
+  defs_back P Q law [] (x ∷ xs) e h = absurd (cc)
+  defs_back P Q law (y ∷ ys) (x ∷ xs) e h =
+      let head : Some y ≡ named_def names x = cc in
+      let tail : map Some ys ≡ map (named_def names) xs = cc in
+      (law x y (comp_named x y (sym head)) h.0, defs_back P Q law ys xs tail h.1)
+
+-- ---- a body that is well formed
+
+option_plain : (o : Option TypeDef) → ((x : TypeDef) → o ≡ Some x → TypePlain x) → ValsPlain (params_of o)
+option_plain None h = tt
+option_plain (Some x) h = by x.sub.comp (h x refl)
+  where
+    by : (k : CompType ℕ) → Plain (comp_heaps k) → ValsPlain (type_params k)
+    by (Func params results) n = plain_left (flat_map val_heaps params) (flat_map val_heaps results) n
+    by (Struct fields) n = tt
+    by (Array element) n = tt
+
+module _ (c : Config) (v : Abstract) (types : (i : ℕ) (x : TypeDef) → v.types i ≡ Some x → TypePlain x) (ty : ℕ) (b : Body) (w : IsWellFormed c v ty b) where
+  abbrev all_types : List (ValType ℕ)
+  all_types = params_of (v.types ty) ++ w.types
+
+  typed : map b.local_type (b.parameters ++ w.further) ≡ map Some all_types
+  typed = mapped_append b.local_type b.parameters w.further ∙ ap₂ (λ (xs ys : List (Option (ValType ℕ))). xs ++ ys) w.typed (sym w.further_typed) ∙ sym (mapped_append (λ (x : ValType ℕ). Some x) (params_of (v.types ty)) w.types)
+
+  each_plain : AllByRecursion (λ (x : ValType ℕ). Plain (val_heaps x)) all_types
+  each_plain = all_append (λ (x : ValType ℕ). Plain (val_heaps x)) (params_of (v.types ty)) w.types
+      (apart val_heaps (params_of (v.types ty)) (option_plain (v.types ty) (types ty)))
+      (apart val_heaps w.types (types_named w.names w.read.declared w.types w.read.typed))
+
+  -- a local that has an index
+  local_plain : (x : ℕ) → HasIndex w.names (slice_get (b.parameters ++ w.further)) x → Plain (heaps_by val_heaps (b.local_type x))
+  local_plain x (n, at) =
+      let there : option_map (λ (y : ValType ℕ). Some y) (slice_get all_types n) ≡ Some (b.local_type x) =
+      sym (got_map (λ (y : ValType ℕ). Some y) all_types n) ∙ ap (λ (l : List (Option (ValType ℕ))). slice_get l n) (sym typed) ∙ got_map b.local_type (b.parameters ++ w.further) n ∙ ap (option_map b.local_type) at in
+      let y = mapped_some (λ (y : ValType ℕ). Some y) (slice_get all_types n) (b.local_type x) there in
+      let g = got_in all_types n y.0 y.1 in
+      subst (λ (o : Option (ValType ℕ)). Plain (heaps_by val_heaps o)) (sym y.2) (each_in (λ (z : ValType ℕ). Plain (val_heaps z)) all_types y.0 each_plain (n, g.0, g.1 y.0))
+
+  pub body_plain : Plain (body_heaps b)
+  body_plain =
+      plain_append (flat_map op_heaps b.operators) (flat_map (λ x. heaps_by val_heaps (b.local_type x)) (used_locals b))
+      (ops_named w.names (slice_get (b.parameters ++ w.further)) w.read.operators.texts b.operators w.read.operators.named)
+      (together (λ x. heaps_by val_heaps (b.local_type x)) (used_locals b)
+      (each_follows (HasIndex w.names (slice_get (b.parameters ++ w.further))) (λ x. Plain (heaps_by val_heaps (b.local_type x))) local_plain (used_locals b)
+      (ops_found w.names (slice_get (b.parameters ++ w.further)) (ops_of w.read.operators.texts) b.operators w.read.operators.named)))
+
+-- ---- all of it
+
+module _ (c : Config) (p : Parts) (r : Records (parts_held p) (features_of c) (parts_exports p)) where
+  abbrev V : Abstract
+  V = parts_view p
+
+  abbrev H : Held
+  H = parts_held p
+
+  type_plain : (i : ℕ) (x : TypeDef) → V.types i ≡ Some x → TypePlain x
+  type_plain i x at =
+      each_in TypePlain (items H.types) x (defs_back r.names TypePlain TypePlain (λ y z e n. comp_back r.names y.sub.comp z.sub.comp e n) (types_from 0 r.raw_types) (items H.types) r.types_are.read (types_plain 0 r.raw_types))
+      (Contains-map (λ (e : ℕ × TypeDef). e.1) (i, x) (entries H.types) (entry_in H.types i x at))
+
+  types_are_plain : (o : Option TypeDef) → ((x : TypeDef) → o ≡ Some x → TypePlain x) → Plain (heaps_by (λ (t : TypeDef). comp_heaps t.sub.comp) o)
+  types_are_plain None h = tt
+  types_are_plain (Some x) h = h x refl
+
+  kind_plain : (i : ℕ) (f : Function) (k : FunctionKind) → V.functions i ≡ Some f → f.kind ≡ k → Plain (kind_heaps k)
+  kind_plain i f (LocalFunction b) at is = body_plain c V type_plain f.ty b (formed c p r i f b at is)
+  kind_plain i f (ImportedFunction n) at is = tt
+  kind_plain i f Uninitialised at is = tt
+
+  function_plain : (i : ℕ) (o : Option Function) → V.functions i ≡ o → Plain (heaps_by (λ (f : Function). kind_heaps f.kind) o)
+  function_plain i None at = tt
+  function_plain i (Some f) at = kind_plain i f f.kind at refl
+
+  item_plain : (x : Item) → Plain (heaps_in V x)
+  item_plain (Types, i) = types_are_plain (V.types i) (type_plain i)
+  item_plain (Functions, i) = function_plain i (V.functions i) refl
+  item_plain (Tables, i) = tt
+  item_plain (Memories, i) = tt
+  item_plain (Tags, i) = tt
+  item_plain (Globals, i) = tt
+  item_plain (Elements, i) = tt
+  item_plain (DataSegments, i) = tt
+
+  pub not_exact : (x : Item) (h : HeapType ℕ) → Contains (heaps_in V x) h → IsNotExact h
+  not_exact x h at = each_in (λ (k : HeapType ℕ). IsNotExact k) (heaps_in V x) h (item_plain x) at
+
+  -- there are no constant expressions
+  pub no_constants : (x : Item) (ops : List Op) → Contains (consts_in V x) ops → ⊥
+  no_constants (Types, i) ops at = Contains-none ops at
+  no_constants (Functions, i) ops at = Contains-none ops at
+  no_constants (Tables, i) ops at = Contains-none ops at
+  no_constants (Memories, i) ops at = Contains-none ops at
+  no_constants (Tags, i) ops at = Contains-none ops at
+  no_constants (Globals, i) ops at = Contains-none ops at
+  no_constants (Elements, i) ops at = Contains-none ops at
+  no_constants (DataSegments, i) ops at = Contains-none ops at

@@ -1,0 +1,86 @@
+-- Each refusal to write comes with its cause, and where all is written, there is none.
+use Rattle.std.proofs.Common.{◌≡◌, ℕ, ◌||◌, Bool, true, false, List, sym, subst, inl, inr, ◌∙◌}
+use Rattle.std.specs.Bool.{OnFalse}
+use Rattle.std.specs.Prelude.{not, IfOk, Result, Ok, Err}
+use Rattle.walrus_base.specs.Arena.{items}
+use Rattle.walrus_bodies.specs.declared.features.Features.{Features}
+use Rattle.walrus_groups.specs.Indexed.{AreInOrder, IsOutOfOrder}
+use Rattle.walrus_items.specs.Exports.{ExportValue}
+use Rattle.walrus_contents.specs.There.{IsRefusal}
+use Rattle.walrus_contents.specs.View.{parts_view}
+use Rattle.walrus_contents.specs.declared.parts.Parts.{Parts}
+use Rattle.walrus_model.specs.Abstract.{Abstract}
+use Rattle.walrus_model.specs.Config.{Config}
+use Rattle.walrus_model.specs.Dead.{HasDead}
+use Rattle.walrus_model.specs.Declared.{NothingUndeclared}
+use Rattle.walrus_model.proofs.Standing.{none_there}
+use Rattle.walrus_parts.specs.Errors.{out_of_memory}
+use Rattle.walrus_parts.specs.declared.error.Error.{Error}
+use Rattle.walrus_parts.specs.declared.error.Error.TheVariants.{Memory, DeadItem, NoIndex, NotWritable, TooLarge}
+use Rattle.walrus_rules.specs.Features.{features_of}
+use Rattle.walrus_rules.specs.Refused.{LacksIndex, WritesUnfit, PassesLimits}
+use Rattle.walrus_rules.specs.SoFar.{HasImported, HasUndeclared, RefusesSoFar}
+use Rattle.walrus_writing.specs.Emitted.{IsPlain, told}
+use Rattle.walrus_writing.specs.Local.{all_local}
+use Rattle.walrus_writing.specs.Parts.{Held, parts_held, parts_exports}
+use Rattle.walrus_writing.specs.Records.{DoesNotFit, Spells}
+use Rattle.walrus_writing.specs.Refusals.{RefusesItems}
+use Rattle.walrus_writing.proofs.NoCauseAll.{no_cause}
+use Rattle.walrus_writing.proofs.RefusesIndex.{imported, out_of_order}
+use Rattle.walrus_writing.proofs.RefusesLarge.{passes, no_two_indices, not_imported, lacks_none}
+use Rattle.walrus_writing.proofs.RefusesUnspelled.{unspelled}
+
+-- ---- before items are written
+
+-- something is named that isn't there
+pub dead_refused : (X : Type 0) (c : Config) (v : Abstract) (e : Error) → IsRefusal (HasDead v) e → RefusesSoFar {X = X} c v (told {X = X} (Err e))
+dead_refused X c v (Memory m) r = tt
+dead_refused X c v DeadItem r = r
+dead_refused X c v _ r = absurd r
+
+-- memory ran out
+pub memory_refused : (X : Type 0) (c : Config) (v : Abstract) (e : Error) → e ≡ out_of_memory → RefusesSoFar {X = X} c v (told {X = X} (Err e))
+memory_refused X c v e same = subst (λ (f : Error). RefusesSoFar {X = X} c v (told {X = X} (Err f))) (sym same) tt
+
+-- ref.func names a function that isn't declared
+pub undeclared_refused : (X : Type 0) (c : Config) (v : Abstract) → HasUndeclared v → RefusesSoFar {X = X} c v (told {X = X} (Err NotWritable))
+undeclared_refused X c v undeclared = inr undeclared
+
+-- not each function has a body, or types don't stand in order
+pub order_refused : (X : Type 0) (c : Config) (p : Parts) (local ordered : Bool) → (HasDead (parts_view p) → ⊥) → local ≡ all_local (items (parts_held p).funcs) → OnFalse ordered (IsOutOfOrder (parts_held p).types) → (not local || not ordered) ≡ true → RefusesSoFar {X = X} c (parts_view p) (told {X = X} (Err NoIndex))
+order_refused X c p false ordered lives same out fails = inr (imported p lives (sym same))
+order_refused X c p true false lives same out fails = inl (out_of_order p lives out)
+order_refused X c p true true lives same out fails = absurd (none_there fails)
+
+-- ---- items
+
+module _ (c : Config) (p : Parts) (lives : HasDead (parts_view p) → ⊥) (declared : NothingUndeclared (parts_view p)) (local : all_local (items (parts_held p).funcs) ≡ true) (ordered : AreInOrder (parts_held p).types) where
+  abbrev V : Abstract
+  V = parts_view p
+
+  abbrev H : Held
+  H = parts_held p
+
+  abbrev E : List ExportValue
+  E = parts_exports p
+
+  -- what a size too large comes from, and what is written passes no limit, with these features
+  abbrev Sizes : Features → Type 0
+  Sizes features = (DoesNotFit H features E → WritesUnfit c V) × ((bytes : List ℕ) → Spells H features E bytes → PassesLimits c V → ⊥)
+
+  abbrev Refuses : {X : Type 0} → (X → List ℕ) → Result X Error → Features → Type 0
+  Refuses view result features = Sizes features → IfOk result (λ x. Spells H features E (view x)) → RefusesItems H features E result → RefusesSoFar c V (told result)
+
+  undeclared_none : HasUndeclared V → ⊥
+  undeclared_none (f, undeclared) = declared f undeclared
+
+  items_with : {X : Type 0} (view : X → List ℕ) (result : Result X Error) → Refuses view result (features_of c)
+  items_with view (Ok x) sizes spells r = (no_cause c p spells.records lives (sizes.1 (view x) spells), not_imported c p local, undeclared_none)
+  items_with view (Err NotWritable) sizes spells r = inl (unspelled c p lives r)
+  items_with view (Err TooLarge) sizes spells r = (no_two_indices c p, lacks_none c p local ordered, λ sayable. passes c p lives sizes.0 r)
+  items_with view (Err (Memory m)) sizes spells r = tt
+  items_with view (Err _) sizes spells r = absurd r
+
+  -- what is said of items that name nothing dead and that all have an index is so of the module seen
+  pub items_refused : (features : Features) → IsPlain c features → {X : Type 0} (view : X → List ℕ) (result : Result X Error) → Refuses view result features
+  items_refused features plain view result = subst (Refuses view result) (sym plain.features_are) (items_with view result)
