@@ -7,6 +7,7 @@ use crate::config::ModuleConfig;
 use crate::customs::ModuleCustomSections;
 use crate::entry::SectionEntry;
 use std::alloc::Global;
+use walrus_contents::Contents;
 use walrus_ir::{ModuleLocals, ModuleTypes};
 use walrus_items::{ModuleExports, ModuleFunctions};
 use walrus_parts::Result;
@@ -34,8 +35,7 @@ impl Module {
     ghost use Rattle.walrus_module.specs.Flags.{flags, defaults, config_of};
     ghost use Rattle.walrus_reading.specs.Parsed.{IsParsed, RefusesBytes, AreLocated};
     ghost use Rattle.walrus_module.specs.Settings.{settings};
-    ghost use Rattle.walrus_module.specs.View.{IsEmpty};
-    ghost use Rattle.walrus_module.specs.View.{view};
+    ghost use Rattle.walrus_module.specs.View.{IsEmpty, contents_of, view};
 
     /// An empty module, to be written as the configuration says. Want of memory is the only refusal.
     pub fn with_config(alloc: Global, config: ModuleConfig) -> Result<Module>
@@ -43,16 +43,24 @@ impl Module {
         ensures configured { IfOk result (λ m. settings m ≡ flags config) }
         ensures fails { IsOkUnless result out_of_memory }
     {
-        let customs = ModuleCustomSections::<SectionEntry>::new(alloc);
-        Ok(Module {
-            types: ModuleTypes::new(alloc),
-            funcs: ModuleFunctions::new(alloc)?,
-            locals: ModuleLocals::new(alloc),
-            exports: ModuleExports::new(alloc),
-            producers: ModuleProducers::new(alloc),
-            customs,
+        let contents = Contents::new(alloc)?;
+        Ok(Module::holding(alloc, contents, config))
+    }
+
+    // The module that holds this, and no custom sections.
+    pub(crate) fn holding(alloc: Global, contents: Contents, config: ModuleConfig) -> Module
+        ensures holds { contents_of result ≡ contents }
+        ensures configured { settings result ≡ flags config }
+    {
+        Module {
+            types: contents.types,
+            funcs: contents.funcs,
+            locals: contents.locals,
+            exports: contents.exports,
+            producers: contents.producers,
+            customs: ModuleCustomSections::<SectionEntry>::new(alloc),
             config,
-        })
+        }
     }
 
     /// The module that the bytes are, under the default configuration. Refused as [`ModuleConfig::parse`] is.

@@ -6,8 +6,6 @@ ghost use Rattle.walrus_module.specs.View.{view};
 ghost use Rattle.walrus_reading.specs.Parsed.{IsParsed, RefusesBytes, AreLocated};
 
 use crate::config::ModuleConfig;
-use crate::customs::ModuleCustomSections;
-use crate::entry::SectionEntry;
 use crate::module::Module;
 use std::alloc::Global;
 use walrus_parts::Result;
@@ -26,14 +24,6 @@ impl ModuleConfig {
         ensures located { IfOk result (λ m. AreLocated bytes.now m.funcs) }
     {
         let contents = read(alloc, bytes, &self.features())?;
-        Ok(Module {
-            types: contents.types,
-            funcs: contents.funcs,
-            locals: contents.locals,
-            exports: contents.exports,
-            producers: contents.producers,
-            customs: ModuleCustomSections::<SectionEntry>::new(alloc),
-            config: self.clone()?,
-        })
+        Ok(Module::holding(alloc, contents, self.clone()?))
     }
 }
