@@ -1,8 +1,8 @@
 //! Builders of functions.
 
-use crate::ids::{demand, first_id};
 use std::alloc::{AllocError, Global};
 use std::test::Fail;
+use test_support::{demand, first_id, is_name};
 use walrus_builder::{FunctionBuilder, InstrSeqBuilder};
 use walrus_code::{Arg, Args, LocalFunction, Operator};
 use walrus_types::{ModuleTypes, ValType};
@@ -42,18 +42,11 @@ fn function(alloc: Global, types: &mut ModuleTypes) -> Result<LocalFunction, All
     builder.local_func(Vec::new(alloc))
 }
 
-fn is_f(name: &Option<String>) -> bool {
-    match name {
-        Some(name) => name.as_str() == "f",
-        None => false,
-    }
-}
-
 fn is_built(alloc: Global) -> bool {
     let mut types = ModuleTypes::new(alloc);
     match function(alloc, &mut types) {
         Ok(function) => {
-            is_f(&function.name)
+            is_name(&function.name, "f")
                 && types.len() == 1
                 && are_built(alloc, function.operators.as_slice())
         }

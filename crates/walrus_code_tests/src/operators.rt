@@ -1,9 +1,9 @@
 //! Operators over ids and over indices, and what they name.
 
-use crate::ids::{demand, first_id, second_id};
 use std::alloc::{AllocError, Global};
 use std::mem::size_of;
 use std::test::Fail;
+use test_support::{demand, first_id, second_id};
 use walrus_base::{FunctionId, LocalId, TypeId};
 use walrus_code::{
     Arg, Args, IdsToIndices, IndicesToIds, InstrLocId, ItemId, LocalFunction, LocalNumbers,

@@ -1,8 +1,8 @@
 //! Types, constant expressions and locals.
 
-use crate::ids::demand;
 use std::alloc::{AllocError, Global};
 use std::test::Fail;
+use test_support::demand;
 use walrus_base::TypeId;
 use walrus_types::{
     AbstractHeapType, ArrayType, CompositeType, ConstExpr, ConstOp, FieldType, FunctionType,

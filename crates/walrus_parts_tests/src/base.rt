@@ -1,17 +1,11 @@
 //! Arenas and sets of ids.
 
-use crate::demands::demand;
 use std::alloc::Global;
 use std::test::Fail;
-use walrus_base::{FunctionId, FunctionKey, Id, IdHashSet, TombstoneArena};
+use test_support::{demand, first_id};
+use walrus_base::{FunctionId, FunctionKey, IdHashSet, TombstoneArena};
 
 type Numbers = TombstoneArena<FunctionKey, usize>;
-
-/// An id at the first place.
-pub fn some_id<K>(alloc: Global) -> Id<K> {
-    let arena: TombstoneArena<K, u8> = TombstoneArena::new(alloc);
-    arena.next_id()
-}
 
 // Adds two numbers, deletes the first and changes the second.
 fn change(arena: &mut Numbers) -> bool {
@@ -67,7 +61,7 @@ fn set_knows_its_ids(rt: HostRuntime) -> Result<(), Fail> {
     let mut set = IdHashSet::new(rt.alloc());
     let id = second_id(rt.alloc());
     demand(
-        takes_once(&mut set, id) && loses(&mut set, id, some_id(rt.alloc())),
+        takes_once(&mut set, id) && loses(&mut set, id, first_id(rt.alloc())),
         "one of two",
     )
 }

@@ -1,16 +1,15 @@
 //! Functions and exports.
 
-use crate::base::some_id;
-use crate::demands::{demand, is_text};
 use std::alloc::{AllocError, Global};
 use std::test::Fail;
+use test_support::{demand, first_id, is_text};
 use walrus_base::FunctionId;
 use walrus_ir::LocalFunction;
 use walrus_items::{ExportItem, ModuleExports, ModuleFunctions};
 use walrus_parts::Error;
 
 fn named_function(alloc: Global, name: &str) -> Result<LocalFunction, AllocError> {
-    let mut local = LocalFunction::new(alloc, some_id(alloc), Vec::new(alloc), Vec::new(alloc));
+    let mut local = LocalFunction::new(alloc, first_id(alloc), Vec::new(alloc), Vec::new(alloc));
     local.name = Some(String::from_str(alloc, name)?);
     Ok(local)
 }
@@ -38,7 +37,7 @@ fn has_both(functions: &ModuleFunctions, imported: FunctionId, local: FunctionId
 }
 
 fn takes_both(alloc: Global, functions: &mut ModuleFunctions) -> bool {
-    let Ok(imported) = functions.add_import(some_id(alloc), some_id(alloc)) else {
+    let Ok(imported) = functions.add_import(first_id(alloc), first_id(alloc)) else {
         return false;
     };
     match add_f(alloc, functions) {
@@ -98,5 +97,5 @@ fn are_kept(exports: &mut ModuleExports, function: FunctionId) -> bool {
 #[test]
 fn exports_by_name_and_function(rt: HostRuntime) -> Result<(), Fail> {
     let mut exports = ModuleExports::new(rt.alloc());
-    demand(are_kept(&mut exports, some_id(rt.alloc())), "two exports")
+    demand(are_kept(&mut exports, first_id(rt.alloc())), "two exports")
 }

@@ -3,7 +3,6 @@
 
 #[cfg(test)]
 mod base;
-pub mod demands;
 #[cfg(test)]
 mod entries;
 #[cfg(test)]

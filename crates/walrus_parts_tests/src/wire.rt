@@ -1,8 +1,8 @@
 //! Modules of many sections, read, checked and written back.
 
-use crate::demands::{add_bytes, are, demand};
 use std::alloc::Global;
 use std::test::Fail;
+use test_support::{add_bytes, are, demand};
 use wasm_wire::{Raw, RawCustom, WireError, Writer, check, read_module};
 
 fn write_declarations(writer: &mut Writer, raw: &Raw<'_>) -> bool {

@@ -1,8 +1,8 @@
 //! Calls of `wasm_wire` by themselves: what a reading answers, and what the writer appends.
 
-use crate::demands::{add_bytes, are, demand, is_text};
 use std::alloc::Global;
 use std::test::Fail;
+use test_support::{add_bytes, are, demand, is_text};
 use wasm_wire::{
     Raw, RawBody, RawComp, RawConst, RawCustom, RawExport, RawFuncType, RawGroup, RawLimits,
     RawSub, RawVal, Writer, leb128_len, read_module,

@@ -2,9 +2,9 @@
 
 use std::alloc::Global;
 use std::test::Fail;
+use test_support::{add_bytes, are, demand, is_text};
 use walrus::passes::{Used, gc};
 use walrus::{Error, FunctionId, Module, ModuleConfig, Type};
-use walrus_parts_tests::demands::{add_bytes, are, demand, is_text};
 
 // Two empty functions, of which the second is exported, and what comes of them.
 const INPUT: &str =

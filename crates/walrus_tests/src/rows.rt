@@ -3,7 +3,7 @@
 use crate::devices::{add_words, passed, refused, run};
 use std::alloc::Global;
 use std::test::Fail;
-use walrus_parts_tests::demands::{add_bytes, demand};
+use test_support::{add_bytes, demand};
 
 // Inputs and what they come to, in hexadecimal.
 const ROWS: [(&str, &str); 13] = [
