@@ -65,3 +65,35 @@ fn set_knows_its_ids(rt: HostRuntime) -> Result<(), Fail> {
         "one of two",
     )
 }
+
+fn mark(alloc: Global, id: FunctionId) -> Option<IdHashSet<FunctionKey>> {
+    let mut marks = IdHashSet::new(alloc);
+    match marks.insert(id) {
+        Ok(_) => Some(marks),
+        Err(_) => None,
+    }
+}
+
+// Adds two numbers, and keeps the second.
+fn keeps_second(alloc: Global, arena: &mut Numbers) -> bool {
+    let (Ok(first), Ok(second)) = (arena.alloc(10), arena.alloc(20)) else {
+        return false;
+    };
+    let Some(marks) = mark(alloc, second) else {
+        return false;
+    };
+    arena.keep_only(&marks);
+    first < second
+        && !arena.contains(first)
+        && arena.contains(second)
+        && *arena.get(second) == 20
+}
+
+#[test]
+fn marked_items_are_kept(rt: HostRuntime) -> Result<(), Fail> {
+    let mut arena = TombstoneArena::new(rt.alloc());
+    demand(
+        arena.is_empty() && keeps_second(rt.alloc(), &mut arena) && !arena.is_empty(),
+        "the second",
+    )
+}

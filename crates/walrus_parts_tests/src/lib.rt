@@ -4,6 +4,8 @@
 #[cfg(test)]
 mod base;
 #[cfg(test)]
+mod bodies;
+#[cfg(test)]
 mod entries;
 #[cfg(test)]
 mod forms;
