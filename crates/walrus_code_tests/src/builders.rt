@@ -35,6 +35,23 @@ fn are_built(alloc: Global, operators: &[Operator]) -> bool {
         && is(end, 0x0B, &[])
 }
 
+// One operator behind another, before they are a function's.
+fn is_sequence(alloc: Global) -> bool {
+    let mut sequence = InstrSeqBuilder::new(alloc);
+    match build(alloc, &mut sequence) {
+        Ok(()) => {
+            sequence.len() == 6
+                && matches!(sequence.operators(), [first, ..] if is(first, 0x00, &[]))
+        }
+        Err(_) => false,
+    }
+}
+
+#[test]
+fn a_sequence_is_built(rt: HostRuntime) -> Result<(), Fail> {
+    demand(is_sequence(rt.alloc()), "a sequence of six operators")
+}
+
 fn function(alloc: Global, types: &mut ModuleTypes) -> Result<LocalFunction, AllocError> {
     let mut builder = FunctionBuilder::new(alloc, types, &[], &[ValType::I32])?;
     builder.name(String::from_str(alloc, "f")?);

@@ -83,10 +83,7 @@ fn keeps_second(alloc: Global, arena: &mut Numbers) -> bool {
         return false;
     };
     arena.keep_only(&marks);
-    first < second
-        && !arena.contains(first)
-        && arena.contains(second)
-        && *arena.get(second) == 20
+    first < second && !arena.contains(first) && arena.contains(second) && *arena.get(second) == 20
 }
 
 #[test]

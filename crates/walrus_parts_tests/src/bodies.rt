@@ -72,11 +72,13 @@ fn refuses_else(alloc: Global) -> Result<bool, AllocError> {
 fn closes_if(alloc: Global) -> Result<bool, AllocError> {
     let mut blocks = OpenBlocks::new(alloc)?;
     let is_stepped = blocks.step(0x04, &[])? && blocks.step(0x05, &[])? && blocks.step(0x0B, &[])?;
-    Ok(is_stepped
-        && !blocks.is_closed()
-        && blocks.step(0x0B, &[])?
-        && blocks.is_closed()
-        && !blocks.step(0x01, &[])?)
+    Ok(
+        is_stepped
+            && !blocks.is_closed()
+            && blocks.step(0x0B, &[])?
+            && blocks.is_closed()
+            && !blocks.step(0x01, &[])?,
+    )
 }
 
 #[test]

@@ -121,7 +121,9 @@ fn are_placed(raw: &Raw<'_>, writer: &mut Writer) -> bool {
         && writer.export_section(&raw.exports).is_ok();
     match writer.code_section(&raw.bodies) {
         Ok(places) => {
-            is_begun && places.count == 28 && places.bodies.as_slice() == [30..32, 33..35].as_slice()
+            is_begun
+                && places.count == 28
+                && places.bodies.as_slice() == [30..32, 33..35].as_slice()
         }
         Err(_) => false,
     }
