@@ -114,7 +114,7 @@ def main():
     if made.exists() and made.stat().st_mtime >= newest_source(crates):
         return
     progress, begin = Progress({it: all_below(it) for it in NAMED if it in crates}), time.time()
-    say(f"proving what isn't proved yet of {crate} and the {len(crates) - 1} crates below it; from nothing that takes about"
+    say(f"{len(crates)} crate{'s' * (len(crates) > 1)} to be proved where not proved yet; from nothing that takes about"
         f" {progress.minutes_left():.0f} min on 4 quiet cores")
     with tempfile.NamedTemporaryFile("w", buffering=1, prefix=f"build-{crate}-", delete=False) as log:
         try:
@@ -131,7 +131,6 @@ def main():
     os.utime(made, (begin, begin))
     os.remove(log.name)
     say(f"{crate} is built")
-
 
 
 main()

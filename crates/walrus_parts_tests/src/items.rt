@@ -105,7 +105,7 @@ fn is_renamed(exports: &mut ModuleExports, id: ExportId, name: String) -> bool {
         return false;
     }
     exports.get_mut(id).name = name;
-    is_text(&exports.get(id).name, "c") && exports.get(id).id() == id
+    exports.contains(id) && is_text(&exports.get(id).name, "c") && exports.get(id).id() == id
 }
 
 // Takes both away, each by one of the two names that the call has.
