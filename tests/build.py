@@ -115,7 +115,7 @@ def main():
         return
     progress, begin = Progress({it: all_below(it) for it in NAMED if it in crates}), time.time()
     say(f"{len(crates)} crate{'s' * (len(crates) > 1)} to be proved where not proved yet; from nothing that takes about"
-        f" {progress.minutes_left():.0f} min on 4 quiet cores")
+        f" {progress.minutes_left():.0f} min, where nothing else is at work")
     with tempfile.NamedTemporaryFile("w", buffering=1, prefix=f"build-{crate}-", delete=False) as log:
         try:
             is_proved = prove(crate, progress, log)
