@@ -1,8 +1,8 @@
 //! Builders of functions.
 
-use crate::ids::{demand, first_id};
 use std::alloc::{AllocError, Global};
 use std::test::Fail;
+use test_support::{demand, first_id, is_name};
 use walrus_builder::{FunctionBuilder, InstrSeqBuilder};
 use walrus_code::{Arg, Args, LocalFunction, Operator};
 use walrus_types::{ModuleTypes, ValType};
@@ -35,6 +35,23 @@ fn are_built(alloc: Global, operators: &[Operator]) -> bool {
         && is(end, 0x0B, &[])
 }
 
+// One operator behind another, before they are a function's.
+fn is_sequence(alloc: Global) -> bool {
+    let mut sequence = InstrSeqBuilder::new(alloc);
+    match build(alloc, &mut sequence) {
+        Ok(()) => {
+            sequence.len() == 6
+                && matches!(sequence.operators(), [first, ..] if is(first, 0x00, &[]))
+        }
+        Err(_) => false,
+    }
+}
+
+#[test]
+fn a_sequence_is_built(rt: HostRuntime) -> Result<(), Fail> {
+    demand(is_sequence(rt.alloc()), "a sequence of six operators")
+}
+
 fn function(alloc: Global, types: &mut ModuleTypes) -> Result<LocalFunction, AllocError> {
     let mut builder = FunctionBuilder::new(alloc, types, &[], &[ValType::I32])?;
     builder.name(String::from_str(alloc, "f")?);
@@ -42,18 +59,11 @@ fn function(alloc: Global, types: &mut ModuleTypes) -> Result<LocalFunction, All
     builder.local_func(Vec::new(alloc))
 }
 
-fn is_f(name: &Option<String>) -> bool {
-    match name {
-        Some(name) => name.as_str() == "f",
-        None => false,
-    }
-}
-
 fn is_built(alloc: Global) -> bool {
     let mut types = ModuleTypes::new(alloc);
     match function(alloc, &mut types) {
         Ok(function) => {
-            is_f(&function.name)
+            is_name(&function.name, "f")
                 && types.len() == 1
                 && are_built(alloc, function.operators.as_slice())
         }
