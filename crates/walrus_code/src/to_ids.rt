@@ -16,6 +16,10 @@ use std::alloc::Global;
 use walrus_base::LocalId;
 use walrus_types::{AbstractHeapType, HeapType, RefType, ValType};
 use wasm_forms::{RawHeap, RawVal};
+use wasm_opcodes::types::{
+    HEAP_ANY, HEAP_ARRAY, HEAP_EQ, HEAP_EXN, HEAP_EXTERN, HEAP_FUNC, HEAP_I31, HEAP_NO_EXTERN,
+    HEAP_NO_FUNC, HEAP_NONE, HEAP_STRUCT,
+};
 use wasm_operators::{RawArg, RawBlock, RawOperator};
 
 /// The operator with the id for each index of an item or a local in it, at the location `loc`. `locals` are the function's
@@ -160,17 +164,17 @@ fn abstract_heap(byte: u8) -> AbstractHeapType
     ensures { abstract_heap result ≡ from_raw.abstract_of byte }
 {
     match byte {
-        0x69 => AbstractHeapType::Exn,
-        0x6A => AbstractHeapType::Array,
-        0x6B => AbstractHeapType::Struct,
-        0x6C => AbstractHeapType::I31,
-        0x6D => AbstractHeapType::Eq,
-        0x6E => AbstractHeapType::Any,
-        0x6F => AbstractHeapType::Extern,
-        0x70 => AbstractHeapType::Func,
-        0x71 => AbstractHeapType::None,
-        0x72 => AbstractHeapType::NoExtern,
-        0x73 => AbstractHeapType::NoFunc,
+        HEAP_EXN => AbstractHeapType::Exn,
+        HEAP_ARRAY => AbstractHeapType::Array,
+        HEAP_STRUCT => AbstractHeapType::Struct,
+        HEAP_I31 => AbstractHeapType::I31,
+        HEAP_EQ => AbstractHeapType::Eq,
+        HEAP_ANY => AbstractHeapType::Any,
+        HEAP_EXTERN => AbstractHeapType::Extern,
+        HEAP_FUNC => AbstractHeapType::Func,
+        HEAP_NONE => AbstractHeapType::None,
+        HEAP_NO_EXTERN => AbstractHeapType::NoExtern,
+        HEAP_NO_FUNC => AbstractHeapType::NoFunc,
         _ => AbstractHeapType::NoExn,
     }
 }

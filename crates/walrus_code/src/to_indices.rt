@@ -18,6 +18,10 @@ use crate::operator::{Arg, BlockType, Operator};
 use std::alloc::Global;
 use walrus_types::{AbstractHeapType, HeapType, ValType};
 use wasm_forms::{RawHeap, RawRef, RawVal};
+use wasm_opcodes::types::{
+    HEAP_ANY, HEAP_ARRAY, HEAP_EQ, HEAP_EXN, HEAP_EXTERN, HEAP_FUNC, HEAP_I31, HEAP_NO_EXN,
+    HEAP_NO_EXTERN, HEAP_NO_FUNC, HEAP_NONE, HEAP_STRUCT,
+};
 use wasm_operators::{RawArg, RawArgs, RawBlock, RawOperator};
 
 /// The operator with the index for each item and local in it, which bytes can spell. `locals` are the indices of the
@@ -169,18 +173,18 @@ fn abstract_byte(heap: AbstractHeapType) -> u8
     ensures in_range { is_abstract result ≡ true }
 {
     match heap {
-        AbstractHeapType::Exn => 0x69,
-        AbstractHeapType::Array => 0x6A,
-        AbstractHeapType::Struct => 0x6B,
-        AbstractHeapType::I31 => 0x6C,
-        AbstractHeapType::Eq => 0x6D,
-        AbstractHeapType::Any => 0x6E,
-        AbstractHeapType::Extern => 0x6F,
-        AbstractHeapType::Func => 0x70,
-        AbstractHeapType::None => 0x71,
-        AbstractHeapType::NoExtern => 0x72,
-        AbstractHeapType::NoFunc => 0x73,
-        AbstractHeapType::NoExn => 0x74,
+        AbstractHeapType::Exn => HEAP_EXN,
+        AbstractHeapType::Array => HEAP_ARRAY,
+        AbstractHeapType::Struct => HEAP_STRUCT,
+        AbstractHeapType::I31 => HEAP_I31,
+        AbstractHeapType::Eq => HEAP_EQ,
+        AbstractHeapType::Any => HEAP_ANY,
+        AbstractHeapType::Extern => HEAP_EXTERN,
+        AbstractHeapType::Func => HEAP_FUNC,
+        AbstractHeapType::None => HEAP_NONE,
+        AbstractHeapType::NoExtern => HEAP_NO_EXTERN,
+        AbstractHeapType::NoFunc => HEAP_NO_FUNC,
+        AbstractHeapType::NoExn => HEAP_NO_EXN,
     }
 }
 

@@ -11,6 +11,7 @@ use walrus_code::{
 };
 use walrus_types::{HeapType, RefType, ValType};
 use wasm_forms::{RawHeap, RawRef, RawVal};
+use wasm_opcodes::one_byte::{CALL, CALL_INDIRECT};
 use wasm_operators::{RawArg, RawArgs, RawOperator};
 
 // A body is a list of operators, so that its memory follows their size.
@@ -33,7 +34,7 @@ fn names_are_listed(alloc: Global) -> bool {
     let Ok(arguments) = arguments(alloc, ty, local) else {
         return false;
     };
-    let operator = Operator::new(0x11, arguments);
+    let operator = Operator::new(CALL_INDIRECT, arguments);
     let (mut names, mut locals) = (Vec::new(alloc), Vec::new(alloc));
     push_names(&mut names, &operator).is_ok()
         && push_locals(&mut locals, &operator).is_ok()
@@ -47,8 +48,8 @@ fn an_operators_names_are_listed(rt: HostRuntime) -> Result<(), Fail> {
 }
 
 // `call` of the function with the index 0.
-const CALL: RawOperator = RawOperator {
-    op: 0x10,
+const RAW_CALL: RawOperator = RawOperator {
+    op: CALL,
     args: RawArgs::One(RawArg::Function(0)),
 };
 
@@ -57,9 +58,9 @@ fn is_named(alloc: Global, id: FunctionId) -> bool {
     if ids.push_func(id).is_err() {
         return false;
     }
-    match name_operator(alloc, &CALL, InstrLocId::new(7), &ids, &[]) {
+    match name_operator(alloc, &RAW_CALL, InstrLocId::new(7), &ids, &[]) {
         Ok(operator) => {
-            operator.op == 0x10
+            operator.op == CALL
                 && operator.args.as_slice() == [Arg::Function(id)].as_slice()
                 && operator.loc.value() == 7
         }
@@ -72,9 +73,9 @@ fn is_indexed(alloc: Global, id: FunctionId) -> bool {
     if indices.push_func(id).is_err() {
         return false;
     }
-    let operator = Operator::new(0x10, Args::One(Arg::Function(id)));
+    let operator = Operator::new(CALL, Args::One(Arg::Function(id)));
     match index_operator(alloc, &operator, &indices, &LocalNumbers::new(alloc)) {
-        Ok(raw) => raw.op == 0x10 && raw.args.as_slice() == [RawArg::Function(0)].as_slice(),
+        Ok(raw) => raw.op == CALL && raw.args.as_slice() == [RawArg::Function(0)].as_slice(),
         Err(_) => false,
     }
 }

@@ -82,14 +82,8 @@ pub fn emit_body(
     let declarations = declare(alloc, declared.as_slice(), module_locals, indices)?;
     let locals = number_locals(alloc, all.as_slice())?;
     let operators = function.operators.as_slice();
-    write_body(
-        alloc,
-        operators,
-        declarations.as_slice(),
-        locals,
-        indices,
-        features,
-    )
+    let scope = Scope { indices, features };
+    write_body(alloc, operators, declarations.as_slice(), locals, &scope)
 }
 
 // Whether the function's type takes what its parameters hold.
@@ -156,22 +150,29 @@ fn declare(
     declarations(alloc, groups.as_slice(), indices)
 }
 
+// What a body is written under: the numbers of items, and the proposals that it may use.
+#[derive(Clone, Copy)]
+struct Scope<'a> {
+    indices: &'a IdsToIndices,
+    features: &'a Features,
+}
+
 // Writes declarations, and the operators behind them.
 fn write_body(
     alloc: Global,
     operators: &[Operator],
     declarations: &[Declaration],
     locals: LocalNumbers,
-    indices: &IdsToIndices,
-    features: &Features,
+    scope: &Scope,
 ) -> Result<EmittedBody, IrError>
     requires { length declarations.now < 2 ^ 32 }
-    ensures written { WritesBehind (index_of indices.now) (local_index locals) features.now (ops_of operators.now) (declarations_of declarations.now) (λ body. body.bytes.items) (λ body. map (λ p. p.1) body.places.items) result }
+    ensures written { WritesBehind (index_of scope.now.indices.now) (local_index locals) scope.now.features.now (ops_of operators.now) (declarations_of declarations.now) (λ body. body.bytes.items) (λ body. map (λ p. p.1) body.places.items) result }
     ensures located { IfOk result (λ body. (map (λ p. p.0) body.places.items ≡ locations operators.now)) }
     ensures numbered { IfOk result (λ body. body.locals ≡ locals) }
 {
     let mut bytes = Vec::new(alloc);
     write_vector(&mut bytes, declarations)?;
+    let (indices, features) = (scope.indices, scope.features);
     let places = emit_operators(alloc, &mut bytes, operators, indices, &locals, features)?;
     Ok(EmittedBody {
         bytes,

@@ -16,6 +16,7 @@ use std::slice;
 use walrus_base::TypeId;
 use walrus_code::{Arg, BlockType, Operator};
 use walrus_types::{FunctionType, ModuleTypes, ValType};
+use wasm_opcodes::one_byte::{CATCH, CATCH_ALL};
 
 /// The types of functions at the places below a bound, and the types of tags.
 #[derive(Clone, Copy)]
@@ -101,8 +102,8 @@ impl<'a> Signatures<'a> {
         };
         let results = self.block_results(&block);
         match operator.op {
-            0x07 => handler_type(alloc, self.caught(operator.args.as_slice()), results),
-            0x19 => handler_type(alloc, &[], results),
+            CATCH => handler_type(alloc, self.caught(operator.args.as_slice()), results),
+            CATCH_ALL => handler_type(alloc, &[], results),
             _ => Ok(None),
         }
     }
@@ -176,25 +177,32 @@ fn add_type(
     Ok(())
 }
 
+// An operator of a body, the block that it stands in if that is a legacy try, and what its indices mean: the types of tags, and the
+// places of types below a bound.
+#[derive(Clone, Copy)]
+struct Placed<'a> {
+    operator: &'a Operator,
+    block: Option<BlockType>,
+    bound: usize,
+    tag_types: &'a [TypeId],
+}
+
 // Finds or adds the type that an operator needs, if it needs one.
 fn add_needed(
     alloc: Global,
     types: &mut ModuleTypes,
-    bound: usize,
-    tag_types: &[TypeId],
-    block: Option<BlockType>,
-    operator: &Operator,
+    placed: &Placed,
     ids: &mut Vec<TypeId>,
 ) -> Result<(), AllocError>
-    ensures added { IfOk result (λ _. (ps : List ℕ) × ((map place ids.new.items ≡ map place ids.old.items ++ ps) × AddsTypes (handler_in (types_below bound (type_slots types.old)) (tag_places tag_types.now) (option_map block_of block) (op_of operator.now)) (slots_of types.old) (slots_of types.new) ps)) }
+    ensures added { IfOk result (λ _. (ps : List ℕ) × ((map place ids.new.items ≡ map place ids.old.items ++ ps) × AddsTypes (handler_in (types_below placed.now.bound (type_slots types.old)) (tag_places placed.now.tag_types.now) (option_map block_of placed.now.block) (op_of placed.now.operator.now)) (slots_of types.old) (slots_of types.new) ps)) }
     ensures stays { StaysInFront (type_slots types.old) (type_slots types.new) }
 {
     let signatures = Signatures {
         types,
-        bound,
-        tag_types,
+        bound: placed.bound,
+        tag_types: placed.tag_types,
     };
-    match signatures.needed(alloc, block, operator)? {
+    match signatures.needed(alloc, placed.block, placed.operator)? {
         Some(needed) => add_type(types, &needed, ids),
         None => Ok(()),
     }
@@ -215,7 +223,13 @@ pub(crate) fn add_handler_types(
     let mut ids = Vec::new(alloc);
     for operator in operators {
         let block = blocks.innermost_try();
-        add_needed(alloc, types, bound, tag_types, block, operator, &mut ids)?;
+        let placed = Placed {
+            operator,
+            block,
+            bound,
+            tag_types,
+        };
+        add_needed(alloc, types, &placed, &mut ids)?;
         blocks.step(operator)?;
     }
     Ok(ids)

@@ -17,6 +17,7 @@ use wasm_forms::{
     Element, RawHeap, RawRef, WireError, Written, read_block, read_byte, read_reference_type,
     read_u32, read_vector, write_block, write_reference_type, write_u32, write_vector,
 };
+use wasm_opcodes::types::HEAP_FUNC;
 
 /// Functions that a segment lists.
 #[tactic(auto, unfolding(crate::specs::Forms::functions_form))]
@@ -56,7 +57,7 @@ fn read_of_functions(alloc: Global, bytes: &[u8]) -> Result<(RawItems, &[u8]), W
 {
     let any_function = RawRef {
         nullable: true,
-        heap: RawHeap::Abstract(0x70),
+        heap: RawHeap::Abstract(HEAP_FUNC),
     };
     let (expressions, rest) = read_expressions(alloc, bytes)?;
     Ok((RawItems::Expressions(any_function, expressions), rest))

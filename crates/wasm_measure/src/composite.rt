@@ -14,6 +14,7 @@ use crate::types::field_len;
 use crate::vector::{Measured, measured_vector};
 use wasm_entries::{RawComp, RawFieldType, RawFuncType, RawGroup, RawSub};
 use wasm_forms::{RawVal, WireError};
+use wasm_opcodes::types::REC_TYPE;
 
 /// How many bytes the count of the value types and each of them have.
 fn measured_values(values: &[RawVal]) -> Result<u32, WireError>
@@ -77,7 +78,7 @@ impl Measured for RawSub {
 
 /// How many bytes a group has that is not one type alone: 4E, the count of the types and each of them.
 fn measured_many(types: &[RawSub]) -> Result<u32, WireError>
-    ensures { Measures result (0x4E ∷ vector_bytes (λ s. sub_bytes (sub s)) types.now) (FitsVector (λ s. SubFits (sub s)) types.now) }
+    ensures { Measures result (REC_TYPE ∷ vector_bytes (λ s. sub_bytes (sub s)) types.now) (FitsVector (λ s. SubFits (sub s)) types.now) }
 {
     plus(1, measured_vector(types)?)
 }
