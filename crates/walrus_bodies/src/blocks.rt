@@ -96,7 +96,8 @@ impl OpenBlocks {
 
     // The innermost block, which closes.
     fn close(&mut self) -> Option<Opened>
-        ensures { MatchOption result (opened self.old ≡ []) (λ block. opened self.old ≡ block ∷ opened self.new) }
+        ensures { MatchOption result (opened self.old ≡ []) (λ block. opened self.old
+            ≡ block ∷ opened self.new) }
     {
         self.blocks.pop()
     }

@@ -44,8 +44,10 @@ pub fn read_operators<T: FunctionTypes, L: Fn(&usize) -> InstrLocId>(
     locate: &L,
 ) -> Result<Vec<Operator>, IrError>
     requires { L.IsAlwaysCallable locate.now }
-    ensures read { ReadsOperators (context (ids_at indices.now) (T.function_types types.now) features.now) (locals_at locals.now) (λ operators. ops_of operators.items) bytes.now result }
-    ensures located { IfOk result (λ operators. Located (FnReturnsAt L.Fn locate.now) place bytes.now (locations operators.items)) }
+    ensures read { ReadsOperators (context (ids_at indices.now) (T.function_types types.now) features.now)
+        (locals_at locals.now) (λ operators. ops_of operators.items) bytes.now result }
+    ensures located { IfOk result (λ operators. Located (FnReturnsAt L.Fn locate.now) place bytes.now
+        (locations operators.items)) }
 {
     let scope = Scope {
         features,
@@ -65,8 +67,12 @@ fn read_all<T: FunctionTypes, L: Fn(&usize) -> InstrLocId>(
     scope: &Scope<T>,
 ) -> Result<Vec<Operator>, IrError>
     requires { L.IsAlwaysCallable locate.now }
-    ensures read { Gives (λ operators. ops_of operators.items) result (ops_at (context (ids_at scope.now.indices.now) (T.function_types scope.now.types.now) scope.now.features.now) (locals_at scope.now.locals.now) (length bytes.now) (Opened.Plain ∷ []) bytes.now) }
-    ensures located { IfOk result (λ operators. Located (FnReturnsAt L.Fn locate.now) place bytes.now (locations operators.items)) }
+    ensures read { Gives (λ operators. ops_of operators.items) result
+        (ops_at (context (ids_at scope.now.indices.now) (T.function_types scope.now.types.now)
+        scope.now.features.now) (locals_at scope.now.locals.now) (length bytes.now)
+        (Opened.Plain ∷ []) bytes.now) }
+    ensures located { IfOk result (λ operators. Located (FnReturnsAt L.Fn locate.now) place bytes.now
+        (locations operators.items)) }
 {
     let mut blocks = OpenBlocks::new(alloc)?;
     let mut operators = Vec::new(alloc);
@@ -86,7 +92,8 @@ fn read_all<T: FunctionTypes, L: Fn(&usize) -> InstrLocId>(
 
 // The operators, behind which no byte may stand.
 fn with_no_rest(operators: Vec<Operator>, rest: &[u8]) -> Result<Vec<Operator>, IrError>
-    ensures read { Gives (λ operators. ops_of operators.items) result (ended (ops_of operators.items) rest.now) }
+    ensures read { Gives (λ operators. ops_of operators.items) result
+        (ended (ops_of operators.items) rest.now) }
     ensures same { IfOk result (λ given. (given ≡ operators) × (rest.now ≡ [])) }
 {
     match rest {
@@ -103,7 +110,9 @@ fn read_next<'a, T: FunctionTypes>(
     blocks: &mut OpenBlocks,
     scope: &Scope<T>,
 ) -> Result<(Operator, &'a [u8]), IrError>
-    ensures read { Gives (λ r. (op_of r.0, opened blocks.new, r.1.now)) result (next_at (context (ids_at scope.now.indices.now) (T.function_types scope.now.types.now) scope.now.features.now) (locals_at scope.now.locals.now) (opened blocks.old) bytes.now) }
+    ensures read { Gives (λ r. (op_of r.0, opened blocks.new, r.1.now)) result
+        (next_at (context (ids_at scope.now.indices.now) (T.function_types scope.now.types.now)
+        scope.now.features.now) (locals_at scope.now.locals.now) (opened blocks.old) bytes.now) }
     ensures located { IfOk result (λ r. r.0.loc ≡ loc) }
 {
     let (operator, rest) = read_one(alloc, bytes, loc, scope)?;
@@ -118,7 +127,9 @@ fn read_one<'a, T: FunctionTypes>(
     loc: InstrLocId,
     scope: &Scope<T>,
 ) -> Result<(Operator, &'a [u8]), IrError>
-    ensures read { Gives (λ r. (op_of r.0, r.1.now)) result (op_at (context (ids_at scope.now.indices.now) (T.function_types scope.now.types.now) scope.now.features.now) (locals_at scope.now.locals.now) bytes.now) }
+    ensures read { Gives (λ r. (op_of r.0, r.1.now)) result
+        (op_at (context (ids_at scope.now.indices.now) (T.function_types scope.now.types.now)
+        scope.now.features.now) (locals_at scope.now.locals.now) bytes.now) }
     ensures located { IfOk result (λ r. r.0.loc ≡ loc) }
 {
     let (raw, rest) = read_operator(alloc, bytes)?;
@@ -132,7 +143,8 @@ fn read_one<'a, T: FunctionTypes>(
 
 // Steps over an operator that may stand in these open blocks.
 fn step_over(blocks: &mut OpenBlocks, operator: &Operator) -> Result<(), IrError>
-    ensures { Gives (λ _. opened blocks.new) result (blocks_after (op_of operator.now).op (op_of operator.now).args (opened blocks.old)) }
+    ensures { Gives (λ _. opened blocks.new) result
+        (blocks_after (op_of operator.now).op (op_of operator.now).args (opened blocks.old)) }
 {
     if blocks.step(operator.op, operator.args.as_slice())? {
         Ok(())

@@ -66,7 +66,8 @@ impl InstrSeqBuilder {
     pub fn instr(&mut self, operator: Operator) -> Result<&mut InstrSeqBuilder, AllocError>
         ensures same_reference { IfOk result (λ b. b.ghost_name ≡ self.entry.ghost_name) }
         ensures value { IfOk result (λ b. built b.now ≡ built self.old ++ op_of operator ∷ []) }
-        ensures locations { IfOk result (λ b. located b.now ≡ located self.old ++ location operator.loc ∷ []) }
+        ensures locations { IfOk result (λ b. located b.now ≡ located self.old
+            ++ location operator.loc ∷ []) }
     {
         self.push(operator)?;
         Ok(self)

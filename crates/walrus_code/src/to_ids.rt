@@ -33,7 +33,8 @@ pub fn name_operator(
     indices: &IndicesToIds,
     locals: &[LocalId],
 ) -> Result<Operator, IrError>
-    ensures named { Finds op_of result (named_op (ids_at indices.now) (locals_at locals.now) (from_raw.op_of (wire.op_of raw.now))) }
+    ensures named { Finds op_of result (named_op (ids_at indices.now) (locals_at locals.now)
+        (from_raw.op_of (wire.op_of raw.now))) }
     ensures located { IfOk result (λ operator. operator.loc ≡ loc) }
     ensures few_arguments { length (wire.args_of raw.now.args) < 2 → NeedsNoMemory result }
 {
@@ -52,7 +53,8 @@ fn name_args(
     indices: &IndicesToIds,
     locals: &[LocalId],
 ) -> Result<Args, IrError>
-    ensures named { Finds args_of result (named_args (ids_at indices.now) (locals_at locals.now) (map from_raw.arg_of args.now)) }
+    ensures named { Finds args_of result (named_args (ids_at indices.now) (locals_at locals.now)
+        (map from_raw.arg_of args.now)) }
     ensures few { length args.now < 2 → NeedsNoMemory result }
 {
     match args {
@@ -72,7 +74,8 @@ fn name_each(
     indices: &IndicesToIds,
     locals: &[LocalId],
 ) -> Result<Vec<Arg>, IrError>
-    ensures { Finds (λ found. map arg_of found.items) result (named_args (ids_at indices.now) (locals_at locals.now) (map from_raw.arg_of args.now)) }
+    ensures { Finds (λ found. map arg_of found.items) result
+        (named_args (ids_at indices.now) (locals_at locals.now) (map from_raw.arg_of args.now)) }
 {
     let mut found = Vec::with_capacity(alloc, args.len())?;
     for arg in args {
@@ -86,7 +89,8 @@ fn name_each(
 
 // An argument; none where an index in it isn't declared.
 fn name_arg(arg: &RawArg, indices: &IndicesToIds, locals: &[LocalId]) -> Option<Arg>
-    ensures { option_map arg_of result ≡ named_arg (ids_at indices.now) (locals_at locals.now) (from_raw.arg_of arg.now) }
+    ensures { option_map arg_of result ≡ named_arg (ids_at indices.now) (locals_at locals.now)
+        (from_raw.arg_of arg.now) }
 {
     match *arg {
         RawArg::Function(index) => Some(Arg::Function(indices.get_func(index)?)),

@@ -35,7 +35,8 @@ pub fn index_operator(
     indices: &IdsToIndices,
     locals: &LocalNumbers,
 ) -> Result<RawOperator, IrError>
-    ensures indexed { Indexes (λ raw. from_raw.op_of (wire.op_of raw)) result (op_of operator.now) (named_op (index_of indices.now) (local_index locals.now) (op_of operator.now)) }
+    ensures indexed { Indexes (λ raw. from_raw.op_of (wire.op_of raw)) result (op_of operator.now)
+        (named_op (index_of indices.now) (local_index locals.now) (op_of operator.now)) }
     ensures spelled { IfOk result (λ raw. All ArgStands (wire.args_of raw.args)) }
     ensures few_arguments { length (args_of operator.now.args) < 2 → NeedsNoMemory result }
 {
@@ -53,7 +54,9 @@ fn index_args(
     indices: &IdsToIndices,
     locals: &LocalNumbers,
 ) -> Result<RawArgs, IrError>
-    ensures indexed { IndexesIn (λ raw. map from_raw.arg_of (wire.args_of raw)) result (args_are_exact (map arg_of args.now)) (named_args (index_of indices.now) (local_index locals.now) (map arg_of args.now)) }
+    ensures indexed { IndexesIn (λ raw. map from_raw.arg_of (wire.args_of raw)) result
+        (args_are_exact (map arg_of args.now)) (named_args (index_of indices.now) (local_index locals.now)
+        (map arg_of args.now)) }
     ensures spelled { IfOk result (λ raw. All ArgStands (wire.args_of raw)) }
     ensures few { length args.now < 2 → NeedsNoMemory result }
 {
@@ -71,7 +74,9 @@ fn index_each(
     indices: &IdsToIndices,
     locals: &LocalNumbers,
 ) -> Result<Vec<RawArg>, IrError>
-    ensures indexed { IndexesIn (λ raw. map from_raw.arg_of raw.items) result (args_are_exact (map arg_of args.now)) (named_args (index_of indices.now) (local_index locals.now) (map arg_of args.now)) }
+    ensures indexed { IndexesIn (λ raw. map from_raw.arg_of raw.items) result
+        (args_are_exact (map arg_of args.now)) (named_args (index_of indices.now) (local_index locals.now)
+        (map arg_of args.now)) }
     ensures spelled { IfOk result (λ raw. All ArgStands raw.items) }
 {
     let mut raw = Vec::with_capacity(alloc, args.len())?;
@@ -83,7 +88,8 @@ fn index_each(
 
 // An argument.
 fn index_arg(arg: &Arg, indices: &IdsToIndices, locals: &LocalNumbers) -> Result<RawArg, IrError>
-    ensures indexed { IndexesIn from_raw.arg_of result (arg_is_exact (arg_of arg.now)) (named_arg (index_of indices.now) (local_index locals.now) (arg_of arg.now)) }
+    ensures indexed { IndexesIn from_raw.arg_of result (arg_is_exact (arg_of arg.now))
+        (named_arg (index_of indices.now) (local_index locals.now) (arg_of arg.now)) }
     ensures spelled { IfOk result ArgStands }
     ensures memory { NeedsNoMemory result }
 {
@@ -122,7 +128,8 @@ fn index_arg(arg: &Arg, indices: &IdsToIndices, locals: &LocalNumbers) -> Result
 
 // The type of a block.
 fn index_block(block: BlockType, indices: &IdsToIndices) -> Result<RawBlock, IrError>
-    ensures indexed { IndexesIn from_raw.block_of result (block_is_exact (block_of block)) (named_block (index_of indices.now) (block_of block)) }
+    ensures indexed { IndexesIn from_raw.block_of result (block_is_exact (block_of block))
+        (named_block (index_of indices.now) (block_of block)) }
     ensures spelled { IfOk result BlockStands }
     ensures memory { NeedsNoMemory result }
 {
@@ -137,7 +144,8 @@ fn index_block(block: BlockType, indices: &IdsToIndices) -> Result<RawBlock, IrE
 ///
 /// Refused as [`IrError::NoIndex`] where that type has no index, as [`IrError::NotWritable`] where it is exact.
 pub fn index_value(value: ValType, indices: &IdsToIndices) -> Result<RawVal, IrError>
-    ensures indexed { IndexesIn from_raw.val_of result (val_is_exact (val_type value)) (named_val (index_of indices.now) (val_type value)) }
+    ensures indexed { IndexesIn from_raw.val_of result (val_is_exact (val_type value))
+        (named_val (index_of indices.now) (val_type value)) }
     ensures spelled { IfOk result ValueStands }
     ensures memory { NeedsNoMemory result }
 {
@@ -156,7 +164,8 @@ pub fn index_value(value: ValType, indices: &IdsToIndices) -> Result<RawVal, IrE
 
 // A heap type.
 fn index_heap(heap: HeapType, indices: &IdsToIndices) -> Result<RawHeap, IrError>
-    ensures indexed { IndexesIn from_raw.heap_of result (heap_is_exact (heap_type heap)) (named_heap (index_of indices.now) (heap_type heap)) }
+    ensures indexed { IndexesIn from_raw.heap_of result (heap_is_exact (heap_type heap))
+        (named_heap (index_of indices.now) (heap_type heap)) }
     ensures spelled { IfOk result HeapStands }
     ensures memory { NeedsNoMemory result }
 {

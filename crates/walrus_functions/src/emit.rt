@@ -61,7 +61,8 @@ pub fn emit_body(
       parameters = map place function.now.args.items;
       ops = body_of function.now;
     }) (λ body. body.bytes.items) (λ body. map (λ p. p.1) body.places.items) (λ body. local_index body.locals) result }
-    ensures located { IfOk result (λ body. map (λ p. p.0) body.places.items ≡ locations function.now.operators.items) }
+    ensures located { IfOk result (λ body. map (λ p. p.0) body.places.items
+        ≡ locations function.now.operators.items) }
 {
     let fits = parameters_fit(alloc, function, types, module_locals)?;
     if !fits {
@@ -93,7 +94,10 @@ fn parameters_fit(
     types: &ModuleTypes,
     module_locals: &ModuleLocals,
 ) -> Result<bool, AllocError>
-    ensures { IfOk result (λ fit. IsTrue fit ↔ HasSignature (item_at (type_slots types.now) (place (function_type function.now))) (types_of (locals module_locals.now)) (map place function.now.args.items)) }
+    ensures { IfOk result
+        (λ fit. IsTrue fit
+        ↔ HasSignature (item_at (type_slots types.now) (place (function_type function.now)))
+        (types_of (locals module_locals.now)) (map place function.now.args.items)) }
 {
     if !types.contains(function.ty()) {
         return Ok(false);
@@ -113,7 +117,8 @@ fn find_declared(
     function: &LocalFunction,
     module_locals: &ModuleLocals,
 ) -> Result<Vec<LocalId>, IrError>
-    ensures { FindsDeclared (types_of (locals module_locals.now)) (locals_of (body_of function.now)) (map place function.now.args.items) (λ ids. map place ids.items) result }
+    ensures { FindsDeclared (types_of (locals module_locals.now)) (locals_of (body_of function.now))
+        (map place function.now.args.items) (λ ids. map place ids.items) result }
 {
     let Some(parameters) = distinct_places(alloc, function.args.as_slice())? else {
         return Err(IrError::NotWritable);
@@ -139,9 +144,11 @@ fn declare(
     module_locals: &ModuleLocals,
     indices: &IdsToIndices,
 ) -> Result<Vec<Declaration>, IrError>
-    requires there { All (λ id. IsSome (item_at (types_of (locals module_locals.now)) (place id))) declared.now }
+    requires there { All (λ id. IsSome (item_at (types_of (locals module_locals.now)) (place id)))
+        declared.now }
     requires few { length declared.now < 2 ^ 32 }
-    ensures { DeclaresLocals (index_of indices.now) (types_of (locals module_locals.now)) (map place declared.now) (λ ds. declarations_of ds.items) result }
+    ensures { DeclaresLocals (index_of indices.now) (types_of (locals module_locals.now))
+        (map place declared.now) (λ ds. declarations_of ds.items) result }
 {
     let Some(held) = types_at(alloc, module_locals, declared)? else {
         unreachable!()
@@ -166,7 +173,9 @@ fn write_body(
     scope: &Scope,
 ) -> Result<EmittedBody, IrError>
     requires { length declarations.now < 2 ^ 32 }
-    ensures written { WritesBehind (index_of scope.now.indices.now) (local_index locals) scope.now.features.now (ops_of operators.now) (declarations_of declarations.now) (λ body. body.bytes.items) (λ body. map (λ p. p.1) body.places.items) result }
+    ensures written { WritesBehind (index_of scope.now.indices.now)
+        (local_index locals) scope.now.features.now (ops_of operators.now) (declarations_of declarations.now)
+        (λ body. body.bytes.items) (λ body. map (λ p. p.1) body.places.items) result }
     ensures located { IfOk result (λ body. (map (λ p. p.0) body.places.items ≡ locations operators.now)) }
     ensures numbered { IfOk result (λ body. body.locals ≡ locals) }
 {

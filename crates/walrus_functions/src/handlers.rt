@@ -60,7 +60,8 @@ impl<'a> Signatures<'a> {
 
     // What a block of the type gives back.
     fn block_results<'b>(&'b self, block: &'b BlockType) -> &'b [ValType]
-        ensures { map val_type result.now ≡ block_results (types_in self.now) (tags_in self.now) (block_of block.now) }
+        ensures { map val_type result.now ≡ block_results (types_in self.now) (tags_in self.now)
+            (block_of block.now) }
     {
         match block {
             BlockType::NoResult => &[],
@@ -71,7 +72,8 @@ impl<'a> Signatures<'a> {
 
     // The type of the tag that a `catch` with these arguments names.
     fn tag_type(&self, args: &[Arg]) -> Option<TypeId>
-        ensures { option_map place result ≡ option_and_then (tags_in self.now) (first_place (map arg_of args.now)) }
+        ensures { option_map place result ≡ option_and_then (tags_in self.now)
+            (first_place (map arg_of args.now)) }
     {
         let tag = first_place(args)?;
         self.tag_types.get(tag).copied()
@@ -80,7 +82,8 @@ impl<'a> Signatures<'a> {
     // The parameters of the tag that a `catch` with these arguments names.
     #[tactic(auto, using(crate::proofs::HandlerLemmas::caught_is))]
     fn caught(&self, args: &[Arg]) -> &[ValType]
-        ensures { map val_type result.now ≡ caught_params (types_in self.now) (tags_in self.now) (map arg_of args.now) }
+        ensures { map val_type result.now ≡ caught_params (types_in self.now) (tags_in self.now)
+            (map arg_of args.now) }
     {
         match self.tag_type(args) {
             Some(id) => self.params(id),
@@ -95,7 +98,9 @@ impl<'a> Signatures<'a> {
         block: Option<BlockType>,
         operator: &Operator,
     ) -> Result<Option<FunctionType>, AllocError>
-        ensures { IfOk result (λ needed. map function_type (option_to_list needed) ≡ handler_in (types_in self.now) (tags_in self.now) (option_map block_of block) (op_of operator.now)) }
+        ensures { IfOk result (λ needed. map function_type (option_to_list needed)
+            ≡ handler_in (types_in self.now) (tags_in self.now) (option_map block_of block)
+            (op_of operator.now)) }
     {
         let Some(block) = block else {
             return Ok(None);
@@ -142,7 +147,8 @@ fn handler_type(
     params: &[ValType],
     results: &[ValType],
 ) -> Result<Option<FunctionType>, AllocError>
-    ensures { IfOk result (λ needed. map function_type (option_to_list needed) ≡ catch_type (map val_type params.now) (map val_type results.now)) }
+    ensures { IfOk result (λ needed. map function_type (option_to_list needed)
+        ≡ catch_type (map val_type params.now) (map val_type results.now)) }
 {
     if params.is_empty() && results.len() <= 1 {
         return Ok(None);
@@ -169,7 +175,8 @@ fn add_type(
     needed: &FunctionType,
     ids: &mut Vec<TypeId>,
 ) -> Result<(), AllocError>
-    ensures added { IfOk result (λ _. (p : ℕ) × ((map place ids.new.items ≡ map place ids.old.items ++ p ∷ []) × AddsTypes (function_type needed.now ∷ []) (slots_of types.old) (slots_of types.new) (p ∷ []))) }
+    ensures added { IfOk result (λ _. (p : ℕ) × ((map place ids.new.items ≡ map place ids.old.items ++ p ∷ [])
+        × AddsTypes (function_type needed.now ∷ []) (slots_of types.old) (slots_of types.new) (p ∷ []))) }
     ensures stays { StaysInFront (type_slots types.old) (type_slots types.new) }
 {
     let id = types.add(needed.params(), needed.results())?;
@@ -194,7 +201,11 @@ fn add_needed(
     placed: &Placed,
     ids: &mut Vec<TypeId>,
 ) -> Result<(), AllocError>
-    ensures added { IfOk result (λ _. (ps : List ℕ) × ((map place ids.new.items ≡ map place ids.old.items ++ ps) × AddsTypes (handler_in (types_below placed.now.bound (type_slots types.old)) (tag_places placed.now.tag_types.now) (option_map block_of placed.now.block) (op_of placed.now.operator.now)) (slots_of types.old) (slots_of types.new) ps)) }
+    ensures added { IfOk result
+        (λ _. (ps : List ℕ) × ((map place ids.new.items ≡ map place ids.old.items ++ ps)
+        × AddsTypes (handler_in (types_below placed.now.bound (type_slots types.old))
+        (tag_places placed.now.tag_types.now) (option_map block_of placed.now.block)
+        (op_of placed.now.operator.now)) (slots_of types.old) (slots_of types.new) ps)) }
     ensures stays { StaysInFront (type_slots types.old) (type_slots types.new) }
 {
     let signatures = Signatures {
@@ -215,7 +226,9 @@ pub(crate) fn add_handler_types(
     tag_types: &[TypeId],
     operators: &[Operator],
 ) -> Result<Vec<TypeId>, AllocError>
-    ensures added { IfOk result (λ ids. AddsTypes (handlers_of (item_at (type_slots types.old)) (tag_places tag_types.now) (ops_of operators.now)) (slots_of types.old) (slots_of types.new) (map place ids.items)) }
+    ensures added { IfOk result
+        (λ ids. AddsTypes (handlers_of (item_at (type_slots types.old)) (tag_places tag_types.now)
+        (ops_of operators.now)) (slots_of types.old) (slots_of types.new) (map place ids.items)) }
     ensures stays { StaysInFront (type_slots types.old) (type_slots types.new) }
 {
     let bound = count_places(alloc, types)?;

@@ -147,7 +147,8 @@ impl Written for RawFieldType {
 
 /// Writes what a function takes and what it gives.
 fn write_signature(to: &mut Vec<u8>, func: &RawFuncType) -> Result<(), WireError>
-    ensures adds { Adds result to.old.items to.new.items (func_type_bytes (func_type func.now)) (FuncTypeFits (func_type func.now)) }
+    ensures adds { Adds result to.old.items to.new.items (func_type_bytes (func_type func.now))
+        (FuncTypeFits (func_type func.now)) }
     ensures room { TakesRoom result to.old to.new (func_type_bytes (func_type func.now)) }
     ensures keeps { Keeps to.old.items to.new.items }
 {
@@ -157,7 +158,8 @@ fn write_signature(to: &mut Vec<u8>, func: &RawFuncType) -> Result<(), WireError
 
 /// Writes a composite type.
 pub(crate) fn write_composite(to: &mut Vec<u8>, composite: &RawComp) -> Result<(), WireError>
-    ensures adds { Adds result to.old.items to.new.items (comp_bytes (comp composite.now)) (CompFits (comp composite.now)) }
+    ensures adds { Adds result to.old.items to.new.items (comp_bytes (comp composite.now))
+        (CompFits (comp composite.now)) }
     ensures room { TakesRoom result to.old to.new (comp_bytes (comp composite.now)) }
     ensures keeps { Keeps to.old.items to.new.items }
 {

@@ -56,7 +56,8 @@ fn read_f64_const(bytes: &[u8]) -> Result<(RawConst, &[u8]), WireError>
 
 /// What stands behind the bytes of `array.new_fixed`: a type, and how many elements.
 fn read_array_new_fixed(bytes: &[u8]) -> Result<(RawConst, &[u8]), WireError>
-    ensures { Gives (λ r. (r.0, r.1.now)) result (at (Made (λ x. ops.ArrayNewFixed x.0 x.1) (U32 then U32)) bytes.now) }
+    ensures { Gives (λ r. (r.0, r.1.now)) result
+        (at (Made (λ x. ops.ArrayNewFixed x.0 x.1) (U32 then U32)) bytes.now) }
 {
     let (ty, after) = read_u32(bytes)?;
     let (count, rest) = read_u32(after)?;
@@ -186,7 +187,8 @@ fn take_expressions(
     count: u32,
     bytes: &[u8],
 ) -> Result<(Vec<Vec<RawConst>>, &[u8]), WireError>
-    ensures { Gives (λ r. (map expression r.0.items, r.1.now)) result (at (Row expression_form count) bytes.now) }
+    ensures { Gives (λ r. (map expression r.0.items, r.1.now)) result
+        (at (Row expression_form count) bytes.now) }
 {
     let mut expressions = Vec::new(alloc);
     let mut rest = bytes;
@@ -206,7 +208,8 @@ pub fn read_expressions(
     alloc: Global,
     bytes: &[u8],
 ) -> Result<(Vec<Vec<RawConst>>, &[u8]), WireError>
-    ensures { Gives (λ r. (map expression r.0.items, r.1.now)) result (at (Vector expression_form) bytes.now) }
+    ensures { Gives (λ r. (map expression r.0.items, r.1.now)) result
+        (at (Vector expression_form) bytes.now) }
 {
     let (count, rest) = read_u32(bytes)?;
     take_expressions(alloc, count, rest)

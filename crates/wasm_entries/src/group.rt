@@ -140,7 +140,8 @@ impl Written for RawSub {
 ///
 /// [`WireError::TooLarge`] where one of its counts is 2^32 or more.
 pub fn write_group(to: &mut Vec<u8>, types: &RawGroup) -> Result<(), WireError>
-    ensures adds { Adds result to.old.items to.new.items (group_bytes (group types.now)) (GroupFits (group types.now)) }
+    ensures adds { Adds result to.old.items to.new.items (group_bytes (group types.now))
+        (GroupFits (group types.now)) }
     ensures room { TakesRoom result to.old to.new (group_bytes (group types.now)) }
     ensures keeps { Keeps to.old.items to.new.items }
 {
@@ -153,7 +154,8 @@ pub fn write_group(to: &mut Vec<u8>, types: &RawGroup) -> Result<(), WireError>
 
 /// Writes groups one after another.
 fn write_each(to: &mut Vec<u8>, groups: &[RawGroup]) -> Result<(), WireError>
-    ensures adds { Adds result to.old.items to.new.items (row_bytes (λ g. group_bytes (group g)) groups.now) (EachFits (λ g. GroupFits (group g)) groups.now) }
+    ensures adds { Adds result to.old.items to.new.items (row_bytes (λ g. group_bytes (group g)) groups.now)
+        (EachFits (λ g. GroupFits (group g)) groups.now) }
     ensures room { TakesRoom result to.old to.new (row_bytes (λ g. group_bytes (group g)) groups.now) }
     ensures keeps { Keeps to.old.items to.new.items }
 {
@@ -168,7 +170,8 @@ fn write_each(to: &mut Vec<u8>, groups: &[RawGroup]) -> Result<(), WireError>
 ///
 /// [`WireError::TooLarge`] where there are 2^32 groups or more, or one of them is too large.
 pub fn write_groups(to: &mut Vec<u8>, groups: &[RawGroup]) -> Result<(), WireError>
-    ensures adds { Adds result to.old.items to.new.items (vector_bytes group_bytes (map group groups.now)) (FitsVector GroupFits (map group groups.now)) }
+    ensures adds { Adds result to.old.items to.new.items (vector_bytes group_bytes (map group groups.now))
+        (FitsVector GroupFits (map group groups.now)) }
     ensures room { TakesRoom result to.old to.new (vector_bytes group_bytes (map group groups.now)) }
     ensures keeps { Keeps to.old.items to.new.items }
 {

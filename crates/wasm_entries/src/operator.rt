@@ -64,8 +64,10 @@ fn write_typed(to: &mut Vec<u8>, byte: u8, ty: u32) -> Result<(), WireError>
 
 /// Writes `array.new_fixed`.
 fn write_array_new_fixed(to: &mut Vec<u8>, ty: u32, count: u32) -> Result<(), WireError>
-    ensures adds { Adds result to.old.items to.new.items (PREFIX_FB ∷ ARRAY_NEW_FIXED ∷ (number_bytes ty ++ number_bytes count)) (Unit {0}) }
-    ensures room { TakesRoom result to.old to.new (PREFIX_FB ∷ ARRAY_NEW_FIXED ∷ (number_bytes ty ++ number_bytes count)) }
+    ensures adds { Adds result to.old.items to.new.items
+        (PREFIX_FB ∷ ARRAY_NEW_FIXED ∷ (number_bytes ty ++ number_bytes count)) (Unit {0}) }
+    ensures room { TakesRoom result to.old to.new
+        (PREFIX_FB ∷ ARRAY_NEW_FIXED ∷ (number_bytes ty ++ number_bytes count)) }
     ensures keeps { Keeps to.old.items to.new.items }
 {
     write_typed(to, ARRAY_NEW_FIXED as u8, ty)?;
@@ -200,8 +202,10 @@ pub fn write_expression(to: &mut Vec<u8>, operators: &[RawConst]) -> Result<(), 
 
 /// Writes expressions one after another.
 fn write_each(to: &mut Vec<u8>, expressions: &[Vec<RawConst>]) -> Result<(), WireError>
-    ensures adds { Adds result to.old.items to.new.items (row_bytes expression_bytes (map expression expressions.now)) (Unit {0}) }
-    ensures room { TakesRoom result to.old to.new (row_bytes expression_bytes (map expression expressions.now)) }
+    ensures adds { Adds result to.old.items to.new.items
+        (row_bytes expression_bytes (map expression expressions.now)) (Unit {0}) }
+    ensures room { TakesRoom result to.old to.new
+        (row_bytes expression_bytes (map expression expressions.now)) }
     ensures keeps { Keeps to.old.items to.new.items }
 {
     'expressions: for listed in expressions {
@@ -217,8 +221,10 @@ fn write_each(to: &mut Vec<u8>, expressions: &[Vec<RawConst>]) -> Result<(), Wir
 ///
 /// `TooLarge` exactly where there are 2^32 expressions or more, and `Memory`.
 pub fn write_expressions(to: &mut Vec<u8>, expressions: &[Vec<RawConst>]) -> Result<(), WireError>
-    ensures adds { Adds result to.old.items to.new.items (vector_bytes expression_bytes (map expression expressions.now)) (FitsLength expressions.now) }
-    ensures room { TakesRoom result to.old to.new (vector_bytes expression_bytes (map expression expressions.now)) }
+    ensures adds { Adds result to.old.items to.new.items
+        (vector_bytes expression_bytes (map expression expressions.now)) (FitsLength expressions.now) }
+    ensures room { TakesRoom result to.old to.new
+        (vector_bytes expression_bytes (map expression expressions.now)) }
     ensures keeps { Keeps to.old.items to.new.items }
 {
     let Ok(count) = u32::try_from(expressions.len()) else {

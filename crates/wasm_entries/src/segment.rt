@@ -169,7 +169,8 @@ impl<'a> Element<'a> for RawData<'a> {
 
 /// Writes the count of the indices and each of them.
 fn write_indices(to: &mut Vec<u8>, indices: &[u32]) -> Result<(), WireError>
-    ensures adds { Adds result to.old.items to.new.items (vector_bytes number_bytes indices.now) (FitsLength indices.now) }
+    ensures adds { Adds result to.old.items to.new.items (vector_bytes number_bytes indices.now)
+        (FitsLength indices.now) }
     ensures room { TakesRoom result to.old to.new (vector_bytes number_bytes indices.now) }
     ensures keeps { Keeps to.old.items to.new.items }
 {
@@ -182,8 +183,10 @@ fn write_functions(
     mode: &RawElementMode,
     functions: &[u32],
 ) -> Result<(), WireError>
-    ensures adds { Adds result to.old.items to.new.items (element_spelled (element_mode mode.now) (Functions functions.now)) (FitsLength functions.now) }
-    ensures room { TakesRoom result to.old to.new (element_spelled (element_mode mode.now) (Functions functions.now)) }
+    ensures adds { Adds result to.old.items to.new.items
+        (element_spelled (element_mode mode.now) (Functions functions.now)) (FitsLength functions.now) }
+    ensures room { TakesRoom result to.old to.new
+        (element_spelled (element_mode mode.now) (Functions functions.now)) }
     ensures keeps { Keeps to.old.items to.new.items }
 {
     match mode {
@@ -216,8 +219,11 @@ fn write_typed(
     ty: &RawRef,
     expressions: &[Vec<RawConst>],
 ) -> Result<(), WireError>
-    ensures adds { Adds result to.old.items to.new.items (element_spelled (element_mode mode.now) (Expressions ty.now (map expression expressions.now))) (FitsLength expressions.now) }
-    ensures room { TakesRoom result to.old to.new (element_spelled (element_mode mode.now) (Expressions ty.now (map expression expressions.now))) }
+    ensures adds { Adds result to.old.items to.new.items
+        (element_spelled (element_mode mode.now) (Expressions ty.now (map expression expressions.now)))
+        (FitsLength expressions.now) }
+    ensures room { TakesRoom result to.old to.new
+        (element_spelled (element_mode mode.now) (Expressions ty.now (map expression expressions.now))) }
     ensures keeps { Keeps to.old.items to.new.items }
 {
     match mode {
