@@ -42,7 +42,7 @@ fn is_sequence(alloc: Global) -> bool {
     match build(alloc, &mut sequence) {
         Ok(()) => {
             sequence.len() == 6
-                && matches!(sequence.operators(), [first, ..] if is(first, 0x00, &[]))
+                && matches!(sequence.operators(), [first, ..] if is(first, UNREACHABLE, &[]))
         }
         Err(_) => false,
     }

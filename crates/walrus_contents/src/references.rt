@@ -17,8 +17,7 @@ use walrus_items::{
     Arg, ExportItem, FunctionKey, FunctionKind, IdHashSet, ModuleExports, ModuleFunctions,
     Operator, Result,
 };
-
-const REF_FUNC: u32 = 0xD2;
+use wasm_opcodes::one_byte::REF_FUNC;
 
 // The functions that are exported.
 fn exported_functions(alloc: Global, all: &ModuleExports) -> Result<IdHashSet<FunctionKey>>
