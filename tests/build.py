@@ -2,8 +2,8 @@
 """What tests/build.sh does. `rt` knows by their content what has changed; this adds the lanes and the progress.
 
 Crates are proved side by side by `rt all check`, as many as there are processors and 2 GB of memory each for (where that is for one or
-two, `rt` chooses itself), and the crate itself is built by `rt run` or `rt lib` behind them. tests/build-times.txt, the processor seconds
-of each crate, serves to guess the time left.
+two, `rt` chooses itself), and the crate itself is built by `rt run` or `rt lib` behind them. tests/build-times.txt, the seconds that each
+crate takes, serves to guess the time left. What was proved when a run is interrupted is kept, and the next one goes on from there.
 """
 import functools
 import os
@@ -50,24 +50,38 @@ class Progress:
     """Which of the crates are still to be proved, told every few seconds until it is done."""
 
     def __init__(self, below):
-        self.below, self.left, self.begin = below, set(below), time.monotonic()
+        self.below, self.left, self.begin, self.begun = below, set(below), time.monotonic(), {}
         kilobytes = int(table(pathlib.Path("/proc/meminfo"))["MemAvailable"][0])
         self.lanes = max(1, min(len(os.sched_getaffinity(0)), kilobytes // (2 << 20)))
         self.seconds = table(TOP / "tests" / "build-times.txt")
         threading.Thread(target=self.tell, daemon=True).start()
 
+    def at_work(self):
+        """The crates whose turn it is: of those that stand on none that is left, the first ones."""
+        ready = [crate for crate in self.below if crate in self.left and not self.below[crate] & self.left]
+        for crate in ready[: self.lanes]:
+            self.begun.setdefault(crate, time.monotonic())
+        return ready[: self.lanes]
+
+    def seconds_left(self, crate):
+        spent = time.monotonic() - self.begun.get(crate, time.monotonic())
+        return max(0.0, float(self.seconds.get(crate, [60])[0]) - spent)
+
     def minutes_left(self):
-        # the longest chain of crates waits for itself, so that some two processors are at work at a time
-        seconds = sum(float(self.seconds.get(crate, [60])[0]) for crate in self.left)
-        return seconds / 60 / min(2, self.lanes)
+        """What the longest chain of crates takes, or all of them side by side, where that is longer."""
+        chains, left = {}, self.left.copy()
+        for crate in self.below:
+            if crate in left:
+                above = max((chains[other] for other in self.below[crate] & chains.keys()), default=0)
+                chains[crate] = self.seconds_left(crate) + above
+        return max(max(chains.values(), default=0), sum(map(self.seconds_left, left)) / self.lanes) / 60
 
     def tell(self):
         while True:
             time.sleep(TURN)
-            ready = [crate for crate in self.below if crate in self.left and not self.below[crate] & self.left]
-            minutes = (time.monotonic() - self.begin) / 60
+            work, minutes = self.at_work(), (time.monotonic() - self.begin) / 60
             say(f"{len(self.below) - len(self.left)} of {len(self.below)} crates after {minutes:.0f} min; at work on"
-                f" {', '.join(ready[: self.lanes]) or 'the program'}; about {self.minutes_left():.0f} min more")
+                f" {', '.join(work) or 'what is run'}; about {self.minutes_left():.0f} min more")
 
 
 def prove(crate, progress, log):
@@ -100,11 +114,16 @@ def main():
     if made.exists() and made.stat().st_mtime >= newest_source(crates):
         return
     progress, begin = Progress({it: all_below(it) for it in NAMED if it in crates}), time.time()
-    say(f"{len(crates)} crates are proved where they aren't yet, in about {progress.minutes_left():.0f} min at most")
+    say(f"{len(crates)} crate{'s' * (len(crates) > 1)} to be proved where not proved yet; from nothing that takes about"
+        f" {progress.minutes_left():.0f} min, where nothing else is at work")
     with tempfile.NamedTemporaryFile("w", buffering=1, prefix=f"build-{crate}-", delete=False) as log:
-        is_proved = prove(crate, progress, log)
-        if is_proved:
-            build(crate, is_program, log)
+        try:
+            is_proved = prove(crate, progress, log)
+            if is_proved:
+                build(crate, is_program, log)
+        except KeyboardInterrupt:
+            os.remove(log.name)
+            sys.exit("build: interrupted; what is proved is kept, and the next call goes on from there")
     # rt takes a stamp away before it builds anew, so an older program has none
     stamp = made.with_name(f"{crate}.stamp") if is_program else made
     if not is_proved or not stamp.exists():

@@ -2,11 +2,12 @@
 """Checks the form of the repository, with no prover, in a few seconds. `.ci/run` begins with it.
 
     tests/form.py           prints what is wrong, a line each, and ends with status 1 where there is any
-    tests/form.py --all     also counts, crate by crate, what is not refused yet: wide clauses and bare hexadecimal numbers
+    tests/form.py --all     also counts, crate by crate, what is not refused yet: wide clauses
 
-Refused are: a file of src that doesn't begin with `//!`, or has more than 800 lines; a README.md of more than 100 lines, or
-with one of more than 100 columns; more wrong edits in the gate than its time allows; and a wrong edit, of the gate or of
-tests/edits, whose old text doesn't stand exactly once in its file.
+Refused are: a file of src that doesn't begin with `//!`, or has more than 800 lines; a bare hexadecimal number in src or specs
+outside the files that name such numbers; a README.md of more than 100 lines, or with one of more than 100 columns; more wrong
+edits in the gate than its time allows; and a wrong edit, of the gate or of tests/edits, whose old text doesn't stand exactly
+once in its file.
 """
 import collections
 import pathlib
@@ -25,6 +26,24 @@ MOST_CRATES_WITH_EDITS = 12
 UPPER_CRATES = ("walrus_module", "walrus")
 MOST_EDITS_OF_THE_UPPER_CRATES = 16
 WIDEST_CLAUSE = 110
+# Where hexadecimal numbers stand bare; elsewhere code and definitions cite their names. A name that ends in / is a folder.
+FILES_OF_NUMBERS = (
+    # the modules of names
+    "wasm_opcodes/src/",
+    # the rows of the standard's table of operators, from one number to another
+    "wasm_operators/specs/Table.antt",
+    # the eight bytes that begin a module, where they are said, read and written
+    "wasm_frames/specs/Frames.antt",
+    "wasm_frames/src/read.rt",
+    "wasm_writer/src/writer.rt",
+    # counts of pages, no bytes
+    "wasm_wire/src/rules/limits.rt",
+    # whole modules, byte by byte, as examples
+    "walrus_model/specs/Examples.antt",
+    "walrus_rules/specs/Examples.antt",
+    # bytes and patterns of bits that tests write and read back
+    "walrus_parts_tests/src/",
+)
 
 
 def lines_of(path):
@@ -46,6 +65,20 @@ def wrong_in_sources():
             yield f"{name_of(path)}: the first line is no //! line"
         if len(lines) - 1 > MOST_LINES_OF_A_FILE:
             yield f"{name_of(path)}: more than {MOST_LINES_OF_A_FILE} lines"
+
+
+def bare_numbers(path):
+    """The lines of a file with a hexadecimal number outside comments."""
+    for number, line in enumerate(lines_of(path), 1):
+        if re.search(r"\b0x[0-9A-Fa-f_]+", re.sub(r"(//|--).*", "", line)):
+            yield number
+
+
+def wrong_in_numbers():
+    for path in sorted([*sources(), *CRATES.glob("*/specs/**/*.antt")]):
+        if not path.relative_to(CRATES).as_posix().startswith(FILES_OF_NUMBERS):
+            for number in bare_numbers(path):
+                yield f"{name_of(path)}:{number}: a hexadecimal number without a name"
 
 
 def wrong_in_readme():
@@ -117,25 +150,13 @@ def print_wide_clauses():
     print_counts(f"clauses of more than {WIDEST_CLAUSE} columns", +counts)
 
 
-def print_bare_numbers():
-    """Lines with a hexadecimal number, in code and definitions of the crates above `wasm_operators`."""
-    counts = collections.Counter()
-    for path in sorted([*CRATES.glob("walrus_*/src/**/*.rt"), *CRATES.glob("walrus_*/specs/*.antt")]):
-        crate = path.relative_to(CRATES).parts[0]
-        if not crate.endswith("_tests") and path.stem != "Examples":
-            code = (re.sub(r"(//|--).*", "", line) for line in lines_of(path))
-            counts[crate] += sum(bool(re.search(r"\b0x[0-9A-Fa-f_]+", line)) for line in code)
-    print_counts("lines with a bare hexadecimal number above wasm_operators", +counts)
-
-
 def main():
-    checks = (wrong_in_sources, wrong_in_readme, wrong_in_gate, wrong_in_edits)
+    checks = (wrong_in_sources, wrong_in_numbers, wrong_in_readme, wrong_in_gate, wrong_in_edits)
     wrong = [line for check in checks for line in check()]
     for line in wrong:
         print(line)
     if "--all" in sys.argv[1:]:
         print_wide_clauses()
-        print_bare_numbers()
     print(f"tests/form.py: {len(wrong)} things are wrong" if wrong else "tests/form.py: the form is right")
     sys.exit(1 if wrong else 0)
 

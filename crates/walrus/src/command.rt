@@ -56,11 +56,14 @@ pub fn command<R: Source, W: Sink, E: Sink>(
     errors: &mut E,
 ) -> u8
     ensures unknown { are_known words.now ≡ false → (result ≡ 2) × Keeps (R.left input.old) (R.left input.new)
-        × (R.read_failures input.new ≡ R.read_failures input.old) × Keeps (W.held output.old) (W.held output.new)
+        × (R.read_failures input.new ≡ R.read_failures input.old) × Keeps (W.held output.old)
+        (W.held output.new)
         × (W.write_failures output.new ≡ W.write_failures output.old)
-        × Tells (E.held errors.old) (E.held errors.new) (E.write_failures errors.old) (E.write_failures errors.new) (line (codes "unknown word")) }
+        × Tells (E.held errors.old) (E.held errors.new) (E.write_failures errors.old)
+        (E.write_failures errors.new) (line (codes "unknown word")) }
     ensures known { are_known words.now ≡ true → (result ≡ 0) ⊎ (result ≡ 1) }
-    ensures passed { result ≡ 0 → Writes (config_of (flags_for words.now)) (R.left input.old) (R.left input.new) (W.held output.old) (W.held output.new) }
+    ensures passed { result ≡ 0 → Writes (config_of (flags_for words.now)) (R.left input.old)
+        (R.left input.new) (W.held output.old) (W.held output.new) }
     ensures silent { result ≡ 0 → Keeps (E.held errors.old) (E.held errors.new) }
 {
     if !all_known(words) {

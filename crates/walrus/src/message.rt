@@ -59,7 +59,8 @@ fn error_text(error: &Error) -> &str
 /// is the same.
 pub fn refuse<E: Sink>(errors: &mut E, text: &str) -> u8
     ensures status { result ≡ 1 }
-    ensures told { Tells (E.held errors.old) (E.held errors.new) (E.write_failures errors.old) (E.write_failures errors.new) (line text.now) }
+    ensures told { Tells (E.held errors.old) (E.held errors.new) (E.write_failures errors.old)
+        (E.write_failures errors.new) (line text.now) }
 {
     let _told = write_line(errors, text);
     1

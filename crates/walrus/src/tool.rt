@@ -30,7 +30,8 @@ pub fn run<R: Source, W: Sink>(
     sink: &mut W,
     config: &ModuleConfig,
 ) -> Result<(), ToolError>
-    ensures headline { Runs (config_of (flags config.now)) (R.left source.old) (R.left source.new) (W.held sink.old) (W.held sink.new) result }
+    ensures headline { Runs (config_of (flags config.now)) (R.left source.old) (R.left source.new)
+        (W.held sink.old) (W.held sink.new) result }
     ensures reads { CountsReads (R.read_failures source.old) (R.read_failures source.new) result }
     ensures writes { CountsWrites (W.write_failures sink.old) (W.write_failures sink.new) result }
 {

@@ -1,6 +1,7 @@
 -- How blocks open and close in a body ("Structure > Instructions > Control Instructions", "Binary Format > Instructions"), with the
 -- blocks of legacy exceptions.
 use Rattle.std.specs.Prelude.{ℕ, ◌-◌, Bool, true, false, ◌||◌, List, [], ◌∷◌, length, Option, Some, None, nat_eq, nat_lt, if◌then◌else◌}
+use Rattle.wasm_opcodes.specs.declared.one_byte.TheConstants.{BLOCK, LOOP, IF, ELSE, TRY, CATCH, END, DELEGATE, CATCH_ALL, TRY_TABLE}
 use Rattle.std.specs.List.{list_all}
 use Rattle.walrus_types.specs.Operators.{Arg, Index, Label, Local, Number, Count, Byte, S32, S64, Bits32, Bits64, Value, Heap, Block, Access, Op, NoResult, OneResult, OfType}
 use Rattle.walrus_bodies.specs.declared.blocks.Opened.{Opened}
@@ -15,7 +16,7 @@ is_none_open (block ∷ around) = false
 
 -- block, loop, try_table
 abbrev pub opens_plain : ℕ → Bool
-opens_plain op = nat_eq op 0x02 || nat_eq op 0x03 || nat_eq op 0x1F
+opens_plain op = nat_eq op BLOCK || nat_eq op LOOP || nat_eq op TRY_TABLE
 
 -- else stands directly in an if that has none yet
 abbrev pub behind_else : List Opened → Option (List Opened)
@@ -58,18 +59,18 @@ behind_end (block ∷ around) = Some around
 abbrev pub blocks_behind : ℕ → List Opened → Option (List Opened)
 blocks_behind op blocks =
     if opens_plain op then Some (Plain ∷ blocks)
-    else if nat_eq op 0x04 then Some (If ∷ blocks)
-    else if nat_eq op 0x06 then Some (Try ∷ blocks)
-    else if nat_eq op 0x05 then behind_else blocks
-    else if nat_eq op 0x07 then behind_catch blocks
-    else if nat_eq op 0x19 then behind_catch_all blocks
-    else if nat_eq op 0x18 then behind_delegate blocks
-    else if nat_eq op 0x0B then behind_end blocks
+    else if nat_eq op IF then Some (If ∷ blocks)
+    else if nat_eq op TRY then Some (Try ∷ blocks)
+    else if nat_eq op ELSE then behind_else blocks
+    else if nat_eq op CATCH then behind_catch blocks
+    else if nat_eq op CATCH_ALL then behind_catch_all blocks
+    else if nat_eq op DELEGATE then behind_delegate blocks
+    else if nat_eq op END then behind_end blocks
     else Some blocks
 
 -- how many blocks a label can mean: those open where the operator stands; delegate closes its own first
 abbrev pub blocks_meant : ℕ → List Opened → ℕ
-blocks_meant op blocks = if nat_eq op 0x18 then length blocks - 1 else length blocks
+blocks_meant op blocks = if nat_eq op DELEGATE then length blocks - 1 else length blocks
 
 -- an argument's label means an open block
 abbrev pub label_below : ℕ → Arg → Bool

@@ -7,6 +7,9 @@ ghost use Rattle.walrus_bodies.specs.OpenBlocks.{opened, Steps};
 
 use std::alloc::{AllocError, Global};
 use walrus_code::Arg;
+use wasm_opcodes::one_byte::{
+    BLOCK, CATCH, CATCH_ALL, DELEGATE, ELSE, END, IF, LOOP, TRY, TRY_TABLE,
+};
 
 /// An open block, by what may still stand directly in it.
 #[derive(Clone, Copy, Debug, PartialEq, Eq)]
@@ -59,7 +62,7 @@ impl OpenBlocks {
     fn meant(&self, op: u32) -> usize
         ensures { result ≡ blocks_meant op (opened self.now) }
     {
-        if op == 0x18 {
+        if op == DELEGATE {
             self.blocks.len().saturating_sub(1)
         } else {
             self.blocks.len()
@@ -71,14 +74,14 @@ impl OpenBlocks {
         ensures { Steps (blocks_behind op (opened self.old)) (opened self.new) result }
     {
         match op {
-            0x02 | 0x03 | 0x1F => self.open(Opened::Plain),
-            0x04 => self.open(Opened::If),
-            0x06 => self.open(Opened::Try),
-            0x05 => self.take_else(),
-            0x07 => self.take_catch(),
-            0x19 => self.take_catch_all(),
-            0x18 => Ok(self.take_delegate()),
-            0x0B => Ok(self.take_end()),
+            BLOCK | LOOP | TRY_TABLE => self.open(Opened::Plain),
+            IF => self.open(Opened::If),
+            TRY => self.open(Opened::Try),
+            ELSE => self.take_else(),
+            CATCH => self.take_catch(),
+            CATCH_ALL => self.take_catch_all(),
+            DELEGATE => Ok(self.take_delegate()),
+            END => Ok(self.take_end()),
             _ => Ok(true),
         }
     }
@@ -93,7 +96,8 @@ impl OpenBlocks {
 
     // The innermost block, which closes.
     fn close(&mut self) -> Option<Opened>
-        ensures { MatchOption result (opened self.old ≡ []) (λ block. opened self.old ≡ block ∷ opened self.new) }
+        ensures { MatchOption result (opened self.old ≡ []) (λ block. opened self.old
+            ≡ block ∷ opened self.new) }
     {
         self.blocks.pop()
     }

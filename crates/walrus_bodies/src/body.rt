@@ -47,8 +47,10 @@ pub fn read_body_over<T: FunctionTypes, L: Fn(&usize) -> InstrLocId>(
     locate: &L,
 ) -> Result<ReadBody, IrError>
     requires { L.IsAlwaysCallable locate.now }
-    ensures read { ReadsBody (context (ids_at indices.now) (T.function_types types.now) features.now) (map place args.now) (locals module_locals.old) (locals module_locals.new) bytes.now result }
-    ensures located { IfOk result (λ body. BodyLocated (FnReturnsAt L.Fn locate.now) start bytes.now (locations body.operators.items)) }
+    ensures read { ReadsBody (context (ids_at indices.now) (T.function_types types.now) features.now)
+        (map place args.now) (locals module_locals.old) (locals module_locals.new) bytes.now result }
+    ensures located { IfOk result (λ body. BodyLocated (FnReturnsAt L.Fn locate.now) start bytes.now
+        (locations body.operators.items)) }
     ensures stays { Grows (locals module_locals.old) (locals module_locals.new) }
 {
     let (declarations, rest) = read_declarations(alloc, bytes)?;
@@ -89,7 +91,8 @@ fn declare(
     indices: &IndicesToIds,
     module_locals: &mut ModuleLocals,
 ) -> Result<Vec<LocalId>, IrError>
-    ensures declared { Declares (ids_at indices.now) (declarations_of declarations.now) (locals module_locals.old) (locals module_locals.new) (λ ids. ids.items) result }
+    ensures declared { Declares (ids_at indices.now) (declarations_of declarations.now)
+        (locals module_locals.old) (locals module_locals.new) (λ ids. ids.items) result }
     ensures stays { Grows (locals module_locals.old) (locals module_locals.new) }
 {
     let types = name_types(alloc, declarations, indices)?;
@@ -103,7 +106,8 @@ fn add_locals(
     module_locals: &mut ModuleLocals,
     types: &[ValType],
 ) -> Result<Vec<LocalId>, AllocError>
-    ensures added { IfOk result (λ ids. AddsLocals (locals module_locals.old) (locals module_locals.new) ids.items types.now) }
+    ensures added { IfOk result (λ ids. AddsLocals (locals module_locals.old)
+        (locals module_locals.new) ids.items types.now) }
     ensures stays { Grows (locals module_locals.old) (locals module_locals.new) }
 {
     let mut ids = Vec::new(alloc);

@@ -75,7 +75,8 @@ pub(crate) fn name_types(
     declarations: &[Declaration],
     indices: &IndicesToIds,
 ) -> Result<Vec<ValType>, IrError>
-    ensures { Gives (λ types. map val_type types.items) result (declared_types (ids_at indices.now) (declarations_of declarations.now)) }
+    ensures { Gives (λ types. map val_type types.items) result
+        (declared_types (ids_at indices.now) (declarations_of declarations.now)) }
 {
     let mut types = Vec::new(alloc);
     for declaration in declarations {

@@ -33,7 +33,8 @@ pub fn emit_operators(
     locals: &LocalNumbers,
     features: &Features,
 ) -> Result<Vec<(InstrLocId, usize)>, IrError>
-    ensures written { EmitsOperators (index_of indices.now) (local_index locals.now) features.now (ops_of operators.now) to.old.items to.new.items (λ placed. map (λ p. p.1) placed.items) result }
+    ensures written { EmitsOperators (index_of indices.now) (local_index locals.now) features.now
+        (ops_of operators.now) to.old.items to.new.items (λ placed. map (λ p. p.1) placed.items) result }
     ensures located { IfOk result (λ placed. map (λ p. p.0) placed.items ≡ locations operators.now) }
 {
     let nested = are_nested(alloc, operators)?;
@@ -80,7 +81,8 @@ fn write_all(
     indices: &IdsToIndices,
     locals: &LocalNumbers,
 ) -> Result<Vec<(InstrLocId, usize)>, IrError>
-    ensures written { WritesAll (index_of indices.now) (local_index locals.now) (ops_of operators.now) to.old.items to.new.items (λ placed. map (λ p. p.1) placed.items) result }
+    ensures written { WritesAll (index_of indices.now) (local_index locals.now)
+        (ops_of operators.now) to.old.items to.new.items (λ placed. map (λ p. p.1) placed.items) result }
     ensures located { IfOk result (λ placed. map (λ p. p.0) placed.items ≡ locations operators.now) }
 {
     let mut placed = Vec::new(alloc);
@@ -99,7 +101,8 @@ fn write_one(
     indices: &IdsToIndices,
     locals: &LocalNumbers,
 ) -> Result<(), IrError>
-    ensures { Writes (index_of indices.now) (local_index locals.now) (op_of operator.now) to.old.items to.new.items result }
+    ensures { Writes (index_of indices.now) (local_index locals.now)
+        (op_of operator.now) to.old.items to.new.items result }
 {
     let raw = index_operator(alloc, operator, indices, locals)?;
     write_text(to, &raw)

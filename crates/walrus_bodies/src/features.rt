@@ -2,6 +2,10 @@
 ghost use Rattle.std.specs.Prelude.{◌≡◌};
 ghost use Rattle.walrus_bodies.specs.Features.{is_legacy, is_wide_arithmetic, is_allowed};
 
+use wasm_opcodes::behind;
+use wasm_opcodes::behind_fc::{I64_ADD128, I64_MUL_WIDE_U};
+use wasm_opcodes::one_byte::{CATCH, CATCH_ALL, DELEGATE, PREFIX_FC, RETHROW, TRY};
+
 /// Which proposals a body may use.
 #[derive(Clone, Copy, Debug, PartialEq, Eq)]
 pub struct Features {
@@ -24,12 +28,12 @@ impl Features {
 fn is_legacy(op: u32) -> bool
     ensures { result ≡ is_legacy op }
 {
-    op == 0x06 || op == 0x07 || op == 0x09 || op == 0x18 || op == 0x19
+    op == TRY || op == CATCH || op == RETHROW || op == DELEGATE || op == CATCH_ALL
 }
 
 // Whether the operator is one of wide arithmetic.
 fn is_wide_arithmetic(op: u32) -> bool
     ensures { result ≡ is_wide_arithmetic op }
 {
-    op > 0xFC_0012 && op < 0xFC_0017
+    behind(PREFIX_FC, I64_ADD128) <= op && op <= behind(PREFIX_FC, I64_MUL_WIDE_U)
 }

@@ -18,6 +18,15 @@ use walrus_base::LocalId;
 use walrus_code::{Arg, BlockType, IndicesToIds, InstrLocId, IrError, Operator, name_operator};
 use wasm_operators::read_operator;
 
+// What operators are read under: the proposals that they may use, and what their indices mean.
+#[derive(Drop)]
+struct Scope<'a, T> {
+    features: &'a Features,
+    indices: &'a IndicesToIds,
+    types: &'a T,
+    locals: &'a [LocalId],
+}
+
 /// Reads the operators of a body, whose bytes begin at `place` of the input. `locals` are the function's parameters and then its
 /// declared locals. `locate` gives each operator its location by the place of its first byte.
 ///
@@ -35,12 +44,18 @@ pub fn read_operators<T: FunctionTypes, L: Fn(&usize) -> InstrLocId>(
     locate: &L,
 ) -> Result<Vec<Operator>, IrError>
     requires { L.IsAlwaysCallable locate.now }
-    ensures read { ReadsOperators (context (ids_at indices.now) (T.function_types types.now) features.now) (locals_at locals.now) (λ operators. ops_of operators.items) bytes.now result }
-    ensures located { IfOk result (λ operators. Located (FnReturnsAt L.Fn locate.now) place bytes.now (locations operators.items)) }
+    ensures read { ReadsOperators (context (ids_at indices.now) (T.function_types types.now) features.now)
+        (locals_at locals.now) (λ operators. ops_of operators.items) bytes.now result }
+    ensures located { IfOk result (λ operators. Located (FnReturnsAt L.Fn locate.now) place bytes.now
+        (locations operators.items)) }
 {
-    read_all(
-        alloc, bytes, place, features, indices, types, locals, locate,
-    )
+    let scope = Scope {
+        features,
+        indices,
+        types,
+        locals,
+    };
+    read_all(alloc, bytes, place, locate, &scope)
 }
 
 // The same, against the function on lists that does it.
@@ -48,15 +63,16 @@ fn read_all<T: FunctionTypes, L: Fn(&usize) -> InstrLocId>(
     alloc: Global,
     bytes: &[u8],
     place: usize,
-    features: &Features,
-    indices: &IndicesToIds,
-    types: &T,
-    locals: &[LocalId],
     locate: &L,
+    scope: &Scope<T>,
 ) -> Result<Vec<Operator>, IrError>
     requires { L.IsAlwaysCallable locate.now }
-    ensures read { Gives (λ operators. ops_of operators.items) result (ops_at (context (ids_at indices.now) (T.function_types types.now) features.now) (locals_at locals.now) (length bytes.now) (Opened.Plain ∷ []) bytes.now) }
-    ensures located { IfOk result (λ operators. Located (FnReturnsAt L.Fn locate.now) place bytes.now (locations operators.items)) }
+    ensures read { Gives (λ operators. ops_of operators.items) result
+        (ops_at (context (ids_at scope.now.indices.now) (T.function_types scope.now.types.now)
+        scope.now.features.now) (locals_at scope.now.locals.now) (length bytes.now)
+        (Opened.Plain ∷ []) bytes.now) }
+    ensures located { IfOk result (λ operators. Located (FnReturnsAt L.Fn locate.now) place bytes.now
+        (locations operators.items)) }
 {
     let mut blocks = OpenBlocks::new(alloc)?;
     let mut operators = Vec::new(alloc);
@@ -64,16 +80,7 @@ fn read_all<T: FunctionTypes, L: Fn(&usize) -> InstrLocId>(
     for _turn in 0..bytes.len() {
         let offset = bytes.len().saturating_sub(rest.len());
         let loc = locate(&place.saturating_add(offset));
-        let (operator, after) = read_next(
-            alloc,
-            rest,
-            loc,
-            &mut blocks,
-            features,
-            indices,
-            types,
-            locals,
-        )?;
+        let (operator, after) = read_next(alloc, rest, loc, &mut blocks, scope)?;
         operators.push(operator)?;
         rest = after;
         if blocks.is_closed() {
@@ -85,7 +92,8 @@ fn read_all<T: FunctionTypes, L: Fn(&usize) -> InstrLocId>(
 
 // The operators, behind which no byte may stand.
 fn with_no_rest(operators: Vec<Operator>, rest: &[u8]) -> Result<Vec<Operator>, IrError>
-    ensures read { Gives (λ operators. ops_of operators.items) result (ended (ops_of operators.items) rest.now) }
+    ensures read { Gives (λ operators. ops_of operators.items) result
+        (ended (ops_of operators.items) rest.now) }
     ensures same { IfOk result (λ given. (given ≡ operators) × (rest.now ≡ [])) }
 {
     match rest {
@@ -100,15 +108,14 @@ fn read_next<'a, T: FunctionTypes>(
     bytes: &'a [u8],
     loc: InstrLocId,
     blocks: &mut OpenBlocks,
-    features: &Features,
-    indices: &IndicesToIds,
-    types: &T,
-    locals: &[LocalId],
+    scope: &Scope<T>,
 ) -> Result<(Operator, &'a [u8]), IrError>
-    ensures read { Gives (λ r. (op_of r.0, opened blocks.new, r.1.now)) result (next_at (context (ids_at indices.now) (T.function_types types.now) features.now) (locals_at locals.now) (opened blocks.old) bytes.now) }
+    ensures read { Gives (λ r. (op_of r.0, opened blocks.new, r.1.now)) result
+        (next_at (context (ids_at scope.now.indices.now) (T.function_types scope.now.types.now)
+        scope.now.features.now) (locals_at scope.now.locals.now) (opened blocks.old) bytes.now) }
     ensures located { IfOk result (λ r. r.0.loc ≡ loc) }
 {
-    let (operator, rest) = read_one(alloc, bytes, loc, features, indices, types, locals)?;
+    let (operator, rest) = read_one(alloc, bytes, loc, scope)?;
     step_over(blocks, &operator)?;
     Ok((operator, rest))
 }
@@ -118,17 +125,16 @@ fn read_one<'a, T: FunctionTypes>(
     alloc: Global,
     bytes: &'a [u8],
     loc: InstrLocId,
-    features: &Features,
-    indices: &IndicesToIds,
-    types: &T,
-    locals: &[LocalId],
+    scope: &Scope<T>,
 ) -> Result<(Operator, &'a [u8]), IrError>
-    ensures read { Gives (λ r. (op_of r.0, r.1.now)) result (op_at (context (ids_at indices.now) (T.function_types types.now) features.now) (locals_at locals.now) bytes.now) }
+    ensures read { Gives (λ r. (op_of r.0, r.1.now)) result
+        (op_at (context (ids_at scope.now.indices.now) (T.function_types scope.now.types.now)
+        scope.now.features.now) (locals_at scope.now.locals.now) bytes.now) }
     ensures located { IfOk result (λ r. r.0.loc ≡ loc) }
 {
     let (raw, rest) = read_operator(alloc, bytes)?;
-    let operator = name_operator(alloc, &raw, loc, indices, locals)?;
-    if features.is_allowed(operator.op) && args_hold(types, operator.args.as_slice()) {
+    let operator = name_operator(alloc, &raw, loc, scope.indices, scope.locals)?;
+    if scope.features.is_allowed(operator.op) && args_hold(scope.types, operator.args.as_slice()) {
         Ok((operator, rest))
     } else {
         Err(IrError::Malformed)
@@ -137,7 +143,8 @@ fn read_one<'a, T: FunctionTypes>(
 
 // Steps over an operator that may stand in these open blocks.
 fn step_over(blocks: &mut OpenBlocks, operator: &Operator) -> Result<(), IrError>
-    ensures { Gives (λ _. opened blocks.new) result (blocks_after (op_of operator.now).op (op_of operator.now).args (opened blocks.old)) }
+    ensures { Gives (λ _. opened blocks.new) result
+        (blocks_after (op_of operator.now).op (op_of operator.now).args (opened blocks.old)) }
 {
     if blocks.step(operator.op, operator.args.as_slice())? {
         Ok(())

@@ -37,8 +37,10 @@ impl FunctionBuilder {
         results: &[ValType],
     ) -> Result<FunctionBuilder, AllocError>
         ensures ty { MatchResult result
-            (λ b. FoundOrAdded (function_of params.now results.now) (type_slots types.old) (type_slots types.new) (type_names types.old) (type_names types.new) (place (builder_type b)))
-            (λ _. (type_slots types.new ≡ type_slots types.old) × (type_names types.new ≡ type_names types.old)) }
+            (λ b. FoundOrAdded (function_of params.now results.now) (type_slots types.old)
+            (type_slots types.new) (type_names types.old) (type_names types.new) (place (builder_type b)))
+            (λ _. (type_slots types.new ≡ type_slots types.old)
+            × (type_names types.new ≡ type_names types.old)) }
         ensures name { IfOk result (λ b. builder_name b ≡ None) }
         ensures body { IfOk result (λ b. built (builder_body b) ≡ []) }
         ensures locations { IfOk result (λ b. located (builder_body b) ≡ []) }
@@ -76,7 +78,8 @@ impl FunctionBuilder {
         ensures ty { IfOk result (λ f. function_type f ≡ builder_type self) }
         ensures args { IfOk result (λ f. f.args ≡ args) }
         ensures body { IfOk result (λ f. body_of f ≡ built (builder_body self) ++ end_op ∷ []) }
-        ensures locations { IfOk result (λ f. locations f.operators.items ≡ located (builder_body self) ++ nowhere ∷ []) }
+        ensures locations { IfOk result (λ f. locations f.operators.items ≡ located (builder_body self)
+            ++ nowhere ∷ []) }
         ensures handler_types { IfOk result (λ f. f.handler_types.items ≡ []) }
     {
         let FunctionBuilder {

@@ -8,6 +8,7 @@ ghost use Rattle.walrus_builder.specs.Instructions.{unreachable_op, call_op, dro
 use std::alloc::{AllocError, Global};
 use walrus_base::{FunctionId, LocalId};
 use walrus_code::{Arg, Args, Operator};
+use wasm_opcodes::one_byte::{CALL, DROP, I32_CONST, LOCAL_GET, UNREACHABLE};
 
 /// A sequence of operators that is being built (Structure > Instructions > Expressions).
 #[derive(Drop)]
@@ -65,7 +66,8 @@ impl InstrSeqBuilder {
     pub fn instr(&mut self, operator: Operator) -> Result<&mut InstrSeqBuilder, AllocError>
         ensures same_reference { IfOk result (λ b. b.ghost_name ≡ self.entry.ghost_name) }
         ensures value { IfOk result (λ b. built b.now ≡ built self.old ++ op_of operator ∷ []) }
-        ensures locations { IfOk result (λ b. located b.now ≡ located self.old ++ location operator.loc ∷ []) }
+        ensures locations { IfOk result (λ b. located b.now ≡ located self.old
+            ++ location operator.loc ∷ []) }
     {
         self.push(operator)?;
         Ok(self)
@@ -77,7 +79,7 @@ impl InstrSeqBuilder {
         ensures value { IfOk result (λ b. built b.now ≡ built self.old ++ unreachable_op ∷ []) }
         ensures locations { IfOk result (λ b. located b.now ≡ located self.old ++ nowhere ∷ []) }
     {
-        self.instr(Operator::new(0x00, Args::None))
+        self.instr(Operator::new(UNREACHABLE, Args::None))
     }
 
     /// Puts `i32.const` with this value behind them. It came from nowhere. Where memory runs out, nothing changes.
@@ -86,7 +88,7 @@ impl InstrSeqBuilder {
         ensures value { IfOk result (λ b. built b.now ≡ built self.old ++ i32_const_op value ∷ []) }
         ensures locations { IfOk result (λ b. located b.now ≡ located self.old ++ nowhere ∷ []) }
     {
-        self.instr(Operator::new(0x41, Args::One(Arg::S32(value))))
+        self.instr(Operator::new(I32_CONST, Args::One(Arg::S32(value))))
     }
 
     /// Puts `drop` behind them. It came from nowhere. Where memory runs out, nothing changes.
@@ -95,7 +97,7 @@ impl InstrSeqBuilder {
         ensures value { IfOk result (λ b. built b.now ≡ built self.old ++ drop_op ∷ []) }
         ensures locations { IfOk result (λ b. located b.now ≡ located self.old ++ nowhere ∷ []) }
     {
-        self.instr(Operator::new(0x1A, Args::None))
+        self.instr(Operator::new(DROP, Args::None))
     }
 
     /// Puts `call` of this function behind them. It came from nowhere. Where memory runs out, nothing changes.
@@ -104,7 +106,7 @@ impl InstrSeqBuilder {
         ensures value { IfOk result (λ b. built b.now ≡ built self.old ++ call_op (place function) ∷ []) }
         ensures locations { IfOk result (λ b. located b.now ≡ located self.old ++ nowhere ∷ []) }
     {
-        self.instr(Operator::new(0x10, Args::One(Arg::Function(function))))
+        self.instr(Operator::new(CALL, Args::One(Arg::Function(function))))
     }
 
     /// Puts `local.get` of this local behind them. It came from nowhere. Where memory runs out, nothing changes.
@@ -113,6 +115,6 @@ impl InstrSeqBuilder {
         ensures value { IfOk result (λ b. built b.now ≡ built self.old ++ local_get_op (place local) ∷ []) }
         ensures locations { IfOk result (λ b. located b.now ≡ located self.old ++ nowhere ∷ []) }
     {
-        self.instr(Operator::new(0x20, Args::One(Arg::Local(local))))
+        self.instr(Operator::new(LOCAL_GET, Args::One(Arg::Local(local))))
     }
 }

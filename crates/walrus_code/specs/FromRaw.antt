@@ -1,5 +1,6 @@
 -- Operators as bytes spell them, as operators of the standard over indices.
 use Rattle.std.specs.Prelude.{ℕ, List, map, nat_eq, if◌then◌else◌}
+use Rattle.wasm_opcodes.specs.declared.types.TheConstants.{HEAP_EXN, HEAP_ARRAY, HEAP_STRUCT, HEAP_I31, HEAP_EQ, HEAP_ANY, HEAP_EXTERN, HEAP_FUNC, HEAP_NONE, HEAP_NO_EXTERN, HEAP_NO_FUNC}
 use Rattle.wasm_forms.specs.declared.types.RawHeap.{RawHeap}
 use Rattle.wasm_forms.specs.declared.types.RawHeap.TheVariants as raw_heap
 use Rattle.wasm_forms.specs.declared.types.RawVal.{RawVal}
@@ -15,17 +16,17 @@ use Rattle.walrus_types.specs.Operators.{Types, Functions, Tables, Memories, Tag
 -- the abstract heap type of a byte from 69 to 74 ("Binary Format > Types > Heap Types")
 abbrev pub abstract_of : ℕ → AbstractHeap
 abstract_of b =
-    if nat_eq b 0x69 then ExnHeap
-    else if nat_eq b 0x6A then ArrayHeap
-    else if nat_eq b 0x6B then StructHeap
-    else if nat_eq b 0x6C then I31Heap
-    else if nat_eq b 0x6D then EqHeap
-    else if nat_eq b 0x6E then AnyHeap
-    else if nat_eq b 0x6F then ExternHeap
-    else if nat_eq b 0x70 then FuncHeap
-    else if nat_eq b 0x71 then NoneHeap
-    else if nat_eq b 0x72 then NoExternHeap
-    else if nat_eq b 0x73 then NoFuncHeap
+    if nat_eq b HEAP_EXN then ExnHeap
+    else if nat_eq b HEAP_ARRAY then ArrayHeap
+    else if nat_eq b HEAP_STRUCT then StructHeap
+    else if nat_eq b HEAP_I31 then I31Heap
+    else if nat_eq b HEAP_EQ then EqHeap
+    else if nat_eq b HEAP_ANY then AnyHeap
+    else if nat_eq b HEAP_EXTERN then ExternHeap
+    else if nat_eq b HEAP_FUNC then FuncHeap
+    else if nat_eq b HEAP_NONE then NoneHeap
+    else if nat_eq b HEAP_NO_EXTERN then NoExternHeap
+    else if nat_eq b HEAP_NO_FUNC then NoFuncHeap
     else NoExnHeap
 
 abbrev pub heap_of : RawHeap → HeapType ℕ

@@ -214,7 +214,8 @@ impl Numbering {
         requires { self.old.count < 2 ^ 32 }
         ensures { MatchResult result
             (λ _. AddsIndex self.old self.new place)
-            (λ _. (self.new.count ≡ self.old.count) × ((number : ℕ) → index_in self.new number ≡ index_in self.old number)) }
+            (λ _. (self.new.count ≡ self.old.count) × ((number : ℕ) → index_in self.new number
+            ≡ index_in self.old number)) }
     {
         if place >= self.indices.len() {
             let Some(len) = place.checked_add(1) else {

@@ -37,7 +37,8 @@ pub enum ItemId {
 /// Puts the items that the operator names behind those of `to`, in the order in which they stand in it. Where memory runs
 /// out, nothing changes.
 pub fn push_names(to: &mut Vec<ItemId>, operator: &Operator) -> Result<(), AllocError>
-    ensures names { OnOk result (map item_of to.new.items ≡ map item_of to.old.items ++ op_names (op_of operator.now)) }
+    ensures names { OnOk result (map item_of to.new.items ≡ map item_of to.old.items
+        ++ op_names (op_of operator.now)) }
     ensures unchanged { OnErr result (to.new.items ≡ to.old.items) }
 {
     let before = to.len();
@@ -50,7 +51,8 @@ pub fn push_names(to: &mut Vec<ItemId>, operator: &Operator) -> Result<(), Alloc
 
 // The items that arguments name. Refused, some of them may stand behind those of `to`.
 fn push_items(to: &mut Vec<ItemId>, args: &[Arg]) -> Result<(), AllocError>
-    ensures names { OnOk result (map item_of to.new.items ≡ map item_of to.old.items ++ flat_map arg_names (map arg_of args.now)) }
+    ensures names { OnOk result (map item_of to.new.items ≡ map item_of to.old.items ++ flat_map arg_names
+        (map arg_of args.now)) }
     ensures kept { take (length to.old.items) to.new.items ≡ to.old.items }
 {
     for arg in args {
@@ -123,7 +125,8 @@ fn type_of_heap(heap: HeapType) -> Option<TypeId>
 /// Puts the locals that the operator names behind those of `to`, in the order in which they stand in it. Where memory runs
 /// out, nothing changes.
 pub fn push_locals(to: &mut Vec<LocalId>, operator: &Operator) -> Result<(), AllocError>
-    ensures locals { OnOk result (map place to.new.items ≡ map place to.old.items ++ op_locals (op_of operator.now)) }
+    ensures locals { OnOk result (map place to.new.items ≡ map place to.old.items
+        ++ op_locals (op_of operator.now)) }
     ensures unchanged { OnErr result (to.new.items ≡ to.old.items) }
 {
     let start = to.len();
@@ -136,7 +139,8 @@ pub fn push_locals(to: &mut Vec<LocalId>, operator: &Operator) -> Result<(), All
 
 // The locals that arguments name. Refused, some of them may stand behind those of `to`.
 fn push_arg_locals(to: &mut Vec<LocalId>, args: &[Arg]) -> Result<(), AllocError>
-    ensures locals { OnOk result (map place to.new.items ≡ map place to.old.items ++ flat_map arg_locals (map arg_of args.now)) }
+    ensures locals { OnOk result (map place to.new.items ≡ map place to.old.items ++ flat_map arg_locals
+        (map arg_of args.now)) }
     ensures kept { take (length to.old.items) to.new.items ≡ to.old.items }
 {
     for arg in args {

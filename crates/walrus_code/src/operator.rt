@@ -8,6 +8,7 @@ use walrus_base::{
     DataId, ElementId, FunctionId, GlobalId, LocalId, MemoryId, TableId, TagId, TypeId,
 };
 use walrus_types::{HeapType, ValType};
+use wasm_opcodes::one_byte;
 
 /// The type of a block (Structure > Instructions > Control Instructions).
 #[derive(Clone, Copy, Debug, PartialEq, Eq)]
@@ -138,7 +139,7 @@ impl Operator {
     ghost use Rattle.walrus_code.specs.Location.{location};
 
     /// The operator `end`, which closes a block or a function.
-    pub const END: u32 = 0x0B;
+    pub const END: u32 = one_byte::END;
 
     /// An operator that came from nowhere: its location is the default.
     pub fn new(op: u32, args: Args) -> Operator

@@ -16,6 +16,10 @@ use std::alloc::Global;
 use walrus_base::LocalId;
 use walrus_types::{AbstractHeapType, HeapType, RefType, ValType};
 use wasm_forms::{RawHeap, RawVal};
+use wasm_opcodes::types::{
+    HEAP_ANY, HEAP_ARRAY, HEAP_EQ, HEAP_EXN, HEAP_EXTERN, HEAP_FUNC, HEAP_I31, HEAP_NO_EXTERN,
+    HEAP_NO_FUNC, HEAP_NONE, HEAP_STRUCT,
+};
 use wasm_operators::{RawArg, RawBlock, RawOperator};
 
 /// The operator with the id for each index of an item or a local in it, at the location `loc`. `locals` are the function's
@@ -29,7 +33,8 @@ pub fn name_operator(
     indices: &IndicesToIds,
     locals: &[LocalId],
 ) -> Result<Operator, IrError>
-    ensures named { Finds op_of result (named_op (ids_at indices.now) (locals_at locals.now) (from_raw.op_of (wire.op_of raw.now))) }
+    ensures named { Finds op_of result (named_op (ids_at indices.now) (locals_at locals.now)
+        (from_raw.op_of (wire.op_of raw.now))) }
     ensures located { IfOk result (λ operator. operator.loc ≡ loc) }
     ensures few_arguments { length (wire.args_of raw.now.args) < 2 → NeedsNoMemory result }
 {
@@ -48,7 +53,8 @@ fn name_args(
     indices: &IndicesToIds,
     locals: &[LocalId],
 ) -> Result<Args, IrError>
-    ensures named { Finds args_of result (named_args (ids_at indices.now) (locals_at locals.now) (map from_raw.arg_of args.now)) }
+    ensures named { Finds args_of result (named_args (ids_at indices.now) (locals_at locals.now)
+        (map from_raw.arg_of args.now)) }
     ensures few { length args.now < 2 → NeedsNoMemory result }
 {
     match args {
@@ -68,7 +74,8 @@ fn name_each(
     indices: &IndicesToIds,
     locals: &[LocalId],
 ) -> Result<Vec<Arg>, IrError>
-    ensures { Finds (λ found. map arg_of found.items) result (named_args (ids_at indices.now) (locals_at locals.now) (map from_raw.arg_of args.now)) }
+    ensures { Finds (λ found. map arg_of found.items) result
+        (named_args (ids_at indices.now) (locals_at locals.now) (map from_raw.arg_of args.now)) }
 {
     let mut found = Vec::with_capacity(alloc, args.len())?;
     for arg in args {
@@ -82,7 +89,8 @@ fn name_each(
 
 // An argument; none where an index in it isn't declared.
 fn name_arg(arg: &RawArg, indices: &IndicesToIds, locals: &[LocalId]) -> Option<Arg>
-    ensures { option_map arg_of result ≡ named_arg (ids_at indices.now) (locals_at locals.now) (from_raw.arg_of arg.now) }
+    ensures { option_map arg_of result ≡ named_arg (ids_at indices.now) (locals_at locals.now)
+        (from_raw.arg_of arg.now) }
 {
     match *arg {
         RawArg::Function(index) => Some(Arg::Function(indices.get_func(index)?)),
@@ -160,17 +168,17 @@ fn abstract_heap(byte: u8) -> AbstractHeapType
     ensures { abstract_heap result ≡ from_raw.abstract_of byte }
 {
     match byte {
-        0x69 => AbstractHeapType::Exn,
-        0x6A => AbstractHeapType::Array,
-        0x6B => AbstractHeapType::Struct,
-        0x6C => AbstractHeapType::I31,
-        0x6D => AbstractHeapType::Eq,
-        0x6E => AbstractHeapType::Any,
-        0x6F => AbstractHeapType::Extern,
-        0x70 => AbstractHeapType::Func,
-        0x71 => AbstractHeapType::None,
-        0x72 => AbstractHeapType::NoExtern,
-        0x73 => AbstractHeapType::NoFunc,
+        HEAP_EXN => AbstractHeapType::Exn,
+        HEAP_ARRAY => AbstractHeapType::Array,
+        HEAP_STRUCT => AbstractHeapType::Struct,
+        HEAP_I31 => AbstractHeapType::I31,
+        HEAP_EQ => AbstractHeapType::Eq,
+        HEAP_ANY => AbstractHeapType::Any,
+        HEAP_EXTERN => AbstractHeapType::Extern,
+        HEAP_FUNC => AbstractHeapType::Func,
+        HEAP_NONE => AbstractHeapType::None,
+        HEAP_NO_EXTERN => AbstractHeapType::NoExtern,
+        HEAP_NO_FUNC => AbstractHeapType::NoFunc,
         _ => AbstractHeapType::NoExn,
     }
 }

@@ -18,6 +18,10 @@ use crate::operator::{Arg, BlockType, Operator};
 use std::alloc::Global;
 use walrus_types::{AbstractHeapType, HeapType, ValType};
 use wasm_forms::{RawHeap, RawRef, RawVal};
+use wasm_opcodes::types::{
+    HEAP_ANY, HEAP_ARRAY, HEAP_EQ, HEAP_EXN, HEAP_EXTERN, HEAP_FUNC, HEAP_I31, HEAP_NO_EXN,
+    HEAP_NO_EXTERN, HEAP_NO_FUNC, HEAP_NONE, HEAP_STRUCT,
+};
 use wasm_operators::{RawArg, RawArgs, RawBlock, RawOperator};
 
 /// The operator with the index for each item and local in it, which bytes can spell. `locals` are the indices of the
@@ -31,7 +35,8 @@ pub fn index_operator(
     indices: &IdsToIndices,
     locals: &LocalNumbers,
 ) -> Result<RawOperator, IrError>
-    ensures indexed { Indexes (λ raw. from_raw.op_of (wire.op_of raw)) result (op_of operator.now) (named_op (index_of indices.now) (local_index locals.now) (op_of operator.now)) }
+    ensures indexed { Indexes (λ raw. from_raw.op_of (wire.op_of raw)) result (op_of operator.now)
+        (named_op (index_of indices.now) (local_index locals.now) (op_of operator.now)) }
     ensures spelled { IfOk result (λ raw. All ArgStands (wire.args_of raw.args)) }
     ensures few_arguments { length (args_of operator.now.args) < 2 → NeedsNoMemory result }
 {
@@ -49,7 +54,9 @@ fn index_args(
     indices: &IdsToIndices,
     locals: &LocalNumbers,
 ) -> Result<RawArgs, IrError>
-    ensures indexed { IndexesIn (λ raw. map from_raw.arg_of (wire.args_of raw)) result (args_are_exact (map arg_of args.now)) (named_args (index_of indices.now) (local_index locals.now) (map arg_of args.now)) }
+    ensures indexed { IndexesIn (λ raw. map from_raw.arg_of (wire.args_of raw)) result
+        (args_are_exact (map arg_of args.now)) (named_args (index_of indices.now) (local_index locals.now)
+        (map arg_of args.now)) }
     ensures spelled { IfOk result (λ raw. All ArgStands (wire.args_of raw)) }
     ensures few { length args.now < 2 → NeedsNoMemory result }
 {
@@ -67,7 +74,9 @@ fn index_each(
     indices: &IdsToIndices,
     locals: &LocalNumbers,
 ) -> Result<Vec<RawArg>, IrError>
-    ensures indexed { IndexesIn (λ raw. map from_raw.arg_of raw.items) result (args_are_exact (map arg_of args.now)) (named_args (index_of indices.now) (local_index locals.now) (map arg_of args.now)) }
+    ensures indexed { IndexesIn (λ raw. map from_raw.arg_of raw.items) result
+        (args_are_exact (map arg_of args.now)) (named_args (index_of indices.now) (local_index locals.now)
+        (map arg_of args.now)) }
     ensures spelled { IfOk result (λ raw. All ArgStands raw.items) }
 {
     let mut raw = Vec::with_capacity(alloc, args.len())?;
@@ -79,7 +88,8 @@ fn index_each(
 
 // An argument.
 fn index_arg(arg: &Arg, indices: &IdsToIndices, locals: &LocalNumbers) -> Result<RawArg, IrError>
-    ensures indexed { IndexesIn from_raw.arg_of result (arg_is_exact (arg_of arg.now)) (named_arg (index_of indices.now) (local_index locals.now) (arg_of arg.now)) }
+    ensures indexed { IndexesIn from_raw.arg_of result (arg_is_exact (arg_of arg.now))
+        (named_arg (index_of indices.now) (local_index locals.now) (arg_of arg.now)) }
     ensures spelled { IfOk result ArgStands }
     ensures memory { NeedsNoMemory result }
 {
@@ -118,7 +128,8 @@ fn index_arg(arg: &Arg, indices: &IdsToIndices, locals: &LocalNumbers) -> Result
 
 // The type of a block.
 fn index_block(block: BlockType, indices: &IdsToIndices) -> Result<RawBlock, IrError>
-    ensures indexed { IndexesIn from_raw.block_of result (block_is_exact (block_of block)) (named_block (index_of indices.now) (block_of block)) }
+    ensures indexed { IndexesIn from_raw.block_of result (block_is_exact (block_of block))
+        (named_block (index_of indices.now) (block_of block)) }
     ensures spelled { IfOk result BlockStands }
     ensures memory { NeedsNoMemory result }
 {
@@ -133,7 +144,8 @@ fn index_block(block: BlockType, indices: &IdsToIndices) -> Result<RawBlock, IrE
 ///
 /// Refused as [`IrError::NoIndex`] where that type has no index, as [`IrError::NotWritable`] where it is exact.
 pub fn index_value(value: ValType, indices: &IdsToIndices) -> Result<RawVal, IrError>
-    ensures indexed { IndexesIn from_raw.val_of result (val_is_exact (val_type value)) (named_val (index_of indices.now) (val_type value)) }
+    ensures indexed { IndexesIn from_raw.val_of result (val_is_exact (val_type value))
+        (named_val (index_of indices.now) (val_type value)) }
     ensures spelled { IfOk result ValueStands }
     ensures memory { NeedsNoMemory result }
 {
@@ -152,7 +164,8 @@ pub fn index_value(value: ValType, indices: &IdsToIndices) -> Result<RawVal, IrE
 
 // A heap type.
 fn index_heap(heap: HeapType, indices: &IdsToIndices) -> Result<RawHeap, IrError>
-    ensures indexed { IndexesIn from_raw.heap_of result (heap_is_exact (heap_type heap)) (named_heap (index_of indices.now) (heap_type heap)) }
+    ensures indexed { IndexesIn from_raw.heap_of result (heap_is_exact (heap_type heap))
+        (named_heap (index_of indices.now) (heap_type heap)) }
     ensures spelled { IfOk result HeapStands }
     ensures memory { NeedsNoMemory result }
 {
@@ -169,18 +182,18 @@ fn abstract_byte(heap: AbstractHeapType) -> u8
     ensures in_range { is_abstract result ≡ true }
 {
     match heap {
-        AbstractHeapType::Exn => 0x69,
-        AbstractHeapType::Array => 0x6A,
-        AbstractHeapType::Struct => 0x6B,
-        AbstractHeapType::I31 => 0x6C,
-        AbstractHeapType::Eq => 0x6D,
-        AbstractHeapType::Any => 0x6E,
-        AbstractHeapType::Extern => 0x6F,
-        AbstractHeapType::Func => 0x70,
-        AbstractHeapType::None => 0x71,
-        AbstractHeapType::NoExtern => 0x72,
-        AbstractHeapType::NoFunc => 0x73,
-        AbstractHeapType::NoExn => 0x74,
+        AbstractHeapType::Exn => HEAP_EXN,
+        AbstractHeapType::Array => HEAP_ARRAY,
+        AbstractHeapType::Struct => HEAP_STRUCT,
+        AbstractHeapType::I31 => HEAP_I31,
+        AbstractHeapType::Eq => HEAP_EQ,
+        AbstractHeapType::Any => HEAP_ANY,
+        AbstractHeapType::Extern => HEAP_EXTERN,
+        AbstractHeapType::Func => HEAP_FUNC,
+        AbstractHeapType::None => HEAP_NONE,
+        AbstractHeapType::NoExtern => HEAP_NO_EXTERN,
+        AbstractHeapType::NoFunc => HEAP_NO_FUNC,
+        AbstractHeapType::NoExn => HEAP_NO_EXN,
     }
 }
 

@@ -1,11 +1,12 @@
 //! Builders of functions.
 
-use crate::ids::{demand, first_id};
 use std::alloc::{AllocError, Global};
 use std::test::Fail;
+use test_support::{demand, first_id, is_name};
 use walrus_builder::{FunctionBuilder, InstrSeqBuilder};
 use walrus_code::{Arg, Args, LocalFunction, Operator};
 use walrus_types::{ModuleTypes, ValType};
+use wasm_opcodes::one_byte::{CALL, DROP, END, I32_CONST, LOCAL_GET, NOP, UNREACHABLE};
 
 // unreachable, i32.const 5, drop, call of the first function, local.get of the first local, nop
 fn build(alloc: Global, body: &mut InstrSeqBuilder) -> Result<(), AllocError> {
@@ -14,7 +15,7 @@ fn build(alloc: Global, body: &mut InstrSeqBuilder) -> Result<(), AllocError> {
         .drop_()?
         .call(first_id(alloc))?
         .local_get(first_id(alloc))?
-        .instr(Operator::new(0x01, Args::None))?;
+        .instr(Operator::new(NOP, Args::None))?;
     Ok(())
 }
 
@@ -26,13 +27,30 @@ fn are_built(alloc: Global, operators: &[Operator]) -> bool {
     let [trap, number, drop_, call, get, nop, end] = operators else {
         return false;
     };
-    is(trap, 0x00, &[])
-        && is(number, 0x41, &[Arg::S32(5)])
-        && is(drop_, 0x1A, &[])
-        && is(call, 0x10, &[Arg::Function(first_id(alloc))])
-        && is(get, 0x20, &[Arg::Local(first_id(alloc))])
-        && is(nop, 0x01, &[])
-        && is(end, 0x0B, &[])
+    is(trap, UNREACHABLE, &[])
+        && is(number, I32_CONST, &[Arg::S32(5)])
+        && is(drop_, DROP, &[])
+        && is(call, CALL, &[Arg::Function(first_id(alloc))])
+        && is(get, LOCAL_GET, &[Arg::Local(first_id(alloc))])
+        && is(nop, NOP, &[])
+        && is(end, END, &[])
+}
+
+// One operator behind another, before they are a function's.
+fn is_sequence(alloc: Global) -> bool {
+    let mut sequence = InstrSeqBuilder::new(alloc);
+    match build(alloc, &mut sequence) {
+        Ok(()) => {
+            sequence.len() == 6
+                && matches!(sequence.operators(), [first, ..] if is(first, UNREACHABLE, &[]))
+        }
+        Err(_) => false,
+    }
+}
+
+#[test]
+fn a_sequence_is_built(rt: HostRuntime) -> Result<(), Fail> {
+    demand(is_sequence(rt.alloc()), "a sequence of six operators")
 }
 
 fn function(alloc: Global, types: &mut ModuleTypes) -> Result<LocalFunction, AllocError> {
@@ -42,18 +60,11 @@ fn function(alloc: Global, types: &mut ModuleTypes) -> Result<LocalFunction, All
     builder.local_func(Vec::new(alloc))
 }
 
-fn is_f(name: &Option<String>) -> bool {
-    match name {
-        Some(name) => name.as_str() == "f",
-        None => false,
-    }
-}
-
 fn is_built(alloc: Global) -> bool {
     let mut types = ModuleTypes::new(alloc);
     match function(alloc, &mut types) {
         Ok(function) => {
-            is_f(&function.name)
+            is_name(&function.name, "f")
                 && types.len() == 1
                 && are_built(alloc, function.operators.as_slice())
         }

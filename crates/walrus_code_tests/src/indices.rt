@@ -1,8 +1,8 @@
 //! Items by their indices, and the indices of items and locals.
 
-use crate::ids::{demand, first_id, second_id};
 use std::alloc::Global;
 use std::test::Fail;
+use test_support::{demand, first_id, second_id};
 use walrus_code::{IdsToIndices, IndicesToIds, LocalNumbers};
 
 // Each: the second id gets the index 0, the first one has none, and no item has the index 1.

@@ -4,8 +4,6 @@
 #[cfg(test)]
 mod builders;
 #[cfg(test)]
-mod ids;
-#[cfg(test)]
 mod indices;
 #[cfg(test)]
 mod operators;

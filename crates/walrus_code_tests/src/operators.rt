@@ -1,14 +1,17 @@
 //! Operators over ids and over indices, and what they name.
 
-use crate::ids::{demand, first_id, second_id};
 use std::alloc::{AllocError, Global};
 use std::mem::size_of;
 use std::test::Fail;
+use test_support::{demand, first_id, second_id};
 use walrus_base::{FunctionId, LocalId, TypeId};
 use walrus_code::{
     Arg, Args, IdsToIndices, IndicesToIds, InstrLocId, ItemId, LocalFunction, LocalNumbers,
-    Operator, index_operator, name_operator, push_locals, push_names,
+    Operator, index_operator, index_value, name_operator, name_value, push_locals, push_names,
 };
+use walrus_types::{HeapType, RefType, ValType};
+use wasm_forms::{RawHeap, RawRef, RawVal};
+use wasm_opcodes::one_byte::{CALL, CALL_INDIRECT};
 use wasm_operators::{RawArg, RawArgs, RawOperator};
 
 // A body is a list of operators, so that its memory follows their size.
@@ -31,7 +34,7 @@ fn names_are_listed(alloc: Global) -> bool {
     let Ok(arguments) = arguments(alloc, ty, local) else {
         return false;
     };
-    let operator = Operator::new(0x11, arguments);
+    let operator = Operator::new(CALL_INDIRECT, arguments);
     let (mut names, mut locals) = (Vec::new(alloc), Vec::new(alloc));
     push_names(&mut names, &operator).is_ok()
         && push_locals(&mut locals, &operator).is_ok()
@@ -45,8 +48,8 @@ fn an_operators_names_are_listed(rt: HostRuntime) -> Result<(), Fail> {
 }
 
 // `call` of the function with the index 0.
-const CALL: RawOperator = RawOperator {
-    op: 0x10,
+const RAW_CALL: RawOperator = RawOperator {
+    op: CALL,
     args: RawArgs::One(RawArg::Function(0)),
 };
 
@@ -55,9 +58,9 @@ fn is_named(alloc: Global, id: FunctionId) -> bool {
     if ids.push_func(id).is_err() {
         return false;
     }
-    match name_operator(alloc, &CALL, InstrLocId::new(7), &ids, &[]) {
+    match name_operator(alloc, &RAW_CALL, InstrLocId::new(7), &ids, &[]) {
         Ok(operator) => {
-            operator.op == 0x10
+            operator.op == CALL
                 && operator.args.as_slice() == [Arg::Function(id)].as_slice()
                 && operator.loc.value() == 7
         }
@@ -70,9 +73,9 @@ fn is_indexed(alloc: Global, id: FunctionId) -> bool {
     if indices.push_func(id).is_err() {
         return false;
     }
-    let operator = Operator::new(0x10, Args::One(Arg::Function(id)));
+    let operator = Operator::new(CALL, Args::One(Arg::Function(id)));
     match index_operator(alloc, &operator, &indices, &LocalNumbers::new(alloc)) {
-        Ok(raw) => raw.op == 0x10 && raw.args.as_slice() == [RawArg::Function(0)].as_slice(),
+        Ok(raw) => raw.op == CALL && raw.args.as_slice() == [RawArg::Function(0)].as_slice(),
         Err(_) => false,
     }
 }
@@ -84,6 +87,100 @@ fn an_operator_is_named_and_indexed(rt: HostRuntime) -> Result<(), Fail> {
         is_named(rt.alloc(), id) && is_indexed(rt.alloc(), id),
         "a call",
     )
+}
+
+// A nullable reference to the type with the index 0, and with the id.
+const REFERENCE: RawVal = RawVal::Ref(RawRef {
+    nullable: true,
+    heap: RawHeap::Index(0),
+});
+
+fn reference_to(id: TypeId) -> ValType {
+    ValType::Ref(RefType {
+        nullable: true,
+        heap_type: HeapType::Concrete(id),
+    })
+}
+
+fn value_is_named(alloc: Global, id: TypeId) -> bool {
+    let mut ids = IndicesToIds::new(alloc);
+    let is_unknown = name_value(REFERENCE, &ids).is_none();
+    is_unknown && ids.push_type(id).is_ok() && name_value(REFERENCE, &ids) == Some(reference_to(id))
+}
+
+fn value_is_indexed(alloc: Global, id: TypeId) -> bool {
+    let mut indices = IdsToIndices::new(alloc);
+    let is_unknown = index_value(reference_to(id), &indices).is_err();
+    is_unknown
+        && indices.push_type(id).is_ok()
+        && matches!(index_value(reference_to(id), &indices), Ok(value) if value == REFERENCE)
+}
+
+#[test]
+fn a_value_type_is_named_and_indexed(rt: HostRuntime) -> Result<(), Fail> {
+    let id = second_id(rt.alloc());
+    demand(
+        value_is_named(rt.alloc(), id) && value_is_indexed(rt.alloc(), id),
+        "a reference",
+    )
+}
+
+// Whether the arguments, as a vector, are the wanted ones.
+fn are_given_back(alloc: Global, arguments: Args, wanted: &[Arg]) -> bool {
+    match arguments.into_vec(alloc) {
+        Ok(found) => found.as_slice() == wanted,
+        Err(_) => false,
+    }
+}
+
+fn many_are_given_back(alloc: Global) -> bool {
+    let (ty, local) = (second_id(alloc), second_id(alloc));
+    match arguments(alloc, ty, local) {
+        Ok(arguments) => {
+            let wanted = [
+                Arg::Type(ty),
+                Arg::Table(first_id(alloc)),
+                Arg::Local(local),
+            ];
+            are_given_back(alloc, arguments, wanted.as_slice())
+        }
+        Err(_) => false,
+    }
+}
+
+#[test]
+fn arguments_are_given_back(rt: HostRuntime) -> Result<(), Fail> {
+    let one = Arg::S32(-1);
+    demand(
+        are_given_back(rt.alloc(), Args::None, &[])
+            && are_given_back(rt.alloc(), Args::One(one), &[Arg::S32(-1)])
+            && many_are_given_back(rt.alloc()),
+        "none, one and three",
+    )
+}
+
+#[test]
+fn what_came_from_nowhere_has_the_default_location(_rt: HostRuntime) -> Result<(), Fail> {
+    demand(
+        InstrLocId::DEFAULT.is_default() && !InstrLocId::new(7).is_default(),
+        "the largest number, and another",
+    )?;
+    demand(
+        Operator::new(Operator::END, Args::None).loc.is_default(),
+        "an operator",
+    )
+}
+
+fn takes_another_type(alloc: Global) -> bool {
+    let (first, second) = (first_id(alloc), second_id(alloc));
+    let mut function = LocalFunction::new(alloc, first, Vec::new(alloc), Vec::new(alloc));
+    function.set_ty(second);
+    function.ty() == second && function.size() == 0
+}
+
+#[test]
+fn a_function_takes_another_type(rt: HostRuntime) -> Result<(), Fail> {
+    demand(takes_another_type(rt.alloc()), "a function")
 }
 
 fn has_its_parts(alloc: Global) -> bool {

@@ -1,12 +1,12 @@
 //! Types, constant expressions and locals.
 
-use crate::ids::demand;
 use std::alloc::{AllocError, Global};
 use std::test::Fail;
-use walrus_base::TypeId;
+use test_support::{demand, is_name};
+use walrus_base::{LocalId, TypeId};
 use walrus_types::{
     AbstractHeapType, ArrayType, CompositeType, ConstExpr, ConstOp, FieldType, FunctionType,
-    HeapType, ModuleLocals, ModuleTypes, NewType, RefType, StorageType, StructType, ValType,
+    HeapType, ModuleLocals, ModuleTypes, NewType, RefType, StorageType, StructType, Type, ValType,
     push_names,
 };
 
@@ -209,5 +209,118 @@ fn locals_are_added(rt: HostRuntime) -> Result<(), Fail> {
     demand(
         locals.reserve(1).is_ok() && has_a_local(&mut locals, name),
         "the local",
+    )
+}
+
+fn open_function(alloc: Global, supertype: Option<TypeId>) -> Result<Vec<NewType>, AllocError> {
+    let mut params = Vec::new(alloc);
+    params.push(ValType::I64)?;
+    let mut members = Vec::new(alloc);
+    members.push(NewType {
+        is_final: false,
+        supertype,
+        comp: CompositeType::Function(FunctionType::new(params, Vec::new(alloc))),
+    })?;
+    Ok(members)
+}
+
+// A type of functions that isn't final, alone in its group.
+fn add_open(alloc: Global, types: &mut ModuleTypes, supertype: Option<TypeId>) -> Option<TypeId> {
+    let Ok(members) = open_function(alloc, supertype) else {
+        return None;
+    };
+    match types.add_group(members) {
+        Ok(mut added) => added.next(),
+        Err(_) => None,
+    }
+}
+
+fn takes_one_number(ty: &Type) -> bool {
+    ty.is_function() && ty.params() == [ValType::I64].as_slice() && ty.results().is_empty()
+}
+
+fn is_subtype(types: &ModuleTypes, id: TypeId, supertype: TypeId) -> bool {
+    if !types.contains(id) {
+        return false;
+    }
+    let ty = types.get(id);
+    ty.id() == id
+        && ty.supertype() == Some(supertype)
+        && matches!(ty.comp(), CompositeType::Function(_))
+        && takes_one_number(ty)
+}
+
+fn has_a_subtype(alloc: Global, types: &mut ModuleTypes) -> bool {
+    let Some(first) = add_open(alloc, types, None) else {
+        return false;
+    };
+    match add_open(alloc, types, Some(first)) {
+        Some(second) => { is_subtype(types, second, first) && types.iter().take(3).count() == 2 }
+        None => false,
+    }
+}
+
+#[test]
+fn a_subtype_has_its_parts(rt: HostRuntime) -> Result<(), Fail> {
+    let mut types = ModuleTypes::new(rt.alloc());
+    demand(
+        types.is_empty() && has_a_subtype(rt.alloc(), &mut types),
+        "a type of functions and its subtype",
+    )
+}
+
+fn is_named(types: &mut ModuleTypes, id: TypeId, name: String) -> bool {
+    if !types.contains(id) {
+        return false;
+    }
+    types.set_name(id, Some(name));
+    is_name(&types.get(id).name, "t")
+}
+
+fn is_deleted(types: &mut ModuleTypes, id: TypeId) -> bool {
+    if !types.contains(id) {
+        return false;
+    }
+    types.delete(id);
+    !types.contains(id) && types.is_empty()
+}
+
+// It is found once it is added, gets a name, and goes.
+fn comes_and_goes(types: &mut ModuleTypes, function: &FunctionType, name: String) -> bool {
+    let is_new = types.find(function).is_none();
+    let Ok(id) = types.add(function.params(), function.results()) else {
+        return false;
+    };
+    is_new && types.find(function) == Some(id) && is_named(types, id, name) && is_deleted(types, id)
+}
+
+#[test]
+fn a_type_comes_and_goes(rt: HostRuntime) -> Result<(), Fail> {
+    let mut types = ModuleTypes::new(rt.alloc());
+    let function = FunctionType::new(Vec::new(rt.alloc()), Vec::new(rt.alloc()));
+    let name = String::from_str(rt.alloc(), "t")?;
+    demand(
+        comes_and_goes(&mut types, &function, name),
+        "a type of functions",
+    )
+}
+
+fn is_local(locals: &ModuleLocals, id: LocalId) -> bool {
+    locals.contains(id) && locals.get(id).id() == id
+}
+
+fn are_listed(locals: &mut ModuleLocals) -> bool {
+    let (Ok(first), Ok(second)) = (locals.add(ValType::I32), locals.add(ValType::F32)) else {
+        return false;
+    };
+    is_local(locals, first) && is_local(locals, second) && locals.iter().take(3).count() == 2
+}
+
+#[test]
+fn locals_are_listed(rt: HostRuntime) -> Result<(), Fail> {
+    let mut locals = ModuleLocals::new(rt.alloc());
+    demand(
+        locals.is_empty() && are_listed(&mut locals) && !locals.is_empty(),
+        "two locals",
     )
 }

@@ -2,6 +2,7 @@
 -- can't be written yet ("Validation > Modules": the context's references).
 use Rattle.std.specs.Prelude.{ℕ, Bool, true, List, [], ◌∷◌, ◌==◌, if◌then◌else◌}
 use Rattle.std.specs.List.{list_all, list_any}
+use Rattle.wasm_opcodes.specs.declared.one_byte.TheConstants.{REF_FUNC}
 use Rattle.walrus_code.specs.Function.{body_of}
 use Rattle.walrus_types.specs.Operators.{Types, Functions, Tables, Memories, Tags, Globals, Elements, DataSegments, Arg, Index, Label, Local, Number, Count, Byte, S32, S64, Bits32, Bits64, Value, Heap, Block, Access, Op}
 use Rattle.walrus_items.specs.Exports.{ExportValue, exported}
@@ -49,7 +50,7 @@ module _ (holds : ℕ → Bool) where
 
   -- the operator, if it is ref.func, names a function that does
   abbrev pub op_passes : Op → Bool
-  op_passes o = if o.op == 0xD2 then args_pass o.args else true
+  op_passes o = if o.op == REF_FUNC then args_pass o.args else true
 
   abbrev pub kind_passes : FunctionKind → Bool
   kind_passes (kind.Local f) = list_all op_passes (body_of f)

@@ -15,7 +15,8 @@ use walrus_items::{Error, ItemId, Result};
 /// Checks that each function has an import or a body, and that all that types, functions and exports name is there, the locals of
 /// bodies among it. Refused with `DeadItem` exactly where one of these isn't so, and with `Memory`.
 pub fn check_live(alloc: Global, parts: Parts<'_>) -> Result<()>
-    ensures { MatchResult result (λ _. HasDead (parts_view parts.entry) → ⊥) (IsRefusal (HasDead (parts_view parts.entry))) }
+    ensures { MatchResult result (λ _. HasDead (parts_view parts.entry) → ⊥)
+        (IsRefusal (HasDead (parts_view parts.entry))) }
 {
     let mut named = Vec::new(alloc);
     push_export_names(parts.exports, &mut named)?;
@@ -26,7 +27,8 @@ pub fn check_live(alloc: Global, parts: Parts<'_>) -> Result<()>
 
 // The same for what types name. What was in `named` is let go.
 fn check_types(alloc: Global, parts: Parts<'_>, named: &mut Vec<ItemId>) -> Result<()>
-    ensures { MatchResult result (λ _. AreWhole (parts_view parts.entry) Types) (IsRefusal (HasDead (parts_view parts.entry))) }
+    ensures { MatchResult result (λ _. AreWhole (parts_view parts.entry) Types)
+        (IsRefusal (HasDead (parts_view parts.entry))) }
 {
     for ty in parts.types.iter() {
         check_item(alloc, parts, ItemId::Type(ty.id()), named)?;
@@ -36,7 +38,8 @@ fn check_types(alloc: Global, parts: Parts<'_>, named: &mut Vec<ItemId>) -> Resu
 
 // The same for what functions name.
 fn check_functions(alloc: Global, parts: Parts<'_>, named: &mut Vec<ItemId>) -> Result<()>
-    ensures { MatchResult result (λ _. AreWhole (parts_view parts.entry) Functions) (IsRefusal (HasDead (parts_view parts.entry))) }
+    ensures { MatchResult result (λ _. AreWhole (parts_view parts.entry) Functions)
+        (IsRefusal (HasDead (parts_view parts.entry))) }
 {
     for (id, _function) in parts.funcs.iter_entries() {
         check_item(alloc, parts, ItemId::Function(id), named)?;
@@ -47,7 +50,8 @@ fn check_functions(alloc: Global, parts: Parts<'_>, named: &mut Vec<ItemId>) -> 
 // The same for what is written in one item.
 fn check_item(alloc: Global, parts: Parts<'_>, item: ItemId, named: &mut Vec<ItemId>) -> Result<()>
     requires { IsLive (parts_view parts) (item_of item) }
-    ensures { MatchResult result (λ _. IsWhole (parts_view parts.entry) (item_of item)) (IsRefusal (HasDead (parts_view parts.entry))) }
+    ensures { MatchResult result (λ _. IsWhole (parts_view parts.entry) (item_of item))
+        (IsRefusal (HasDead (parts_view parts.entry))) }
 {
     named.clear();
     push_written_names(alloc, parts, item, named)?;

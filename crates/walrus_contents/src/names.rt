@@ -49,7 +49,8 @@ pub fn push_item_names(
 ) -> Result<()>
     requires { IsLive (parts_view parts) (item_of item) }
     ensures { MatchResult result
-        (λ _. IsSound (parts_view parts.entry) (item_of item) × Puts to.old to.new (all_names (parts_view parts.entry) (item_of item)))
+        (λ _. IsSound (parts_view parts.entry) (item_of item) × Puts to.old to.new
+        (all_names (parts_view parts.entry) (item_of item)))
         (IsRefusal (IsSound (parts_view parts.entry) (item_of item) → ⊥)) }
 {
     push_written_names(alloc, parts, item, to)?;
@@ -67,7 +68,8 @@ pub fn push_written_names(
 ) -> Result<()>
     requires { IsLive (parts_view parts) (item_of item) }
     ensures { MatchResult result
-        (λ _. IsSound (parts_view parts.entry) (item_of item) × Puts to.old to.new (written_in (parts_view parts.entry) (item_of item)))
+        (λ _. IsSound (parts_view parts.entry) (item_of item) × Puts to.old to.new
+        (written_in (parts_view parts.entry) (item_of item)))
         (IsRefusal (IsUnsound (parts_view parts.entry) (item_of item))) }
 {
     match item {
@@ -246,7 +248,8 @@ fn push_local_types(locals: &ModuleLocals, used: &[LocalId], to: &mut Vec<ItemId
 // The same for one local.
 fn push_local_type(locals: &ModuleLocals, id: LocalId, to: &mut Vec<ItemId>) -> Result<()>
     ensures { MatchResult result
-        (λ _. IsSome (type_at locals.now (place id)) × Puts to.old to.new (local_type_names locals.now (place id)))
+        (λ _. IsSome (type_at locals.now (place id)) × Puts to.old to.new
+        (local_type_names locals.now (place id)))
         (IsRefusal (type_at locals.now (place id) ≡ None)) }
 {
     if !locals.contains(id) {

@@ -17,12 +17,12 @@ use walrus_items::{
     Arg, ExportItem, FunctionKey, FunctionKind, IdHashSet, ModuleExports, ModuleFunctions,
     Operator, Result,
 };
-
-const REF_FUNC: u32 = 0xD2;
+use wasm_opcodes::one_byte::REF_FUNC;
 
 // The functions that are exported.
 fn exported_functions(alloc: Global, all: &ModuleExports) -> Result<IdHashSet<FunctionKey>>
-    ensures marks { IfOk result (λ marks. (f : ℕ) → has_id marks f ≡ is_exported (items (exports all.now)) f) }
+    ensures marks { IfOk result (λ marks. (f : ℕ) → has_id marks f
+        ≡ is_exported (items (exports all.now)) f) }
     ensures fails { IsOkUnless result out_of_memory }
 {
     let mut marks = IdHashSet::new(alloc);
@@ -97,7 +97,8 @@ fn are_functions_marked(funcs: &ModuleFunctions, marks: &IdHashSet<FunctionKey>)
 /// Whether each function that `ref.func` names in a body is exported, so that nothing is undeclared: segments, which can declare
 /// functions too, aren't handled so far. `Memory` is the only error.
 pub fn are_references_declared(alloc: Global, parts: Parts<'_>) -> Result<bool>
-    ensures declared { IfOk result (λ declared. declared ≡ true → NothingUndeclared (parts_view parts.entry)) }
+    ensures declared { IfOk result (λ declared. declared ≡ true → NothingUndeclared
+        (parts_view parts.entry)) }
     ensures undeclared { IfOk result (λ declared. declared ≡ false → HasUndeclared (parts_view parts.entry)) }
     ensures fails { IsOkUnless result out_of_memory }
 {

@@ -1,5 +1,6 @@
 -- For the functions that find the types of handlers.
 use Rattle.std.specs.Borrow.{Bor}
+use Rattle.wasm_opcodes.specs.declared.one_byte.TheConstants.{TRY}
 use Rattle.std.specs.Prelude.{◌≡◌, ℕ, List, [], ◌∷◌, map, option_map, Option, Some, None, reverse, slice_get, take, ◌==◌, if◌then◌else◌}
 use Rattle.walrus_base.specs.Arena.{item_at}
 use Rattle.walrus_base.specs.Id.{place}
@@ -89,7 +90,7 @@ without_first (b ∷ around) = around
 
 abbrev pub opened_after : List (Option BlockType) → Op → List (Option BlockType)
 opened_after blocks o =
-    if o.op == 0x06 then Some (opened_type o.args) ∷ blocks
+    if o.op == TRY then Some (opened_type o.args) ∷ blocks
     else (if opens_other o.op then None ∷ blocks
     else (if closes o.op then without_first blocks
     else blocks))

@@ -6,6 +6,7 @@ ghost use Rattle.walrus_functions.specs.Signatures.{first_opened, opened, opened
 
 use std::alloc::{AllocError, Global};
 use walrus_code::{Arg, BlockType, Operator};
+use wasm_opcodes::one_byte::{BLOCK, DELEGATE, END, IF, LOOP, TRY, TRY_TABLE};
 
 /// An open block.
 #[derive(Clone, Copy)]
@@ -47,9 +48,9 @@ impl OpenBlocks {
         ensures { IfOk result (λ _. opened self.new ≡ opened_after (opened self.old) (op_of operator.now)) }
     {
         match operator.op {
-            0x06 => self.open(Opened::Try(block_type(operator.args.as_slice()))),
-            0x02 | 0x03 | 0x04 | 0x1F => self.open(Opened::Other),
-            0x0B | 0x18 => {
+            TRY => self.open(Opened::Try(block_type(operator.args.as_slice()))),
+            BLOCK | LOOP | IF | TRY_TABLE => self.open(Opened::Other),
+            END | DELEGATE => {
                 self.close();
                 Ok(())
             }

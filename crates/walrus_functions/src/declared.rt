@@ -25,7 +25,8 @@ pub(crate) fn distinct_places(
     alloc: Global,
     ids: &[LocalId],
 ) -> Result<Option<HashSet<usize>>, AllocError>
-    ensures { IfOk result (λ found. MatchOption found (IsDistinct nat_eq (map place ids.now) → ⊥) (λ places. HasPlaces (map place ids.now) (set.contains nat_eq places))) }
+    ensures { IfOk result (λ found. MatchOption found (IsDistinct nat_eq (map place ids.now) → ⊥)
+        (λ places. HasPlaces (map place ids.now) (set.contains nat_eq places))) }
 {
     let mut places = HashSet::new(alloc);
     for id in ids {
@@ -53,7 +54,8 @@ pub(crate) fn types_at(
     module_locals: &ModuleLocals,
     ids: &[LocalId],
 ) -> Result<Option<Vec<ValType>>, AllocError>
-    ensures { IfOk result (λ found. AreTypes (types_of (locals module_locals.now)) (map place ids.now) (option_map (λ types. map val_type types.items) found)) }
+    ensures { IfOk result (λ found. AreTypes (types_of (locals module_locals.now)) (map place ids.now)
+        (option_map (λ types. map val_type types.items) found)) }
 {
     let mut types = Vec::new(alloc);
     for id in ids {
@@ -93,7 +95,8 @@ fn typed_locals(
     module_locals: &ModuleLocals,
 ) -> Result<Vec<(usize, ValType)>, AllocError>
     requires { IsDistinct nat_eq (map place named.now) }
-    ensures typed { IfOk result (λ found. AreTyped (types_of (locals module_locals.now)) (map place named.now) (set.contains nat_eq parameters.now) (map typed found.items)) }
+    ensures typed { IfOk result (λ found. AreTyped (types_of (locals module_locals.now)) (map place named.now)
+        (set.contains nat_eq parameters.now) (map typed found.items)) }
     ensures distinct { IfOk result (λ found. IsDistinct same_local found.items) }
 {
     let mut found = Vec::new(alloc);
@@ -128,7 +131,9 @@ fn note_lower(
     local: usize,
     ty: ValType,
 ) -> Result<(), AllocError>
-    ensures { IfOk result (λ _. (v : _) → number_at lowest.new v ≡ (if (equality.ghosts).eq ty v then Some (lower local (number_at lowest.old ty)) else number_at lowest.old v)) }
+    ensures { IfOk result (λ _. (v : _) → number_at lowest.new v
+        ≡ (if (equality.ghosts).eq ty v then Some (lower local (number_at lowest.old ty)) else number_at
+        lowest.old v)) }
 {
     let low = match lowest.get(&ty) {
         Some(other) => local.min(*other),
@@ -201,8 +206,10 @@ pub(crate) fn order_declared(
     parameters: &HashSet<usize>,
     module_locals: &ModuleLocals,
 ) -> Result<Vec<LocalId>, AllocError>
-    ensures { IfOk result (λ ids. (those : List ℕ) → ((p : ℕ) → set.contains nat_eq parameters.now p ≡ list_any (nat_eq p) those)
-        → AreDeclared (types_of (locals module_locals.now)) (locals_of (ops_of operators.now)) those (map place ids.items)) }
+    ensures { IfOk result (λ ids. (those : List ℕ) → ((p : ℕ) → set.contains nat_eq parameters.now p
+        ≡ list_any (nat_eq p) those)
+        → AreDeclared (types_of (locals module_locals.now)) (locals_of (ops_of operators.now)) those
+        (map place ids.items)) }
 {
     let mut named = named_locals(alloc, operators)?;
     take_once(&mut named);

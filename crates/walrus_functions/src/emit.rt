@@ -61,7 +61,8 @@ pub fn emit_body(
       parameters = map place function.now.args.items;
       ops = body_of function.now;
     }) (λ body. body.bytes.items) (λ body. map (λ p. p.1) body.places.items) (λ body. local_index body.locals) result }
-    ensures located { IfOk result (λ body. map (λ p. p.0) body.places.items ≡ locations function.now.operators.items) }
+    ensures located { IfOk result (λ body. map (λ p. p.0) body.places.items
+        ≡ locations function.now.operators.items) }
 {
     let fits = parameters_fit(alloc, function, types, module_locals)?;
     if !fits {
@@ -82,14 +83,8 @@ pub fn emit_body(
     let declarations = declare(alloc, declared.as_slice(), module_locals, indices)?;
     let locals = number_locals(alloc, all.as_slice())?;
     let operators = function.operators.as_slice();
-    write_body(
-        alloc,
-        operators,
-        declarations.as_slice(),
-        locals,
-        indices,
-        features,
-    )
+    let scope = Scope { indices, features };
+    write_body(alloc, operators, declarations.as_slice(), locals, &scope)
 }
 
 // Whether the function's type takes what its parameters hold.
@@ -99,7 +94,10 @@ fn parameters_fit(
     types: &ModuleTypes,
     module_locals: &ModuleLocals,
 ) -> Result<bool, AllocError>
-    ensures { IfOk result (λ fit. IsTrue fit ↔ HasSignature (item_at (type_slots types.now) (place (function_type function.now))) (types_of (locals module_locals.now)) (map place function.now.args.items)) }
+    ensures { IfOk result
+        (λ fit. IsTrue fit
+        ↔ HasSignature (item_at (type_slots types.now) (place (function_type function.now)))
+        (types_of (locals module_locals.now)) (map place function.now.args.items)) }
 {
     if !types.contains(function.ty()) {
         return Ok(false);
@@ -119,7 +117,8 @@ fn find_declared(
     function: &LocalFunction,
     module_locals: &ModuleLocals,
 ) -> Result<Vec<LocalId>, IrError>
-    ensures { FindsDeclared (types_of (locals module_locals.now)) (locals_of (body_of function.now)) (map place function.now.args.items) (λ ids. map place ids.items) result }
+    ensures { FindsDeclared (types_of (locals module_locals.now)) (locals_of (body_of function.now))
+        (map place function.now.args.items) (λ ids. map place ids.items) result }
 {
     let Some(parameters) = distinct_places(alloc, function.args.as_slice())? else {
         return Err(IrError::NotWritable);
@@ -145,9 +144,11 @@ fn declare(
     module_locals: &ModuleLocals,
     indices: &IdsToIndices,
 ) -> Result<Vec<Declaration>, IrError>
-    requires there { All (λ id. IsSome (item_at (types_of (locals module_locals.now)) (place id))) declared.now }
+    requires there { All (λ id. IsSome (item_at (types_of (locals module_locals.now)) (place id)))
+        declared.now }
     requires few { length declared.now < 2 ^ 32 }
-    ensures { DeclaresLocals (index_of indices.now) (types_of (locals module_locals.now)) (map place declared.now) (λ ds. declarations_of ds.items) result }
+    ensures { DeclaresLocals (index_of indices.now) (types_of (locals module_locals.now))
+        (map place declared.now) (λ ds. declarations_of ds.items) result }
 {
     let Some(held) = types_at(alloc, module_locals, declared)? else {
         unreachable!()
@@ -156,22 +157,31 @@ fn declare(
     declarations(alloc, groups.as_slice(), indices)
 }
 
+// What a body is written under: the numbers of items, and the proposals that it may use.
+#[derive(Clone, Copy)]
+struct Scope<'a> {
+    indices: &'a IdsToIndices,
+    features: &'a Features,
+}
+
 // Writes declarations, and the operators behind them.
 fn write_body(
     alloc: Global,
     operators: &[Operator],
     declarations: &[Declaration],
     locals: LocalNumbers,
-    indices: &IdsToIndices,
-    features: &Features,
+    scope: &Scope,
 ) -> Result<EmittedBody, IrError>
     requires { length declarations.now < 2 ^ 32 }
-    ensures written { WritesBehind (index_of indices.now) (local_index locals) features.now (ops_of operators.now) (declarations_of declarations.now) (λ body. body.bytes.items) (λ body. map (λ p. p.1) body.places.items) result }
+    ensures written { WritesBehind (index_of scope.now.indices.now)
+        (local_index locals) scope.now.features.now (ops_of operators.now) (declarations_of declarations.now)
+        (λ body. body.bytes.items) (λ body. map (λ p. p.1) body.places.items) result }
     ensures located { IfOk result (λ body. (map (λ p. p.0) body.places.items ≡ locations operators.now)) }
     ensures numbered { IfOk result (λ body. body.locals ≡ locals) }
 {
     let mut bytes = Vec::new(alloc);
     write_vector(&mut bytes, declarations)?;
+    let (indices, features) = (scope.indices, scope.features);
     let places = emit_operators(alloc, &mut bytes, operators, indices, &locals, features)?;
     Ok(EmittedBody {
         bytes,

@@ -33,7 +33,8 @@ fn runs_from(
     rest: &[ValType],
 ) -> Result<Vec<(u32, ValType)>, AllocError>
     requires { length rest.now < 2 ^ 32 - 1 }
-    ensures { IfOk result (λ groups. AreRuns (val_type first ∷ map val_type rest.now) (map group_of groups.items)) }
+    ensures { IfOk result (λ groups. AreRuns (val_type first ∷ map val_type rest.now)
+        (map group_of groups.items)) }
 {
     let mut groups = Vec::new(alloc);
     let mut current = first;
@@ -57,7 +58,8 @@ pub(crate) fn declarations(
     groups: &[(u32, ValType)],
     indices: &IdsToIndices,
 ) -> Result<Vec<Declaration>, IrError>
-    ensures { Declares (index_of indices.now) (map group_of groups.now) (λ ds. declarations_of ds.items) result }
+    ensures { Declares (index_of indices.now) (map group_of groups.now)
+        (λ ds. declarations_of ds.items) result }
 {
     let mut declarations = Vec::with_capacity(alloc, groups.len())?;
     for (count, ty) in groups {

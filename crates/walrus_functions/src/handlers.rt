@@ -16,6 +16,7 @@ use std::slice;
 use walrus_base::TypeId;
 use walrus_code::{Arg, BlockType, Operator};
 use walrus_types::{FunctionType, ModuleTypes, ValType};
+use wasm_opcodes::one_byte::{CATCH, CATCH_ALL};
 
 /// The types of functions at the places below a bound, and the types of tags.
 #[derive(Clone, Copy)]
@@ -59,7 +60,8 @@ impl<'a> Signatures<'a> {
 
     // What a block of the type gives back.
     fn block_results<'b>(&'b self, block: &'b BlockType) -> &'b [ValType]
-        ensures { map val_type result.now ≡ block_results (types_in self.now) (tags_in self.now) (block_of block.now) }
+        ensures { map val_type result.now ≡ block_results (types_in self.now) (tags_in self.now)
+            (block_of block.now) }
     {
         match block {
             BlockType::NoResult => &[],
@@ -70,7 +72,8 @@ impl<'a> Signatures<'a> {
 
     // The type of the tag that a `catch` with these arguments names.
     fn tag_type(&self, args: &[Arg]) -> Option<TypeId>
-        ensures { option_map place result ≡ option_and_then (tags_in self.now) (first_place (map arg_of args.now)) }
+        ensures { option_map place result ≡ option_and_then (tags_in self.now)
+            (first_place (map arg_of args.now)) }
     {
         let tag = first_place(args)?;
         self.tag_types.get(tag).copied()
@@ -79,7 +82,8 @@ impl<'a> Signatures<'a> {
     // The parameters of the tag that a `catch` with these arguments names.
     #[tactic(auto, using(crate::proofs::HandlerLemmas::caught_is))]
     fn caught(&self, args: &[Arg]) -> &[ValType]
-        ensures { map val_type result.now ≡ caught_params (types_in self.now) (tags_in self.now) (map arg_of args.now) }
+        ensures { map val_type result.now ≡ caught_params (types_in self.now) (tags_in self.now)
+            (map arg_of args.now) }
     {
         match self.tag_type(args) {
             Some(id) => self.params(id),
@@ -94,15 +98,17 @@ impl<'a> Signatures<'a> {
         block: Option<BlockType>,
         operator: &Operator,
     ) -> Result<Option<FunctionType>, AllocError>
-        ensures { IfOk result (λ needed. map function_type (option_to_list needed) ≡ handler_in (types_in self.now) (tags_in self.now) (option_map block_of block) (op_of operator.now)) }
+        ensures { IfOk result (λ needed. map function_type (option_to_list needed)
+            ≡ handler_in (types_in self.now) (tags_in self.now) (option_map block_of block)
+            (op_of operator.now)) }
     {
         let Some(block) = block else {
             return Ok(None);
         };
         let results = self.block_results(&block);
         match operator.op {
-            0x07 => handler_type(alloc, self.caught(operator.args.as_slice()), results),
-            0x19 => handler_type(alloc, &[], results),
+            CATCH => handler_type(alloc, self.caught(operator.args.as_slice()), results),
+            CATCH_ALL => handler_type(alloc, &[], results),
             _ => Ok(None),
         }
     }
@@ -141,7 +147,8 @@ fn handler_type(
     params: &[ValType],
     results: &[ValType],
 ) -> Result<Option<FunctionType>, AllocError>
-    ensures { IfOk result (λ needed. map function_type (option_to_list needed) ≡ catch_type (map val_type params.now) (map val_type results.now)) }
+    ensures { IfOk result (λ needed. map function_type (option_to_list needed)
+        ≡ catch_type (map val_type params.now) (map val_type results.now)) }
 {
     if params.is_empty() && results.len() <= 1 {
         return Ok(None);
@@ -168,7 +175,8 @@ fn add_type(
     needed: &FunctionType,
     ids: &mut Vec<TypeId>,
 ) -> Result<(), AllocError>
-    ensures added { IfOk result (λ _. (p : ℕ) × ((map place ids.new.items ≡ map place ids.old.items ++ p ∷ []) × AddsTypes (function_type needed.now ∷ []) (slots_of types.old) (slots_of types.new) (p ∷ []))) }
+    ensures added { IfOk result (λ _. (p : ℕ) × ((map place ids.new.items ≡ map place ids.old.items ++ p ∷ [])
+        × AddsTypes (function_type needed.now ∷ []) (slots_of types.old) (slots_of types.new) (p ∷ []))) }
     ensures stays { StaysInFront (type_slots types.old) (type_slots types.new) }
 {
     let id = types.add(needed.params(), needed.results())?;
@@ -176,25 +184,36 @@ fn add_type(
     Ok(())
 }
 
+// An operator of a body, the block that it stands in if that is a legacy try, and what its indices mean: the types of tags, and the
+// places of types below a bound.
+#[derive(Clone, Copy)]
+struct Placed<'a> {
+    operator: &'a Operator,
+    block: Option<BlockType>,
+    bound: usize,
+    tag_types: &'a [TypeId],
+}
+
 // Finds or adds the type that an operator needs, if it needs one.
 fn add_needed(
     alloc: Global,
     types: &mut ModuleTypes,
-    bound: usize,
-    tag_types: &[TypeId],
-    block: Option<BlockType>,
-    operator: &Operator,
+    placed: &Placed,
     ids: &mut Vec<TypeId>,
 ) -> Result<(), AllocError>
-    ensures added { IfOk result (λ _. (ps : List ℕ) × ((map place ids.new.items ≡ map place ids.old.items ++ ps) × AddsTypes (handler_in (types_below bound (type_slots types.old)) (tag_places tag_types.now) (option_map block_of block) (op_of operator.now)) (slots_of types.old) (slots_of types.new) ps)) }
+    ensures added { IfOk result
+        (λ _. (ps : List ℕ) × ((map place ids.new.items ≡ map place ids.old.items ++ ps)
+        × AddsTypes (handler_in (types_below placed.now.bound (type_slots types.old))
+        (tag_places placed.now.tag_types.now) (option_map block_of placed.now.block)
+        (op_of placed.now.operator.now)) (slots_of types.old) (slots_of types.new) ps)) }
     ensures stays { StaysInFront (type_slots types.old) (type_slots types.new) }
 {
     let signatures = Signatures {
         types,
-        bound,
-        tag_types,
+        bound: placed.bound,
+        tag_types: placed.tag_types,
     };
-    match signatures.needed(alloc, block, operator)? {
+    match signatures.needed(alloc, placed.block, placed.operator)? {
         Some(needed) => add_type(types, &needed, ids),
         None => Ok(()),
     }
@@ -207,7 +226,9 @@ pub(crate) fn add_handler_types(
     tag_types: &[TypeId],
     operators: &[Operator],
 ) -> Result<Vec<TypeId>, AllocError>
-    ensures added { IfOk result (λ ids. AddsTypes (handlers_of (item_at (type_slots types.old)) (tag_places tag_types.now) (ops_of operators.now)) (slots_of types.old) (slots_of types.new) (map place ids.items)) }
+    ensures added { IfOk result
+        (λ ids. AddsTypes (handlers_of (item_at (type_slots types.old)) (tag_places tag_types.now)
+        (ops_of operators.now)) (slots_of types.old) (slots_of types.new) (map place ids.items)) }
     ensures stays { StaysInFront (type_slots types.old) (type_slots types.new) }
 {
     let bound = count_places(alloc, types)?;
@@ -215,7 +236,13 @@ pub(crate) fn add_handler_types(
     let mut ids = Vec::new(alloc);
     for operator in operators {
         let block = blocks.innermost_try();
-        add_needed(alloc, types, bound, tag_types, block, operator, &mut ids)?;
+        let placed = Placed {
+            operator,
+            block,
+            bound,
+            tag_types,
+        };
+        add_needed(alloc, types, &placed, &mut ids)?;
         blocks.step(operator)?;
     }
     Ok(ids)

@@ -44,9 +44,11 @@ pub fn read_body<L: Fn(&usize) -> InstrLocId>(
     requires callable { L.IsAlwaysCallable locate.now }
     ensures read { ReadsFunction (context (ids_at indices.now) (is_function_at types.old) features.now)
         (λ tag. option_map place (slice_get tag_types.now tag)) (place ty)
-        (record { types = type_slots types.old; names = type_names types.old }) (record { types = type_slots types.new; names = type_names types.new })
+        (record { types = type_slots types.old; names = type_names types.old })
+        (record { types = type_slots types.new; names = type_names types.new })
         (locals module_locals.old) (locals module_locals.new) bytes.now result }
-    ensures located { IfOk result (λ f. BodyLocated (FnReturnsAt L.Fn locate.now) start bytes.now (locations f.operators.items)) }
+    ensures located { IfOk result (λ f. BodyLocated (FnReturnsAt L.Fn locate.now) start bytes.now
+        (locations f.operators.items)) }
     ensures types_stay { StaysInFront (type_slots types.old) (type_slots types.new) }
     ensures locals_stay { StaysInFront (locals module_locals.old) (locals module_locals.new) }
 {
@@ -74,7 +76,8 @@ fn add_locals(
     types: &[ValType],
     module_locals: &mut ModuleLocals,
 ) -> Result<Vec<LocalId>, AllocError>
-    ensures added { IfOk result (λ ids. AddsLocals (locals module_locals.old) (locals module_locals.new) ids.items types.now) }
+    ensures added { IfOk result (λ ids. AddsLocals (locals module_locals.old)
+        (locals module_locals.new) ids.items types.now) }
     ensures stays { StaysInFront (locals module_locals.old) (locals module_locals.new) }
 {
     let mut ids = Vec::new(alloc);

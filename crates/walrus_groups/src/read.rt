@@ -69,10 +69,14 @@ fn read_group(
 
 // Gives each of these types the next index.
 fn give_indices(indices: &mut IndicesToIds, ids: &[TypeId]) -> Result<(), IrError>
-    requires in_place { places_in indices.old Types ≡ range_with_len 0 (length (places_in indices.old Types)) }
-    requires behind { map (λ id. place id) ids.now ≡ range_with_len (length (places_in indices.old Types)) (length ids.now) }
-    ensures in_place { OnOk result (places_in indices.new Types ≡ range_with_len 0 (length (places_in indices.old Types) + length ids.now)) }
-    ensures refused { RefusedAsTooMany result (2 ^ 32 < length (places_in indices.old Types) + length ids.now) }
+    requires in_place { places_in indices.old Types ≡ range_with_len 0
+        (length (places_in indices.old Types)) }
+    requires behind { map (λ id. place id) ids.now ≡ range_with_len (length (places_in indices.old Types))
+        (length ids.now) }
+    ensures in_place { OnOk result (places_in indices.new Types ≡ range_with_len 0
+        (length (places_in indices.old Types) + length ids.now)) }
+    ensures refused { RefusedAsTooMany result
+        (2 ^ 32 < length (places_in indices.old Types) + length ids.now) }
     ensures only_types { OnOk result (OnlyTypesChange indices.old indices.new) }
 {
     for id in ids {
@@ -86,7 +90,8 @@ fn give_indices(indices: &mut IndicesToIds, ids: &[TypeId]) -> Result<(), IrErro
 
 // The members of a group.
 fn name_subs(alloc: Global, raw: &[RawSub], indices: &IndicesToIds) -> Result<Vec<NewType>, IrError>
-    ensures { Finds (λ members. map new_sub members.items) result (each (read_sub (ids_at indices.now)) (map sub_of (map sub raw.now))) }
+    ensures { Finds (λ members. map new_sub members.items) result
+        (each (read_sub (ids_at indices.now)) (map sub_of (map sub raw.now))) }
 {
     let mut members = Vec::new(alloc);
     for member in raw {
@@ -148,7 +153,9 @@ fn name_function(
     raw: &RawFuncType,
     indices: &IndicesToIds,
 ) -> Result<FunctionType, IrError>
-    ensures { Finds (λ f. function_comp (function_type f)) result (named_function (ids_at indices.now) (map val_of raw.now.params.items) (map val_of raw.now.results.items)) }
+    ensures { Finds (λ f. function_comp (function_type f)) result
+        (named_function (ids_at indices.now) (map val_of raw.now.params.items)
+        (map val_of raw.now.results.items)) }
 {
     let params = name_values(alloc, raw.params.as_slice(), indices)?;
     let results = name_values(alloc, raw.results.as_slice(), indices)?;
@@ -161,7 +168,8 @@ fn name_values(
     raw: &[RawVal],
     indices: &IndicesToIds,
 ) -> Result<Vec<ValType>, IrError>
-    ensures { Finds (λ values. map val_type values.items) result (named_vals (ids_at indices.now) (map val_of raw.now)) }
+    ensures { Finds (λ values. map val_type values.items) result
+        (named_vals (ids_at indices.now) (map val_of raw.now)) }
 {
     let mut values = Vec::new(alloc);
     for value in raw {
@@ -179,7 +187,8 @@ fn name_fields(
     raw: &[RawFieldType],
     indices: &IndicesToIds,
 ) -> Result<Vec<FieldType>, IrError>
-    ensures { Finds (λ fields. map field_type fields.items) result (named_fields (ids_at indices.now) (map field_of raw.now)) }
+    ensures { Finds (λ fields. map field_type fields.items) result
+        (named_fields (ids_at indices.now) (map field_of raw.now)) }
 {
     let mut fields = Vec::new(alloc);
     for field in raw {

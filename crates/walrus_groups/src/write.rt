@@ -43,7 +43,8 @@ pub fn index_types(
     indices: &IdsToIndices,
 ) -> Result<Vec<RawGroup>, IrError>
     requires numbered { NumbersTypes (index_of indices.now) (type_slots types.now) }
-    ensures indexed { IndexesTypes (λ raw. map group raw.items) (index_of indices.now) (items (type_slots types.now)) result }
+    ensures indexed { IndexesTypes (λ raw. map group raw.items) (index_of indices.now)
+        (items (type_slots types.now)) result }
 {
     types.groups_are_whole();
     let mut groups = Vec::new(alloc);
@@ -74,7 +75,9 @@ fn index_group(
     indices: &IdsToIndices,
 ) -> Result<RawGroup, IrError>
     requires there { IsLive (type_slots types.now) (place id) }
-    ensures indexed { UnlessRefused (λ raw. AllZip (StandsFor (index_of indices.now) (type_slots types.now)) (group_at (type_slots types.now) (place id)) (group raw)) (index_of indices.now) (items (type_slots types.now)) result }
+    ensures indexed { UnlessRefused (λ raw. AllZip (StandsFor (index_of indices.now) (type_slots types.now))
+        (group_at (type_slots types.now) (place id)) (group raw)) (index_of indices.now)
+        (items (type_slots types.now)) result }
 {
     types.groups_are_whole();
     let mut members = Vec::new(alloc);
@@ -92,14 +95,16 @@ fn index_member(
     indices: &IdsToIndices,
 ) -> Result<RawSub, IrError>
     requires there { IsLive (type_slots types.now) (place id) }
-    ensures indexed { UnlessRefused (λ raw. StandsFor (index_of indices.now) (type_slots types.now) (place id) (sub raw)) (index_of indices.now) (items (type_slots types.now)) result }
+    ensures indexed { UnlessRefused (λ raw. StandsFor (index_of indices.now) (type_slots types.now) (place id)
+        (sub raw)) (index_of indices.now) (items (type_slots types.now)) result }
 {
     index_sub(alloc, types.get(id), indices)
 }
 
 // A type.
 fn index_sub(alloc: Global, ty: &Type, indices: &IdsToIndices) -> Result<RawSub, IrError>
-    ensures indexed { IndexesIn (λ raw. sub_of (sub raw)) result (sub_is_exact (type_def ty.now).sub) (named_sub (index_of indices.now) (type_def ty.now).sub) }
+    ensures indexed { IndexesIn (λ raw. sub_of (sub raw)) result (sub_is_exact (type_def ty.now).sub)
+        (named_sub (index_of indices.now) (type_def ty.now).sub) }
     ensures spelled { IfOk result (λ raw. SubStands (sub raw)) }
 {
     let supers = index_supertype(alloc, ty.supertype(), indices)?;
@@ -117,7 +122,8 @@ fn index_supertype(
     supertype: Option<TypeId>,
     indices: &IdsToIndices,
 ) -> Result<Vec<u32>, IrError>
-    ensures indexed { IndexesIn (λ raw. raw.items) result false (named_types (index_of indices.now) (supertypes supertype)) }
+    ensures indexed { IndexesIn (λ raw. raw.items) result false
+        (named_types (index_of indices.now) (supertypes supertype)) }
     ensures spelled { IfOk result (λ raw. All (λ n. n < 2 ^ 32) raw.items) }
 {
     let mut supers = Vec::new(alloc);
@@ -132,7 +138,8 @@ fn index_supertype(
 
 // A composite type.
 fn index_comp(alloc: Global, ty: &CompositeType, indices: &IdsToIndices) -> Result<RawComp, IrError>
-    ensures indexed { IndexesIn (λ raw. comp_of (comp raw)) result (comp_is_exact (comp_type ty.now)) (named_comp (index_of indices.now) (comp_type ty.now)) }
+    ensures indexed { IndexesIn (λ raw. comp_of (comp raw)) result (comp_is_exact (comp_type ty.now))
+        (named_comp (index_of indices.now) (comp_type ty.now)) }
     ensures spelled { IfOk result (λ raw. CompStands (comp raw)) }
 {
     match ty {
@@ -154,7 +161,9 @@ fn index_function(
     function: &FunctionType,
     indices: &IdsToIndices,
 ) -> Result<RawFuncType, IrError>
-    ensures indexed { IndexesIn (λ raw. comp_of (Function (func_type raw))) result (comp_is_exact (function_comp (function_type function.now))) (named_comp (index_of indices.now) (function_comp (function_type function.now))) }
+    ensures indexed { IndexesIn (λ raw. comp_of (Function (func_type raw))) result
+        (comp_is_exact (function_comp (function_type function.now)))
+        (named_comp (index_of indices.now) (function_comp (function_type function.now))) }
     ensures spelled { IfOk result (λ raw. CompStands (Function (func_type raw))) }
 {
     let params = index_values(alloc, function.params(), indices)?;
@@ -168,7 +177,9 @@ fn index_values(
     values: &[ValType],
     indices: &IdsToIndices,
 ) -> Result<Vec<RawVal>, IrError>
-    ensures indexed { IndexesIn (λ raw. map val_of raw.items) result (vals_are_exact (map val_type values.now)) (named_vals (index_of indices.now) (map val_type values.now)) }
+    ensures indexed { IndexesIn (λ raw. map val_of raw.items) result
+        (vals_are_exact (map val_type values.now))
+        (named_vals (index_of indices.now) (map val_type values.now)) }
     ensures spelled { IfOk result (λ raw. All ValueStands raw.items) }
 {
     let mut raw = Vec::with_capacity(alloc, values.len())?;
@@ -184,7 +195,9 @@ fn index_fields(
     fields: &[FieldType],
     indices: &IdsToIndices,
 ) -> Result<Vec<RawFieldType>, IrError>
-    ensures indexed { IndexesIn (λ raw. map field_of raw.items) result (fields_are_exact (map field_type fields.now)) (named_fields (index_of indices.now) (map field_type fields.now)) }
+    ensures indexed { IndexesIn (λ raw. map field_of raw.items) result
+        (fields_are_exact (map field_type fields.now))
+        (named_fields (index_of indices.now) (map field_type fields.now)) }
     ensures spelled { IfOk result (λ raw. All FieldStands raw.items) }
 {
     let mut raw = Vec::with_capacity(alloc, fields.len())?;
@@ -196,7 +209,8 @@ fn index_fields(
 
 // A field.
 fn index_field(field: FieldType, indices: &IdsToIndices) -> Result<RawFieldType, IrError>
-    ensures indexed { IndexesIn field_of result (field_is_exact (field_type field)) (named_field (index_of indices.now) (field_type field)) }
+    ensures indexed { IndexesIn field_of result (field_is_exact (field_type field))
+        (named_field (index_of indices.now) (field_type field)) }
     ensures spelled { IfOk result FieldStands }
 {
     let storage = index_storage(field.element_type, indices)?;
@@ -208,7 +222,8 @@ fn index_field(field: FieldType, indices: &IdsToIndices) -> Result<RawFieldType,
 
 // What a field holds.
 fn index_storage(storage: StorageType, indices: &IdsToIndices) -> Result<RawStorage, IrError>
-    ensures indexed { IndexesIn storage_of result (storage_is_exact (storage_type storage)) (named_storage (index_of indices.now) (storage_type storage)) }
+    ensures indexed { IndexesIn storage_of result (storage_is_exact (storage_type storage))
+        (named_storage (index_of indices.now) (storage_type storage)) }
     ensures spelled { IfOk result StorageStands }
 {
     match storage {

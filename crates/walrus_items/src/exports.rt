@@ -95,7 +95,8 @@ impl ModuleExports {
     pub fn add(&mut self, name: &str, item: ExportItem) -> Result<ExportId>
         ensures { MatchResult result
             (λ id. (place id ≡ length (exports self.old))
-            × (exports self.new ≡ exports self.old ++ Some (record { id = place id; name = name.now; item = item }) ∷ []))
+            × (exports self.new ≡ exports self.old
+            ++ Some (record { id = place id; name = name.now; item = item }) ∷ []))
             (λ e. (e ≡ out_of_memory) × (exports self.new ≡ exports self.old)) }
     {
         let name = String::from_str(self.alloc, name)?;
@@ -190,7 +191,8 @@ impl ModuleExports {
 
     /// The first export of this function.
     pub fn get_exported_func(&self, id: FunctionId) -> Option<&Export>
-        ensures { option_map (λ e. export_value e.now) result ≡ option_map (λ e. e.1) (first (exports_function (place id)) (exports self.now)) }
+        ensures { option_map (λ e. export_value e.now) result ≡ option_map (λ e. e.1)
+            (first (exports_function (place id)) (exports self.now)) }
     {
         for (_, export) in self.arena.iter() {
             let ExportItem::Function(exported) = export.item;
@@ -203,7 +205,8 @@ impl ModuleExports {
 
     /// Takes away the first export of this name, or answers `NotFound` where there is none.
     pub fn remove(&mut self, name: &str) -> Result<()>
-        ensures { RemovesFound (first (is_named name.now) (exports self.old)) (exports self.old) (exports self.new) result }
+        ensures { RemovesFound (first (is_named name.now) (exports self.old)) (exports self.old)
+            (exports self.new) result }
     {
         match self.first_named(name) {
             Some(found) => {
@@ -216,7 +219,8 @@ impl ModuleExports {
 
     // The id of the first export of this name.
     fn first_named(&self, name: &str) -> Option<ExportId>
-        ensures { option_map place result ≡ option_map (λ e. e.0) (first (is_named name.now) (exports self.now)) }
+        ensures { option_map place result ≡ option_map (λ e. e.0)
+            (first (is_named name.now) (exports self.now)) }
     {
         for (id, export) in self.arena.iter() {
             if export.name.as_str() == name {

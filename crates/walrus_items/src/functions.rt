@@ -122,7 +122,9 @@ impl ModuleFunctions {
     pub fn add_import(&mut self, ty: TypeId, import: ImportId) -> Result<FunctionId>
         ensures { MatchResult result
             (λ id. (place id ≡ length (functions self.old))
-            × (functions self.new ≡ functions self.old ++ Some (record { id = place id; kind = FunctionKind.Import (record { ty = ty; import = «import» }); name = None }) ∷ []))
+            × (functions self.new ≡ functions self.old
+            ++ Some (record { id = place id; kind = FunctionKind.Import
+            (record { ty = ty; import = «import» }); name = None }) ∷ []))
             (λ e. (e ≡ out_of_memory) × (functions self.new ≡ functions self.old)) }
     {
         let id = self.arena.next_id();
@@ -140,7 +142,9 @@ impl ModuleFunctions {
     pub fn add_local(&mut self, local: LocalFunction) -> Result<FunctionId>
         ensures { MatchResult result
             (λ id. (place id ≡ length (functions self.old))
-            × (functions self.new ≡ functions self.old ++ Some (record { id = place id; kind = FunctionKind.Local local; name = text_of local.name }) ∷ []))
+            × (functions self.new ≡ functions self.old
+            ++ Some (record { id = place id; kind = FunctionKind.Local local; name = text_of local.name }) ∷
+            []))
             (λ e. (e ≡ out_of_memory) × (functions self.new ≡ functions self.old)) }
     {
         let name = copied(&local.name)?;
@@ -236,7 +240,8 @@ impl ModuleFunctions {
 
     /// The first function of this name, which is that of the name section and not that of an export.
     pub fn by_name(&self, name: &str) -> Option<FunctionId>
-        ensures { option_map place result ≡ option_map (λ e. e.0) (first (is_called name.now) (functions self.now)) }
+        ensures { option_map place result ≡ option_map (λ e. e.0)
+            (first (is_called name.now) (functions self.now)) }
     {
         for (id, function) in self.arena.iter() {
             if is_text(&function.name, name) {

@@ -32,21 +32,26 @@ pub fn reads_once()
 /// Two steps are one step, under the renamings joined: two that take all there is, or what gc keeps and then all of it
 /// as it is written, with the one segment that writing may add.
 pub fn renamings_compose()
-    ensures all { (a b c : Abstract) (r s : Renaming) → CarriesAll r a b → CarriesAll s b c → CarriesAll (joined r s) a c }
-    ensures kept { (a b c : Abstract) (r s : Renaming) (segment : Option ℕ) → Carried (Kept a) (λ x. ⊥) r a b → Carried (IsLive b) (IsTheSegment segment) s b c → Carried (Kept a) (IsTheSegment segment) (joined r s) a c }
+    ensures all { (a b c : Abstract) (r s : Renaming) → CarriesAll r a b → CarriesAll s b c
+        → CarriesAll (joined r s) a c }
+    ensures kept { (a b c : Abstract) (r s : Renaming) (segment : Option ℕ) → Carried (Kept a) (λ x. ⊥) r a b
+        → Carried (IsLive b) (IsTheSegment segment) s b c → Carried (Kept a) (IsTheSegment segment)
+        (joined r s) a c }
 {}
 
 /// Chosen types keep their shapes ("Types > Recursive Types"): those that come out for a module, and those of a module
 /// that is taken whole and names nothing that it lacks.
 pub fn shapes_are_kept()
     ensures out { (c : Config) (m n : Abstract) (out : Out c m n) → KeepsShapes (Kept m) out.renaming m n }
-    ensures all { (r : Renaming) (a b : Abstract) → NamesAreLive a → CarriesAll r a b → KeepsShapes (IsLive a) r a b }
+    ensures all { (r : Renaming) (a b : Abstract) → NamesAreLive a → CarriesAll r a b
+        → KeepsShapes (IsLive a) r a b }
 {}
 
 /// What is written in an item under its new number is what was written in it, renamed, for every kind of item.
 pub fn names_follow()
     ensures out { (c : Config) (m n : Abstract) (out : Out c m n) → NamesFollow (Kept m) out.renaming m n }
-    ensures written { (c : Config) (m n : Abstract) (written : Written c m n) → NamesFollow (IsLive m) written.renaming m n }
+    ensures written { (c : Config) (m n : Abstract) (written : Written c m n)
+        → NamesFollow (IsLive m) written.renaming m n }
     ensures all { (r : Renaming) (a b : Abstract) → CarriesAll r a b → NamesFollow (IsLive a) r a b }
 {}
 
@@ -54,14 +59,19 @@ pub fn names_follow()
 /// is. Asked for: all that is reached or named is there, what items keep beside what is written in them follows too, and
 /// (for what is kept) memories stay in order.
 pub fn reached_follows()
-    ensures reached { (r : Renaming) (a b : Abstract) → CarriesAll r a b → IsWide (IsLive a) a → SetsFollow (IsLive a) r a b → ReachedFollows r a b }
-    ensures kept { (r : Renaming) (a b : Abstract) → CarriesAll r a b → IsWide (IsLive a) a → SetsFollow (IsLive a) r a b → MemoriesRise r a → KeptFollows r a b }
+    ensures reached { (r : Renaming) (a b : Abstract) → CarriesAll r a b → IsWide (IsLive a) a
+        → SetsFollow (IsLive a) r a b → ReachedFollows r a b }
+    ensures kept { (r : Renaming) (a b : Abstract) → CarriesAll r a b → IsWide (IsLive a) a
+        → SetsFollow (IsLive a) r a b → MemoriesRise r a → KeptFollows r a b }
 {}
 
 /// A module that is read and taken whole, gc on what came of it, and all that is left as it is written: together they
 /// carry what is kept of the module that was read, as `Out` asks, under the two renamings joined.
 pub fn kept_comes_out()
-    ensures { (r s : Renaming) (segment : Option ℕ) (m v w n : Abstract) → CarriesAll r m v → IsWide (IsLive m) m → KeptFollows r m v → ImportsNoType m → Carried (Kept v) (λ x. ⊥) unchanged v w → Carried (IsLive w) (IsTheSegment segment) s w n → Carried (Kept m) (IsAdded (Kept m) (joined r s) m n segment) (joined r s) m n }
+    ensures { (r s : Renaming) (segment : Option ℕ) (m v w n : Abstract) → CarriesAll r m v
+        → IsWide (IsLive m) m → KeptFollows r m v → ImportsNoType m → Carried (Kept v) (λ x. ⊥) unchanged v w
+        → Carried (IsLive w) (IsTheSegment segment) s w n → Carried (Kept m)
+        (IsAdded (Kept m) (joined r s) m n segment) (joined r s) m n }
 {}
 
 /// The definitions at work: of a module with two functions gc keeps the exported one, and the module of that one

@@ -1,17 +1,11 @@
 //! Arenas and sets of ids.
 
-use crate::demands::demand;
 use std::alloc::Global;
 use std::test::Fail;
-use walrus_base::{FunctionId, FunctionKey, Id, IdHashSet, TombstoneArena};
+use test_support::{demand, first_id};
+use walrus_base::{FunctionId, FunctionKey, IdHashSet, TombstoneArena};
 
 type Numbers = TombstoneArena<FunctionKey, usize>;
-
-/// An id at the first place.
-pub fn some_id<K>(alloc: Global) -> Id<K> {
-    let arena: TombstoneArena<K, u8> = TombstoneArena::new(alloc);
-    arena.next_id()
-}
 
 // Adds two numbers, deletes the first and changes the second.
 fn change(arena: &mut Numbers) -> bool {
@@ -67,7 +61,36 @@ fn set_knows_its_ids(rt: HostRuntime) -> Result<(), Fail> {
     let mut set = IdHashSet::new(rt.alloc());
     let id = second_id(rt.alloc());
     demand(
-        takes_once(&mut set, id) && loses(&mut set, id, some_id(rt.alloc())),
+        takes_once(&mut set, id) && loses(&mut set, id, first_id(rt.alloc())),
         "one of two",
+    )
+}
+
+fn mark(alloc: Global, id: FunctionId) -> Option<IdHashSet<FunctionKey>> {
+    let mut marks = IdHashSet::new(alloc);
+    match marks.insert(id) {
+        Ok(_) => Some(marks),
+        Err(_) => None,
+    }
+}
+
+// Adds two numbers, and keeps the second.
+fn keeps_second(alloc: Global, arena: &mut Numbers) -> bool {
+    let (Ok(first), Ok(second)) = (arena.alloc(10), arena.alloc(20)) else {
+        return false;
+    };
+    let Some(marks) = mark(alloc, second) else {
+        return false;
+    };
+    arena.keep_only(&marks);
+    first < second && !arena.contains(first) && arena.contains(second) && *arena.get(second) == 20
+}
+
+#[test]
+fn marked_items_are_kept(rt: HostRuntime) -> Result<(), Fail> {
+    let mut arena = TombstoneArena::new(rt.alloc());
+    demand(
+        arena.is_empty() && keeps_second(rt.alloc(), &mut arena) && !arena.is_empty(),
+        "the second",
     )
 }

@@ -1,8 +1,8 @@
 //! The entries of sections, read and written: other spellings come out in the one that is written.
 
-use crate::demands::{add_bytes, are, demand, is_text};
 use std::alloc::Global;
 use std::test::Fail;
+use test_support::{add_bytes, are, demand, is_text};
 use wasm_entries::{
     RawData, RawElement, RawExport, RawGlobal, RawImport, RawLimits, RawTable, read_expression,
     read_group, read_groups, write_expression, write_group, write_groups, write_limits,

@@ -1,8 +1,8 @@
 //! Numbers, blocks, names and vectors, against bytes known from the standard and from other encoders.
 
-use crate::demands::{are, demand, is_text};
 use std::alloc::Global;
 use std::test::Fail;
+use test_support::{are, demand, is_text};
 use wasm_forms::{
     read_byte, read_f32, read_f64, read_index_from, read_name, read_s32, read_s64, read_u32,
     read_u64, read_vector, write_block, write_f32, write_f64, write_index, write_name, write_s32,

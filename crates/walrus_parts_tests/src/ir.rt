@@ -1,9 +1,8 @@
 //! Bodies.
 
-use crate::base::some_id;
-use crate::demands::{add_bytes, are, demand};
 use std::alloc::{AllocError, Global};
 use std::test::Fail;
+use test_support::{add_bytes, are, demand, first_id};
 use walrus_base::FunctionId;
 use walrus_bodies::FunctionTypes;
 use walrus_ir::{
@@ -103,7 +102,7 @@ fn comes_back(alloc: Global, id: FunctionId, bytes: &[u8]) -> bool {
 fn a_body_is_read_and_written(rt: HostRuntime) -> Result<(), Fail> {
     let mut bytes = Vec::new(rt.alloc());
     demand(
-        add_bytes(&mut bytes, BODY) && comes_back(rt.alloc(), some_id(rt.alloc()), &bytes),
+        add_bytes(&mut bytes, BODY) && comes_back(rt.alloc(), first_id(rt.alloc()), &bytes),
         BODY,
     )
 }

@@ -1,16 +1,15 @@
 //! Functions and exports.
 
-use crate::base::some_id;
-use crate::demands::{demand, is_text};
 use std::alloc::{AllocError, Global};
 use std::test::Fail;
-use walrus_base::FunctionId;
+use test_support::{demand, first_id, is_text};
+use walrus_base::{ExportId, FunctionId, FunctionKey, IdHashSet};
 use walrus_ir::LocalFunction;
-use walrus_items::{ExportItem, ModuleExports, ModuleFunctions};
+use walrus_items::{ExportItem, FunctionKind, ModuleExports, ModuleFunctions};
 use walrus_parts::Error;
 
 fn named_function(alloc: Global, name: &str) -> Result<LocalFunction, AllocError> {
-    let mut local = LocalFunction::new(alloc, some_id(alloc), Vec::new(alloc), Vec::new(alloc));
+    let mut local = LocalFunction::new(alloc, first_id(alloc), Vec::new(alloc), Vec::new(alloc));
     local.name = Some(String::from_str(alloc, name)?);
     Ok(local)
 }
@@ -38,7 +37,7 @@ fn has_both(functions: &ModuleFunctions, imported: FunctionId, local: FunctionId
 }
 
 fn takes_both(alloc: Global, functions: &mut ModuleFunctions) -> bool {
-    let Ok(imported) = functions.add_import(some_id(alloc), some_id(alloc)) else {
+    let Ok(imported) = functions.add_import(first_id(alloc), first_id(alloc)) else {
         return false;
     };
     match add_f(alloc, functions) {
@@ -98,5 +97,95 @@ fn are_kept(exports: &mut ModuleExports, function: FunctionId) -> bool {
 #[test]
 fn exports_by_name_and_function(rt: HostRuntime) -> Result<(), Fail> {
     let mut exports = ModuleExports::new(rt.alloc());
-    demand(are_kept(&mut exports, some_id(rt.alloc())), "two exports")
+    demand(are_kept(&mut exports, first_id(rt.alloc())), "two exports")
+}
+
+fn is_renamed(exports: &mut ModuleExports, id: ExportId, name: String) -> bool {
+    if !exports.contains(id) {
+        return false;
+    }
+    exports.get_mut(id).name = name;
+    exports.contains(id) && is_text(&exports.get(id).name, "c") && exports.get(id).id() == id
+}
+
+// Takes both away, each by one of the two names that the call has.
+fn are_taken_away(exports: &mut ModuleExports, first: ExportId, second: ExportId) -> bool {
+    if first == second || !exports.contains(first) || !exports.contains(second) {
+        return false;
+    }
+    exports.delete(first);
+    exports.remove_root(second);
+    !exports.contains(first) && exports.is_empty() && exports.iter().next().is_none()
+}
+
+fn are_edited(exports: &mut ModuleExports, function: FunctionId, name: String) -> bool {
+    let Ok(first) = exports.add("a", function.into()) else {
+        return false;
+    };
+    let Ok(second) = exports.add("b", function.into()) else {
+        return false;
+    };
+    is_renamed(exports, first, name)
+        && exports.get_func("c").is_ok()
+        && exports.get_func("a").is_err()
+        && are_taken_away(exports, first, second)
+}
+
+#[test]
+fn exports_are_edited(rt: HostRuntime) -> Result<(), Fail> {
+    let mut exports = ModuleExports::new(rt.alloc());
+    let name = String::from_str(rt.alloc(), "c")?;
+    demand(
+        are_edited(&mut exports, first_id(rt.alloc()), name),
+        "renamed, and taken away",
+    )
+}
+
+fn is_local(functions: &ModuleFunctions, id: FunctionId, alloc: Global) -> bool {
+    functions.contains(id)
+        && functions.get(id).id() == id
+        && functions.get(id).ty() == first_id(alloc)
+        && matches!(functions.get(id).kind, FunctionKind::Local(_))
+}
+
+fn is_unnamed(functions: &mut ModuleFunctions, id: FunctionId) -> bool {
+    if !functions.contains(id) {
+        return false;
+    }
+    functions.get_mut(id).name = None;
+    functions.by_name("f").is_none()
+}
+
+fn is_deleted(functions: &mut ModuleFunctions, id: FunctionId) -> bool {
+    if !functions.contains(id) {
+        return false;
+    }
+    functions.delete(id);
+    !functions.contains(id) && functions.len() == 1
+}
+
+// Whether nothing is left where none is marked.
+fn is_emptied(alloc: Global, functions: &mut ModuleFunctions) -> bool {
+    let marks: IdHashSet<FunctionKey> = IdHashSet::new(alloc);
+    functions.keep_only(&marks);
+    functions.is_empty()
+}
+
+fn are_edited_functions(alloc: Global, functions: &mut ModuleFunctions) -> bool {
+    let (Some(first), Some(second)) = (add_f(alloc, functions), add_f(alloc, functions)) else {
+        return false;
+    };
+    is_local(functions, first, alloc)
+        && is_deleted(functions, first)
+        && is_unnamed(functions, second)
+        && is_emptied(alloc, functions)
+}
+
+#[test]
+fn functions_are_edited(rt: HostRuntime) -> Result<(), Fail> {
+    let mut functions = ModuleFunctions::new(rt.alloc())?;
+    demand(
+        are_edited_functions(rt.alloc(), &mut functions),
+        "two functions of one name",
+    )
 }

@@ -3,7 +3,8 @@
 
 #[cfg(test)]
 mod base;
-pub mod demands;
+#[cfg(test)]
+mod bodies;
 #[cfg(test)]
 mod entries;
 #[cfg(test)]

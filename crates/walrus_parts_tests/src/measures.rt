@@ -1,8 +1,8 @@
 //! How long sections are, told before they are written, for the sections of worked modules.
 
-use crate::demands::{add_bytes, are, demand};
 use std::alloc::Global;
 use std::test::Fail;
+use test_support::{add_bytes, are, demand};
 use wasm_wire::{Raw, RawBody, RawCustom, Section, measure, read_module};
 
 // Modules, and how many bytes each of their sections has with its id and its size, in hexadecimal: types, imports, functions, tables,

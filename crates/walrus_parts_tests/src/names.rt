@@ -1,9 +1,9 @@
 //! Payloads of the name section, and the namings that are told of them.
 
-use crate::demands::{add_bytes, demand, is_text};
 use crate::told::Told;
 use std::alloc::Global;
 use std::test::Fail;
+use test_support::{add_bytes, demand, is_text};
 use wasm_wire::{WireError, read_names};
 
 fn takes(told: &mut Told, bytes: &[u8]) -> bool {

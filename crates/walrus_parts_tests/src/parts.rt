@@ -1,11 +1,10 @@
 //! Errors and their texts, roots, and custom sections.
 
-use crate::base::some_id;
-use crate::demands::{add_bytes, are, demand, is_text};
 use crate::ir::index_of_function;
 use crate::sample::Sample;
 use std::alloc::{AllocError, Global};
 use std::test::Fail;
+use test_support::{add_bytes, are, demand, first_id, is_text};
 use walrus_ir::{FunctionId, IdsToIndices};
 use walrus_parts::{CustomSection, Error, ErrorKind, RawCustomSection, Roots};
 
@@ -118,7 +117,7 @@ fn gives_the_index(alloc: Global, section: &Sample) -> bool {
 #[test]
 fn a_section_of_a_caller(rt: HostRuntime) -> Result<(), Fail> {
     let alloc = rt.alloc();
-    let function = some_id(alloc);
+    let function = first_id(alloc);
     let section = Sample { alloc, function };
     let mut roots = Roots::new(alloc);
     demand(
@@ -133,25 +132,25 @@ fn a_section_of_a_caller(rt: HostRuntime) -> Result<(), Fail> {
 
 fn ask_for_first(alloc: Global, roots: &mut Roots) -> Result<(), Error> {
     roots
-        .push_func(some_id(alloc))?
-        .push_table(some_id(alloc))?
-        .push_memory(some_id(alloc))?;
+        .push_func(first_id(alloc))?
+        .push_table(first_id(alloc))?
+        .push_memory(first_id(alloc))?;
     Ok(())
 }
 
 fn ask_for_last(alloc: Global, roots: &mut Roots) -> Result<(), Error> {
     roots
-        .push_global(some_id(alloc))?
-        .push_tag(some_id(alloc))?
-        .push_func(some_id(alloc))?;
+        .push_global(first_id(alloc))?
+        .push_tag(first_id(alloc))?
+        .push_func(first_id(alloc))?;
     Ok(())
 }
 
 fn has_first_items(alloc: Global, roots: &Roots) -> bool {
-    matches!(roots.tables(), [table] if *table == some_id(alloc))
-        && matches!(roots.memories(), [memory] if *memory == some_id(alloc))
-        && matches!(roots.globals(), [global] if *global == some_id(alloc))
-        && matches!(roots.tags(), [tag] if *tag == some_id(alloc))
+    matches!(roots.tables(), [table] if *table == first_id(alloc))
+        && matches!(roots.memories(), [memory] if *memory == first_id(alloc))
+        && matches!(roots.globals(), [global] if *global == first_id(alloc))
+        && matches!(roots.tags(), [tag] if *tag == first_id(alloc))
 }
 
 #[test]

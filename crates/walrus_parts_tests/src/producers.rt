@@ -1,8 +1,8 @@
 //! Payloads of the producers section, and the fields that are read of them.
 
-use crate::demands::{add_bytes, demand, is_text};
 use std::alloc::{AllocError, Global};
 use std::test::Fail;
+use test_support::{add_bytes, demand, is_text};
 use wasm_wire::{RawField, read_producers};
 
 fn tell_field(text: &mut String, field: &RawField<'_>) -> Result<(), AllocError> {

@@ -1,8 +1,8 @@
 //! Modules of many sections, read, checked and written back.
 
-use crate::demands::{add_bytes, are, demand};
 use std::alloc::Global;
 use std::test::Fail;
+use test_support::{add_bytes, are, demand};
 use wasm_wire::{Raw, RawCustom, WireError, Writer, check, read_module};
 
 fn write_declarations(writer: &mut Writer, raw: &Raw<'_>) -> bool {
@@ -131,7 +131,32 @@ fn modules_are_written_back(rt: HostRuntime) -> Result<(), Fail> {
     each_stays(rt.alloc(), &MODULES)
 }
 
-const BROKEN: [(&str, Answer); 4] = [
+// Name and producers sections with faults, which are no faults of a module.
+const FAULTY_SECTIONS: [&str; 6] = [
+    // two name sections
+    "00 61 73 6D 01 00 00 00 01 04 01 60 00 00 03 02 01 00 07 05 01 01 66 00 00 0A 04 01 02 00 0B 00 0B 04 6E 61 6D 65 01 04 01 00 01 61 00 0B 04 6E 61 6D 65 01 04 01 00 01 62",
+    // a map of names that ends early
+    "00 61 73 6D 01 00 00 00 01 04 01 60 00 00 03 02 01 00 07 05 01 01 66 00 00 0A 04 01 02 00 0B 00 0C 04 6E 61 6D 65 01 05 02 00 01 61 01",
+    // a byte behind the module's name
+    "00 61 73 6D 01 00 00 00 01 04 01 60 00 00 03 02 01 00 07 05 01 01 66 00 00 0A 04 01 02 00 0B 00 0A 04 6E 61 6D 65 00 03 01 6D FF",
+    // a count of names that lies
+    "00 61 73 6D 01 00 00 00 01 04 01 60 00 00 03 02 01 00 07 05 01 01 66 00 00 0A 04 01 02 00 0B 00 0F 04 6E 61 6D 65 01 08 FF FF FF FF 0F 00 01 61",
+    // a field of producers that ends early, and one that stands twice
+    "00 61 73 6D 01 00 00 00 00 15 09 70 72 6F 64 75 63 65 72 73 02 03 73 64 6B 01 01 61 01 31 05",
+    "00 61 73 6D 01 00 00 00 00 1D 09 70 72 6F 64 75 63 65 72 73 02 03 73 64 6B 01 01 61 01 31 03 73 64 6B 01 01 61 01 32",
+];
+
+#[test]
+fn faults_of_custom_sections_are_kept(rt: HostRuntime) -> Result<(), Fail> {
+    each_stays(rt.alloc(), &FAULTY_SECTIONS)
+}
+
+const BROKEN: [(&str, Answer); 5] = [
+    // a start function that takes a number
+    (
+        "00 61 73 6D 01 00 00 00 01 05 01 60 01 7F 00 03 02 01 00 08 01 00 0A 04 01 02 00 0B",
+        Answer::Refused,
+    ),
     // a global that reads a later one
     (
         "00 61 73 6D 01 00 00 00 06 0B 02 7F 00 23 01 0B 7F 00 41 00 0B",

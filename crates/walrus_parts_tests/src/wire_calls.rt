@@ -1,11 +1,11 @@
 //! Calls of `wasm_wire` by themselves: what a reading answers, and what the writer appends.
 
-use crate::demands::{add_bytes, are, demand, is_text};
 use std::alloc::Global;
 use std::test::Fail;
+use test_support::{add_bytes, are, demand, is_text};
 use wasm_wire::{
     Raw, RawBody, RawComp, RawConst, RawCustom, RawExport, RawFuncType, RawGroup, RawLimits,
-    RawSub, RawVal, Writer, leb128_len, read_module,
+    RawSub, RawVal, Writer, check, leb128_len, measure_code, read_module, written_module,
 };
 
 // Two functions of one type, the second exported as `f`.
@@ -110,5 +110,68 @@ fn lengths_of_numbers(_rt: HostRuntime) -> Result<(), Fail> {
             && leb128_len(16383) == 2
             && leb128_len(16384) == 3,
         "lengths",
+    )
+}
+
+// Where the count and the bodies of the code section stand, when all in front of it is written.
+fn are_placed(raw: &Raw<'_>, writer: &mut Writer) -> bool {
+    let is_begun = writer.header().is_ok()
+        && writer.type_section(&raw.types).is_ok()
+        && writer.function_section(&raw.functions).is_ok()
+        && writer.export_section(&raw.exports).is_ok();
+    match writer.code_section(&raw.bodies) {
+        Ok(places) => {
+            is_begun
+                && places.count == 28
+                && places.bodies.as_slice() == [30..32, 33..35].as_slice()
+        }
+        Err(_) => false,
+    }
+}
+
+fn is_code_placed(alloc: Global, bytes: &[u8]) -> bool {
+    match read_module(alloc, bytes) {
+        Ok(raw) => matches!(measure_code(&raw.bodies), Ok(9))
+            && are_placed(&raw, &mut Writer::new(alloc)),
+        Err(_) => false,
+    }
+}
+
+#[test]
+fn bodies_have_their_places(rt: HostRuntime) -> Result<(), Fail> {
+    let mut bytes = Vec::new(rt.alloc());
+    demand(
+        add_bytes(&mut bytes, TWO_FUNCTIONS) && is_code_placed(rt.alloc(), &bytes),
+        TWO_FUNCTIONS,
+    )
+}
+
+// An exported function, with custom sections `a`, `dylink.0` and `b` between its sections, and what is written of it.
+const SCATTERED: &str =
+    "00 61 73 6D 01 00 00 00 00 03 01 61 01 01 04 01 60 00 00 03 02 01 00 07 05 01 01 66 00 00 00 0A 08 64 79 6C 69 6E 6B 2E 30 03 0A 04 01 02 00 0B 00 03 01 62 04";
+
+const GATHERED: &str =
+    "00 61 73 6D 01 00 00 00 00 0A 08 64 79 6C 69 6E 6B 2E 30 03 01 04 01 60 00 00 03 02 01 00 07 05 01 01 66 00 00 0A 04 01 02 00 0B 00 03 01 61 01 00 03 01 62 04";
+
+fn is_whole_written(alloc: Global, raw: &Raw<'_>, text: &str) -> bool {
+    match written_module(alloc, raw) {
+        Ok(written) => check(alloc, raw).is_ok() && are(alloc, &written, text),
+        Err(_) => false,
+    }
+}
+
+fn are_gathered(alloc: Global, bytes: &[u8]) -> bool {
+    match read_module(alloc, bytes) {
+        Ok(raw) => is_whole_written(alloc, &raw, GATHERED),
+        Err(_) => false,
+    }
+}
+
+#[test]
+fn custom_sections_have_their_places(rt: HostRuntime) -> Result<(), Fail> {
+    let mut bytes = Vec::new(rt.alloc());
+    demand(
+        add_bytes(&mut bytes, SCATTERED) && are_gathered(rt.alloc(), &bytes),
+        SCATTERED,
     )
 }

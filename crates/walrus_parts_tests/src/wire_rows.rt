@@ -1,9 +1,9 @@
 //! Worked modules: what becomes of the bytes that another encoder wrote.
 
-use crate::demands::{add_bytes, demand};
 use crate::wire::{Answer, each_is_answered, is_written_as};
 use std::alloc::Global;
 use std::test::Fail;
+use test_support::{add_bytes, demand};
 use wasm_wire::{Raw, check, read_module};
 
 // An empty function, exported as `f`, of the one type without parameters and results.

@@ -51,7 +51,8 @@ impl ProducerField {
 
     // A field of this one value.
     fn new(alloc: Global, name: &str, value: ProducerValue) -> Result<ProducerField, AllocError>
-        ensures { IfOk result (λ f. field_seen f ≡ record { name = name.now; values = value_seen value ∷ [] }) }
+        ensures { IfOk result
+            (λ f. field_seen f ≡ record { name = name.now; values = value_seen value ∷ [] }) }
     {
         let name = String::from_str(alloc, name)?;
         let mut values = Vec::new(alloc);
@@ -85,7 +86,8 @@ impl ProducerField {
     // Puts a value in the place of the first one of its name, or behind all where there is none. Refused, nothing changes.
     fn put(&mut self, value: ProducerValue) -> Result<(), AllocError>
         ensures { MatchResult result
-            (λ _. field_seen self.new ≡ record { name = (field_seen self.old).name; values = with_value (value_seen value) (field_seen self.old).values })
+            (λ _. field_seen self.new ≡ record { name = (field_seen self.old).name; values = with_value
+            (value_seen value) (field_seen self.old).values })
             (λ _. field_seen self.new ≡ field_seen self.old) }
     {
         match self.place_of(value.name.as_str()) {
@@ -151,7 +153,8 @@ impl ModuleProducers {
     /// changes.
     pub fn push_field(&mut self, name: &str, values: &[(&str, &str)]) -> Result<(), AllocError>
         ensures { MatchResult result
-            (λ _. producers self.new ≡ producers self.old ++ record { name = name.now; values = map pair_value values.now } ∷ [])
+            (λ _. producers self.new ≡ producers self.old
+            ++ record { name = name.now; values = map pair_value values.now } ∷ [])
             (λ _. producers self.new ≡ producers self.old) }
     {
         let field = ProducerField {
@@ -192,7 +195,8 @@ impl ModuleProducers {
     // Puts a field of this one value behind the others. Refused, nothing changes.
     fn push_new(&mut self, name: &str, value: ProducerValue) -> Result<(), AllocError>
         ensures { MatchResult result
-            (λ _. producers self.new ≡ producers self.old ++ record { name = name.now; values = value_seen value ∷ [] } ∷ [])
+            (λ _. producers self.new ≡ producers self.old
+            ++ record { name = name.now; values = value_seen value ∷ [] } ∷ [])
             (λ _. producers self.new ≡ producers self.old) }
     {
         let field = ProducerField::new(self.alloc, name, value)?;

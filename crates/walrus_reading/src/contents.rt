@@ -103,7 +103,8 @@ fn number_functions(count: usize, indices: &mut IndicesToIds) -> Result<()>
     requires none { places_in indices.old Functions ≡ [] }
     requires room { count < 2 ^ 32 }
     ensures numbered { OnOk result (places_in indices.new Functions ≡ range_with_len 0 count) }
-    ensures others { OnOk result ((space : Space) → space ≢ Functions → places_in indices.new space ≡ places_in indices.old space) }
+    ensures others { OnOk result ((space : Space) → space ≢ Functions → places_in indices.new space
+        ≡ places_in indices.old space) }
     ensures fails { IsOkUnless result out_of_memory }
 {
     for place in 0..count {
@@ -123,7 +124,8 @@ fn add_types(
     requires no_indices { (space : Space) → places_in indices.old space ≡ [] }
     requires declared { AreDeclared 0 (map group raw.now) }
     ensures added { OnOk result (type_slots types.new ≡ map Some (types_from 0 (map group raw.now))) }
-    ensures numbered { OnOk result (places_in indices.new Types ≡ range_with_len 0 (length (types_from 0 (map group raw.now)))) }
+    ensures numbered { OnOk result (places_in indices.new Types ≡ range_with_len 0
+        (length (types_from 0 (map group raw.now)))) }
     ensures others { OnOk result ((space : Space) → space ≢ Types → places_in indices.new space ≡ []) }
     ensures fails { IsOkUnless result out_of_memory }
 {
@@ -138,8 +140,10 @@ fn add_types(
 
 // A local for each parameter.
 fn add_params(alloc: Global, params: &[ValType], all: &mut ModuleLocals) -> Result<Vec<LocalId>>
-    ensures args { IfOk result (λ args. map place args.items ≡ range_with_len (length (locals all.old)) (length params.now)) }
-    ensures typed { OnOk result (local_types (locals all.new) ≡ local_types (locals all.old) ++ map Some (map val_type params.now)) }
+    ensures args { IfOk result (λ args. map place args.items ≡ range_with_len (length (locals all.old))
+        (length params.now)) }
+    ensures typed { OnOk result (local_types (locals all.new) ≡ local_types (locals all.old)
+        ++ map Some (map val_type params.now)) }
     ensures fails { IsOkUnless result out_of_memory }
 {
     let mut args = Vec::with_capacity(alloc, params.len())?;
@@ -160,10 +164,12 @@ fn add_function(
 ) -> Result<()>
     requires declared { ids_at under.indices.now Types index ≡ Some index }
     requires typed { is_function_at under.types.now index ≡ true }
-    ensures taken { TakesFunction (context_under under.entry) (types_under under.entry) (index, body_record body.now)
+    ensures taken { TakesFunction (context_under under.entry) (types_under under.entry)
+        (index, body_record body.now)
         all.new (functions funcs.old) (functions funcs.new) result }
     ensures stays { OnOk result (StaysInFront (local_types (locals all.old)) (local_types (locals all.new))) }
-    ensures located { OnOk result (AddsLocated (body_record body.now) (functions funcs.old) (functions funcs.new)) }
+    ensures located { OnOk result (AddsLocated (body_record body.now) (functions funcs.old)
+        (functions funcs.new)) }
 {
     let Some(ty) = under.indices.get_type(index) else {
         unreachable!();
@@ -187,7 +193,8 @@ fn read_located<L: Fn(&usize) -> InstrLocId>(
 ) -> result::Result<ReadBody, IrError>
     requires callable { L.IsAlwaysCallable locate.now }
     requires tells { (place : ℕ) (loc : _) → FnReturnsAt L.Fn locate.now place loc → IsPlace place loc }
-    ensures read { ReadsBody (context_under under.entry) (map place args.now) (locals all.old) (locals all.new)
+    ensures read { ReadsBody (context_under under.entry) (map place args.now) (locals all.old)
+        (locals all.new)
         body.now.bytes.now result }
     ensures located { IfOk result (λ read. BodyLocated IsPlace body.now.start body.now.bytes.now
         (locations read.operators.items)) }
@@ -232,7 +239,8 @@ fn add_functions(
 fn add_export(entry: &RawExport<'_>, indices: &IndicesToIds, all: &mut ModuleExports) -> Result<()>
     requires declared { ids_at indices.now Functions entry.now.index ≡ Some entry.now.index }
     requires function { IsOfFunction (export_entry entry.now) }
-    ensures added { OnOk result (exports_of all.new ≡ exports_of all.old ++ export_of (export_entry entry.now) ∷ []) }
+    ensures added { OnOk result (exports_of all.new ≡ exports_of all.old
+        ++ export_of (export_entry entry.now) ∷ []) }
     ensures fails { IsOkUnless result out_of_memory }
 {
     let Some(id) = indices.get_func(entry.index) else {
@@ -244,7 +252,8 @@ fn add_export(entry: &RawExport<'_>, indices: &IndicesToIds, all: &mut ModuleExp
 
 fn add_exports(raw: &[RawExport<'_>], indices: &IndicesToIds, all: &mut ModuleExports) -> Result<()>
     requires none { exports all.old ≡ [] }
-    requires declared { All (λ e. ids_at indices.now Functions e.index ≡ Some e.index) (map export_entry raw.now) }
+    requires declared { All (λ e. ids_at indices.now Functions e.index ≡ Some e.index)
+        (map export_entry raw.now) }
     requires functions { All IsOfFunction (map export_entry raw.now) }
     ensures added { OnOk result (exports_of all.new ≡ map export_of (map export_entry raw.now)) }
     ensures fails { IsOkUnless result out_of_memory }

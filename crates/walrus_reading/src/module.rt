@@ -19,7 +19,8 @@ use wasm_wire::{check, read_module};
 ///
 /// `InvalidWasm` exactly where the bytes are no module, or hold what isn't supported so far, and `Memory`.
 pub fn read(alloc: Global, bytes: &[u8], features: &Features) -> Result<Contents>
-    ensures found { (c : Config) → IsReadWith c features.now → IfOk result (λ m. IsParsed c bytes.now (contents_view m)) }
+    ensures found { (c : Config) → IsReadWith c features.now
+        → IfOk result (λ m. IsParsed c bytes.now (contents_view m)) }
     ensures refused { (c : Config) → IsReadWith c features.now → IfErr result (RefusesBytes c bytes.now) }
     ensures located { IfOk result (λ m. AreLocated bytes.now m.funcs) }
 {

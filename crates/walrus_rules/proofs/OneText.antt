@@ -1,6 +1,6 @@
 -- What operators and value types are spelled as, where each abstract heap type stands as one of its bytes.
-use Rattle.std.proofs.Common.{◌≡◌, ℕ, suc, ◌<◌, ◌≤◌, Bool, true, false, List, [], ◌∷◌, map, refl, sym, ap, ap₂, ◌∙◌, arith, ltb-true, inl, inr}
-use Rattle.std.specs.Prelude.{◌≢◌, ◌⊎◌, nat_eq, nat_lt, if◌then◌else◌}
+use Rattle.std.proofs.Common.{◌≡◌, ℕ, suc, ◌<◌, ◌≤◌, Bool, true, false, List, [], ◌∷◌, map, refl, sym, ap, ap₂, ◌∙◌, arith, inl, inr}
+use Rattle.std.specs.Prelude.{◌≢◌, ◌⊎◌, nat_eq, if◌then◌else◌}
 use Rattle.std.specs.List.{AllByRecursion}
 use Rattle.std.proofs.lemmas.Bool.Decides.{eqb_tells}
 use Rattle.wasm_forms.specs.Types.{is_abstract}
@@ -14,7 +14,7 @@ use Rattle.wasm_operators.specs.declared.operator.RawBlock.{RawBlock}
 use Rattle.wasm_operators.specs.declared.operator.RawBlock.TheVariants as raw_block
 use Rattle.wasm_operators.specs.Operators as wire
 use Rattle.wasm_operators.specs.Standing.{heap_spells, value_spells, block_spells}
-use Rattle.wasm_operators.proofs.OneStands.{and_both}
+use Rattle.wasm_forms.proofs.Stands.{abstract_range}
 use Rattle.walrus_base.specs.Types.{AbstractHeap, FuncHeap, ExternHeap, AnyHeap, EqHeap, I31Heap, StructHeap, ArrayHeap, ExnHeap, NoneHeap, NoExternHeap, NoFuncHeap, NoExnHeap, HeapType, OfHeap, Concrete, Exact, ValType, I32, I64, F32, F64, V128, Ref}
 use Rattle.walrus_types.specs.Operators.{Space, Types, Functions, Tables, Memories, Tags, Globals, Elements, DataSegments, BlockType, NoResult, OneResult, OfType, Arg, Index, Label, Local, Number, Count, Byte, S32, S64, Bits32, Bits64, Value, Heap, Block, Access, Op}
 use Rattle.walrus_code.specs.FromRaw.{abstract_of, heap_of, val_of, block_of, arg_of, op_of, ops_of}
@@ -48,9 +48,9 @@ tell b n h rest is low later = told b n h rest is low later (eqb_tells b n)
 
 byte_back : (b : ℕ) → is_abstract b ≡ true → byte_of (abstract_of b) ≡ b
 byte_back b is =
-    let both = and_both (nat_lt 0x68 b) (nat_lt b 0x75) is in
-    let low : 0x68 < b = ltb-true 0x68 b both.0 in
-    let high : b < 0x75 = ltb-true b 0x75 both.1 in
+    let range = abstract_range b is in
+    let low : 0x68 < b = range.0 in
+    let high : b < 0x75 = range.1 in
     let last : 0x74 ≤ b → 0x74 ≡ b = (λ l. omega (arith, l, high)) in
     tell b 0x69 ExnHeap _ refl (omega (arith, low)) (λ l.
     tell b 0x6A ArrayHeap _ refl l (λ l.

@@ -1,5 +1,7 @@
 -- Texts that differ and say one module: which of them is its spelling is left to the clauses of `IsSpelling`.
 use Rattle.std.specs.Prelude.{ℕ, Bool, true, false, List, [], ◌∷◌, Some, None, codes, ◌≡◌, ◌≢◌}
+use Rattle.wasm_opcodes.specs.declared.one_byte.TheConstants.{REF_NULL}
+use Rattle.wasm_opcodes.specs.declared.types.TheConstants.{HEAP_FUNC, HEAP_NO_EXN}
 use Rattle.wasm_forms.specs.declared.types.RawHeap.TheVariants as raw_heap
 use Rattle.wasm_forms.specs.declared.types.RawVal.TheVariants as vals
 use Rattle.wasm_entries.specs.Record as entries
@@ -21,12 +23,12 @@ SayOneBody a b = (said a ≡ said b) × (a ≢ b)
 abbrev pub joined : BodyText
 joined = record { declarations = (3, vals.I32) ∷ []; operators = the_end ∷ [] }
 
--- a local of a reference type, and `ref.null`, with a byte for the heap type: 0x74 stands for one, 0x00 for none
+-- a local of a reference type, and `ref.null`, with a byte for the heap type: that of noexn stands for one, 0 for none
 abbrev pub local_of : ℕ → BodyText
 local_of b = record { declarations = (1, vals.Ref (record { nullable = true; heap = raw_heap.Abstract b })) ∷ []; operators = the_end ∷ [] }
 
 abbrev pub null_of : ℕ → BodyText
-null_of b = record { declarations = []; operators = record { op = 0xD0; args = args.Heap (raw_heap.Abstract b) ∷ [] } ∷ the_end ∷ [] }
+null_of b = record { declarations = []; operators = record { op = REF_NULL; args = args.Heap (raw_heap.Abstract b) ∷ [] } ∷ the_end ∷ [] }
 
 -- ---- sections
 
@@ -58,7 +60,7 @@ with_names = record one_text { others = of_name (codes "name") ∷ [] }
 
 -- a table whose limits are shared, or not
 abbrev pub with_flag : Bool → Text
-with_flag b = record one_text { tables = record { ty = record { element = record { nullable = true; heap = raw_heap.Abstract 0x70 }; limits = record { minimum = 0; maximum = None; shared = b; wide = false; page = None } }; initial = None } ∷ [] }
+with_flag b = record one_text { tables = record { ty = record { element = record { nullable = true; heap = raw_heap.Abstract HEAP_FUNC }; limits = record { minimum = 0; maximum = None; shared = b; wide = false; page = None } }; initial = None } ∷ [] }
 
 -- ---- names
 
@@ -99,8 +101,8 @@ falling = two ((1, codes "b") ∷ (0, codes "a") ∷ [])
 pub record HasAlternatives : Type 0 where
   pub no_local_declared : SayOneBody none_declared empty_body
   pub type_twice : SayOneBody split joined
-  pub local_types : SayOneBody (local_of 0x00) (local_of 0x74)
-  pub operators : SayOneBody (null_of 0x00) (null_of 0x74)
+  pub local_types : SayOneBody (local_of 0) (local_of HEAP_NO_EXN)
+  pub operators : SayOneBody (null_of 0) (null_of HEAP_NO_EXN)
   pub empty_group : SayOne with_empty_group one_text
   pub more_bodies : SayOne two_bodies one_text
   pub more_functions : SayOne two_functions one_text

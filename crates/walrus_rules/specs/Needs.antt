@@ -1,5 +1,6 @@
 -- Each premise of `WrittenOnce` is needed: a module that breaks it alone is written as two. And all of them hold of a module that is written.
 use Rattle.std.specs.Prelude.{ℕ, ◌∷◌, [], Some, false, codes, ◌≡◌}
+use Rattle.wasm_opcodes.specs.declared.one_byte.TheConstants.{LOCAL_GET}
 use Rattle.wasm_entries.specs.declared.record.RawExportKind.TheVariants as kinds
 use Rattle.wasm_operators.specs.declared.operator.RawArg.TheVariants as args
 use Rattle.walrus_model.specs.Abstract.{Abstract}
@@ -38,7 +39,7 @@ abbrev pub local_text : ℕ → Text
 local_text k = record empty_text {
   types = no_values ∷ [];
   functions = 0 ∷ [];
-  bodies = record { declarations = []; operators = record { op = 0x20; args = args.Local k ∷ [] } ∷ the_end ∷ [] } ∷ [];
+  bodies = record { declarations = []; operators = record { op = LOCAL_GET; args = args.Local k ∷ [] } ∷ the_end ∷ [] } ∷ [];
 }
 
 -- what each of them says where the number is 0 keeps the other premises

@@ -28,7 +28,8 @@ pub fn has_alternatives()
 /// A module has one text, section by section, and so one spelling: bytes that are spelled as it are these bytes.
 pub fn spelled_once()
     ensures once { SpelledOnce }
-    ensures bytes { (n : Abstract) (bytes others : List ℕ) → IsSpelledAs n bytes → IsSpelledAs n others → others ≡ bytes }
+    ensures bytes { (n : Abstract) (bytes others : List ℕ) → IsSpelledAs n bytes → IsSpelledAs n others
+        → others ≡ bytes }
 {}
 
 /// No bytes read as two modules: sections, bodies, namings and producers are read in one way. What they read as has

@@ -3,7 +3,7 @@
 use crate::devices::{add_words, passed, refused, run};
 use std::alloc::Global;
 use std::test::Fail;
-use walrus_parts_tests::demands::{add_bytes, demand};
+use test_support::{add_bytes, demand};
 
 const EMPTY: &str = "00 61 73 6D 01 00 00 00";
 

@@ -3,8 +3,8 @@
 use std::alloc::Global;
 use std::io;
 use std::io::{Read, Write};
+use test_support::are;
 use walrus::tool::{FromRead, FromWrite, command};
-use walrus_parts_tests::demands::are;
 
 /// What a run of the program answered and wrote.
 #[derive(Drop)]

@@ -3,8 +3,8 @@
 use crate::devices::{Narrow, Outcome, Trickle, ended, refused};
 use std::alloc::Global;
 use std::test::Fail;
+use test_support::{add_bytes, are, demand};
 use walrus::tool::{FromRead, FromWrite, command};
-use walrus_parts_tests::demands::{add_bytes, are, demand};
 
 // Two empty functions, of which the second is exported, and what comes of them.
 const INPUT: &str =

@@ -10,4 +10,6 @@ mod failing;
 #[cfg(test)]
 mod library;
 #[cfg(test)]
+mod modules;
+#[cfg(test)]
 mod rows;

@@ -2,9 +2,9 @@
 
 use std::alloc::Global;
 use std::test::Fail;
+use test_support::{add_bytes, are, demand, is_text};
 use walrus::passes::{Used, gc};
 use walrus::{Error, FunctionId, Module, ModuleConfig, Type};
-use walrus_parts_tests::demands::{add_bytes, are, demand, is_text};
 
 // Two empty functions, of which the second is exported, and what comes of them.
 const INPUT: &str =
@@ -139,5 +139,28 @@ fn what_is_no_module_is_refused(rt: HostRuntime) -> Result<(), Fail> {
     demand(
         !is_module(rt.alloc(), b"\x00asm") && is_module(rt.alloc(), b"\x00asm\x01\x00\x00\x00"),
         "four bytes of a header, and a header",
+    )
+}
+
+// Whether nothing is left once the one export is gone.
+fn loses_all(alloc: Global, bytes: &[u8], config: &ModuleConfig) -> bool {
+    let Ok(mut module) = config.parse(alloc, bytes) else {
+        return false;
+    };
+    module.exports.remove("f").is_ok()
+        && gc::run(alloc, &mut module).is_ok()
+        && module.funcs.is_empty()
+        && module.types.is_empty()
+        && is_output(alloc, module.emit_wasm(alloc), "00 61 73 6D 01 00 00 00")
+}
+
+#[test]
+fn nothing_stays_without_exports(rt: HostRuntime) -> Result<(), Fail> {
+    let mut config = ModuleConfig::new();
+    config.generate_producers_section(false);
+    let mut bytes = Vec::new(rt.alloc());
+    demand(
+        add_bytes(&mut bytes, INPUT) && loses_all(rt.alloc(), &bytes, &config),
+        INPUT,
     )
 }

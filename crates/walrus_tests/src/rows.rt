@@ -3,10 +3,10 @@
 use crate::devices::{add_words, passed, refused, run};
 use std::alloc::Global;
 use std::test::Fail;
-use walrus_parts_tests::demands::{add_bytes, demand};
+use test_support::{add_bytes, demand};
 
 // Inputs and what they come to, in hexadecimal.
-const ROWS: [(&str, &str); 13] = [
+const ROWS: [(&str, &str); 14] = [
     // the header alone
     ("00 61 73 6D 01 00 00 00", "00 61 73 6D 01 00 00 00"),
     // two empty functions, of which the second is exported
@@ -69,10 +69,15 @@ const ROWS: [(&str, &str); 13] = [
         "00 61 73 6D 01 00 00 00 01 0C 02 50 00 60 00 00 50 01 00 60 00 00 03 02 01 01 07 05 01 01 66 00 00 0A 04 01 02 00 0B",
         "00 61 73 6D 01 00 00 00 01 0C 02 50 00 60 00 00 50 01 00 60 00 00 03 02 01 01 07 05 01 01 66 00 00 0A 04 01 02 00 0B",
     ),
+    // 50,000 declared locals, as many as there may be
+    (
+        "00 61 73 6D 01 00 00 00 01 04 01 60 00 00 03 02 01 00 07 05 01 01 66 00 00 0A 08 01 06 01 D0 86 03 7F 0B",
+        "00 61 73 6D 01 00 00 00 01 04 01 60 00 00 03 02 01 00 07 05 01 01 66 00 00 0A 04 01 02 00 0B",
+    ),
 ];
 
 // Inputs that are refused as invalid.
-const INVALID: [&str; 11] = [
+const INVALID: [&str; 13] = [
     // seven bytes of the header
     "00 61 73 6D 01 00 00",
     // the function section before the type section
@@ -95,6 +100,9 @@ const INVALID: [&str; 11] = [
     "00 61 73 6D 01 00 00 00 01 0C 02 50 00 60 00 00 50 01 01 60 00 00 03 02 01 01 07 05 01 01 66 00 00 0A 04 01 02 00 0B",
     // a supertype that is no earlier type
     "00 61 73 6D 01 00 00 00 01 07 01 50 01 00 60 00 00",
+    // one declared local more than there may be, and 2^33 - 2 of them
+    "00 61 73 6D 01 00 00 00 01 04 01 60 00 00 03 02 01 00 07 05 01 01 66 00 00 0A 08 01 06 01 D1 86 03 7F 0B",
+    "00 61 73 6D 01 00 00 00 01 04 01 60 00 00 03 02 01 00 07 05 01 01 66 00 00 0A 10 01 0E 02 FF FF FF FF 0F 7F FF FF FF FF 0F 7F 0B",
 ];
 
 const TEXT_OF_INVALID: &str = "walrus-gc: The input WebAssembly is invalid\n";

@@ -44,7 +44,8 @@ impl FunctionIndex {
     pub(crate) fn note(&mut self, function: &FunctionType, id: TypeId) -> Result<(), AllocError>
         ensures stays { (q : _) → MayEndIn (function_type q ≡ function_type function.now)
             (places_at self.old q) (place id) (places_at self.new q) }
-        ensures noted { OnOk result ((q : _) → function_type q ≡ function_type function.now → IsTrue (has (places_at self.new q) (place id))) }
+        ensures noted { OnOk result ((q : _) → function_type q ≡ function_type function.now
+            → IsTrue (has (places_at self.new q) (place id))) }
     {
         match self.ids.get_mut(function) {
             Some(ids) => {

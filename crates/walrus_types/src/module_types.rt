@@ -55,7 +55,8 @@ impl ModuleTypes {
 
     /// The ids that the members of the next group get, if it has this many.
     pub fn next_ids(&self, alloc: Global, count: usize) -> Result<Vec<TypeId>, AllocError>
-        ensures { IfOk result (λ ids. map (λ id. place id) ids.items ≡ range_with_len (length (type_slots self.now)) count) }
+        ensures { IfOk result (λ ids. map (λ id. place id) ids.items
+            ≡ range_with_len (length (type_slots self.now)) count) }
     {
         let first = self.places.len();
         let Some(end) = first.checked_add(count) else {
@@ -74,7 +75,8 @@ impl ModuleTypes {
         ensures ids { IfOk result (λ ids. ids_left ids
             ≡ range_with_len (length (type_slots self.old)) (length members.items)) }
         ensures slots { MatchResult result
-            (λ _. type_slots self.new ≡ type_slots self.old ++ new_group (length (type_slots self.old)) members.items)
+            (λ _. type_slots self.new ≡ type_slots self.old
+            ++ new_group (length (type_slots self.old)) members.items)
             (λ _. type_slots self.new ≡ type_slots self.old) }
         ensures names { MatchResult result
             (λ _. type_names self.new ≡ type_names self.old ++ no_names members.items)
@@ -92,7 +94,8 @@ impl ModuleTypes {
     /// changes.
     pub fn add(&mut self, params: &[ValType], results: &[ValType]) -> Result<TypeId, AllocError>
         ensures { MatchResult result
-            (λ id. FoundOrAdded (function_of params.now results.now) (type_slots self.old) (type_slots self.new) (type_names self.old) (type_names self.new) (place id))
+            (λ id. FoundOrAdded (function_of params.now results.now) (type_slots self.old)
+            (type_slots self.new) (type_names self.old) (type_names self.new) (place id))
             (λ _. (type_slots self.new ≡ type_slots self.old) × (type_names self.new ≡ type_names self.old)) }
     {
         let params = params.to_vec(self.alloc)?;
@@ -108,7 +111,8 @@ impl ModuleTypes {
     fn add_function(&mut self, function: FunctionType) -> Result<TypeId, AllocError>
         requires { (p : ℕ) → StandsAt (function_type function) (type_slots self.old) p → ⊥ }
         ensures { MatchResult result
-            (λ id. FoundOrAdded (function_type function) (type_slots self.old) (type_slots self.new) (type_names self.old) (type_names self.new) (place id))
+            (λ id. FoundOrAdded (function_type function) (type_slots self.old) (type_slots self.new)
+            (type_names self.old) (type_names self.new) (place id))
             (λ _. (type_slots self.new ≡ type_slots self.old) × (type_names self.new ≡ type_names self.old)) }
     {
         let id = Id::at(self.places.len());
@@ -138,7 +142,8 @@ impl ModuleTypes {
 
     // Whether such a type is under this id.
     fn is_alone_as(&self, id: TypeId, function: &FunctionType) -> bool
-        ensures { IsTrue result ↔ (item_at (type_slots self.now) (place id) ≡ Some (alone (place id) (function_type function.now))) }
+        ensures { IsTrue result ↔ (item_at (type_slots self.now) (place id)
+            ≡ Some (alone (place id) (function_type function.now))) }
     {
         if !self.contains(id) {
             return false;
@@ -152,8 +157,10 @@ impl ModuleTypes {
     /// Takes the whole group of a live type out. Takes no memory.
     pub fn delete(&mut self, id: TypeId)
         requires { IsLive (type_slots self.old) (place id) }
-        ensures slots { type_slots self.new ≡ cleared (group_at (type_slots self.old) (place id)) (type_slots self.old) }
-        ensures names { type_names self.new ≡ cleared (group_at (type_slots self.old) (place id)) (type_names self.old) }
+        ensures slots { type_slots self.new ≡ cleared (group_at (type_slots self.old) (place id))
+            (type_slots self.old) }
+        ensures names { type_names self.new ≡ cleared (group_at (type_slots self.old) (place id))
+            (type_names self.old) }
     {
         let ty = self.get(id);
         let (first, end) = (ty.first, ty.end);
@@ -174,7 +181,8 @@ impl ModuleTypes {
     pub fn set_name(&mut self, id: TypeId, name: Option<String>)
         requires { IsLive (type_slots self.old) (place id) }
         ensures slots { type_slots self.new ≡ type_slots self.old }
-        ensures names { type_names self.new ≡ slice_set (type_names self.old) (place id) (Some (name_bytes name)) }
+        ensures names { type_names self.new ≡ slice_set (type_names self.old) (place id)
+            (Some (name_bytes name)) }
     {
         rename(&mut self.places, id.index(), name);
     }

@@ -40,7 +40,8 @@ fn push_comp_names(to: &mut Vec<TypeId>, comp: &CompositeType) -> Result<(), All
 
 // The same for value types.
 fn push_all_val_names(to: &mut Vec<TypeId>, vals: &[ValType]) -> Result<(), AllocError>
-    ensures { OnOk result (Puts to.old to.new (flat_map heap_names (flat_map val_heaps (map val_type vals.now)))) }
+    ensures { OnOk result
+        (Puts to.old to.new (flat_map heap_names (flat_map val_heaps (map val_type vals.now)))) }
 {
     for val in vals {
         push_val_names(to, *val)?;
@@ -50,7 +51,8 @@ fn push_all_val_names(to: &mut Vec<TypeId>, vals: &[ValType]) -> Result<(), Allo
 
 // The same for fields.
 fn push_all_field_names(to: &mut Vec<TypeId>, fields: &[FieldType]) -> Result<(), AllocError>
-    ensures { OnOk result (Puts to.old to.new (flat_map heap_names (flat_map field_heaps (map field_type fields.now)))) }
+    ensures { OnOk result
+        (Puts to.old to.new (flat_map heap_names (flat_map field_heaps (map field_type fields.now)))) }
 {
     for field in fields {
         push_field_names(to, *field)?;

@@ -72,7 +72,8 @@ pub(crate) fn count_items<T>(places: &[Option<T>]) -> usize
 pub(crate) fn rename(places: &mut Vec<Option<Type>>, place: usize, name: Option<String>)
     requires { IsLive places.old.items place }
     ensures defs { defs places.new.items ≡ defs places.old.items }
-    ensures names { names places.new.items ≡ slice_set (names places.old.items) place (Some (name_bytes name)) }
+    ensures names { names places.new.items ≡ slice_set (names places.old.items) place
+        (Some (name_bytes name)) }
     ensures own { (start : ℕ) → under_own_ids start places.new.items ≡ under_own_ids start places.old.items }
 {
     if let Some(mut ty) = places[place].take() {
@@ -120,7 +121,8 @@ fn note_apart(
 
 // The only type of these, if it is the only one.
 fn only_type(added: &[Option<Type>]) -> Option<&Type>
-    ensures { MatchOption result ((ty : _) → added.now ≡ Some ty ∷ [] → ⊥) (λ ty. added.now ≡ Some ty.now ∷ []) }
+    ensures { MatchOption result ((ty : _) → added.now ≡ Some ty ∷ [] → ⊥)
+        (λ ty. added.now ≡ Some ty.now ∷ []) }
 {
     if added.len() != 1 {
         return None;

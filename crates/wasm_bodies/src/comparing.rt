@@ -26,7 +26,8 @@ pub fn same_function(
     copy: &LocalFunction,
     copy_locals: &ModuleLocals,
 ) -> bool
-    ensures { Decides result (IsCopied (local_index numbers.now) (types_of (locals module_locals.now)) (types_of (locals copy_locals.now)) (body_of function.now) (body_of copy.now)) }
+    ensures { Decides result (IsCopied (local_index numbers.now) (types_of (locals module_locals.now))
+        (types_of (locals copy_locals.now)) (body_of function.now) (body_of copy.now)) }
 {
     let operators = function.operators.as_slice();
     same_operators(operators, numbers, copy.operators.as_slice())
@@ -35,7 +36,8 @@ pub fn same_function(
 
 // Whether operators are the same, with these places for the locals.
 fn same_operators(operators: &[Operator], numbers: &LocalNumbers, copies: &[Operator]) -> bool
-    ensures { Decides result (named_ops itself (local_index numbers.now) (ops_of operators.now) ≡ Some (ops_of copies.now)) }
+    ensures { Decides result (named_ops itself (local_index numbers.now) (ops_of operators.now)
+        ≡ Some (ops_of copies.now)) }
 {
     let mut rest = copies;
     for operator in operators {
@@ -52,14 +54,16 @@ fn same_operators(operators: &[Operator], numbers: &LocalNumbers, copies: &[Oper
 
 // Whether two operators are the same.
 fn same_operator(operator: &Operator, numbers: &LocalNumbers, copy: &Operator) -> bool
-    ensures { Decides result (named_op itself (local_index numbers.now) (op_of operator.now) ≡ Some (op_of copy.now)) }
+    ensures { Decides result (named_op itself (local_index numbers.now) (op_of operator.now)
+        ≡ Some (op_of copy.now)) }
 {
     operator.op == copy.op && same_args(operator.args.as_slice(), numbers, copy.args.as_slice())
 }
 
 // Whether arguments are the same.
 fn same_args(args: &[Arg], numbers: &LocalNumbers, copies: &[Arg]) -> bool
-    ensures { Decides result (named_args itself (local_index numbers.now) (map arg_of args.now) ≡ Some (map arg_of copies.now)) }
+    ensures { Decides result (named_args itself (local_index numbers.now) (map arg_of args.now)
+        ≡ Some (map arg_of copies.now)) }
 {
     let mut rest = copies;
     for arg in args {
@@ -101,7 +105,9 @@ fn same_types(
     numbers: &LocalNumbers,
     copy_locals: &ModuleLocals,
 ) -> bool
-    ensures { Decides result (All (HasItsType (local_index numbers.now) (types_of (locals module_locals.now)) (types_of (locals copy_locals.now))) (locals_of (ops_of operators.now))) }
+    ensures { Decides result
+        (All (HasItsType (local_index numbers.now) (types_of (locals module_locals.now))
+        (types_of (locals copy_locals.now))) (locals_of (ops_of operators.now))) }
 {
     for operator in operators {
         if !same_op_types(operator, module_locals, numbers, copy_locals) {
@@ -118,7 +124,9 @@ fn same_op_types(
     numbers: &LocalNumbers,
     copy_locals: &ModuleLocals,
 ) -> bool
-    ensures { Decides result (All (HasItsType (local_index numbers.now) (types_of (locals module_locals.now)) (types_of (locals copy_locals.now))) (op_locals (op_of operator.now))) }
+    ensures { Decides result
+        (All (HasItsType (local_index numbers.now) (types_of (locals module_locals.now))
+        (types_of (locals copy_locals.now))) (op_locals (op_of operator.now))) }
 {
     let args = operator.args.as_slice();
     for arg in args {
@@ -136,7 +144,9 @@ fn same_arg_types(
     numbers: &LocalNumbers,
     copy_locals: &ModuleLocals,
 ) -> bool
-    ensures { Decides result (All (HasItsType (local_index numbers.now) (types_of (locals module_locals.now)) (types_of (locals copy_locals.now))) (arg_locals (arg_of arg))) }
+    ensures { Decides result
+        (All (HasItsType (local_index numbers.now) (types_of (locals module_locals.now))
+        (types_of (locals copy_locals.now))) (arg_locals (arg_of arg))) }
 {
     match arg {
         Arg::Local(id) => same_type(id, module_locals, numbers, copy_locals),
@@ -151,7 +161,8 @@ fn same_type(
     numbers: &LocalNumbers,
     copy_locals: &ModuleLocals,
 ) -> bool
-    ensures { Decides result (HasItsType (local_index numbers.now) (types_of (locals module_locals.now)) (types_of (locals copy_locals.now)) (place id)) }
+    ensures { Decides result (HasItsType (local_index numbers.now) (types_of (locals module_locals.now))
+        (types_of (locals copy_locals.now)) (place id)) }
 {
     match numbers.get(id) {
         Some(number) => {

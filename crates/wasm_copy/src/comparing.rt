@@ -67,7 +67,8 @@ pub fn same_records(records: &Raw<'_>, copy: &Raw<'_>) -> bool
     ensures tags { result ≡ true → records.now.tags.items ≡ copy.now.tags.items }
     ensures start { result ≡ true → records.now.start ≡ copy.now.start }
     ensures data_count { result ≡ true → records.now.data_count ≡ copy.now.data_count }
-    ensures bodies { result ≡ true → map (λ b. b.bytes.now) records.now.bodies.items ≡ map (λ b. b.bytes.now) copy.now.bodies.items }
+    ensures bodies { result ≡ true → map (λ b. b.bytes.now) records.now.bodies.items
+        ≡ map (λ b. b.bytes.now) copy.now.bodies.items }
 {
     same_order(records, copy)
         && records.types == copy.types

@@ -84,7 +84,8 @@ fn value_text(alloc: Global, field: &str, name: &str, version: &str) -> Result<S
 
 // Writes each value of a field as a line.
 fn write_field(alloc: Global, text: &mut String, field: &RawField<'_>) -> Result<(), AllocError>
-    ensures { OnOk result (string_bytes text.new ≡ string_bytes text.old ++ field_lines (field_record field.now)) }
+    ensures { OnOk result (string_bytes text.new ≡ string_bytes text.old
+        ++ field_lines (field_record field.now)) }
 {
     'values: for (name, version) in &field.values {
         let line = value_text(alloc, field.name, name, version)?;
@@ -94,7 +95,8 @@ fn write_field(alloc: Global, text: &mut String, field: &RawField<'_>) -> Result
 }
 
 fn write_fields(alloc: Global, text: &mut String, fields: &[RawField<'_>]) -> Result<(), AllocError>
-    ensures { OnOk result (string_bytes text.new ≡ string_bytes text.old ++ row_bytes field_lines (map field_record fields.now)) }
+    ensures { OnOk result (string_bytes text.new ≡ string_bytes text.old ++ row_bytes field_lines
+        (map field_record fields.now)) }
 {
     'fields: for field in fields {
         write_field(alloc, text, field)?;
@@ -104,7 +106,8 @@ fn write_fields(alloc: Global, text: &mut String, fields: &[RawField<'_>]) -> Re
 
 // Writes the lines of a custom section.
 fn write_section(lines: &mut Lines, section: &RawCustom<'_>) -> Result<(), WireError>
-    ensures listed { OnOk result ((text : List ℕ) × (IsListed (is_below lines.old.functions) (custom_record section.now) text
+    ensures listed { OnOk result
+        ((text : List ℕ) × (IsListed (is_below lines.old.functions) (custom_record section.now) text
         × (string_bytes lines.new.text ≡ string_bytes lines.old.text ++ text))) }
     ensures same_known { is_below lines.new.functions ≡ is_below lines.old.functions }
 {
@@ -140,7 +143,8 @@ fn count_imported(imports: &[RawImport<'_>]) -> usize
 
 // How many functions the module has, imported ones among them.
 fn count_functions(records: &Raw<'_>) -> usize
-    ensures { result ≡ length (imported desc_function (sections records.now).imports) + length records.now.functions.items }
+    ensures { result ≡ length (imported desc_function (sections records.now).imports) + length
+        records.now.functions.items }
 {
     let functions = records.functions.as_slice();
     count_imported(&records.imports) + functions.len()
@@ -151,7 +155,8 @@ fn count_functions(records: &Raw<'_>) -> usize
 /// `local`, the indices of its function and of itself, and its name; a value `producers`, its field, its name and its version, as in
 /// `producers language "NAME" "VERSION"`. Names stand as they are, without escapes. Refused for want of memory alone.
 pub fn listing(alloc: Global, records: &Raw<'_>) -> Result<Vec<u8>, WireError>
-    ensures { IfOk result (λ text. AreListed (has_function (sections records.now)) (sections records.now).customs text.items) }
+    ensures { IfOk result (λ text. AreListed (has_function (sections records.now))
+        (sections records.now).customs text.items) }
 {
     let mut lines = Lines {
         alloc,

@@ -60,7 +60,8 @@ pub fn run<R: Read, W: Write>(
     input: &mut R,
     output: &mut W,
 ) -> Result<(), Failure>
-    ensures does { OnOk result (Does task (R.remaining input.old) (R.remaining input.new) (W.contents output.old) (W.contents output.new)) }
+    ensures does { OnOk result (Does task (R.remaining input.old) (R.remaining input.new)
+        (W.contents output.old) (W.contents output.new)) }
     ensures unwritten { IfErr result (IsUnwritten (W.contents output.old) (W.contents output.new)) }
 {
     let mut bytes = Vec::new(alloc);

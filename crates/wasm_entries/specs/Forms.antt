@@ -1,5 +1,9 @@
 -- The forms of the entries of the sections behind the type section (Binary Format > Modules).
 use Rattle.std.specs.Prelude.{ℕ, Bool, true, false, List, [], ◌∷◌, Some, None, nat_eq}
+use Rattle.wasm_opcodes.specs.declared.one_byte.TheConstants.{END, GLOBAL_GET, I32_CONST, I64_CONST, F32_CONST, F64_CONST, I32_ADD, I32_SUB, I32_MUL, I64_ADD, I64_SUB, I64_MUL, REF_NULL, REF_FUNC, PREFIX_FB, PREFIX_FD}
+use Rattle.wasm_opcodes.specs.declared.behind_fb.TheConstants.{STRUCT_NEW, STRUCT_NEW_DEFAULT, ARRAY_NEW, ARRAY_NEW_DEFAULT, ARRAY_NEW_FIXED, ANY_CONVERT_EXTERN, EXTERN_CONVERT_ANY, REF_I31}
+use Rattle.wasm_opcodes.specs.declared.behind_fd.TheConstants.{V128_CONST}
+use Rattle.wasm_opcodes.specs.declared.types.TheConstants.{HEAP_FUNC, TABLE_WITH_INITIAL}
 use Rattle.wasm_forms.specs.Grammar.{Form, Fails, Gives, Byte, Block, Bytes, U32, S32, S64, F32, F64, ◌then◌, Led, Made, Where, Until, Vector, choose, name}
 use Rattle.wasm_forms.specs.declared.types.RawHeap.TheVariants.{Abstract}
 use Rattle.wasm_forms.specs.declared.types.RawRef.{RawRef}
@@ -33,37 +37,37 @@ import_form = Made (λ x. record { from = x.0; name = x.1.0; desc = x.1.1 }) (na
 
 -- what stands behind FB and this number
 unfoldable pub prefixed : ℕ → Form RawConst
-prefixed number = choose (nat_eq number 0x00) (Made ops.StructNew U32)
-    (choose (nat_eq number 0x01) (Made ops.StructNewDefault U32)
-    (choose (nat_eq number 0x06) (Made ops.ArrayNew U32)
-    (choose (nat_eq number 0x07) (Made ops.ArrayNewDefault U32)
-    (choose (nat_eq number 0x08) (Made (λ x. ops.ArrayNewFixed x.0 x.1) (U32 then U32))
-    (choose (nat_eq number 0x1A) (Gives ops.AnyConvertExtern)
-    (choose (nat_eq number 0x1B) (Gives ops.ExternConvertAny)
-    (choose (nat_eq number 0x1C) (Gives ops.RefI31)
+prefixed number = choose (nat_eq number STRUCT_NEW) (Made ops.StructNew U32)
+    (choose (nat_eq number STRUCT_NEW_DEFAULT) (Made ops.StructNewDefault U32)
+    (choose (nat_eq number ARRAY_NEW) (Made ops.ArrayNew U32)
+    (choose (nat_eq number ARRAY_NEW_DEFAULT) (Made ops.ArrayNewDefault U32)
+    (choose (nat_eq number ARRAY_NEW_FIXED) (Made (λ x. ops.ArrayNewFixed x.0 x.1) (U32 then U32))
+    (choose (nat_eq number ANY_CONVERT_EXTERN) (Gives ops.AnyConvertExtern)
+    (choose (nat_eq number EXTERN_CONVERT_ANY) (Gives ops.ExternConvertAny)
+    (choose (nat_eq number REF_I31) (Gives ops.RefI31)
     Fails)))))))
 
 -- what stands behind FD and this number
 unfoldable pub vector_op : ℕ → Form RawConst
-vector_op number = choose (nat_eq number 0x0C) (Made ops.V128Const (Bytes 16)) Fails
+vector_op number = choose (nat_eq number V128_CONST) (Made ops.V128Const (Bytes 16)) Fails
 
 -- the operator that begins with this byte
 unfoldable pub const_from : ℕ → Form RawConst
-const_from b = choose (nat_eq b 0x23) (Made ops.GlobalGet U32)
-    (choose (nat_eq b 0x41) (Made ops.I32Const S32)
-    (choose (nat_eq b 0x42) (Made ops.I64Const S64)
-    (choose (nat_eq b 0x43) (Made ops.F32Const F32)
-    (choose (nat_eq b 0x44) (Made ops.F64Const F64)
-    (choose (nat_eq b 0x6A) (Gives ops.I32Add)
-    (choose (nat_eq b 0x6B) (Gives ops.I32Sub)
-    (choose (nat_eq b 0x6C) (Gives ops.I32Mul)
-    (choose (nat_eq b 0x7C) (Gives ops.I64Add)
-    (choose (nat_eq b 0x7D) (Gives ops.I64Sub)
-    (choose (nat_eq b 0x7E) (Gives ops.I64Mul)
-    (choose (nat_eq b 0xD0) (Made ops.RefNull heap_type)
-    (choose (nat_eq b 0xD2) (Made ops.RefFunc U32)
-    (choose (nat_eq b 0xFB) (Led U32 prefixed)
-    (choose (nat_eq b 0xFD) (Led U32 vector_op)
+const_from b = choose (nat_eq b GLOBAL_GET) (Made ops.GlobalGet U32)
+    (choose (nat_eq b I32_CONST) (Made ops.I32Const S32)
+    (choose (nat_eq b I64_CONST) (Made ops.I64Const S64)
+    (choose (nat_eq b F32_CONST) (Made ops.F32Const F32)
+    (choose (nat_eq b F64_CONST) (Made ops.F64Const F64)
+    (choose (nat_eq b I32_ADD) (Gives ops.I32Add)
+    (choose (nat_eq b I32_SUB) (Gives ops.I32Sub)
+    (choose (nat_eq b I32_MUL) (Gives ops.I32Mul)
+    (choose (nat_eq b I64_ADD) (Gives ops.I64Add)
+    (choose (nat_eq b I64_SUB) (Gives ops.I64Sub)
+    (choose (nat_eq b I64_MUL) (Gives ops.I64Mul)
+    (choose (nat_eq b REF_NULL) (Made ops.RefNull heap_type)
+    (choose (nat_eq b REF_FUNC) (Made ops.RefFunc U32)
+    (choose (nat_eq b PREFIX_FB) (Led U32 prefixed)
+    (choose (nat_eq b PREFIX_FD) (Led U32 vector_op)
     Fails))))))))))))))
 
 abbrev pub is_some_there : {A : Type 0} → List A → Bool
@@ -72,13 +76,13 @@ is_some_there (x ∷ xs) = true
 
 -- at least one operator, and then 0B
 unfoldable pub expression_form : Form Expression
-expression_form = Where is_some_there (Until 0x0B const_from)
+expression_form = Where is_some_there (Until END const_from)
 
 -- ---- tables and globals (Table Section, Global Section)
 
 -- 40 00, a table type and its initialiser; else a table type alone
 unfoldable pub table_from : ℕ → Form Table
-table_from b = choose (nat_eq b 0x40)
+table_from b = choose (nat_eq b TABLE_WITH_INITIAL)
     (Led (Where (λ c. nat_eq c 0) Byte) (λ c. Made (λ x. record { ty = x.0; initial = Some x.1 }) (table_type then expression_form)))
     (Made (λ t. record { ty = t; initial = None }) (table_type_from b))
 
@@ -107,7 +111,7 @@ export_form = Made (λ x. record { name = x.0; kind = x.1.0; index = x.1.1 }) (n
 -- ---- element segments (Element Section)
 
 abbrev pub any_function : RawRef
-any_function = record { nullable = true; heap = Abstract 0x70 }
+any_function = record { nullable = true; heap = Abstract HEAP_FUNC }
 
 unfoldable pub functions_form : Form Items
 functions_form = Made Functions (Vector U32)

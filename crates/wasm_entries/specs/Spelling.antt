@@ -1,5 +1,9 @@
 -- The one spelling of the entries behind the type section, and which of them it spells.
 use Rattle.std.specs.Prelude.{ℕ, ◌≡◌, ◌≢◌, ◌<◌, ◌^◌, List, [], ◌∷◌, ◌++◌, length, Option, Some, None, nat_eq, All, if◌then◌else◌}
+use Rattle.wasm_opcodes.specs.declared.one_byte.TheConstants.{END, GLOBAL_GET, I32_CONST, I64_CONST, F32_CONST, F64_CONST, I32_ADD, I32_SUB, I32_MUL, I64_ADD, I64_SUB, I64_MUL, REF_NULL, REF_FUNC, PREFIX_FB, PREFIX_FD}
+use Rattle.wasm_opcodes.specs.declared.behind_fb.TheConstants.{STRUCT_NEW, STRUCT_NEW_DEFAULT, ARRAY_NEW, ARRAY_NEW_DEFAULT, ARRAY_NEW_FIXED, ANY_CONVERT_EXTERN, EXTERN_CONVERT_ANY, REF_I31}
+use Rattle.wasm_opcodes.specs.declared.behind_fd.TheConstants.{V128_CONST}
+use Rattle.wasm_opcodes.specs.declared.types.TheConstants.{TABLE_WITH_INITIAL}
 use Rattle.std.specs.Str.{IsUtf8}
 use Rattle.wasm_forms.specs.Number.{Fits}
 use Rattle.wasm_forms.specs.Spelling.{number_bytes, integer_bytes, f32_bytes, f64_bytes, block_bytes, row_bytes, vector_bytes}
@@ -30,36 +34,36 @@ import_bytes i = block_bytes i.from ++ block_bytes i.name ++ desc_bytes i.desc
 
 -- (Binary Format > Instructions)
 abbrev pub const_bytes : RawConst → List ℕ
-const_bytes (ops.GlobalGet g) = 0x23 ∷ number_bytes g
-const_bytes (ops.I32Const z) = 0x41 ∷ integer_bytes z
-const_bytes (ops.I64Const z) = 0x42 ∷ integer_bytes z
-const_bytes (ops.F32Const bits) = 0x43 ∷ f32_bytes bits
-const_bytes (ops.F64Const bits) = 0x44 ∷ f64_bytes bits
-const_bytes (ops.V128Const bytes) = 0xFD ∷ 0x0C ∷ bytes
-const_bytes ops.I32Add = 0x6A ∷ []
-const_bytes ops.I32Sub = 0x6B ∷ []
-const_bytes ops.I32Mul = 0x6C ∷ []
-const_bytes ops.I64Add = 0x7C ∷ []
-const_bytes ops.I64Sub = 0x7D ∷ []
-const_bytes ops.I64Mul = 0x7E ∷ []
-const_bytes (ops.RefNull h) = 0xD0 ∷ heap_bytes h
-const_bytes (ops.RefFunc f) = 0xD2 ∷ number_bytes f
-const_bytes (ops.StructNew t) = 0xFB ∷ 0x00 ∷ number_bytes t
-const_bytes (ops.StructNewDefault t) = 0xFB ∷ 0x01 ∷ number_bytes t
-const_bytes (ops.ArrayNew t) = 0xFB ∷ 0x06 ∷ number_bytes t
-const_bytes (ops.ArrayNewDefault t) = 0xFB ∷ 0x07 ∷ number_bytes t
-const_bytes (ops.ArrayNewFixed t n) = 0xFB ∷ 0x08 ∷ (number_bytes t ++ number_bytes n)
-const_bytes ops.AnyConvertExtern = 0xFB ∷ 0x1A ∷ []
-const_bytes ops.ExternConvertAny = 0xFB ∷ 0x1B ∷ []
-const_bytes ops.RefI31 = 0xFB ∷ 0x1C ∷ []
+const_bytes (ops.GlobalGet g) = GLOBAL_GET ∷ number_bytes g
+const_bytes (ops.I32Const z) = I32_CONST ∷ integer_bytes z
+const_bytes (ops.I64Const z) = I64_CONST ∷ integer_bytes z
+const_bytes (ops.F32Const bits) = F32_CONST ∷ f32_bytes bits
+const_bytes (ops.F64Const bits) = F64_CONST ∷ f64_bytes bits
+const_bytes (ops.V128Const bytes) = PREFIX_FD ∷ V128_CONST ∷ bytes
+const_bytes ops.I32Add = I32_ADD ∷ []
+const_bytes ops.I32Sub = I32_SUB ∷ []
+const_bytes ops.I32Mul = I32_MUL ∷ []
+const_bytes ops.I64Add = I64_ADD ∷ []
+const_bytes ops.I64Sub = I64_SUB ∷ []
+const_bytes ops.I64Mul = I64_MUL ∷ []
+const_bytes (ops.RefNull h) = REF_NULL ∷ heap_bytes h
+const_bytes (ops.RefFunc f) = REF_FUNC ∷ number_bytes f
+const_bytes (ops.StructNew t) = PREFIX_FB ∷ STRUCT_NEW ∷ number_bytes t
+const_bytes (ops.StructNewDefault t) = PREFIX_FB ∷ STRUCT_NEW_DEFAULT ∷ number_bytes t
+const_bytes (ops.ArrayNew t) = PREFIX_FB ∷ ARRAY_NEW ∷ number_bytes t
+const_bytes (ops.ArrayNewDefault t) = PREFIX_FB ∷ ARRAY_NEW_DEFAULT ∷ number_bytes t
+const_bytes (ops.ArrayNewFixed t n) = PREFIX_FB ∷ ARRAY_NEW_FIXED ∷ (number_bytes t ++ number_bytes n)
+const_bytes ops.AnyConvertExtern = PREFIX_FB ∷ ANY_CONVERT_EXTERN ∷ []
+const_bytes ops.ExternConvertAny = PREFIX_FB ∷ EXTERN_CONVERT_ANY ∷ []
+const_bytes ops.RefI31 = PREFIX_FB ∷ REF_I31 ∷ []
 
 abbrev pub expression_bytes : Expression → List ℕ
-expression_bytes e = row_bytes const_bytes e ++ 0x0B ∷ []
+expression_bytes e = row_bytes const_bytes e ++ END ∷ []
 
 -- (Table Section)
 abbrev pub table_spelled : Option Expression → List ℕ → List ℕ
 table_spelled None ty = ty
-table_spelled (Some e) ty = 0x40 ∷ 0x00 ∷ (ty ++ expression_bytes e)
+table_spelled (Some e) ty = TABLE_WITH_INITIAL ∷ 0 ∷ (ty ++ expression_bytes e)
 
 abbrev pub table_bytes : Table → List ℕ
 table_bytes t = table_spelled t.initial (table_type_bytes t.ty)

@@ -1,5 +1,6 @@
 -- The forms of the entries of the type section, and of the types in other entries (Binary Format > Types).
 use Rattle.std.specs.Prelude.{ℕ, Bool, true, false, not, ◌&&◌, bit_and, [], ◌∷◌, Option, Some, None, nat_eq, nat_lt}
+use Rattle.wasm_opcodes.specs.declared.types.TheConstants.{I8_TYPE, I16_TYPE, FUNC_TYPE, STRUCT_TYPE, ARRAY_TYPE, SUB_TYPE, SUB_FINAL_TYPE, REC_TYPE}
 use Rattle.wasm_forms.specs.Grammar.{Form, Fails, Gives, Byte, U32, U64, ◌then◌, Led, Made, Where, Vector, choose}
 use Rattle.wasm_forms.specs.Types.{value_type, value_from, reference_from}
 use Rattle.wasm_entries.specs.declared.record.RawStorage.{RawStorage}
@@ -14,8 +15,8 @@ use Rattle.wasm_entries.specs.Record.{FuncType, Comp, Function, Struct, Array, S
 
 -- 78 and 77 are i8 and i16; else a value type (storage types)
 unfoldable pub storage_from : ℕ → Form RawStorage
-storage_from b = choose (nat_eq b 0x78) (Gives storages.I8)
-    (choose (nat_eq b 0x77) (Gives storages.I16)
+storage_from b = choose (nat_eq b I8_TYPE) (Gives storages.I8)
+    (choose (nat_eq b I16_TYPE) (Gives storages.I16)
     (Made storages.Val (value_from b)))
 
 unfoldable pub storage_type : Form RawStorage
@@ -35,9 +36,9 @@ signature = Made (λ x. record { params = x.0; results = x.1 }) (Vector value_ty
 
 -- 60: a function, 5F: a struct, 5E: an array (Composite Types)
 unfoldable pub comp_from : ℕ → Form Comp
-comp_from b = choose (nat_eq b 0x60) (Made Function signature)
-    (choose (nat_eq b 0x5F) (Made Struct (Vector field_type))
-    (choose (nat_eq b 0x5E) (Made Array field_type)
+comp_from b = choose (nat_eq b FUNC_TYPE) (Made Function signature)
+    (choose (nat_eq b STRUCT_TYPE) (Made Struct (Vector field_type))
+    (choose (nat_eq b ARRAY_TYPE) (Made Array field_type)
     Fails))
 
 unfoldable pub composite_type : Form Comp
@@ -50,8 +51,8 @@ sub_with is_final = Made (λ x. record { is_final = is_final; supers = x.0; comp
 
 -- 50: open, 4F: final, each with supertypes; else a composite type, final without supertype (Recursive Types)
 unfoldable pub sub_from : ℕ → Form Sub
-sub_from b = choose (nat_eq b 0x50) (sub_with false)
-    (choose (nat_eq b 0x4F) (sub_with true)
+sub_from b = choose (nat_eq b SUB_TYPE) (sub_with false)
+    (choose (nat_eq b SUB_FINAL_TYPE) (sub_with true)
     (Made (λ c. record { is_final = true; supers = []; comp = c }) (comp_from b)))
 
 unfoldable pub sub_type : Form Sub
@@ -59,7 +60,7 @@ sub_type = Led Byte sub_from
 
 -- 4E: any number of types; else one alone
 unfoldable pub group_from : ℕ → Form Group
-group_from b = choose (nat_eq b 0x4E) (Vector sub_type) (Made (λ s. s ∷ []) (sub_from b))
+group_from b = choose (nat_eq b REC_TYPE) (Vector sub_type) (Made (λ s. s ∷ []) (sub_from b))
 
 unfoldable pub group_form : Form Group
 group_form = Led Byte group_from

@@ -1,5 +1,6 @@
 -- The one spelling of types, and which of them it spells: shortest numbers, a group of one type as that type.
 use Rattle.std.specs.Prelude.{ℕ, ◌≡◌, ◌+◌, ◌<◌, ◌^◌, Bool, true, false, List, [], ◌∷◌, ◌++◌, Option, Some, None, All, if◌then◌else◌}
+use Rattle.wasm_opcodes.specs.declared.types.TheConstants.{I8_TYPE, I16_TYPE, FUNC_TYPE, STRUCT_TYPE, ARRAY_TYPE, SUB_TYPE, SUB_FINAL_TYPE, REC_TYPE}
 use Rattle.wasm_forms.specs.Spelling.{number_bytes, vector_bytes}
 use Rattle.wasm_forms.specs.Writing.{FitsLength, FitsVector}
 use Rattle.wasm_forms.specs.Types.{value_bytes, reference_bytes, ValueStands, HeapStands}
@@ -15,8 +16,8 @@ use Rattle.wasm_entries.specs.Record.{FuncType, Comp, Function, Struct, Array, S
 
 abbrev pub storage_bytes : RawStorage → List ℕ
 storage_bytes (storages.Val v) = value_bytes v
-storage_bytes storages.I8 = 0x78 ∷ []
-storage_bytes storages.I16 = 0x77 ∷ []
+storage_bytes storages.I8 = I8_TYPE ∷ []
+storage_bytes storages.I16 = I16_TYPE ∷ []
 
 -- 1 or 0
 abbrev pub flag_byte : Bool → ℕ
@@ -30,24 +31,24 @@ abbrev pub func_type_bytes : FuncType → List ℕ
 func_type_bytes t = vector_bytes value_bytes t.params ++ vector_bytes value_bytes t.results
 
 abbrev pub comp_bytes : Comp → List ℕ
-comp_bytes (Function t) = 0x60 ∷ func_type_bytes t
-comp_bytes (Struct fields) = 0x5F ∷ vector_bytes field_bytes fields
-comp_bytes (Array field) = 0x5E ∷ field_bytes field
+comp_bytes (Function t) = FUNC_TYPE ∷ func_type_bytes t
+comp_bytes (Struct fields) = STRUCT_TYPE ∷ vector_bytes field_bytes fields
+comp_bytes (Array field) = ARRAY_TYPE ∷ field_bytes field
 
 -- a final type without supertype is bare
 abbrev pub sub_spelled : Bool → List ℕ → Comp → List ℕ
 sub_spelled true [] comp = comp_bytes comp
-sub_spelled true (x ∷ xs) comp = 0x4F ∷ (vector_bytes number_bytes (x ∷ xs) ++ comp_bytes comp)
-sub_spelled false supers comp = 0x50 ∷ (vector_bytes number_bytes supers ++ comp_bytes comp)
+sub_spelled true (x ∷ xs) comp = SUB_FINAL_TYPE ∷ (vector_bytes number_bytes (x ∷ xs) ++ comp_bytes comp)
+sub_spelled false supers comp = SUB_TYPE ∷ (vector_bytes number_bytes supers ++ comp_bytes comp)
 
 abbrev pub sub_bytes : Sub → List ℕ
 sub_bytes s = sub_spelled s.is_final s.supers s.comp
 
 -- a type alone is bare
 abbrev pub group_bytes : Group → List ℕ
-group_bytes [] = 0x4E ∷ vector_bytes sub_bytes []
+group_bytes [] = REC_TYPE ∷ vector_bytes sub_bytes []
 group_bytes (s ∷ []) = sub_bytes s
-group_bytes (s ∷ t ∷ rest) = 0x4E ∷ vector_bytes sub_bytes (s ∷ t ∷ rest)
+group_bytes (s ∷ t ∷ rest) = REC_TYPE ∷ vector_bytes sub_bytes (s ∷ t ∷ rest)
 
 abbrev pub bit_if : {A : Type 0} → ℕ → Option A → ℕ
 bit_if bit None = 0

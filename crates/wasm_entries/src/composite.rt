@@ -13,6 +13,7 @@ use std::alloc::Global;
 use wasm_forms::{
     Element, RawVal, WireError, Written, read_byte, read_value_from, read_vector, write_vector,
 };
+use wasm_opcodes::types::{ARRAY_TYPE, FUNC_TYPE, I8_TYPE, I16_TYPE, STRUCT_TYPE};
 
 /// What a field that begins with the byte `first` holds.
 #[tactic(auto, unfolding(crate::specs::TypeForms::storage_from))]
@@ -20,8 +21,8 @@ fn read_storage_from(first: u8, bytes: &[u8]) -> Result<(RawStorage, &[u8]), Wir
     ensures { Gives (λ r. (r.0, r.1.now)) result (at (storage_from first) bytes.now) }
 {
     match first {
-        0x78 => Ok((RawStorage::I8, bytes)),
-        0x77 => Ok((RawStorage::I16, bytes)),
+        I8_TYPE => Ok((RawStorage::I8, bytes)),
+        I16_TYPE => Ok((RawStorage::I16, bytes)),
         _ => {
             let (value, rest) = read_value_from(first, bytes)?;
             Ok((RawStorage::Val(value), rest))
@@ -93,15 +94,15 @@ pub(crate) fn read_composite_from(
     ensures { Gives (λ r. (comp r.0, r.1.now)) result (at (comp_from first) bytes.now) }
 {
     match first {
-        0x60 => {
+        FUNC_TYPE => {
             let (func, rest) = read_signature(alloc, bytes)?;
             Ok((RawComp::Func(func), rest))
         }
-        0x5F => {
+        STRUCT_TYPE => {
             let (fields, rest) = read_vector::<RawFieldType>(alloc, bytes)?;
             Ok((RawComp::Struct(fields), rest))
         }
-        0x5E => {
+        ARRAY_TYPE => {
             let (field, rest) = read_field(bytes)?;
             Ok((RawComp::Array(field), rest))
         }
@@ -126,8 +127,8 @@ fn write_storage(to: &mut Vec<u8>, storage: &RawStorage) -> Result<(), WireError
 {
     match storage {
         RawStorage::Val(value) => value.write(to)?,
-        RawStorage::I8 => to.push(0x78)?,
-        RawStorage::I16 => to.push(0x77)?,
+        RawStorage::I8 => to.push(I8_TYPE)?,
+        RawStorage::I16 => to.push(I16_TYPE)?,
     }
     Ok(())
 }
@@ -146,7 +147,8 @@ impl Written for RawFieldType {
 
 /// Writes what a function takes and what it gives.
 fn write_signature(to: &mut Vec<u8>, func: &RawFuncType) -> Result<(), WireError>
-    ensures adds { Adds result to.old.items to.new.items (func_type_bytes (func_type func.now)) (FuncTypeFits (func_type func.now)) }
+    ensures adds { Adds result to.old.items to.new.items (func_type_bytes (func_type func.now))
+        (FuncTypeFits (func_type func.now)) }
     ensures room { TakesRoom result to.old to.new (func_type_bytes (func_type func.now)) }
     ensures keeps { Keeps to.old.items to.new.items }
 {
@@ -156,21 +158,22 @@ fn write_signature(to: &mut Vec<u8>, func: &RawFuncType) -> Result<(), WireError
 
 /// Writes a composite type.
 pub(crate) fn write_composite(to: &mut Vec<u8>, composite: &RawComp) -> Result<(), WireError>
-    ensures adds { Adds result to.old.items to.new.items (comp_bytes (comp composite.now)) (CompFits (comp composite.now)) }
+    ensures adds { Adds result to.old.items to.new.items (comp_bytes (comp composite.now))
+        (CompFits (comp composite.now)) }
     ensures room { TakesRoom result to.old to.new (comp_bytes (comp composite.now)) }
     ensures keeps { Keeps to.old.items to.new.items }
 {
     match composite {
         RawComp::Func(func) => {
-            to.push(0x60)?;
+            to.push(FUNC_TYPE)?;
             write_signature(to, func)
         }
         RawComp::Struct(fields) => {
-            to.push(0x5F)?;
+            to.push(STRUCT_TYPE)?;
             write_vector(to, fields)
         }
         RawComp::Array(field) => {
-            to.push(0x5E)?;
+            to.push(ARRAY_TYPE)?;
             field.write(to)
         }
     }

@@ -12,6 +12,15 @@ use std::alloc::Global;
 use wasm_forms::{
     WireError, read_byte, read_f32, read_f64, read_heap_type, read_s32, read_s64, read_u32,
 };
+use wasm_opcodes::behind_fb::{
+    ANY_CONVERT_EXTERN, ARRAY_NEW, ARRAY_NEW_DEFAULT, ARRAY_NEW_FIXED, EXTERN_CONVERT_ANY, REF_I31,
+    STRUCT_NEW, STRUCT_NEW_DEFAULT,
+};
+use wasm_opcodes::behind_fd::V128_CONST;
+use wasm_opcodes::one_byte::{
+    END, F32_CONST, F64_CONST, GLOBAL_GET, I32_ADD, I32_CONST, I32_MUL, I32_SUB, I64_ADD,
+    I64_CONST, I64_MUL, I64_SUB, PREFIX_FB, PREFIX_FD, REF_FUNC, REF_NULL,
+};
 
 /// What stands behind the byte of `i32.const`.
 fn read_i32_const(bytes: &[u8]) -> Result<(RawConst, &[u8]), WireError>
@@ -47,7 +56,8 @@ fn read_f64_const(bytes: &[u8]) -> Result<(RawConst, &[u8]), WireError>
 
 /// What stands behind the bytes of `array.new_fixed`: a type, and how many elements.
 fn read_array_new_fixed(bytes: &[u8]) -> Result<(RawConst, &[u8]), WireError>
-    ensures { Gives (λ r. (r.0, r.1.now)) result (at (Made (λ x. ops.ArrayNewFixed x.0 x.1) (U32 then U32)) bytes.now) }
+    ensures { Gives (λ r. (r.0, r.1.now)) result
+        (at (Made (λ x. ops.ArrayNewFixed x.0 x.1) (U32 then U32)) bytes.now) }
 {
     let (ty, after) = read_u32(bytes)?;
     let (count, rest) = read_u32(after)?;
@@ -60,26 +70,26 @@ fn read_prefixed(number: u32, bytes: &[u8]) -> Result<(RawConst, &[u8]), WireErr
     ensures { Gives (λ r. (r.0, r.1.now)) result (at (prefixed number) bytes.now) }
 {
     match number {
-        0x00 => {
+        STRUCT_NEW => {
             let (ty, rest) = read_u32(bytes)?;
             Ok((RawConst::StructNew(ty), rest))
         }
-        0x01 => {
+        STRUCT_NEW_DEFAULT => {
             let (ty, rest) = read_u32(bytes)?;
             Ok((RawConst::StructNewDefault(ty), rest))
         }
-        0x06 => {
+        ARRAY_NEW => {
             let (ty, rest) = read_u32(bytes)?;
             Ok((RawConst::ArrayNew(ty), rest))
         }
-        0x07 => {
+        ARRAY_NEW_DEFAULT => {
             let (ty, rest) = read_u32(bytes)?;
             Ok((RawConst::ArrayNewDefault(ty), rest))
         }
-        0x08 => read_array_new_fixed(bytes),
-        0x1A => Ok((RawConst::AnyConvertExtern, bytes)),
-        0x1B => Ok((RawConst::ExternConvertAny, bytes)),
-        0x1C => Ok((RawConst::RefI31, bytes)),
+        ARRAY_NEW_FIXED => read_array_new_fixed(bytes),
+        ANY_CONVERT_EXTERN => Ok((RawConst::AnyConvertExtern, bytes)),
+        EXTERN_CONVERT_ANY => Ok((RawConst::ExternConvertAny, bytes)),
+        REF_I31 => Ok((RawConst::RefI31, bytes)),
         _ => Err(WireError::Malformed),
     }
 }
@@ -89,7 +99,7 @@ fn read_prefixed(number: u32, bytes: &[u8]) -> Result<(RawConst, &[u8]), WireErr
 fn read_vector_op(number: u32, bytes: &[u8]) -> Result<(RawConst, &[u8]), WireError>
     ensures { Gives (λ r. (r.0, r.1.now)) result (at (vector_op number) bytes.now) }
 {
-    if number != 0x0C {
+    if number != V128_CONST {
         return Err(WireError::Malformed);
     }
     let Some((value, rest)) = bytes.split_first_chunk::<16>() else {
@@ -103,34 +113,34 @@ fn read_vector_op(number: u32, bytes: &[u8]) -> Result<(RawConst, &[u8]), WireEr
 fn read_const_from(first: u8, bytes: &[u8]) -> Result<(RawConst, &[u8]), WireError>
     ensures { Gives (λ r. (r.0, r.1.now)) result (at (const_from first) bytes.now) }
 {
-    match first {
-        0x23 => {
+    match u32::from(first) {
+        GLOBAL_GET => {
             let (global, rest) = read_u32(bytes)?;
             Ok((RawConst::GlobalGet(global), rest))
         }
-        0x41 => read_i32_const(bytes),
-        0x42 => read_i64_const(bytes),
-        0x43 => read_f32_const(bytes),
-        0x44 => read_f64_const(bytes),
-        0x6A => Ok((RawConst::I32Add, bytes)),
-        0x6B => Ok((RawConst::I32Sub, bytes)),
-        0x6C => Ok((RawConst::I32Mul, bytes)),
-        0x7C => Ok((RawConst::I64Add, bytes)),
-        0x7D => Ok((RawConst::I64Sub, bytes)),
-        0x7E => Ok((RawConst::I64Mul, bytes)),
-        0xD0 => {
+        I32_CONST => read_i32_const(bytes),
+        I64_CONST => read_i64_const(bytes),
+        F32_CONST => read_f32_const(bytes),
+        F64_CONST => read_f64_const(bytes),
+        I32_ADD => Ok((RawConst::I32Add, bytes)),
+        I32_SUB => Ok((RawConst::I32Sub, bytes)),
+        I32_MUL => Ok((RawConst::I32Mul, bytes)),
+        I64_ADD => Ok((RawConst::I64Add, bytes)),
+        I64_SUB => Ok((RawConst::I64Sub, bytes)),
+        I64_MUL => Ok((RawConst::I64Mul, bytes)),
+        REF_NULL => {
             let (heap, rest) = read_heap_type(bytes)?;
             Ok((RawConst::RefNull(heap), rest))
         }
-        0xD2 => {
+        REF_FUNC => {
             let (function, rest) = read_u32(bytes)?;
             Ok((RawConst::RefFunc(function), rest))
         }
-        0xFB => {
+        PREFIX_FB => {
             let (number, rest) = read_u32(bytes)?;
             read_prefixed(number, rest)
         }
-        0xFD => {
+        PREFIX_FD => {
             let (number, rest) = read_u32(bytes)?;
             read_vector_op(number, rest)
         }
@@ -140,13 +150,13 @@ fn read_const_from(first: u8, bytes: &[u8]) -> Result<(RawConst, &[u8]), WireErr
 
 /// Operators up to the byte 0B.
 fn take_operators(alloc: Global, bytes: &[u8]) -> Result<(Vec<RawConst>, &[u8]), WireError>
-    ensures { Gives (λ r. (r.0.items, r.1.now)) result (at (Until 0x0B const_from) bytes.now) }
+    ensures { Gives (λ r. (r.0.items, r.1.now)) result (at (Until END const_from) bytes.now) }
 {
     let mut operators = Vec::new(alloc);
     let mut rest = bytes;
     'operators: for _turn in 0..bytes.len() {
         let (first, after) = read_byte(rest)?;
-        if first == 0x0B {
+        if u32::from(first) == END {
             return Ok((operators, after));
         }
         let (operator, behind) = read_const_from(first, after)?;
@@ -177,7 +187,8 @@ fn take_expressions(
     count: u32,
     bytes: &[u8],
 ) -> Result<(Vec<Vec<RawConst>>, &[u8]), WireError>
-    ensures { Gives (λ r. (map expression r.0.items, r.1.now)) result (at (Row expression_form count) bytes.now) }
+    ensures { Gives (λ r. (map expression r.0.items, r.1.now)) result
+        (at (Row expression_form count) bytes.now) }
 {
     let mut expressions = Vec::new(alloc);
     let mut rest = bytes;
@@ -197,7 +208,8 @@ pub fn read_expressions(
     alloc: Global,
     bytes: &[u8],
 ) -> Result<(Vec<Vec<RawConst>>, &[u8]), WireError>
-    ensures { Gives (λ r. (map expression r.0.items, r.1.now)) result (at (Vector expression_form) bytes.now) }
+    ensures { Gives (λ r. (map expression r.0.items, r.1.now)) result
+        (at (Vector expression_form) bytes.now) }
 {
     let (count, rest) = read_u32(bytes)?;
     take_expressions(alloc, count, rest)

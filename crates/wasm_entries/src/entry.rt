@@ -20,6 +20,7 @@ use std::alloc::Global;
 use wasm_forms::{
     Element, WireError, Written, read_byte, read_name, read_u32, write_name, write_u32,
 };
+use wasm_opcodes::types::TABLE_WITH_INITIAL;
 
 /// What an import of this kind brings.
 #[tactic(auto, unfolding(crate::specs::Forms::desc_from))]
@@ -81,7 +82,7 @@ impl<'a> Element<'a> for RawImport<'a> {
 fn read_table_from(alloc: Global, first: u8, bytes: &[u8]) -> Result<(RawTable, &[u8]), WireError>
     ensures { Gives (λ r. (table_entry r.0, r.1.now)) result (at (table_from first) bytes.now) }
 {
-    if first != 0x40 {
+    if first != TABLE_WITH_INITIAL {
         let (ty, rest) = read_table_type_from(first, bytes)?;
         return Ok((RawTable { ty, initial: None }, rest));
     }
@@ -210,8 +211,8 @@ impl Written for RawTable {
         match &self.initial {
             None => write_table_type(to, &self.ty),
             Some(operators) => {
-                to.push(0x40)?;
-                to.push(0x00)?;
+                to.push(TABLE_WITH_INITIAL)?;
+                to.push(0)?;
                 write_table_type(to, &self.ty)?;
                 write_expression(to, operators)
             }

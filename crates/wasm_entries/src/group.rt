@@ -15,6 +15,7 @@ use std::alloc::Global;
 use wasm_forms::{
     Element, WireError, Written, read_byte, read_u32, read_vector, write_u32, write_vector,
 };
+use wasm_opcodes::types::{REC_TYPE, SUB_FINAL_TYPE, SUB_TYPE};
 
 /// The supertypes of a subtype, and its composite type.
 #[tactic(auto, unfolding(crate::specs::TypeForms::sub_with))]
@@ -37,8 +38,8 @@ fn read_sub_from(alloc: Global, first: u8, bytes: &[u8]) -> Result<(RawSub, &[u8
     ensures { Gives (λ r. (sub r.0, r.1.now)) result (at (sub_from first) bytes.now) }
 {
     match first {
-        0x50 => read_sub_with(alloc, false, bytes),
-        0x4F => read_sub_with(alloc, true, bytes),
+        SUB_TYPE => read_sub_with(alloc, false, bytes),
+        SUB_FINAL_TYPE => read_sub_with(alloc, true, bytes),
         _ => {
             let (comp, rest) = read_composite_from(alloc, first, bytes)?;
             let subtype = RawSub {
@@ -70,7 +71,7 @@ impl<'a> Element<'a> for RawSub {
 fn read_group_from(alloc: Global, first: u8, bytes: &[u8]) -> Result<(RawGroup, &[u8]), WireError>
     ensures { Gives (λ r. (group r.0, r.1.now)) result (at (group_from first) bytes.now) }
 {
-    if first == 0x4E {
+    if first == REC_TYPE {
         return read_vector::<RawSub>(alloc, bytes);
     }
     let (subtype, rest) = read_sub_from(alloc, first, bytes)?;
@@ -124,7 +125,11 @@ impl Written for RawSub {
         if self.is_final && self.supers.is_empty() {
             return write_composite(to, &self.comp);
         }
-        to.push(if self.is_final { 0x4F } else { 0x50 })?;
+        to.push(if self.is_final {
+            SUB_FINAL_TYPE
+        } else {
+            SUB_TYPE
+        })?;
         write_vector(to, &self.supers)?;
         write_composite(to, &self.comp)
     }
@@ -135,20 +140,22 @@ impl Written for RawSub {
 ///
 /// [`WireError::TooLarge`] where one of its counts is 2^32 or more.
 pub fn write_group(to: &mut Vec<u8>, types: &RawGroup) -> Result<(), WireError>
-    ensures adds { Adds result to.old.items to.new.items (group_bytes (group types.now)) (GroupFits (group types.now)) }
+    ensures adds { Adds result to.old.items to.new.items (group_bytes (group types.now))
+        (GroupFits (group types.now)) }
     ensures room { TakesRoom result to.old to.new (group_bytes (group types.now)) }
     ensures keeps { Keeps to.old.items to.new.items }
 {
     if types.len() == 1 {
         return types[0].write(to);
     }
-    to.push(0x4E)?;
+    to.push(REC_TYPE)?;
     write_vector(to, types)
 }
 
 /// Writes groups one after another.
 fn write_each(to: &mut Vec<u8>, groups: &[RawGroup]) -> Result<(), WireError>
-    ensures adds { Adds result to.old.items to.new.items (row_bytes (λ g. group_bytes (group g)) groups.now) (EachFits (λ g. GroupFits (group g)) groups.now) }
+    ensures adds { Adds result to.old.items to.new.items (row_bytes (λ g. group_bytes (group g)) groups.now)
+        (EachFits (λ g. GroupFits (group g)) groups.now) }
     ensures room { TakesRoom result to.old to.new (row_bytes (λ g. group_bytes (group g)) groups.now) }
     ensures keeps { Keeps to.old.items to.new.items }
 {
@@ -163,7 +170,8 @@ fn write_each(to: &mut Vec<u8>, groups: &[RawGroup]) -> Result<(), WireError>
 ///
 /// [`WireError::TooLarge`] where there are 2^32 groups or more, or one of them is too large.
 pub fn write_groups(to: &mut Vec<u8>, groups: &[RawGroup]) -> Result<(), WireError>
-    ensures adds { Adds result to.old.items to.new.items (vector_bytes group_bytes (map group groups.now)) (FitsVector GroupFits (map group groups.now)) }
+    ensures adds { Adds result to.old.items to.new.items (vector_bytes group_bytes (map group groups.now))
+        (FitsVector GroupFits (map group groups.now)) }
     ensures room { TakesRoom result to.old to.new (vector_bytes group_bytes (map group groups.now)) }
     ensures keeps { Keeps to.old.items to.new.items }
 {

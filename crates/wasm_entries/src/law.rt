@@ -18,7 +18,8 @@ pub fn group_spelling_stands()
 
 /// What is written for the groups of a type section is a text of the grammar with that value.
 pub fn groups_spelling_stands()
-    ensures { (gs : List Group) → FitsVector GroupFits gs → All GroupStands gs → Is (Vector group_form) (vector_bytes group_bytes gs) gs }
+    ensures { (gs : List Group) → FitsVector GroupFits gs → All GroupStands gs → Is (Vector group_form)
+        (vector_bytes group_bytes gs) gs }
 {}
 
 /// What is written for limits is a text of the grammar, a memory type with that value.
@@ -28,7 +29,8 @@ pub fn memory_type_spelling_stands()
 
 /// What is written for a table type is a text of the grammar with that value.
 pub fn table_type_spelling_stands()
-    ensures { (t : RawTableType) → LimitsFit t.limits → TableTypeStands t → Is table_type (table_type_bytes t) t }
+    ensures { (t : RawTableType) → LimitsFit t.limits → TableTypeStands t
+        → Is table_type (table_type_bytes t) t }
 {}
 
 /// What is written for a global type is a text of the grammar with that value.

@@ -17,6 +17,7 @@ use wasm_forms::{
     Element, RawHeap, RawRef, WireError, Written, read_block, read_byte, read_reference_type,
     read_u32, read_vector, write_block, write_reference_type, write_u32, write_vector,
 };
+use wasm_opcodes::types::HEAP_FUNC;
 
 /// Functions that a segment lists.
 #[tactic(auto, unfolding(crate::specs::Forms::functions_form))]
@@ -56,7 +57,7 @@ fn read_of_functions(alloc: Global, bytes: &[u8]) -> Result<(RawItems, &[u8]), W
 {
     let any_function = RawRef {
         nullable: true,
-        heap: RawHeap::Abstract(0x70),
+        heap: RawHeap::Abstract(HEAP_FUNC),
     };
     let (expressions, rest) = read_expressions(alloc, bytes)?;
     Ok((RawItems::Expressions(any_function, expressions), rest))
@@ -168,7 +169,8 @@ impl<'a> Element<'a> for RawData<'a> {
 
 /// Writes the count of the indices and each of them.
 fn write_indices(to: &mut Vec<u8>, indices: &[u32]) -> Result<(), WireError>
-    ensures adds { Adds result to.old.items to.new.items (vector_bytes number_bytes indices.now) (FitsLength indices.now) }
+    ensures adds { Adds result to.old.items to.new.items (vector_bytes number_bytes indices.now)
+        (FitsLength indices.now) }
     ensures room { TakesRoom result to.old to.new (vector_bytes number_bytes indices.now) }
     ensures keeps { Keeps to.old.items to.new.items }
 {
@@ -181,8 +183,10 @@ fn write_functions(
     mode: &RawElementMode,
     functions: &[u32],
 ) -> Result<(), WireError>
-    ensures adds { Adds result to.old.items to.new.items (element_spelled (element_mode mode.now) (Functions functions.now)) (FitsLength functions.now) }
-    ensures room { TakesRoom result to.old to.new (element_spelled (element_mode mode.now) (Functions functions.now)) }
+    ensures adds { Adds result to.old.items to.new.items
+        (element_spelled (element_mode mode.now) (Functions functions.now)) (FitsLength functions.now) }
+    ensures room { TakesRoom result to.old to.new
+        (element_spelled (element_mode mode.now) (Functions functions.now)) }
     ensures keeps { Keeps to.old.items to.new.items }
 {
     match mode {
@@ -215,8 +219,11 @@ fn write_typed(
     ty: &RawRef,
     expressions: &[Vec<RawConst>],
 ) -> Result<(), WireError>
-    ensures adds { Adds result to.old.items to.new.items (element_spelled (element_mode mode.now) (Expressions ty.now (map expression expressions.now))) (FitsLength expressions.now) }
-    ensures room { TakesRoom result to.old to.new (element_spelled (element_mode mode.now) (Expressions ty.now (map expression expressions.now))) }
+    ensures adds { Adds result to.old.items to.new.items
+        (element_spelled (element_mode mode.now) (Expressions ty.now (map expression expressions.now)))
+        (FitsLength expressions.now) }
+    ensures room { TakesRoom result to.old to.new
+        (element_spelled (element_mode mode.now) (Expressions ty.now (map expression expressions.now))) }
     ensures keeps { Keeps to.old.items to.new.items }
 {
     match mode {

@@ -1,8 +1,9 @@
 -- What is spelled stands in its form: lists, choices, and value, reference and heap types.
-use Rattle.std.proofs.Common.{◌≡◌, ℕ, ◌<◌, ◌≤◌, Bool, true, false, List, [], ◌∷◌, length, refl, ap, ap₂, arith, lt-ltb, le-ltb, ltb-true, ◌⊎◌, inl, inr, pos, ◌-ℤ◌}
-use Rattle.std.specs.Prelude.{All, nat_lt, nat_eq, ◌&&◌}
+use Rattle.std.proofs.Common.{◌≡◌, ℕ, ◌<◌, ◌≤◌, Bool, true, false, List, [], ◌∷◌, length, refl, ap, ap₂, arith, ◌⊎◌, inl, inr, pos, ◌-ℤ◌}
+use Rattle.std.specs.Prelude.{All, nat_le, nat_eq, ◌&&◌}
+use Rattle.wasm_opcodes.specs.declared.types.TheConstants.{HEAP_EXN, HEAP_NO_EXN}
 use Rattle.std.proofs.lemmas.Int.{ints}
-use Rattle.std.proofs.lemmas.Bool.{ne_eqb}
+use Rattle.std.proofs.lemmas.Bool.{ne_eqb, le-leb, lt-leb, leb-true}
 use Rattle.std.proofs.lemmas.List.Elements.{All-head, All-tail}
 use Rattle.wasm_forms.specs.declared.types.RawHeap.{RawHeap}
 use Rattle.wasm_forms.specs.declared.types.RawHeap.TheVariants.{Abstract, Index}
@@ -50,10 +51,10 @@ led_stands K f bytes a h = (h.0, (h.0 ∷ [], (h.1.0, (h.1.1.0, refl, h.1.1.2)))
 -- ---- heap types
 
 low_byte : (b : ℕ) → b ≤ 0x68 → is_abstract b ≡ false
-low_byte b h = ap (λ t. t && nat_lt b 0x75) (le-ltb 0x68 b h)
+low_byte b h = ap (λ t. t && nat_le b HEAP_NO_EXN) (lt-leb HEAP_EXN b (omega (arith, h)))
 
 high_byte : (b : ℕ) → 0x75 ≤ b → is_abstract b ≡ false
-high_byte b h = let l : 0x68 < b = omega (arith, h) in ap₂ (λ s t. s && t) (lt-ltb 0x68 b l) (le-ltb b 0x75 h)
+high_byte b h = ap₂ (λ s t. s && t) (le-leb HEAP_EXN b (omega (arith, h))) (lt-leb b HEAP_NO_EXN (omega (arith, h)))
 
 not_minus : (b n : ℕ) → b < 128 → pos n ≡ pos b -ℤ pos 128 → ⊥
 not_minus b n h e = omega (arith, ints)
@@ -69,8 +70,11 @@ and_both true false e = cc
 and_both false true e = cc
 and_both false false e = cc
 
-abstract_range : (b : ℕ) → is_abstract b ≡ true → (0x68 < b) × (b < 0x75)
-abstract_range b e = let p = and_both (nat_lt 0x68 b) (nat_lt b 0x75) e in (ltb-true 0x68 b p.0, ltb-true b 0x75 p.1)
+pub abstract_range : (b : ℕ) → is_abstract b ≡ true → (0x68 < b) × (b < 0x75)
+abstract_range b e =
+    let p = and_both (nat_le HEAP_EXN b) (nat_le b HEAP_NO_EXN) e in
+    let high : b ≤ 0x74 = leb-true b HEAP_NO_EXN p.1 in
+    (leb-true HEAP_EXN b p.0, omega (arith, high))
 
 pub heap_stands : (h : RawHeap) → HeapStands h → Is heap_type (heap_bytes h) h
 unfolding heap_type heap_from

@@ -1,5 +1,6 @@
 -- The forms and the spelling of value, reference and heap types (Binary Format > Types).
-use Rattle.std.specs.Prelude.{ℕ, ◌≡◌, ◌<◌, ◌^◌, Bool, true, false, List, [], ◌∷◌, nat_lt, nat_eq, ◌&&◌}
+use Rattle.std.specs.Prelude.{ℕ, ◌≡◌, ◌<◌, ◌^◌, Bool, true, false, List, [], ◌∷◌, nat_le, nat_eq, ◌&&◌}
+use Rattle.wasm_opcodes.specs.declared.types.TheConstants.{HEAP_EXN, HEAP_NO_EXN, I32_TYPE, I64_TYPE, F32_TYPE, F64_TYPE, V128_TYPE, REF_NULL_TYPE, REF_TYPE}
 use Rattle.wasm_forms.specs.declared.types.RawHeap.{RawHeap}
 use Rattle.wasm_forms.specs.declared.types.RawHeap.TheVariants.{Abstract, Index}
 use Rattle.wasm_forms.specs.declared.types.RawRef.{RawRef}
@@ -12,7 +13,7 @@ use Rattle.wasm_forms.specs.Spelling.{index_bytes}
 
 -- the byte of an abstract heap type: exn, array, struct, i31, eq, any, extern, func, none, noextern, nofunc, noexn
 abbrev pub is_abstract : ℕ → Bool
-is_abstract b = nat_lt 0x68 b && nat_lt b 0x75
+is_abstract b = nat_le HEAP_EXN b && nat_le b HEAP_NO_EXN
 
 -- the heap type that begins with this byte (Heap Types)
 unfoldable pub heap_from : ℕ → Form RawHeap
@@ -26,8 +27,8 @@ reference nullable heap = record { nullable = nullable; heap = heap }
 
 -- 63 and a heap type: nullable; 64: not nullable; an abstract heap type alone: nullable (Reference Types)
 unfoldable pub reference_from : ℕ → Form RawRef
-reference_from b = choose (nat_eq b 0x63) (Made (reference true) heap_type)
-    (choose (nat_eq b 0x64) (Made (reference false) heap_type)
+reference_from b = choose (nat_eq b REF_NULL_TYPE) (Made (reference true) heap_type)
+    (choose (nat_eq b REF_TYPE) (Made (reference false) heap_type)
     (choose (is_abstract b) (Gives (reference true (Abstract b)))
     Fails))
 
@@ -36,11 +37,11 @@ reference_type = Led Byte reference_from
 
 -- the value type that begins with this byte (Number Types, Vector Types, Value Types)
 unfoldable pub value_from : ℕ → Form RawVal
-value_from b = choose (nat_eq b 0x7F) (Gives I32)
-    (choose (nat_eq b 0x7E) (Gives I64)
-    (choose (nat_eq b 0x7D) (Gives F32)
-    (choose (nat_eq b 0x7C) (Gives F64)
-    (choose (nat_eq b 0x7B) (Gives V128)
+value_from b = choose (nat_eq b I32_TYPE) (Gives I32)
+    (choose (nat_eq b I64_TYPE) (Gives I64)
+    (choose (nat_eq b F32_TYPE) (Gives F32)
+    (choose (nat_eq b F64_TYPE) (Gives F64)
+    (choose (nat_eq b V128_TYPE) (Gives V128)
     (Made Ref (reference_from b))))))
 
 unfoldable pub value_type : Form RawVal
@@ -54,18 +55,18 @@ heap_bytes (Index n) = index_bytes n
 
 abbrev pub reference_spelled : Bool → RawHeap → List ℕ
 reference_spelled true (Abstract b) = b ∷ []
-reference_spelled true (Index n) = 0x63 ∷ index_bytes n
-reference_spelled false heap = 0x64 ∷ heap_bytes heap
+reference_spelled true (Index n) = REF_NULL_TYPE ∷ index_bytes n
+reference_spelled false heap = REF_TYPE ∷ heap_bytes heap
 
 abbrev pub reference_bytes : RawRef → List ℕ
 reference_bytes r = reference_spelled r.nullable r.heap
 
 abbrev pub value_bytes : RawVal → List ℕ
-value_bytes I32 = 0x7F ∷ []
-value_bytes I64 = 0x7E ∷ []
-value_bytes F32 = 0x7D ∷ []
-value_bytes F64 = 0x7C ∷ []
-value_bytes V128 = 0x7B ∷ []
+value_bytes I32 = I32_TYPE ∷ []
+value_bytes I64 = I64_TYPE ∷ []
+value_bytes F32 = F32_TYPE ∷ []
+value_bytes F64 = F64_TYPE ∷ []
+value_bytes V128 = V128_TYPE ∷ []
 value_bytes (Ref r) = reference_bytes r
 
 -- ---- which of them spell something: an abstract heap type by one of its bytes, an index below 2 ^ 32

@@ -53,7 +53,8 @@ fn take_groups(bytes: &[u8], most: u32) -> Groups<'_>
 /// A number's last byte, which is below 128, and the bytes after it.
 #[inline]
 fn take_last(bytes: &[u8]) -> Option<(u8, &[u8])>
-    ensures { MatchOption result (last_at bytes.now ≡ None) (λ x. (last_at bytes.now ≡ Some (x.0, x.1.now)) × (x.0 < 128)) }
+    ensures { MatchOption result (last_at bytes.now ≡ None) (λ x. (last_at bytes.now ≡ Some (x.0, x.1.now))
+        × (x.0 < 128)) }
 {
     match bytes {
         [first, rest @ ..] if *first < 128 => Some((*first, rest)),
@@ -181,7 +182,8 @@ pub fn read_u64(bytes: &[u8]) -> Result<(u64, &[u8]), WireError>
 fn tenth_value(value: u64, last: u8) -> Option<i64>
     requires small { value < 2 ^ 63 }
     requires low { last < 128 }
-    ensures { MatchOption result (fits (2 ^ 63) (pos value +ℤ pos (2 ^ 63) *ℤ last_of last) ≡ false) (λ z. (z ≡ pos value +ℤ pos (2 ^ 63) *ℤ last_of last) × Fits (2 ^ 63) z) }
+    ensures { MatchOption result (fits (2 ^ 63) (pos value +ℤ pos (2 ^ 63) *ℤ last_of last) ≡ false)
+        (λ z. (z ≡ pos value +ℤ pos (2 ^ 63) *ℤ last_of last) × Fits (2 ^ 63) z) }
 {
     if last == 0 {
         Some(value as i64)

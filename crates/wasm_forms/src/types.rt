@@ -13,6 +13,10 @@ use crate::number::read_index_from;
 use crate::vector::Element;
 use crate::write::{Written, write_index};
 use std::alloc::Global;
+use wasm_opcodes::types::{
+    F32_TYPE, F64_TYPE, HEAP_EXN, HEAP_NO_EXN, I32_TYPE, I64_TYPE, REF_NULL_TYPE, REF_TYPE,
+    V128_TYPE,
+};
 
 /// A heap type (Binary Format > Types > Heap Types): the byte of an abstract one, from 0x69 to 0x74, or the index of a type.
 #[derive(Clone, Copy, Debug, PartialEq, Eq)]
@@ -44,7 +48,7 @@ pub enum RawVal {
 fn names_abstract(byte: u8) -> bool
     ensures { result ≡ is_abstract byte }
 {
-    0x68 < byte && byte < 0x75
+    HEAP_EXN <= byte && byte <= HEAP_NO_EXN
 }
 
 /// The heap type that begins with the byte `first`.
@@ -78,7 +82,7 @@ pub fn read_heap_type(bytes: &[u8]) -> Result<(RawHeap, &[u8]), WireError>
 pub fn read_reference_from(first: u8, bytes: &[u8]) -> Result<(RawRef, &[u8]), WireError>
     ensures { Gives (λ r. (r.0, r.1.now)) result (at (reference_from first) bytes.now) }
 {
-    if first == 0x63 {
+    if first == REF_NULL_TYPE {
         let (heap, rest) = read_heap_type(bytes)?;
         return Ok((
             RawRef {
@@ -88,7 +92,7 @@ pub fn read_reference_from(first: u8, bytes: &[u8]) -> Result<(RawRef, &[u8]), W
             rest,
         ));
     }
-    if first == 0x64 {
+    if first == REF_TYPE {
         let (heap, rest) = read_heap_type(bytes)?;
         return Ok((
             RawRef {
@@ -131,11 +135,11 @@ pub fn read_value_from(first: u8, bytes: &[u8]) -> Result<(RawVal, &[u8]), WireE
     ensures { Gives (λ r. (r.0, r.1.now)) result (at (value_from first) bytes.now) }
 {
     match first {
-        0x7F => Ok((RawVal::I32, bytes)),
-        0x7E => Ok((RawVal::I64, bytes)),
-        0x7D => Ok((RawVal::F32, bytes)),
-        0x7C => Ok((RawVal::F64, bytes)),
-        0x7B => Ok((RawVal::V128, bytes)),
+        I32_TYPE => Ok((RawVal::I32, bytes)),
+        I64_TYPE => Ok((RawVal::I64, bytes)),
+        F32_TYPE => Ok((RawVal::F32, bytes)),
+        F64_TYPE => Ok((RawVal::F64, bytes)),
+        V128_TYPE => Ok((RawVal::V128, bytes)),
         _ => {
             let (reference, rest) = read_reference_from(first, bytes)?;
             Ok((RawVal::Ref(reference), rest))
@@ -188,13 +192,13 @@ pub fn write_reference_type(to: &mut Vec<u8>, reference: &RawRef) -> Result<(), 
     ensures keeps { Keeps to.old.items to.new.items }
 {
     if !reference.nullable {
-        to.push(0x64)?;
+        to.push(REF_TYPE)?;
         return write_heap_type(to, &reference.heap);
     }
     match reference.heap {
         RawHeap::Abstract(byte) => to.push(byte)?,
         RawHeap::Index(index) => {
-            to.push(0x63)?;
+            to.push(REF_NULL_TYPE)?;
             write_index(to, index)?;
         }
     }
@@ -208,11 +212,11 @@ impl Written for RawVal {
 
     fn write(&self, to: &mut Vec<u8>) -> Result<(), WireError> {
         match self {
-            RawVal::I32 => to.push(0x7F)?,
-            RawVal::I64 => to.push(0x7E)?,
-            RawVal::F32 => to.push(0x7D)?,
-            RawVal::F64 => to.push(0x7C)?,
-            RawVal::V128 => to.push(0x7B)?,
+            RawVal::I32 => to.push(I32_TYPE)?,
+            RawVal::I64 => to.push(I64_TYPE)?,
+            RawVal::F32 => to.push(F32_TYPE)?,
+            RawVal::F64 => to.push(F64_TYPE)?,
+            RawVal::V128 => to.push(V128_TYPE)?,
             RawVal::Ref(reference) => write_reference_type(to, reference)?,
         }
         Ok(())

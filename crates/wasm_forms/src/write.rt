@@ -12,7 +12,8 @@ use std::alloc::AllocError;
 /// How many bytes the shortest spelling of `value` as a u32 has, which is the one that is written: 1 to 5. Takes no memory.
 pub fn leb128_len(value: u32) -> usize
     ensures written { result ≡ length (number_bytes value) }
-    ensures least { (spelling : List ℕ) → AreBytes spelling → IsUnsigned spelling value → result ≤ length spelling }
+    ensures least { (spelling : List ℕ) → AreBytes spelling → IsUnsigned spelling value
+        → result ≤ length spelling }
 {
     if value < 128 {
         1
@@ -48,7 +49,8 @@ fn last_group(below: bool, left: u64) -> u8
 /// Writes the groups of `number`, or where `below` is set those of -`number` - 1, up to one that is below `stop`.
 fn write_groups(to: &mut Vec<u8>, below: bool, stop: u64, number: u64) -> Result<(), AllocError>
     requires { (stop ≡ 64) ⊎ (stop ≡ 128) }
-    ensures written { to.new.items ≡ (if is_ok result then to.old.items ++ groups below stop 9 number else to.old.items) }
+    ensures written { to.new.items
+        ≡ (if is_ok result then to.old.items ++ groups below stop 9 number else to.old.items) }
     ensures room { NeedsRoom result to.old to.new (groups below stop 9 number) }
 {
     let before = to.len();
@@ -69,7 +71,8 @@ fn write_groups(to: &mut Vec<u8>, below: bool, stop: u64, number: u64) -> Result
 
 /// Writes a u32 in its shortest spelling. Refused for lack of memory, the bytes stay.
 pub fn write_u32(to: &mut Vec<u8>, value: u32) -> Result<(), AllocError>
-    ensures written { to.new.items ≡ (if is_ok result then to.old.items ++ number_bytes value else to.old.items) }
+    ensures written { to.new.items
+        ≡ (if is_ok result then to.old.items ++ number_bytes value else to.old.items) }
     ensures room { NeedsRoom result to.old to.new (number_bytes value) }
 {
     write_groups(to, false, 128, u64::from(value))
@@ -77,7 +80,8 @@ pub fn write_u32(to: &mut Vec<u8>, value: u32) -> Result<(), AllocError>
 
 /// Writes an s32 in its shortest spelling. Refused for lack of memory, the bytes stay.
 pub fn write_s32(to: &mut Vec<u8>, value: i32) -> Result<(), AllocError>
-    ensures written { to.new.items ≡ (if is_ok result then to.old.items ++ integer_bytes value else to.old.items) }
+    ensures written { to.new.items
+        ≡ (if is_ok result then to.old.items ++ integer_bytes value else to.old.items) }
     ensures room { NeedsRoom result to.old to.new (integer_bytes value) }
 {
     if value < 0 {
@@ -89,7 +93,8 @@ pub fn write_s32(to: &mut Vec<u8>, value: i32) -> Result<(), AllocError>
 
 /// Writes a u64 (Binary Format > Values > Integers) in its shortest spelling. Refused for lack of memory, the bytes stay.
 pub fn write_u64(to: &mut Vec<u8>, value: u64) -> Result<(), AllocError>
-    ensures written { to.new.items ≡ (if is_ok result then to.old.items ++ number_bytes value else to.old.items) }
+    ensures written { to.new.items
+        ≡ (if is_ok result then to.old.items ++ number_bytes value else to.old.items) }
     ensures room { NeedsRoom result to.old to.new (number_bytes value) }
 {
     write_groups(to, false, 128, value)
@@ -97,7 +102,8 @@ pub fn write_u64(to: &mut Vec<u8>, value: u64) -> Result<(), AllocError>
 
 /// Writes an s64 (Binary Format > Values > Integers) in its shortest spelling. Refused for lack of memory, the bytes stay.
 pub fn write_s64(to: &mut Vec<u8>, value: i64) -> Result<(), AllocError>
-    ensures written { to.new.items ≡ (if is_ok result then to.old.items ++ integer_bytes value else to.old.items) }
+    ensures written { to.new.items
+        ≡ (if is_ok result then to.old.items ++ integer_bytes value else to.old.items) }
     ensures room { NeedsRoom result to.old to.new (integer_bytes value) }
 {
     if value < 0 {
@@ -109,7 +115,8 @@ pub fn write_s64(to: &mut Vec<u8>, value: i64) -> Result<(), AllocError>
 
 /// Writes an index (Binary Format > Types > Heap Types) as the shortest s33 with its value. Refused for lack of memory, the bytes stay.
 pub fn write_index(to: &mut Vec<u8>, index: u32) -> Result<(), AllocError>
-    ensures written { to.new.items ≡ (if is_ok result then to.old.items ++ index_bytes index else to.old.items) }
+    ensures written { to.new.items
+        ≡ (if is_ok result then to.old.items ++ index_bytes index else to.old.items) }
     ensures room { NeedsRoom result to.old to.new (index_bytes index) }
 {
     write_groups(to, false, 64, u64::from(index))
@@ -188,7 +195,8 @@ impl Written for u32 {
 
 /// Writes items one after another.
 fn write_row<E: Written>(to: &mut Vec<u8>, items: &[E]) -> Result<(), WireError>
-    ensures adds { Adds result to.old.items to.new.items (row_bytes E.spelled items.now) (EachFits E.Fits items.now) }
+    ensures adds { Adds result to.old.items to.new.items (row_bytes E.spelled items.now)
+        (EachFits E.Fits items.now) }
     ensures room { TakesRoom result to.old to.new (row_bytes E.spelled items.now) }
     ensures keeps { Keeps to.old.items to.new.items }
 {
@@ -203,7 +211,8 @@ fn write_row<E: Written>(to: &mut Vec<u8>, items: &[E]) -> Result<(), WireError>
 ///
 /// [`WireError::TooLarge`] where there are 2^32 items or more, or one of them is too large.
 pub fn write_vector<E: Written>(to: &mut Vec<u8>, items: &[E]) -> Result<(), WireError>
-    ensures adds { Adds result to.old.items to.new.items (vector_bytes E.spelled items.now) (FitsVector E.Fits items.now) }
+    ensures adds { Adds result to.old.items to.new.items (vector_bytes E.spelled items.now)
+        (FitsVector E.Fits items.now) }
     ensures room { TakesRoom result to.old to.new (vector_bytes E.spelled items.now) }
     ensures keeps { Keeps to.old.items to.new.items }
 {

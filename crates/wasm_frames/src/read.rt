@@ -64,7 +64,8 @@ fn append<T: Drop>(
 
 /// Adds a section: its id to the order, its records behind the earlier ones.
 fn add_section<'a>(raw: &mut Raw<'a>, section: RawSection<'a>) -> Result<(), AllocError>
-    ensures { OnOk result (sections raw.new ≡ with_section (sections raw.old) (section_record section.entry)) }
+    ensures { OnOk result (sections raw.new ≡ with_section (sections raw.old)
+        (section_record section.entry)) }
 {
     let order = &mut raw.order;
     match section {

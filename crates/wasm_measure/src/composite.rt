@@ -14,6 +14,7 @@ use crate::types::field_len;
 use crate::vector::{Measured, measured_vector};
 use wasm_entries::{RawComp, RawFieldType, RawFuncType, RawGroup, RawSub};
 use wasm_forms::{RawVal, WireError};
+use wasm_opcodes::types::REC_TYPE;
 
 /// How many bytes the count of the value types and each of them have.
 fn measured_values(values: &[RawVal]) -> Result<u32, WireError>
@@ -77,7 +78,8 @@ impl Measured for RawSub {
 
 /// How many bytes a group has that is not one type alone: 4E, the count of the types and each of them.
 fn measured_many(types: &[RawSub]) -> Result<u32, WireError>
-    ensures { Measures result (0x4E ∷ vector_bytes (λ s. sub_bytes (sub s)) types.now) (FitsVector (λ s. SubFits (sub s)) types.now) }
+    ensures { Measures result (REC_TYPE ∷ vector_bytes (λ s. sub_bytes (sub s)) types.now)
+        (FitsVector (λ s. SubFits (sub s)) types.now) }
 {
     plus(1, measured_vector(types)?)
 }
@@ -98,7 +100,8 @@ pub fn measured_group(types: &RawGroup) -> Result<u32, WireError>
 
 /// How many bytes the groups have, one after another.
 fn measured_each(groups: &[RawGroup]) -> Result<u32, WireError>
-    ensures { Measures result (row_bytes (λ g. group_bytes (group g)) groups.now) (EachFits (λ g. GroupFits (group g)) groups.now) }
+    ensures { Measures result (row_bytes (λ g. group_bytes (group g)) groups.now)
+        (EachFits (λ g. GroupFits (group g)) groups.now) }
 {
     let mut total: u32 = 0;
     'groups: for types in groups {
@@ -109,7 +112,8 @@ fn measured_each(groups: &[RawGroup]) -> Result<u32, WireError>
 
 /// How many bytes the count of the groups and each of them have.
 fn measured_counted(groups: &[RawGroup]) -> Result<u32, WireError>
-    ensures { Measures result (vector_bytes (λ g. group_bytes (group g)) groups.now) (FitsVector (λ g. GroupFits (group g)) groups.now) }
+    ensures { Measures result (vector_bytes (λ g. group_bytes (group g)) groups.now)
+        (FitsVector (λ g. GroupFits (group g)) groups.now) }
 {
     let Ok(count) = u32::try_from(groups.len()) else {
         return Err(WireError::TooLarge);
@@ -123,7 +127,8 @@ fn measured_counted(groups: &[RawGroup]) -> Result<u32, WireError>
 ///
 /// `TooLarge` exactly where a count is 2^32 or more, or all in all they have 2^32 bytes or more.
 pub fn measured_groups(groups: &[RawGroup]) -> Result<u32, WireError>
-    ensures { Measures result (vector_bytes group_bytes (map group groups.now)) (FitsVector GroupFits (map group groups.now)) }
+    ensures { Measures result (vector_bytes group_bytes (map group groups.now))
+        (FitsVector GroupFits (map group groups.now)) }
 {
     measured_counted(groups)
 }

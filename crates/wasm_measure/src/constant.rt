@@ -80,7 +80,8 @@ fn measured_each(expressions: &[Vec<RawConst>]) -> Result<u32, WireError>
 
 /// How many bytes the count of the expressions and each of them have.
 fn measured_counted(expressions: &[Vec<RawConst>]) -> Result<u32, WireError>
-    ensures { Measures result (vector_bytes (λ e. expression_bytes (expression e)) expressions.now) (FitsLength expressions.now) }
+    ensures { Measures result (vector_bytes (λ e. expression_bytes (expression e)) expressions.now)
+        (FitsLength expressions.now) }
 {
     let Ok(count) = u32::try_from(expressions.len()) else {
         return Err(WireError::TooLarge);
@@ -94,7 +95,8 @@ fn measured_counted(expressions: &[Vec<RawConst>]) -> Result<u32, WireError>
 ///
 /// `TooLarge` exactly where there are 2^32 expressions or more, or all in all they have 2^32 bytes or more.
 pub fn measured_expressions(expressions: &[Vec<RawConst>]) -> Result<u32, WireError>
-    ensures { Measures result (vector_bytes expression_bytes (map expression expressions.now)) (FitsLength expressions.now) }
+    ensures { Measures result (vector_bytes expression_bytes (map expression expressions.now))
+        (FitsLength expressions.now) }
 {
     measured_counted(expressions)
 }

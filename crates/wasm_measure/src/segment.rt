@@ -17,7 +17,8 @@ use wasm_forms::{RawRef, WireError};
 
 /// How many bytes a segment has that lists functions.
 fn measured_functions(mode: &RawElementMode, functions: &[u32]) -> Result<u32, WireError>
-    ensures { Measures result (element_spelled (element_mode mode.now) (Functions functions.now)) (FitsLength functions.now) }
+    ensures { Measures result (element_spelled (element_mode mode.now) (Functions functions.now))
+        (FitsLength functions.now) }
 {
     let listed = measured_indices(functions)?;
     match mode {
@@ -38,7 +39,9 @@ fn measured_typed(
     ty: &RawRef,
     expressions: &[Vec<RawConst>],
 ) -> Result<u32, WireError>
-    ensures { Measures result (element_spelled (element_mode mode.now) (Expressions ty.now (map expression expressions.now))) (FitsLength expressions.now) }
+    ensures { Measures result
+        (element_spelled (element_mode mode.now) (Expressions ty.now (map expression expressions.now)))
+        (FitsLength expressions.now) }
 {
     let listed = measured_expressions(expressions)?;
     match mode {

@@ -33,7 +33,8 @@ impl Measured for u32 {
 /// `TooLarge` exactly where all in all it has 2^32 bytes or more.
 pub fn counted_len(len: usize) -> Result<u32, WireError>
     ensures summed { Sums result (length (number_bytes len) + len) }
-    ensures counted { (bytes : List ℕ) → length bytes ≡ len → Measures result (block_bytes bytes) (FitsLength bytes) }
+    ensures counted { (bytes : List ℕ) → length bytes ≡ len → Measures result (block_bytes bytes)
+        (FitsLength bytes) }
 {
     let Ok(count) = u32::try_from(len) else {
         return Err(WireError::TooLarge);

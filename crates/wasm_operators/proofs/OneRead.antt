@@ -20,6 +20,7 @@ use Rattle.wasm_operators.specs.declared.operator.RawBlock.{RawBlock}
 use Rattle.wasm_operators.specs.declared.operator.RawBlock.TheVariants.{NoResult, OneResult, OfType}
 use Rattle.wasm_operators.specs.Forms.{block_from, block_type, has_memory, access_from, access}
 use Rattle.wasm_operators.specs.Standing.{heap_spells, value_spells, block_spells, is_of, HeapHeld, ValueHeld, BlockHeld, ArgHeld}
+use Rattle.wasm_forms.proofs.Stands.{abstract_range}
 use Rattle.wasm_operators.proofs.OneStands.{and_both}
 
 -- ---- choices
@@ -34,7 +35,7 @@ abbrev HeapRead : RawHeap → Type 0
 HeapRead h = (heap_spells h ≡ true) × HeapHeld h
 
 abstract_small : (b : ℕ) → is_abstract b ≡ true → b < 256
-abstract_small b e = let l : b < 0x75 = ltb-true b 0x75 (and_both (nat_lt 0x68 b) (nat_lt b 0x75) e).1 in omega arith
+abstract_small b e = let l = (abstract_range b e).1 in omega (arith, l)
 
 heap_as : (h h' : RawHeap) → h ≡ h' → HeapRead h' → HeapRead h
 heap_as h h' e r = subst HeapRead (sym e) r

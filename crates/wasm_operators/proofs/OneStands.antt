@@ -13,7 +13,7 @@ use Rattle.wasm_forms.specs.Spelling.{number_bytes, index_bytes}
 use Rattle.wasm_forms.specs.Types.{value_from, value_bytes, heap_bytes, reference_spelled, HeapStands, ValueStands}
 use Rattle.wasm_forms.proofs.Spelled.{number_stands, integer_stands, long_number_stands, long_integer_stands, index_stands}
 use Rattle.wasm_forms.proofs.Floats.{f32_stands, f64_stands}
-use Rattle.wasm_forms.proofs.Stands.{heap_stands, value_led, first_stands, second_stands}
+use Rattle.wasm_forms.proofs.Stands.{abstract_range, heap_stands, value_led, first_stands, second_stands}
 use Rattle.wasm_operators.specs.declared.kind.Kind.{Kind}
 use Rattle.wasm_operators.specs.declared.kind.Kind.TheVariants as kinds
 use Rattle.wasm_operators.specs.declared.operator.RawArg.{RawArg}
@@ -56,10 +56,8 @@ leads a b back back' l h e =
 
 reference_leads : (nullable : Bool) (heap : RawHeap) (b : ℕ) (back : List ℕ) → HeapStands heap → reference_spelled nullable heap ≡ b ∷ back → LeadsBlock b
 reference_leads true (Abstract a) b back k e =
-    let p = and_both (nat_lt 0x68 a) (nat_lt a 0x75) k in
-    let l : 0x68 < a = ltb-true 0x68 a p.0 in
-    let h : a < 0x75 = ltb-true a 0x75 p.1 in
-    leads a b back [] (omega arith) (omega arith) e
+    let p = abstract_range a k in
+    leads a b back [] (omega (arith, p.0)) (omega (arith, p.1)) e
 reference_leads true (Index n) b back k e = leads 0x63 b back (index_bytes n) (omega arith) (omega arith) e
 reference_leads false heap b back k e = leads 0x64 b back (heap_bytes heap) (omega arith) (omega arith) e
 

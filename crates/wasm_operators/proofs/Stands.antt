@@ -1,6 +1,8 @@
 -- What is spelled for an operator stands in the form of operators.
 use Rattle.std.proofs.Common.{◌≡◌, ℕ, zero, suc, ◌+◌, ◌*◌, ◌/◌, ◌%◌, ◌<◌, ◌≤◌, Bool, true, false, List, [], ◌∷◌, ◌++◌, length, map, refl, sym, ap, ap₂, subst, ◌∙◌, arith, append_assoc, append-nil, lt-ltb, le-ltb, ltb, ltb-true, ltb-false, ◌⊎◌, inl, inr}
-use Rattle.std.specs.Prelude.{Option, Some, None, flat_map, nat_lt, ◌&&◌, if◌then◌else◌}
+use Rattle.std.specs.Prelude.{Option, Some, None, flat_map, nat_lt, nat_le, ◌&&◌, if◌then◌else◌}
+use Rattle.std.proofs.lemmas.Bool.{le-leb, lt-leb}
+use Rattle.wasm_opcodes.specs.declared.one_byte.TheConstants.{PREFIX_FB, PREFIX_FE}
 use Rattle.wasm_forms.specs.Reading.{◌>>=◌}
 use Rattle.wasm_forms.specs.Grammar.{Form, Is, IsRow, Fails, Byte, Bytes, ◌then◌, Led, Made, Where, U32}
 use Rattle.wasm_forms.specs.Writing.{EachFits}
@@ -317,10 +319,10 @@ code_high op l h =
     ap (λ t. if t then (op % 256) ∷ [] else ((op / 65536) % 256) ∷ number_bytes (op % 65536)) (le-ltb op 65536 (omega arith)) ∙ ap (λ b. b ∷ number_bytes (op % 65536)) byte
 
 no_prefix : (b : ℕ) → b < 215 → is_prefix b ≡ false
-no_prefix b h = ap (λ t. t && nat_lt b 0xFF) (le-ltb 0xFA b (omega arith))
+no_prefix b h = ap (λ t. t && nat_le b PREFIX_FE) (lt-leb PREFIX_FB b (omega (arith, h)))
 
 a_prefix : (b : ℕ) → 0xFA < b → b < 0xFF → is_prefix b ≡ true
-a_prefix b l h = ap₂ (λ s t. s && t) (lt-ltb 0xFA b l) (lt-ltb b 0xFF h)
+a_prefix b l h = ap₂ (λ s t. s && t) (le-leb PREFIX_FB b l) (le-leb b PREFIX_FE (omega (arith, h)))
 
 operator_of_stands : (o : Op) → spelled_by (kinds_of o.op) o.args ≡ true → Held o.args → Is (operator_of o.op) (spelled o.args) o
 unfolding operator_of

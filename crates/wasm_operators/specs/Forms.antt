@@ -1,5 +1,7 @@
 -- The forms of operators and of their arguments ("Binary Format > Instructions").
-use Rattle.std.specs.Prelude.{ℕ, ◌*◌, ◌+◌, ◌-◌, ◌/◌, ◌%◌, List, [], ◌∷◌, ◌++◌, map, flat_map, Option, Some, None, nat_lt, nat_eq, ◌&&◌, Bool}
+use Rattle.std.specs.Prelude.{ℕ, ◌*◌, ◌+◌, ◌-◌, ◌/◌, ◌%◌, List, [], ◌∷◌, ◌++◌, map, flat_map, Option, Some, None, nat_lt, nat_le, nat_eq, ◌&&◌, Bool}
+use Rattle.wasm_opcodes.specs.declared.one_byte.TheConstants.{PREFIX_FB, PREFIX_FE}
+use Rattle.wasm_opcodes.specs.declared.types.TheConstants.{EMPTY_BLOCK}
 use Rattle.wasm_forms.specs.Grammar.{Form, Fails, Gives, Byte, Bytes, IndexFrom, ◌then◌, Led, Made, Where, Row, U32, U64, S32, S64, F32, F64, choose}
 use Rattle.wasm_forms.specs.Types.{value_from, value_type, heap_type}
 use Rattle.wasm_operators.specs.declared.kind.Kind.{Kind}
@@ -21,8 +23,8 @@ one make f = Made (λ x. make x ∷ []) f
 -- type, a number of 33 bits that isn't negative.
 unfoldable pub block_from : ℕ → Form RawBlock
 block_from b =
-    choose (nat_eq b 0x40) (Gives NoResult)
-    (choose (nat_lt 0x40 b && nat_lt b 0x80) (Made OneResult (value_from b))
+    choose (nat_eq b EMPTY_BLOCK) (Gives NoResult)
+    (choose (nat_lt EMPTY_BLOCK b && nat_lt b 128) (Made OneResult (value_from b))
     (Made OfType (IndexFrom b)))
 
 unfoldable pub block_type : Form RawBlock
@@ -107,7 +109,7 @@ operator_of op = behind op (kinds_of op)
 
 -- FB to FE lead to a number
 abbrev pub is_prefix : ℕ → Bool
-is_prefix b = nat_lt 0xFA b && nat_lt b 0xFF
+is_prefix b = nat_le PREFIX_FB b && nat_le b PREFIX_FE
 
 -- what stands behind the first byte of an operator; behind a prefix byte its number, below 65,536
 unfoldable pub operator_from : ℕ → Form Op

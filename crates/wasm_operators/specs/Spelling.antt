@@ -1,5 +1,6 @@
 -- The one spelling of operators that is written, and which of them it spells ("Binary Format > Instructions").
 use Rattle.std.specs.Prelude.{ℕ, ◌+◌, ◌/◌, ◌%◌, List, [], ◌∷◌, ◌++◌, nat_lt, nat_eq, if◌then◌else◌}
+use Rattle.wasm_opcodes.specs.declared.types.TheConstants.{EMPTY_BLOCK}
 use Rattle.wasm_forms.specs.Spelling.{number_bytes, integer_bytes, index_bytes, f32_bytes, f64_bytes, row_bytes}
 use Rattle.wasm_forms.specs.Types.{value_bytes, heap_bytes}
 use Rattle.wasm_operators.specs.declared.operator.RawArg.{RawArg}
@@ -11,7 +12,7 @@ use Rattle.wasm_operators.specs.Operators.{Op}
 -- ---- arguments
 
 abbrev pub block_bytes : RawBlock → List ℕ
-block_bytes NoResult = 0x40 ∷ []
+block_bytes NoResult = EMPTY_BLOCK ∷ []
 block_bytes (OneResult v) = value_bytes v
 block_bytes (OfType t) = index_bytes t
 

@@ -12,16 +12,17 @@ use wasm_forms::{
     WireError, read_byte, read_f32, read_f64, read_heap_type, read_index_from, read_s32, read_s64,
     read_u32, read_u64, read_value_from,
 };
+use wasm_opcodes::types::EMPTY_BLOCK;
 
 /// The type of a block that begins with the byte `first`.
 #[tactic(auto, unfolding(crate::specs::Forms::block_from))]
 fn read_block_from(first: u8, bytes: &[u8]) -> Result<(RawBlock, &[u8]), WireError>
     ensures { Gives (λ r. (r.0, r.1.now)) result (at (block_from first) bytes.now) }
 {
-    if first == 0x40 {
+    if first == EMPTY_BLOCK {
         return Ok((RawBlock::NoResult, bytes));
     }
-    if 0x40 < first && first < 0x80 {
+    if EMPTY_BLOCK < first && first < 128 {
         let (value, rest) = read_value_from(first, bytes)?;
         return Ok((RawBlock::OneResult(value), rest));
     }

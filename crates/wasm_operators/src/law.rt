@@ -20,5 +20,6 @@ pub fn one_operator()
 
 /// An operator that bytes are a text of is one that bytes spell, and its numbers are in their ranges.
 pub fn read_operators_stand()
-    ensures { (bytes : List ℕ) (o : Op) → AreBytes bytes → Is operator bytes o → (spells o ≡ true) × OpStands o }
+    ensures { (bytes : List ℕ) (o : Op) → AreBytes bytes → Is operator bytes o → (spells o ≡ true)
+        × OpStands o }
 {}

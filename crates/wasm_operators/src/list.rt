@@ -24,7 +24,8 @@ pub(crate) trait Entry {
 
     /// Reads an entry, puts its arguments behind those of `to`, and gives the bytes after it.
     fn push<'a>(to: &mut Vec<RawArg>, bytes: &'a [u8]) -> Result<&'a [u8], WireError>
-        ensures { Gives (λ r. (to.new.items, r.now)) result (push_at to.old.items (Made make form) bytes.now) };
+        ensures { Gives (λ r. (to.new.items, r.now)) result (push_at to.old.items (Made make form) bytes.now)
+            };
 }
 
 /// A label.
@@ -110,7 +111,8 @@ fn push_entries<'a, E: Entry>(
     count: u32,
     bytes: &'a [u8],
 ) -> Result<&'a [u8], WireError>
-    ensures { Gives (λ r. (to.new.items, r.now)) result (push_at to.old.items (Made (flat_map E.make) (Row E.form count)) bytes.now) }
+    ensures { Gives (λ r. (to.new.items, r.now)) result
+        (push_at to.old.items (Made (flat_map E.make) (Row E.form count)) bytes.now) }
 {
     let mut rest = bytes;
     'entries: for _taken in 0..count {
@@ -124,7 +126,8 @@ pub(crate) fn push_counted<'a, E: Entry>(
     to: &mut Vec<RawArg>,
     bytes: &'a [u8],
 ) -> Result<&'a [u8], WireError>
-    ensures { Gives (λ r. (to.new.items, r.now)) result (push_at to.old.items (several E.make E.form) bytes.now) }
+    ensures { Gives (λ r. (to.new.items, r.now)) result
+        (push_at to.old.items (several E.make E.form) bytes.now) }
 {
     let (count, rest) = read_u32(bytes)?;
     to.push(RawArg::Count(count))?;
@@ -133,7 +136,8 @@ pub(crate) fn push_counted<'a, E: Entry>(
 
 /// Sixteen bytes, behind the arguments of `to`.
 pub(crate) fn push_sixteen<'a>(to: &mut Vec<RawArg>, bytes: &'a [u8]) -> Result<&'a [u8], WireError>
-    ensures { Gives (λ r. (to.new.items, r.now)) result (push_at to.old.items (Made (map args.Byte) (Bytes 16)) bytes.now) }
+    ensures { Gives (λ r. (to.new.items, r.now)) result
+        (push_at to.old.items (Made (map args.Byte) (Bytes 16)) bytes.now) }
 {
     let (sixteen, rest) = read_bytes(bytes, 16)?;
     'sixteen: for byte in sixteen {

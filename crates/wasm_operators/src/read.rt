@@ -15,6 +15,7 @@ use crate::operator::{RawArg, RawArgs, RawOperator};
 use crate::table::kinds;
 use std::alloc::Global;
 use wasm_forms::{WireError, read_byte, read_u32};
+use wasm_opcodes::one_byte::{PREFIX_FB, PREFIX_FE};
 
 /// An argument of any kind, behind those of `to`.
 #[tactic(auto, unfolding(crate::specs::Forms::arg_form))]
@@ -95,7 +96,7 @@ fn read_operator_from(
 ) -> Result<(RawOperator, &[u8]), WireError>
     ensures { Gives (λ r. (op_of r.0, r.1.now)) result (at (operator_from first) bytes.now) }
 {
-    if 0xFA < first && first < 0xFF {
+    if PREFIX_FB <= u32::from(first) && u32::from(first) <= PREFIX_FE {
         let (number, rest) = read_u32(bytes)?;
         if number >= 65_536 {
             return Err(WireError::Malformed);

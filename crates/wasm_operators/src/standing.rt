@@ -14,13 +14,14 @@ use crate::list::{CatchEntry, LabelEntry, ValueEntry};
 use crate::operator::{RawArg, RawBlock, RawOperator};
 use crate::table::kinds;
 use wasm_forms::{RawHeap, RawVal};
+use wasm_opcodes::types::{HEAP_EXN, HEAP_NO_EXN};
 
 /// Whether a heap type is spelled: an abstract one by one of its bytes.
 fn spells_heap(heap: &RawHeap) -> bool
     ensures { result ≡ heap_spells heap.now }
 {
     match heap {
-        RawHeap::Abstract(byte) => 0x68 < *byte && *byte < 0x75,
+        RawHeap::Abstract(byte) => HEAP_EXN <= *byte && *byte <= HEAP_NO_EXN,
         RawHeap::Index(_) => true,
     }
 }

@@ -12,6 +12,7 @@ use crate::shape::Shape::{
     Function, Global, Heap, Label, Labels, Lane, Local, Memories, Memory, S32, S64, Sixteen, Table,
     Tables, Tag, Try, Type, TypeData, TypeElem, TypeNumber, TypeTable, Types, Values,
 };
+use wasm_opcodes::one_byte::{PREFIX_FB, PREFIX_FC, PREFIX_FD, PREFIX_FE};
 
 /// The operators that are one byte.
 static BYTES: [Shape; 256] = [
@@ -99,10 +100,10 @@ fn shape_of(op: u32) -> Shape
     let number = op % 65_536;
     match op / 65_536 {
         0 => entry(&BYTES, number),
-        0xFB => entry(&BEHIND_FB, number),
-        0xFC => entry(&BEHIND_FC, number),
-        0xFD => entry(&BEHIND_FD, number),
-        0xFE => entry(&BEHIND_FE, number),
+        PREFIX_FB => entry(&BEHIND_FB, number),
+        PREFIX_FC => entry(&BEHIND_FC, number),
+        PREFIX_FD => entry(&BEHIND_FD, number),
+        PREFIX_FE => entry(&BEHIND_FE, number),
         _ => Shape::Free,
     }
 }

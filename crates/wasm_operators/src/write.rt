@@ -12,6 +12,7 @@ use wasm_forms::{
     RawHeap, RawVal, Written, write_f32, write_f64, write_heap_type, write_index, write_s32,
     write_s64, write_u32, write_u64,
 };
+use wasm_opcodes::types::EMPTY_BLOCK;
 
 /// Writes a value type.
 fn write_value(to: &mut Vec<u8>, value: &RawVal) -> Result<(), AllocError>
@@ -46,7 +47,7 @@ fn write_block(to: &mut Vec<u8>, block: &RawBlock) -> Result<(), AllocError>
     ensures { IfOk result (λ _. to.new.items ≡ to.old.items ++ block_bytes block.now) }
 {
     match block {
-        RawBlock::NoResult => write_byte(to, 0x40),
+        RawBlock::NoResult => write_byte(to, EMPTY_BLOCK),
         RawBlock::OneResult(value) => write_value(to, value),
         RawBlock::OfType(index) => write_index(to, *index),
     }

@@ -2,48 +2,8 @@
 
 use std::alloc::Global;
 use std::test::Fail;
+use test_support::{add_bytes, are, demand};
 use wasm_operators::{RawOperator, is_operator, kinds, read_operator, write_operator};
-
-fn digit(byte: u8) -> Option<u8> {
-    match byte {
-        b'0'..=b'9' => Some(byte - b'0'),
-        b'A'..=b'F' => Some(byte - b'A' + 10),
-        _ => None,
-    }
-}
-
-fn number(high: u8, low: u8) -> Option<u8> {
-    match (digit(high), digit(low)) {
-        (Some(first), Some(second)) => Some((first & 15) * 16 + (second & 15)),
-        _ => None,
-    }
-}
-
-fn add_byte(bytes: &mut Vec<u8>, word: &str) -> bool {
-    match word.as_bytes() {
-        [high, low] => match number(*high, *low) {
-            Some(byte) => bytes.push(byte).is_ok(),
-            None => false,
-        },
-        _ => false,
-    }
-}
-
-// Whether memory suffices for the bytes that the text says.
-fn add_bytes(bytes: &mut Vec<u8>, text: &str) -> bool {
-    for word in text.split_whitespace() {
-        if !add_byte(bytes, word) {
-            return false;
-        }
-    }
-    true
-}
-
-// Whether these are the bytes that the text says.
-fn are(alloc: Global, found: &[u8], text: &str) -> bool {
-    let mut wanted = Vec::new(alloc);
-    add_bytes(&mut wanted, text) && found == wanted.as_slice()
-}
 
 // Whether the operator is one that bytes spell, and is written so.
 fn is_written(alloc: Global, operator: &RawOperator, text: &str) -> bool {
@@ -118,9 +78,7 @@ const ROWS: [(&str, &str); 24] = [
 #[test]
 fn operators_come_back(rt: HostRuntime) -> Result<(), Fail> {
     for (input, output) in &ROWS {
-        if !comes_back(rt.alloc(), input, output) {
-            return Err(Fail::new(input));
-        }
+        demand(comes_back(rt.alloc(), input, output), input)?;
     }
     Ok(())
 }
@@ -139,9 +97,7 @@ const REFUSED: [&str; 7] = [
 #[test]
 fn others_are_refused(rt: HostRuntime) -> Result<(), Fail> {
     for input in &REFUSED {
-        if !is_refused(rt.alloc(), input) {
-            return Err(Fail::new(input));
-        }
+        demand(is_refused(rt.alloc(), input), input)?;
     }
     Ok(())
 }

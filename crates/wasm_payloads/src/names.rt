@@ -27,7 +27,8 @@ fn tell_entry<'a, S: NameSink>(
     bytes: &'a [u8],
     sink: &mut S,
 ) -> Result<Option<&'a [u8]>, WireError>
-    ensures hands { Hands S.seen S.after S.refuses front_of sink.old sink.new result (entry_at (owned owner) bytes.now) }
+    ensures hands { Hands S.seen S.after S.refuses front_of sink.old sink.new result
+        (entry_at (owned owner) bytes.now) }
     ensures same_known { S.known sink.new ≡ S.known sink.old }
 {
     let Some(((index, name), rest)) = front_entry(bytes) else {
@@ -44,7 +45,8 @@ fn tell_map<'a, S: NameSink>(
     bytes: &'a [u8],
     sink: &mut S,
 ) -> Result<Option<&'a [u8]>, WireError>
-    ensures hands { Hands S.seen S.after S.refuses front_of sink.old sink.new result (map_at (owned owner) bytes.now) }
+    ensures hands { Hands S.seen S.after S.refuses front_of sink.old sink.new result
+        (map_at (owned owner) bytes.now) }
     ensures same_known { S.known sink.new ≡ S.known sink.old }
 {
     let Some((count, behind)) = front_u32(bytes) else {
@@ -66,7 +68,8 @@ fn tell_function<'a, S: NameSink>(
     bytes: &'a [u8],
     sink: &mut S,
 ) -> Result<Option<&'a [u8]>, WireError>
-    ensures hands { Hands S.seen S.after S.refuses front_of sink.old sink.new result (function_at (S.known sink.old) bytes.now) }
+    ensures hands { Hands S.seen S.after S.refuses front_of sink.old sink.new result
+        (function_at (S.known sink.old) bytes.now) }
     ensures same_known { S.known sink.new ≡ S.known sink.old }
 {
     let Some((function, behind)) = front_u32(bytes) else {
@@ -84,7 +87,8 @@ fn tell_locals<'a, S: NameSink>(
     bytes: &'a [u8],
     sink: &mut S,
 ) -> Result<Option<&'a [u8]>, WireError>
-    ensures hands { Hands S.seen S.after S.refuses front_of sink.old sink.new result (locals_at (S.known sink.old) bytes.now) }
+    ensures hands { Hands S.seen S.after S.refuses front_of sink.old sink.new result
+        (locals_at (S.known sink.old) bytes.now) }
     ensures same_known { S.known sink.new ≡ S.known sink.old }
 {
     let Some((count, behind)) = front_u32(bytes) else {
@@ -145,7 +149,8 @@ fn tell_content<'a, S: NameSink>(
     content: &'a [u8],
     sink: &mut S,
 ) -> Result<Option<&'a [u8]>, WireError>
-    ensures hands { Hands S.seen S.after S.refuses front_of sink.old sink.new result (content_at (S.known sink.old) part content.now) }
+    ensures hands { Hands S.seen S.after S.refuses front_of sink.old sink.new result
+        (content_at (S.known sink.old) part content.now) }
     ensures same_known { S.known sink.new ≡ S.known sink.old }
 {
     match part {
@@ -162,7 +167,8 @@ fn tell_subsection<'a, S: NameSink>(
     bytes: &'a [u8],
     sink: &mut S,
 ) -> Result<Option<&'a [u8]>, WireError>
-    ensures hands { Hands S.seen S.after S.refuses front_of sink.old sink.new result (subsection_at (S.known sink.old) bytes.now) }
+    ensures hands { Hands S.seen S.after S.refuses front_of sink.old sink.new result
+        (subsection_at (S.known sink.old) bytes.now) }
     ensures same_known { S.known sink.new ≡ S.known sink.old }
 {
     let Some(((id, content), rest)) = front_subsection(bytes) else {
@@ -181,7 +187,8 @@ fn tell_subsection<'a, S: NameSink>(
 ///
 /// What the sink refuses with, which ends the reading: it then took the namings before. No fault refuses.
 pub fn read_names<S: NameSink>(bytes: &[u8], sink: &mut S) -> Result<(), WireError>
-    ensures handed { (names : List Named) × (Names (S.known sink.old) bytes.now names × Handed S.seen S.after S.refuses sink.old sink.new names result) }
+    ensures handed { (names : List Named) × (Names (S.known sink.old) bytes.now names
+        × Handed S.seen S.after S.refuses sink.old sink.new names result) }
     ensures same_known { S.known sink.new ≡ S.known sink.old }
 {
     let mut rest = bytes;

@@ -43,7 +43,8 @@ pub enum Section<'a> {
 
 /// How many bytes the content of a custom section has: its name, and `len` bytes behind that.
 pub(crate) fn custom_content_len(name: &str, len: usize) -> Result<u32, WireError>
-    ensures { (bytes : List ℕ) → length bytes ≡ len → Measures result (custom_bytes (record { name = name.now; bytes = bytes })) (FitsLength name.now) }
+    ensures { (bytes : List ℕ) → length bytes ≡ len
+        → Measures result (custom_bytes (record { name = name.now; bytes = bytes })) (FitsLength name.now) }
 {
     let Ok(behind) = u32::try_from(len) else {
         return Err(WireError::TooLarge);
@@ -100,7 +101,8 @@ fn bodies_len(lengths: &[usize]) -> Result<u32, WireError>
 
 /// How many bytes the content of a code section has whose bodies have these lengths.
 fn code_content_len(lengths: &[usize]) -> Result<u32, WireError>
-    ensures { (bodies : List Body) → map body_len bodies ≡ lengths.now → Measures result (vector_bytes body_bytes bodies) (FitsVector (λ b. FitsLength b.bytes) bodies) }
+    ensures { (bodies : List Body) → map body_len bodies ≡ lengths.now
+        → Measures result (vector_bytes body_bytes bodies) (FitsVector (λ b. FitsLength b.bytes) bodies) }
 {
     let Ok(count) = u32::try_from(lengths.len()) else {
         return Err(WireError::TooLarge);

@@ -24,7 +24,8 @@ pub struct CodePlaces {
 
 /// How many bytes the bodies have, one after another, each behind the count of its bytes.
 fn bodies_len(bodies: &[RawBody<'_>]) -> Result<u32, WireError>
-    ensures { Measures result (row_bytes (λ b. body_bytes (body_record b)) bodies.now) (EachFits (λ b. FitsLength b.bytes.now) bodies.now) }
+    ensures { Measures result (row_bytes (λ b. body_bytes (body_record b)) bodies.now)
+        (EachFits (λ b. FitsLength b.bytes.now) bodies.now) }
 {
     let mut total: u32 = 0;
     'bodies: for body in bodies {
@@ -35,7 +36,8 @@ fn bodies_len(bodies: &[RawBody<'_>]) -> Result<u32, WireError>
 
 /// How many bytes the count of the bodies and each of them have.
 fn counted_bodies_len(bodies: &[RawBody<'_>]) -> Result<u32, WireError>
-    ensures { Measures result (vector_bytes (λ b. body_bytes (body_record b)) bodies.now) (FitsVector (λ b. FitsLength b.bytes.now) bodies.now) }
+    ensures { Measures result (vector_bytes (λ b. body_bytes (body_record b)) bodies.now)
+        (FitsVector (λ b. FitsLength b.bytes.now) bodies.now) }
 {
     let Ok(count) = u32::try_from(bodies.len()) else {
         return Err(WireError::TooLarge);
@@ -45,7 +47,8 @@ fn counted_bodies_len(bodies: &[RawBody<'_>]) -> Result<u32, WireError>
 
 /// How many bytes the content of the code section of these bodies has: their count and each of them. Takes no memory.
 pub(crate) fn code_len(bodies: &[RawBody<'_>]) -> Result<u32, WireError>
-    ensures { Measures result (vector_bytes body_bytes (map body_record bodies.now)) (FitsVector (λ b. FitsLength b.bytes) (map body_record bodies.now)) }
+    ensures { Measures result (vector_bytes body_bytes (map body_record bodies.now))
+        (FitsVector (λ b. FitsLength b.bytes) (map body_record bodies.now)) }
 {
     counted_bodies_len(bodies)
 }
@@ -53,7 +56,9 @@ pub(crate) fn code_len(bodies: &[RawBody<'_>]) -> Result<u32, WireError>
 /// Writes the count of the bodies and each of them. Refused, the bytes written before stay, and what was appended behind them means
 /// nothing.
 pub(crate) fn write_bodies(to: &mut Vec<u8>, bodies: &[RawBody<'_>]) -> Result<(), WireError>
-    ensures adds { Adds result to.old.items to.new.items (vector_bytes body_bytes (map body_record bodies.now)) (FitsVector (λ b. FitsLength b.bytes) (map body_record bodies.now)) }
+    ensures adds { Adds result to.old.items to.new.items
+        (vector_bytes body_bytes (map body_record bodies.now))
+        (FitsVector (λ b. FitsLength b.bytes) (map body_record bodies.now)) }
     ensures room { TakesRoom result to.old to.new (vector_bytes body_bytes (map body_record bodies.now)) }
     ensures keeps { Keeps to.old.items to.new.items }
 {
@@ -68,7 +73,8 @@ pub(crate) fn body_ranges(
 ) -> Result<Vec<Range<usize>>, AllocError>
     requires short { length (row_bytes body_bytes (map body_record bodies.now)) < 2 ^ 32 }
     requires within { first + length (row_bytes body_bytes (map body_record bodies.now)) < 2 ^ 64 }
-    ensures { IfOk result (λ ranges. ranges.items ≡ map range_of (placed_bodies first (map body_record bodies.now))) }
+    ensures { IfOk result
+        (λ ranges. ranges.items ≡ map range_of (placed_bodies first (map body_record bodies.now))) }
 {
     let mut ranges = Vec::with_capacity(alloc, bodies.len())?;
     let mut place = first;
@@ -94,7 +100,9 @@ pub(crate) fn code_places(
     requires sized { size ≡ length (vector_bytes body_bytes (map body_record bodies.now)) }
     requires low { start < 2 ^ 63 }
     ensures count { IfOk result (λ places. places.count ≡ count_place start (map body_record bodies.now)) }
-    ensures ranges { IfOk result (λ places. places.bodies.items ≡ map range_of (placed_bodies (first_body start (map body_record bodies.now)) (map body_record bodies.now))) }
+    ensures ranges { IfOk result (λ places. places.bodies.items
+        ≡ map range_of (placed_bodies (first_body start (map body_record bodies.now))
+        (map body_record bodies.now))) }
 {
     let count = start + 1 + leb128_len(size);
     let first = count + leb128_len(bodies.len() as u32);

@@ -36,7 +36,8 @@ fn write_each(to: &mut Vec<u8>, tags: &[u32]) -> Result<(), WireError>
 ///
 /// [`WireError::TooLarge`] where there are 2^32 tags or more.
 pub fn write_tags(to: &mut Vec<u8>, tags: &[u32]) -> Result<(), WireError>
-    ensures adds { Adds result to.old.items to.new.items (vector_bytes tag_bytes tags.now) (FitsLength tags.now) }
+    ensures adds { Adds result to.old.items to.new.items (vector_bytes tag_bytes tags.now)
+        (FitsLength tags.now) }
     ensures room { TakesRoom result to.old to.new (vector_bytes tag_bytes tags.now) }
     ensures keeps { Keeps to.old.items to.new.items }
 {

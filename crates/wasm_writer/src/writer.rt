@@ -106,7 +106,8 @@ impl Writer {
     ///
     /// `TooLarge` exactly where the name has 2^32 bytes or more, and `Memory`. Refused, the bytes stay.
     pub fn name(&mut self, name: &str) -> Result<(), WireError>
-        ensures appends { Wrote result (written self.old) (written self.new) (block_bytes name.now) (FitsLength name.now) }
+        ensures appends { Wrote result (written self.old) (written self.new) (block_bytes name.now)
+            (FitsLength name.now) }
         ensures room { UsesRoom result self.old self.new (block_bytes name.now) }
     {
         write_name(&mut self.bytes, name)
@@ -118,7 +119,8 @@ impl Writer {
     ///
     /// `TooLarge` exactly where addresses have 32 bits and a size is 2^32 or more, and `Memory`. Refused, the bytes stay.
     pub fn limits(&mut self, limits: &RawLimits) -> Result<(), WireError>
-        ensures appends { Wrote result (written self.old) (written self.new) (limits_bytes limits.now) (LimitsFit limits.now) }
+        ensures appends { Wrote result (written self.old) (written self.new) (limits_bytes limits.now)
+            (LimitsFit limits.now) }
         ensures room { UsesRoom result self.old self.new (limits_bytes limits.now) }
     {
         let before = self.len();
@@ -135,7 +137,8 @@ impl Writer {
     ///
     /// `TooLarge` exactly where one of its counts is 2^32 or more, and `Memory`. Refused, the bytes stay.
     pub fn type_group(&mut self, types: &RawGroup) -> Result<(), WireError>
-        ensures appends { Wrote result (written self.old) (written self.new) (group_bytes (group types.now)) (GroupFits (group types.now)) }
+        ensures appends { Wrote result (written self.old) (written self.new) (group_bytes (group types.now))
+            (GroupFits (group types.now)) }
         ensures room { UsesRoom result self.old self.new (group_bytes (group types.now)) }
     {
         let before = self.len();
@@ -152,7 +155,8 @@ impl Writer {
     ///
     /// `Memory` alone. Refused, the bytes stay.
     pub fn const_expr(&mut self, operators: &[RawConst]) -> Result<(), WireError>
-        ensures appends { Wrote result (written self.old) (written self.new) (expression_bytes operators.now) ⊤ }
+        ensures appends { Wrote result (written self.old) (written self.new)
+            (expression_bytes operators.now) ⊤ }
         ensures room { UsesRoom result self.old self.new (expression_bytes operators.now) }
     {
         let before = self.len();
@@ -169,7 +173,8 @@ impl Writer {
     ///
     /// `TooLarge` exactly where the content has 2^32 bytes or more, and `Memory`. Refused, the bytes stay.
     pub fn section(&mut self, id: u8, content: &[u8]) -> Result<(), WireError>
-        ensures appends { Wrote result (written self.old) (written self.new) (section_bytes id content.now) (FitsLength content.now) }
+        ensures appends { Wrote result (written self.old) (written self.new) (section_bytes id content.now)
+            (FitsLength content.now) }
         ensures room { UsesRoom result self.old self.new (section_bytes id content.now) }
     {
         self.bytes.push(id)?;
@@ -188,7 +193,8 @@ impl Writer {
     pub fn custom(&mut self, custom: &RawCustom<'_>) -> Result<(), WireError>
         ensures appends { let written_section = CustomSection (custom_record custom.now) in
             Wrote result (written self.old) (written self.new) (spelled written_section) (SectionFits written_section) }
-        ensures room { UsesRoom result self.old self.new (spelled (CustomSection (custom_record custom.now))) }
+        ensures room { UsesRoom result self.old self.new
+            (spelled (CustomSection (custom_record custom.now))) }
     {
         let size = custom_content_len(custom.name, custom.bytes.len())?;
         self.open(0, size)?;
@@ -232,7 +238,8 @@ impl Writer {
     ///
     /// `TooLarge` exactly where the count or the size of the section is 2^32 or more, and `Memory`. Refused, the bytes stay.
     pub fn function_section(&mut self, functions: &[u32]) -> Result<(), WireError>
-        ensures appends { Wrote result (written self.old) (written self.new) (listed Functions functions.now) (SectionFits (Functions functions.now)) }
+        ensures appends { Wrote result (written self.old) (written self.new) (listed Functions functions.now)
+            (SectionFits (Functions functions.now)) }
         ensures room { UsesRoom result self.old self.new (listed Functions functions.now) }
     {
         self.list(3, functions)
@@ -257,7 +264,8 @@ impl Writer {
     ///
     /// `TooLarge` exactly where the count, the size of the section, or a size of limits that are not wide is 2^32 or more, and `Memory`. Refused, the bytes stay.
     pub fn memory_section(&mut self, memories: &[RawLimits]) -> Result<(), WireError>
-        ensures appends { Wrote result (written self.old) (written self.new) (listed Memories memories.now) (SectionFits (Memories memories.now)) }
+        ensures appends { Wrote result (written self.old) (written self.new) (listed Memories memories.now)
+            (SectionFits (Memories memories.now)) }
         ensures room { UsesRoom result self.old self.new (listed Memories memories.now) }
     {
         self.list(5, memories)
@@ -269,7 +277,8 @@ impl Writer {
     ///
     /// `TooLarge` exactly where the count or the size of the section is 2^32 or more, and `Memory`. Refused, the bytes stay.
     pub fn tag_section(&mut self, tags: &[u32]) -> Result<(), WireError>
-        ensures appends { Wrote result (written self.old) (written self.new) (listed Tags tags.now) (SectionFits (Tags tags.now)) }
+        ensures appends { Wrote result (written self.old) (written self.new) (listed Tags tags.now)
+            (SectionFits (Tags tags.now)) }
         ensures room { UsesRoom result self.old self.new (listed Tags tags.now) }
     {
         if tags.is_empty() {
@@ -353,10 +362,12 @@ impl Writer {
     pub fn code_section(&mut self, bodies: &[RawBody<'_>]) -> Result<CodePlaces, WireError>
         ensures appends { let written_bodies = map body_record bodies.now in
             Wrote result (written self.old) (written self.new) (listed Code written_bodies) (SectionFits (Code written_bodies)) }
-        ensures count { IfOk result (λ places. places.count ≡ count_place (length (written self.old)) (map body_record bodies.now)) }
+        ensures count { IfOk result (λ places. places.count ≡ count_place (length (written self.old))
+            (map body_record bodies.now)) }
         ensures places { let written_bodies = map body_record bodies.now in
             IfOk result (λ places. places.bodies.items ≡ map range_of (placed_bodies (first_body (length (written self.old)) written_bodies) written_bodies)) }
-        ensures room { OnOk result (room self.old ≤ room self.new + length (listed Code (map body_record bodies.now))) }
+        ensures room { OnOk result
+            (room self.old ≤ room self.new + length (listed Code (map body_record bodies.now))) }
     {
         let alloc = *self.bytes.allocator();
         if bodies.is_empty() {
@@ -403,7 +414,8 @@ impl Writer {
     fn list<E: Measured>(&mut self, id: u8, items: &[E]) -> Result<(), WireError>
         ensures appends { let content = vector_bytes E.spelled items.now in
             Wrote result (written self.old) (written self.new) (unless_empty items.now (section_bytes id content)) (FitsVector E.Fits items.now × FitsLength content) }
-        ensures room { UsesRoom result self.old self.new (unless_empty items.now (section_bytes id (vector_bytes E.spelled items.now))) }
+        ensures room { UsesRoom result self.old self.new
+            (unless_empty items.now (section_bytes id (vector_bytes E.spelled items.now))) }
     {
         if items.is_empty() {
             return Ok(());
@@ -415,7 +427,8 @@ impl Writer {
 
     /// Appends the section of this id that holds a number.
     fn number(&mut self, id: u8, held: u32) -> Result<(), WireError>
-        ensures appends { Wrote result (written self.old) (written self.new) (section_bytes id (number_bytes held)) ⊤ }
+        ensures appends { Wrote result (written self.old) (written self.new)
+            (section_bytes id (number_bytes held)) ⊤ }
         ensures room { UsesRoom result self.old self.new (section_bytes id (number_bytes held)) }
     {
         self.open(id, number_len(u64::from(held)))?;

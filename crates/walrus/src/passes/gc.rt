@@ -29,7 +29,8 @@ pub fn run(alloc: Global, module: &mut Module) -> Result<()>
     ensures settled { OnOk result ((x : Item) → IsLive (view «module».new) x → Kept (view «module».new) x) }
     ensures refused { IfErr result (IsRefusal (ReachesUnsound (view «module».old))) }
     ensures unchanged { OnErr result («module».new ≡ «module».old) }
-    ensures others { («module».new.locals ≡ «module».old.locals) × («module».new.exports ≡ «module».old.exports)
+    ensures others { («module».new.locals ≡ «module».old.locals)
+        × («module».new.exports ≡ «module».old.exports)
         × («module».new.customs ≡ «module».old.customs) × (settings «module».new ≡ settings «module».old)
         × («module».new.producers ≡ «module».old.producers) }
 {

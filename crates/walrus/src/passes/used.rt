@@ -89,7 +89,8 @@ impl Used {
 
     // The same over the parts of a module.
     fn search(alloc: Global, parts: Parts<'_>) -> Result<Used>
-        ensures { MatchResult result (Followed (parts_view parts.entry)) (IsRefusal (ReachesUnsound (parts_view parts.entry))) }
+        ensures { MatchResult result (Followed (parts_view parts.entry))
+            (IsRefusal (ReachesUnsound (parts_view parts.entry))) }
     {
         let mut used = Used::nothing(alloc);
         let mut found = Vec::new(alloc);
@@ -131,7 +132,8 @@ fn follow_item(
     requires { IsLive (parts_view parts) (item_of item) }
     ensures { MatchResult result
         (λ _. IsSound (parts_view parts.entry) (item_of item) × Enters (parts_view parts.entry)
-        (all_names (parts_view parts.entry) (item_of item)) used.old used.new (items_in found.old) (items_in found.new))
+        (all_names (parts_view parts.entry) (item_of item)) used.old used.new (items_in found.old)
+        (items_in found.new))
         (IsRefusal ((IsSound (parts_view parts.entry) (item_of item) → ⊥)
         ⊎ NamesDead (parts_view parts.entry) (all_names (parts_view parts.entry) (item_of item)))) }
 {
@@ -148,7 +150,8 @@ fn enter_all(
     found: &mut Vec<ItemId>,
 ) -> Result<()>
     ensures { MatchResult result
-        (λ _. Enters (parts_view parts.entry) (map item_of items.now) used.old used.new (items_in found.old) (items_in found.new))
+        (λ _. Enters (parts_view parts.entry) (map item_of items.now) used.old used.new (items_in found.old)
+        (items_in found.new))
         (IsRefusal (NamesDead (parts_view parts.entry) (map item_of items.now))) }
 {
     for item in items {
@@ -160,7 +163,8 @@ fn enter_all(
 // The same for one item.
 fn enter(parts: Parts<'_>, item: ItemId, used: &mut Used, found: &mut Vec<ItemId>) -> Result<()>
     ensures { MatchResult result
-        (λ _. Enters (parts_view parts.entry) (item_of item ∷ []) used.old used.new (items_in found.old) (items_in found.new))
+        (λ _. Enters (parts_view parts.entry) (item_of item ∷ []) used.old used.new (items_in found.old)
+        (items_in found.new))
         (IsRefusal (IsLive (parts_view parts.entry) (item_of item) → ⊥)) }
 {
     if !is_live(parts, item) {

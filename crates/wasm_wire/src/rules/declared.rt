@@ -161,7 +161,8 @@ fn append_globals(
 
 /// The types of a group behind others.
 fn append_group<'a>(to: Vec<&'a RawSub>, own: &'a RawGroup) -> Result<Vec<&'a RawSub>, WireError>
-    ensures { Makes result (λ v. map (λ s. sub s.now) v.items ≡ map (λ s. sub s.now) to.entry.items ++ group own.now) }
+    ensures { Makes result (λ v. map (λ s. sub s.now) v.items ≡ map (λ s. sub s.now) to.entry.items
+        ++ group own.now) }
 {
     let mut all = to;
     for member in own {

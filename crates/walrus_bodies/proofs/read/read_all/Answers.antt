@@ -21,8 +21,8 @@ use Rattle.walrus_bodies.proofs.read.read_all.Goals as goal
 
 pub returns-in_err-operator-clause-read : goal.returns-in_err-operator-clause-read
 returns-in_err-operator-clause-read g c =
-    let d : Context = context (ids_at c.args.indices.now) (g.T.FunctionTypes.function_types c.args.types.now) c.args.features.now in
-    let locals = locals_at c.args.locals.now in
+    let d : Context = context (ids_at c.args.scope.now.indices.now) (g.T.FunctionTypes.function_types c.args.scope.now.types.now) c.args.scope.now.features.now in
+    let locals = locals_at c.args.scope.now.locals.now in
     let whole = ops_at d locals (length c.args.bytes.now) (Plain ∷ []) c.args.bytes.now in
     passed_on _ c.from_residual-in_err-operator.result c.in_err-operator.field-0.0 whole c.from_residual-in_err-operator.ensures.1
     (refused c.in_err-operator.field-0.0 (next_at d locals (opened c.loop-turn.blocks) c.loop-turn.rest.now) whole c.in_err-operator.ensures.read
@@ -30,8 +30,8 @@ returns-in_err-operator-clause-read g c =
 
 pub returns-then-is_closed-clause-read : goal.returns-then-is_closed-clause-read
 returns-then-is_closed-clause-read g c =
-    let d : Context = context (ids_at c.args.indices.now) (g.T.FunctionTypes.function_types c.args.types.now) c.args.features.now in
-    let locals = locals_at c.args.locals.now in
+    let d : Context = context (ids_at c.args.scope.now.indices.now) (g.T.FunctionTypes.function_types c.args.scope.now.types.now) c.args.scope.now.features.now in
+    let locals = locals_at c.args.scope.now.locals.now in
     let items = c.loop-turn.operators.items in
     let x : Op × List Opened × List ℕ = (op_of c.in_ok-operator.operator, opened c.read_next.new.blocks, c.in_ok-operator.after.now) in
     let done : ops_of c.push.new.self.items ≡ ops_of items ++ op_of c.in_ok-operator.operator ∷ [] = ap ops_of c.in_ok-push.ensures.items ∙ map-append op_of items (c.in_ok-operator.operator ∷ []) in
@@ -41,8 +41,8 @@ returns-then-is_closed-clause-read g c =
 
 pub returns-then-is_closed-clause-located : goal.returns-then-is_closed-clause-located
 returns-then-is_closed-clause-located g c =
-    let d : Context = context (ids_at c.args.indices.now) (g.T.FunctionTypes.function_types c.args.types.now) c.args.features.now in
-    let locals = locals_at c.args.locals.now in
+    let d : Context = context (ids_at c.args.scope.now.indices.now) (g.T.FunctionTypes.function_types c.args.scope.now.types.now) c.args.scope.now.features.now in
+    let locals = locals_at c.args.scope.now.locals.now in
     let items = c.loop-turn.operators.items in
     let x : Op × List Opened × List ℕ = (op_of c.in_ok-operator.operator, opened c.read_next.new.blocks, c.in_ok-operator.after.now) in
     let front : Front d locals (opened c.loop-turn.blocks) c.loop-turn.rest.now x = front_of d locals (opened c.loop-turn.blocks) c.loop-turn.rest.now x c.in_ok-operator.ensures.read in
@@ -55,8 +55,8 @@ returns-then-is_closed-clause-located g c =
 
 pub loop-turn-preserved : goal.loop-turn-preserved
 loop-turn-preserved g c =
-    let d : Context = context (ids_at c.args.indices.now) (g.T.FunctionTypes.function_types c.args.types.now) c.args.features.now in
-    let locals = locals_at c.args.locals.now in
+    let d : Context = context (ids_at c.args.scope.now.indices.now) (g.T.FunctionTypes.function_types c.args.scope.now.types.now) c.args.scope.now.features.now in
+    let locals = locals_at c.args.scope.now.locals.now in
     let items = c.loop-turn.operators.items in
     let x : Op × List Opened × List ℕ = (op_of c.in_ok-operator.operator, opened c.read_next.new.blocks, c.in_ok-operator.after.now) in
     let done : ops_of c.push.new.self.items ≡ ops_of items ++ op_of c.in_ok-operator.operator ∷ [] = ap ops_of c.in_ok-push.ensures.items ∙ map-append op_of items (c.in_ok-operator.operator ∷ []) in
@@ -75,8 +75,8 @@ loop-turn-preserved g c =
 
 pub returns-clause-read : goal.returns-clause-read
 returns-clause-read g c =
-    let d : Context = context (ids_at c.args.indices.now) (g.T.FunctionTypes.function_types c.args.types.now) c.args.features.now in
-    step_out d (locals_at c.args.locals.now) _ (ops_of c.loop-turn.operators.items) (length c.args.bytes.now) c.loop-turn._turn (opened c.loop-turn.blocks) c.loop-turn.rest.now c.loop-turn.invariant.so_far (omega arith)
+    let d : Context = context (ids_at c.args.scope.now.indices.now) (g.T.FunctionTypes.function_types c.args.scope.now.types.now) c.args.scope.now.features.now in
+    step_out d (locals_at c.args.scope.now.locals.now) _ (ops_of c.loop-turn.operators.items) (length c.args.bytes.now) c.loop-turn._turn (opened c.loop-turn.blocks) c.loop-turn.rest.now c.loop-turn.invariant.so_far (omega arith)
 
 pub returns-in_err-blocks-clause-read : goal.returns-in_err-blocks-clause-read
 returns-in_err-blocks-clause-read g c = let p = err_from_is_err_and c.from_residual.result c.from_residual.ensures.1 in rw (p.1, p.2) tt

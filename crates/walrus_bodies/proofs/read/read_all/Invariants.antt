@@ -14,9 +14,9 @@ use Rattle.walrus_bodies.proofs.read.read_all.Given as goal
 -- the operators so far and those that are left are the operators of the whole, and so are their locations
 abbrev pub invariant-loop-turn : goal.invariant-loop-turn
 invariant-loop-turn g l =
-    let c = context (ids_at l.indices) (g.T.FunctionTypes.function_types l.types) l.features in
+    let c = context (ids_at l.scope.indices.now) (g.T.FunctionTypes.function_types l.scope.types.now) l.scope.features.now in
     record {
-      so_far : behind (ops_of l.operators.items) (ops_at c (locals_at l.locals) (length l.bytes - l._turn) (opened l.blocks) l.rest) ≡ ops_at c (locals_at l.locals) (length l.bytes) (Plain ∷ []) l.bytes;
+      so_far : behind (ops_of l.operators.items) (ops_at c (locals_at l.scope.locals.now) (length l.bytes - l._turn) (opened l.blocks) l.rest) ≡ ops_at c (locals_at l.scope.locals.now) (length l.bytes) (Plain ∷ []) l.bytes;
       within : length l.rest ≤ length l.bytes;
       located : (locs : List InstrLocId) → Located (FnReturnsAt g.L.Fn l.locate) (l.place + (length l.bytes - length l.rest)) l.rest locs → Located (FnReturnsAt g.L.Fn l.locate) l.place l.bytes (locations l.operators.items ++ locs);
     }

@@ -13,7 +13,7 @@ pub returns-clause-written : goal.returns-clause-written
 returns-clause-written c =
     let ds = c.args.declarations.now in
     let old : c.write_vector.new.to.items ≡ declarations_bytes (declarations_of ds) = c.in_ok-write_vector.ensures.adds.0 ∙ ap (λ (bytes : List ℕ). bytes ++ vector_bytes spelling ds) c.new-bytes.ensures.items ∙ spelled_same ds in
-    subst (λ (bytes : List ℕ). OperatorsWritten (index_of c.args.indices.now) (local_index c.args.locals) c.args.features.now (ops_of c.args.operators.now) bytes c.emit_operators.new.to.items (map (λ p. p.1) c.in_ok-places.places.items)) old c.in_ok-places.ensures.written
+    subst (λ (bytes : List ℕ). OperatorsWritten (index_of c.args.scope.now.indices.now) (local_index c.args.locals) c.args.scope.now.features.now (ops_of c.args.operators.now) bytes c.emit_operators.new.to.items (map (λ p. p.1) c.in_ok-places.places.items)) old c.in_ok-places.ensures.written
 
 pub returns-in_err-write_vector-clause-located : goal.returns-in_err-write_vector-clause-located
 returns-in_err-write_vector-clause-located c = let p = err_from_is_err_and c.from_residual.result c.from_residual.ensures.1 in rw p.1 tt

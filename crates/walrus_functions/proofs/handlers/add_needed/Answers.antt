@@ -11,7 +11,7 @@ use Rattle.walrus_functions.proofs.handlers.add_needed.Goals as goal
 
 pub returns-in-None-clause-added : goal.returns-in-None-clause-added
 returns-in-None-clause-added c =
-    let types = types_below c.args.bound (type_slots c.args.types.now) in
-    let tags = tag_places c.args.tag_types.now in
-    let none : handler_in types tags (option_map block_of c.args.block) (op_of c.args.operator.now) ≡ [] = sym c.in_ok-needed.ensures ∙ ap (λ (f : Option FunctionType). map function_type (option_to_list f)) c.in-None.is in
+    let types = types_below c.args.placed.now.bound (type_slots c.args.types.now) in
+    let tags = tag_places c.args.placed.now.tag_types.now in
+    let none : handler_in types tags (option_map block_of c.args.placed.now.block) (op_of c.args.placed.now.operator.now) ≡ [] = sym c.in_ok-needed.ensures ∙ ap (λ (f : Option FunctionType). map function_type (option_to_list f)) c.in-None.is in
     ([], (sym (append-nil (map place c.args.ids.now.items)), adds_none _ (slots_of c.args.types.now) none))

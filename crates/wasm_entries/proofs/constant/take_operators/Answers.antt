@@ -24,14 +24,14 @@ returns-in_err-first c =
     rw (p.1, p.2) (refused c.in_err-first.field-0.0 (byte_at rest) (until_at operator 11 (length bytes) bytes) c.in_err-first.ensures.gives
     (λ n. c.operators.invariant ∙ ap (λ k. until_at operator 11 k rest >>= behind done) left ∙ until_none operator 11 (length bytes - (c.operators._turn + 1)) rest done n))
 
-pub returns-then-first-eq11 : goal.returns-then-first-eq11
-returns-then-first-eq11 c =
+pub returns-then-from-eq-END : goal.returns-then-from-eq-END
+returns-then-from-eq-END c =
     let bytes = c.args.bytes.now in
     let rest = c.operators.rest.now in
     let done = c.operators.operators.items in
     let left : length bytes - c.operators._turn ≡ suc (length bytes - (c.operators._turn + 1)) = omega arith in
     c.operators.invariant ∙ ap (λ k. until_at operator 11 k rest >>= behind done) left
-    ∙ until_stop operator 11 (length bytes - (c.operators._turn + 1)) c.in_ok-first.first rest c.in_ok-first.after.now done c.in_ok-first.ensures.gives (eq-eqb c.in_ok-first.first 11 c.if-first-eq11.true)
+    ∙ until_stop operator 11 (length bytes - (c.operators._turn + 1)) c.in_ok-first.first rest c.in_ok-first.after.now done c.in_ok-first.ensures.gives (eq-eqb c.in_ok-first.first 11 (sym c.from.ensures ∙ c.if-from-eq-END.true))
 
 pub returns-in_err-operator : goal.returns-in_err-operator
 returns-in_err-operator c =
@@ -40,7 +40,7 @@ returns-in_err-operator c =
     let rest = c.operators.rest.now in
     let done = c.operators.operators.items in
     let left : length bytes - c.operators._turn ≡ suc (length bytes - (c.operators._turn + 1)) = omega arith in
-    let other : nat_eq c.in_ok-first.first 11 ≡ false = false_unless (nat_eq c.in_ok-first.first 11) (λ t. c.if-first-eq11.false (eqb-true c.in_ok-first.first 11 t)) in
+    let other : nat_eq c.in_ok-first.first 11 ≡ false = false_unless (nat_eq c.in_ok-first.first 11) (λ t. c.if-from-eq-END.false (c.from.ensures ∙ eqb-true c.in_ok-first.first 11 t)) in
     rw (p.1, p.2) (refused c.in_err-operator.field-0.0 (operator c.in_ok-first.first c.in_ok-first.after.now) (until_at operator 11 (length bytes) bytes) c.in_err-operator.ensures
     (λ n. c.operators.invariant ∙ ap (λ k. until_at operator 11 k rest >>= behind done) left
     ∙ until_stuck operator 11 (length bytes - (c.operators._turn + 1)) c.in_ok-first.first rest c.in_ok-first.after.now done c.in_ok-first.ensures.gives other n))
@@ -52,7 +52,7 @@ operators-preserved c =
     let done = c.operators.operators.items in
     let most = length bytes - (c.operators._turn + 1) in
     let left : length bytes - c.operators._turn ≡ suc (length bytes - (c.operators._turn + 1)) = omega arith in
-    let other : nat_eq c.in_ok-first.first 11 ≡ false = false_unless (nat_eq c.in_ok-first.first 11) (λ t. c.if-first-eq11.false (eqb-true c.in_ok-first.first 11 t)) in
+    let other : nat_eq c.in_ok-first.first 11 ≡ false = false_unless (nat_eq c.in_ok-first.first 11) (λ t. c.if-from-eq-END.false (c.from.ensures ∙ eqb-true c.in_ok-first.first 11 t)) in
     c.operators.invariant ∙ ap (λ k. until_at operator 11 k rest >>= behind done) left
     ∙ until_turn operator 11 most c.in_ok-first.first rest c.in_ok-first.after.now c.in_ok-operator.behind.now done c.in_ok-operator.operator c.in_ok-first.ensures.gives other c.in_ok-operator.ensures
     ∙ ap (λ l. until_at operator 11 most c.in_ok-operator.behind.now >>= behind l) (sym c.in_ok-push.ensures.items)

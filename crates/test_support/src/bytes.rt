@@ -1,8 +1,6 @@
-//! What the tests are written with. They hand what they compare to small functions that answer a `bool`, since the prover's work
-//! grows faster than a function, and bytes as text, since arrays of numbers are dear to it.
+//! Bytes as text, each in two hexadecimal digits, since arrays of numbers are dear to the prover.
 
 use std::alloc::Global;
-use std::test::Fail;
 
 fn digit(byte: u8) -> Option<u8> {
     match byte {
@@ -43,14 +41,4 @@ pub fn add_bytes(bytes: &mut Vec<u8>, text: &str) -> bool {
 pub fn are(alloc: Global, found: &[u8], text: &str) -> bool {
     let mut wanted = Vec::new(alloc);
     add_bytes(&mut wanted, text) && found == wanted.as_slice()
-}
-
-/// Whether the texts are the same.
-pub fn is_text(found: &str, wanted: &str) -> bool {
-    found == wanted
-}
-
-/// Fails a test where this doesn't hold.
-pub fn demand(holds: bool, what: &str) -> Result<(), Fail> {
-    if holds { Ok(()) } else { Err(Fail::new(what)) }
 }

@@ -15,12 +15,3 @@ pub fn second_id<K>(alloc: Global) -> Id<K> {
     let _first = arena.alloc(0);
     arena.next_id()
 }
-
-/// Fails a test where this doesn't hold.
-pub fn demand(holds: bool, what: &str) -> Result<(), std::test::Fail> {
-    if holds {
-        Ok(())
-    } else {
-        Err(std::test::Fail::new(what))
-    }
-}

@@ -1,0 +1,5 @@
+-- The one number of an instruction that is a prefix byte and a number behind it ("Binary Format > Instructions").
+use Rattle.std.specs.Prelude.{ℕ, ◌*◌, ◌+◌}
+
+abbrev pub opcode_behind : (prefix number : ℕ) → ℕ
+opcode_behind prefix number = prefix * 65536 + number
