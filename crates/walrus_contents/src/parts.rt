@@ -1,5 +1,6 @@
 //! The parts of a module.
-ghost use Rattle.std.specs.Prelude.{◌↔◌, ◌≡◌, IfOk, IsTrue};
+ghost use Rattle.std.specs.Prelude.{◌↔◌, ◌≡◌, IfOk, IsOkUnless, IsTrue};
+ghost use Rattle.walrus_parts.specs.Errors.{out_of_memory};
 ghost use Rattle.walrus_code.specs.Code.{item_of};
 ghost use Rattle.walrus_model.specs.Live.{IsLive};
 ghost use Rattle.walrus_contents.specs.View.{HoldsNothing, contents_view, parts_view};
@@ -42,6 +43,7 @@ impl Contents {
     /// Nothing yet. Want of memory is the only refusal.
     pub fn new(alloc: Global) -> Result<Contents>
         ensures empty { IfOk result HoldsNothing }
+        ensures fails { IsOkUnless result out_of_memory }
     {
         Ok(Contents {
             types: ModuleTypes::new(alloc),

@@ -19,7 +19,7 @@ pub struct ModuleConfig {
 }
 
 impl ModuleConfig {
-    ghost use Rattle.walrus_model.specs.Reads.{features_of};
+    ghost use Rattle.walrus_rules.specs.Features.{features_of};
     ghost use Rattle.walrus_module.specs.Flags.{flags, defaults, with_dwarf, config_of};
 
     /// The default configuration.
