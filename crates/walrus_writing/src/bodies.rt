@@ -36,9 +36,11 @@ pub fn local_of(funcs: &ModuleFunctions, id: FunctionId) -> Option<&LocalFunctio
 
 // The body of the function of this id, under these indices.
 fn one_body(alloc: Global, under: Indexed<'_, '_, '_>, id: FunctionId) -> Result<Vec<u8>>
-    requires indexed { IsIndexed (parts_held under.parts) (index_of under.indices.now) under.features.now (place id) }
+    requires indexed { IsIndexed (parts_held under.parts) (index_of under.indices.now) under.features.now
+        (place id) }
     ensures value { IfOk result (λ bytes.
-        HasBytes (parts_held under.entry.parts) (index_of under.entry.indices.now) under.entry.features.now (place id) bytes.items) }
+        HasBytes (parts_held under.entry.parts) (index_of under.entry.indices.now) under.entry.features.now
+        (place id) bytes.items) }
     ensures fails { IfErr result (RefusesBodies (parts_held under.entry.parts) under.entry.features.now) }
 {
     let Some(local) = local_of(under.parts.funcs, id) else {
@@ -61,9 +63,11 @@ pub fn body_bytes(
     under: Indexed<'_, '_, '_>,
     order: &[FunctionId],
 ) -> Result<Vec<Vec<u8>>>
-    requires indexed { All (λ id. IsIndexed (parts_held under.parts) (index_of under.indices.now) under.features.now (place id)) order.now }
+    requires indexed { All (λ id. IsIndexed (parts_held under.parts) (index_of under.indices.now)
+        under.features.now (place id)) order.now }
     ensures value { IfOk result (λ bodies. AllZip (λ id bytes.
-        HasBytes (parts_held under.entry.parts) (index_of under.entry.indices.now) under.entry.features.now (place id) bytes.items)
+        HasBytes (parts_held under.entry.parts) (index_of under.entry.indices.now) under.entry.features.now
+        (place id) bytes.items)
         order.now bodies.items) }
     ensures fails { IfErr result (RefusesBodies (parts_held under.entry.parts) under.entry.features.now) }
 {

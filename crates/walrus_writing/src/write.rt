@@ -33,8 +33,10 @@ use wasm_wire::written_module;
 /// or a later supertype; `NotWritable` where a body isn't well formed, an exact heap type is written, or `ref.func` names a function
 /// that isn't exported; `TooLarge` where a count or a size passes 32 bits; and `Memory`.
 pub fn write_parts(alloc: Global, parts: Parts<'_>, features: &Features) -> Result<Vec<u8>>
-    ensures written { (c : Config) → IsPlain c features.now → IfOk result (λ bytes. IsEmitted c (parts_view parts.entry) bytes.items) }
-    ensures refused { (c : Config) → IsPlain c features.now → RefusesSoFar c (parts_view parts.entry) (told result) }
+    ensures written { (c : Config) → IsPlain c features.now
+        → IfOk result (λ bytes. IsEmitted c (parts_view parts.entry) bytes.items) }
+    ensures refused { (c : Config) → IsPlain c features.now
+        → RefusesSoFar c (parts_view parts.entry) (told result) }
 {
     check_live(alloc, parts)?;
     if !are_references_declared(alloc, parts)? {
@@ -54,7 +56,8 @@ fn write_items(alloc: Global, parts: Parts<'_>, features: &Features) -> Result<V
     requires there { HasDead (parts_view parts) → ⊥ }
     requires local { all_local (items (functions parts.funcs.now)) ≡ true }
     requires in_order { AreInOrder (type_slots parts.types.now) }
-    ensures spells { IfOk result (λ bytes. Spells (parts_held parts.entry) features.now (parts_exports parts.entry) bytes.items) }
+    ensures spells { IfOk result (λ bytes.
+        Spells (parts_held parts.entry) features.now (parts_exports parts.entry) bytes.items) }
     ensures refused { RefusesItems (parts_held parts.entry) features.now (parts_exports parts.entry) result }
 {
     let plan = Plan::new(alloc, parts)?;
