@@ -48,7 +48,8 @@ impl<S> ModuleCustomSections<S> {
     where
         S: Drop,
         ensures { MatchResult result
-            (λ id. (place id ≡ length (sections self.old)) × (sections self.new ≡ sections self.old ++ Some entry ∷ []))
+            (λ id. (place id ≡ length (sections self.old))
+            × (sections self.new ≡ sections self.old ++ Some entry ∷ []))
             (λ e. (e ≡ out_of_memory) × (sections self.new ≡ sections self.old)) }
     {
         Ok(self.arena.alloc(entry)?)
@@ -106,7 +107,8 @@ impl ModuleCustomSections {
     /// Takes the first raw section of this name out, if there is one.
     pub fn remove_raw(&mut self, name: &str) -> Option<RawCustomSection>
         ensures value { result ≡ option_and_then (λ e. raw_of e.1) (first_raw name.now (sections self.old)) }
-        ensures left { sections self.new ≡ without_first (first_raw name.now (sections self.old)) (sections self.old) }
+        ensures left { sections self.new ≡ without_first (first_raw name.now (sections self.old))
+            (sections self.old) }
     {
         let id = self.first_raw_id(name)?;
         match self.arena.delete(id) {
@@ -117,7 +119,8 @@ impl ModuleCustomSections {
 
     // The id of the first raw section of this name.
     fn first_raw_id(&self, name: &str) -> Option<UntypedCustomSectionId>
-        ensures { option_map (λ id. place id) result ≡ option_map (λ e. e.0) (first_raw name.now (sections self.now)) }
+        ensures { option_map (λ id. place id) result ≡ option_map (λ e. e.0)
+            (first_raw name.now (sections self.now)) }
     {
         let mut rest = self.iter();
         while let Some((id, entry)) = rest.next() {

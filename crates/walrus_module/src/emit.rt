@@ -21,7 +21,8 @@ impl Module {
     /// Those of [`write_parts`]: `DeadItem`, `NoIndex`, `NotWritable`, `TooLarge`, each with a cause of its own, and `Memory`.
     pub fn emit_wasm(&mut self, alloc: Global) -> Result<Vec<u8>>
         ensures unchanged { self.new ≡ self.old }
-        ensures emitted { IfOk result (λ bytes. IsEmitted (config_of (settings self.old)) (view self.old) bytes.items) }
+        ensures emitted { IfOk result (λ bytes. IsEmitted (config_of (settings self.old))
+            (view self.old) bytes.items) }
         ensures refused { RefusesSoFar (config_of (settings self.old)) (view self.old) (told result) }
     {
         let features = self.config.features();

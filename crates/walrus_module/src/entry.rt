@@ -34,8 +34,11 @@ impl SectionEntry {
 
     /// The section's data under these indices.
     pub fn data(&self, indices: &IdsToIndices) -> Result<Vec<u8>>
-        ensures value { IfOk result (λ bytes. bytes.items ≡ (meaning ⟦<dyn CustomSection as CustomSection>⟧ self.now).contents (index_of indices.now)) }
-        ensures fails { FailsAsSection (meaning ⟦<dyn CustomSection as CustomSection>⟧ self.now).may_refuse result }
+        ensures value { IfOk result
+            (λ bytes. bytes.items ≡ (meaning ⟦<dyn CustomSection as CustomSection>⟧ self.now).contents
+            (index_of indices.now)) }
+        ensures fails { FailsAsSection (meaning ⟦<dyn CustomSection as CustomSection>⟧ self.now).may_refuse
+            result }
     {
         match self {
             SectionEntry::Raw(section) => section.data(indices),
@@ -45,8 +48,11 @@ impl SectionEntry {
 
     /// Asks to keep what the section refers to.
     pub fn add_gc_roots(&self, roots: &mut Roots) -> Result<()>
-        ensures value { OnOk result (roots.new ≡ with_roots roots.old (meaning ⟦<dyn CustomSection as CustomSection>⟧ self.now).roots) }
-        ensures fails { FailsAsSection (meaning ⟦<dyn CustomSection as CustomSection>⟧ self.now).may_refuse result }
+        ensures value { OnOk result
+            (roots.new ≡ with_roots roots.old
+            (meaning ⟦<dyn CustomSection as CustomSection>⟧ self.now).roots) }
+        ensures fails { FailsAsSection (meaning ⟦<dyn CustomSection as CustomSection>⟧ self.now).may_refuse
+            result }
     {
         match self {
             SectionEntry::Raw(section) => section.add_gc_roots(roots),
@@ -56,10 +62,15 @@ impl SectionEntry {
 
     /// Follows the code to its new places.
     pub fn apply_code_transform(&mut self, transform: &CodeTransform) -> Result<()>
-        ensures value { OnOk result ((meaning ⟦<dyn CustomSection as CustomSection>⟧ self.new).state ≡ (meaning ⟦<dyn CustomSection as CustomSection>⟧ self.old).state_after (transform_of transform.now)) }
-        ensures same_name { (meaning ⟦<dyn CustomSection as CustomSection>⟧ self.new).name ≡ (meaning ⟦<dyn CustomSection as CustomSection>⟧ self.old).name }
-        ensures refused { OnErr result (meaning ⟦<dyn CustomSection as CustomSection>⟧ self.new ≡ meaning ⟦<dyn CustomSection as CustomSection>⟧ self.old) }
-        ensures fails { FailsAsSection (meaning ⟦<dyn CustomSection as CustomSection>⟧ self.old).may_refuse result }
+        ensures value { OnOk result ((meaning ⟦<dyn CustomSection as CustomSection>⟧ self.new).state
+            ≡ (meaning ⟦<dyn CustomSection as CustomSection>⟧ self.old).state_after
+            (transform_of transform.now)) }
+        ensures same_name { (meaning ⟦<dyn CustomSection as CustomSection>⟧ self.new).name
+            ≡ (meaning ⟦<dyn CustomSection as CustomSection>⟧ self.old).name }
+        ensures refused { OnErr result (meaning ⟦<dyn CustomSection as CustomSection>⟧ self.new
+            ≡ meaning ⟦<dyn CustomSection as CustomSection>⟧ self.old) }
+        ensures fails { FailsAsSection (meaning ⟦<dyn CustomSection as CustomSection>⟧ self.old).may_refuse
+            result }
     {
         match self {
             SectionEntry::Raw(section) => section.apply_code_transform(transform),

@@ -34,10 +34,10 @@ pub struct Plan {
 impl Plan {
     /// The order in which the items of these parts are written. Want of memory is the only refusal.
     pub fn new(alloc: Global, parts: Parts<'_>) -> Result<Plan>
-        ensures types { IfOk result (λ plan.
-            map place plan.types.items ≡ map (λ e. e.0) (entries (type_slots parts.entry.types.now))) }
-        ensures functions { IfOk result (λ plan.
-            IsOrder (functions parts.entry.funcs.now) (map place plan.functions.items)) }
+        ensures types { IfOk result (λ plan. map place plan.types.items
+            ≡ map (λ e. e.0) (entries (type_slots parts.entry.types.now))) }
+        ensures functions { IfOk result (λ plan. IsOrder (functions parts.entry.funcs.now)
+            (map place plan.functions.items)) }
         ensures fails { IsOkUnless result out_of_memory }
     {
         Ok(Plan {
@@ -52,8 +52,8 @@ impl Plan {
         requires types { IsDistinct nat_eq (map place self.now.types.items) }
         requires functions { IsDistinct nat_eq (map place self.now.functions.items) }
         ensures value { IfOk result (λ indices. AreNumbered (index_of indices) (places self.now)) }
-        ensures fails { IfErr result
-            (RefusesCounts (length self.now.types.items) (length self.now.functions.items)) }
+        ensures fails { IfErr result (RefusesCounts (length self.now.types.items)
+            (length self.now.functions.items)) }
     {
         let mut indices = IdsToIndices::new(alloc);
         number_types(&mut indices, self.types.as_slice())?;
@@ -88,8 +88,8 @@ fn sized_functions(
     alloc: Global,
     funcs: &ModuleFunctions,
 ) -> Result<Vec<(Reverse<usize>, FunctionId)>>
-    ensures value { IfOk result (λ sized.
-        map (λ s. (s.0.0, place s.1)) sized.items ≡ local_sizes (functions funcs.now)) }
+    ensures value { IfOk result (λ sized. map (λ s. (s.0.0, place s.1)) sized.items
+        ≡ local_sizes (functions funcs.now)) }
     ensures fails { IsOkUnless result out_of_memory }
 {
     let mut sized = Vec::new(alloc);
@@ -123,8 +123,8 @@ fn ids_of(alloc: Global, sized: &[(Reverse<usize>, FunctionId)]) -> Result<Vec<F
 
 // The types, by rising id.
 fn types_in_order(alloc: Global, types: &ModuleTypes) -> Result<Vec<TypeId>>
-    ensures value { IfOk result (λ ids.
-        map place ids.items ≡ map (λ e. e.0) (entries (type_slots types.now))) }
+    ensures value { IfOk result (λ ids. map place ids.items
+        ≡ map (λ e. e.0) (entries (type_slots types.now))) }
     ensures fails { IsOkUnless result out_of_memory }
 {
     let mut ids = Vec::with_capacity(alloc, types.len())?;

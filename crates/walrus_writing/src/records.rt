@@ -31,8 +31,8 @@ pub fn raw_types(
 ) -> Result<Vec<RawGroup>>
     requires numbered { NumbersTypes (index_of indices.now) (type_slots types.now) }
     requires indexed { LacksAnIndex (index_of indices.now) (items (type_slots types.now)) → ⊥ }
-    ensures value { IfOk result (λ raw.
-        AreIndexed (index_of indices.now) (items (type_slots types.now)) (map group raw.items)) }
+    ensures value { IfOk result (λ raw. AreIndexed (index_of indices.now) (items (type_slots types.now))
+        (map group raw.items)) }
     ensures fails { IfErr result (RefusesTypes (type_slots types.now)) }
 {
     let groups = index_types(alloc, types, indices)?;
@@ -71,8 +71,8 @@ pub fn raw_functions(
 }
 
 fn raw_export<'a>(export: &'a Export, indices: &IdsToIndices) -> Option<RawExport<'a>>
-    ensures value { option_map export_entry result
-        ≡ export_with_index (index_of indices.now) (export_value export.now) }
+    ensures value { option_map export_entry result ≡ export_with_index (index_of indices.now)
+        (export_value export.now) }
     ensures text { IfSome result (λ raw. IsUtf8 raw.name.now) }
 {
     let ExportItem::Function(id) = export.item;
@@ -89,8 +89,8 @@ pub fn raw_exports<'a>(
     all_exports: &'a ModuleExports,
     indices: &IdsToIndices,
 ) -> Result<Vec<RawExport<'a>>>
-    requires indexed { All (λ e. IsSome e)
-        (map (export_with_index (index_of indices.now)) (items (exports all_exports.now))) }
+    requires indexed { All (λ e. IsSome e) (map (export_with_index (index_of indices.now))
+        (items (exports all_exports.now))) }
     ensures value { IfOk result (λ raw. map (λ e. Some (export_entry e)) raw.items
         ≡ map (export_with_index (index_of indices.now)) (items (exports all_exports.now))) }
     ensures text { IfOk result (λ raw. All (λ e. IsUtf8 e.name.now) raw.items) }
@@ -107,8 +107,8 @@ pub fn raw_exports<'a>(
 }
 
 pub fn raw_bodies<'a>(alloc: Global, bodies: &'a [Vec<u8>]) -> Result<Vec<RawBody<'a>>>
-    ensures value { IfOk result (λ raw.
-        map body_record raw.items ≡ map (λ bytes. unplaced bytes.items) bodies.now) }
+    ensures value { IfOk result (λ raw. map body_record raw.items
+        ≡ map (λ bytes. unplaced bytes.items) bodies.now) }
     ensures fails { IsOkUnless result out_of_memory }
 {
     let mut raw = Vec::with_capacity(alloc, bodies.len())?;

@@ -35,8 +35,8 @@ use wasm_wire::written_module;
 pub fn write_parts(alloc: Global, parts: Parts<'_>, features: &Features) -> Result<Vec<u8>>
     ensures written { (c : Config) → IsPlain c features.now
         → IfOk result (λ bytes. IsEmitted c (parts_view parts.entry) bytes.items) }
-    ensures refused { (c : Config) → IsPlain c features.now
-        → RefusesSoFar c (parts_view parts.entry) (told result) }
+    ensures refused { (c : Config) → IsPlain c features.now → RefusesSoFar c (parts_view parts.entry)
+        (told result) }
 {
     check_live(alloc, parts)?;
     if !are_references_declared(alloc, parts)? {
@@ -56,8 +56,8 @@ fn write_items(alloc: Global, parts: Parts<'_>, features: &Features) -> Result<V
     requires there { HasDead (parts_view parts) → ⊥ }
     requires local { all_local (items (functions parts.funcs.now)) ≡ true }
     requires in_order { AreInOrder (type_slots parts.types.now) }
-    ensures spells { IfOk result (λ bytes.
-        Spells (parts_held parts.entry) features.now (parts_exports parts.entry) bytes.items) }
+    ensures spells { IfOk result (λ bytes. Spells (parts_held parts.entry) features.now
+        (parts_exports parts.entry) bytes.items) }
     ensures refused { RefusesItems (parts_held parts.entry) features.now (parts_exports parts.entry) result }
 {
     let plan = Plan::new(alloc, parts)?;
