@@ -1,5 +1,6 @@
 //! Writing a module as bytes.
 ghost use Rattle.std.specs.Prelude.{◌≡◌, IfOk};
+ghost use Rattle.walrus_contents.specs.View.{parts_view};
 ghost use Rattle.walrus_rules.specs.SoFar.{RefusesSoFar};
 ghost use Rattle.walrus_module.specs.Flags.{config_of};
 ghost use Rattle.walrus_module.specs.Settings.{settings};
@@ -29,7 +30,9 @@ impl Module {
     }
 
     // The parts of which the module's sections are written.
-    fn parts(&self) -> Parts<'_> {
+    fn parts(&self) -> Parts<'_>
+        ensures { parts_view result ≡ view self.now }
+    {
         Parts {
             types: &self.types,
             locals: &self.locals,

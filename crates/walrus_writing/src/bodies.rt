@@ -39,7 +39,8 @@ fn one_body(alloc: Global, under: Indexed<'_, '_, '_>, id: FunctionId) -> Result
     requires indexed { IsIndexed (parts_held under.parts) (index_of under.indices.now) under.features.now
         (place id) }
     ensures value { IfOk result (λ bytes.
-        HasBytes (parts_held under.entry.parts) (index_of under.entry.indices.now) under.entry.features.now (place id) bytes.items) }
+        HasBytes (parts_held under.entry.parts) (index_of under.entry.indices.now) under.entry.features.now
+        (place id) bytes.items) }
     ensures fails { IfErr result (RefusesBodies (parts_held under.entry.parts) under.entry.features.now) }
 {
     let Some(local) = local_of(under.parts.funcs, id) else {
@@ -66,7 +67,8 @@ pub fn body_bytes(
         { All (λ id. IsIndexed (parts_held under.parts) (index_of under.indices.now) under.features.now
         (place id)) order.now }
     ensures value { IfOk result (λ bodies. AllZip (λ id bytes.
-        HasBytes (parts_held under.entry.parts) (index_of under.entry.indices.now) under.entry.features.now (place id) bytes.items)
+        HasBytes (parts_held under.entry.parts) (index_of under.entry.indices.now) under.entry.features.now
+        (place id) bytes.items)
         order.now bodies.items) }
     ensures fails { IfErr result (RefusesBodies (parts_held under.entry.parts) under.entry.features.now) }
 {
