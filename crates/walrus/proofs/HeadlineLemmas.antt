@@ -90,11 +90,11 @@ module _ {X : Type 0} (c : Config) (view : X → List ℕ) where
   answers_for bytes v w (Ok x) parsed collected emitted refused = comes_to c bytes v w parsed collected (view x) emitted
   answers_for bytes v w (Err (error.Memory e)) parsed collected emitted refused = tt
   answers_for bytes v w (Err error.TooLarge) parsed collected emitted refused = too_large c bytes v w parsed collected refused
-  answers_for bytes v w (Err error.DeadItem) parsed collected emitted refused = absurd (few_so_far {X} c w (told (Err error.DeadItem)) (are_fine c bytes v w parsed collected).left refused)
-  answers_for bytes v w (Err error.NoIndex) parsed collected emitted refused = absurd (few_so_far {X} c w (told (Err error.NoIndex)) (are_fine c bytes v w parsed collected).left refused)
-  answers_for bytes v w (Err error.TwoIndices) parsed collected emitted refused = absurd (few_so_far {X} c w (told (Err error.TwoIndices)) (are_fine c bytes v w parsed collected).left refused)
-  answers_for bytes v w (Err error.NotWritable) parsed collected emitted refused = absurd (few_so_far {X} c w (told (Err error.NotWritable)) (are_fine c bytes v w parsed collected).left refused)
-  answers_for bytes v w (Err (error.Caller text)) parsed collected emitted refused = absurd (few_so_far {X} c w (told (Err (error.Caller text))) (are_fine c bytes v w parsed collected).left refused)
+  answers_for bytes v w (Err error.DeadItem) parsed collected emitted refused = absurd (few_so_far {X = X} c w (told (Err error.DeadItem)) (are_fine c bytes v w parsed collected).left refused)
+  answers_for bytes v w (Err error.NoIndex) parsed collected emitted refused = absurd (few_so_far {X = X} c w (told (Err error.NoIndex)) (are_fine c bytes v w parsed collected).left refused)
+  answers_for bytes v w (Err error.TwoIndices) parsed collected emitted refused = absurd (few_so_far {X = X} c w (told (Err error.TwoIndices)) (are_fine c bytes v w parsed collected).left refused)
+  answers_for bytes v w (Err error.NotWritable) parsed collected emitted refused = absurd (few_so_far {X = X} c w (told (Err error.NotWritable)) (are_fine c bytes v w parsed collected).left refused)
+  answers_for bytes v w (Err (error.Caller text)) parsed collected emitted refused = absurd (few_so_far {X = X} c w (told (Err (error.Caller text))) (are_fine c bytes v w parsed collected).left refused)
   answers_for bytes v w (Err (error.InvalidWasm kind)) parsed collected emitted refused = absurd refused
   answers_for bytes v w (Err error.NotFound) parsed collected emitted refused = absurd refused
   answers_for bytes v w (Err error.SeveralMemories) parsed collected emitted refused = absurd refused

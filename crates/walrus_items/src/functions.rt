@@ -123,8 +123,12 @@ impl ModuleFunctions {
         ensures { MatchResult result
             (λ id. (place id ≡ length (functions self.old))
             × (functions self.new ≡ functions self.old
-            ++ Some (record { id = place id; kind = FunctionKind.Import
-            (record { ty = ty; import = «import» }); name = None }) ∷ []))
+            ++ Some (record {
+              id = place id;
+              kind = FunctionKind.Import
+                  (record { ty = ty; import = «import» });
+              name = None;
+            }) ∷ []))
             (λ e. (e ≡ out_of_memory) × (functions self.new ≡ functions self.old)) }
     {
         let id = self.arena.next_id();

@@ -12,7 +12,6 @@ pub use config::ModuleConfig;
 pub use customs::{ModuleCustomSections, SectionIter};
 pub use entry::SectionEntry;
 pub use module::Module;
-pub use walrus_producers::{ModuleProducers, ProducerField, ProducerValue};
 pub use walrus_items::{
     AbstractHeapType, ArenaIter, Arg, Args, ArrayType, BlockType, CodeTransform, CompositeType,
     ConstExpr, ConstOp, CustomSection, DataId, DataKey, ElementId, ElementKey, Error, ErrorKind,
@@ -24,3 +23,4 @@ pub use walrus_items::{
     StorageType, StructType, TableId, TableKey, TagId, TagKey, Type, TypeId, TypeKey,
     UntypedCustomSectionId, ValType, Value,
 };
+pub use walrus_producers::{ModuleProducers, ProducerField, ProducerValue};

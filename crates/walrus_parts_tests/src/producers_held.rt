@@ -1,8 +1,8 @@
 //! The producers section in memory.
 
-use crate::demands::{demand, is_text};
 use std::alloc::{AllocError, Global};
 use std::test::Fail;
+use test_support::{demand, is_text};
 use walrus_producers::{ModuleProducers, ProducerField};
 
 fn tell_field(text: &mut String, field: &ProducerField) -> Result<(), AllocError> {

@@ -86,8 +86,11 @@ impl ProducerField {
     // Puts a value in the place of the first one of its name, or behind all where there is none. Refused, nothing changes.
     fn put(&mut self, value: ProducerValue) -> Result<(), AllocError>
         ensures { MatchResult result
-            (λ _. field_seen self.new ≡ record { name = (field_seen self.old).name; values = with_value
-            (value_seen value) (field_seen self.old).values })
+            (λ _. field_seen self.new ≡ record {
+              name = (field_seen self.old).name;
+              values = with_value
+                  (value_seen value) (field_seen self.old).values;
+            })
             (λ _. field_seen self.new ≡ field_seen self.old) }
     {
         match self.place_of(value.name.as_str()) {
