@@ -1,5 +1,5 @@
 -- Where gc keeps, of functions and of types, what is kept, the abstract module is collected.
-use Rattle.std.proofs.Common.{◌≡◌, ℕ, ◌==◌, inl, inr, ⊎_elim, eqb-true, true, List, [], ◌∷◌, map, Option, Some, None, refl, ap, sym, subst, ◌∙◌}
+use Rattle.std.proofs.Common.{◌≡◌, ℕ, suc, length, Bool, ◌==◌, inl, inr, ⊎_elim, eqb-true, true, List, [], ◌∷◌, map, Option, Some, None, refl, ap, sym, subst, ◌∙◌}
 use Rattle.std.specs.Prelude.{◌↔◌, Contains, option_map}
 use Rattle.std.proofs.lemmas.Bool.{false≢true}
 use Rattle.std.proofs.lemmas.Option.{none-some}
@@ -30,11 +30,16 @@ use Rattle.walrus_model.proofs.Lists.{Contains-head, Contains-map, Contains-tail
 use Rattle.walrus_module.specs.View.{function, handlers_at, view_of}
 use Rattle.walrus.specs.Collected as slots
 
+length-kept_by : {T : Type 0} (keeps : ℕ → Bool) (xs : List (Option T)) → length (kept_by keeps xs) ≡ length xs
+length-kept_by keeps [] = refl
+length-kept_by keeps (x ∷ xs) = ap suc (length-kept_by (λ n. keeps (suc n)) xs)
+
 -- what is left where only the marked ones are kept
 pub keeps_only : {K X : Type 0} (marks : IdHashSet K) (Q : ℕ → Type 0) → ((i : ℕ) → HasId marks i ↔ Q i) → (old new : List (Option X)) → new ≡ kept_by (has_id marks) old → slots.KeepsOnly Q old new
 keeps_only {K} {X} marks Q same old new is = subst (λ (s : List (Option X)). slots.KeepsOnly Q old s) (sym is) (record {
   kept = λ i q. kept_there (has_id marks) old i ((same i).1 q);
   left = λ i x h. ((same i).0 (kept_marked (has_id marks) old i x h), kept_was (has_id marks) old i x h);
+  places = length-kept_by (has_id marks) old;
 })
 
 has_contains : (g : List ℕ) (p : ℕ) → has g p ≡ true → Contains g p

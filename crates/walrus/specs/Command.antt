@@ -1,8 +1,14 @@
 -- The words of the program.
-use Rattle.std.specs.Prelude.{Bool, ℕ, List, codes, not, ◌||◌, bytes_eq, string_bytes, String}
+use Rattle.std.specs.Prelude.{Bool, ℕ, List, Option, codes, not, ◌||◌, bytes_eq, string_bytes, String, Result, Ok, Err, ◌≡◌}
+use Rattle.std.specs.Io.KnownBytes.{Keeps}
 use Rattle.std.specs.List.{list_any, list_all}
 use Rattle.std.specs.declared.alloc.Global.{Global}
+use Rattle.walrus_model.specs.Config.{Config}
 use Rattle.walrus_module.specs.Flags.{Flags, defaults}
+use Rattle.walrus.specs.Headline.{Runs}
+use Rattle.walrus.specs.Message.{Tells, line}
+use Rattle.walrus.specs.Text.{tool_text}
+use Rattle.walrus.specs.declared.tool.ToolError.{ToolError}
 
 -- the program knows this word
 abbrev pub is_known : List ℕ → Bool
@@ -23,3 +29,14 @@ flags_for words = record defaults {
   generate_producers_section = not (stands_in words (codes "--no-producers"));
   legacy_exceptions = not (stands_in words (codes "--no-legacy"));
 }
+
+-- what a run answered, as the program tells it: status 0, and nothing is said; or status 1, and the refusal in a line
+abbrev pub IsTold : Result Unit ToolError → (status : ℕ) → (old new : Option (List ℕ)) → (failures_old failures_new : ℕ) → Type 0
+IsTold (Ok u) status old new failures_old failures_new = (status ≡ 0) × Keeps old new × (failures_new ≡ failures_old)
+IsTold (Err e) status old new failures_old failures_new = (status ≡ 1) × Tells old new failures_old failures_new (line (tool_text e))
+
+-- there was a run, and its answer was told
+pub record RunsAndTells (c : Config) (from_old from_new to_old to_new : Option (List ℕ)) (status : ℕ) (old new : Option (List ℕ)) (failures_old failures_new : ℕ) : Type 0 where
+  pub answer : Result Unit ToolError
+  pub ran : Runs c from_old from_new to_old to_new answer
+  pub told : IsTold answer status old new failures_old failures_new

@@ -1,9 +1,8 @@
 //! The program as a function of its words and its three streams.
 
-ghost use Rattle.std.specs.Prelude.{◌≡◌, ◌⊎◌, codes, false, true};
+ghost use Rattle.std.specs.Prelude.{◌≡◌, codes, false, true};
 ghost use Rattle.std.specs.Io.KnownBytes.{Keeps};
-ghost use Rattle.walrus.specs.Command.{are_known, is_known, flags_for, stands_in};
-ghost use Rattle.walrus.specs.Headline.{Writes};
+ghost use Rattle.walrus.specs.Command.{RunsAndTells, are_known, is_known, flags_for, stands_in};
 ghost use Rattle.walrus.specs.Message.{Tells, line};
 ghost use Rattle.walrus_module.specs.Flags.{config_of, flags};
 
@@ -61,10 +60,9 @@ pub fn command<R: Source, W: Sink, E: Sink>(
         × (W.write_failures output.new ≡ W.write_failures output.old)
         × Tells (E.held errors.old) (E.held errors.new) (E.write_failures errors.old)
         (E.write_failures errors.new) (line (codes "unknown word")) }
-    ensures known { are_known words.now ≡ true → (result ≡ 0) ⊎ (result ≡ 1) }
-    ensures passed { result ≡ 0 → Writes (config_of (flags_for words.now)) (R.left input.old)
-        (R.left input.new) (W.held output.old) (W.held output.new) }
-    ensures silent { result ≡ 0 → Keeps (E.held errors.old) (E.held errors.new) }
+    ensures known { are_known words.now ≡ true → RunsAndTells (config_of (flags_for words.now))
+        (R.left input.old) (R.left input.new) (W.held output.old) (W.held output.new) result
+        (E.held errors.old) (E.held errors.new) (E.write_failures errors.old) (E.write_failures errors.new) }
 {
     if !all_known(words) {
         let _told = write_line(errors, "unknown word");

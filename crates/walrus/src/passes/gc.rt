@@ -1,7 +1,7 @@
 //! Dropping what nothing reaches.
 
 ghost use Rattle.std.specs.Prelude.{◌≡◌, IfErr, OnErr, OnOk};
-ghost use Rattle.walrus_types.specs.ModuleTypes.{type_slots};
+ghost use Rattle.walrus_types.specs.ModuleTypes.{type_names, type_slots};
 ghost use Rattle.walrus_types.specs.Operators.{Item, Functions, Types};
 ghost use Rattle.walrus_items.specs.Functions.{functions};
 ghost use Rattle.walrus_model.specs.Kept.{Kept};
@@ -25,6 +25,8 @@ pub fn run(alloc: Global, module: &mut Module) -> Result<()>
         (functions «module».old.funcs) (functions «module».new.funcs)) }
     ensures types { OnOk result (KeepsOnly (λ t. Kept (view «module».old) (Types, t))
         (type_slots «module».old.types) (type_slots «module».new.types)) }
+    ensures type_names { OnOk result (KeepsOnly (λ t. Kept (view «module».old) (Types, t))
+        (type_names «module».old.types) (type_names «module».new.types)) }
     ensures sound { OnOk result (ReachesSound (view «module».old)) }
     ensures settled { OnOk result ((x : Item) → IsLive (view «module».new) x → Kept (view «module».new) x) }
     ensures refused { IfErr result (IsRefusal (ReachesUnsound (view «module».old))) }

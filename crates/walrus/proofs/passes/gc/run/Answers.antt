@@ -1,4 +1,4 @@
-use Rattle.walrus_types.specs.ModuleTypes.{type_slots}
+use Rattle.walrus_types.specs.ModuleTypes.{type_names, type_slots}
 use Rattle.walrus_types.specs.Operators.{Functions, Types}
 use Rattle.walrus_items.specs.Functions.{functions}
 use Rattle.walrus_model.specs.Kept.{Kept}
@@ -21,6 +21,11 @@ pub returns-clause-types : goal.returns-clause-types
 returns-clause-types g c =
     let old = c.args.module.now in
     keeps_only c.in_ok-used.used.types (λ t. Kept (view old) (Types, t)) (λ t. c.in_ok-used.ensures.kept (Types, t)) (type_slots old.types) (type_slots c.keep_only-2.new.self) c.keep_only-2.ensures.slots
+
+pub returns-clause-type_names : goal.returns-clause-type_names
+returns-clause-type_names g c =
+    let old = c.args.module.now in
+    keeps_only c.in_ok-used.used.types (λ t. Kept (view old) (Types, t)) (λ t. c.in_ok-used.ensures.kept (Types, t)) (type_names old.types) (type_names c.keep_only-2.new.self) c.keep_only-2.ensures.names
 
 pub returns-clause-collected : goal.returns-clause-collected
 returns-clause-collected g c =
