@@ -1,5 +1,7 @@
 -- A module in memory as an abstract module: that of what it holds.
+use Rattle.std.specs.Prelude.{[], ◌≡◌}
 use Rattle.walrus_model.specs.Abstract.{Abstract}
+use Rattle.walrus_module.specs.Customs.{sections}
 pub use Rattle.walrus_contents.specs.View.{types_of, is_declared, body, kind_of, kind_handlers, handlers_at, function, functions_of, export_of, exports_of, view_of, parts_view}
 use Rattle.walrus_contents.specs.View.{HoldsNothing, contents_view}
 use Rattle.walrus_contents.specs.declared.parts.Contents.{Contents}
@@ -13,6 +15,10 @@ module _ {V : Type 0} {O : V → Type 0} where
   abbrev pub view : Module V O → Abstract
   view m = contents_view (contents_of m)
 
+  -- it has no custom sections, dropped ones included
+  abbrev pub HasNoCustoms : Module V O → Type 0
+  HasNoCustoms m = sections m.customs ≡ []
+
   -- it holds nothing, dropped items included
   abbrev pub IsEmpty : Module V O → Type 0
-  IsEmpty m = HoldsNothing (contents_of m)
+  IsEmpty m = HoldsNothing (contents_of m) × HasNoCustoms m

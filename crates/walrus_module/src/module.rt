@@ -35,7 +35,7 @@ impl Module {
     ghost use Rattle.walrus_module.specs.Flags.{flags, defaults, config_of};
     ghost use Rattle.walrus_reading.specs.Parsed.{IsParsed, RefusesBytes, AreLocated};
     ghost use Rattle.walrus_module.specs.Settings.{settings};
-    ghost use Rattle.walrus_module.specs.View.{IsEmpty, contents_of, view};
+    ghost use Rattle.walrus_module.specs.View.{HasNoCustoms, IsEmpty, contents_of, view};
 
     /// An empty module, to be written as the configuration says. Want of memory is the only refusal.
     pub fn with_config(alloc: Global, config: ModuleConfig) -> Result<Module>
@@ -50,6 +50,7 @@ impl Module {
     // The module that holds this, and no custom sections.
     pub(crate) fn holding(alloc: Global, contents: Contents, config: ModuleConfig) -> Module
         ensures holds { contents_of result ≡ contents }
+        ensures no_customs { HasNoCustoms result }
         ensures configured { settings result ≡ flags config }
     {
         Module {
@@ -69,6 +70,7 @@ impl Module {
         ensures refused { IfErr result (RefusesBytes (config_of defaults) bytes.now) }
         ensures configured { IfOk result (λ m. settings m ≡ defaults) }
         ensures located { IfOk result (λ m. AreLocated bytes.now m.funcs) }
+        ensures no_customs { IfOk result (λ m. HasNoCustoms m) }
     {
         Module::from_buffer_with_config(alloc, bytes, &ModuleConfig::new())
     }
@@ -83,6 +85,7 @@ impl Module {
         ensures refused { IfErr result (RefusesBytes (config_of (flags config.now)) bytes.now) }
         ensures configured { IfOk result (λ m. settings m ≡ flags config.now) }
         ensures located { IfOk result (λ m. AreLocated bytes.now m.funcs) }
+        ensures no_customs { IfOk result (λ m. HasNoCustoms m) }
     {
         config.parse(alloc, bytes)
     }

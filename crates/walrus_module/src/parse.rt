@@ -2,7 +2,7 @@
 ghost use Rattle.std.specs.Prelude.{◌≡◌, IfOk, IfErr};
 ghost use Rattle.walrus_module.specs.Flags.{flags, config_of};
 ghost use Rattle.walrus_module.specs.Settings.{settings};
-ghost use Rattle.walrus_module.specs.View.{view};
+ghost use Rattle.walrus_module.specs.View.{HasNoCustoms, view};
 ghost use Rattle.walrus_reading.specs.Parsed.{IsParsed, RefusesBytes, AreLocated};
 
 use crate::config::ModuleConfig;
@@ -22,6 +22,7 @@ impl ModuleConfig {
         ensures refused { IfErr result (RefusesBytes (config_of (flags self.now)) bytes.now) }
         ensures configured { IfOk result (λ m. settings m ≡ flags self.now) }
         ensures located { IfOk result (λ m. AreLocated bytes.now m.funcs) }
+        ensures no_customs { IfOk result (λ m. HasNoCustoms m) }
     {
         let contents = read(alloc, bytes, &self.features())?;
         Ok(Module::holding(alloc, contents, self.clone()?))

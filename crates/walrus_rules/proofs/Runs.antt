@@ -117,7 +117,7 @@ ok_so_far c bytes output m v w n read holds parsed collected ok written spelled 
 
 pub too_large_so_far : TooLargeSoFar
 too_large_so_far c bytes m v w read holds parsed collected large =
-    comes_out_too_large c bytes m w read.reads holds (brought c bytes m v w read holds parsed collected) (large.2 (well_sayable c w (made_left c bytes m v w read holds parsed collected)))
+    comes_out_too_large c bytes m w read.reads holds (brought c bytes m v w read holds parsed collected) (large.0.2 (well_sayable c w (made_left c bytes m v w read holds parsed collected)))
 
 pub few_so_far : {X : Type 0} (c : Config) (w : Abstract) (result : Result X Refusal) → IsFineSoFar c w → RefusesSoFar c w result → IsFewSoFar result
 few_so_far c w (Ok x) are h = tt

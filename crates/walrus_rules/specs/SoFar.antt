@@ -7,7 +7,7 @@ use Rattle.walrus_model.specs.Live.{IsLive}
 use Rattle.walrus_model.specs.Rules.{Holds}
 use Rattle.walrus_model.specs.Supported.{IsSupported}
 use Rattle.walrus_rules.specs.Headline.{Reads}
-use Rattle.walrus_rules.specs.Refused.{Refusal, NoIndex, NotWritable, LacksIndex, HasUnspelled, RefusesToWrite}
+use Rattle.walrus_rules.specs.Refused.{Refusal, NoIndex, TooLarge, NotWritable, LacksIndex, HasUnspelled, RefusesToWrite}
 
 -- the bytes read as the module m, all of which is supported; no segment has to declare what ref.func names
 pub record ReadsSoFar (c : Config) (bytes : List ℕ) (m : Abstract) : Type 0 where
@@ -35,4 +35,5 @@ abbrev pub RefusesSoFar : {X : Type 0} → Config → Abstract → Result X Refu
 RefusesSoFar c v (Ok x) = RefusesToWrite never c v (Ok x) × (HasImported v → ⊥) × (HasUndeclared v → ⊥)
 RefusesSoFar c v (Err NoIndex) = LacksIndex v ⊎ HasImported v
 RefusesSoFar c v (Err NotWritable) = HasUnspelled c v ⊎ HasUndeclared v
+RefusesSoFar {X} c v (Err TooLarge) = RefusesToWrite {X = X} never c v (Err TooLarge) × (HasImported v → ⊥)
 RefusesSoFar {X} c v (Err e) = RefusesToWrite {X = X} never c v (Err e)

@@ -36,7 +36,7 @@ pub record IsCounted (b : Body) : Type 0 where
   pub are : (x : ℕ) → Contains locals x ↔ IsDeclared b x
   pub count : b.declared ≡ length locals
 
--- ---- all of it; that items sit at their own ids is said of the `Module` itself
+-- ---- all of it; that an item in memory sits at its own id isn't said by it
 
 pub record IsWellMade (c : Config) (m : Abstract) : Type 0 where
   pub imports : ImportsMatch m

@@ -59,7 +59,7 @@ module _ (c : Config) (p : Parts) (lives : HasDead (parts_view p) → ⊥) (decl
   items_with : {X : Type 0} (view : X → List ℕ) (result : Result X Error) → Refuses view result (features_of c)
   items_with view (Ok x) sizes spells r = (no_cause c p spells.records lives (sizes.1 (view x) spells), not_imported c p local, undeclared_none)
   items_with view (Err NotWritable) sizes spells r = inl (unspelled c p lives r)
-  items_with view (Err TooLarge) sizes spells r = (no_two_indices c p, lacks_none c p local ordered, λ sayable. passes c p sizes.0 r)
+  items_with view (Err TooLarge) sizes spells r = ((no_two_indices c p, lacks_none c p local ordered, λ sayable. passes c p sizes.0 r), not_imported c p local)
   items_with view (Err (Memory m)) sizes spells r = tt
   items_with view (Err _) sizes spells r = absurd r
 
