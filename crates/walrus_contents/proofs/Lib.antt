@@ -7,3 +7,5 @@ pub mod Lookups
 pub mod Steps
 pub mod Taking
 pub mod TypeLists
+pub mod Named
+pub mod NamedFound

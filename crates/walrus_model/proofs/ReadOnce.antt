@@ -1,23 +1,22 @@
--- No bytes read as two modules.
-use Rattle.std.proofs.Common.{◌≡◌, ℕ, ◌+◌, ◌≤◌, List, [], ◌∷◌, ◌++◌, length, zip, refl, sym, ap, ap₂, ◌∙◌, subst, arith, length-append}
+-- The bytes of bodies are read in one way.
+use Rattle.std.proofs.Common.{◌≡◌, ℕ, ◌+◌, ◌≤◌, List, [], ◌∷◌, ◌++◌, length, refl, sym, ap, ap₂, ◌∙◌, subst, arith, length-append}
 use Rattle.std.specs.Prelude.{Option, Some}
 use Rattle.std.specs.List.{AllZip}
 use Rattle.wasm_forms.specs.Grammar.{Is, IsRow}
 use Rattle.wasm_forms.proofs.Bind.{some_same}
 use Rattle.wasm_forms.proofs.Exact.{one_reading}
 use Rattle.wasm_frames.specs.Record as wire
-use Rattle.wasm_frames.specs.Frames.{HasOneRecord}
 use Rattle.wasm_operators.specs.Operators as wire_ops
 use Rattle.wasm_operators.specs.Forms.{operator}
 use Rattle.walrus_base.specs.Types.{ValType}
 use Rattle.walrus_types.specs.Operators.{Op}
 use Rattle.walrus_code.specs.Names.{named_ops}
 use Rattle.walrus_code.specs.FromRaw.{ops_of}
+use Rattle.walrus_bodies.specs.declared.features.Features.{Features}
 use Rattle.walrus_bodies.specs.Body.{Context, BodyReads, declarations, declared_types}
 use Rattle.walrus_functions.specs.ReadFunction.{locals_from}
-use Rattle.walrus_model.specs.Config.{Config}
-use Rattle.walrus_model.specs.Reads.{arity, context_of, ReadsBody, ReadsOnce}
-use Rattle.walrus_model.specs.Sections.{Said, module_of}
+use Rattle.walrus_model.specs.Reads.{arity, context_with, ReadsBodyWith}
+use Rattle.walrus_model.specs.Sections.{Said}
 
 -- ---- the operators of a body: one behind another, each with a first byte
 
@@ -63,23 +62,16 @@ module _ (c : Context) (locals others : ℕ → Option ℕ) (bytes : List ℕ) (
       let same : Some xs ≡ Some ys = sym p.operators.named ∙ ap₂ (λ (l : ℕ → Option ℕ) (texts : List wire_ops.Op). named_ops c.names l (ops_of texts)) same_locals texts_once ∙ q.operators.named in
       some_same _ _ same
 
-body_once : (c : Config) (r : wire.Module) (f : ℕ × wire.Body) (x y : Said) → ReadsBody c r f x → ReadsBody c r f y → x ≡ y
+body_once : (c : Features) (r : wire.Module) (f : ℕ × wire.Body) (x y : Said) → ReadsBodyWith c r f x → ReadsBodyWith c r f y → x ≡ y
 body_once c r f (ts, xs) (us, ys) p q =
     let locals : List (ValType ℕ) → ℕ → Option ℕ = λ l. locals_from 0 (arity r f.0 + length l) in
-    let types = types_once (context_of c r) (locals ts) (locals us) f.1.bytes ts us xs ys p q in
-    ap₂ (λ (l : List (ValType ℕ)) (o : List Op). (l, o)) types (operators_once (context_of c r) (locals ts) (locals us) f.1.bytes ts us xs ys p q (ap locals types))
+    let types = types_once (context_with c r) (locals ts) (locals us) f.1.bytes ts us xs ys p q in
+    ap₂ (λ (l : List (ValType ℕ)) (o : List Op). (l, o)) types (operators_once (context_with c r) (locals ts) (locals us) f.1.bytes ts us xs ys p q (ap locals types))
 
-pub bodies_once : (c : Config) (r : wire.Module) (fs : List (ℕ × wire.Body)) (xs ys : List Said) → AllZip (ReadsBody c r) fs xs → AllZip (ReadsBody c r) fs ys → xs ≡ ys
+pub bodies_once : (c : Features) (r : wire.Module) (fs : List (ℕ × wire.Body)) (xs ys : List Said) → AllZip (ReadsBodyWith c r) fs xs → AllZip (ReadsBodyWith c r) fs ys → xs ≡ ys
 bodies_once c r [] [] [] p q = refl
 bodies_once c r [] [] (y ∷ ys) p q = absurd q
 bodies_once c r [] (x ∷ xs) ys p q = absurd p
 bodies_once c r (f ∷ fs) [] ys p q = absurd p
 bodies_once c r (f ∷ fs) (x ∷ xs) [] p q = absurd q
 bodies_once c r (f ∷ fs) (x ∷ xs) (y ∷ ys) p q = ap₂ ◌∷◌ (body_once c r f x y p.0 q.0) (bodies_once c r fs xs ys p.1 q.1)
-
-pub reads_once_lem : HasOneRecord → ReadsOnce
-reads_once_lem one_record c bytes m n x y =
-    let one = one_record bytes x.sections y.sections x.framed y.framed in
-    let read : AllZip (ReadsBody c x.sections) (zip x.sections.functions x.sections.bodies) y.bodies = subst (λ (s : wire.Module). AllZip (ReadsBody c s) (zip s.functions s.bodies) y.bodies) (sym one) y.read in
-    let bodies = bodies_once c x.sections (zip x.sections.functions x.sections.bodies) x.bodies y.bodies x.read read in
-    y.is ∙ ap₂ module_of (sym one) (sym bodies) ∙ sym x.is

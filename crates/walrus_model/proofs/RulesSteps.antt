@@ -1,42 +1,25 @@
 -- What was parsed and what gc left keep the rules.
-use Rattle.std.proofs.Common.{◌≡◌, ℕ, ◌<◌, refl, sym, ap, ◌∙◌, subst, inl, ⊎_elim}
+use Rattle.std.proofs.Common.{◌≡◌, ℕ, refl, sym, ap, ◌∙◌, subst, inl, ⊎_elim}
 use Rattle.std.specs.Prelude.{Option, Some, None, Contains, option_map}
-use Rattle.walrus_types.specs.Operators.{Types, Functions, Globals, Item}
+use Rattle.walrus_types.specs.Operators.{Functions, Item}
 use Rattle.walrus_model.specs.Abstract.{Abstract, Function, Uninitialised, Global, Memory, Body}
 use Rattle.walrus_model.specs.Kept.{Kept, IsSpareMemory}
 use Rattle.walrus_model.specs.Names.{body_of, body_of_function}
 use Rattle.walrus_model.specs.Order.{OriginsInOrder, ByImport}
-use Rattle.walrus_model.specs.Pipeline.{ParsedAs, IsSimple, Collected, ReachedIsLive}
+use Rattle.walrus_model.specs.Pipeline.{Collected, ReachedIsLive}
 use Rattle.walrus_model.specs.Reached.{Reached, root, step}
 use Rattle.walrus_model.specs.Refers.{named_by, memory_names, written_in}
 use Rattle.walrus_model.specs.Renaming.{unchanged}
 use Rattle.walrus_model.specs.Roots.{exported, start}
-use Rattle.walrus_model.specs.Rules.{LocalsHold, RulesHold, Holds}
+use Rattle.walrus_model.specs.Rules.{RulesHold}
 use Rattle.walrus_model.specs.RulesCarried.{TakenOver}
 use Rattle.walrus_model.specs.Same.{BothAnd}
 use Rattle.walrus_model.proofs.Lists.{Contains-none}
 use Rattle.walrus_model.proofs.OffsetRules.{rules_carried}
 use Rattle.walrus_model.proofs.PipelineCollected.{carried_collected}
-use Rattle.walrus_model.proofs.PipelineParsed.{globals_stay}
-use Rattle.walrus_model.proofs.RulesTaken.{whole_keeps_rules}
 
 abbrev GlobalsInOrder : ℕ → ℕ → Option Global → Option Global → Type 0
 GlobalsInOrder i j a b = BothAnd (OriginsInOrder i j) (option_map (λ g. g.origin) a) (option_map (λ g. g.origin) b)
-
--- ---- parsing
-
-pub parsed_keeps_rules : (m v : Abstract) → Holds m → ParsedAs m v → IsSimple m → LocalsHold v → RulesHold (ByImport v) v
-parsed_keeps_rules m v rules p simple locals =
-    let r = p.renaming in
-    whole_keeps_rules (λ space i j. i < j) (ByImport v) r m v rules p.carried
-    (λ i j a b lt. subst (λ (x : ℕ). x < r.numbers Types j) (sym (p.in_place Types i)) (subst (λ (y : ℕ). i < y) (sym (p.in_place Types j)) lt))
-    (λ i j a b lt.
-    let old : GlobalsInOrder i j (m.globals i) (m.globals j) = simple.in_order Globals (λ e. cc) i j a b lt in
-    subst (λ (x : ℕ). ByImport v Globals x (r.numbers Globals j)) (sym (p.in_place Globals i))
-    (subst (λ (y : ℕ). ByImport v Globals i y) (sym (p.in_place Globals j))
-    (subst (λ (o : Option Global). GlobalsInOrder i j o (v.globals j)) (sym (globals_stay m v p i))
-    (subst (λ (o : Option Global). GlobalsInOrder i j (m.globals i) o) (sym (globals_stay m v p j)) old))))
-    locals
 
 -- ---- gc
 

@@ -1,11 +1,7 @@
 -- Sections that hold only what is supported are their types, functions, exports and bodies.
-use Rattle.std.proofs.Common.{◌≡◌, ℕ, List, [], refl, sym, ap, ◌∙◌, subst}
+use Rattle.std.proofs.Common.{◌≡◌, [], refl, sym, ap, ◌∙◌, subst}
 use Rattle.std.specs.Prelude.{None, All}
 use Rattle.wasm_frames.specs.Record as wire
-use Rattle.walrus_model.specs.Abstract.{Abstract}
-use Rattle.walrus_model.specs.Config.{Config}
-use Rattle.walrus_model.specs.Reads.{Reads}
-use Rattle.walrus_model.specs.Sections.{module_of}
 use Rattle.walrus_model.specs.Supported.{IsOfFunction, IsSupported}
 
 -- what is supported of these sections
@@ -44,7 +40,3 @@ are_supported s of_functions = record {
 -- what is so of all that is supported is so of sections that hold nothing else
 pub by_supported : (P : wire.Module → Type 0) → ((s : wire.Module) → All IsOfFunction s.exports → P (supported s)) → (s : wire.Module) → IsSupported s → P s
 by_supported P each s h = subst P (sym (all_supported s h)) (each s h.exports)
-
--- what is read is what they say
-pub is_supported : (c : Config) (bytes : List ℕ) (m : Abstract) (read : Reads c bytes m) → m ≡ module_of (supported read.sections) read.bodies
-is_supported c bytes m read = read.is ∙ ap (λ s. module_of s read.bodies) (all_supported read.sections read.supported)

@@ -16,29 +16,9 @@ use Rattle.walrus_model.specs.Customs.{is_debug_name}
 use Rattle.walrus_model.specs.Handlers.{handlers_of}
 use Rattle.walrus_model.specs.Out.{Out}
 use Rattle.walrus_model.specs.Rules.{Holds}
-use Rattle.walrus_model.specs.Reads.{Reads}
 use Rattle.walrus_model.specs.Sections.{module_of}
-use Rattle.walrus_model.specs.Placed.{Placed}
 
 -- ---- a module with two functions, of which gc drops the first
-
--- 35 bytes: two empty functions of the type with no parameters and no results; the export "f" names function 1
-abbrev pub two_functions_bytes : List ℕ
-two_functions_bytes =
-    0x00 ∷ 0x61 ∷ 0x73 ∷ 0x6D ∷ 0x01 ∷ 0x00 ∷ 0x00 ∷ 0x00
-    ∷ 0x01 ∷ 0x04 ∷ 0x01 ∷ 0x60 ∷ 0x00 ∷ 0x00
-    ∷ 0x03 ∷ 0x03 ∷ 0x02 ∷ 0x00 ∷ 0x00
-    ∷ 0x07 ∷ 0x05 ∷ 0x01 ∷ 0x01 ∷ 0x66 ∷ 0x00 ∷ 0x01
-    ∷ 0x0A ∷ 0x07 ∷ 0x02 ∷ 0x02 ∷ 0x00 ∷ 0x0B ∷ 0x02 ∷ 0x00 ∷ 0x0B ∷ []
-
--- the same with function 1 alone, which is function 0 there
-abbrev pub one_function_bytes : List ℕ
-one_function_bytes =
-    0x00 ∷ 0x61 ∷ 0x73 ∷ 0x6D ∷ 0x01 ∷ 0x00 ∷ 0x00 ∷ 0x00
-    ∷ 0x01 ∷ 0x04 ∷ 0x01 ∷ 0x60 ∷ 0x00 ∷ 0x00
-    ∷ 0x03 ∷ 0x02 ∷ 0x01 ∷ 0x00
-    ∷ 0x07 ∷ 0x05 ∷ 0x01 ∷ 0x01 ∷ 0x66 ∷ 0x00 ∷ 0x00
-    ∷ 0x0A ∷ 0x04 ∷ 0x01 ∷ 0x02 ∷ 0x00 ∷ 0x0B ∷ []
 
 -- a type of functions with no parameters and no results, alone in its group
 abbrev pub no_values : entries.Group
@@ -55,7 +35,7 @@ empty_body start = record { start = start; bytes = 0x00 ∷ 0x0B ∷ [] }
 abbrev pub just_end : List Op
 just_end = record { op = 0x0B; args = [] } ∷ []
 
--- what the sections of these bytes hold
+-- what the sections hold
 
 abbrev pub two_functions_sections : wire.Module
 two_functions_sections = record wire.no_sections { order = 1 ∷ 3 ∷ 7 ∷ 10 ∷ []; types = no_values ∷ []; functions = 0 ∷ 0 ∷ []; exports = export_f 1 ∷ []; bodies = empty_body 30 ∷ empty_body 33 ∷ [] }
@@ -75,17 +55,14 @@ one_function = module_of one_function_sections (([], just_end) ∷ [])
 abbrev pub plain : Config
 plain = record { writes_names = true; synthetic_names = false; writes_producers = false; legacy_exceptions = true; only_stable_features = false }
 
--- The 35 bytes are read and accepted; gc keeps function 1 and its type, not function 0; the module of one function is
--- what comes out, and it is what the 31 bytes read as, which are spelled as this program writes.
+-- The rules hold; gc keeps function 1 and its type, not function 0; the module of one function is what comes out. Which bytes read as
+-- these modules stands in `walrus_rules`.
 pub record TwoFunctions : Type 0 where
-  pub reads : Reads plain two_functions_bytes two_functions
   pub holds : Holds two_functions
   pub second_is_kept : Kept two_functions (Functions, 1)
   pub type_is_kept : Kept two_functions (Types, 0)
   pub first_is_not : Kept two_functions (Functions, 0) → ⊥
   pub comes_out : Out plain two_functions one_function
-  pub written_reads : Reads plain one_function_bytes one_function
-  pub placed : Placed one_function_bytes
 
 -- ---- single definitions
 

@@ -7,7 +7,6 @@ pub mod Reached
 pub mod Kept
 pub mod Renaming
 pub mod Same
-pub mod BodyText
 pub mod Carried
 pub mod Order
 pub mod Config
@@ -25,7 +24,6 @@ pub mod Sections
 pub mod Supported
 pub mod Reads
 pub mod WellMade
-pub mod Placed
 pub mod Transform
 pub mod Examples
 pub mod Follows

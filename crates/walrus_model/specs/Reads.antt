@@ -1,10 +1,6 @@
--- What bytes read as ("Binary Format > Modules"). Legacy exceptions are absent from each module that is read, and so are references to
--- functions that a segment would have to declare; what else isn't supported so far stands in `Supported`.
-use Rattle.std.specs.Prelude.{ℕ, Bool, ◌+◌, false, List, length, zip, Option, Some, None, unwrap_or, nat_lt, ◌≡◌, if◌then◌else◌}
-use Rattle.std.specs.List.{AllZip}
+-- What the sections declare, and what the bytes of a body read as under that ("Binary Format > Modules").
+use Rattle.std.specs.Prelude.{ℕ, Bool, ◌+◌, length, Option, Some, None, unwrap_or, nat_lt, if◌then◌else◌}
 use Rattle.wasm_frames.specs.Record as wire
-use Rattle.wasm_frames.specs.Frames.{Frames}
-use Rattle.wasm_frames.specs.Order.{InOrder}
 use Rattle.walrus_types.specs.Operators.{Types, Functions, Tables, Memories, Tags, Globals, Elements, DataSegments}
 use Rattle.walrus_code.specs.Names.{Lookup}
 use Rattle.walrus_bodies.specs.declared.features.Features.{Features}
@@ -13,12 +9,7 @@ use Rattle.walrus_bodies.specs.FunctionTypes.{is_function_def}
 use Rattle.walrus_functions.specs.Handlers.{params_of}
 use Rattle.walrus_groups.specs.Groups.{types_from}
 use Rattle.walrus_functions.specs.ReadFunction.{locals_from}
-use Rattle.walrus_model.specs.Abstract.{Abstract}
-use Rattle.walrus_model.specs.Config.{Config}
-use Rattle.walrus_model.specs.Declared.{NothingUndeclared}
-use Rattle.walrus_model.specs.Rules.{Holds}
-use Rattle.walrus_model.specs.Sections.{Said, types_of, function_types, tables_of, memories_of, tags_of, globals_of, elements_of, module_of}
-use Rattle.walrus_model.specs.Supported.{IsSupported}
+use Rattle.walrus_model.specs.Sections.{Said, types_of, function_types, tables_of, memories_of, tags_of, globals_of, elements_of}
 
 -- ---- what the sections declare
 
@@ -41,16 +32,9 @@ declared s DataSegments = below (unwrap_or s.data_count 0)
 abbrev pub is_function : wire.Module → ℕ → Bool
 is_function s t = is_function_def (types_of s t)
 
--- legacy exceptions aren't handled so far
-abbrev pub features_of : Config → Features
-features_of c = record { legacy_exceptions = false; only_stable = c.only_stable_features }
-
 -- what a body may name, and what its types are, under these features
 abbrev pub context_with : Features → wire.Module → Context
 context_with features s = context (declared s) (is_function s) features
-
-abbrev pub context_of : Config → wire.Module → Context
-context_of c s = context_with (features_of c) s
 
 -- ---- bodies
 
@@ -61,32 +45,3 @@ arity s ty = length (params_of (types_of s ty))
 -- the bytes of the body of a function of this type say this, where each index names a declared item, or a parameter or a declared local
 abbrev pub ReadsBodyWith : Features → wire.Module → ℕ × wire.Body → Said → Type 0
 ReadsBodyWith features s f body = BodyReads (context_with features s) (locals_from 0 (arity s f.0 + length body.0)) f.1.bytes body.0 body.1
-
-abbrev pub ReadsBody : Config → wire.Module → ℕ × wire.Body → Said → Type 0
-ReadsBody c s f body = ReadsBodyWith (features_of c) s f body
-
--- ---- the module
-
--- the sections stand in order, each at most once
-abbrev pub SectionsInOrder : wire.Module → Type 0
-SectionsInOrder s = InOrder s.order
-
--- the bytes are the sections of the module m
-pub record Reads (c : Config) (bytes : List ℕ) (m : Abstract) : Type 0 where
-  pub sections : wire.Module
-  pub framed : Frames bytes sections
-  pub supported : IsSupported sections
-  pub in_order : SectionsInOrder sections
-  pub as_many_bodies : length sections.bodies ≡ length sections.functions
-  pub bodies : List Said
-  pub read : AllZip (ReadsBody c sections) (zip sections.functions sections.bodies) bodies
-  pub is : m ≡ module_of sections bodies
-  pub references : NothingUndeclared m
-
--- the bytes are accepted
-abbrev pub Accepts : Config → List ℕ → Type 0
-Accepts c bytes = (m : Abstract) × Reads c bytes m × Holds m
-
--- no bytes read as two modules
-abbrev pub ReadsOnce : Type 0
-ReadsOnce = (c : Config) (bytes : List ℕ) (m n : Abstract) → Reads c bytes m → Reads c bytes n → n ≡ m

@@ -1,17 +1,9 @@
--- A module in memory that can be written.
-use Rattle.std.specs.Prelude.{ℕ, List, [], ◌∷◌, ◌++◌, map, flat_map, Option, Some, None, Contains, AllPairs, slice_get, codes, ◌≡◌, ◌≢◌}
-use Rattle.walrus_base.specs.Types.{HeapType, ValType, val_heaps, comp_heaps, IsNotExact}
+-- What a module in memory needs to be written: imports and items name each other, no exact heap type.
+use Rattle.std.specs.Prelude.{ℕ, List, [], ◌∷◌, ◌++◌, flat_map, Option, Some, None, Contains, ◌≡◌, ◌≢◌}
+use Rattle.walrus_base.specs.Types.{HeapType, val_heaps, comp_heaps, IsNotExact}
 use Rattle.walrus_types.specs.Operators.{Types, Functions, Tables, Memories, Tags, Globals, Elements, DataSegments, Item, BlockType, NoResult, OneResult, OfType, Arg, Value, Heap, Block, Op}
-use Rattle.walrus_code.specs.Names.{Lookup}
-use Rattle.walrus_bodies.specs.Body.{context, BodyReads}
-use Rattle.walrus_bodies.specs.FunctionTypes.{is_function_def}
-use Rattle.walrus_functions.specs.Handlers.{params_of}
-use Rattle.walrus_model.specs.Abstract.{Abstract, Origin, ImportedBy, Defined, Body, FunctionKind, ImportedFunction, LocalFunction, Uninitialised, Function, ElementKind, PassiveElements, DeclaredElements, ActiveElements, ElementItems, ListedFunctions, Expressions, DataKind, PassiveData, ActiveData, Import, Custom}
+use Rattle.walrus_model.specs.Abstract.{Abstract, Origin, ImportedBy, Defined, Body, FunctionKind, ImportedFunction, LocalFunction, Uninitialised, Function, ElementKind, PassiveElements, DeclaredElements, ActiveElements, ElementItems, ListedFunctions, Expressions, DataKind, PassiveData, ActiveData, Import}
 use Rattle.walrus_model.specs.Refers.{used_locals}
-use Rattle.walrus_model.specs.Order.{ByImport}
-use Rattle.walrus_model.specs.Config.{Config}
-use Rattle.walrus_model.specs.Reads.{features_of}
-use Rattle.walrus_model.specs.Rules.{IsFunctionType, RulesHold}
 
 -- ---- imports
 
@@ -120,27 +112,3 @@ pub record IsWritable (m : Abstract) : Type 0 where
   pub const_heaps : (x : Item) (ops : List Op) (h : HeapType ℕ) → Contains (consts_in m x) ops → Contains (flat_map op_heaps ops) h → IsNotExact h
   pub consts : (x : Item) (ops : List Op) → Contains (consts_in m x) ops → ops ≢ []
   pub initialised : (i : ℕ) (f : Function) → m.functions i ≡ Some f → f.kind ≢ Uninitialised
-
--- ---- bodies
-
--- Some bytes read as the body, under some look-up of what it names, where the parameters and then some further locals, whose types the bytes
--- declare, are its locals. The parameters are distinct locals, one for each parameter of the function type and of its value type.
-pub record IsWellFormed (c : Config) (m : Abstract) (ty : ℕ) (b : Body) : Type 0 where
-  pub function_type : IsFunctionType m ty
-  pub distinct : AllPairs (λ (x : ℕ) (y : ℕ). x ≢ y) b.parameters
-  pub typed : map b.local_type b.parameters ≡ map Some (params_of (m.types ty))
-  pub names : Lookup
-  pub further : List ℕ
-  pub types : List (ValType ℕ)
-  pub further_typed : map Some types ≡ map b.local_type further
-  pub text : List ℕ
-  pub read : BodyReads (context names (λ t. is_function_def (m.types t)) (features_of c)) (slice_get (b.parameters ++ further)) text types b.operators
-
--- ---- all of it; that items sit at their own ids is said of the `Module` itself
-
-pub record WellMade (c : Config) (m : Abstract) : Type 0 where
-  pub imports : ImportsMatch m
-  pub writable : IsWritable m
-  pub bodies : (i : ℕ) (f : Function) (b : Body) → m.functions i ≡ Some f → f.kind ≡ LocalFunction b → IsWellFormed c m f.ty b
-  pub rules : RulesHold (ByImport m) m
-  pub customs : (s : Custom) → Contains m.customs s → (s.name ≢ codes "name") × (s.name ≢ codes "producers")

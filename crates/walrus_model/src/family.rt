@@ -14,7 +14,7 @@ ghost use Rattle.walrus_model.specs.Laws.{CarriesAll};
 ghost use Rattle.walrus_model.specs.Live.{IsLive};
 ghost use Rattle.walrus_model.specs.Order.{ByImport};
 ghost use Rattle.walrus_model.specs.Ordered.{FilledFrom, Lists, Ordered, StandsFor};
-ghost use Rattle.walrus_model.specs.Pipeline.{Collected, IsSimple, KeepsOnly, ParsedAs, ReachedIsLive};
+ghost use Rattle.walrus_model.specs.Pipeline.{Collected, KeepsOnly, ReachedIsLive};
 ghost use Rattle.walrus_model.specs.Plan.{AreNumbered, IsImportedIn, IsOwnIn, IsPlan, IsWrittenAlong, Plan, numbers_by};
 ghost use Rattle.walrus_model.specs.Refers.{named_by, written_in};
 ghost use Rattle.walrus_model.specs.Renaming.{Renaming, renamed_export, renamed_import};
@@ -99,10 +99,8 @@ pub fn imports_bring()
         → AllZip (StandsFor (SameThing r s) (look v s)) local things → IsWrittenAlong r v n plan s }
 {}
 
-/// What is parsed, what gc leaves, and what is written of a module that keeps the rules keeps them.
+/// What gc leaves and what is written of a module that keeps the rules keeps them.
 pub fn rules_are_kept()
-    ensures parsed { (m v : Abstract) → Holds m → ParsedAs m v → IsSimple m → LocalsHold v
-        → RulesHold (ByImport v) v }
     ensures collected { (v w : Abstract) → RulesHold (ByImport v) v → Collected v w → ReachedIsLive v
         → ((i : ℕ) (f : Function) → v.functions i ≡ Some f → f.kind ≡ Uninitialised → ⊥)
         → RulesHold (ByImport w) w }

@@ -9,24 +9,18 @@ ghost use Rattle.walrus_model.specs.Carried.{Carried};
 ghost use Rattle.walrus_model.specs.Closed.{NamesAreLive};
 ghost use Rattle.walrus_model.specs.Config.{Config};
 ghost use Rattle.walrus_model.specs.Examples.{SmallOnes, TwoFunctions};
-ghost use Rattle.walrus_model.specs.Follows.{ImportsNoType, IsWide, KeptFollows, MemoriesRise, ReachedFollows, SetsFollow};
+ghost use Rattle.walrus_model.specs.Follows.{IsWide, KeptFollows, MemoriesRise, ReachedFollows, SetsFollow};
 ghost use Rattle.walrus_model.specs.Kept.{Kept};
 ghost use Rattle.walrus_model.specs.Laws.{CarriesAll, KeepsShapes, NamesFollow};
 ghost use Rattle.walrus_model.specs.Live.{IsLive};
-ghost use Rattle.walrus_model.specs.Out.{IsAdded, IsTheSegment, Out, Written};
+ghost use Rattle.walrus_model.specs.Out.{IsTheSegment, Out, Written};
 ghost use Rattle.walrus_model.specs.Reached.{IsLeast};
-ghost use Rattle.walrus_model.specs.Reads.{ReadsOnce};
-ghost use Rattle.walrus_model.specs.Renaming.{Renaming, joined, unchanged};
+ghost use Rattle.walrus_model.specs.Renaming.{Renaming, joined};
 
 /// What is reached from the roots of a module holds the roots and all that its items refer to, and lies within every set
 /// of items that does both.
 pub fn reached_is_least()
     ensures { (m : Abstract) → IsLeast m }
-{}
-
-/// No bytes read as two modules ("Binary Format > Modules").
-pub fn reads_once()
-    ensures { ReadsOnce }
 {}
 
 /// Two steps are one step, under the renamings joined: two that take all there is, or what gc keeps and then all of it
@@ -63,15 +57,6 @@ pub fn reached_follows()
         → SetsFollow (IsLive a) r a b → ReachedFollows r a b }
     ensures kept { (r : Renaming) (a b : Abstract) → CarriesAll r a b → IsWide (IsLive a) a
         → SetsFollow (IsLive a) r a b → MemoriesRise r a → KeptFollows r a b }
-{}
-
-/// A module that is read and taken whole, gc on what came of it, and all that is left as it is written: together they
-/// carry what is kept of the module that was read, as `Out` asks, under the two renamings joined.
-pub fn kept_comes_out()
-    ensures { (r s : Renaming) (segment : Option ℕ) (m v w n : Abstract) → CarriesAll r m v
-        → IsWide (IsLive m) m → KeptFollows r m v → ImportsNoType m → Carried (Kept v) (λ x. ⊥) unchanged v w
-        → Carried (IsLive w) (IsTheSegment segment) s w n → Carried (Kept m)
-        (IsAdded (Kept m) (joined r s) m n segment) (joined r s) m n }
 {}
 
 /// The definitions at work: of a module with two functions gc keeps the exported one, and the module of that one

@@ -13,7 +13,7 @@ pub use family::{
     imports_bring, orders_are_made, orders_hold, plans_carry, rules_are_kept, spaces_agree,
 };
 pub use laws::{
-    kept_comes_out, names_follow, reached_follows, reached_is_least, reads_once, renamings_compose,
-    shapes_are_kept, worked_examples,
+    names_follow, reached_follows, reached_is_least, renamings_compose, shapes_are_kept,
+    worked_examples,
 };
-pub use pipeline::{accepted_comes_out, collected_once, pipeline_comes_out, read_is_simple};
+pub use pipeline::collected_once;

@@ -13,7 +13,7 @@ use Rattle.walrus_types.specs.TypeDef.{TypeDef}
 use Rattle.walrus_bodies.specs.FunctionTypes.{is_function_comp, is_function_def}
 use Rattle.walrus_functions.specs.Handlers.{params_of}
 use Rattle.walrus_groups.specs.Groups.{comp_of, sub_of}
-use Rattle.walrus_model.proofs.PipelineRead.{simple_read}
+use Rattle.walrus_reading.proofs.NoHandlers.{no_handlers}
 use Rattle.walrus_model.specs.Abstract.{Function, Export}
 use Rattle.walrus_model.specs.Config.{Config}
 use Rattle.walrus_model.specs.Declared.{NothingUndeclared}
@@ -35,8 +35,7 @@ use Rattle.walrus_reading.proofs.TypesRefer.{comp_holds}
 use Rattle.std.specs.List.{AllZip, range_with_len}
 use Rattle.walrus_model.specs.Live.{Has}
 use Rattle.walrus_model.specs.Names.{body_of_function}
-use Rattle.walrus_model.specs.Reads as model
-use Rattle.walrus_model.specs.Reads.{ReadsBodyWith, SectionsInOrder, is_function, features_of as model_features}
+use Rattle.walrus_model.specs.Reads.{ReadsBodyWith, is_function}
 use Rattle.walrus_model.specs.Sections as sections
 use Rattle.walrus_model.specs.Sections.{Said, types_of, function_with, body_with, space_of, export_of}
 use Rattle.walrus_model.specs.Rules.{Holds, IsEarlier, IsFunctionComp}
@@ -55,18 +54,7 @@ use Rattle.walrus_model.proofs.Supported.{supported, all_supported, by_supported
 use Rattle.walrus_model.specs.Supported.{IsOfFunction, IsSupported}
 use Rattle.walrus_reading.specs.Taken.{HasTaken}
 use Rattle.wasm_frames.specs.Frames.{Frames}
-
--- ---- the same bodies are read, under the features of a configuration that reads no legacy exceptions
-
-record Plain (config : Config) (features : Features) : Type 0 where
-  are : features ≡ features_of config
-  alike : features ≡ model_features config
-
-plain : (config : Config) (features : Features) → IsReadWith config features → Plain config features
-plain config features w = record {
-  are = w.features_are;
-  alike = w.features_are ∙ ap (λ (t : Bool). record { legacy_exceptions = t; only_stable = config.only_stable_features }) w.no_handlers;
-}
+use Rattle.wasm_frames.specs.Order.{InOrder}
 
 -- ---- what was taken in was parsed
 
@@ -76,19 +64,7 @@ module _ (config : Config) (c : Features) (with : IsReadWith config c) (bytes : 
 
   parses : (s : wire.Module) → All IsOfFunction s.exports → Parses (supported s)
   parses s of_functions framed only kept taken =
-      let p = plain config c with in
       let here : NothingUndeclared (sections.module_of (supported s) taken.bodies) = references_read c s m taken declared in
-      let once : model.Reads config bytes (sections.module_of (supported s) taken.bodies) = record {
-        sections = supported s;
-        framed = framed;
-        supported = only;
-        in_order = kept.sections_in_order;
-        as_many_bodies = kept.as_many_bodies;
-        bodies = taken.bodies;
-        read = subst (λ (f : Features). AllZip (ReadsBodyWith f (supported s)) (zip s.functions s.bodies) taken.bodies) p.alike taken.read;
-        is = refl;
-        references = here;
-      } in
       let names = (module_of (supported s) taken.bodies [] []).named in
       record {
         module_read = module_of (supported s) taken.bodies [] [];
@@ -100,7 +76,7 @@ module _ (config : Config) (c : Features) (with : IsReadWith config c) (bytes : 
             as_many_bodies = kept.as_many_bodies;
             data_count = λ n e. cc;
             bodies = taken.bodies;
-            read = subst (λ (f : Features). AllZip (ReadsBodyWith f (supported s)) (zip s.functions s.bodies) taken.bodies) p.are taken.read;
+            read = subst (λ (f : Features). AllZip (ReadsBodyWith f (supported s)) (zip s.functions s.bodies) taken.bodies) with.features_are taken.read;
             namings = [];
             named = tt;
             fields = [];
@@ -111,7 +87,7 @@ module _ (config : Config) (c : Features) (with : IsReadWith config c) (bytes : 
           declared = declared_beside (sections.module_of (supported s) taken.bodies) [] names here;
         };
         holds = holds_beside (sections.module_of (supported s) taken.bodies) [] names (keeps c s taken.bodies kept of_functions taken.read);
-        parsed = parsed c s m kept.as_many_bodies taken config with.no_names (simple_read config bytes (sections.module_of (supported s) taken.bodies) once).no_handlers put_in;
+        parsed = parsed c s m kept.as_many_bodies taken config with.no_names (no_handlers c s taken.bodies (ap (λ (f : Features). f.legacy_exceptions) with.features_are ∙ with.no_handlers) taken.read) put_in;
       }
 
   pub is_parsed : TakenFrom c bytes m → IsParsed config bytes (contents_view m)
@@ -208,7 +184,7 @@ module _ (r : wire.Module) (bodies : List Said) (many : length bodies ≡ length
       let few : length q.0.0 ≤ 50_000 = h.locals k (body_with (params_of (types_of r (get_or r.functions k 0))) q.0) (ap body_of_function at) in
       subst DeclaresFew (sym said) few
 
-  keeps_rules : (c : Features) → SectionsInOrder r → length r.bodies ≡ length r.functions → AllZip (ReadsBodyWith c (supported r)) (zip r.functions r.bodies) bodies → Rules (supported r)
+  keeps_rules : (c : Features) → InOrder r.order → length r.bodies ≡ length r.functions → AllZip (ReadsBodyWith c (supported r)) (zip r.functions r.bodies) bodies → Rules (supported r)
   keeps_rules c ordered as_many read = record {
     sections_in_order = ordered;
     types_refer = types_refer r bodies h.types;
@@ -225,8 +201,7 @@ module _ (config : Config) (c : Features) (with : IsReadWith config c) (bytes : 
       let m = a.1.reads in
       let s : wire.Module = m.sections in
       let only : IsSupported s = a.1.supported in
-      let p = plain config c with in
-      let read : AllZip (ReadsBodyWith c s) (zip s.functions s.bodies) m.bodies = subst (λ (f : Features). AllZip (ReadsBodyWith f s) (zip s.functions s.bodies) m.bodies) (sym p.are) m.read in
+      let read : AllZip (ReadsBodyWith c s) (zip s.functions s.bodies) m.bodies = subst (λ (f : Features). AllZip (ReadsBodyWith f s) (zip s.functions s.bodies) m.bodies) (sym with.features_are) m.read in
       let many : length m.bodies ≡ length s.functions = sym (zip_length (ReadsBodyWith c s) (zip s.functions s.bodies) m.bodies read) ∙ pairs_long s.functions s.bodies m.as_many_bodies in
       let fields = flat_map (map field_of) m.fields in
       let namings = flat_map (λ xs. xs) m.namings in
@@ -258,9 +233,6 @@ module _ (config : Config) (c : Features) (with : IsReadWith config c) (bytes : 
       let taken : HasTaken c s m = subst (λ (x : wire.Module). HasTaken c x m) only t.taken in
       let same : a.sections ≡ s = one_record_lem bytes a.sections t.sections a.framed t.framed ∙ only in
       let read : AllZip (ReadsBodyWith c s) (zip s.functions s.bodies) a.bodies = subst (λ (x : wire.Module). AllZip (ReadsBodyWith c x) (zip x.functions x.bodies) a.bodies) same a.read in
-      let p = plain config c with in
-      let one : a.bodies ≡ taken.bodies = bodies_once config s (zip s.functions s.bodies) a.bodies taken.bodies
-      (subst (λ (f : Features). AllZip (ReadsBodyWith f s) (zip s.functions s.bodies) a.bodies) p.alike read)
-      (subst (λ (f : Features). AllZip (ReadsBodyWith f s) (zip s.functions s.bodies) taken.bodies) p.alike taken.read) in
+      let one : a.bodies ≡ taken.bodies = bodies_once c s (zip s.functions s.bodies) a.bodies taken.bodies read taken.read in
       let there : NothingUndeclared (sections.module_of s taken.bodies) = subst NothingUndeclared (ap₂ sections.module_of same one) a.references in
       references_seen c t.sections m taken there h.0 h.1

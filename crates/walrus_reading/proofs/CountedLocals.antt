@@ -19,7 +19,7 @@ use Rattle.walrus_bodies.specs.declared.features.Features.{Features}
 use Rattle.walrus_model.specs.Reads.{ReadsBodyWith}
 use Rattle.walrus_model.specs.Sections.{Said}
 use Rattle.walrus_model.proofs.Standing.{some_inj}
-use Rattle.walrus_reading.proofs.Named.{through}
+use Rattle.walrus_contents.proofs.Named.{through}
 
 abbrev pub counts : List (ℕ × RawVal) → List ℕ
 counts ds = map (λ (d : ℕ × RawVal). d.0) ds

@@ -37,8 +37,8 @@ use Rattle.walrus_reading.proofs.CountedLocals.{counted_few}
 use Rattle.walrus_contents.proofs.Lookups.{mapped_some, got_map, got_zip, there, there_mapped, all_got, zip_long, zip_length, pairs_map, range_within}
 use Rattle.walrus_contents.proofs.TypeLists.{IsMember, type_is_member, group_fits, types_count as type_count, count, in_range, range_bounds}
 use Rattle.walrus_reading.proofs.TypesRefer.{member_refers, comp_below, params_below}
-use Rattle.walrus_reading.proofs.Named.{through, val_again, ops_again}
-use Rattle.walrus_reading.proofs.NamedFound.{val_found, names_found, locals_found}
+use Rattle.walrus_contents.proofs.Named.{through, val_again, ops_again}
+use Rattle.walrus_contents.proofs.NamedFound.{val_found, names_found, locals_found}
 use Rattle.walrus_model.proofs.Supported.{supported}
 use Rattle.walrus_model.specs.Supported.{IsOfFunction}
 use Rattle.walrus_model.proofs.Standing.{none_there, some_of, got_in, zip_left, some_inj}

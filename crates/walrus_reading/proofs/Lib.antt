@@ -6,8 +6,7 @@ pub mod DeclaredLocals
 pub mod Keeps
 pub mod Locating
 pub mod MovedRefs
-pub mod Named
-pub mod NamedFound
+pub mod NoHandlers
 pub mod Parsing
 pub mod References
 pub mod Refusals

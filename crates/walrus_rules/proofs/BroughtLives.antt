@@ -13,13 +13,13 @@ use Rattle.walrus_rules.specs.Chain.{BringsTo, Leaves}
 use Rattle.walrus_rules.specs.Headline.{Reads}
 use Rattle.walrus_rules.specs.Refused.{HasDead}
 use Rattle.walrus_model.proofs.Living.{none_dead}
-use Rattle.walrus_rules.proofs.ItemRules.{indices_hold}
+use Rattle.walrus_model.proofs.ItemRules.{indices_hold}
 use Rattle.walrus_rules.proofs.RulesSteps.{parsed_taken, collected_taken}
 use Rattle.walrus_rules.proofs.SegmentStep.{segment_taken, live_too}
 use Rattle.walrus_rules.proofs.StepLeaves.{Between, between}
 use Rattle.walrus_rules.proofs.StepParsed.{initialised, live_v}
 use Rattle.walrus_rules.proofs.StepRead.{read_is_plain}
-use Rattle.walrus_rules.proofs.TakingOver.{live_after}
+use Rattle.walrus_model.proofs.TakingOver.{live_after}
 
 no_some : {A X : Type 0} (x : X) → None ≡ Some x → A
 no_some x e = absurd (cc)

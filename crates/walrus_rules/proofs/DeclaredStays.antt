@@ -17,7 +17,7 @@ use Rattle.walrus_rules.specs.Chain.{ParsedAs}
 use Rattle.walrus_rules.proofs.RulesSteps.{parsed_taken}
 use Rattle.walrus_rules.proofs.StepParsed.{in_place, globals_stay, elements_stay, exports_same}
 use Rattle.walrus_rules.proofs.StepPlain.{IsPlain}
-use Rattle.walrus_rules.proofs.TypeRules.{body_came, body_was}
+use Rattle.walrus_model.proofs.TypeRules.{body_came, body_was}
 
 module _ (c : Config) (m v : Abstract) (p : ParsedAs c m v) (plain : IsPlain m) (holds : Holds m) where
   abbrev r : Renaming

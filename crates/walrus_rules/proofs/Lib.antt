@@ -64,11 +64,6 @@ pub mod SettleTypes
 pub mod ShapesEnd
 pub mod SettleLike
 pub mod SettleAll
-pub mod RulesBase
-pub mod TakingOver
-pub mod TypeRules
-pub mod ItemRules
-pub mod OffsetRules
 pub mod BehindAlone
 pub mod RulesSteps
 pub mod SegmentStep
@@ -110,5 +105,5 @@ pub mod FitsLimits
 pub mod DeclaredStays
 pub mod ReadLocal
 pub mod ReadSoFar
-pub mod OlderReads
 pub mod Runs
+pub mod ReadExample

@@ -33,7 +33,7 @@ use Rattle.walrus_model.proofs.Follow.{used_follow}
 use Rattle.walrus_model.proofs.Lists.{Contains-map}
 use Rattle.walrus_rules.proofs.MovedBody.{ops_are}
 use Rattle.walrus_rules.proofs.NoCause.{import_live}
-use Rattle.walrus_rules.proofs.OffsetRules.{rules_carried}
+use Rattle.walrus_model.proofs.OffsetRules.{rules_carried}
 use Rattle.walrus_model.proofs.PipelineSame.{import_stays}
 use Rattle.walrus_rules.proofs.ReadBodies.{IsRead, SaidIn}
 use Rattle.walrus_bodies.specs.Body.{context, BodyReads}
@@ -41,7 +41,7 @@ use Rattle.walrus_rules.proofs.RulesSteps.{parsed_taken}
 use Rattle.walrus_rules.proofs.StepPlain.{IsPlain}
 use Rattle.walrus_rules.proofs.StepParsed.{in_place, carried_parsed, tables_stay, memories_stay, tags_stay, globals_stay, types_stay, function_of_v}
 use Rattle.walrus_model.proofs.Steps.{given}
-use Rattle.walrus_rules.proofs.TypeRules.{body_came, body_was}
+use Rattle.walrus_model.proofs.TypeRules.{body_came, body_was}
 use Rattle.walrus_rules.proofs.UsedLocals.{unmap}
 use Rattle.walrus_rules.proofs.WellFormedWhole.{well_formed}
 use Rattle.walrus_rules.proofs.WellStays.{reads_in, function_has}

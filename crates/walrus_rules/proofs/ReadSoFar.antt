@@ -24,7 +24,7 @@ no_names true = refl
 no_names false = refl
 
 -- with neither producers nor namings
-said_alone : (s : wire.Module) (bodies : List Said) → module_of s bodies [] [] ≡ sections.module_of s bodies
+pub said_alone : (s : wire.Module) (bodies : List Said) → module_of s bodies [] [] ≡ sections.module_of s bodies
 said_alone s bodies = ap (λ (named : Subject → List Name). record (sections.module_of s bodies) { named = named }) (fun_ext (λ x. no_names (is_in_range (sections.module_of s bodies) x)))
 
 no_payloads : (name : Name) (s : wire.Module) → s.customs ≡ [] → payloads name s ≡ []

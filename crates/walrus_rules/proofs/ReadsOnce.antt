@@ -1,21 +1,15 @@
 -- No bytes read as two modules.
-use Rattle.std.proofs.Common.{◌≡◌, ℕ, ◌+◌, List, [], ◌∷◌, length, map, zip, sym, ap, ap₂, ◌∙◌, subst, refl}
-use Rattle.std.specs.Prelude.{Option, codes, flat_map}
+use Rattle.std.proofs.Common.{◌≡◌, List, [], ◌∷◌, map, zip, sym, ap, ap₂, ◌∙◌, subst, refl}
+use Rattle.std.specs.Prelude.{codes, flat_map}
 use Rattle.std.specs.List.{AllZip}
 use Rattle.wasm_frames.specs.Record as wire
 use Rattle.wasm_frames.proofs.Modules.{one_record_lem}
 use Rattle.wasm_payloads.specs.Names.{Named, Names}
 use Rattle.wasm_payloads.specs.Producers.{Field, Fields}
 use Rattle.wasm_payloads.proofs.Agreed.{names_once_lem, fields_once_lem}
-use Rattle.walrus_base.specs.Types.{ValType}
-use Rattle.walrus_types.specs.Operators.{Op}
-use Rattle.walrus_bodies.specs.Body.{Context}
-use Rattle.walrus_functions.specs.ReadFunction.{locals_from}
 use Rattle.walrus_model.specs.Abstract.{ProducerField}
-use Rattle.walrus_model.specs.Config.{Config}
-use Rattle.walrus_model.specs.Reads.{arity, context_with}
 use Rattle.walrus_model.specs.Sections.{Said}
-use Rattle.walrus_model.proofs.ReadOnce.{types_once, operators_once}
+use Rattle.walrus_model.proofs.ReadOnce.{bodies_once}
 use Rattle.walrus_rules.specs.Features.{features_of}
 use Rattle.walrus_rules.specs.Headline.{ReadsBody, has_function, payloads, field_of}
 use Rattle.walrus_rules.specs.OneRun.{ReadsOnce}
@@ -30,19 +24,12 @@ zip_once R once (a ∷ ks) [] ys p q = absurd p
 zip_once R once (a ∷ ks) (x ∷ xs) [] p q = absurd q
 zip_once R once (a ∷ ks) (x ∷ xs) (y ∷ ys) p q = ap₂ ◌∷◌ (once a x y p.0 q.0) (zip_once R once ks xs ys p.1 q.1)
 
-body_once : (c : Config) (s : wire.Module) (f : ℕ × wire.Body) (x y : Said) → ReadsBody c s f x → ReadsBody c s f y → x ≡ y
-body_once c s f (ts, xs) (us, ys) p q =
-    let k : Context = context_with (features_of c) s in
-    let locals : List (ValType ℕ) → ℕ → Option ℕ = λ l. locals_from 0 (arity s f.0 + length l) in
-    let types = types_once k (locals ts) (locals us) f.1.bytes ts us xs ys p q in
-    ap₂ (λ (l : List (ValType ℕ)) (o : List Op). (l, o)) types (operators_once k (locals ts) (locals us) f.1.bytes ts us xs ys p q (ap locals types))
-
 pub reads_once_lem : ReadsOnce
 reads_once_lem c bytes m n x y =
     let s : wire.Module = x.sections in
     let one : y.sections ≡ s = sym (one_record_lem bytes s y.sections x.framed y.framed) in
     let bodies : y.bodies ≡ x.bodies =
-    zip_once (ReadsBody c s) (body_once c s) (zip s.functions s.bodies) y.bodies x.bodies
+    bodies_once (features_of c) s (zip s.functions s.bodies) y.bodies x.bodies
     (subst (λ (z : wire.Module). AllZip (ReadsBody c z) (zip z.functions z.bodies) y.bodies) one y.read) x.read in
     let namings : y.namings ≡ x.namings =
     zip_once (Names (has_function s)) (names_once_lem (has_function s)) (payloads (codes "name") s) y.namings x.namings

@@ -21,7 +21,7 @@ use Rattle.walrus_rules.proofs.BehindAlone.{IsAlone, all_alone, none_yet}
 use Rattle.walrus_model.proofs.Lists.{Contains-none, Contains-uncons}
 use Rattle.walrus_model.proofs.PipelineCollected.{carried_collected}
 use Rattle.walrus_model.proofs.PipelineOps.{from_map}
-use Rattle.walrus_rules.proofs.RulesBase.{TakenOver}
+use Rattle.walrus_model.specs.RulesCarried.{TakenOver}
 use Rattle.walrus_rules.proofs.StepPlain.{IsPlain}
 use Rattle.walrus_rules.proofs.StepParsed.{in_place, Behind, carried_parsed, globals_stay, by_below, live_forth}
 

@@ -17,12 +17,10 @@ use Rattle.walrus_rules.specs.SoFar.{ReadsSoFar, HasImported, RefusesSoFar}
 use Rattle.walrus_rules.specs.Spelling.{IsSpelledAs}
 use Rattle.walrus_rules.specs.Text.{sections_of}
 use Rattle.walrus_rules.specs.WellMade.{IsWellMade}
-use Rattle.walrus_rules.specs.WellMadeLaws.{IsFine}
 use Rattle.walrus_rules.proofs.BroughtWell.{brought_well}
 use Rattle.walrus_rules.proofs.DeclaredStays.{parsed_declared, left_declared}
 use Rattle.walrus_rules.proofs.FitsTold.{ok_fits}
 use Rattle.walrus_rules.proofs.NoCause.{well_no_cause}
-pub use Rattle.walrus_rules.proofs.OlderReads.{so_far_of, older_of}
 pub use Rattle.walrus_rules.proofs.ReadSoFar.{reads_so_far, so_far_says}
 use Rattle.walrus_rules.proofs.ReadLocal.{parsed_local, parsed_elements, left_local}
 use Rattle.walrus_rules.proofs.StepParsed.{live_v}
@@ -47,10 +45,6 @@ brings_itself c m v w parsed collected nothing = record { module_parsed = v; mod
 
 pub well_sayable : (c : Config) (w : Abstract) → IsWellMade c w → IsSayable w
 well_sayable c w made = record { imports = made.imports; customs = made.customs }
-
--- what gc leaves of what is parsed, where nothing in it is undeclared, is well made, and nothing is in its way but its size
-pub left_fine : (c : Config) (bytes : List ℕ) (m v w : Abstract) → Reads c bytes m → Holds m → ParsedAs c m v → Collected v w → NothingUndeclared w → IsFine c w
-left_fine c bytes m v w reads holds parsed collected nothing = brought_well c bytes m w reads holds (brings_itself c m v w parsed collected nothing)
 
 -- the output that is the one spelling of what the steps bring a module to, all of whose sections fit
 pub comes_to : (c : Config) (bytes output : List ℕ) (m u n : Abstract) → Reads c bytes m → Holds m → BringsTo c m u → IsWrittenAs c u n → (spelled : IsSpelledAs n output) → All SectionFits (sections_of spelled.text) → ComesTo c bytes output

@@ -20,10 +20,10 @@ use Rattle.walrus_model.proofs.Lists.{Contains-head, Contains-tail, Contains-app
 use Rattle.walrus_model.proofs.PipelineCollected.{kept_carries}
 use Rattle.walrus_model.proofs.PipelineOps.{from_map}
 use Rattle.walrus_model.proofs.PipelineSame.{table_stays, memory_stays, tag_stays, global_stays, element_stays, data_stays, import_stays, exports_stay, start_stays, type_itself, function_itself}
-use Rattle.walrus_rules.proofs.RulesBase.{TakenOver}
+use Rattle.walrus_model.specs.RulesCarried.{TakenOver}
 use Rattle.walrus_rules.proofs.StepLeaves.{Between, SegmentIs, carried_between, old_elements}
 use Rattle.walrus_rules.proofs.Things.{body_at}
-use Rattle.walrus_rules.proofs.TypeRules.{Contains-flat_map}
+use Rattle.walrus_model.proofs.TypeRules.{Contains-flat_map}
 
 all_kept : {X : Type 0} (xs : ℕ → Option X) → KeepsOnly (λ i. IsSome (xs i)) xs xs
 all_kept xs = record { kept = λ i k. refl; left = λ i x at. (ap is_some at, at) }

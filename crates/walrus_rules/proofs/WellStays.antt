@@ -23,7 +23,7 @@ use Rattle.walrus_rules.specs.WellMade.{IsWellFormed, IsWellMade}
 use Rattle.walrus_rules.specs.WellMadeLaws.{CollectedWell, LeavesWell}
 use Rattle.walrus_model.proofs.Lists.{Contains-none, Contains-head, Contains-tail, Contains-append_1, Contains-append_2}
 use Rattle.walrus_rules.proofs.NoCause.{import_live, well_lives}
-use Rattle.walrus_rules.proofs.OffsetRules.{rules_carried}
+use Rattle.walrus_model.proofs.OffsetRules.{rules_carried}
 use Rattle.walrus_model.proofs.PipelineCollected.{left_is_kept}
 use Rattle.walrus_rules.proofs.RulesSteps.{collected_taken, kept_named}
 use Rattle.walrus_rules.proofs.SegmentStep.{segment_taken, the_segment}

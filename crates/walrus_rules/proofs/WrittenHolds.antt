@@ -27,14 +27,14 @@ use Rattle.walrus_rules.specs.WellMade.{IsCounted, IsWellMade}
 use Rattle.walrus_rules.specs.WellMadeLaws.{WrittenHolds}
 use Rattle.walrus_rules.specs.Once.{Premises}
 use Rattle.walrus_rules.proofs.Counting.{has_room}
-use Rattle.walrus_rules.proofs.OffsetRules.{rules_carried}
+use Rattle.walrus_model.proofs.OffsetRules.{rules_carried}
 use Rattle.walrus_rules.proofs.NestedBack.{nested_renamed, allowed_renamed}
-use Rattle.walrus_rules.proofs.RulesBase.{TakenOver}
+use Rattle.walrus_model.specs.RulesCarried.{TakenOver}
 use Rattle.walrus_rules.proofs.Shaped.{Side}
 use Rattle.walrus_rules.proofs.StepLeaves.{declares_none}
 use Rattle.walrus_rules.proofs.TextShaped.{side}
 use Rattle.walrus_rules.proofs.Things.{Stands, stands, body_is}
-use Rattle.walrus_rules.proofs.TypeRules.{body_came, body_was}
+use Rattle.walrus_model.proofs.TypeRules.{body_came, body_was}
 use Rattle.walrus_rules.proofs.UsedLocals.{stands_for, no_parameter}
 
 body_same : (a b : Body) → LocalFunction a ≡ LocalFunction b → a ≡ b

@@ -7,6 +7,10 @@ use Rattle.wasm_frames.specs.Frames.{header}
 use Rattle.wasm_operators.specs.declared.operator.RawArg.TheVariants as args
 use Rattle.wasm_operators.specs.Operators as wire
 use Rattle.walrus_model.specs.Abstract.{Abstract, Body, Table}
+use Rattle.walrus_model.specs.Config.{Config}
+use Rattle.walrus_model.specs.Examples.{two_functions}
+use Rattle.walrus_model.specs.Examples as small
+use Rattle.walrus_rules.specs.SoFar.{ReadsSoFar}
 use Rattle.walrus_rules.specs.Text.{BodyText, NameText, Text, said_by}
 use Rattle.walrus_rules.specs.Spelling.{BodyStands, UsesAll, IsChosen, IsCount, MapStands, IsSpelling, IsSpelledAs, SpelledOnce}
 
@@ -105,3 +109,20 @@ pub record AreRefused : Type 0 where
   pub named_twice : MapStands ((0, codes "a") ∷ (0, codes "b") ∷ []) → ⊥
   pub turned_names : MapStands ((1, codes "a") ∷ (0, codes "b") ∷ []) → ⊥
   pub padded_size : SpelledOnce → IsSpelledAs one_function padded_bytes → ⊥
+
+-- ---- the row with two functions, of which gc drops the first (`two_functions` of `walrus_model`, and what comes out of it)
+
+-- 35 bytes: two empty functions of the type with no parameters and no results; the export "f" names function 1
+abbrev pub two_functions_bytes : List ℕ
+two_functions_bytes =
+    0x00 ∷ 0x61 ∷ 0x73 ∷ 0x6D ∷ 0x01 ∷ 0x00 ∷ 0x00 ∷ 0x00
+    ∷ 0x01 ∷ 0x04 ∷ 0x01 ∷ 0x60 ∷ 0x00 ∷ 0x00
+    ∷ 0x03 ∷ 0x03 ∷ 0x02 ∷ 0x00 ∷ 0x00
+    ∷ 0x07 ∷ 0x05 ∷ 0x01 ∷ 0x01 ∷ 0x66 ∷ 0x00 ∷ 0x01
+    ∷ 0x0A ∷ 0x07 ∷ 0x02 ∷ 0x02 ∷ 0x00 ∷ 0x0B ∷ 0x02 ∷ 0x00 ∷ 0x0B ∷ []
+
+-- these bytes, and those of the worked row, read as the two modules, under any configuration; and the second is spelled so
+pub record AreRead : Type 0 where
+  pub reads : (c : Config) → ReadsSoFar c two_functions_bytes two_functions
+  pub written_reads : (c : Config) → ReadsSoFar c one_function_bytes small.one_function
+  pub spelled : IsSpelledAs small.one_function one_function_bytes

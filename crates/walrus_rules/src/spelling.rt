@@ -3,7 +3,7 @@
 ghost use Rattle.std.specs.Prelude.{ℕ, List, ◌≡◌};
 ghost use Rattle.walrus_model.specs.Abstract.{Abstract};
 ghost use Rattle.walrus_rules.specs.Alternatives.{HasAlternatives};
-ghost use Rattle.walrus_rules.specs.Examples.{AreRefused, one_function, one_function_bytes};
+ghost use Rattle.walrus_rules.specs.Examples.{AreRead, AreRefused, one_function, one_function_bytes};
 ghost use Rattle.walrus_rules.specs.Needs.{IsWrittenOnce};
 ghost use Rattle.walrus_rules.specs.OneRun.{ReadFits, ReadsOnce, SpelledFits};
 ghost use Rattle.walrus_rules.specs.SpelledLaws.{SpelledReads, WrittenBodies, WrittenReads};
@@ -11,8 +11,10 @@ ghost use Rattle.walrus_rules.specs.Spelling.{IsSpelledAs, SpelledOnce};
 
 /// A module of one function is spelled and written so. Other bytes that read as the same module, or as one that differs
 /// in what nothing needs, are no spelling: a number in more bytes than it takes, a local that nothing uses, an empty group
-/// of types, a section of debug information, and others.
+/// of types, a section of debug information, and others. The bytes of a module of two functions, and of what comes out of
+/// it, read as these modules, and the latter is spelled so.
 pub fn worked_row()
+    ensures read { AreRead }
     ensures one { IsSpelledAs one_function one_function_bytes }
     ensures refused { AreRefused }
     ensures written { IsWrittenOnce }

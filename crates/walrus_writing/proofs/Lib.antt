@@ -7,9 +7,7 @@ pub mod Entries
 pub mod InOrder
 pub mod Indexed
 pub mod Leads
-pub mod Named
 pub mod NamedAll
-pub mod NamedFound
 pub mod NamedTypes
 pub mod NoCauseAll
 pub mod NoCauseBodies

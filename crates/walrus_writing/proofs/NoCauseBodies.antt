@@ -28,25 +28,8 @@ use Rattle.walrus_writing.specs.Numbered.{planned}
 use Rattle.walrus_writing.specs.Parts.{Held, source, HasBytes, parts_held, parts_exports}
 use Rattle.walrus_writing.specs.Records.{Records}
 use Rattle.walrus_writing.proofs.Entries.{order_placed}
+use Rattle.walrus_writing.proofs.Leads.{found_at}
 use Rattle.walrus_writing.proofs.RefusesUnspelled.{has_local, local_seen}
-
--- ---- what is found at a place stands there
-
-found_next : (x : ℕ) (xs : List ℕ) (t : ℕ) (o : Option ℕ) → ((k : ℕ) → o ≡ Some k → slice_get xs k ≡ Some t) → (k : ℕ) → option_map suc o ≡ Some k → slice_get (x ∷ xs) k ≡ Some t
-found_next x xs t None h k e = absurd (cc)
-found_next x xs t (Some j) h k e = let p : suc j ≡ k = cc in subst (λ n. slice_get (x ∷ xs) n ≡ Some t) p (h j refl)
-
-found_here : (x : ℕ) (xs : List ℕ) (t : ℕ) → ((nat_eq x t ≡ true) × (x ≡ t)) ⊎ ((nat_eq x t ≡ false) × (x ≢ t)) → ((k : ℕ) → place_in xs t ≡ Some k → slice_get xs k ≡ Some t) → (k : ℕ) → place_in (x ∷ xs) t ≡ Some k → slice_get (x ∷ xs) k ≡ Some t
-found_here x xs t (inl q) h k e =
-    let first : Some 0 ≡ Some k = sym (ap (λ (b : Bool). if b then Some 0 else option_map suc (place_in xs t)) q.0) ∙ e in
-    let p : 0 ≡ k = cc in
-    subst (λ n. slice_get (x ∷ xs) n ≡ Some t) p (ap (λ (y : ℕ). Some y) q.1)
-found_here x xs t (inr q) h k e =
-    found_next x xs t (place_in xs t) h k (sym (ap (λ (b : Bool). if b then Some 0 else option_map suc (place_in xs t)) q.0) ∙ e)
-
-pub found_at : (xs : List ℕ) (t k : ℕ) → place_in xs t ≡ Some k → slice_get xs k ≡ Some t
-found_at [] t k e = absurd (cc)
-found_at (x ∷ xs) t k e = found_here x xs t (eqb_tells x t) (found_at xs t) k e
 
 -- ---- what a function's type takes are its parameters
 

@@ -22,7 +22,7 @@ use Rattle.walrus_types.specs.Operators.{locals_of}
 use Rattle.walrus_functions.proofs.LawOrder.{Sorted, sorted_of}
 use Rattle.walrus_rules.specs.Spelling.{BodyStands}
 use Rattle.walrus_contents.proofs.Lookups.{heads}
-use Rattle.walrus_writing.proofs.Named.{through}
+use Rattle.walrus_contents.proofs.Named.{through}
 use Rattle.walrus_model.proofs.Standing.{some_inj}
 
 -- ---- lists

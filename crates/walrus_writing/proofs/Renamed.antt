@@ -6,7 +6,7 @@ use Rattle.walrus_base.specs.Types.{HeapType, OfHeap, Concrete, Exact, ValType, 
 use Rattle.walrus_types.specs.Operators.{Space, Types, Memories, BlockType, NoResult, OneResult, OfType, Arg, Index, Label, Local, Number, Count, Byte, S32, S64, Bits32, Bits64, Value, Heap, Block, Access, Op}
 use Rattle.walrus_code.specs.Names.{Lookup, named_heap, named_val, named_block, named_arg, named_args, named_op, named_ops}
 use Rattle.walrus_model.specs.Renaming.{Renaming, renamed_block, renamed_arg, renamed_op, renamed_ops}
-use Rattle.walrus_writing.proofs.Named.{through}
+use Rattle.walrus_contents.proofs.Named.{through}
 use Rattle.walrus_model.proofs.Standing.{some_inj}
 
 module _ (f : Lookup) (r : Renaming) (H : (space : Space) (p j : ℕ) → f space p ≡ Some j → j ≡ r.numbers space p) where

@@ -27,7 +27,7 @@ use Rattle.walrus_writing.proofs.TypesEntered.{params_typed}
 use Rattle.walrus_writing.proofs.BodyTypes.{types_in, typed_by, further_typed, as_many_further}
 use Rattle.walrus_writing.proofs.Leads.{found_at}
 use Rattle.walrus_contents.proofs.Lookups.{then_some, mapped_some, got_map, mapped_append, as_long, where_placed, place_range, place_past, Stands, there, range_length}
-use Rattle.walrus_writing.proofs.NamedFound.{locals_found, names_found}
+use Rattle.walrus_contents.proofs.NamedFound.{locals_found, names_found}
 use Rattle.walrus_writing.proofs.Renamed.{val_renamed, ops_renamed}
 use Rattle.walrus_writing.proofs.WrittenAs.{texts_in, local_in_order, laid_of, renaming_of}
 use Rattle.walrus_model.proofs.Lists.{Contains-map}

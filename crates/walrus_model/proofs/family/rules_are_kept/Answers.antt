@@ -1,12 +1,9 @@
 use Rattle.std.specs.Prelude.{◌<◌}
 use Rattle.walrus_types.specs.Operators.{Types, Globals}
 use Rattle.walrus_model.specs.Order.{ByImport}
-use Rattle.walrus_model.proofs.RulesSteps.{parsed_keeps_rules, collected_keeps_rules}
+use Rattle.walrus_model.proofs.RulesSteps.{collected_keeps_rules}
 use Rattle.walrus_model.proofs.RulesTaken.{whole_keeps_rules}
 use Rattle.walrus_model.proofs.family.rules_are_kept.Goals as goal
-
-pub returns-clause-parsed : goal.returns-clause-parsed
-returns-clause-parsed g = λ m v h p s l. parsed_keeps_rules m v h p s l
 
 pub returns-clause-collected : goal.returns-clause-collected
 returns-clause-collected g = λ v w h c live made. collected_keeps_rules v w h c live made

@@ -1,3 +1,4 @@
+use Rattle.walrus_rules.proofs.ReadExample.{two_functions_read, one_function_read, left_spelled}
 use Rattle.walrus_rules.proofs.Worked.{one_spelled, are_refused}
 use Rattle.walrus_rules.proofs.WorkedWritten.{is_written_once}
 use Rattle.walrus_rules.proofs.spelling.worked_row.Goals as goal
@@ -10,3 +11,6 @@ returns-clause-refused c = are_refused
 
 pub returns-clause-written : goal.returns-clause-written
 returns-clause-written c = is_written_once
+
+pub returns-clause-read : goal.returns-clause-read
+returns-clause-read c = record { reads = two_functions_read; written_reads = one_function_read; spelled = left_spelled }

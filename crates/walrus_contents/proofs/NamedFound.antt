@@ -8,7 +8,7 @@ use Rattle.walrus_types.specs.Operators.{Item, Types, Memories, BlockType, NoRes
 use Rattle.walrus_code.specs.Names.{Lookup, named_heap, named_val, named_block, named_arg, named_args, named_op, named_ops}
 use Rattle.walrus_bodies.specs.Blocks.{block_holds, args_hold, blocks_hold}
 use Rattle.walrus_model.proofs.Lists.{Contains-uncons, Contains-none}
-use Rattle.walrus_reading.proofs.Named.{through}
+use Rattle.walrus_contents.proofs.Named.{through}
 use Rattle.walrus_model.proofs.Standing.{some_inj}
 
 pub is_some_by : {A : Type 0} (o : Option A) (x : A) → o ≡ Some x → IsSome o

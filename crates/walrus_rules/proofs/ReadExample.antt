@@ -1,6 +1,6 @@
--- What the bytes of the two worked modules read as.
-use Rattle.std.proofs.Common.{◌≡◌, true, false, drop, ℕ, zero, suc, ◌+◌, ◌<◌, List, [], ◌∷◌, length, refl, sym, ap, ◌∙◌, subst, arith, append-nil, ⊎_elim}
-use Rattle.std.specs.Prelude.{codes, All, AllPairs, slice_get, Option, Some, Contains}
+-- What the bytes of the two worked modules read as, under any configuration.
+use Rattle.std.proofs.Common.{◌≡◌, true, drop, ℕ, zero, suc, ◌+◌, ◌<◌, List, [], ◌∷◌, length, refl, sym, ap, ◌∙◌, subst, arith, append-nil, ⊎_elim}
+use Rattle.std.specs.Prelude.{All, AllPairs, slice_get, Option, Some, Contains}
 use Rattle.wasm_forms.specs.Number.{IsU32, number_at, leb_at}
 use Rattle.wasm_forms.specs.Grammar.{Form, Is, at, Vector, U32, row_at, block_at}
 use Rattle.std.specs.Str.{is_utf8}
@@ -21,7 +21,15 @@ use Rattle.wasm_operators.specs.Table.{kinds_of}
 use Rattle.walrus_bodies.specs.Body.{declarations, BodyReads}
 use Rattle.walrus_functions.specs.ReadFunction.{locals_from}
 use Rattle.wasm_frames.specs.Record as frames
-use Rattle.walrus_model.specs.Reads.{Reads, context_of}
+use Rattle.walrus_model.specs.Config.{Config}
+use Rattle.walrus_model.specs.Reads.{context_with}
+use Rattle.walrus_rules.specs.Features.{features_of}
+use Rattle.walrus_rules.specs.SoFar.{ReadsSoFar}
+use Rattle.walrus_rules.proofs.ReadSoFar.{reads_so_far, said_alone}
+use Rattle.walrus_rules.specs.Examples as worked
+use Rattle.walrus_rules.specs.Examples.{two_functions_bytes, one_function_bytes}
+use Rattle.walrus_rules.specs.Spelling.{IsSpelledAs}
+use Rattle.walrus_rules.proofs.Worked.{one_spelled}
 use Rattle.walrus_model.specs.Sections.{body_with}
 use Rattle.walrus_model.specs.Supported.{IsOfFunction}
 use Rattle.walrus_model.proofs.Supported.{are_supported}
@@ -30,12 +38,7 @@ use Rattle.walrus_model.specs.Declared.{ref_func, NothingUndeclared}
 use Rattle.walrus_model.specs.Names.{body_of}
 use Rattle.walrus_model.proofs.Lists.{Contains-uncons, Contains-none}
 use Rattle.walrus_types.specs.Operators.{Op}
-use Rattle.wasm_forms.specs.Spelling.{number_bytes, vector_bytes, groups}
-use Rattle.wasm_entries.specs.TypeSpelling.{group_bytes}
-use Rattle.wasm_entries.specs.Spelling.{export_bytes}
-use Rattle.walrus_model.specs.BodyText.{BodyText, DeclaresOnce, sized_text}
-use Rattle.walrus_model.specs.Placed.{Section as PlacedSection, is_custom, is_called, is_dylink_section, is_other_custom, IsListOf, IsCanonical, of_types, of_functions, of_exports, of_bodies, Placed}
-use Rattle.walrus_model.specs.Examples.{two_functions_bytes, one_function_bytes, no_values, export_f, empty_body, just_end, two_functions_sections, one_function_sections, two_functions, one_function, plain}
+use Rattle.walrus_model.specs.Examples.{no_values, export_f, empty_body, just_end, two_functions_sections, one_function_sections, two_functions, one_function}
 
 -- bytes that are read to their end are a text of the form
 reads_whole : {A : Type 0} (g : Form A) (bytes : List ℕ) (a : A) → at g bytes ≡ Some (a, []) → Is g bytes a
@@ -87,8 +90,8 @@ no_declarations : Is declarations (0x00 ∷ []) []
 unfolding declarations number_at leb_at row_at
 no_declarations = reads_whole declarations (0x00 ∷ []) [] refl
 
-body_read : (r : frames.Module) (locals : ℕ → Option ℕ) → BodyReads (context_of plain r) locals (0x00 ∷ 0x0B ∷ []) [] just_end
-body_read r locals = record {
+body_read : (c : Config) (r : frames.Module) (locals : ℕ → Option ℕ) → BodyReads (context_with (features_of c) r) locals (0x00 ∷ 0x0B ∷ []) [] just_end
+body_read c r locals = record {
   front = 0x00 ∷ [];
   back = 0x0B ∷ [];
   parts = refl;
@@ -254,84 +257,16 @@ two_declare f u = ⊎_elim (λ body. just_ends body.1 f (two_end body.0 body.1 b
 one_declares : NothingUndeclared one_function
 one_declares f u = ⊎_elim (λ body. just_ends body.1 f (one_ends body.0 body.1 body.3) body.4) (λ global. let is = global.4 in absurd (cc)) u.named
 
-pub two_functions_read : Reads plain two_functions_bytes two_functions
-two_functions_read = record {
-  sections = two_functions_sections;
-  framed = two_frames;
-  supported = are_supported two_functions_sections (of_function 1);
-  in_order = in_order;
-  as_many_bodies = refl;
-  bodies = ([], just_end) ∷ ([], just_end) ∷ [];
-  read = (body_read two_functions_sections (locals_from 0 0), (body_read two_functions_sections (locals_from 0 0), tt));
-  is = refl;
-  references = two_declare;
-}
+pub two_functions_read : (c : Config) → ReadsSoFar c two_functions_bytes two_functions
+two_functions_read c =
+    reads_so_far c two_functions_bytes two_functions_sections (([], just_end) ∷ ([], just_end) ∷ []) two_frames (are_supported two_functions_sections (of_function 1)) in_order refl
+    (body_read c two_functions_sections (locals_from 0 0), (body_read c two_functions_sections (locals_from 0 0), tt)) two_declare
 
-pub one_function_read : Reads plain one_function_bytes one_function
-one_function_read = record {
-  sections = one_function_sections;
-  framed = one_frames;
-  supported = are_supported one_function_sections (of_function 0);
-  in_order = in_order;
-  as_many_bodies = refl;
-  bodies = ([], just_end) ∷ [];
-  read = (body_read one_function_sections (locals_from 0 0), tt);
-  is = refl;
-  references = one_declares;
-}
+pub one_function_read : (c : Config) → ReadsSoFar c one_function_bytes one_function
+one_function_read c =
+    reads_so_far c one_function_bytes one_function_sections (([], just_end) ∷ []) one_frames (are_supported one_function_sections (of_function 0)) in_order refl
+    (body_read c one_function_sections (locals_from 0 0), tt) one_declares
 
--- ---- what is written
-
-a_list : {A : Type 0} (spell : A → List ℕ) (x : A) (xs : List A) (content : List ℕ) → content ≡ vector_bytes spell (x ∷ xs) → IsListOf spell content
-a_list spell x xs content is = (x ∷ xs, (λ e. cc), is)
-
-all_four : {A : Type 0} (P : A → Type 0) (a b c d : A) → P a → P b → P c → P d → All P (a ∷ b ∷ c ∷ d ∷ [])
-all_four P a b c d p q r s = All-cons P a (b ∷ c ∷ d ∷ []) p (All-cons P b (c ∷ d ∷ []) q (All-cons P c (d ∷ []) r (All-cons P d [] s (All-nil P))))
-
-abbrev type_part : PlacedSection
-type_part = record { id = 1; name = []; content = vector_bytes group_bytes (one_group ∷ []) }
-
-abbrev function_part : PlacedSection
-function_part = record { id = 3; name = []; content = vector_bytes number_bytes (0 ∷ []) }
-
-abbrev export_part : PlacedSection
-export_part = record { id = 7; name = []; content = vector_bytes export_bytes (export_f 0 ∷ []) }
-
-abbrev end_text : BodyText
-end_text = record { declarations = []; operators = the_end ∷ [] }
-
-abbrev code_part : PlacedSection
-code_part = record { id = 10; name = []; content = vector_bytes sized_text (end_text ∷ []) }
-
-end_declares_once : All DeclaresOnce (end_text ∷ [])
-end_declares_once = All-cons DeclaresOnce end_text [] ((λ i j d less at. absurd (omega arith)), All-nil _) (All-nil DeclaresOnce)
-
-abbrev placed_sections : List PlacedSection
-placed_sections = type_part ∷ function_part ∷ export_part ∷ code_part ∷ []
-
-pub one_function_placed : Placed one_function_bytes
-unfolding number_bytes groups
-one_function_placed = record {
-  sections = placed_sections;
-  stand = refl;
-  in_place = record {
-    dylinks = [];
-    standard = placed_sections;
-    names = [];
-    producers = [];
-    others = [];
-    is = refl;
-    dylinks_are = All-nil (λ s. is_dylink_section s ≡ true);
-    standard_are = all_four (λ s. is_custom s ≡ false) type_part function_part export_part code_part refl refl refl refl;
-    names_are = All-nil (λ s. is_called (codes "name") s ≡ true);
-    one_name = omega arith;
-    producers_are = All-nil (λ s. is_called (codes "producers") s ≡ true);
-    one_producers = omega arith;
-    others_are = All-nil (λ s. is_other_custom s ≡ true);
-  };
-  canonical = all_four IsCanonical type_part function_part export_part code_part
-      (of_types type_part.content (a_list group_bytes one_group [] type_part.content refl))
-      (of_functions function_part.content (a_list number_bytes 0 [] function_part.content refl))
-      (of_exports export_part.content (a_list export_bytes (export_f 0) [] export_part.content refl))
-      (of_bodies code_part.content (end_text ∷ [], (λ e. cc), end_declares_once, refl));
-}
+-- what the text of the worked row says is this module
+pub left_spelled : IsSpelledAs one_function one_function_bytes
+left_spelled = let same : worked.one_function ≡ one_function = said_alone one_function_sections (([], just_end) ∷ []) in subst (λ n. IsSpelledAs n one_function_bytes) same one_spelled
