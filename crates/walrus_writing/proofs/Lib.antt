@@ -33,3 +33,5 @@ pub mod TypeSizes
 pub mod TypesEntered
 pub mod WrittenAs
 pub mod WrittenLemmas
+pub mod BySize
+pub mod Planning

@@ -24,7 +24,10 @@ use Rattle.walrus_items.specs.Functions.{local_functions}
 use Rattle.walrus_model.proofs.Lists.{map-map}
 use Rattle.walrus_model.specs.Plan.{AreNumbered}
 use Rattle.walrus_writing.specs.Refusals.{RefusesCounts, RefusesTypes, RefusesBodies, RefusesItems}
+use Rattle.walrus_types.specs.Operators.{Types, Functions}
 use Rattle.walrus_writing.specs.Numbered.{planned}
+use Rattle.walrus_writing.specs.Places.{places}
+use Rattle.walrus_writing.specs.declared.plan.Plan.{Plan}
 use Rattle.walrus_writing.specs.Parts.{Held, type_index, export_with_index, HasBytes}
 use Rattle.walrus_writing.specs.Sizes.{IsOrder}
 use Rattle.walrus_writing.specs.Records.{Records, Spells, sections_of}
@@ -56,16 +59,17 @@ next_has {B} {C} done g left after e all is step h none =
 module _ (h : Held) (features : Features) (exports : List ExportValue) where
   -- ---- too many items
 
-  pub counts_refused : (X : Type 0) (types : List (Id TypeKey)) (ids : List (Id FunctionKey)) (e : Error) → map place types ≡ map (λ e. e.0) (entries h.types) → IsOrder h.funcs (map place ids)
-      → RefusesCounts (length types) (length ids) e → RefusesItems {X = X} h features exports (Err e)
-  counts_refused X types ids (Parts.Memory m) are ordered r = tt
-  counts_refused X types ids Parts.TooLarge are ordered (inl r) =
-      let as_many : length types ≡ length (entries h.types) = sym (length-map types place) ∙ ap (λ (l : List ℕ). length l) are ∙ length-map (entries h.types) (λ e. e.0) in
+  pub counts_refused : (X : Type 0) (plan : Plan) (e : Error) → map place plan.types.items ≡ map (λ e. e.0) (entries h.types) → IsOrder h.funcs (map place plan.functions.items)
+      → RefusesCounts (places plan) e → RefusesItems {X = X} h features exports (Err e)
+  counts_refused X plan (Parts.Memory m) are ordered r = tt
+  counts_refused X plan Parts.TooLarge are ordered (Types, r) =
+      let as_many : length (map place plan.types.items) ≡ length (entries h.types) = ap (λ (l : List ℕ). length l) are ∙ length-map (entries h.types) (λ e. e.0) in
       inl (omega (arith, r, as_many))
-  counts_refused X types ids Parts.TooLarge are ordered (inr r) =
-      let as_many : length ids ≡ length (local_functions (entries h.funcs)) = sym (length-map ids place) ∙ order_length h.funcs (map place ids) ordered in
+  counts_refused X plan Parts.TooLarge are ordered (Functions, r) =
+      let as_many : length (map place plan.functions.items) ≡ length (local_functions (entries h.funcs)) = order_length h.funcs (map place plan.functions.items) ordered in
       inr (inl (omega (arith, r, as_many)))
-  counts_refused X types ids _ are ordered r = absurd r
+  counts_refused X plan Parts.TooLarge are ordered (_, r) = absurd (omega (arith, r))
+  counts_refused X plan _ are ordered r = absurd r
 
   -- ---- types and bodies
 

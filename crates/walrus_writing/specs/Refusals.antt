@@ -1,6 +1,7 @@
 -- Why items that name nothing dead, and that all have an index, can't be written.
 use Rattle.std.specs.Prelude.{ℕ, List, Option, Some, length, ◌≡◌, ◌≤◌, ◌^◌, ◌⊎◌, ⊤, Result, Ok, Err}
 use Rattle.walrus_base.specs.Arena.{entries, items}
+use Rattle.walrus_types.specs.Operators.{Space}
 use Rattle.walrus_code.specs.Names.{Lookup}
 use Rattle.walrus_code.specs.declared.function.LocalFunction.{LocalFunction}
 use Rattle.walrus_bodies.specs.declared.features.Features.{Features}
@@ -9,6 +10,7 @@ use Rattle.walrus_types.specs.TypeDef.{TypeDef}
 use Rattle.walrus_items.specs.Exports.{ExportValue}
 use Rattle.walrus_items.specs.Functions.{local_functions}
 use Rattle.walrus_groups.specs.Indexed.{HasExact}
+use Rattle.walrus_model.specs.Plan.{Plan}
 use Rattle.walrus_writing.specs.Parts.{Held, local_in, source}
 use Rattle.walrus_writing.specs.Records.{DoesNotFit}
 use Rattle.walrus_parts.specs.declared.error.Error.{Error}
@@ -42,11 +44,15 @@ RefusesCount count (Memory e) = ⊤
 RefusesCount count TooLarge = 2 ^ 32 ≤ count
 RefusesCount count _ = ⊥
 
--- types and functions are numbered
-abbrev pub RefusesCounts : ℕ → ℕ → Error → Type 0
-RefusesCounts types functions (Memory e) = ⊤
-RefusesCounts types functions TooLarge = (2 ^ 32 ≤ types) ⊎ (2 ^ 32 ≤ functions)
-RefusesCounts types functions _ = ⊥
+-- a space has too many items
+abbrev pub HasTooMany : Plan → Type 0
+HasTooMany plan = (space : Space) × (2 ^ 32 ≤ length (plan space))
+
+-- the items of all spaces are numbered
+abbrev pub RefusesCounts : Plan → Error → Type 0
+RefusesCounts plan (Memory e) = ⊤
+RefusesCounts plan TooLarge = HasTooMany plan
+RefusesCounts plan _ = ⊥
 
 -- types are spelled: an exact heap type stands in one
 abbrev pub RefusesTypes : List (Option TypeDef) → Error → Type 0

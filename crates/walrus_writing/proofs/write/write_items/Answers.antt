@@ -12,27 +12,23 @@ use Rattle.walrus_items.specs.Functions.{functions}
 use Rattle.walrus_model.proofs.Lists.{map-map}
 use Rattle.walrus_writing.specs.Parts.{parts_exports, parts_held, type_index, HasBytes, unplaced}
 use Rattle.walrus_writing.specs.Records.{sections_with}
-use Rattle.walrus_writing.proofs.Differ.{places_differ, order_differs}
 use Rattle.walrus_writing.proofs.Indexed.{ids_indexed, ids_typed, no_type_lacks, exports_indexed}
-use Rattle.walrus_writing.proofs.Numbering.{numbered_so}
+use Rattle.walrus_writing.proofs.Planning.{numbered_so}
 use Rattle.walrus_writing.proofs.Refusing.{counts_refused, types_refused, bodies_refused, records_of, records_written, records_refused}
 use Rattle.walrus_writing.proofs.write.write_items.Goals as goal
 
 pub indices-requires : goal.indices-requires
-indices-requires c = record {
-  types = subst (λ ps. IsDistinct nat_eq ps) (sym c.in_ok-plan.ensures.types) (places_differ (type_slots c.args.parts.types.now));
-  functions = order_differs (functions c.args.parts.funcs.now) _ c.in_ok-plan.ensures.functions;
-}
+indices-requires c = record { distinct = λ s. ((c.in_ok-plan.ensures.plan c.requires.local).holds s).differ }
 
 pub returns-in_err-indices-clause-refused : goal.returns-in_err-indices-clause-refused
 returns-in_err-indices-clause-refused c =
     let p = err_from_is_err_and c.from_residual-in_err-indices.result c.from_residual-in_err-indices.ensures.1 in
-    rw (p.1, p.2) (counts_refused (parts_held c.args.parts) c.args.features.now (parts_exports c.args.parts) (Vec ℕ) c.in_ok-plan.plan.types.items c.in_ok-plan.plan.functions.items _ c.in_ok-plan.ensures.types c.in_ok-plan.ensures.functions c.in_err-indices.ensures.fails)
+    rw (p.1, p.2) (counts_refused (parts_held c.args.parts) c.args.features.now (parts_exports c.args.parts) (Vec ℕ) c.in_ok-plan.plan _ c.in_ok-plan.ensures.types c.in_ok-plan.ensures.functions c.in_err-indices.ensures.fails)
 
 pub raw_types-requires : goal.raw_types-requires
 raw_types-requires c =
     let names = index_of c.in_ok-indices.indices in
-    let numbered = numbered_so _ _ _ _ c.in_ok-plan.ensures.types c.in_ok-indices.ensures.value in
+    let numbered = numbered_so _ c.in_ok-plan.plan _ c.in_ok-plan.ensures.types c.in_ok-indices.ensures.value in
     record {
       numbered = λ t. numbered Types t;
       indexed = no_type_lacks c.args.parts c.requires.there c.requires.local names _ c.in_ok-plan.ensures.functions numbered;
@@ -46,19 +42,19 @@ returns-in_err-types-clause-refused c =
 pub raw_functions-requires : goal.raw_functions-requires
 raw_functions-requires c =
     let names = index_of c.in_ok-indices.indices in
-    let numbered = numbered_so _ _ _ _ c.in_ok-plan.ensures.types c.in_ok-indices.ensures.value in
+    let numbered = numbered_so _ c.in_ok-plan.plan _ c.in_ok-plan.ensures.types c.in_ok-indices.ensures.value in
     record { indexed = ids_typed c.args.parts names c.in_ok-plan.plan.functions.items _ c.requires.there c.requires.local c.in_ok-plan.ensures.functions numbered c.as_slice-order.ensures.value }
 
 pub raw_exports-requires : goal.raw_exports-requires
 raw_exports-requires c =
     let names = index_of c.in_ok-indices.indices in
-    let numbered = numbered_so _ _ _ _ c.in_ok-plan.ensures.types c.in_ok-indices.ensures.value in
+    let numbered = numbered_so _ c.in_ok-plan.plan _ c.in_ok-plan.ensures.types c.in_ok-indices.ensures.value in
     record { indexed = exports_indexed c.args.parts c.requires.there c.requires.local names _ c.in_ok-plan.ensures.functions numbered }
 
 pub body_bytes-requires : goal.body_bytes-requires
 body_bytes-requires c =
     let names = index_of c.in_ok-indices.indices in
-    let numbered = numbered_so _ _ _ _ c.in_ok-plan.ensures.types c.in_ok-indices.ensures.value in
+    let numbered = numbered_so _ c.in_ok-plan.plan _ c.in_ok-plan.ensures.types c.in_ok-indices.ensures.value in
     record { indexed = ids_indexed c.args.parts names c.in_ok-plan.plan.functions.items _ c.requires.there c.requires.local c.in_ok-plan.ensures.functions numbered c.as_slice-order.ensures.value c.args.features.now }
 
 pub returns-in_err-bodies-clause-refused : goal.returns-in_err-bodies-clause-refused
@@ -72,7 +68,7 @@ returns-in_err-bytes-clause-refused c =
     let names = index_of c.in_ok-indices.indices in
     let records = records_of held c.args.features.now (parts_exports c.args.parts) names c.in_ok-plan.plan.functions.items c.in_ok-types.types.items c.in_ok-functions.functions.items c.in_ok-exports.exports.items c.in_ok-bodies.bodies.items
     c.requires.local c.in_ok-plan.ensures.functions
-    (numbered_so _ _ _ _ c.in_ok-plan.ensures.types c.in_ok-indices.ensures.value)
+    (numbered_so _ c.in_ok-plan.plan _ c.in_ok-plan.ensures.types c.in_ok-indices.ensures.value)
     c.in_ok-types.ensures.value c.requires.in_order
     (c.in_ok-functions.ensures.value ∙ ap (map (λ id. type_index (functions c.args.parts.funcs.now) names (place id))) c.as_slice-order.ensures.value)
     c.in_ok-exports.ensures.value c.in_ok-exports.ensures.text
@@ -88,7 +84,7 @@ returns-clause-spells c =
     let names = index_of c.in_ok-indices.indices in
     let records = records_of held c.args.features.now (parts_exports c.args.parts) names c.in_ok-plan.plan.functions.items c.in_ok-types.types.items c.in_ok-functions.functions.items c.in_ok-exports.exports.items c.in_ok-bodies.bodies.items
     c.requires.local c.in_ok-plan.ensures.functions
-    (numbered_so _ _ _ _ c.in_ok-plan.ensures.types c.in_ok-indices.ensures.value)
+    (numbered_so _ c.in_ok-plan.plan _ c.in_ok-plan.ensures.types c.in_ok-indices.ensures.value)
     c.in_ok-types.ensures.value c.requires.in_order
     (c.in_ok-functions.ensures.value ∙ ap (map (λ id. type_index (functions c.args.parts.funcs.now) names (place id))) c.as_slice-order.ensures.value)
     c.in_ok-exports.ensures.value c.in_ok-exports.ensures.text
