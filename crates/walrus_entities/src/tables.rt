@@ -259,7 +259,7 @@ impl ModuleTables {
         }
     }
 
-    /// The id of the only table of functions, if there is one; `SeveralFunctionTables` where there are more. A table of
+    /// The own id of the only table of functions, if there is one; `SeveralFunctionTables` where there are more. A table of
     /// functions is one whose elements are functions or null.
     pub fn main_function_table(&self) -> Result<Option<TableId>>
         ensures { result_map_both (option_map place) (λ e. e) result
