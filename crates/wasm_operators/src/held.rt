@@ -22,6 +22,13 @@ fn number_is_held(number: &u32)
     let _number = *number;
 }
 
+/// What the code holds as a number of 64 bits is in its range.
+fn wide_is_held(number: &u64)
+    ensures { number.now < 2 ^ 64 }
+{
+    let _number = *number;
+}
+
 /// What the code holds as a value type is in its range.
 fn value_is_held(value: &RawVal)
     ensures { ValueHeld value.now }
@@ -77,9 +84,7 @@ fn arg_is_held(arg: &RawArg)
         RawArg::S64(value) => {
             let _value = *value;
         }
-        RawArg::F64(bits) => {
-            let _bits = *bits;
-        }
+        RawArg::F64(bits) => wide_is_held(bits),
         RawArg::Value(value) => value_is_held(value),
         RawArg::Heap(heap) => heap_is_held(heap),
         RawArg::Block(block) => block_is_held(block),

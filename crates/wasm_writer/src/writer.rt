@@ -374,7 +374,8 @@ impl Writer {
             (map body_record bodies.now)) }
         ensures places { let written_bodies = map body_record bodies.now in
             IfOk result (λ places. places.bodies.items
-            ≡ map range_of (placed_bodies (first_body (length (written self.old)) written_bodies) written_bodies)) }
+            ≡ map range_of
+            (placed_bodies (first_body (length (written self.old)) written_bodies) written_bodies)) }
         ensures room { OnOk result
             (room self.old ≤ room self.new + length (listed Code (map body_record bodies.now))) }
     {
@@ -424,7 +425,8 @@ impl Writer {
     fn list<E: Measured>(&mut self, id: u8, items: &[E]) -> Result<(), WireError>
         ensures appends { let content = vector_bytes E.spelled items.now in
             Wrote result (written self.old) (written self.new)
-            (unless_empty items.now (section_bytes id content)) (FitsVector E.Fits items.now × FitsLength content) }
+            (unless_empty items.now (section_bytes id content))
+            (FitsVector E.Fits items.now × FitsLength content) }
         ensures room { UsesRoom result self.old self.new
             (unless_empty items.now (section_bytes id (vector_bytes E.spelled items.now))) }
     {

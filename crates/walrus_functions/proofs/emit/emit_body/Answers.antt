@@ -5,24 +5,16 @@ use Rattle.walrus_bodies.specs.declared.declarations.Declaration.{Declaration}
 use Rattle.std.specs.List.{IsDistinct}
 use Rattle.std.proofs.lemmas.List.{length-map, map-append}
 use Rattle.wasm_forms.specs.declared.types.RawVal.{RawVal}
-use Rattle.walrus_base.specs.Arena.{item_at}
 use Rattle.walrus_base.specs.Id.{place}
 use Rattle.walrus_base.specs.declared.id.Id.{Id}
 use Rattle.walrus_base.specs.declared.keys.LocalKey.{LocalKey}
 use Rattle.walrus_types.specs.Locals.{locals}
-use Rattle.walrus_types.specs.ModuleTypes.{type_slots}
 use Rattle.walrus_types.specs.Shape.{place_in}
-use Rattle.walrus_types.specs.declared.locals.ModuleLocals.{ModuleLocals}
-use Rattle.walrus_types.specs.declared.module_types.ModuleTypes.{ModuleTypes}
 use Rattle.walrus_code.specs.Code.{ops_of}
-use Rattle.walrus_code.specs.Function.{function_type, body_of}
 use Rattle.walrus_code.specs.Indices.{index_of, local_index}
-use Rattle.walrus_code.specs.declared.function.LocalFunction.{LocalFunction}
-use Rattle.walrus_code.specs.declared.indices.IdsToIndices.{IdsToIndices}
 use Rattle.walrus_bodies.specs.Blocks.{blocks_hold}
 use Rattle.walrus_bodies.specs.Declarations.{declaration, declarations_of}
 use Rattle.walrus_bodies.specs.FunctionTypes.{is_function_at}
-use Rattle.walrus_bodies.specs.declared.features.Features.{Features}
 use Rattle.walrus_functions.specs.EmittedBody.{source_of, types_of}
 use Rattle.walrus_functions.specs.Writing.{DeclaresLocals, LocalsDeclared}
 use Rattle.walrus_functions.proofs.WrittenLemmas.{emitted, refused_declared, refused_found, all_there, all_differ, few_declarations, fits_type}
