@@ -1,7 +1,7 @@
 -- A module in memory that took in the sections is made of the module that was read.
 use Rattle.std.proofs.Common.{◌≡◌, ℕ, zero, suc, ◌+◌, ◌<◌, Bool, true, false, List, [], ◌∷◌, ◌++◌, length, length-append, map, refl, sym, ap, ap₂, subst, ◌∙◌, arith, inl, eqb-true}
 use Rattle.std.proofs.lemmas.Bool.{eqb-false}
-use Rattle.std.specs.Prelude.{Option, Some, None, IsSome, Contains, slice_get, zip, option_map, ◌==◌, ◌≤◌, ◌↔◌, if◌then◌else◌}
+use Rattle.std.specs.Prelude.{Option, Some, None, IsSome, Contains, slice_get, zip, option_map, ◌==◌, if◌then◌else◌}
 use Rattle.std.specs.List.{AllZip, range_with_len}
 use Rattle.walrus_base.specs.Arena.{item_at}
 use Rattle.walrus_base.specs.Id.{place}
@@ -23,8 +23,7 @@ use Rattle.walrus_items.specs.declared.functions.FunctionKind.TheVariants.{Local
 use Rattle.walrus_model.specs.Abstract.{Abstract, Name, TypeDef, Function, Body, Subject, TheModule, AnItem, ALocal}
 use Rattle.walrus_model.specs.Carried.{Carries}
 use Rattle.walrus_bodies.specs.declared.features.Features.{Features}
-use Rattle.walrus_rules.specs.Chain.{AreFoundOrAdded, NoMore, handlers_by, AddsHandlers, NoFunction, AndThose, IsBehind, IsWholeBody, ParsedAs}
-use Rattle.walrus_rules.specs.WellMade.{IsCounted}
+use Rattle.walrus_rules.specs.Chain.{AreFoundOrAdded, NoMore, handlers_by, AddsHandlers, NoFunction, AndThose, IsWholeBody, ParsedAs}
 use Rattle.walrus_rules.specs.Namings.{is_in_range}
 use Rattle.walrus_rules.specs.Sections.{items_of, module_of}
 use Rattle.walrus_reading.proofs.DeclaredLocals.{counts}
@@ -45,7 +44,7 @@ use Rattle.walrus_reading.specs.Taken.{HasTaken}
 use Rattle.walrus_reading.proofs.Held.{HeldBody, HeldFunction, held, exported}
 use Rattle.walrus_contents.specs.View.{body, kind_of, kind_handlers, handlers_at, function, contents_view}
 use Rattle.walrus_contents.specs.declared.parts.Contents.{Contents}
-use Rattle.walrus_contents.proofs.Lookups.{got_map, there, there_mapped, still_some}
+use Rattle.walrus_contents.proofs.Lookups.{got_map, there, there_mapped}
 use Rattle.walrus_reading.proofs.Parsing.{read_at, used_below}
 use Rattle.walrus_contents.proofs.Steps.{type_there, zip_length}
 use Rattle.wasm_frames.specs.Record as wire
