@@ -2,7 +2,7 @@
 use Rattle.wasm_frames.specs.Record as wire
 use Rattle.wasm_entries.specs.Record as entries
 use Rattle.std.proofs.Common.{inl, inr, true, sym, ap₂, ◌≡◌, ◌≢◌, ℕ, zero, suc, ◌+◌, ◌<◌, List, [], ◌∷◌, length, map, get_or, take, refl, ap, subst, ◌∙◌, arith, ◌≤◌}
-use Rattle.std.specs.Prelude.{Bool, Option, Some, IsSome, flat_map, Contains, All, AllPairs, slice_get, zip, option_map}
+use Rattle.std.specs.Prelude.{Option, Some, IsSome, flat_map, Contains, All, AllPairs, slice_get, zip, option_map}
 use Rattle.std.proofs.lemmas.List.{get_or-map, length-map}
 use Rattle.std.proofs.lemmas.List.Elements.{Contains-get_or}
 use Rattle.std.proofs.lemmas.Option.{slice_get-get_or}
@@ -24,7 +24,6 @@ use Rattle.walrus_reading.proofs.Beside.{holds_beside, declared_beside}
 use Rattle.walrus_contents.specs.References.{HasUndeclared}
 use Rattle.walrus_contents.specs.declared.parts.Contents.{Contents}
 use Rattle.walrus_bodies.specs.declared.features.Features.{Features}
-use Rattle.walrus_rules.specs.Features.{features_of}
 use Rattle.walrus_rules.specs.Headline.{field_of}
 use Rattle.walrus_rules.specs.Sections.{module_of}
 use Rattle.walrus_rules.specs.SoFar.{AcceptsSoFar}

@@ -3,11 +3,13 @@ pub mod Beside
 pub mod Carrying
 pub mod CountedLocals
 pub mod DeclaredLocals
+pub mod Held
 pub mod Keeps
 pub mod Locating
 pub mod MovedRefs
 pub mod NoHandlers
 pub mod Parsing
+pub mod Placed
 pub mod References
 pub mod Refusals
 pub mod Rooms
