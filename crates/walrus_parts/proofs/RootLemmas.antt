@@ -1,1 +1,0 @@
--- Roots that are asked for in turn.
