@@ -1,0 +1,15 @@
+pub mod Lists
+pub mod Images
+pub mod Within
+pub mod Entries
+pub mod TypesRefer
+pub mod TypeRules
+pub mod CountedLocals
+pub mod Beside
+pub mod FunctionTypes
+pub mod Limits
+pub mod Offsets
+pub mod Living
+pub mod ReadBody
+pub mod Locals
+pub mod Initialisers
