@@ -1,9 +1,6 @@
 pub mod Accepting
-pub mod Beside
 pub mod Carrying
-pub mod CountedLocals
 pub mod DeclaredLocals
-pub mod Keeps
 pub mod Locating
 pub mod MovedRefs
 pub mod NoHandlers
@@ -15,6 +12,5 @@ pub mod SupportedOnly
 pub mod SupportedRules
 pub mod TakenBody
 pub mod TakenSections
-pub mod TypesRefer
 pub mod TypesTaken
 pub mod WholeLists

@@ -2,7 +2,7 @@
 use Rattle.std.proofs.Common.{inl, inr, ◌≡◌, ◌⊎◌, ⊎_elim, ℕ, ◌+◌, ◌<◌, ◌≤◌, List, [], ◌∷◌, ◌++◌, length, map, get_or, refl, sym, ap, subst, ◌∙◌, arith}
 use Rattle.std.specs.Prelude.{Option, Some, None, is_some, Contains, All, slice_get, option_map, option_to_list}
 use Rattle.std.specs.List.{AllByRecursion}
-use Rattle.std.proofs.lemmas.List.{length-append}
+use Rattle.std.proofs.lemmas.List.{length-append, length-map}
 use Rattle.wasm_entries.specs.declared.record.RawDesc.{RawDesc}
 use Rattle.wasm_entries.specs.declared.record.RawDesc.TheVariants as descs
 use Rattle.wasm_entries.specs.Record as entries
@@ -41,7 +41,7 @@ no_tables : (i : ℕ) (ws : List entries.Import) → AllByRecursion NoTable (imp
 no_tables i [] = tt
 no_tables i (w ∷ ws) = all_both NoTable (option_to_list (imported_table i w.desc)) (imported imported_table (i + 1) ws) (no_table i w.desc) (no_tables (i + 1) ws)
 
-abbrev Brought : Global → Type 0
+abbrev pub Brought : Global → Type 0
 Brought g = IsImported g.origin × (g.initialiser ≡ None)
 
 brought_global : (i : ℕ) (d : RawDesc) → AllByRecursion Brought (option_to_list (imported_global i d))
@@ -51,7 +51,7 @@ brought_global i (descs.Memory l) = tt
 brought_global i (descs.Global g) = ((tt, refl), tt)
 brought_global i (descs.Tag ty) = tt
 
-brought_globals : (i : ℕ) (ws : List entries.Import) → AllByRecursion Brought (imported imported_global i ws)
+pub brought_globals : (i : ℕ) (ws : List entries.Import) → AllByRecursion Brought (imported imported_global i ws)
 brought_globals i [] = tt
 brought_globals i (w ∷ ws) = all_both Brought (option_to_list (imported_global i w.desc)) (imported imported_global (i + 1) ws) (brought_global i w.desc) (brought_globals (i + 1) ws)
 
@@ -72,6 +72,12 @@ module _ (s : wire.Module) (bodies : List Said) where
 
   pub few_imported : c.imported_globals ≤ c.globals
   few_imported = let long = length-append (context.imported desc_global s.imports) (map (λ (g : entries.Global). g.ty) s.globals) in omega (arith, long)
+
+  pub few_before : (j : ℕ) → j < length s.globals → c.imported_globals + j ≤ c.globals
+  few_before j lt =
+      let long = length-append (context.imported desc_global s.imports) (map (λ (g : entries.Global). g.ty) s.globals) in
+      let own = length-map s.globals (λ (g : entries.Global). g.ty) in
+      omega (arith, long, own, lt)
 
   pub imported_there : (g : ℕ) → g < c.imported_globals → IsImportedGlobal M g
   imported_there g lt =

@@ -13,3 +13,6 @@ pub mod Living
 pub mod ReadBody
 pub mod Locals
 pub mod Initialisers
+pub mod Indices
+pub mod Agree
+pub mod References
