@@ -1,24 +1,21 @@
 -- The rules on records are those on the module that they say.
-use Rattle.std.proofs.Common.{inl, inr, ◌≡◌, ◌≢◌, ℕ, ◌<◌, List, [], length, map, get_or, refl, sym, subst, ◌∙◌, arith}
-use Rattle.std.specs.Prelude.{Option, Some, None, All, AllPairs, Contains, flat_map, slice_get, zip}
+use Rattle.std.proofs.Common.{◌≡◌, ◌≢◌, ℕ, ◌<◌, List, [], length, map, get_or, refl, sym, subst, ◌∙◌, arith}
+use Rattle.std.specs.Prelude.{Option, Some, None, AllPairs, Contains, flat_map, slice_get, zip}
 use Rattle.std.specs.List.{AllZip}
 use Rattle.std.proofs.lemmas.List.{get_or-map, length-map}
 use Rattle.wasm_entries.specs.Record as entries
 use Rattle.wasm_frames.specs.Record as wire
 use Rattle.wasm_wire.specs.Rules as records
 use Rattle.walrus_bodies.specs.declared.features.Features.{Features}
-use Rattle.walrus_types.specs.Operators.{Op, Block, OfType}
 use Rattle.walrus_model.specs.Abstract.{Abstract, Body, Function, Export}
-use Rattle.walrus_model.specs.Config.{Config}
-use Rattle.walrus_model.specs.Names.{body_of}
 use Rattle.walrus_model.specs.Reads.{ReadsBodyWith}
-use Rattle.walrus_model.specs.Rules.{Holds, RulesHold, FunctionTypesHold, IsFunctionType}
+use Rattle.walrus_model.specs.Rules.{Holds, FunctionTypesHold, IsFunctionType}
 use Rattle.walrus_model.specs.Sections as sections
 use Rattle.walrus_model.specs.Sections.{Said, export_of, functions_of}
 use Rattle.walrus_model.proofs.Standing.{some_of}
 use Rattle.walrus_contents.proofs.Lookups.{pairs_map, zip_length, zip_long}
 use Rattle.walrus_rules.specs.Features.{features_of}
-use Rattle.walrus_rules.specs.Headline.{CountHolds, Reads, field_of}
+use Rattle.walrus_rules.specs.Headline.{field_of}
 use Rattle.walrus_rules.specs.Sections.{module_of}
 use Rattle.walrus_records.specs.Rules.{OnlyRecords, RulesAgree, ReadsAgree}
 use Rattle.walrus_records.proofs.Beside.{holds_beside}
@@ -120,8 +117,7 @@ reads_agree c bytes m r =
     let fields = flat_map (map field_of) r.fields in
     let namings = flat_map (λ xs. xs) r.namings in
     let both = agree (features_of c) r.sections r.bodies r.read in
-    let only : OnlyRecords r.sections = record { in_order = r.in_order; as_many_bodies = r.as_many_bodies; data_count = r.data_count } in
-    (
+    let only : OnlyRecords r.sections = record { in_order = r.in_order; as_many_bodies = r.as_many_bodies; data_count = r.data_count } in (
       (λ h. subst Holds (sym r.is) (holds_beside (sections.module_of r.sections r.bodies) fields (module_of r.sections r.bodies fields namings).named (both.0 h).1)),
       (λ h. both.1 (only, holds_beside (module_of r.sections r.bodies fields namings) [] (λ y. []) (subst Holds r.is h))),
     )

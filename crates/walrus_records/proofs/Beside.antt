@@ -1,9 +1,9 @@
 -- Names and producers bear on no rule, and declare nothing.
-use Rattle.std.proofs.Common.{◌≡◌, ℕ, List, [], ◌∷◌, Bool}
+use Rattle.std.proofs.Common.{List, [], ◌∷◌, Bool}
 use Rattle.std.specs.Prelude.{Contains}
 use Rattle.walrus_types.specs.Operators.{Types, Functions, Tables, Memories, Tags, Globals, Elements, DataSegments, Item, Op}
 use Rattle.walrus_model.specs.Abstract.{Abstract, Name, Subject, ProducerField}
-use Rattle.walrus_model.specs.Declared.{IsUndeclared, NothingUndeclared}
+use Rattle.walrus_model.specs.Declared.{NothingUndeclared}
 use Rattle.walrus_model.specs.Live.{IsLive}
 use Rattle.walrus_model.specs.Refers.{written_in}
 use Rattle.walrus_model.specs.Rules.{Holds, OffsetHolds}

@@ -11,11 +11,11 @@ use Rattle.wasm_wire.specs.declared.rules.counts.Counts.{Counts}
 use Rattle.wasm_wire.specs.Indices.{DescHolds, ImportHolds, InitialHolds, TableHolds, ElementModeHolds, ItemsHold, ElementHolds, DataModeHolds, SegmentHolds, ExpressionHolds, with_globals}
 use Rattle.walrus_base.specs.Types.{heap_names}
 use Rattle.walrus_types.specs.Operators.{Globals, Item, Op, type_item, function_item, names_of}
-use Rattle.walrus_code.specs.FromRaw.{heap_of, val_of}
+use Rattle.walrus_code.specs.FromRaw.{heap_of}
 use Rattle.walrus_model.specs.Abstract.{Function, Table, Global, Tag}
 use Rattle.walrus_model.specs.Constants.{consts_of}
 use Rattle.walrus_model.specs.Refers.{named_by, function_names, table_names, global_names, tag_names, element_kind_names, element_item_names, element_names, data_kind_names, data_names}
-use Rattle.walrus_model.specs.Sections.{imported, imported_function, imported_table, imported_global, imported_tag, ref_of, table_of, element_kind, element_items, element_of, data_kind, data_of}
+use Rattle.walrus_model.specs.Sections.{imported, imported_function, imported_table, imported_global, imported_tag, table_of, element_kind, element_items, element_of, data_kind, data_of}
 use Rattle.walrus_records.proofs.Lists.{all_both, all_parts, all_mapped, all_unmapped, all_flat, all_unflat}
 use Rattle.walrus_records.proofs.Within.{Within, heap_within, heap_holds, value_within, value_holds, expression_within, expression_holds, scoped_within, scoped_low, scoped_holds}
 

@@ -1,14 +1,13 @@
 -- The rules on types of functions, of tags and of the start function are the same on records.
 use Rattle.std.proofs.Common.{◌≡◌, ℕ, List, [], ◌∷◌, map, length, refl, sym, ap, ap₂, subst, ◌∙◌}
-use Rattle.std.specs.Prelude.{Option, Some, None, All, slice_get, option_map}
-use Rattle.std.specs.List.{AllByRecursion}
+use Rattle.std.specs.Prelude.{Option, Some, None, slice_get, option_map}
 use Rattle.std.proofs.lemmas.List.Elements.{recursion_from_All, All-from_recursion}
 use Rattle.wasm_entries.specs.Record as entries
 use Rattle.wasm_entries.specs.Record.{Sub, Comp}
 use Rattle.wasm_frames.specs.Record as wire
 use Rattle.wasm_wire.specs.Context.{context_of}
 use Rattle.wasm_wire.specs.Rules as records
-use Rattle.walrus_base.specs.Types.{SubType, ValType, Func}
+use Rattle.walrus_base.specs.Types.{SubType, Func}
 use Rattle.walrus_types.specs.TypeDef.{TypeDef}
 use Rattle.walrus_code.specs.FromRaw.{val_of}
 use Rattle.walrus_groups.specs.Groups.{comp_of, sub_of, types_from}

@@ -1,5 +1,5 @@
 -- The rules on indices are the same on records.
-use Rattle.std.proofs.Common.{inl, inr, ◌≡◌, ◌⊎◌, ⊎_elim, ℕ, ◌+◌, ◌<◌, ◌≤◌, List, [], ◌∷◌, ◌++◌, length, map, get_or, refl, sym, ap, subst, ◌∙◌, arith}
+use Rattle.std.proofs.Common.{inl, inr, ◌≡◌, ⊎_elim, ℕ, ◌+◌, ◌<◌, List, [], ◌∷◌, length, map, get_or, refl, sym, ap, subst, ◌∙◌, arith}
 use Rattle.std.specs.Prelude.{Option, Some, None, IsSome, is_some, Contains, All, slice_get, option_map, unwrap_or, zip}
 use Rattle.std.specs.List.{AllByRecursion, AllZip}
 use Rattle.std.proofs.lemmas.List.{get_or-map, length-map}
@@ -18,24 +18,24 @@ use Rattle.walrus_bodies.specs.declared.features.Features.{Features}
 use Rattle.walrus_code.specs.FromRaw.{val_of}
 use Rattle.walrus_base.specs.Types.{val_names, sub_names}
 use Rattle.walrus_types.specs.TypeDef.{TypeDef}
-use Rattle.walrus_types.specs.Operators.{Space, Types, Functions, Tables, Memories, Tags, Globals, Elements, DataSegments, Item, Op, type_item, names_of}
+use Rattle.walrus_types.specs.Operators.{Space, Types, Functions, Tables, Memories, Tags, Globals, Elements, DataSegments, Item, type_item, names_of}
 use Rattle.walrus_groups.specs.Groups.{types_from}
-use Rattle.walrus_model.specs.Abstract.{Abstract, Body, Function, FunctionKind, ImportedFunction, Table, Global, Tag, Export}
+use Rattle.walrus_model.specs.Abstract.{Abstract, Body, Function, FunctionKind, Export}
 use Rattle.walrus_model.specs.Constants.{consts_of}
 use Rattle.walrus_model.specs.Live.{Has, IsLive}
 use Rattle.walrus_model.specs.Reads.{ReadsBodyWith, declared}
-use Rattle.walrus_model.specs.Refers.{named_by, written_in, type_names, function_names, kind_names, table_names, memory_names, global_names, tag_names, element_names, data_names, IsUsed}
+use Rattle.walrus_model.specs.Refers.{written_in, type_names, function_names, kind_names, table_names, memory_names, global_names, tag_names, element_names, data_names, IsUsed}
 use Rattle.walrus_model.specs.Rules.{IndicesHold, IsImportedGlobal, IsFunctionType}
 use Rattle.walrus_model.specs.Sections.{Said, types_of, imported, imported_function, imported_table, imported_global, imported_tag, function_types, function_with, table_of, global_of, tag_of, element_of, data_of, export_of, space_of, functions_of, tables_of, memories_of, tags_of, globals_of, elements_of, data_segments_of, module_of}
-use Rattle.walrus_model.proofs.Lists.{Contains-uncons, Contains-none, Contains-map}
-use Rattle.walrus_model.proofs.Standing.{some_inj, got_in, none_there}
+use Rattle.walrus_model.proofs.Lists.{Contains-uncons, Contains-none}
+use Rattle.walrus_model.proofs.Standing.{some_inj, got_in}
 use Rattle.walrus_contents.proofs.Lookups.{there, as_long, got_map}
-use Rattle.walrus_records.proofs.Entries.{Names, Brought, imports_bring, imports_hold, table_within, table_holds, element_within, element_holds, data_within, data_holds}
+use Rattle.walrus_records.proofs.Entries.{Brought, imports_bring, imports_hold, table_within, table_holds, element_within, element_holds, data_within, data_holds}
 use Rattle.walrus_records.proofs.Images.{function_types_look}
 use Rattle.walrus_records.proofs.Initialisers.{few_imported, few_before, imported_there, imported_low, TableLow, tables_low, own_tables_low, own_index, globals_low}
-use Rattle.walrus_records.proofs.Lists.{each_at, each_of, in_all, all_both, all_parts, all_mapped, all_unmapped, all_through, all_two}
-use Rattle.walrus_records.proofs.Living.{W, live_within, within_live, named_within, named_live}
-use Rattle.walrus_records.proofs.ReadBody.{low, named_if, IsRead, Stands, function_stands, body_at, local_typed, names_live, types_live}
+use Rattle.walrus_records.proofs.Lists.{each_at, each_of, all_both, all_parts, all_mapped, all_unmapped, all_through, all_two}
+use Rattle.walrus_records.proofs.Living.{live_within, within_live, named_within, named_live}
+use Rattle.walrus_records.proofs.ReadBody.{low, named_if, Stands, function_stands, body_at, local_typed, names_live, types_live}
 use Rattle.walrus_records.proofs.TypeRules.{group_live, subs_live}
 use Rattle.walrus_records.proofs.Within.{Within, value_within, value_holds, scoped_within, scoped_holds}
 

@@ -1,6 +1,6 @@
 -- What initialisers of tables and globals may name of globals is the same on records.
-use Rattle.std.proofs.Common.{inl, inr, ◌≡◌, ◌⊎◌, ⊎_elim, ℕ, ◌+◌, ◌<◌, ◌≤◌, List, [], ◌∷◌, ◌++◌, length, map, get_or, refl, sym, ap, subst, ◌∙◌, arith}
-use Rattle.std.specs.Prelude.{Option, Some, None, is_some, Contains, All, slice_get, option_map, option_to_list}
+use Rattle.std.proofs.Common.{◌≡◌, ⊎_elim, ℕ, ◌+◌, ◌<◌, ◌≤◌, List, [], ◌∷◌, length, map, refl, sym, ap, subst, ◌∙◌, arith}
+use Rattle.std.specs.Prelude.{Some, None, is_some, Contains, slice_get, option_to_list}
 use Rattle.std.specs.List.{AllByRecursion}
 use Rattle.std.proofs.lemmas.List.{length-append, length-map}
 use Rattle.wasm_entries.specs.declared.record.RawDesc.{RawDesc}
@@ -9,10 +9,10 @@ use Rattle.wasm_entries.specs.Record as entries
 use Rattle.wasm_frames.specs.Record as wire
 use Rattle.wasm_wire.specs.Context as context
 use Rattle.wasm_wire.specs.Context.{context_of, counts_of, desc_global}
-use Rattle.wasm_wire.specs.Indices.{TableHolds, GlobalHolds, ExpressionHolds, with_globals}
+use Rattle.wasm_wire.specs.Indices.{TableHolds, GlobalHolds}
 use Rattle.wasm_wire.specs.declared.rules.counts.Counts.{Counts}
 use Rattle.walrus_types.specs.Operators.{Globals, Op, names_of}
-use Rattle.walrus_model.specs.Abstract.{Abstract, ImportedBy, Defined, Table, Global}
+use Rattle.walrus_model.specs.Abstract.{Abstract, Table, Global}
 use Rattle.walrus_model.specs.Constants.{consts_of}
 use Rattle.walrus_model.specs.Roots.{IsImported}
 use Rattle.walrus_model.specs.Rules.{IsImportedGlobal}
@@ -22,7 +22,7 @@ use Rattle.walrus_contents.proofs.Lookups.{mapped_some, got_map, as_long}
 use Rattle.walrus_contents.proofs.TypeLists.{got_either}
 use Rattle.walrus_records.proofs.Entries.{initial_low}
 use Rattle.walrus_records.proofs.Images.{imported_globals_look}
-use Rattle.walrus_records.proofs.Lists.{all_both, all_parts, all_mapped, all_unmapped, all_through, each_at, each_of, got_front, got_right, some_within}
+use Rattle.walrus_records.proofs.Lists.{all_both, all_parts, all_mapped, all_unmapped, all_through, each_at, got_front, got_right, some_within}
 use Rattle.walrus_records.proofs.Within.{scoped_low}
 
 -- ---- what imports bring has no initialiser
@@ -102,7 +102,7 @@ module _ (s : wire.Module) (bodies : List Said) where
   TableLow t = (ops : List Op) → t.initialiser ≡ Some ops → (g : ℕ) → Contains (names_of ops) (Globals, g) → g < c.imported_globals
 
   none_low : (t : Table) → NoTable t → TableLow t
-  none_low t no ops is g at = absurd (let p : None ≡ Some ops = sym no ∙ is in cc)
+  none_low t none ops is g at = absurd (let p : None ≡ Some ops = sym none ∙ is in cc)
 
   pub tables_low : (d e : ℕ) → AllByRecursion (TableHolds c) s.tables → AllByRecursion TableLow (tables_of s)
   tables_low d e h =

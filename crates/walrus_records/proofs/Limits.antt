@@ -1,14 +1,12 @@
 -- The rules on limits are the same on records.
 use Rattle.std.proofs.Common.{◌≡◌, ℕ, Bool, true, false, refl, sym, subst}
 use Rattle.std.specs.Prelude.{Option, Some, None, IsSome, All, slice_get}
-use Rattle.std.specs.List.{AllByRecursion}
 use Rattle.std.proofs.lemmas.List.Elements.{recursion_from_All, All-from_recursion}
 use Rattle.wasm_entries.specs.declared.record.RawLimits.{RawLimits}
-use Rattle.wasm_entries.specs.declared.record.RawTableType.{RawTableType}
 use Rattle.wasm_frames.specs.Record as wire
 use Rattle.wasm_wire.specs.Context.{context_of}
 use Rattle.wasm_wire.specs.Rules as records
-use Rattle.walrus_model.specs.Abstract.{Table, TableType, Memory, MemoryType}
+use Rattle.walrus_model.specs.Abstract.{Table, TableType, Memory}
 use Rattle.walrus_model.specs.Rules.{IsAtMost, MaximumIsAtMost, IsExponent, MemoryHolds}
 use Rattle.walrus_model.specs.Sections.{tables_of, memories_of, table_type_of, memory_type_of}
 use Rattle.walrus_model.proofs.Standing.{none_there}

@@ -1,17 +1,17 @@
 -- An item is there exactly where its index is below the number of those that the records declare.
-use Rattle.std.proofs.Common.{◌≡◌, ℕ, ◌<◌, List, length, map, sym, ap, subst, ◌∙◌, arith}
-use Rattle.std.specs.Prelude.{Option, Some, IsSome, Contains, slice_get}
+use Rattle.std.proofs.Common.{◌≡◌, ℕ, ◌<◌, List, length, sym, subst}
+use Rattle.std.specs.Prelude.{Some, IsSome, Contains, slice_get}
 use Rattle.std.specs.List.{AllByRecursion}
 use Rattle.std.proofs.lemmas.List.{length-map}
 use Rattle.wasm_frames.specs.Record as wire
 use Rattle.wasm_wire.specs.declared.rules.counts.Counts.{Counts}
 use Rattle.wasm_wire.specs.Context.{context_of, counts_of}
-use Rattle.walrus_types.specs.Operators.{Space, Types, Functions, Tables, Memories, Tags, Globals, Elements, DataSegments, Item}
+use Rattle.walrus_types.specs.Operators.{Types, Functions, Tables, Memories, Tags, Globals, Elements, DataSegments, Item}
 use Rattle.walrus_types.specs.TypeDef.{TypeDef}
 use Rattle.walrus_groups.specs.Groups.{sub_of, types_from}
 use Rattle.walrus_model.specs.Abstract.{Abstract, Function, Table, Memory, Global, Tag}
 use Rattle.walrus_model.specs.Live.{IsLive}
-use Rattle.walrus_model.specs.Refers.{named_by, written_in}
+use Rattle.walrus_model.specs.Refers.{named_by}
 use Rattle.walrus_model.specs.Sections.{Said, functions_of, tables_of, memories_of, globals_of, tags_of, elements_of, data_segments_of, element_of, data_of, table_type_of, memory_type_of, global_type_of, module_of}
 use Rattle.walrus_contents.proofs.Lookups.{there, as_long}
 use Rattle.walrus_records.proofs.Images.{types_look, functions_look, tables_look, memories_look, globals_look, tags_look}

@@ -1,7 +1,6 @@
 -- The rule on offsets of segments is the same on records.
-use Rattle.std.proofs.Common.{inl, inr, ◌≡◌, ◌⊎◌, ℕ, ◌≤◌, Bool, true, false, List, [], ◌∷◌, map, refl, sym, ap, subst, ◌∙◌, arith}
+use Rattle.std.proofs.Common.{inl, inr, ◌≡◌, ◌⊎◌, ℕ, ◌≤◌, Bool, true, false, List, [], ◌∷◌, refl, sym, ap, subst, ◌∙◌, arith}
 use Rattle.std.specs.Prelude.{Option, Some, None, All, slice_get, option_map, unwrap_or}
-use Rattle.std.specs.List.{AllByRecursion}
 use Rattle.std.proofs.lemmas.List.Elements.{recursion_from_All, All-from_recursion}
 use Rattle.wasm_forms.specs.declared.types.RawVal.{RawVal}
 use Rattle.wasm_forms.specs.declared.types.RawVal.TheVariants as vals
@@ -15,10 +14,9 @@ use Rattle.wasm_entries.specs.Record.{Expression}
 use Rattle.wasm_frames.specs.Record as wire
 use Rattle.wasm_wire.specs.Context.{context_of}
 use Rattle.wasm_wire.specs.Rules as records
-use Rattle.walrus_base.specs.Types.{ValType}
 use Rattle.walrus_types.specs.Operators.{Globals, Item, Arg, Index, Op}
 use Rattle.walrus_code.specs.FromRaw.{val_of}
-use Rattle.walrus_model.specs.Abstract.{Abstract, Global, GlobalType, Table, TableType, Memory, MemoryType, Element, ElementKind, ActiveElements, DataSegment, DataKind, ActiveData}
+use Rattle.walrus_model.specs.Abstract.{Abstract, Global, GlobalType, Table, TableType, Memory, MemoryType, Element, ActiveElements, DataSegment, ActiveData}
 use Rattle.walrus_model.specs.Constants.{const_of, consts_of}
 use Rattle.walrus_model.specs.Rules.{IsPlainOp, IsGetOf, OffsetHolds, offset_type, offset_const}
 use Rattle.walrus_model.specs.Sections.{Said, tables_of, memories_of, globals_of, elements_of, data_segments_of, element_of, element_kind, data_of, data_kind, table_type_of, memory_type_of, global_type_of, module_of}

@@ -3,7 +3,7 @@ use Rattle.std.proofs.Common.{inl, inr, ◌≡◌, ◌⊎◌, ⊎_elim, ℕ, zer
 use Rattle.std.specs.Prelude.{Option, Some, None, IsSome, Contains, All, slice_get, zip, flat_map, replicate, option_to_list, nat_lt, unwrap_or, ◌&&◌, if◌then◌else◌}
 use Rattle.std.specs.List.{AllByRecursion, AllZip, list_all}
 use Rattle.std.proofs.lemmas.Bool.{ltb-true}
-use Rattle.std.proofs.lemmas.List.{length-append, length-map}
+use Rattle.std.proofs.lemmas.List.{length-append}
 use Rattle.std.proofs.lemmas.List.Elements.{Contains-append_cases, All-contains, All-map}
 use Rattle.wasm_forms.specs.Reading.{◌>>=◌}
 use Rattle.wasm_forms.specs.declared.types.RawVal.{RawVal}
@@ -24,16 +24,16 @@ use Rattle.walrus_bodies.specs.declared.features.Features.{Features}
 use Rattle.walrus_functions.specs.Handlers.{params_of}
 use Rattle.walrus_functions.specs.ReadFunction.{locals_from}
 use Rattle.walrus_groups.specs.Groups.{types_from}
-use Rattle.walrus_model.specs.Abstract.{Abstract, Body, FunctionKind, ImportedFunction, LocalFunction, Uninitialised, Function}
+use Rattle.walrus_model.specs.Abstract.{Abstract, Body, ImportedFunction, Function}
 use Rattle.walrus_model.specs.Live.{Has, IsLive}
 use Rattle.walrus_model.specs.Names.{body_of, body_of_function, body_of_kind}
 use Rattle.walrus_model.specs.Reads.{ReadsBodyWith, below, declared, arity, context_with, is_function}
 use Rattle.walrus_model.specs.Refers.{named_by, function_names, local_names, IsUsed}
-use Rattle.walrus_model.specs.Rules.{IsFunctionComp, IsFunctionType}
-use Rattle.walrus_model.specs.Sections.{Said, types_of, imported, imported_type, imported_function, function_types, function_with, body_with, functions_of, tables_of, memories_of, tags_of, globals_of, elements_of, data_segments_of, data_of, module_of}
+use Rattle.walrus_model.specs.Rules.{IsFunctionComp}
+use Rattle.walrus_model.specs.Sections.{Said, types_of, imported, imported_function, function_types, function_with, body_with, functions_of, tables_of, memories_of, tags_of, globals_of, elements_of, module_of}
 use Rattle.walrus_model.proofs.Lists.{Contains-uncons, Contains-none}
 use Rattle.walrus_model.proofs.Standing.{none_there, some_of, some_inj}
-use Rattle.walrus_contents.proofs.Lookups.{there, range_within, as_long}
+use Rattle.walrus_contents.proofs.Lookups.{there, range_within}
 use Rattle.walrus_contents.proofs.Named.{through, val_again, ops_again}
 use Rattle.walrus_contents.proofs.NamedFound.{val_found, names_found, locals_found}
 use Rattle.walrus_records.proofs.Lists.{all_both, all_through, each_at}

@@ -1,5 +1,5 @@
 -- What ref.func names undeclared is the same on records.
-use Rattle.std.proofs.Common.{inl, inr, ◌≡◌, ◌⊎◌, ⊎_elim, ℕ, ◌+◌, ◌<◌, List, [], ◌∷◌, ◌++◌, length, map, get_or, refl, sym, ap, ap₂, subst, ◌∙◌, arith}
+use Rattle.std.proofs.Common.{inl, inr, ◌≡◌, ◌⊎◌, ⊎_elim, ℕ, ◌+◌, ◌<◌, List, [], ◌∷◌, length, map, get_or, refl, sym, ap, ap₂, subst, ◌∙◌, arith}
 use Rattle.std.specs.Prelude.{Option, Some, None, is_some, Contains, slice_get, zip, option_map, option_to_list}
 use Rattle.std.specs.List.{AllByRecursion}
 use Rattle.std.proofs.lemmas.Option.{slice_get-get_or}
@@ -12,14 +12,14 @@ use Rattle.wasm_entries.specs.declared.record.RawExportKind.TheVariants as kinds
 use Rattle.wasm_entries.specs.Record as entries
 use Rattle.wasm_entries.specs.Record.{Expression}
 use Rattle.wasm_frames.specs.Record as wire
-use Rattle.walrus_types.specs.Operators.{Space, Functions, Item, Arg, Index, Op, function_item}
+use Rattle.walrus_types.specs.Operators.{Functions, Item, Arg, Index, Op, function_item}
 use Rattle.walrus_functions.specs.Handlers.{params_of}
 use Rattle.walrus_model.specs.Abstract.{Abstract, Body, Function, Global, Element, Export}
 use Rattle.walrus_model.specs.Constants.{const_of, consts_of}
 use Rattle.walrus_model.specs.Declared.{ref_func, Lists, IsRefInBody, IsRefInGlobal, IsUndeclared}
 use Rattle.walrus_model.specs.Live.{IsLive}
 use Rattle.walrus_model.specs.Names.{body_of_function, body_of_kind}
-use Rattle.walrus_model.specs.Sections.{Said, types_of, imported, imported_function, imported_global, function_with, body_with, global_of, element_of, element_items, export_of, space_of, functions_of, globals_of, elements_of, module_of}
+use Rattle.walrus_model.specs.Sections.{Said, types_of, imported, imported_function, imported_global, function_with, body_with, global_of, element_of, element_items, export_of, space_of, functions_of, module_of}
 use Rattle.walrus_model.proofs.Lists.{Contains-head, Contains-tail, Contains-map}
 use Rattle.walrus_model.proofs.PipelineOps.{from_map}
 use Rattle.walrus_model.proofs.Standing.{some_inj, got_where, got_in}
@@ -118,9 +118,10 @@ module _ (s : wire.Module) (bodies : List Said) where
   local_says : (fs : List ℕ) (saids : List Said) → ((said : Said) → Contains saids said → Contains bodies said) → AllByRecursion Says (map (function_with s) (zip fs saids))
   local_says [] saids among = tt
   local_says (f ∷ fs) [] among = tt
-  local_says (f ∷ fs) (said ∷ saids) among =
-      ((λ b e. (said, among said (Contains-head said saids), sym (ap (λ (x : Body). x.operators) (some_inj (body_with (params_of (types_of s f)) said) b e)))),
-      local_says fs saids (λ x at. among x (Contains-tail said x saids at)))
+  local_says (f ∷ fs) (said ∷ saids) among = (
+    (λ b e. (said, among said (Contains-head said saids), sym (ap (λ (x : Body). x.operators) (some_inj (body_with (params_of (types_of s f)) said) b e)))),
+    local_says fs saids (λ x at. among x (Contains-tail said x saids at)),
+  )
 
   all_say : AllByRecursion Says (functions_of s bodies)
   all_say = all_both Says (imported imported_function 0 s.imports) (map (function_with s) (zip s.functions bodies)) (imports_say 0 s.imports) (local_says s.functions bodies (λ said at. at))

@@ -13,10 +13,10 @@ use Rattle.wasm_entries.specs.Record.{Expression}
 use Rattle.wasm_wire.specs.declared.rules.counts.Counts.{Counts}
 use Rattle.wasm_wire.specs.Indices.{HeapHolds, ValueHolds, ConstHolds, ExpressionHolds, with_globals}
 use Rattle.walrus_base.specs.Types.{heap_names, val_names}
-use Rattle.walrus_types.specs.Operators.{Space, Types, Functions, Tables, Memories, Tags, Globals, Elements, DataSegments, Item, Arg, Byte, type_item, arg_names, op_names, names_of}
+use Rattle.walrus_types.specs.Operators.{Space, Types, Functions, Tables, Memories, Tags, Globals, Elements, DataSegments, Item, Byte, type_item, arg_names, op_names, names_of}
 use Rattle.walrus_code.specs.FromRaw.{heap_of, val_of}
 use Rattle.walrus_model.specs.Constants.{const_of, consts_of}
-use Rattle.walrus_records.proofs.Lists.{all_in, in_all, all_both, all_flat, all_unflat}
+use Rattle.walrus_records.proofs.Lists.{all_in, in_all, all_flat, all_unflat}
 
 -- ---- so many of each space
 
