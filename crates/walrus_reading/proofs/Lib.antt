@@ -1,10 +1,7 @@
 pub mod Accepting
-pub mod Beside
 pub mod Carrying
-pub mod CountedLocals
 pub mod DeclaredLocals
 pub mod Held
-pub mod Keeps
 pub mod Locating
 pub mod MovedRefs
 pub mod NoHandlers
@@ -17,6 +14,5 @@ pub mod SupportedOnly
 pub mod SupportedRules
 pub mod TakenBody
 pub mod TakenSections
-pub mod TypesRefer
 pub mod TypesTaken
 pub mod WholeLists

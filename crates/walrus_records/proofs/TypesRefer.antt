@@ -1,5 +1,5 @@
 -- What types that keep the rules name.
-use Rattle.std.proofs.Common.{◌≡◌, ℕ, zero, suc, ◌+◌, ◌<◌, List, [], ◌∷◌, ◌++◌, length, map, get_or, take, sym, subst, arith}
+use Rattle.std.proofs.Common.{◌≡◌, ℕ, suc, ◌+◌, ◌<◌, List, [], ◌∷◌, ◌++◌, length, map, get_or, take, sym, subst, arith}
 use Rattle.std.specs.Prelude.{Some, All, slice_get, flat_map}
 use Rattle.std.specs.List.{AllByRecursion}
 use Rattle.std.proofs.lemmas.List.Elements.{All-append, All-from_recursion, recursion_from_All}
@@ -19,37 +19,9 @@ use Rattle.walrus_types.specs.TypeDef.{TypeDef, type_params}
 use Rattle.walrus_groups.specs.Groups.{storage_of, field_of, comp_of, sub_of, NamesBelow, AreDeclared}
 use Rattle.walrus_contents.proofs.TypeLists.{count, count_more, IsMember}
 use Rattle.walrus_model.proofs.Standing.{got_in}
+use Rattle.walrus_records.proofs.Lists.{each_at, all_both, all_parts, all_flat, all_unflat, all_itself, all_apart}
 
 -- ---- what a type names
-
-all_both : {A : Type 0} (P : A → Type 0) (xs ys : List A) → AllByRecursion P xs → AllByRecursion P ys → AllByRecursion P (xs ++ ys)
-all_both P [] ys a b = b
-all_both P (x ∷ xs) ys a b = (a.0, all_both P xs ys a.1 b)
-
-all_parts : {A : Type 0} (P : A → Type 0) (xs ys : List A) → AllByRecursion P (xs ++ ys) → AllByRecursion P xs × AllByRecursion P ys
-all_parts P [] ys a = (tt, a)
-all_parts P (x ∷ xs) ys a = let r = all_parts P xs ys a.1 in ((a.0, r.0), r.1)
-
-all_flat : {A B C : Type 0} (P : A → Type 0) (Q : C → Type 0) (f : A → B) (h : B → List C) → ((x : A) → P x → AllByRecursion Q (h (f x))) → (xs : List A) → AllByRecursion P xs → AllByRecursion Q (flat_map h (map f xs))
-all_flat P Q f h one [] a = tt
-all_flat P Q f h one (x ∷ xs) a = all_both Q (h (f x)) (flat_map h (map f xs)) (one x a.0) (all_flat P Q f h one xs a.1)
-
-all_unflat : {A B C : Type 0} (P : A → Type 0) (Q : C → Type 0) (f : A → B) (h : B → List C) → ((x : A) → AllByRecursion Q (h (f x)) → P x) → (xs : List A) → AllByRecursion Q (flat_map h (map f xs)) → AllByRecursion P xs
-all_unflat P Q f h one [] a = tt
-all_unflat P Q f h one (x ∷ xs) a = let p = all_parts Q (h (f x)) (flat_map h (map f xs)) a in (one x p.0, all_unflat P Q f h one xs p.1)
-
-all_itself : {A B : Type 0} (Q : B → Type 0) (h : A → List B) (xs : List A) → AllByRecursion (λ x. AllByRecursion Q (h x)) xs → AllByRecursion Q (flat_map h xs)
-all_itself Q h [] a = tt
-all_itself Q h (x ∷ xs) a = all_both Q (h x) (flat_map h xs) a.0 (all_itself Q h xs a.1)
-
-all_apart : {A B : Type 0} (Q : B → Type 0) (h : A → List B) (xs : List A) → AllByRecursion Q (flat_map h xs) → AllByRecursion (λ x. AllByRecursion Q (h x)) xs
-all_apart Q h [] a = tt
-all_apart Q h (x ∷ xs) a = let p = all_parts Q (h x) (flat_map h xs) a in (p.0, all_apart Q h xs p.1)
-
-pub one_of : {A : Type 0} (P : A → Type 0) (xs : List A) (k : ℕ) (x : A) → AllByRecursion P xs → slice_get xs k ≡ Some x → P x
-one_of P [] k x a e = cc
-one_of P (y ∷ xs) zero x a e = let same : y ≡ x = cc in subst P same a.0
-one_of P (y ∷ xs) (suc k) x a e = one_of P xs k x a.1 e
 
 module _ (end : ℕ) where
   abbrev Below : ℕ → Type 0
@@ -133,7 +105,7 @@ module _ (end : ℕ) where
   pub params_below : (c : CompType ℕ) → All (λ t. t < end) (comp_names c) → (k : ℕ) (v : ValType ℕ) → slice_get (type_params c) k ≡ Some v → All (λ t. t < end) (val_names v)
   params_below (Func params results) a k v e =
       let p = all_parts HeapBelow (flat_map val_heaps params) (flat_map val_heaps results) (heaps_below (flat_map val_heaps params ++ flat_map val_heaps results) a) in
-      names_below (val_heaps v) (one_of (λ w. HeapsBelow (val_heaps w)) params k v (all_apart HeapBelow val_heaps params p.0) e)
+      names_below (val_heaps v) (each_at (λ w. HeapsBelow (val_heaps w)) params k v (all_apart HeapBelow val_heaps params p.0) e)
   params_below (types.Struct fields) a k v e = cc
   params_below (types.Array field) a k v e = cc
 
