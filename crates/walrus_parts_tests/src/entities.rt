@@ -125,20 +125,20 @@ fn loses_tables(alloc: Global, tables: &mut ModuleTables) -> bool {
     tables.is_empty()
 }
 
+fn are_edited_tables(alloc: Global, tables: &mut ModuleTables) -> bool {
+    tables.reserve(2).is_ok()
+        && is_imported_table(alloc, tables)
+        && is_initialised_table(alloc, tables)
+        && takes_a_segment(alloc, tables)
+        && are_two_tables(tables)
+        && loses_table(tables, first_id(alloc))
+        && loses_tables(alloc, tables)
+}
+
 #[test]
 fn tables_are_edited(rt: HostRuntime) -> Result<(), Fail> {
-    let alloc = rt.alloc();
-    let mut tables = ModuleTables::new(alloc);
-    demand(tables.reserve(2).is_ok(), "room for two tables")?;
-    demand(is_imported_table(alloc, &mut tables), "an imported table")?;
-    demand(
-        is_initialised_table(alloc, &mut tables),
-        "a table with an initialiser",
-    )?;
-    demand(takes_a_segment(alloc, &mut tables), "a segment of a table")?;
-    demand(are_two_tables(&tables), "two tables")?;
-    demand(loses_table(&mut tables, first_id(alloc)), "one table")?;
-    demand(loses_tables(alloc, &mut tables), "no table")
+    let mut tables = ModuleTables::new(rt.alloc());
+    demand(are_edited_tables(rt.alloc(), &mut tables), "two tables")
 }
 
 // Whether there are one memory and then two, as many as were added.
@@ -209,23 +209,23 @@ fn loses_memories(alloc: Global, memories: &mut ModuleMemories) -> bool {
     memories.is_empty()
 }
 
+fn are_edited_memories(alloc: Global, memories: &mut ModuleMemories) -> bool {
+    memories.reserve(3).is_ok()
+        && are_counted(memories)
+        && is_wide_memory(memories, second_id(alloc))
+        && is_imported_memory(alloc, memories)
+        && takes_data(alloc, memories)
+        && loses_memory(memories, first_id(alloc))
+        && loses_memories(alloc, memories)
+}
+
 #[test]
 fn memories_are_edited(rt: HostRuntime) -> Result<(), Fail> {
-    let alloc = rt.alloc();
-    let mut memories = ModuleMemories::new(alloc);
-    demand(memories.reserve(3).is_ok(), "room for three memories")?;
-    demand(are_counted(&mut memories), "two memories")?;
+    let mut memories = ModuleMemories::new(rt.alloc());
     demand(
-        is_wide_memory(&memories, second_id(alloc)),
-        "a shared memory",
-    )?;
-    demand(
-        is_imported_memory(alloc, &mut memories),
-        "an imported memory",
-    )?;
-    demand(takes_data(alloc, &mut memories), "a segment of a memory")?;
-    demand(loses_memory(&mut memories, first_id(alloc)), "two memories")?;
-    demand(loses_memories(alloc, &mut memories), "no memory")
+        are_edited_memories(rt.alloc(), &mut memories),
+        "three memories",
+    )
 }
 
 fn is_imported_global(alloc: Global, globals: &mut ModuleGlobals) -> bool {
@@ -292,23 +292,20 @@ fn loses_globals(alloc: Global, globals: &mut ModuleGlobals) -> bool {
     globals.is_empty()
 }
 
+fn are_edited_globals(alloc: Global, globals: &mut ModuleGlobals) -> bool {
+    globals.reserve(2).is_ok()
+        && is_imported_global(alloc, globals)
+        && is_local_global(globals)
+        && becomes_mutable(globals, second_id(alloc))
+        && are_two_globals(globals)
+        && loses_global(globals, first_id(alloc))
+        && loses_globals(alloc, globals)
+}
+
 #[test]
 fn globals_are_edited(rt: HostRuntime) -> Result<(), Fail> {
-    let alloc = rt.alloc();
-    let mut globals = ModuleGlobals::new(alloc);
-    demand(globals.reserve(2).is_ok(), "room for two globals")?;
-    demand(
-        is_imported_global(alloc, &mut globals),
-        "an imported global",
-    )?;
-    demand(is_local_global(&mut globals), "a local global")?;
-    demand(
-        becomes_mutable(&mut globals, second_id(alloc)),
-        "a mutable global",
-    )?;
-    demand(are_two_globals(&globals), "two globals")?;
-    demand(loses_global(&mut globals, first_id(alloc)), "one global")?;
-    demand(loses_globals(alloc, &mut globals), "no global")
+    let mut globals = ModuleGlobals::new(rt.alloc());
+    demand(are_edited_globals(rt.alloc(), &mut globals), "two globals")
 }
 
 fn is_local_tag(alloc: Global, tags: &mut ModuleTags) -> bool {
@@ -363,18 +360,18 @@ fn loses_tags(alloc: Global, tags: &mut ModuleTags) -> bool {
     tags.is_empty()
 }
 
+fn are_edited_tags(alloc: Global, tags: &mut ModuleTags) -> bool {
+    tags.reserve(2).is_ok()
+        && is_local_tag(alloc, tags)
+        && is_imported_tag(alloc, tags)
+        && is_exchanged(alloc, tags, first_id(alloc))
+        && are_two_tags(tags)
+        && loses_tag(tags, first_id(alloc))
+        && loses_tags(alloc, tags)
+}
+
 #[test]
 fn tags_are_edited(rt: HostRuntime) -> Result<(), Fail> {
-    let alloc = rt.alloc();
-    let mut tags = ModuleTags::new(alloc)?;
-    demand(tags.reserve(2).is_ok(), "room for two tags")?;
-    demand(is_local_tag(alloc, &mut tags), "a local tag")?;
-    demand(is_imported_tag(alloc, &mut tags), "an imported tag")?;
-    demand(
-        is_exchanged(alloc, &mut tags, first_id(alloc)),
-        "another tag",
-    )?;
-    demand(are_two_tags(&tags), "two tags")?;
-    demand(loses_tag(&mut tags, first_id(alloc)), "one tag")?;
-    demand(loses_tags(alloc, &mut tags), "no tag")
+    let mut tags = ModuleTags::new(rt.alloc())?;
+    demand(are_edited_tags(rt.alloc(), &mut tags), "two tags")
 }
