@@ -73,18 +73,19 @@ each_body zero b e = cc
 each_body (suc zero) b e = cc
 each_body (suc (suc f)) b e = absurd (let no : None ≡ Some b = e in cc)
 
+-- an empty body says the same under any renaming
+same_kind : (r : Renaming) (i : ℕ) → SameKind r i the_function.kind the_function.kind
+same_kind r i = record { operators = refl; apart = λ x y ux uy e. absurd (no_local x ux); types = λ x u. refl; parameters = λ x u. refl }
+
 both_same : {X : Type 0} (S : X → X → Type 0) (o : Option X) → ((x : X) → o ≡ Some x → S x x) → IsSome o → BothAnd S o o
 both_same S None same there = absurd (no_item 0 there)
 both_same S (Some x) same there = same x refl
 
 functions_stay : (A : ℕ → Type 0) → Carries (In (IsLive two_functions) Functions) A (λ i. i) (SameFunction unchanged) two_functions.functions two_functions.functions
 functions_stay A = record {
-  same = λ i there. both_same (SameFunction unchanged i) (two_functions.functions i) (λ g e. subst (λ (h : Function). SameFunction unchanged i h h) (each_is i g e) (record { ty = refl; kind = same_at i })) there;
+  same = λ i there. both_same (SameFunction unchanged i) (two_functions.functions i) (λ g e. subst (λ (h : Function). SameFunction unchanged i h h) (each_is i g e) (record { ty = refl; kind = same_kind unchanged i })) there;
   onto = λ j there. inl (j, there, refl);
 }
-  where
-    same_at : (i : ℕ) → SameKind unchanged i the_function.kind the_function.kind
-    same_at i = record { operators = refl; apart = λ x y ux uy e. e; types = λ x u. refl; parameters = λ x u. refl }
 
 no_import : (K : Item → Type 0) (i : ℕ) → IsImportOf K two_functions i → ⊥
 no_import K i h = let e : None ≡ Some h.0 = h.1 in cc
@@ -284,7 +285,7 @@ second_carried : (A : ℕ → Type 0) → Carries (λ i. IsSome (only_second i))
 second_carried A = record { same = same; onto = onto } where
   same : (i : ℕ) → IsSome (only_second i) → BothAnd (SameFunction place i) (only_second i) (slice_get (the_function ∷ []) (pred i))
   same zero h = absurd (no_item 0 h)
-  same (suc zero) h = record { ty = refl; kind = record { operators = refl; apart = λ x y ux uy e. e; types = λ x u. refl; parameters = λ x u. refl } }
+  same (suc zero) h = record { ty = refl; kind = same_kind place 1 }
   same (suc (suc i)) h = absurd (no_item i h)
 
   onto : (j : ℕ) → IsSome (slice_get (the_function ∷ []) j) → ((i : ℕ) × IsSome (only_second i) × (pred i ≡ j)) ⊎ A j
