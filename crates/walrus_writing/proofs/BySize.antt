@@ -88,7 +88,7 @@ module _ (m n i j : ℕ) (apart : i ≢ j) (far : is_lt (by_size (n, j) (m, i)) 
 
 -- ---- their order
 
-got_at : {A : Type 0} (xs : List A) (k : ℕ) (d : A) → k < length xs → slice_get xs k ≡ Some (get_or xs k d)
+pub got_at : {A : Type 0} (xs : List A) (k : ℕ) (d : A) → k < length xs → slice_get xs k ≡ Some (get_or xs k d)
 got_at [] k d low = absurd (omega (arith, low))
 got_at (x ∷ xs) zero d low = refl
 got_at (x ∷ xs) (suc k) d low = got_at xs k d (omega (arith, low))

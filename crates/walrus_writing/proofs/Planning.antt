@@ -10,8 +10,6 @@ use Rattle.walrus_base.specs.declared.keys.TypeKey.{TypeKey}
 use Rattle.walrus_base.specs.declared.keys.FunctionKey.{FunctionKey}
 use Rattle.walrus_code.specs.Code.{op_of}
 use Rattle.walrus_code.specs.declared.function.LocalFunction.{LocalFunction}
-use Rattle.walrus_code.specs.Names.{Lookup}
-use Rattle.walrus_types.specs.Shape.{place_in}
 use Rattle.walrus_types.specs.ModuleTypes.{type_slots}
 use Rattle.walrus_types.specs.Operators.{Space, Types, Functions, Tables, Memories, Tags, Globals, Elements, DataSegments}
 use Rattle.walrus_types.specs.TypeDef.{TypeDef}
@@ -26,14 +24,14 @@ use Rattle.walrus_model.specs.Abstract.{Abstract, Function, LocalFunction as OfB
 use Rattle.walrus_model.specs.Order.{ByImport, FunctionsByImport, LargerFirst}
 use Rattle.walrus_model.specs.Ordered.{Ordered}
 use Rattle.walrus_model.specs.Plan as model
-use Rattle.walrus_model.specs.Plan.{AreNumbered, IsPlan}
+use Rattle.walrus_model.specs.Plan.{IsPlan}
 use Rattle.walrus_model.specs.Same.{BothAnd}
 use Rattle.walrus_model.specs.Spaces.{look}
 use Rattle.walrus_model.proofs.Arenas.{entries_rise, no_pairs, ordered_nothing, ordered_seen}
 use Rattle.walrus_model.proofs.Orders.{ordered_entries}
 use Rattle.walrus_model.proofs.Standing.{none_there, some_inj, some_of}
 use Rattle.walrus_writing.specs.Local.{all_local, is_local}
-use Rattle.walrus_writing.specs.Numbered.{planned, with_places}
+use Rattle.walrus_writing.specs.Numbered.{with_places}
 use Rattle.walrus_writing.specs.Places.{places}
 use Rattle.walrus_writing.specs.Sizes.{IsOrder}
 use Rattle.walrus_writing.specs.declared.plan.Plan.{Plan}
@@ -143,14 +141,3 @@ module _ (plan : Plan) (types : List (Id TypeKey)) (functions : List (Id Functio
   few_places few many Globals = omega arith
   few_places few many Elements = omega arith
   few_places few many DataSegments = omega arith
-
--- the same, of the places of types said otherwise
-pub numbered_so : (names : Lookup) (plan : Plan) (types : List ℕ) → map place plan.types.items ≡ types → AreNumbered names (places plan) → AreNumbered names (planned types (map place plan.functions.items))
-numbered_so names plan types same h Types = λ n. h Types n ∙ ap (λ (ts : List ℕ). place_in ts n) same
-numbered_so names plan types same h Functions = h Functions
-numbered_so names plan types same h Tables = h Tables
-numbered_so names plan types same h Memories = h Memories
-numbered_so names plan types same h Tags = h Tags
-numbered_so names plan types same h Globals = h Globals
-numbered_so names plan types same h Elements = h Elements
-numbered_so names plan types same h DataSegments = h DataSegments
