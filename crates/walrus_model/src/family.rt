@@ -81,7 +81,8 @@ pub fn records_stand()
 pub fn orders_are_made()
     ensures entries { (slots : List (Option Table)) → Ordered (item_at slots)
         (map (λ e. e.0) (entries slots)) }
-    ensures rising { (slots : List (Option Table)) → AllPairs (λ i j. i < j) (map (λ e. e.0) (entries slots)) }
+    ensures rising { (slots : List (Option Table)) → AllPairs (λ i j. i < j)
+        (map (λ e. e.0) (entries slots)) }
     ensures seen { (slots : List (Option Table)) (order : List ℕ) → Ordered (item_at slots) order
         → Ordered (λ i. option_map (λ (t : Table). t) (item_at slots i)) order }
     ensures nothing { Ordered {X = Table} (λ i. None) [] }

@@ -1,5 +1,5 @@
 -- Items get their indices one after another, and one space after another.
-use Rattle.std.proofs.Common.{inl, inr, ◌≡◌, ℕ, ◌+◌, Bool, true, false, List, [], ◌∷◌, ◌++◌, length, map, take, ◌<◌, refl, sym, ap, ◌∙◌, subst, arith, Some, None, length-append, get_or}
+use Rattle.std.proofs.Common.{inl, inr, ◌≡◌, ℕ, ◌+◌, Bool, true, false, List, [], ◌∷◌, ◌++◌, length, map, take, ◌<◌, refl, sym, ap, ◌∙◌, subst, arith, Some, None, length-append}
 use Rattle.std.specs.Prelude.{slice_index_or, ◌≢◌, ◌⊎◌, ◌==◌, nat_eq, if◌then◌else◌}
 use Rattle.std.proofs.lemmas.Bool.Decides.{eqb_tells}
 use Rattle.std.specs.List.{IsDistinct}
@@ -86,4 +86,3 @@ pub count_refused : (plan : Plan) (space : Space) (n : ℕ) (e : Error) → n �
 count_refused plan space n (errors.Memory m) same r = tt
 count_refused plan space n errors.TooLarge same r = (space, omega (arith, r, same))
 count_refused plan space n _ same r = absurd r
-

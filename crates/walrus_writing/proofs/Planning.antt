@@ -1,7 +1,6 @@
 -- The orders of all spaces are a plan of the module.
-use Rattle.std.proofs.Common.{◌≡◌, ◌<◌, ◌^◌, ℕ, Bool, true, List, [], map, length, refl, sym, ap, ap₂, ◌∙◌, subst, arith, ◌⊎◌}
+use Rattle.std.proofs.Common.{◌≡◌, ◌<◌, ◌^◌, ℕ, true, List, [], map, length, refl, sym, ap, ◌∙◌, subst, arith, ◌⊎◌}
 use Rattle.std.specs.Prelude.{Option, Some, None, IsSome, AllPairs, option_map}
-use Rattle.std.specs.List.{list_all}
 use Rattle.std.proofs.lemmas.List.{length-map}
 use Rattle.walrus_base.specs.Arena.{item_at, entries, items}
 use Rattle.walrus_base.specs.Id.{place}
@@ -10,30 +9,25 @@ use Rattle.walrus_base.specs.declared.keys.TypeKey.{TypeKey}
 use Rattle.walrus_base.specs.declared.keys.FunctionKey.{FunctionKey}
 use Rattle.walrus_code.specs.Code.{op_of}
 use Rattle.walrus_code.specs.declared.function.LocalFunction.{LocalFunction}
-use Rattle.walrus_code.specs.Names.{Lookup}
-use Rattle.walrus_types.specs.Shape.{place_in}
 use Rattle.walrus_types.specs.ModuleTypes.{type_slots}
 use Rattle.walrus_types.specs.Operators.{Space, Types, Functions, Tables, Memories, Tags, Globals, Elements, DataSegments}
-use Rattle.walrus_types.specs.TypeDef.{TypeDef}
 use Rattle.walrus_items.specs.Functions.{FunctionValue, functions}
 use Rattle.walrus_items.specs.declared.functions.FunctionKind.{FunctionKind}
 use Rattle.walrus_items.specs.declared.functions.FunctionKind.TheVariants as kind
 use Rattle.walrus_contents.specs.View.{body, function, kind_of, parts_view}
 use Rattle.walrus_contents.specs.declared.parts.Parts.{Parts}
-use Rattle.walrus_contents.proofs.Lookups.{was_some, still_some}
 use Rattle.walrus_model.specs.Abstract as abstract
-use Rattle.walrus_model.specs.Abstract.{Abstract, Function, LocalFunction as OfBody, Body, Table, Memory, Tag, Global, Element, DataSegment}
-use Rattle.walrus_model.specs.Order.{ByImport, FunctionsByImport, LargerFirst}
+use Rattle.walrus_model.specs.Abstract.{Abstract, Function, LocalFunction as OfBody, Table, Memory, Tag, Global, Element, DataSegment}
+use Rattle.walrus_model.specs.Order.{ByImport}
 use Rattle.walrus_model.specs.Ordered.{Ordered}
 use Rattle.walrus_model.specs.Plan as model
-use Rattle.walrus_model.specs.Plan.{AreNumbered, IsPlan}
-use Rattle.walrus_model.specs.Same.{BothAnd}
+use Rattle.walrus_model.specs.Plan.{IsPlan}
 use Rattle.walrus_model.specs.Spaces.{look}
 use Rattle.walrus_model.proofs.Arenas.{entries_rise, no_pairs, ordered_nothing, ordered_seen}
 use Rattle.walrus_model.proofs.Orders.{ordered_entries}
 use Rattle.walrus_model.proofs.Standing.{none_there, some_inj, some_of}
 use Rattle.walrus_writing.specs.Local.{all_local, is_local}
-use Rattle.walrus_writing.specs.Numbered.{planned, with_places}
+use Rattle.walrus_writing.specs.Numbered.{with_places}
 use Rattle.walrus_writing.specs.Places.{places}
 use Rattle.walrus_writing.specs.Sizes.{IsOrder}
 use Rattle.walrus_writing.specs.declared.plan.Plan.{Plan}
@@ -143,14 +137,3 @@ module _ (plan : Plan) (types : List (Id TypeKey)) (functions : List (Id Functio
   few_places few many Globals = omega arith
   few_places few many Elements = omega arith
   few_places few many DataSegments = omega arith
-
--- the same, of the places of types said otherwise
-pub numbered_so : (names : Lookup) (plan : Plan) (types : List ℕ) → map place plan.types.items ≡ types → AreNumbered names (places plan) → AreNumbered names (planned types (map place plan.functions.items))
-numbered_so names plan types same h Types = λ n. h Types n ∙ ap (λ (ts : List ℕ). place_in ts n) same
-numbered_so names plan types same h Functions = h Functions
-numbered_so names plan types same h Tables = h Tables
-numbered_so names plan types same h Memories = h Memories
-numbered_so names plan types same h Tags = h Tags
-numbered_so names plan types same h Globals = h Globals
-numbered_so names plan types same h Elements = h Elements
-numbered_so names plan types same h DataSegments = h DataSegments

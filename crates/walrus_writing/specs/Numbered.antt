@@ -1,6 +1,6 @@
 -- Which indices are given.
-use Rattle.std.specs.Prelude.{ℕ, List, [], length, nat_eq, if◌then◌else◌, ◌≡◌, ◌≢◌}
-use Rattle.walrus_types.specs.Operators.{Space, Types, Functions}
+use Rattle.std.specs.Prelude.{ℕ, List, length, nat_eq, if◌then◌else◌, ◌≡◌, ◌≢◌}
+use Rattle.walrus_types.specs.Operators.{Space}
 use Rattle.walrus_code.specs.Indices.{index_of, given, SameIn}
 use Rattle.walrus_code.specs.declared.indices.IdsToIndices.{IdsToIndices}
 use Rattle.walrus_model.specs.Imported.{code}
@@ -24,9 +24,3 @@ AreGiven now plan = (space : Space) → NumbersIn now space (plan space)
 -- the plan with these places in one space
 abbrev pub with_places : Plan → Space → List ℕ → Plan
 with_places plan space places other = if nat_eq (code other) (code space) then places else plan other
-
--- the plan of a module that has types and functions alone
-abbrev pub planned : (types functions : List ℕ) → Plan
-planned types functions Types = types
-planned types functions Functions = functions
-planned types functions space = []

@@ -1,5 +1,4 @@
-use Rattle.std.proofs.Common.{◌∙◌, map, take}
-use Rattle.walrus_base.specs.Id.{place}
+use Rattle.std.proofs.Common.{◌∙◌}
 use Rattle.walrus_types.specs.Operators.{Functions}
 use Rattle.walrus_writing.proofs.Numbering.{new_at, numbers_turn}
 use Rattle.walrus_writing.proofs.plan.number_functions.Goals as goal
