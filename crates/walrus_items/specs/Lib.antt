@@ -1,6 +1,11 @@
 pub mod Exports
 pub mod Functions
+pub mod Imports
+pub mod Items
+pub mod Keeping
 pub mod LendsExport
 pub mod LendsFunction
+pub mod LendsImport
+pub mod Marks
 pub mod Searches
 pub mod Seen

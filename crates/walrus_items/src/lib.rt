@@ -3,12 +3,16 @@
 
 mod exports;
 mod functions;
+mod imports;
+mod marks;
 
 pub use exports::{Export, ExportEntries, ExportItem, ExportIter, ModuleExports};
 pub use functions::{
     Function, FunctionEntries, FunctionIter, FunctionKind, ImportedFunction, LocalFunctionIter,
     ModuleFunctions,
 };
+pub use imports::{Import, ImportEntries, ImportIter, ImportKind, ModuleImports};
+pub use marks::ItemMarks;
 pub use walrus_parts::{
     AbstractHeapType, ArenaIter, Arg, Args, ArrayType, BlockType, CodeTransform, CompositeType,
     ConstExpr, ConstOp, CustomSection, CustomSectionKey, DataId, DataKey, ElementId, ElementKey,
