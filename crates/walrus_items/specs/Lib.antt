@@ -1,3 +1,4 @@
+pub mod Equality
 pub mod Exports
 pub mod Functions
 pub mod Imports
@@ -6,6 +7,7 @@ pub mod Keeping
 pub mod LendsExport
 pub mod LendsFunction
 pub mod LendsImport
+pub mod LendsKind
 pub mod Marks
 pub mod Searches
 pub mod Seen
