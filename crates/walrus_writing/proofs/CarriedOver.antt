@@ -1,6 +1,5 @@
 -- The records that a module is written as hold all of it, under the indices that are given.
 use Rattle.wasm_entries.specs.Record as entries
-use Rattle.wasm_entries.specs.declared.record.RawExportKind.TheVariants as kinds
 use Rattle.std.proofs.Common.{◌≡◌, ℕ, List, [], ◌∷◌, ◌++◌, map, refl, sym, ap, ap₂, subst, ◌∙◌, inl, inr, ⊎_elim, ◌<◌, Bool, true}
 use Rattle.std.specs.Prelude.{Option, Some, None, IsSome, Contains, slice_get, zip, option_map, option_and_then, unwrap_or}
 use Rattle.walrus_base.specs.Arena.{item_at, entries, items}
@@ -35,10 +34,10 @@ use Rattle.walrus_rules.specs.Text.{said}
 use Rattle.walrus_model.specs.Carried.{Carries, Carried, KeepsApart}
 use Rattle.walrus_model.specs.Live.{IsLive}
 use Rattle.walrus_model.specs.Out.{IsTheSegment}
-use Rattle.walrus_model.specs.Sections.{Said, function_with, export_of, types_of, body_with}
+use Rattle.walrus_model.specs.Sections.{Said, function_with, export_of, space_of, types_of, body_with}
 use Rattle.walrus_model.specs.Renaming.{Renaming, renamed_export}
 use Rattle.walrus_model.specs.Same.{SameType, SameFunction, BothAnd}
-use Rattle.walrus_writing.specs.Parts.{Held, held_in, local_in, type_index, export_with_index, HasBytes}
+use Rattle.walrus_writing.specs.Parts.{Held, held_in, local_in, type_index, export_kind, export_with_index, HasBytes}
 use Rattle.walrus_writing.specs.Records.{Records}
 use Rattle.walrus_producers.specs.declared.producers.ModuleProducers.{ModuleProducers}
 use Rattle.walrus_contents.specs.View.{body, kind_of, function, export_of as export_seen, view_of}
@@ -70,14 +69,22 @@ module _ {h : Held} {features : Features} {exports : List ExportValue} (r : Reco
 
 -- ---- exports
 
+-- the kind of an export is its index space
+space_kept : (x : ExportItem) → space_of (export_kind x) ≡ (exported x).0
+space_kept (item.Function f) = refl
+space_kept (item.Table t) = refl
+space_kept (item.Memory m) = refl
+space_kept (item.Global g) = refl
+space_kept (item.Tag t) = refl
+
 module _ (names : Lookup) (ren : Renaming) (agrees : (space : Space) (p j : ℕ) → names space p ≡ Some j → j ≡ ren.numbers space p) where
-  same_item : (name : List ℕ) (x : ExportItem) (o : Option ℕ) (e : entries.Export) → names (exported x).0 (exported x).1 ≡ o
-      → Some e ≡ option_map (λ index. record { name = name; kind = kinds.Function; index = index }) o
-      → export_of e ≡ (record { name = name; item = ((exported x).0, ren.numbers (exported x).0 (exported x).1) })
-  same_item name x None e h p = absurd (cc)
-  same_item name (item.Function f) (Some j) e h p =
-      ap export_of (some_inj e (record { name = name; kind = kinds.Function; index = j }) p)
-      ∙ ap (λ (n : ℕ). record { name = name; item = (Functions, n) }) (agrees Functions (place f) j h)
+  same_item : (x : ExportValue) (o : Option ℕ) (e : entries.Export) → names (exported x.item).0 (exported x.item).1 ≡ o
+      → Some e ≡ option_map (λ index. record { name = x.name; kind = export_kind x.item; index = index }) o
+      → export_of e ≡ renamed_export ren (export_seen x)
+  same_item x None e h p = absurd (cc)
+  same_item x (Some j) e h p =
+      ap export_of (some_inj e (record { name = x.name; kind = export_kind x.item; index = j }) p)
+      ∙ ap₂ (λ (s : Space) (n : ℕ). record { name = x.name; item = (s, n) }) (space_kept x.item) (agrees (exported x.item).0 (exported x.item).1 j h)
 
   same_exports : (raws : List entries.Export) (es : List ExportValue) → map Some raws ≡ map (export_with_index names) es → map export_of raws ≡ map (renamed_export ren) (map export_seen es)
   same_exports [] [] e = refl
@@ -85,7 +92,7 @@ module _ (names : Lookup) (ren : Renaming) (agrees : (space : Space) (p j : ℕ)
   same_exports (y ∷ raws) [] e = absurd (cc)
   same_exports (y ∷ raws) (x ∷ es) e =
       let p : (Some y ≡ export_with_index names x) × (map Some raws ≡ map (export_with_index names) es) = heads (Some y) (export_with_index names x) (map Some raws) (map (export_with_index names) es) e in
-      ap₂ ◌∷◌ (same_item x.name x.item (names (exported x.item).0 (exported x.item).1) y refl p.0) (same_exports raws es p.1)
+      ap₂ ◌∷◌ (same_item x (names (exported x.item).0 (exported x.item).1) y refl p.0) (same_exports raws es p.1)
 
 -- ---- what stands where
 

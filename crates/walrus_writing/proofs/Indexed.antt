@@ -1,6 +1,5 @@
 -- Where all that is named is there, and each function has a body, all that is written has an index.
 use Rattle.wasm_entries.specs.Record as entries
-use Rattle.wasm_entries.specs.declared.record.RawExportKind.TheVariants as kinds
 use Rattle.std.proofs.Common.{inl, inr, ◌≡◌, ℕ, suc, Bool, true, false, ⊎_elim, List, [], ◌∷◌, ◌++◌, map, refl, sym, ap, ◌∙◌, subst, arith, Some, None}
 use Rattle.std.specs.Prelude.{Option, IsSome, All, Err, Contains, flat_map, option_map, option_and_then, ◌==◌, if◌then◌else◌}
 use Rattle.std.proofs.lemmas.List.{get_or-map, length-map}
@@ -44,7 +43,7 @@ use Rattle.walrus_model.proofs.Lists.{Contains-head, Contains-tail, Contains-map
 use Rattle.walrus_model.specs.Plan.{AreNumbered}
 use Rattle.walrus_writing.specs.Refusals.{RefusesBodies}
 use Rattle.walrus_writing.specs.Numbered.{planned}
-use Rattle.walrus_writing.specs.Parts.{Held, parts_held, local_in, type_index, export_with_index, source, IsIndexed}
+use Rattle.walrus_writing.specs.Parts.{Held, parts_held, local_in, type_index, export_kind, export_with_index, source, IsIndexed}
 use Rattle.walrus_writing.specs.Sizes.{IsOrder}
 use Rattle.walrus_writing.specs.Local.{is_local, all_local}
 use Rattle.walrus_writing.proofs.Entries.{item_passes, entry_placed, contains_placed, LocalAt, order_live, order_placed}
@@ -199,14 +198,14 @@ module _ (p : Parts) (none_dead : HasDead (parts_view p) → ⊥) (local : all_l
   order_typed : All (λ n. IsSome (type_index h.funcs names n)) order
   order_typed = λ k d lt. typed_at _ (order_live h.funcs order ordered k d lt)
 
-  abbrev with_index : List ℕ → ℕ → entries.Export
-  with_index name index = record { name = name; kind = kinds.Function; index = index }
+  abbrev with_index : ExportValue → ℕ → entries.Export
+  with_index e index = record { name = e.name; kind = export_kind e.item; index = index }
 
   exports_named : (vs : List ExportValue) → ((e : abstract.Export) → Contains (map export_of vs) e → IsLive V e.item) → All (λ e. IsSome e) (map (export_with_index names) vs)
   exports_named [] l = λ k d lt. absurd (omega (arith, lt))
   exports_named (e ∷ vs) l =
       All-cons (λ (x : Option entries.Export). IsSome x) (export_with_index names e) (map (export_with_index names) vs)
-      (still_some (with_index e.name) (names (exported e.item).0 (exported e.item).1) (item_named (exported e.item) (l (export_of e) (Contains-head (export_of e) (map export_of vs)))))
+      (still_some (with_index e) (names (exported e.item).0 (exported e.item).1) (item_named (exported e.item) (l (export_of e) (Contains-head (export_of e) (map export_of vs)))))
       (exports_named vs (λ x c. l x (Contains-tail (export_of e) x (map export_of vs) c)))
 
   -- and what each export names

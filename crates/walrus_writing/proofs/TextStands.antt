@@ -2,13 +2,12 @@
 use Rattle.wasm_entries.specs.Record as entries
 use Rattle.wasm_frames.specs.Record as wire
 use Rattle.std.proofs.Common.{◌≡◌, ℕ, ◌<◌, ◌^◌, List, [], ◌∷◌, ◌++◌, length, map, refl, sym, ap, ap₂, subst, ◌∙◌, arith, suc}
-use Rattle.std.specs.Prelude.{All, Some, option_map}
+use Rattle.std.specs.Prelude.{All, Some}
 use Rattle.std.specs.List.{AllByRecursion, AllZip}
 use Rattle.std.specs.Str.{IsUtf8}
 use Rattle.std.proofs.lemmas.List.{append-nil, length-map}
 use Rattle.std.proofs.lemmas.List.Elements.{All-nil, All-cons, All-append, All-head, All-from_recursion, recursion_from_All}
 use Rattle.wasm_forms.specs.Spelling.{number_bytes}
-use Rattle.wasm_entries.specs.Record.{Group}
 use Rattle.wasm_entries.specs.Spelling.{IsIndex, ExportStands, ExportFits, export_bytes}
 use Rattle.wasm_entries.specs.TypeSpelling.{GroupFits, group_bytes, LimitsFit, limits_bytes}
 use Rattle.wasm_entries.specs.Spelling as spelling
@@ -21,7 +20,8 @@ use Rattle.wasm_writer.specs.Spelling.{all_spelled, SectionFits, SectionStands, 
 use Rattle.wasm_writer.proofs.Listed.{fits_none}
 use Rattle.walrus_base.specs.Arena.{entries as entries_in}
 use Rattle.walrus_base.specs.Id.{place}
-use Rattle.walrus_types.specs.Operators.{Types, Functions}
+use Rattle.walrus_types.specs.Operators.{Types, Functions, Tables, Memories, Globals, Tags}
+use Rattle.walrus_types.specs.Shape.{place_in}
 use Rattle.walrus_types.specs.TypeDef.{TypeDef}
 use Rattle.walrus_code.specs.Function.{function_type}
 use Rattle.walrus_code.specs.declared.function.LocalFunction.{LocalFunction}
@@ -29,14 +29,13 @@ use Rattle.walrus_bodies.specs.declared.features.Features.{Features}
 use Rattle.walrus_items.specs.Exports.{ExportValue, exported}
 use Rattle.walrus_items.specs.declared.exports.ExportItem.{ExportItem}
 use Rattle.walrus_items.specs.declared.exports.ExportItem.TheVariants as item
-use Rattle.wasm_entries.specs.declared.record.RawExportKind.TheVariants as kinds
 use Rattle.walrus_rules.specs.Spelling.{BodyStands, written_as}
 use Rattle.walrus_rules.specs.Text.{listed, sections_of}
 use Rattle.walrus_rules.specs.Text as text
 use Rattle.walrus_rules.proofs.OneList.{All-front, All-back}
 use Rattle.walrus_contents.proofs.Lookups.{heads, mapped_some, then_some}
 use Rattle.walrus_model.proofs.Standing.{got_in}
-use Rattle.walrus_writing.specs.Parts.{Held, HasBytes, source, type_index, export_with_index, local_in, unplaced}
+use Rattle.walrus_writing.specs.Parts.{Held, HasBytes, source, type_index, export_kind, export_with_index, local_in, unplaced}
 use Rattle.walrus_writing.specs.Records as records
 use Rattle.walrus_writing.specs.Records.{Records}
 use Rattle.walrus_writing.proofs.Leads.{found_at}
@@ -207,17 +206,28 @@ module _ (h : Held) (features : Features) (exports : List ExportValue) (r : Reco
         let l = then_some (λ (f : ℕ × LocalFunction). r.names Types (place (function_type f.1))) (local_in h.funcs i) t (sym p.0) in
         (type_small (place (function_type l.0.1)) t l.2, functions_stand raws order p.1)
 
-    export_stands : (name : List ℕ) (x : ExportItem) (e : entries.Export) → Some e ≡ option_map (λ (index : ℕ). record { name = name; kind = kinds.Function; index = index }) (r.names (exported x).0 (exported x).1) → IsUtf8 e.name → ExportStands e
-    export_stands name (item.Function f) e is text =
-        let m = mapped_some (λ (index : ℕ). record { name = name; kind = kinds.Function; index = index }) (r.names Functions (place f)) e (sym is) in
-        record { name = text; index = subst (λ (x : entries.Export). IsIndex x.index) (sym m.2) (function_small (place f) m.0 m.1) }
+    -- no item of another space has an index
+    none_small : (p k : ℕ) → place_in [] p ≡ Some k → IsIndex k
+    none_small p k e = absurd (cc)
+
+    item_small : (x : ExportItem) (k : ℕ) → r.names (exported x).0 (exported x).1 ≡ Some k → IsIndex k
+    item_small (item.Function f) k e = function_small (place f) k e
+    item_small (item.Table t) k e = none_small (place t) k (sym (r.numbered Tables (place t)) ∙ e)
+    item_small (item.Memory m) k e = none_small (place m) k (sym (r.numbered Memories (place m)) ∙ e)
+    item_small (item.Global g) k e = none_small (place g) k (sym (r.numbered Globals (place g)) ∙ e)
+    item_small (item.Tag t) k e = none_small (place t) k (sym (r.numbered Tags (place t)) ∙ e)
+
+    export_stands : (x : ExportValue) (e : entries.Export) → Some e ≡ export_with_index r.names x → IsUtf8 e.name → ExportStands e
+    export_stands x e is text =
+        let m = mapped_some (λ (index : ℕ). record { name = x.name; kind = export_kind x.item; index = index }) (r.names (exported x.item).0 (exported x.item).1) e (sym is) in
+        record { name = text; index = subst (λ (y : entries.Export). IsIndex y.index) (sym m.2) (item_small x.item m.0 m.1) }
 
     exports_stand : (raws : List entries.Export) (all : List ExportValue) → map Some raws ≡ map (export_with_index r.names) all → AllByRecursion (λ (e : entries.Export). IsUtf8 e.name) raws → AllByRecursion ExportStands raws
     exports_stand [] all e texts = tt
     exports_stand (y ∷ raws) [] e texts = absurd (cc)
     exports_stand (y ∷ raws) (x ∷ all) e texts =
         let p = heads (Some y) (export_with_index r.names x) (map Some raws) (map (export_with_index r.names) all) e in
-        (export_stands x.name x.item y p.0 texts.0, exports_stand raws all p.1 texts.1)
+        (export_stands x y p.0 texts.0, exports_stand raws all p.1 texts.1)
 
     pub sections_stand : All SectionStands (sections_of (text_of r))
     sections_stand =

@@ -1,6 +1,7 @@
 -- What the sections hold that a module is written as.
 use Rattle.wasm_entries.specs.Record as entries
 use Rattle.wasm_entries.specs.declared.record.RawExportKind.TheVariants as kinds
+use Rattle.wasm_entries.specs.declared.record.RawExportKind.{RawExportKind}
 use Rattle.std.specs.Prelude.{ℕ, List, Option, Some, option_map, option_and_then, map, ◌≡◌}
 use Rattle.wasm_frames.specs.Record as wire
 use Rattle.walrus_base.specs.Arena.{item_at, items}
@@ -20,6 +21,8 @@ use Rattle.walrus_bodies.specs.declared.features.Features.{Features}
 use Rattle.walrus_functions.specs.EmittedBody.{Source, BodyWritten, LacksAnIndex, types_of as local_types}
 use Rattle.walrus_items.specs.Exports.{ExportValue, exported, exports}
 use Rattle.walrus_items.specs.Functions.{FunctionValue, functions, local_at}
+use Rattle.walrus_items.specs.declared.exports.ExportItem.{ExportItem}
+use Rattle.walrus_items.specs.declared.exports.ExportItem.TheVariants as item
 use Rattle.walrus_items.specs.declared.functions.ModuleFunctions.{ModuleFunctions}
 use Rattle.walrus_contents.specs.declared.parts.Parts.{Parts}
 
@@ -48,9 +51,17 @@ local_in funcs number = option_and_then (λ f. local_at number f.kind) (item_at 
 abbrev pub type_index : List (Option FunctionValue) → Lookup → ℕ → Option ℕ
 type_index funcs names number = option_and_then (λ f. names Types (place (function_type f.1))) (local_in funcs number)
 
+-- the kind of what is exported
+abbrev pub export_kind : ExportItem → RawExportKind
+export_kind (item.Function f) = kinds.Function
+export_kind (item.Table t) = kinds.Table
+export_kind (item.Memory m) = kinds.Memory
+export_kind (item.Global g) = kinds.Global
+export_kind (item.Tag t) = kinds.Tag
+
 -- an export with the index of what it exports
 abbrev pub export_with_index : Lookup → ExportValue → Option entries.Export
-export_with_index names e = option_map (λ index. record { name = e.name; kind = kinds.Function; index = index }) (names (exported e.item).0 (exported e.item).1)
+export_with_index names e = option_map (λ index. record { name = e.name; kind = export_kind e.item; index = index }) (names (exported e.item).0 (exported e.item).1)
 
 -- a body to be written, under these indices and with these proposals
 abbrev pub source : Held → Lookup → Features → LocalFunction → Source
