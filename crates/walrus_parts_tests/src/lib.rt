@@ -8,7 +8,11 @@ mod bodies;
 #[cfg(test)]
 mod entries;
 #[cfg(test)]
+mod exports;
+#[cfg(test)]
 mod forms;
+#[cfg(test)]
+mod imports;
 #[cfg(test)]
 mod ir;
 #[cfg(test)]
