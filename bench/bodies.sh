@@ -7,6 +7,8 @@
 # bench/bodies.sh [MEGABYTES..], 10 25 50 where none are given. No part of the gate.
 set -eu
 here=$(cd "$(dirname "$0")" && pwd)
+[ "${1-}" = --told ] || exec "$here/../tests/still.sh" 15 "bench/bodies.sh: measuring" "$here/bodies.sh" --told "$@"
+shift
 program=$here/../crates/wasm_bodies/out/wasm_bodies
 "$here/../tests/build.sh" wasm_bodies
 files=$(mktemp -d)

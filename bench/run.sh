@@ -3,6 +3,8 @@
 # beside `cat` of the same file. bench/run.sh [MEGABYTES..], 1 10 100 where none are given. No part of the gate.
 set -eu
 here=$(cd "$(dirname "$0")" && pwd)
+[ "${1-}" = --told ] || exec "$here/../tests/still.sh" 15 "bench/run.sh: measuring" "$here/run.sh" --told "$@"
+shift
 program=$here/../crates/walrus_gc/out/walrus_gc
 "$here/../tests/build.sh" walrus_gc
 files=$(mktemp -d)

@@ -5,6 +5,8 @@
 # bench/wire.sh [MEGABYTES..], 1 10 100 where none are given. No part of the gate.
 set -eu
 here=$(cd "$(dirname "$0")" && pwd)
+[ "${1-}" = --told ] || exec "$here/../tests/still.sh" 15 "bench/wire.sh: measuring" "$here/wire.sh" --told "$@"
+shift
 program=$here/../crates/wasm_copy/out/wasm_copy
 "$here/../tests/build.sh" wasm_copy
 files=$(mktemp -d)

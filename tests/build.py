@@ -16,7 +16,7 @@ import time
 
 TOP = pathlib.Path(__file__).resolve().parent.parent
 CRATES = TOP / "crates"
-TURN = 20  # seconds from one line of progress to the next
+TURN = 15  # seconds from one line of progress to the next
 
 
 def say(text):

@@ -5,17 +5,20 @@
 # tests/edits.sh [CRATE..], all crates where none is given; LANES=N works on N crates at a time (1 to 4 GB of memory each), 2 where it isn't set.
 set -eu
 top=$(cd "$(dirname "$0")/.." && pwd)
+[ $# -gt 0 ] || set -- $(ls "$top/tests/edits")
+for crate in "$@"; do
+  [ -d "$top/tests/edits/$crate" ] || { echo "tests/edits.sh: there is no folder tests/edits/$crate" >&2; exit 1; }
+  "$top/tests/build.sh" "$crate"
+done
 room=$(mktemp -d)
 trap 'rm -rf "$room"' EXIT
 tar -C "$top" --exclude=out/incremental --exclude=must-fail -cf - HANDLES crates.txt crates | tar -C "$room" -xf -
 git -C "$room" init -q
-[ $# -gt 0 ] || set -- $(ls "$top/tests/edits")
 for crate in "$@"; do
-  [ -d "$top/tests/edits/$crate" ] || { echo "tests/edits.sh: there is no folder tests/edits/$crate" >&2; exit 1; }
   cp -a "$top/tests/edits/$crate" "$room/crates/$crate/must-fail"
 done
 cd "$room"
-printf '%s\n' "$@" | xargs -P "${LANES:-2}" -I{} sh -c 'rt must-fail {} > "told.{}" 2>&1; cat "told.{}"'
+printf '%s\n' "$@" | "$top/tests/still.sh" 15 "tests/edits.sh: trying" xargs -P "${LANES:-2}" -I{} sh -c 'rt must-fail {} > "told.{}" 2>&1; cat "told.{}"'
 refused=$(cat told.* | grep -c ': refused, as it must be' || true)
 all=$(ls crates/*/must-fail/*.edit | wc -l)
 echo "$refused of $all wrong edits are refused"

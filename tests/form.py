@@ -2,12 +2,11 @@
 """Checks the form of the repository, with no prover, in a few seconds. `.ci/run` begins with it.
 
     tests/form.py           prints what is wrong, a line each, and ends with status 1 where there is any
-    tests/form.py --all     also counts, crate by crate, what is not refused yet: wide clauses
 
-Refused are: a file of src that doesn't begin with `//!`, or has more than 800 lines; a bare hexadecimal number in src or specs
-outside the files that name such numbers; a README.md of more than 100 lines, or with one of more than 100 columns; more wrong
-edits in the gate than its time allows; and a wrong edit, of the gate or of tests/edits, whose old text doesn't stand exactly
-once in its file.
+Refused are: a file of src that doesn't begin with `//!`, or has more than 800 lines; a line of a clause of more than 110 columns;
+a body of a function of more than 40 lines; a bare hexadecimal number in src or specs outside the files that name such numbers; a
+README.md of more than 100 lines, or with one of more than 100 columns; more wrong edits in the gate than its time allows; and a
+wrong edit, of the gate or of tests/edits, whose old text doesn't stand exactly once in its file.
 """
 import collections
 import pathlib
@@ -18,6 +17,8 @@ TOP = pathlib.Path(__file__).resolve().parent.parent
 CRATES = TOP / "crates"
 
 MOST_LINES_OF_A_FILE = 800
+MOST_LINES_OF_A_BODY = 40
+WIDEST_CLAUSE = 110
 MOST_LINES_OF_THE_README = 100
 MOST_COLUMNS_OF_THE_README = 100
 MOST_EDITS = 100
@@ -25,7 +26,6 @@ MOST_CRATES_WITH_EDITS = 12
 # The dearest crates, since an edit costs by the size of its crate.
 UPPER_CRATES = ("walrus_module", "walrus")
 MOST_EDITS_OF_THE_UPPER_CRATES = 16
-WIDEST_CLAUSE = 110
 # Where hexadecimal numbers stand bare; elsewhere code and definitions cite their names. A name that ends in / is a folder.
 FILES_OF_NUMBERS = (
     # the modules of names
@@ -65,6 +65,42 @@ def wrong_in_sources():
             yield f"{name_of(path)}: the first line is no //! line"
         if len(lines) - 1 > MOST_LINES_OF_A_FILE:
             yield f"{name_of(path)}: more than {MOST_LINES_OF_A_FILE} lines"
+
+
+def lines_of_clauses(lines):
+    """The number and the text of each line of a clause: from its first word on, until its braces are closed."""
+    depth = 0
+    for number, line in enumerate(lines, 1):
+        if depth > 0 or re.match(r"\s*(ensures|requires|invariant|decreases)\b", line):
+            depth += line.count("{") - line.count("}")
+            yield number, line
+
+
+def wrong_in_clauses():
+    for path in sources():
+        for number, line in lines_of_clauses(lines_of(path)):
+            if len(line) > WIDEST_CLAUSE:
+                yield f"{name_of(path)}:{number}: {len(line)} columns of a clause, more than {WIDEST_CLAUSE}"
+
+
+def bodies(lines):
+    """The number of the first line, the name, and the count of lines between the braces, of each function with a body of its own lines."""
+    for at, line in enumerate(lines):
+        head = re.match(r"( *)(pub(\([a-z]+\))? )?(const )?fn (\w+)", line)
+        if head:
+            opens = (head[1] + "{", head[1] + "}", "")
+            start = next(
+                i for i in range(at, len(lines))
+                if lines[i] in opens or lines[i].endswith("{") and (i == at or lines[i].startswith(head[1] + ")")))
+            if lines[start].endswith("{"):
+                yield at + 1, head[5], lines.index(head[1] + "}", start) - start - 1
+
+
+def wrong_in_bodies():
+    for path in sources():
+        for number, name, count in bodies(lines_of(path)):
+            if count > MOST_LINES_OF_A_BODY:
+                yield f"{name_of(path)}:{number}: the body of {name} has {count} lines, more than {MOST_LINES_OF_A_BODY}"
 
 
 def bare_numbers(path):
@@ -136,27 +172,12 @@ def wrong_in_edits():
             yield f"{name_of(edit)}: {why}"
 
 
-def print_counts(what, counts):
-    told = ", ".join(f"{crate} {count}" for crate, count in sorted(counts.items()))
-    print(f"{what}: {counts.total()} ({told})")
-
-
-def print_wide_clauses():
-    clause = re.compile(r"\s*(ensures|requires|invariant|decreases)\b")
-    counts = collections.Counter()
-    for path in sources():
-        counts[path.relative_to(CRATES).parts[0]] += sum(
-            len(line) > WIDEST_CLAUSE for line in lines_of(path) if clause.match(line))
-    print_counts(f"clauses of more than {WIDEST_CLAUSE} columns", +counts)
-
-
 def main():
-    checks = (wrong_in_sources, wrong_in_numbers, wrong_in_readme, wrong_in_gate, wrong_in_edits)
+    checks = (
+        wrong_in_sources, wrong_in_clauses, wrong_in_bodies, wrong_in_numbers, wrong_in_readme, wrong_in_gate, wrong_in_edits)
     wrong = [line for check in checks for line in check()]
     for line in wrong:
         print(line)
-    if "--all" in sys.argv[1:]:
-        print_wide_clauses()
     print(f"tests/form.py: {len(wrong)} things are wrong" if wrong else "tests/form.py: the form is right")
     sys.exit(1 if wrong else 0)
 

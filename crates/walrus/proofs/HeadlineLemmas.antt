@@ -1,10 +1,10 @@
 -- What was parsed, then collected, then written or refused: what the whole way comes to. The laws of walrus_rules say it of the abstract
 -- modules; here it is said of the answers of the calls.
-use Rattle.std.proofs.Common.{◌≡◌, ◌≢◌, ℕ, true, false, List, refl, sym, ap, ◌∙◌, subst}
+use Rattle.std.proofs.Common.{◌≡◌, ℕ, List, refl, sym, ap, ◌∙◌, subst}
 use Rattle.std.proofs.lemmas.Result.{err_from_is_err_and}
 use Rattle.std.specs.Prelude.{Option, Some, None, IsSome, IfOk, IsErrAnd, Result, Ok, Err}
 use Rattle.walrus_base.specs.Types.{ValType}
-use Rattle.walrus_types.specs.Operators.{Item, Functions}
+use Rattle.walrus_types.specs.Operators.{Item}
 use Rattle.walrus_model.specs.Abstract.{Abstract, Body, LocalFunction, Function}
 use Rattle.walrus_model.specs.Config.{Config}
 use Rattle.walrus_model.specs.Dead.{HasDead, DeadLocal, NoKind}

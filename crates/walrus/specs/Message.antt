@@ -1,5 +1,5 @@
 -- The line that a refusal is told in.
-use Rattle.std.specs.Prelude.{ℕ, ◌+◌, ◌-◌, ◌^◌, min, List, ◌++◌, Option, ◌≡◌, codes, Result, Ok, Err}
+use Rattle.std.specs.Prelude.{ℕ, ◌+◌, ◌-◌, ◌^◌, min, List, ◌++◌, Option, ◌≡◌, codes}
 use Rattle.std.specs.Io.KnownBytes.{Appends}
 use Rattle.walrus.specs.Device.{WroteFront}
 

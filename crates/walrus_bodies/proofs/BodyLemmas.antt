@@ -1,6 +1,6 @@
 -- Bodies of functions: declarations, and operators behind them.
 use Rattle.std.proofs.Common.{◌≡◌, ℕ, ◌+◌, ◌-◌, ◌^◌, List, [], ◌∷◌, ◌++◌, length, map, min, Option, Some, None, Result, Ok, Err, IsErrAnd, slice_get, refl, ap, ◌∙◌, sym, subst, arith, append_assoc, length-append}
-use Rattle.std.proofs.lemmas.List.{append-nil, map-append}
+use Rattle.std.proofs.lemmas.List.{map-append}
 use Rattle.std.proofs.lemmas.List.FromFn.{map-range_with_len_more, length-range_with_len}
 use Rattle.std.specs.List.{range_with_len}
 use Rattle.wasm_forms.specs.declared.types.RawVal.{RawVal}
@@ -59,9 +59,6 @@ length-map-place (i ∷ ids) = let rest = length-map-place ids in omega (arith, 
 as_many : (old new : List (Option Local)) (ids : List (Id LocalKey)) (types : List DeclaredValType) → AddsLocals old new ids types → length ids ≡ length types
 as_many old new ids types adds = sym (length-map-place ids) ∙ ap length adds.places ∙ length-range_with_len (length old) (length types)
 
-pub adds-none : (old : List (Option Local)) → AddsLocals old old [] []
-adds-none old = record { places = refl; added = sym (append-nil old) }
-
 -- one more local
 pub adds-more : (old middle new : List (Option Local)) (ids ids' : List (Id LocalKey)) (types : List DeclaredValType) (id : Id LocalKey) (ty : DeclaredValType) → AddsLocals old middle ids types → place id ≡ length middle → new ≡ middle ++ Some (new_local id ty) ∷ [] → ids' ≡ ids ++ id ∷ [] → AddsLocals old new ids' (types ++ ty ∷ [])
 adds-more old middle new ids ids' types id ty adds at is grown =
@@ -72,9 +69,6 @@ adds-more old middle new ids ids' types id ty adds at is grown =
       places = ap (map place) grown ∙ map-append place ids (id ∷ []) ∙ ap (λ (ns : List ℕ). ns ++ place id ∷ []) adds.places ∙ ap (λ (n : ℕ). range_with_len (length old) (length types) ++ n ∷ []) (at ∙ long) ∙ sym (range-more (length old) (length types)) ∙ ap (range_with_len (length old)) (sym count);
       added = is ∙ ap (λ (xs : List (Option Local)). xs ++ Some (new_local id ty) ∷ []) adds.added ∙ append_assoc old (new_locals ids types) (Some (new_local id ty) ∷ []) ∙ ap (λ (xs : List (Option Local)). old ++ xs) (sym (new_locals-more ids types id ty many)) ∙ ap (λ (js : List (Id LocalKey)). old ++ new_locals js (types ++ ty ∷ [])) (sym grown);
     }
-
-pub grows-none : (old : List (Option Local)) → Grows old old
-grows-none old = ([], sym (append-nil old))
 
 pub grows-some : (old new : List (Option Local)) (ids : List (Id LocalKey)) (types : List DeclaredValType) → AddsLocals old new ids types → Grows old new
 grows-some old new ids types adds = (new_locals ids types, adds.added)

@@ -1,5 +1,5 @@
 -- The locals that a body declares.
-use Rattle.std.proofs.Common.{◌≡◌, ℕ, zero, suc, List, [], ◌∷◌, ◌++◌, Option, Some, None, option_map, map, Result, Ok, Err, replicate, refl, ap, ◌∙◌, sym, append_assoc}
+use Rattle.std.proofs.Common.{◌≡◌, ℕ, zero, suc, List, ◌∷◌, ◌++◌, Option, Some, None, option_map, map, Result, Ok, Err, replicate, refl, ap, ◌∙◌, sym, append_assoc}
 use Rattle.wasm_forms.specs.declared.types.RawVal.{RawVal}
 use Rattle.wasm_forms.specs.Reading.{◌>>=◌}
 use Rattle.wasm_forms.specs.Grammar.{at}
@@ -30,10 +30,6 @@ types_behind done rest = option_map (λ types. done ++ types) rest
 pub types_behind-more : (done new : List (ValType ℕ)) (rest : Option (List (ValType ℕ))) → types_behind (done ++ new) rest ≡ types_behind done (rest >>= λ types. Some (new ++ types))
 types_behind-more done new None = refl
 types_behind-more done new (Some types) = ap Some (append_assoc done new types)
-
-pub types_behind-nothing : (rest : Option (List (ValType ℕ))) → types_behind [] rest ≡ rest
-types_behind-nothing None = refl
-types_behind-nothing (Some types) = refl
 
 -- one more declaration
 pub types_behind-next : (names : Lookup) (done new : List (ValType ℕ)) (d : ℕ × RawVal) (rest : List (ℕ × RawVal)) (v : ValType ℕ) (whole : Option (List (ValType ℕ))) → named_val names (val_of d.1) ≡ Some v → new ≡ done ++ replicate d.0 v → types_behind done (declared_types names (d ∷ rest)) ≡ whole → types_behind new (declared_types names rest) ≡ whole

@@ -40,9 +40,6 @@ places-more (t ∷ texts) text start =
     let same : start + length (op_bytes t) + length (row_bytes op_bytes texts) ≡ start + length (op_bytes t ++ row_bytes op_bytes texts) = omega arith in
     ap (λ (ns : List ℕ). start ∷ ns) (places-more texts text (start + length (op_bytes t)) ∙ ap (λ (n : ℕ). places_from (start + length (op_bytes t)) texts ++ n ∷ []) same)
 
-pub appends-none : (names : Lookup) (locals : ℕ → Option ℕ) (old : List ℕ) → AppendsAll names locals [] old old []
-appends-none names locals old = record { texts = []; named = refl; spelled = sym (append-nil old); placed = refl; stand = tt }
-
 pub appends-more : (names : Lookup) (locals : ℕ → Option ℕ) (ops : List Op) (o : Op) (old middle new : List ℕ) (places : List ℕ) → AppendsAll names locals ops old middle places → Appends names locals o middle new → AppendsAll names locals (ops ++ o ∷ []) old new (places ++ length middle ∷ [])
 appends-more names locals ops o old middle new places all one =
     let here : length middle ≡ length old + length (row_bytes op_bytes all.texts) = ap length all.spelled ∙ length-append old (row_bytes op_bytes all.texts) in

@@ -63,11 +63,6 @@ front_of c locals blocks bytes x is =
 
 -- ---- locations
 
-pub at_start : (IsGiven : ℕ → InstrLocId → Type 0) (place : ℕ) (bytes : List ℕ) (locs : List InstrLocId) → Located IsGiven (place + (length bytes - length bytes)) bytes locs → Located IsGiven place bytes ([] ++ locs)
-at_start IsGiven place bytes locs located =
-    let same : place + (length bytes - length bytes) ≡ place = omega arith in
-    subst (λ (p : ℕ). Located IsGiven p bytes locs) same located
-
 -- one more operator
 pub one_more : (IsGiven : ℕ → InstrLocId → Type 0) (c : Context) (locals : ℕ → Option ℕ) (blocks : List Opened) (place : ℕ) (all bytes : List ℕ) (x : Op × List Opened × List ℕ) (loc : InstrLocId) (locs : List InstrLocId) → length bytes ≤ length all → Front c locals blocks bytes x → IsGiven (min (place + (length all - length bytes)) (2 ^ 64 - 1)) loc → Located IsGiven (place + (length all - length x.2)) x.2 locs → Located IsGiven (place + (length all - length bytes)) bytes (loc ∷ locs)
 one_more IsGiven c locals blocks place all bytes x loc locs within here given later =

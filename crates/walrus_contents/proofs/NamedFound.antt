@@ -1,5 +1,5 @@
 -- What operators name that were looked up and found.
-use Rattle.std.proofs.Common.{◌≡◌, ℕ, Bool, true, false, List, [], ◌∷◌, ◌++◌, map, refl, sym, ap, ap₂, ◌∙◌, subst, ⊎_elim, Some}
+use Rattle.std.proofs.Common.{◌≡◌, ℕ, Bool, true, List, [], ◌∷◌, ◌++◌, map, refl, sym, ap, ap₂, ◌∙◌, subst, ⊎_elim, Some}
 use Rattle.std.specs.Prelude.{Option, IsSome, Contains, flat_map, ◌&&◌}
 use Rattle.std.proofs.lemmas.List.Elements.{Contains-append_cases}
 use Rattle.wasm_forms.specs.Reading.{◌>>=◌}
@@ -16,10 +16,6 @@ is_some_by o x e = subst (λ p. IsSome p) (sym e) (refl {A = Bool} {a = true})
 
 one_item : {A : Type 0} (P : A → Type 0) (x y : A) → Contains (x ∷ []) y → P x → P y
 one_item P x y c p = ⊎_elim (λ (e : x ≡ y). subst P e p) (λ (d : Contains [] y). absurd (Contains-none y d)) (Contains-uncons x y [] c)
-
-both_hold : (a b : Bool) → a ≡ true → b ≡ true → (a && b) ≡ true
-both_hold true b e h = h
-both_hold false b e h = e
 
 module _ (f : Lookup) where
   abbrev Found : Item → Type 0

@@ -5,7 +5,7 @@ use Rattle.std.proofs.lemmas.List.{append-nil, take_at}
 use Rattle.std.proofs.Math.Seq.{drop-cons}
 use Rattle.walrus_base.specs.Arena.{item_at}
 use Rattle.walrus_base.specs.Types.{ValType}
-use Rattle.walrus_types.specs.Alone.{alone, FoundOrAdded, Found, Added}
+use Rattle.walrus_types.specs.Alone.{FoundOrAdded, Found, Added}
 use Rattle.walrus_types.specs.Composite.{FunctionType}
 use Rattle.walrus_types.specs.Operators.{BlockType, Arg, Index, Label, Local, Number, Count, Byte, S32, S64, Bits32, Bits64, Value, Heap, Block, Access, Op}
 use Rattle.walrus_types.specs.TypeDef.{TypeDef}
@@ -40,10 +40,6 @@ adds_both fs gs old middle new ps qs (AndOne f others first next last p others_a
 
 pub adds_one : (f : FunctionType) (old new : Slots) (p : ℕ) → FoundOrAdded f old.types new.types old.names new.names p → AddsTypes (f ∷ []) old new (p ∷ [])
 adds_one f old new p one = AndOne f [] old new new p [] one (Nothing new)
-
-pub found_stays : (f : FunctionType) (old new : List (Option TypeDef)) (old_names new_names : List (Option (Option (List ℕ)))) (p : ℕ) → FoundOrAdded f old new old_names new_names p → StaysInFront old new
-found_stays f old new old_names new_names p (Found there same names) = ([], same ∙ sym (append-nil old))
-found_stays f old new old_names new_names p (Added none at more names) = (Some (alone p f) ∷ [], more)
 
 pub stays_same : {T : Type 0} (old new : List T) → new ≡ old → StaysInFront old new
 stays_same old new same = ([], same ∙ sym (append-nil old))

@@ -40,9 +40,6 @@ all-front : (gs hs : List Group) → All Filled (gs ++ hs) → All Filled gs
 all-front [] hs h = λ k d low. absurd (omega arith)
 all-front (g ∷ gs) hs h = All-cons Filled g gs (All-head Filled g (gs ++ hs) h) (all-front gs hs (All-tail Filled g (gs ++ hs) h))
 
-pub runs-first : (v : ValType ℕ) → AreRuns (v ∷ []) ((1, v) ∷ [])
-runs-first v = record { all = refl; filled = All-cons Filled (1, v) [] (omega arith) (λ k d low. absurd (omega arith)); changes = tt }
-
 -- one more of the last type
 pub runs-same : (types more : List (ValType ℕ)) (gs : List Group) (n m : ℕ) (v w : ValType ℕ) → more ≡ types ++ w ∷ [] → w ≡ v → m ≡ n + 1 → AreRuns types (gs ++ (n, v) ∷ []) → AreRuns more (gs ++ (m, v) ∷ [])
 runs-same types more gs n m v w is same next h = record {

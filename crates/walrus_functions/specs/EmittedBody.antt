@@ -7,16 +7,24 @@ use Rattle.wasm_forms.specs.Types.{value_bytes}
 use Rattle.wasm_operators.specs.Operators as wire
 use Rattle.wasm_operators.specs.Spelling.{op_bytes}
 use Rattle.walrus_base.specs.Arena.{item_at}
+use Rattle.walrus_base.specs.Id.{place}
 use Rattle.walrus_base.specs.Types.{ValType, CompType, Func, Struct, Array}
-use Rattle.walrus_types.specs.Locals.{local_type}
+use Rattle.walrus_types.specs.Locals.{local_type, locals}
+use Rattle.walrus_types.specs.ModuleTypes.{type_slots}
 use Rattle.walrus_types.specs.Operators.{Op, locals_of}
 use Rattle.walrus_types.specs.Shape.{place_in}
 use Rattle.walrus_types.specs.TypeDef.{TypeDef}
 use Rattle.walrus_types.specs.Value.{val_type}
 use Rattle.walrus_types.specs.declared.locals.Local.{Local}
+use Rattle.walrus_types.specs.declared.locals.ModuleLocals.{ModuleLocals}
+use Rattle.walrus_types.specs.declared.module_types.ModuleTypes.{ModuleTypes}
 use Rattle.walrus_code.specs.FromRaw.{val_of, ops_of}
+use Rattle.walrus_code.specs.Function.{function_type, body_of}
+use Rattle.walrus_code.specs.Indices.{index_of}
 use Rattle.walrus_code.specs.Names.{Lookup, LeadsBack, LocalsLeadBack, named_val, named_ops}
 use Rattle.walrus_code.specs.Results.{val_is_exact}
+use Rattle.walrus_code.specs.declared.function.LocalFunction.{LocalFunction}
+use Rattle.walrus_code.specs.declared.indices.IdsToIndices.{IdsToIndices}
 use Rattle.walrus_code.specs.declared.error.IrError.{IrError}
 use Rattle.walrus_code.specs.declared.error.IrError.TheVariants.{Malformed, Memory, NoIndex, NotWritable, TooLarge}
 use Rattle.walrus_bodies.specs.declared.features.Features.{Features}
@@ -24,6 +32,7 @@ use Rattle.walrus_bodies.specs.Blocks.{blocks_hold}
 use Rattle.walrus_bodies.specs.Body.{Context, BodyReads, declared_types}
 use Rattle.walrus_bodies.specs.Body as bodies
 use Rattle.walrus_bodies.specs.Emitting.{places_from, AllStand, IsNotWritable}
+use Rattle.walrus_bodies.specs.FunctionTypes.{is_function_at}
 use Rattle.walrus_functions.specs.DeclaredLocals.{HasType, IsDeclared, AreDeclared, AreGrouped}
 
 -- the type of each local of a module, by its place
@@ -71,6 +80,18 @@ pub record Source : Type 0 where
   pub features : Features
   pub parameters : List ℕ
   pub ops : List Op
+
+-- the body of this function, under these indices and types
+abbrev pub source_of : IdsToIndices → ModuleLocals → ModuleTypes → LocalFunction → Features → Source
+source_of indices all types function features = record {
+  names = index_of indices;
+  slots = types_of (locals all);
+  def = item_at (type_slots types) (place (function_type function));
+  is_function_type = is_function_at types;
+  features = features;
+  parameters = map place function.args.items;
+  ops = body_of function;
+}
 
 module _ (s : Source) where
   -- these are the locals that it declares, in their order

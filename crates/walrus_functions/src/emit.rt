@@ -11,7 +11,7 @@ ghost use Rattle.walrus_code.specs.Code.{ops_of};
 ghost use Rattle.walrus_bodies.specs.Declarations.{declarations_of};
 ghost use Rattle.walrus_bodies.specs.FunctionTypes.{is_function_at};
 ghost use Rattle.walrus_bodies.specs.Results.{locations};
-ghost use Rattle.walrus_functions.specs.EmittedBody.{EmitsBody, types_of};
+ghost use Rattle.walrus_functions.specs.EmittedBody.{EmitsBody, source_of, types_of};
 ghost use Rattle.walrus_functions.specs.Writing.{HasSignature, FindsDeclared, DeclaresLocals, WritesBehind};
 
 use crate::declared::{distinct_places, order_declared, types_at};
@@ -52,15 +52,10 @@ pub fn emit_body(
     indices: &IdsToIndices,
     features: &Features,
 ) -> Result<EmittedBody, IrError>
-    ensures written { EmitsBody (record {
-      names = index_of indices.now;
-      slots = types_of (locals module_locals.now);
-      def = item_at (type_slots types.now) (place (function_type function.now));
-      is_function_type = is_function_at types.now;
-      features = features.now;
-      parameters = map place function.now.args.items;
-      ops = body_of function.now;
-    }) (λ body. body.bytes.items) (λ body. map (λ p. p.1) body.places.items) (λ body. local_index body.locals) result }
+    ensures written { EmitsBody
+        (source_of indices.now module_locals.now types.now function.now features.now)
+        (λ body. body.bytes.items) (λ body. map (λ p. p.1) body.places.items)
+        (λ body. local_index body.locals) result }
     ensures located { IfOk result (λ body. map (λ p. p.0) body.places.items
         ≡ locations function.now.operators.items) }
 {

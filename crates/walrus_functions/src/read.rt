@@ -1,15 +1,16 @@
 //! Reading a whole function (Binary Format > Modules > Code Section).
-ghost use Rattle.std.specs.Prelude.{◌≡◌, true, IfOk, option_map, slice_get};
+ghost use Rattle.std.specs.Prelude.{◌≡◌, true, IfOk};
 ghost use Rattle.std.specs.Fn.{FnReturnsAt};
 ghost use Rattle.walrus_base.specs.Id.{place};
 ghost use Rattle.walrus_types.specs.Locals.{locals};
-ghost use Rattle.walrus_types.specs.ModuleTypes.{type_slots, type_names};
+ghost use Rattle.walrus_types.specs.ModuleTypes.{type_slots};
 ghost use Rattle.walrus_code.specs.Indices.{ids_at};
 ghost use Rattle.walrus_bodies.specs.Body.{context};
 ghost use Rattle.walrus_bodies.specs.BodyRead.{AddsLocals, BodyLocated};
 ghost use Rattle.walrus_bodies.specs.FunctionTypes.{is_function_at};
 ghost use Rattle.walrus_bodies.specs.Results.{locations};
 ghost use Rattle.walrus_functions.specs.ReadFunction.{ReadsFunction, StaysInFront};
+ghost use Rattle.walrus_functions.specs.Signatures.{slots_of, tag_places};
 
 use crate::handlers::add_handler_types;
 use std::alloc::{AllocError, Global};
@@ -43,9 +44,7 @@ pub fn read_body<L: Fn(&usize) -> InstrLocId>(
     requires typed { is_function_at types.old (place ty) ≡ true }
     requires callable { L.IsAlwaysCallable locate.now }
     ensures read { ReadsFunction (context (ids_at indices.now) (is_function_at types.old) features.now)
-        (λ tag. option_map place (slice_get tag_types.now tag)) (place ty)
-        (record { types = type_slots types.old; names = type_names types.old })
-        (record { types = type_slots types.new; names = type_names types.new })
+        (tag_places tag_types.now) (place ty) (slots_of types.old) (slots_of types.new)
         (locals module_locals.old) (locals module_locals.new) bytes.now result }
     ensures located { IfOk result (λ f. BodyLocated (FnReturnsAt L.Fn locate.now) start bytes.now
         (locations f.operators.items)) }

@@ -9,7 +9,7 @@ use Rattle.walrus_types.specs.TypeDef.{TypeDef}
 use Rattle.walrus_types.specs.TypeSlots.{group_at, group_of}
 use Rattle.walrus_types.specs.Whole.{AreWhole}
 use Rattle.walrus_groups.specs.Written.{starts_at, firsts}
-use Rattle.walrus_groups.proofs.WrittenLists.{AllThere, or_left, or_right}
+use Rattle.walrus_groups.proofs.WrittenLists.{or_left, or_right}
 
 -- what is made of those that are left completes what is made of all
 abbrev pub Completes : {A B C : Type 0} → (A → C → Type 0) → (all left : List A) → (B → C) → List B → Type 0
@@ -37,17 +37,8 @@ firsts_yes left after e step h = ap firsts step ∙ ap (λ (b : Bool). if b then
 pub firsts_no : (left after : List (ℕ × TypeDef)) (e : ℕ × TypeDef) → left ≡ e ∷ after → starts_at e.1.group e.0 ≡ false → firsts left ≡ firsts after
 firsts_no left after e step h = ap firsts step ∙ ap (λ (b : Bool). if b then e ∷ firsts after else firsts after) h
 
-pub there_here : (slots : List (Option TypeDef)) (left after : List (ℕ × TypeDef)) (e : ℕ × TypeDef) → left ≡ e ∷ after → AllThere slots left → item_at slots e.0 ≡ Some e.1
-there_here slots left after e step there = (subst (λ (l : List (ℕ × TypeDef)). AllThere slots l) step there).0
-
-pub there_after : (slots : List (Option TypeDef)) (left after : List (ℕ × TypeDef)) (e : ℕ × TypeDef) → left ≡ e ∷ after → AllThere slots left → AllThere slots after
-there_after slots left after e step there = (subst (λ (l : List (ℕ × TypeDef)). AllThere slots l) step there).1
-
 pub live_at : (slots : List (Option TypeDef)) (p q : ℕ) (x : TypeDef) → p ≡ q → item_at slots q ≡ Some x → IsLive slots p
 live_at slots p q x same at = ap is_some (ap (item_at slots) same ∙ at)
-
-pub group_here : (slots : List (Option TypeDef)) (p q : ℕ) (x : TypeDef) → p ≡ q → item_at slots q ≡ Some x → group_at slots p ≡ x.group
-group_here slots p q x same at = ap group_of (ap (item_at slots) same ∙ at)
 
 -- ---- the members of a group are there
 

@@ -9,5 +9,6 @@ pub mod LendsFunction
 pub mod LendsImport
 pub mod LendsKind
 pub mod Marks
+pub mod OwnIds
 pub mod Searches
 pub mod Seen

@@ -13,7 +13,7 @@ pub struct ModuleConfig {
     generate_synthetic_names: bool,
     strict_validate: bool,
     generate_producers_section: bool,
-    only_stable_features: bool,
+    pub(crate) only_stable_features: bool,
     legacy_exceptions: bool,
     preserve_code_transform: bool,
 }

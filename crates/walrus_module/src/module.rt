@@ -1,6 +1,6 @@
 //! The module in memory.
 
-ghost use Rattle.std.specs.Prelude.{◌≡◌, IfOk, IfErr, IsOkUnless};
+ghost use Rattle.std.specs.Prelude.{◌≡◌, false, IfOk, IfErr, IsOkUnless};
 ghost use Rattle.walrus_parts.specs.Errors.{out_of_memory};
 
 use crate::config::ModuleConfig;
@@ -33,7 +33,7 @@ pub struct Module {
 
 impl Module {
     ghost use Rattle.walrus_module.specs.Flags.{flags, defaults, config_of};
-    ghost use Rattle.walrus_reading.specs.Parsed.{IsParsed, RefusesBytes, AreLocated};
+    ghost use Rattle.walrus_reading.specs.Parsed.{AreLocated, IsParsed, ItemsAtOwnIds, RefusesBytes, TakenFrom, features_so_far};
     ghost use Rattle.walrus_module.specs.Settings.{settings};
     ghost use Rattle.walrus_module.specs.View.{HasNoCustoms, IsEmpty, contents_of, view};
 
@@ -69,6 +69,8 @@ impl Module {
         ensures found { IfOk result (λ m. IsParsed (config_of defaults) bytes.now (view m)) }
         ensures refused { IfErr result (RefusesBytes (config_of defaults) bytes.now) }
         ensures configured { IfOk result (λ m. settings m ≡ defaults) }
+        ensures taken { IfOk result (λ m. TakenFrom (features_so_far false) bytes.now (contents_of m)) }
+        ensures own_ids { IfOk result (λ m. ItemsAtOwnIds (contents_of m)) }
         ensures located { IfOk result (λ m. AreLocated bytes.now m.funcs) }
         ensures no_customs { IfOk result (λ m. HasNoCustoms m) }
     {
@@ -84,6 +86,9 @@ impl Module {
         ensures found { IfOk result (λ m. IsParsed (config_of (flags config.now)) bytes.now (view m)) }
         ensures refused { IfErr result (RefusesBytes (config_of (flags config.now)) bytes.now) }
         ensures configured { IfOk result (λ m. settings m ≡ flags config.now) }
+        ensures taken { IfOk result (λ m. TakenFrom (features_so_far (flags config.now).only_stable_features)
+            bytes.now (contents_of m)) }
+        ensures own_ids { IfOk result (λ m. ItemsAtOwnIds (contents_of m)) }
         ensures located { IfOk result (λ m. AreLocated bytes.now m.funcs) }
         ensures no_customs { IfOk result (λ m. HasNoCustoms m) }
     {

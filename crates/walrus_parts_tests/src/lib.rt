@@ -6,6 +6,8 @@ mod base;
 #[cfg(test)]
 mod bodies;
 #[cfg(test)]
+mod entities;
+#[cfg(test)]
 mod entries;
 #[cfg(test)]
 mod exports;

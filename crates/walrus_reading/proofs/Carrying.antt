@@ -1,7 +1,7 @@
 -- A module in memory that took in the sections is made of the module that was read.
 use Rattle.std.proofs.Common.{◌≡◌, ℕ, zero, suc, ◌+◌, ◌<◌, Bool, true, false, List, [], ◌∷◌, ◌++◌, length, length-append, map, refl, sym, ap, ap₂, subst, ◌∙◌, arith, inl, eqb-true}
 use Rattle.std.proofs.lemmas.Bool.{eqb-false}
-use Rattle.std.specs.Prelude.{Option, Some, None, IsSome, Contains, slice_get, zip, option_map, ◌==◌, ◌≤◌, ◌↔◌, if◌then◌else◌}
+use Rattle.std.specs.Prelude.{Option, Some, None, IsSome, Contains, slice_get, zip, option_map, ◌==◌, if◌then◌else◌}
 use Rattle.std.specs.List.{AllZip, range_with_len}
 use Rattle.walrus_base.specs.Arena.{item_at}
 use Rattle.walrus_base.specs.Id.{place}
@@ -23,8 +23,7 @@ use Rattle.walrus_items.specs.declared.functions.FunctionKind.TheVariants.{Local
 use Rattle.walrus_model.specs.Abstract.{Abstract, Name, TypeDef, Function, Body, Subject, TheModule, AnItem, ALocal}
 use Rattle.walrus_model.specs.Carried.{Carries}
 use Rattle.walrus_bodies.specs.declared.features.Features.{Features}
-use Rattle.walrus_rules.specs.Chain.{AreFoundOrAdded, NoMore, handlers_by, AddsHandlers, NoFunction, AndThose, IsBehind, IsWholeBody, ParsedAs}
-use Rattle.walrus_rules.specs.WellMade.{IsCounted}
+use Rattle.walrus_rules.specs.Chain.{AreFoundOrAdded, NoMore, handlers_by, AddsHandlers, NoFunction, AndThose, IsWholeBody, ParsedAs}
 use Rattle.walrus_rules.specs.Namings.{is_in_range}
 use Rattle.walrus_rules.specs.Sections.{items_of, module_of}
 use Rattle.walrus_reading.proofs.DeclaredLocals.{counts}
@@ -41,10 +40,11 @@ use Rattle.walrus_model.specs.Same.{SameType, SameBody, SameFunction, BothAnd}
 use Rattle.walrus_types.specs.Shape.{Seen, Own, Other, in_its_group, others_through, place_in}
 use Rattle.walrus_model.proofs.Lists.{map-itself, map-same}
 use Rattle.walrus_model.proofs.TypeMaps.{sub-itself, val-itself, heap-itself}
-use Rattle.walrus_reading.specs.Taken.{HoldsBody, HoldsFunction, HasTaken}
+use Rattle.walrus_reading.specs.Taken.{HasTaken}
+use Rattle.walrus_reading.proofs.Held.{HeldBody, HeldFunction, held, exported}
 use Rattle.walrus_contents.specs.View.{body, kind_of, kind_handlers, handlers_at, function, contents_view}
 use Rattle.walrus_contents.specs.declared.parts.Contents.{Contents}
-use Rattle.walrus_contents.proofs.Lookups.{got_map, there, there_mapped, still_some}
+use Rattle.walrus_contents.proofs.Lookups.{got_map, there, there_mapped}
 use Rattle.walrus_reading.proofs.Parsing.{read_at, used_below}
 use Rattle.walrus_contents.proofs.Steps.{type_there, zip_length}
 use Rattle.wasm_frames.specs.Record as wire
@@ -130,7 +130,7 @@ module _ (moved : ℕ → ℕ → ℕ) where
   ops_moved by ops = map-same (moved_op by) (renamed_op moving (λ n. by + n)) ops (op_moved by)
 
   module _ (all : ModuleLocals) (c : Features) (r : wire.Module) (i : ℕ) where
-    same_body : (p : ℕ × Said) (b : wire.Body) (f : LocalFunction) (h : HoldsBody (local_types (locals all)) p.0 (params_of (types_of r p.0)) p.1 f) → ReadsBodyWith c r (p.0, b) p.1 → moved i ≡ (λ n. h.first + n)
+    same_body : (p : ℕ × Said) (b : wire.Body) (f : LocalFunction) (h : HeldBody (local_types (locals all)) p.0 (params_of (types_of r p.0)) p.1 f) → ReadsBodyWith c r (p.0, b) p.1 → moved i ≡ (λ n. h.first + n)
         → SameBody moving i (body_with (params_of (types_of r p.0)) p.1) (body all f)
     same_body p b f h read at =
         let params = params_of (types_of r p.0) in
@@ -147,7 +147,7 @@ module _ (moved : ℕ → ℕ → ℕ) where
         within : (xs ys : List (ValType ℕ)) (x : ℕ) → x < length xs + length ys → x < length (xs ++ ys)
         within xs ys x lt = omega (arith, lt, length-append xs ys)
 
-    same_held : (p : ℕ × Said) (b : wire.Body) (slot : Option FunctionValue) (h : HoldsFunction (types_of r) (local_types (locals all)) p slot) → ReadsBodyWith c r (p.0, b) p.1 → moved i ≡ (λ n. h.body.first + n)
+    same_held : (p : ℕ × Said) (b : wire.Body) (slot : Option FunctionValue) (h : HeldFunction (types_of r) (local_types (locals all)) p slot) → ReadsBodyWith c r (p.0, b) p.1 → moved i ≡ (λ n. h.body.first + n)
         → BothAnd (SameFunction moving i) (Some (function_with r p)) (option_map (function all) slot)
     same_held p b slot h read at =
         let same : SameFunction moving i (function_with r p) (of_kind all (Local h.local)) = record { ty = h.body.typed; kind = same_body p b h.local h.body read at } in
@@ -158,7 +158,7 @@ module _ (moved : ℕ → ℕ → ℕ) where
 
 module _ (types : ℕ → Option TypeDef) (slots : List (Option (ValType ℕ))) where
   abbrev Holds : ℕ × Said → Option FunctionValue → Type 0
-  Holds p slot = HoldsFunction types slots p slot
+  Holds p slot = HeldFunction types slots p slot
 
   -- the first local of each function
   first_at : (ps : List (ℕ × Said)) (fs : List (Option FunctionValue)) → AllZip Holds ps fs → ℕ → ℕ
@@ -216,7 +216,7 @@ no_items A S = record { same = λ i h. absurd (none_there h); onto = λ j h. abs
 -- ---- bodies are whole
 
 module _ (moved : ℕ → ℕ → ℕ) (all : ModuleLocals) (c : Features) (r : wire.Module) (i : ℕ) (p : ℕ × Said) (b : wire.Body) (g : LocalFunction)
-    (h : HoldsBody (local_types (locals all)) p.0 (params_of (types_of r p.0)) p.1 g) (read : ReadsBodyWith c r (p.0, b) p.1) (at : moved i ≡ (λ n. h.first + n)) where
+    (h : HeldBody (local_types (locals all)) p.0 (params_of (types_of r p.0)) p.1 g) (read : ReadsBodyWith c r (p.0, b) p.1) (at : moved i ≡ (λ n. h.first + n)) where
   abbrev params : List (ValType ℕ)
   params = params_of (types_of r p.0)
 
@@ -266,9 +266,12 @@ module _ (c : Features) (r : wire.Module) (x : Contents) (many : length r.bodies
   abbrev types : List TypeDef
   types = types_from 0 r.types
 
+  abbrev functions_held : AllZip (HeldFunction (types_of r) (local_types (locals all))) pairs slots
+  functions_held = held c (supported r) x h
+
   -- a function's locals begin where its first one stands
   abbrev moved : ℕ → ℕ → ℕ
-  moved i n = first_at (types_of r) (local_types (locals all)) pairs slots h.functions i + n
+  moved i n = first_at (types_of r) (local_types (locals all)) pairs slots functions_held i + n
 
   abbrev further : ℕ → ℕ → ℕ
   further k n = k + n
@@ -277,7 +280,7 @@ module _ (c : Features) (r : wire.Module) (x : Contents) (many : length r.bodies
   function_carried i live =
       let e = got_map (function_with r) pairs i in
       let some : IsSome (slice_get pairs i) = was_some (function_with r) (slice_get pairs i) (subst (λ o. IsSome o) e live) in
-      let a = held_at (types_of r) (local_types (locals all)) pairs slots h.functions i (got_within pairs i some) in
+      let a = held_at (types_of r) (local_types (locals all)) pairs slots functions_held i (got_within pairs i some) in
       let b = read_at (ReadsBodyWith c (supported r)) r.functions r.bodies h.bodies i a.pair many h.read a.got in
       let at : moved i ≡ (λ n. a.holds.body.first + n) = ap further a.same in
       let was : Some (function_with r a.pair) ≡ M.functions i = sym (e ∙ ap (option_map (function_with r)) a.got) in
@@ -291,7 +294,7 @@ module _ (c : Features) (r : wire.Module) (x : Contents) (many : length r.bodies
   function_there : (i : ℕ) → IsSome (v.functions i) → IsSome (M.functions i)
   function_there i live =
       let lt : i < length slots = item_within slots i (was_some (function all) (item_at slots i) live) in
-      let as_many : length pairs ≡ length slots = zip_length (HoldsFunction (types_of r) (local_types (locals all))) pairs slots h.functions in
+      let as_many : length pairs ≡ length slots = zip_length (HeldFunction (types_of r) (local_types (locals all))) pairs slots functions_held in
       let within : i < length pairs = omega (arith, lt, as_many) in
       there_mapped (function_with r) pairs i within
 
@@ -301,7 +304,7 @@ module _ (c : Features) (r : wire.Module) (x : Contents) (many : length r.bodies
   -- ---- no handlers
 
   handled : (f : ℕ) → v.handler_types f ≡ []
-  handled f = none_handled (types_of r) (local_types (locals all)) pairs slots f h.functions
+  handled f = none_handled (types_of r) (local_types (locals all)) pairs slots f functions_held
 
   module _ (none : (f : ℕ) (b : Body) → body_of M f ≡ Some b → handlers_of M b ≡ []) where
     no_handler : (f : ℕ) (o : Option Body) → body_of M f ≡ o → handlers_by M o ≡ []
@@ -322,13 +325,13 @@ module _ (c : Features) (r : wire.Module) (x : Contents) (many : length r.bodies
   said_by (Some p) a e = (p, refl, some_inj (body_with (params_of (types_of r p.0)) p.1) a e)
   said_by None a e = absurd (let no : ◌≡◌ {A = Option Body} None (Some a) = e in cc)
 
-  held_body : (slot : Option FunctionValue) (p : ℕ × Said) (k : HoldsFunction (types_of r) (local_types (locals all)) p slot) → body_of_function (option_map (function all) slot) ≡ Some (body all k.local)
+  held_body : (slot : Option FunctionValue) (p : ℕ × Said) (k : HeldFunction (types_of r) (local_types (locals all)) p slot) → body_of_function (option_map (function all) slot) ≡ Some (body all k.local)
   held_body slot p k = ap body_of_function (ap (option_map (function all)) k.is ∙ ap (λ (o : FunctionKind). Some (of_kind all o)) k.kind)
 
   whole_bodies : (f : ℕ) (a b : Body) → body_of M f ≡ Some a → body_of v f ≡ Some b → IsWholeBody (moving moved) f a b
   whole_bodies f a b was is =
       let s = said_by (slice_get pairs f) a (sym (ap body_of_function (got_map (function_with r) pairs f)) ∙ was) in
-      let k = held_at (types_of r) (local_types (locals all)) pairs slots h.functions f (got_in pairs f s.0 s.1).0 in
+      let k = held_at (types_of r) (local_types (locals all)) pairs slots functions_held f (got_in pairs f s.0 s.1).0 in
       let one : k.pair ≡ s.0 = some_inj k.pair s.0 (sym k.got ∙ s.1) in
       let t = read_at (ReadsBodyWith c (supported r)) r.functions r.bodies h.bodies f k.pair many h.read k.got in
       let at : moved f ≡ (λ n. k.holds.body.first + n) = ap further k.same in
@@ -380,7 +383,7 @@ module _ (c : Features) (r : wire.Module) (x : Contents) (many : length r.bodies
       data_segments = no_items _ _;
       imports_apart = λ i j k l e. e;
       apart = λ space no i j k l e. e;
-      exports = h.exports ∙ sym (map-itself (renamed_export (moving moved)) _ (λ e. refl));
+      exports = exported c (supported r) x h ∙ sym (map-itself (renamed_export (moving moved)) _ (λ e. refl));
       start = refl;
     };
     bodies = whole_bodies;

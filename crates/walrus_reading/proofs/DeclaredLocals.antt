@@ -1,6 +1,6 @@
 -- The locals that a body in memory declares: those that it uses beside its parameters.
 use Rattle.std.proofs.Common.{◌≡◌, ◌≢◌, ℕ, ◌+◌, ◌<◌, ◌||◌, ◌&&◌, Bool, true, false, List, [], ◌∷◌, length, map, refl, sym, ap, subst, ◌∙◌, arith, ⊎_elim, ◌⊎◌, inl, inr}
-use Rattle.std.specs.Prelude.{Contains, AllPairs, filter, not, ◌==◌, cond}
+use Rattle.std.specs.Prelude.{Contains, filter, not, ◌==◌, cond}
 use Rattle.std.specs.List.{range_with_len}
 use Rattle.std.proofs.lemmas.Bool.Decides.{Decides-eqb}
 use Rattle.std.proofs.lemmas.List.Kept.{AllPairs-filter}

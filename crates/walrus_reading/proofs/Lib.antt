@@ -1,13 +1,12 @@
 pub mod Accepting
-pub mod Beside
 pub mod Carrying
-pub mod CountedLocals
 pub mod DeclaredLocals
-pub mod Keeps
+pub mod Held
 pub mod Locating
 pub mod MovedRefs
 pub mod NoHandlers
 pub mod Parsing
+pub mod Placed
 pub mod References
 pub mod Refusals
 pub mod Rooms
@@ -15,6 +14,5 @@ pub mod SupportedOnly
 pub mod SupportedRules
 pub mod TakenBody
 pub mod TakenSections
-pub mod TypesRefer
 pub mod TypesTaken
 pub mod WholeLists

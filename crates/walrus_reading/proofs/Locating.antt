@@ -31,6 +31,9 @@ if_located R S through place bytes locs (Err e) h = h
 -- ---- function by function
 
 module _ (fs : List ℕ) (raw : List RawBody) (many : length raw ≡ length fs) where
+  pub none_located : (slots : List (Option FunctionValue)) → slots ≡ [] → AllZip IsLocated (take 0 (map wire.body_record raw)) slots
+  none_located slots none = subst (λ (l : List (Option FunctionValue)). AllZip IsLocated [] l) (sym none) tt
+
   pub more_located : (i : ℕ) (d : RawBody) (before after : List (Option FunctionValue)) → i < length fs → AllZip IsLocated (take i (map wire.body_record raw)) before
       → (slot : Option FunctionValue) → after ≡ before ++ slot ∷ [] → IsLocated (wire.body_record (get_or raw i d)) slot → AllZip IsLocated (take (i + 1) (map wire.body_record raw)) after
   more_located i d before after lt done slot push is =

@@ -2,6 +2,7 @@
 use Rattle.wasm_frames.specs.Record as wire
 use Rattle.std.proofs.Common.{◌≡◌, ℕ, List, map, refl, sym, ap, ap₂, subst, ◌∙◌, ⊎_elim, inl}
 use Rattle.std.specs.Prelude.{Option, Some, None, is_some, Contains, slice_get, zip, option_map, ◌⊎◌}
+use Rattle.std.specs.List.{AllZip}
 use Rattle.walrus_base.specs.Arena.{item_at}
 use Rattle.walrus_base.specs.Id.{place}
 use Rattle.walrus_base.specs.Types.{ValType}
@@ -19,9 +20,10 @@ use Rattle.walrus_model.specs.Abstract as abstract
 use Rattle.walrus_model.specs.Declared.{ref_func, IsRefInBody, IsRefInGlobal, IsUndeclared, NothingUndeclared}
 use Rattle.walrus_model.specs.Live.{IsLive}
 use Rattle.walrus_model.specs.Names.{body_of_function, body_of_kind}
-use Rattle.walrus_model.specs.Sections.{Said, types_of, function_with, body_with, module_of}
-use Rattle.walrus_reading.specs.Taken.{HoldsBody, HoldsFunction, HasTaken}
-use Rattle.walrus_contents.specs.View.{body, kind_of, function, contents_view}
+use Rattle.walrus_model.specs.Sections.{Said, types_of, function_with, body_with, export_of, module_of}
+use Rattle.walrus_reading.specs.Taken.{HasTaken}
+use Rattle.walrus_reading.proofs.Held.{HeldBody, HeldFunction, held, exported}
+use Rattle.walrus_contents.specs.View.{body, exports_of, kind_of, function, contents_view}
 use Rattle.walrus_contents.specs.declared.parts.Contents.{Contents}
 use Rattle.walrus_reading.proofs.MovedRefs.{ref_there, ref_back}
 use Rattle.walrus_reading.proofs.WholeLists.{mapped_some, got_map, zip_found, zip_there}
@@ -48,12 +50,18 @@ module _ (c : Features) (r : wire.Module) (m : Contents) (taken : HasTaken c (su
   abbrev slots_of : List (Option (ValType ℕ))
   slots_of = local_types (locals m.locals)
 
+  abbrev functions_held : AllZip (HeldFunction (types_of r) slots_of) (zip r.functions taken.bodies) (functions m.funcs)
+  functions_held = held c (supported r) m taken
+
+  abbrev exports_held : exports_of m.exports ≡ map export_of r.exports
+  exports_held = exported c (supported r) m taken
+
   -- the function at a place, and the body that was read for it
   pub record BodyAt (i : ℕ) (ty : ℕ) (b : abstract.Body) : Type 0 where
     pub said : ℕ × Said
     pub stands : slice_get (zip r.functions taken.bodies) i ≡ Some said
     pub local : LocalFunction
-    pub held : HoldsBody slots_of said.0 (params_of (types_of r said.0)) said.1 local
+    pub held : HeldBody slots_of said.0 (params_of (types_of r said.0)) said.1 local
     pub typed : ty ≡ said.0
     pub is : b ≡ body m.locals local
 
@@ -63,7 +71,7 @@ module _ (c : Features) (r : wire.Module) (m : Contents) (taken : HasTaken c (su
   pub body_at : (i : ℕ) (f : abstract.Function) (b : abstract.Body) → v.functions i ≡ Some f → f.kind ≡ abstract.LocalFunction b → BodyAt i f.ty b
   body_at i f b e is =
       let w = mapped_some (function m.locals) (item_at (functions m.funcs) i) f e in
-      let z = zip_found (HoldsFunction (types_of r) slots_of) (zip r.functions taken.bodies) (functions m.funcs) i w.0 taken.functions w.1.0 in
+      let z = zip_found (HeldFunction (types_of r) slots_of) (zip r.functions taken.bodies) (functions m.funcs) i w.0 functions_held w.1.0 in
       let h = z.1.1 in
       let same : w.0 ≡ h.value = (let q : ◌≡◌ {A = Option FunctionValue} (Some w.0) (Some h.value) = h.is in cc) in
       let of_kind : w.0.kind ≡ kind.Local h.local = ap (λ (x : FunctionValue). x.kind) same ∙ h.kind in
@@ -84,19 +92,19 @@ module _ (c : Features) (r : wire.Module) (m : Contents) (taken : HasTaken c (su
   read_at : (i : ℕ) (p : ℕ × Said) → slice_get (zip r.functions taken.bodies) i ≡ Some p → read.functions i ≡ Some (function_with r p)
   read_at i p e = got_map (function_with r) (zip r.functions taken.bodies) i ∙ ap (option_map (function_with r)) e
 
-  seen_at : (i : ℕ) (p : ℕ × Said) → slice_get (zip r.functions taken.bodies) i ≡ Some p → (g : LocalFunction) × ((v.functions i ≡ Some (record { ty = p.0; kind = abstract.LocalFunction (body m.locals g) })) × HoldsBody slots_of p.0 (params_of (types_of r p.0)) p.1 g)
+  seen_at : (i : ℕ) (p : ℕ × Said) → slice_get (zip r.functions taken.bodies) i ≡ Some p → (g : LocalFunction) × ((v.functions i ≡ Some (record { ty = p.0; kind = abstract.LocalFunction (body m.locals g) })) × HeldBody slots_of p.0 (params_of (types_of r p.0)) p.1 g)
   seen_at i p e =
-      let h = zip_there (HoldsFunction (types_of r) slots_of) (zip r.functions taken.bodies) (functions m.funcs) i p taken.functions e in
+      let h = zip_there (HeldFunction (types_of r) slots_of) (zip r.functions taken.bodies) (functions m.funcs) i p functions_held e in
       let of_type : place (kind_type h.value.kind) ≡ p.0 = ap (λ (k : FunctionKind). place (kind_type k)) h.kind ∙ h.body.typed in
       let of_kind : kind_of m.locals h.value.kind ≡ abstract.LocalFunction (body m.locals h.local) = ap (kind_of m.locals) h.kind in
       (h.local, (ap (option_map (function m.locals)) h.is ∙ ap₂ (λ (t : ℕ) (k : abstract.FunctionKind). Some (record { ty = t; kind = k })) of_type of_kind, h.body))
 
   -- the exports are those of the sections
   not_exported_read : (f : ℕ) → ((e : abstract.Export) → Contains read.exports e → e.item ≡ function_item f → ⊥) → (e : abstract.Export) → Contains v.exports e → e.item ≡ function_item f → ⊥
-  not_exported_read f h e c is = h e (subst (λ (l : List abstract.Export). Contains l e) taken.exports c) is
+  not_exported_read f h e c is = h e (subst (λ (l : List abstract.Export). Contains l e) exports_held c) is
 
   not_exported_seen : (f : ℕ) → ((e : abstract.Export) → Contains v.exports e → e.item ≡ function_item f → ⊥) → (e : abstract.Export) → Contains read.exports e → e.item ≡ function_item f → ⊥
-  not_exported_seen f h e c is = h e (subst (λ (l : List abstract.Export). Contains l e) (sym taken.exports) c) is
+  not_exported_seen f h e c is = h e (subst (λ (l : List abstract.Export). Contains l e) (sym exports_held) c) is
 
   operators_same : (xs ys : List Op) (o : Op) → xs ≡ ys → Contains xs o → Contains ys o
   operators_same xs ys o e h = subst (λ (l : List Op). Contains l o) e h

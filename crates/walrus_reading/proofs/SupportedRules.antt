@@ -1,6 +1,6 @@
 -- The rules on what is supported are the rules on sections that hold nothing else.
 use Rattle.wasm_entries.specs.declared.record.RawExportKind.TheVariants as kinds
-use Rattle.std.proofs.Common.{◌≡◌, ℕ, ◌<◌, true, List, map, length, get_or, refl, sym, ap, subst, ◌∙◌, arith}
+use Rattle.std.proofs.Common.{◌≡◌, ℕ, ◌<◌, true, List, length, get_or, refl, sym, ap, ◌∙◌, arith}
 use Rattle.std.specs.Prelude.{Option, Some, None, is_some, All, slice_get, flat_map, option_map}
 use Rattle.wasm_entries.specs.declared.record.RawExportKind.{RawExportKind}
 use Rattle.wasm_entries.specs.Record as entries

@@ -1,7 +1,7 @@
 -- The fields of a module that took in all sections.
 use Rattle.wasm_entries.specs.Record as entries
 use Rattle.std.proofs.Common.{◌≡◌, ℕ, ◌<◌, true, List, length, map, get_or, sym, ap, subst, ◌∙◌}
-use Rattle.std.specs.Prelude.{Some, Result, Ok, Err, All, zip}
+use Rattle.std.specs.Prelude.{Some, Result, Ok, Err, All, flat_map, zip}
 use Rattle.walrus_base.specs.Arena.{item_at}
 use Rattle.walrus_types.specs.ModuleTypes.{type_slots}
 use Rattle.walrus_types.specs.Operators.{Types, Functions}
@@ -12,19 +12,17 @@ use Rattle.walrus_code.specs.declared.indices.IndicesToIds.{IndicesToIds}
 use Rattle.walrus_bodies.specs.Body.{Context, context}
 use Rattle.walrus_bodies.specs.FunctionTypes.{is_function_at}
 use Rattle.walrus_bodies.specs.declared.features.Features.{Features}
-use Rattle.walrus_functions.specs.EmittedBody.{types_of as local_types}
 use Rattle.walrus_types.specs.Locals.{locals}
+use Rattle.walrus_items.specs.Exports.{exports}
 use Rattle.walrus_items.specs.Functions.{functions}
 use Rattle.walrus_items.specs.declared.exports.ModuleExports.{ModuleExports}
 use Rattle.walrus_producers.specs.declared.producers.ModuleProducers.{ModuleProducers}
-use Rattle.walrus_contents.specs.declared.parts.Contents.{Contents}
 use Rattle.walrus_items.specs.declared.functions.ModuleFunctions.{ModuleFunctions}
 use Rattle.walrus_groups.specs.Groups.{types_from}
 use Rattle.walrus_model.specs.Reads.{declared, is_function, context_with}
-use Rattle.walrus_model.specs.Sections.{types_of, export_of}
+use Rattle.walrus_model.specs.Sections.{Said, types_of}
 use Rattle.wasm_entries.specs.Record.{export_entry}
-use Rattle.walrus_reading.specs.Taken.{HasTaken, TakesFunctions, TakesSections}
-use Rattle.walrus_contents.specs.View.{exports_of}
+use Rattle.walrus_reading.specs.Taken.{AllPlaced, HasTaken, HoldsExport, HoldsLocal, HoldFunctions, TakesFunctions, TakesSections, locals_said}
 use Rattle.walrus_contents.proofs.Steps.{own_index, same_types, same_functions, function_declared}
 use Rattle.walrus_reading.proofs.TakenBody.{saids_of}
 use Rattle.walrus_parts.specs.declared.error.Error.{Error}
@@ -75,14 +73,16 @@ module _ (c : Features) (r : wire.Module) (indices : IndicesToIds) (ts : ModuleT
 
       pub sections_taken : length r.bodies ≡ length r.functions → (es : ModuleExports) (made : ModuleProducers) (u : Unit {0}) (x : List RawExport)
           → TakesFunctions (context (ids_at indices) (is_function_at ts) c) (item_at (type_slots ts)) (zip fs bs) all funcs (Ok u)
-          → map export_entry x ≡ r.exports → exports_of es ≡ map export_of (map export_entry x)
+          → map export_entry x ≡ r.exports → AllPlaced HoldsExport 0 (map export_entry x) (exports es)
           → HasTaken c r (record { types = ts; locals = all; funcs = funcs; exports = es; producers = made })
       sections_taken many es made u x h exported added =
-          let s = saids_of (context_with c (supported r)) (types_of r) (local_types (locals all)) r.functions r.bodies (functions funcs) many (under_sections (Ok u) h) in
+          let taken = under_sections (Ok u) h in
+          let s = saids_of (context_with c (supported r)) (types_of r) r.functions r.bodies taken.said many taken.read in
           subst (λ s. HasTaken c s (record { types = ts; locals = all; funcs = funcs; exports = es; producers = made })) (sym (all_supported r only)) (record {
             bodies = s.0;
             read = s.1.0;
             types = typed;
-            functions = s.1.1;
-            exports = added ∙ ap (map export_of) exported;
+            functions = subst (λ (l : List (ℕ × Said)). HoldFunctions (types_of r) 0 0 l (functions funcs)) s.1.1 taken.held;
+            locals = subst (λ (l : List (ℕ × Said)). AllPlaced HoldsLocal 0 (flat_map (locals_said (types_of r)) l) (locals all)) s.1.1 taken.locals;
+            exports = subst (λ (l : List entries.Export). AllPlaced HoldsExport 0 l (exports es)) exported added;
           })

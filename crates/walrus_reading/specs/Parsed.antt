@@ -1,6 +1,6 @@
 -- What parsing gives, and when it refuses.
 use Rattle.wasm_frames.specs.Record as wire
-use Rattle.std.specs.Prelude.{ℕ, List, false, zip, ◌≡◌, ⊤}
+use Rattle.std.specs.Prelude.{ℕ, Bool, List, false, zip, ◌≡◌, ⊤}
 use Rattle.walrus_model.specs.Abstract.{Abstract}
 use Rattle.walrus_model.specs.Config.{Config}
 use Rattle.walrus_model.specs.Declared.{NothingUndeclared}
@@ -15,12 +15,17 @@ use Rattle.walrus_model.specs.Supported.{IsSupported}
 use Rattle.std.specs.List.{AllZip}
 use Rattle.walrus_items.specs.declared.functions.ModuleFunctions.{ModuleFunctions}
 use Rattle.walrus_items.specs.Functions.{functions}
+use Rattle.walrus_items.specs.OwnIds.{FunctionsAtOwnIds, ExportsAtOwnIds, LocalsAtOwnIds}
 use Rattle.walrus_contents.specs.declared.parts.Contents.{Contents}
 use Rattle.walrus_reading.specs.Taken.{HasTaken, IsLocated}
 use Rattle.walrus_reading.specs.Sections.{Rules}
 use Rattle.wasm_frames.specs.Frames.{Frames}
 use Rattle.walrus_parts.specs.declared.error.Error.{Error}
 use Rattle.walrus_parts.specs.declared.error.Error.TheVariants.{Memory, InvalidWasm}
+
+-- the proposals that bodies may use so far, where wide arithmetic may be refused: legacy exceptions aren't read
+abbrev pub features_so_far : (only_stable : Bool) → Features
+features_so_far only_stable = record { legacy_exceptions = false; only_stable = only_stable }
 
 -- a configuration with these features that gives no names: names aren't read so far, and neither are legacy exceptions
 pub record IsReadWith (c : Config) (features : Features) : Type 0 where
@@ -47,15 +52,22 @@ pub record AreLocated (bytes : List ℕ) (funcs : ModuleFunctions) : Type 0 wher
   pub framed : Frames bytes sections
   pub located : AllZip IsLocated sections.bodies (functions funcs)
 
--- ---- for the functions inside
-
--- the bytes frame sections that keep the rules, and the module holds them
+-- The bytes frame sections that keep the rules, and the module holds exactly them: beside its view, where each item sits, that nothing is deleted or
+-- named, and which locals there are.
 pub record TakenFrom (features : Features) (bytes : List ℕ) (m : Contents) : Type 0 where
   pub sections : wire.Module
   pub framed : Frames bytes sections
   pub supported : IsSupported sections
   pub rules : Rules sections
   pub taken : HasTaken features sections m
+
+-- each function, export and local sits at its own id; types always do
+pub record ItemsAtOwnIds (m : Contents) : Type 0 where
+  pub functions : FunctionsAtOwnIds m.funcs
+  pub exports : ExportsAtOwnIds m.exports
+  pub locals : LocalsAtOwnIds m.locals
+
+-- ---- for the functions inside
 
 -- the bytes frame sections that keep the rules, each body is read, and each function that ref.func names is exported
 pub record AreModule (features : Features) (bytes : List ℕ) : Type 0 where

@@ -1,12 +1,14 @@
 -- What the fields of a module hold of the sections that were read.
-use Rattle.std.specs.Prelude.{ℕ, ◌+◌, List, [], ◌∷◌, ◌++◌, map, zip, Option, Some, length, slice_get, ◌≡◌, ◌<◌, ◌^◌, Result, Ok, Err}
+use Rattle.std.specs.Prelude.{ℕ, ◌+◌, List, [], ◌∷◌, ◌++◌, map, flat_map, zip, Option, Some, None, length, ◌≡◌, ◌<◌, ◌^◌, Result, Ok, Err}
 use Rattle.std.specs.List.{AllZip, range_with_len}
 use Rattle.walrus_base.specs.Arena.{item_at}
 use Rattle.walrus_base.specs.Id.{place}
 use Rattle.walrus_base.specs.Types.{ValType}
-use Rattle.walrus_types.specs.Locals.{locals}
+use Rattle.walrus_types.specs.Locals.{locals, local_place, local_type}
 use Rattle.walrus_types.specs.ModuleTypes.{type_slots}
 use Rattle.walrus_types.specs.TypeDef.{TypeDef}
+use Rattle.walrus_types.specs.Value.{val_type}
+use Rattle.walrus_types.specs.declared.locals.Local.{Local as LocalItem}
 use Rattle.walrus_types.specs.declared.locals.ModuleLocals.{ModuleLocals}
 use Rattle.walrus_code.specs.Function.{function_type, body_of}
 use Rattle.walrus_code.specs.declared.function.LocalFunction.{LocalFunction}
@@ -14,7 +16,6 @@ use Rattle.walrus_code.specs.Location.{location, location_at}
 use Rattle.walrus_code.specs.declared.location.InstrLocId.{InstrLocId}
 use Rattle.walrus_bodies.specs.BodyRead.{BodyLocated}
 use Rattle.walrus_bodies.specs.Results.{locations}
-use Rattle.walrus_functions.specs.EmittedBody.{types_of as local_types}
 use Rattle.walrus_functions.specs.Handlers.{params_of}
 use Rattle.walrus_functions.specs.Laws.{moved_op}
 use Rattle.walrus_functions.specs.ReadFunction.{locals_from}
@@ -22,36 +23,70 @@ use Rattle.walrus_bodies.specs.Body.{Context, context, BodyReads}
 use Rattle.walrus_bodies.specs.FunctionTypes.{is_function_at}
 use Rattle.walrus_bodies.specs.declared.features.Features.{Features}
 use Rattle.walrus_code.specs.Indices.{ids_at}
+use Rattle.walrus_items.specs.Exports.{ExportValue, exports}
 use Rattle.walrus_items.specs.Functions.{FunctionValue, functions}
 use Rattle.walrus_items.specs.declared.functions.FunctionKind.TheVariants.{Local}
 use Rattle.walrus_items.specs.declared.functions.ModuleFunctions.{ModuleFunctions}
 use Rattle.walrus_groups.specs.Groups.{types_from}
 use Rattle.walrus_model.specs.Reads.{ReadsBodyWith}
 use Rattle.walrus_model.specs.Sections.{Said, types_of, export_of}
-use Rattle.walrus_contents.specs.View.{exports_of}
+use Rattle.walrus_contents.specs.View as view
 use Rattle.walrus_contents.specs.declared.parts.Contents.{Contents}
 use Rattle.walrus_reading.specs.declared.contents.Under.{Under}
+use Rattle.wasm_entries.specs.Record as entries
 use Rattle.wasm_frames.specs.Record as wire
 use Rattle.walrus_parts.specs.declared.error.Error.{Error}
 use Rattle.walrus_parts.specs.declared.error.Error.TheVariants.{Memory, InvalidWasm}
 
--- A function of this type, with parameters of these types, holds the body that was read: its parameters are the locals from some place on,
--- behind them stand the declared ones, and its operators name them there. It has no handlers.
-pub record HoldsBody (slots : List (Option (ValType ℕ))) (ty : ℕ) (params : List (ValType ℕ)) (body : Said) (f : LocalFunction) : Type 0 where
+-- ---- what is held of what was read; nothing is deleted, each item sits at its own id, and nothing of these has a name
+
+-- what is listed stands at the places from this one on, in order
+abbrev pub AllPlaced : {A B : Type 0} → (ℕ → A → B → Type 0) → ℕ → List A → List B → Type 0
+AllPlaced R place [] [] = Unit {0}
+AllPlaced R place [] (y ∷ ys) = ⊥
+AllPlaced R place (x ∷ xs) [] = ⊥
+AllPlaced R place (x ∷ xs) (y ∷ ys) = R place x y × AllPlaced R (place + 1) xs ys
+
+-- the types of the locals of a function: its parameters, and then those that its body declares, used or not
+abbrev pub locals_said : (types : ℕ → Option TypeDef) → ℕ × Said → List (ValType ℕ)
+locals_said types f = params_of (types f.0) ++ f.1.0
+
+-- A function of this type holds the body that was read: so many parameters are its locals from the first one on, and its operators name its
+-- locals there. It has neither handlers nor a name.
+pub record HoldsBody (first ty arity : ℕ) (body : Said) (f : LocalFunction) : Type 0 where
   pub typed : place (function_type f) ≡ ty
-  pub first : ℕ
-  pub parameters : map place f.args.items ≡ range_with_len first (length params)
-  pub local_types : (x : ℕ) → x < length (params ++ body.0) → item_at slots (first + x) ≡ slice_get (params ++ body.0) x
+  pub parameters : map place f.args.items ≡ range_with_len first arity
   pub operators : body_of f ≡ map (moved_op first) body.1
   pub handlers : f.handler_types.items ≡ []
+  pub unnamed : f.name ≡ None
 
--- a slot holds a function of this type with the body that was read
-pub record HoldsFunction (types : ℕ → Option TypeDef) (slots : List (Option (ValType ℕ))) (f : ℕ × Said) (slot : Option FunctionValue) : Type 0 where
-  pub value : FunctionValue
-  pub is : slot ≡ Some value
+-- a slot holds, with this id, a function of this type with the body that was read
+pub record HoldsFunction (types : ℕ → Option TypeDef) (id first : ℕ) (f : ℕ × Said) (slot : Option FunctionValue) : Type 0 where
   pub local : LocalFunction
-  pub kind : value.kind ≡ Local local
-  pub body : HoldsBody slots f.0 (params_of (types f.0)) f.1 local
+  pub is : slot ≡ Some (record { id = id; kind = Local local; name = None })
+  pub body : HoldsBody first f.0 (length (params_of (types f.0))) f.1 local
+
+-- function by function: the locals of each stand behind those of the functions before it
+abbrev pub HoldFunctions : (types : ℕ → Option TypeDef) → (id first : ℕ) → List (ℕ × Said) → List (Option FunctionValue) → Type 0
+HoldFunctions types id first [] [] = Unit {0}
+HoldFunctions types id first [] (slot ∷ slots) = ⊥
+HoldFunctions types id first (f ∷ fs) [] = ⊥
+HoldFunctions types id first (f ∷ fs) (slot ∷ slots) = HoldsFunction types id first f slot × HoldFunctions types (id + 1) (first + length (locals_said types f)) fs slots
+
+-- a slot holds, with this id, a local of this type
+pub record HoldsLocal (id : ℕ) (type : ValType ℕ) (slot : Option LocalItem) : Type 0 where
+  pub local : LocalItem
+  pub is : slot ≡ Some local
+  pub own_id : local_place local ≡ id
+  pub typed : val_type (local_type local) ≡ type
+  pub unnamed : local.name ≡ None
+
+-- a slot holds, with this id, the export that was read
+pub record HoldsExport (id : ℕ) (e : entries.Export) (slot : Option ExportValue) : Type 0 where
+  pub value : ExportValue
+  pub is : slot ≡ Some value
+  pub own_id : value.id ≡ id
+  pub read : view.export_of value ≡ export_of e
 
 -- an operator's location is the place of its first byte in the input
 abbrev pub IsPlace : ℕ → InstrLocId → Type 0
@@ -69,13 +104,15 @@ pub record IsLocated (body : wire.Body) (slot : Option FunctionValue) : Type 0 w
 pub record FitsIndices (r : wire.Module) : Type 0 where
   pub functions : length r.functions < 2 ^ 32
 
--- the module holds these sections, whose bodies say this
+-- The module holds these sections, whose bodies say this: the types, functions and exports in their order, and the locals of all functions, function
+-- by function; nothing else.
 pub record HasTaken (features : Features) (r : wire.Module) (m : Contents) : Type 0 where
   pub bodies : List Said
   pub read : AllZip (ReadsBodyWith features r) (zip r.functions r.bodies) bodies
   pub types : type_slots m.types ≡ map Some (types_from 0 r.types)
-  pub functions : AllZip (HoldsFunction (types_of r) (local_types (locals m.locals))) (zip r.functions bodies) (functions m.funcs)
-  pub exports : exports_of m.exports ≡ map export_of r.exports
+  pub functions : HoldFunctions (types_of r) 0 0 (zip r.functions bodies) (functions m.funcs)
+  pub locals : AllPlaced HoldsLocal 0 (flat_map (locals_said (types_of r)) (zip r.functions bodies)) (locals m.locals)
+  pub exports : AllPlaced HoldsExport 0 r.exports (exports m.exports)
 
 -- taken in: the module holds the sections; refused: the bodies aren't read, or memory ran out
 abbrev pub TakesSections : Features → wire.Module → Result Contents Error → Type 0
@@ -97,26 +134,46 @@ types_under u = item_at (type_slots u.types.now)
 abbrev pub SaysUnder : Context → (ℕ → Option TypeDef) → ℕ × wire.Body → Said → Type 0
 SaysUnder c types f said = BodyReads c (locals_from 0 (length (params_of (types f.0)) + length said.0)) f.1.bytes said.0 said.1
 
--- the body is read, and a slot holds the function
-pub record IsTaken (c : Context) (types : ℕ → Option TypeDef) (slots : List (Option (ValType ℕ))) (f : ℕ × wire.Body) (slot : Option FunctionValue) : Type 0 where
+-- locals of these types stand behind the others
+abbrev pub AddsLocalsOf : List (ValType ℕ) → (old new : List (Option LocalItem)) → Type 0
+AddsLocalsOf types old new = (more : List (Option LocalItem)) × ((new ≡ old ++ more) × AllPlaced HoldsLocal (length old) types more)
+
+-- the export stands behind the others
+abbrev pub AddsExport : entries.Export → (old new : List (Option ExportValue)) → Type 0
+AddsExport e old new = (slot : Option ExportValue) × ((new ≡ old ++ slot ∷ []) × HoldsExport (length old) e slot)
+
+-- the body is read, a slot holds the function, and its locals are added
+pub record IsTaken (c : Context) (types : ℕ → Option TypeDef) (id : ℕ) (old new : List (Option LocalItem)) (f : ℕ × wire.Body) (slot : Option FunctionValue) : Type 0 where
   pub said : Said
   pub read : SaysUnder c types f said
-  pub held : HoldsFunction types slots (f.0, said) slot
+  pub held : HoldsFunction types id (length old) (f.0, said) slot
+  pub added : AddsLocalsOf (locals_said types (f.0, said)) old new
+
+-- a function's type and what its body says
+abbrev pub IsSaid : Context → (ℕ → Option TypeDef) → ℕ × wire.Body → ℕ × Said → Type 0
+IsSaid c types f said = (said.0 ≡ f.0) × SaysUnder c types f said.1
+
+-- the bodies are read, and the slots hold the functions and their locals, and nothing else
+pub record AreTaken (c : Context) (types : ℕ → Option TypeDef) (fs : List (ℕ × wire.Body)) (all : List (Option LocalItem)) (slots : List (Option FunctionValue)) : Type 0 where
+  pub said : List (ℕ × Said)
+  pub read : AllZip (IsSaid c types) fs said
+  pub held : HoldFunctions types 0 0 said slots
+  pub locals : AllPlaced HoldsLocal 0 (flat_map (locals_said types) said) all
 
 -- one more slot holds a function that is located in the body
 abbrev pub AddsLocated : wire.Body → (old new : List (Option FunctionValue)) → Type 0
 AddsLocated body old new = (slot : Option FunctionValue) × ((new ≡ old ++ slot ∷ []) × IsLocated body slot)
 
 -- one more slot holds the function; refused: its body isn't read, or memory ran out
-abbrev pub TakesFunction : Context → (ℕ → Option TypeDef) → ℕ × wire.Body → ModuleLocals → (old new : List (Option FunctionValue)) → Result Unit Error → Type 0
-TakesFunction c types f all old new (Ok u) = (slot : Option FunctionValue) × ((new ≡ old ++ slot ∷ []) × IsTaken c types (local_types (locals all)) f slot)
-TakesFunction c types f all old new (Err (Memory e)) = Unit {0}
-TakesFunction c types f all old new (Err (InvalidWasm kind)) = (said : Said) → SaysUnder c types f said → ⊥
-TakesFunction c types f all old new (Err _) = ⊥
+abbrev pub TakesFunction : Context → (ℕ → Option TypeDef) → ℕ × wire.Body → (old_locals new_locals : List (Option LocalItem)) → (old new : List (Option FunctionValue)) → Result Unit Error → Type 0
+TakesFunction c types f old_locals new_locals old new (Ok u) = (slot : Option FunctionValue) × ((new ≡ old ++ slot ∷ []) × IsTaken c types (length old) old_locals new_locals f slot)
+TakesFunction c types f old_locals new_locals old new (Err (Memory e)) = Unit {0}
+TakesFunction c types f old_locals new_locals old new (Err (InvalidWasm kind)) = (said : Said) → SaysUnder c types f said → ⊥
+TakesFunction c types f old_locals new_locals old new (Err _) = ⊥
 
--- the slots hold these functions; refused: not all bodies are read, or memory ran out
+-- the slots hold these functions and their locals; refused: not all bodies are read, or memory ran out
 abbrev pub TakesFunctions : Context → (ℕ → Option TypeDef) → List (ℕ × wire.Body) → ModuleLocals → ModuleFunctions → Result Unit Error → Type 0
-TakesFunctions c types fs all funcs (Ok u) = AllZip (IsTaken c types (local_types (locals all))) fs (functions funcs)
+TakesFunctions c types fs all funcs (Ok u) = AreTaken c types fs (locals all) (functions funcs)
 TakesFunctions c types fs all funcs (Err (Memory e)) = Unit {0}
 TakesFunctions c types fs all funcs (Err (InvalidWasm kind)) = (bodies : List Said) → AllZip (SaysUnder c types) fs bodies → ⊥
 TakesFunctions c types fs all funcs (Err _) = ⊥

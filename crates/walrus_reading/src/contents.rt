@@ -12,16 +12,12 @@ ghost use Rattle.walrus_code.specs.Location.{location, location_at};
 ghost use Rattle.walrus_bodies.specs.BodyRead.{ReadsBody, BodyLocated};
 ghost use Rattle.walrus_bodies.specs.Results.{locations};
 ghost use Rattle.walrus_bodies.specs.FunctionTypes.{is_function_at};
-ghost use Rattle.walrus_functions.specs.EmittedBody.{types_of as local_types};
-ghost use Rattle.walrus_functions.specs.ReadFunction.{StaysInFront};
 ghost use Rattle.walrus_items.specs.Exports.{exports};
 ghost use Rattle.walrus_items.specs.Functions.{functions};
 ghost use Rattle.walrus_groups.specs.Groups.{types_from, AreDeclared};
 ghost use Rattle.walrus_model.specs.Producers.{produced};
 ghost use Rattle.walrus_producers.specs.Seen.{producers};
-ghost use Rattle.walrus_model.specs.Sections.{export_of};
-ghost use Rattle.walrus_contents.specs.View.{exports_of};
-ghost use Rattle.walrus_reading.specs.Taken.{FitsIndices, IsPlace, IsLocated, AddsLocated, TakesFunction, TakesFunctions, TakesSections, context_under, types_under};
+ghost use Rattle.walrus_reading.specs.Taken.{AddsExport, AddsLocalsOf, AddsLocated, AllPlaced, FitsIndices, HoldsExport, IsPlace, IsLocated, TakesFunction, TakesFunctions, TakesSections, context_under, types_under};
 ghost use Rattle.walrus_model.specs.Supported.{IsOfFunction, IsSupported};
 ghost use Rattle.walrus_reading.specs.Sections.{Rules};
 ghost use Rattle.walrus_parts.specs.Errors.{out_of_memory};
@@ -142,8 +138,7 @@ fn add_types(
 fn add_params(alloc: Global, params: &[ValType], all: &mut ModuleLocals) -> Result<Vec<LocalId>>
     ensures args { IfOk result (λ args. map place args.items ≡ range_with_len (length (locals all.old))
         (length params.now)) }
-    ensures typed { OnOk result (local_types (locals all.new) ≡ local_types (locals all.old)
-        ++ map Some (map val_type params.now)) }
+    ensures added { OnOk result (AddsLocalsOf (map val_type params.now) (locals all.old) (locals all.new)) }
     ensures fails { IsOkUnless result out_of_memory }
 {
     let mut args = Vec::with_capacity(alloc, params.len())?;
@@ -166,8 +161,7 @@ fn add_function(
     requires typed { is_function_at under.types.now index ≡ true }
     ensures taken { TakesFunction (context_under under.entry) (types_under under.entry)
         (index, body_record body.now)
-        all.new (functions funcs.old) (functions funcs.new) result }
-    ensures stays { OnOk result (StaysInFront (local_types (locals all.old)) (local_types (locals all.new))) }
+        (locals all.old) (locals all.new) (functions funcs.old) (functions funcs.new) result }
     ensures located { OnOk result (AddsLocated (body_record body.now) (functions funcs.old)
         (functions funcs.new)) }
 {
@@ -221,6 +215,7 @@ fn add_functions(
     funcs: &mut ModuleFunctions,
 ) -> Result<()>
     requires none { functions funcs.old ≡ [] }
+    requires no_locals { locals all.old ≡ [] }
     requires as_many { length bodies.now ≡ length of_types.now }
     requires declared { All (λ t. ids_at under.indices.now Types t ≡ Some t) of_types.now }
     requires typed { All (λ t. is_function_at under.types.now t ≡ true) of_types.now }
@@ -239,8 +234,7 @@ fn add_functions(
 fn add_export(entry: &RawExport<'_>, indices: &IndicesToIds, all: &mut ModuleExports) -> Result<()>
     requires declared { ids_at indices.now Functions entry.now.index ≡ Some entry.now.index }
     requires function { IsOfFunction (export_entry entry.now) }
-    ensures added { OnOk result (exports_of all.new ≡ exports_of all.old
-        ++ export_of (export_entry entry.now) ∷ []) }
+    ensures added { OnOk result (AddsExport (export_entry entry.now) (exports all.old) (exports all.new)) }
     ensures fails { IsOkUnless result out_of_memory }
 {
     let Some(id) = indices.get_func(entry.index) else {
@@ -255,7 +249,7 @@ fn add_exports(raw: &[RawExport<'_>], indices: &IndicesToIds, all: &mut ModuleEx
     requires declared { All (λ e. ids_at indices.now Functions e.index ≡ Some e.index)
         (map export_entry raw.now) }
     requires functions { All IsOfFunction (map export_entry raw.now) }
-    ensures added { OnOk result (exports_of all.new ≡ map export_of (map export_entry raw.now)) }
+    ensures added { OnOk result (AllPlaced HoldsExport 0 (map export_entry raw.now) (exports all.new)) }
     ensures fails { IsOkUnless result out_of_memory }
 {
     all.reserve(raw.len())?;

@@ -107,3 +107,4 @@ pub mod ReadLocal
 pub mod ReadSoFar
 pub mod Runs
 pub mod ReadExample
+pub mod WorkedRun

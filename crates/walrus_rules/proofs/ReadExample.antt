@@ -268,5 +268,8 @@ one_function_read c =
     (body_read c one_function_sections (locals_from 0 0), tt) one_declares
 
 -- what the text of the worked row says is this module
+pub same_modules : worked.one_function ≡ one_function
+same_modules = said_alone one_function_sections (([], just_end) ∷ [])
+
 pub left_spelled : IsSpelledAs one_function one_function_bytes
-left_spelled = let same : worked.one_function ≡ one_function = said_alone one_function_sections (([], just_end) ∷ []) in subst (λ n. IsSpelledAs n one_function_bytes) same one_spelled
+left_spelled = subst (λ n. IsSpelledAs n one_function_bytes) same_modules one_spelled

@@ -21,16 +21,16 @@ use Rattle.walrus_model.proofs.Lists.{Contains-none, Contains-uncons}
 use Rattle.walrus_rules.proofs.Worked.{one_spelled}
 use Rattle.walrus_rules.proofs.NeedsBase.{no_item, one_item, one_carried, no_items, given, are_given, IsSmall, small_rises, empty_if, NamesNone, declares_none}
 
-abbrev the_type : TypeDef
+abbrev pub the_type : TypeDef
 the_type = record { group = 0 ∷ []; sub = record { is_final = true; supertypes = []; comp = Func [] [] } }
 
-abbrev the_body : Body
+abbrev pub the_body : Body
 the_body = body_with [] ([], record { op = 0x0B; args = [] } ∷ [])
 
-abbrev the_function : Function
+abbrev pub the_function : Function
 the_function = record { ty = 0; kind = LocalFunction the_body }
 
-same_type : SameType (λ i. i) 0 the_type the_type
+pub same_type : SameType (λ i. i) 0 the_type the_type
 same_type = record { group = refl; position = refl; sub = refl }
 
 same_body : SameBody unchanged 0 the_body the_body
@@ -71,7 +71,7 @@ row_small = record { single = single; still = still; no_import = λ i h. absurd 
     still Elements h = absurd (omega (arith, h))
     still DataSegments h = absurd (omega (arith, h))
 
-no_ref : (f : ℕ) → Contains the_body.operators (ref_func f) → ⊥
+pub no_ref : (f : ℕ) → Contains the_body.operators (ref_func f) → ⊥
 no_ref f at = ⊎_elim (λ e. differs 0x0B 0xD2 (omega arith) (ap (λ (o : Op). o.op) e)) (λ none. Contains-none (ref_func f) none) (Contains-uncons (record { op = 0x0B; args = [] }) (ref_func f) [] at)
   where
     differs : (a b : ℕ) → a < b → a ≡ b → ⊥
@@ -142,7 +142,7 @@ row_names_live (Globals, i) y at = absurd (Contains-none y at)
 row_names_live (Elements, i) y at = absurd (Contains-none y at)
 row_names_live (DataSegments, i) y at = absurd (Contains-none y at)
 
-no_local : (x : ℕ) → IsUsed the_body x → ⊥
+pub no_local : (x : ℕ) → IsUsed the_body x → ⊥
 no_local x u = Contains-none x u
 
 export_live : (e : Export) → Contains one_function.exports e → IsLive one_function e.item

@@ -10,6 +10,7 @@ use Rattle.walrus_model.specs.Abstract.{Abstract, Body, Table}
 use Rattle.walrus_model.specs.Config.{Config}
 use Rattle.walrus_model.specs.Examples.{two_functions}
 use Rattle.walrus_model.specs.Examples as small
+use Rattle.walrus_rules.specs.Headline.{ComesTo, ComesOutTooLarge}
 use Rattle.walrus_rules.specs.SoFar.{ReadsSoFar}
 use Rattle.walrus_rules.specs.Text.{BodyText, NameText, Text, said_by}
 use Rattle.walrus_rules.specs.Spelling.{BodyStands, UsesAll, IsChosen, IsCount, MapStands, IsSpelling, IsSpelledAs, SpelledOnce}
@@ -126,3 +127,9 @@ pub record AreRead : Type 0 where
   pub reads : (c : Config) → ReadsSoFar c two_functions_bytes two_functions
   pub written_reads : (c : Config) → ReadsSoFar c one_function_bytes small.one_function
   pub spelled : IsSpelledAs small.one_function one_function_bytes
+
+-- where neither names nor producers are written, a run on the first bytes comes to the second, to no others, and isn't too large
+pub record RowRuns (c : Config) : Type 0 where
+  pub comes : ComesTo c two_functions_bytes one_function_bytes
+  pub alone : (output : List ℕ) → ComesTo c two_functions_bytes output → output ≡ one_function_bytes
+  pub not_too_large : ComesOutTooLarge c two_functions_bytes → ⊥

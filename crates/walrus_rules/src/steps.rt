@@ -1,5 +1,8 @@
 //! The steps from the module that bytes read as to the one that is written.
 
+ghost use Rattle.std.specs.Prelude.{◌≡◌, false};
+ghost use Rattle.walrus_model.specs.Config.{Config};
+ghost use Rattle.walrus_rules.specs.Examples.{RowRuns};
 ghost use Rattle.walrus_rules.specs.Headline.{NotBoth, OneOutput, StepsComeOut};
 ghost use Rattle.walrus_rules.specs.OneRun.{HandlersLive, HandlersOnce, KeptLives};
 ghost use Rattle.walrus_rules.specs.WellMadeLaws.{BroughtLives};
@@ -24,4 +27,10 @@ pub fn one_run()
 /// Nothing of what the steps bring a module to is named and not there.
 pub fn brought_lives()
     ensures { BroughtLives }
+{}
+
+/// The steps at work: where neither names nor producers are written, the bytes of a module of two functions, of which the
+/// second is exported, come to those of the module of that one function, to no others, and to nothing that is too large.
+pub fn worked_run()
+    ensures { (c : Config) → c.writes_names ≡ false → c.writes_producers ≡ false → RowRuns c }
 {}

@@ -1,17 +1,12 @@
 -- The members of a group that are to be added.
-use Rattle.std.proofs.Common.{◌≡◌, ℕ, ◌+◌, List, [], ◌∷◌, ◌++◌, map, Option, Some, length, ap, refl, ◌∙◌, append_assoc}
+use Rattle.std.proofs.Common.{◌≡◌, ℕ, ◌+◌, List, [], ◌∷◌, ◌++◌, map, Option, Some, ap, ◌∙◌, append_assoc}
 use Rattle.walrus_types.specs.Composite.{new_sub}
 use Rattle.walrus_types.specs.TypeDef.{TypeDef, places_between}
-use Rattle.walrus_types.specs.TypeSlots.{new_group}
 use Rattle.walrus_types.specs.declared.composite.NewType.{NewType}
-use Rattle.walrus_types.proofs.Places.{between_count}
 
 -- members of a group with the places from the first on, up to the end
 abbrev pub new_members : (first end : ℕ) → List NewType → List (Option TypeDef)
 new_members first end members = map (λ member. Some (record { group = places_between first end; sub = new_sub member })) members
-
-pub new_members-group : (first end : ℕ) (members : List NewType) → end ≡ first + length members → new_members first end members ≡ new_group first members
-new_members-group first end members is = rw (between_count first end (length members) is) refl
 
 -- one more of a row is done
 pub shift : {X : Type 0} (before now rest all : List X) (x : X) → before ++ x ∷ rest ≡ all → now ≡ before ++ x ∷ [] → now ++ rest ≡ all

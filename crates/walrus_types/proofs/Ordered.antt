@@ -5,10 +5,9 @@ use Rattle.walrus_base.specs.Id.{place}
 use Rattle.walrus_base.specs.declared.id.Id.{Id}
 use Rattle.walrus_base.specs.declared.keys.TypeKey.{TypeKey}
 use Rattle.walrus_types.specs.Alone.{AreInOrder, AreNotNamed, NamesNot, NotesOnly}
-use Rattle.walrus_base.specs.Types.{comp_names}
-use Rattle.walrus_types.specs.Composite.{function_type, function_comp}
+use Rattle.walrus_types.specs.Composite.{function_type}
 use Rattle.walrus_types.specs.Index.{places_at}
-use Rattle.walrus_types.specs.PlaceList.{has, rise, MayEndIn}
+use Rattle.walrus_types.specs.PlaceList.{has, rise}
 use Rattle.walrus_types.specs.TypeDef.{type_place}
 use Rattle.walrus_types.specs.declared.composite.FunctionType.{FunctionType as DeclaredFunctionType}
 use Rattle.walrus_types.specs.declared.index.FunctionIndex.{FunctionIndex}
@@ -61,14 +60,6 @@ has-behind (x ∷ ps) p q h =
 has-before : (ps : List ℕ) (p q : ℕ) → has ps p ≡ true → has (ps ++ q ∷ []) p ≡ true
 has-before [] p q h = absurd cc
 has-before (x ∷ ps) p q h = ⊎_elim (λ here. or_left _ _ here) (λ later. or_right _ _ (has-before ps p q later)) (or_cases _ _ h)
-
--- the place of the only type is put behind
-pub noted_only : (added : List (Option «Type»)) (before after : FunctionIndex) (ty : «Type») (p : ℕ) → added ≡ Some ty ∷ [] → p ≡ type_place ty
-    → ((f : DeclaredFunctionType) → MayEndIn (NamesNot (function_type f) p) (places_at before f) p (places_at after f)) → NotesOnly added before after
-noted_only added before after ty p only at ends f = ⊎_elim
-    (λ same. inl same)
-    (λ more. inr (ty, only, ap (has (comp_names (function_comp (function_type f)))) (sym at) ∙ more.0, more.1 ∙ ap (λ n. places_at before f ++ n ∷ []) at))
-    (ends f)
 
 module _ (added : List (Option «Type»)) (before after : FunctionIndex) (notes : NotesOnly added before after) where
   -- what was under a type of functions is

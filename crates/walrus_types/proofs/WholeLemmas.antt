@@ -70,9 +70,6 @@ cleared-other (q ∷ ps) xs p h =
 
 -- ---- groups
 
-pub whole-none : AreWhole []
-whole-none = record { own = λ t x e. absurd (none_some (item_at [] t) x refl e); members = λ t x e p h. absurd (none_some (item_at [] t) x refl e) }
-
 bound : (f : NewType → TypeDef) (ms : List NewType) (k : ℕ) (x : TypeDef) → item_at (map (λ m. Some (f m)) ms) k ≡ Some x → k < length ms
 bound f [] k x e = absurd cc
 bound f (m ∷ ms) zero x e = omega arith

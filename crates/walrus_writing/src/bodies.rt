@@ -63,7 +63,8 @@ pub fn body_bytes(
     under: Indexed<'_, '_, '_>,
     order: &[FunctionId],
 ) -> Result<Vec<Vec<u8>>>
-    requires indexed { All (λ id. IsIndexed (parts_held under.parts) (index_of under.indices.now) under.features.now
+    requires indexed { All (λ id.
+        IsIndexed (parts_held under.parts) (index_of under.indices.now) under.features.now
         (place id)) order.now }
     ensures value { IfOk result (λ bodies. AllZip (λ id bytes.
         HasBytes (parts_held under.entry.parts) (index_of under.entry.indices.now) under.entry.features.now

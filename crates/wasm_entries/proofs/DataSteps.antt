@@ -1,7 +1,7 @@
 -- Data segments by their flags, and what stands behind a type.
 use Rattle.std.proofs.Common.{◌≡◌, ℕ, List, ap}
 use Rattle.std.specs.Prelude.{Some, None}
-use Rattle.wasm_forms.specs.Grammar.{Form, Led, Made, ◌then◌, Vector, U32, Block, at}
+use Rattle.wasm_forms.specs.Grammar.{Form, Made, ◌then◌, Vector, U32, Block, at}
 use Rattle.wasm_forms.specs.Grammar as grammar
 use Rattle.wasm_forms.specs.declared.types.RawRef.{RawRef}
 use Rattle.wasm_forms.specs.Types.{reference_type}

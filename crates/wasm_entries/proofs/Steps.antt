@@ -126,17 +126,6 @@ adds_exit Y (Err y) Malformed old new spelled old' new' spelled' fits fits' x g 
 adds_exit {X = X} Y (Err y) (Memory m) old new spelled old' new' spelled' fits fits' x g w = subst (λ (d : WireError). Adds {X = X} (Err d) old' new' spelled' fits') (sym x) tt
 adds_exit {X = X} Y (Err y) TooLarge old new spelled old' new' spelled' fits fits' x g w = subst (λ (d : WireError). Adds {X = X} (Err d) old' new' spelled' fits') (sym x) (λ k. w (g k))
 
-pub room_exit : {X A : Type 0} (Y : Type 0) (r : Result X WireError) (e : WireError) (old between new : Vec ℕ A) (front back spelled : List ℕ) → IsErrAnd r (λ y. y ≡ e) → between.items ≡ old.items ++ front → vec_capacity old ≤ vec_capacity between → length front + length back ≤ length spelled
-    → TakesRoom {X = Y} (Err e) between new back → TakesRoom r old new spelled
-room_exit Y (Ok v) e old between new front back spelled x k c s w = absurd x
-room_exit {X = X} Y (Err y) Malformed old between new front back spelled x k c s w = subst (λ (d : WireError). TakesRoom {X = X} (Err d) old new spelled) (sym x) tt
-room_exit {X = X} Y (Err y) (Memory m) old between new front back spelled x k c s w =
-    let few : vec_capacity old < vec_len old + length spelled = omega (arith, old.ok.0, between.ok.0, ap length k, length-append old.items front) in
-    subst (λ (d : WireError). TakesRoom {X = X} (Err d) old new spelled) (sym x) few
-room_exit {X = X} Y (Err y) TooLarge old between new front back spelled x k c s w =
-    let more : vec_capacity old ≤ vec_capacity new = omega arith in
-    subst (λ (d : WireError). TakesRoom {X = X} (Err d) old new spelled) (sym x) more
-
 -- memory ran out
 pub adds_spent : {X : Type 0} (r : Result X WireError) (old new spelled : List ℕ) (fits : Type 0) → IsErrAnd r (λ y. y ≡ Memory alloc_error) → Adds r old new spelled fits
 adds_spent (Ok v) old new spelled fits x = absurd x

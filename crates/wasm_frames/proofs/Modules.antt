@@ -54,9 +54,6 @@ from_frames bytes rest m e h = record {
   holds = h.holds;
 }
 
-pub to_frames : (bytes rest : List ℕ) (m : Module) → bytes ≡ header ++ rest → LeadsTo 8 rest no_sections m → Frames bytes m
-to_frames bytes rest m e h = record { rest = rest; parts = h.parts; headed = e; framed = h.framed; holds = h.holds }
-
 pub one_record_lem : HasOneRecord
 one_record_lem = λ bytes m n h h'. one_end 8 h.rest no_sections m n (from_frames bytes h.rest m h.headed h) (from_frames bytes h.rest n h.headed h')
 

@@ -1,6 +1,6 @@
 -- What stands in the form of one argument is spelled, and its numbers are in their ranges.
-use Rattle.std.proofs.Common.{◌≡◌, ℕ, suc, ◌+◌, ◌-◌, ◌/◌, ◌%◌, ◌^◌, ◌<◌, Bool, true, false, List, [], ◌∷◌, length, refl, sym, ap, subst, arith, ltb-true, eqb-true, ◌⊎◌, inl, inr}
-use Rattle.std.specs.Prelude.{nat_lt, nat_eq, ◌&&◌, not, if◌then◌else◌}
+use Rattle.std.proofs.Common.{◌≡◌, ℕ, suc, ◌+◌, ◌-◌, ◌/◌, ◌%◌, ◌^◌, ◌<◌, Bool, true, false, List, [], ◌∷◌, length, refl, sym, ap, subst, arith, eqb-true, ◌⊎◌, inl, inr}
+use Rattle.std.specs.Prelude.{nat_lt, nat_eq, ◌&&◌, not}
 use Rattle.std.proofs.lemmas.Nat.{pow-add}
 use Rattle.std.proofs.lemmas.Bool.{ne_eqb}
 use Rattle.wasm_forms.specs.declared.types.RawHeap.{RawHeap}
@@ -10,7 +10,7 @@ use Rattle.wasm_forms.specs.declared.types.RawVal.{RawVal}
 use Rattle.wasm_forms.specs.declared.types.RawVal.TheVariants.{I32, I64, F32, F64, V128, Ref}
 use Rattle.wasm_forms.specs.Number.{AreBytes, little}
 use Rattle.wasm_forms.specs.Grammar as grammar
-use Rattle.wasm_forms.specs.Grammar.{Form, Is, Fails, Gives, Byte, IndexFrom, ◌then◌, Led, Made, choose, U32, U64}
+use Rattle.wasm_forms.specs.Grammar.{Form, Is, Fails, Gives, Byte, IndexFrom, ◌then◌, Made, choose, U32, U64}
 use Rattle.wasm_forms.specs.Types.{is_abstract, heap_from, heap_type, reference, reference_from, value_from, value_type}
 use Rattle.wasm_operators.specs.declared.kind.Kind.{Kind}
 use Rattle.wasm_operators.specs.declared.kind.Kind.TheVariants as kinds
@@ -21,7 +21,6 @@ use Rattle.wasm_operators.specs.declared.operator.RawBlock.TheVariants.{NoResult
 use Rattle.wasm_operators.specs.Forms.{block_from, block_type, has_memory, access_from, access}
 use Rattle.wasm_operators.specs.Standing.{heap_spells, value_spells, block_spells, is_of, HeapHeld, ValueHeld, BlockHeld, ArgHeld}
 use Rattle.wasm_forms.proofs.Stands.{abstract_range}
-use Rattle.wasm_operators.proofs.OneStands.{and_both}
 
 -- ---- choices
 

@@ -1,5 +1,5 @@
 -- One argument that is spelled stands in the form of its kind.
-use Rattle.std.proofs.Common.{◌≡◌, ℕ, ◌+◌, ◌-◌, ◌/◌, ◌%◌, ◌<◌, ◌≤◌, Bool, true, false, List, [], ◌∷◌, ◌++◌, refl, sym, ap, ap₂, ◌∙◌, arith, append_assoc, lt-ltb, le-ltb, ltb-true, eqb, eqb-true, eq-eqb, ◌⊎◌, inl, inr, pos, ◌-ℤ◌}
+use Rattle.std.proofs.Common.{◌≡◌, ℕ, ◌+◌, ◌-◌, ◌/◌, ◌%◌, ◌<◌, ◌≤◌, Bool, true, false, List, [], ◌∷◌, ◌++◌, refl, sym, ap, ap₂, ◌∙◌, arith, append_assoc, lt-ltb, le-ltb, eqb, eqb-true, eq-eqb, ◌⊎◌, inl, inr, pos, ◌-ℤ◌}
 use Rattle.std.specs.Prelude.{nat_lt, nat_eq, ◌&&◌, not, if◌then◌else◌}
 use Rattle.std.proofs.lemmas.Int.{ints}
 use Rattle.std.proofs.lemmas.Bool.{ne_eqb}

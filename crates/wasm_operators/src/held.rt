@@ -1,11 +1,33 @@
 //! The numbers of an operator that the code holds are in their ranges, as contracts.
 
+ghost use Rattle.std.specs.Prelude.{◌<◌, ◌^◌};
 ghost use Rattle.wasm_forms.specs.Writing.{EachFits};
 ghost use Rattle.wasm_operators.specs.Operators.{op_of};
 ghost use Rattle.wasm_operators.specs.Standing.{ArgHeld, BlockHeld, HeapHeld, OpStands, ValueHeld};
 
 use crate::operator::{RawArg, RawBlock, RawOperator};
 use wasm_forms::{RawHeap, RawVal};
+
+/// What the code holds as a byte is in its range.
+fn byte_is_held(byte: &u8)
+    ensures { byte.now < 2 ^ 8 }
+{
+    let _byte = *byte;
+}
+
+/// What the code holds as a number of 32 bits is in its range.
+fn number_is_held(number: &u32)
+    ensures { number.now < 2 ^ 32 }
+{
+    let _number = *number;
+}
+
+/// What the code holds as a number of 64 bits is in its range.
+fn wide_is_held(number: &u64)
+    ensures { number.now < 2 ^ 64 }
+{
+    let _number = *number;
+}
 
 /// What the code holds as a value type is in its range.
 fn value_is_held(value: &RawVal)
@@ -21,12 +43,8 @@ fn heap_is_held(heap: &RawHeap)
     ensures { HeapHeld heap.now }
 {
     match heap {
-        RawHeap::Abstract(byte) => {
-            let _byte = *byte;
-        }
-        RawHeap::Index(index) => {
-            let _index = *index;
-        }
+        RawHeap::Abstract(byte) => byte_is_held(byte),
+        RawHeap::Index(index) => number_is_held(index),
     }
 }
 
@@ -37,9 +55,7 @@ fn block_is_held(block: &RawBlock)
     match block {
         RawBlock::NoResult => {}
         RawBlock::OneResult(value) => value_is_held(value),
-        RawBlock::OfType(index) => {
-            let _index = *index;
-        }
+        RawBlock::OfType(index) => number_is_held(index),
     }
 }
 
@@ -60,21 +76,15 @@ fn arg_is_held(arg: &RawArg)
         | RawArg::Label(number)
         | RawArg::Count(number)
         | RawArg::Number(number)
-        | RawArg::F32(number) => {
-            let _number = *number;
-        }
-        RawArg::Byte(byte) => {
-            let _byte = *byte;
-        }
+        | RawArg::F32(number) => number_is_held(number),
+        RawArg::Byte(byte) => byte_is_held(byte),
         RawArg::S32(value) => {
             let _value = *value;
         }
         RawArg::S64(value) => {
             let _value = *value;
         }
-        RawArg::F64(bits) => {
-            let _bits = *bits;
-        }
+        RawArg::F64(bits) => wide_is_held(bits),
         RawArg::Value(value) => value_is_held(value),
         RawArg::Heap(heap) => heap_is_held(heap),
         RawArg::Block(block) => block_is_held(block),

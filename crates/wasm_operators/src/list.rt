@@ -24,7 +24,8 @@ pub(crate) trait Entry {
 
     /// Reads an entry, puts its arguments behind those of `to`, and gives the bytes after it.
     fn push<'a>(to: &mut Vec<RawArg>, bytes: &'a [u8]) -> Result<&'a [u8], WireError>
-        ensures { Gives (λ r. (to.new.items, r.now)) result (push_at to.old.items (Made make form) bytes.now) };
+        ensures { Gives (λ r. (to.new.items, r.now)) result
+            (push_at to.old.items (Made make form) bytes.now) };
 }
 
 /// A label.

@@ -1,10 +1,9 @@
 -- Lists that are gathered one element after another.
-use Rattle.std.proofs.Common.{◌≡◌, ℕ, ◌+◌, ◌<◌, ◌≤◌, List, [], ◌∷◌, ◌++◌, length, get_or, take, map, sym, ap, ◌∙◌, take_all, append_assoc, append-nil}
-use Rattle.std.specs.Prelude.{Option, filter_map, flat_map}
+use Rattle.std.proofs.Common.{◌≡◌, ℕ, ◌+◌, ◌<◌, ◌≤◌, List, [], ◌∷◌, ◌++◌, length, get_or, take, map, sym, ap, ◌∙◌, take_all, append_assoc}
+use Rattle.std.specs.Prelude.{Option, filter_map}
 use Rattle.std.specs.List.{cons_option}
 use Rattle.std.proofs.lemmas.List.{map_more, map-append}
 use Rattle.std.proofs.lemmas.List.Elements.{filter_map-append}
-use Rattle.std.proofs.lemmas.Grind.{flat_map-append}
 
 -- one more, through two views
 pub views_more : {X Y Z : Type 0} (v : X → Y) (f : Y → Z) (xs : List X) (i : ℕ) (x : X) → i < length xs
@@ -17,13 +16,6 @@ pub filter_more : {X Y Z : Type 0} (v : X → Y) (h : Y → Option Z) (xs : List
 filter_more v h xs i x o within e =
     ap (filter_map h) (map_more v xs i x within) ∙ filter_map-append h (map v (take i xs)) (v (get_or xs i x) ∷ [])
     ∙ ap (λ p. filter_map h (map v (take i xs)) ++ cons_option p []) e
-
--- one list more
-pub lists_more : {X Y : Type 0} (v : X → List Y) (xs : List X) (i : ℕ) (x : X) → i < length xs
-    → flat_map (λ l. l) (map v (take (i + 1) xs)) ≡ flat_map (λ l. l) (map v (take i xs)) ++ v (get_or xs i x)
-lists_more v xs i x within =
-    ap (flat_map (λ l. l)) (map_more v xs i x within) ∙ flat_map-append (λ l. l) (map v (take i xs)) (v (get_or xs i x) ∷ [])
-    ∙ ap (λ l. flat_map (λ m. m) (map v (take i xs)) ++ l) (append-nil (v (get_or xs i x)))
 
 -- what is gathered behind others, and one more
 pub gathered_more : {X Y Z : Type 0} (v : X → Y) (f : Y → Z) (to all new : List Z) (xs : List X) (i : ℕ) (x : X) → i < length xs → x ≡ get_or xs i x → all ≡ to ++ map f (map v (take i xs)) → new ≡ all ++ f (v x) ∷ []

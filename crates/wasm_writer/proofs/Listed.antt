@@ -8,7 +8,6 @@ use Rattle.wasm_forms.specs.Writing.{Wrote, FitsLength, FitsVector}
 use Rattle.wasm_forms.specs.Spelling.{groups, number_bytes, row_bytes, vector_bytes}
 use Rattle.wasm_forms.proofs.Adding.{vector_map}
 use Rattle.wasm_forms.proofs.Items.{row_push}
-use Rattle.wasm_forms.proofs.Spelled.{number_stands}
 use Rattle.wasm_frames.specs.Frames.{Section}
 use Rattle.wasm_writer.specs.declared.writer.Writer.{Writer}
 use Rattle.wasm_writer.specs.Writing.{unless_empty, UsesRoom}
@@ -21,10 +20,6 @@ wrote_as (Ok x) old new s s' f f' e g h w = (w.0 ∙ ap (λ l. old ++ l) e, g w.
 wrote_as (Err Malformed) old new s s' f f' e g h w = w
 wrote_as (Err (Memory m)) old new s s' f f' e g h w = w
 wrote_as (Err TooLarge) old new s s' f f' e g h w = (w.0, λ k. w.1 (h k))
-
--- a number is spelled in few bytes
-pub number_short : (n : ℕ) → n < 2 ^ 32 → FitsLength (number_bytes n)
-number_short n h = omega (arith, (number_stands n h).short)
 
 zero_short : length (number_bytes 0 ++ []) < 2 ^ 32
 unfolding number_bytes groups

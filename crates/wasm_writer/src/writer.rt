@@ -192,7 +192,8 @@ impl Writer {
     /// `TooLarge` exactly where the size of the name or of the section is 2^32 or more, and `Memory`. Refused, the bytes stay.
     pub fn custom(&mut self, custom: &RawCustom<'_>) -> Result<(), WireError>
         ensures appends { let written_section = CustomSection (custom_record custom.now) in
-            Wrote result (written self.old) (written self.new) (spelled written_section) (SectionFits written_section) }
+            Wrote result (written self.old) (written self.new)
+            (spelled written_section) (SectionFits written_section) }
         ensures room { UsesRoom result self.old self.new
             (spelled (CustomSection (custom_record custom.now))) }
     {
@@ -208,7 +209,8 @@ impl Writer {
     /// `TooLarge` exactly where a count or the size of the section is 2^32 or more, and `Memory`. Refused, the bytes stay.
     pub fn type_section(&mut self, groups: &[RawGroup]) -> Result<(), WireError>
         ensures appends { let written_groups = map group groups.now in
-            Wrote result (written self.old) (written self.new) (listed Types written_groups) (SectionFits (Types written_groups)) }
+            Wrote result (written self.old) (written self.new)
+            (listed Types written_groups) (SectionFits (Types written_groups)) }
         ensures room { UsesRoom result self.old self.new (listed Types (map group groups.now)) }
     {
         if groups.is_empty() {
@@ -226,7 +228,8 @@ impl Writer {
     /// `TooLarge` exactly where a count, a size, or a size of limits that are not wide is 2^32 or more, and `Memory`. Refused, the bytes stay.
     pub fn import_section(&mut self, imports: &[RawImport<'_>]) -> Result<(), WireError>
         ensures appends { let written_imports = map import_entry imports.now in
-            Wrote result (written self.old) (written self.new) (listed Imports written_imports) (SectionFits (Imports written_imports)) }
+            Wrote result (written self.old) (written self.new)
+            (listed Imports written_imports) (SectionFits (Imports written_imports)) }
         ensures room { UsesRoom result self.old self.new (listed Imports (map import_entry imports.now)) }
     {
         self.list(2, imports)
@@ -252,7 +255,8 @@ impl Writer {
     /// `TooLarge` exactly where the count, the size of the section, or a size of limits that are not wide is 2^32 or more, and `Memory`. Refused, the bytes stay.
     pub fn table_section(&mut self, tables: &[RawTable]) -> Result<(), WireError>
         ensures appends { let written_tables = map table_entry tables.now in
-            Wrote result (written self.old) (written self.new) (listed Tables written_tables) (SectionFits (Tables written_tables)) }
+            Wrote result (written self.old) (written self.new)
+            (listed Tables written_tables) (SectionFits (Tables written_tables)) }
         ensures room { UsesRoom result self.old self.new (listed Tables (map table_entry tables.now)) }
     {
         self.list(4, tables)
@@ -296,7 +300,8 @@ impl Writer {
     /// `TooLarge` exactly where the count or the size of the section is 2^32 or more, and `Memory`. Refused, the bytes stay.
     pub fn global_section(&mut self, globals: &[RawGlobal]) -> Result<(), WireError>
         ensures appends { let written_globals = map global_entry globals.now in
-            Wrote result (written self.old) (written self.new) (listed Globals written_globals) (SectionFits (Globals written_globals)) }
+            Wrote result (written self.old) (written self.new)
+            (listed Globals written_globals) (SectionFits (Globals written_globals)) }
         ensures room { UsesRoom result self.old self.new (listed Globals (map global_entry globals.now)) }
     {
         self.list(6, globals)
@@ -309,7 +314,8 @@ impl Writer {
     /// `TooLarge` exactly where a count or a size is 2^32 or more, and `Memory`. Refused, the bytes stay.
     pub fn export_section(&mut self, exports: &[RawExport<'_>]) -> Result<(), WireError>
         ensures appends { let written_exports = map export_entry exports.now in
-            Wrote result (written self.old) (written self.new) (listed Exports written_exports) (SectionFits (Exports written_exports)) }
+            Wrote result (written self.old) (written self.new)
+            (listed Exports written_exports) (SectionFits (Exports written_exports)) }
         ensures room { UsesRoom result self.old self.new (listed Exports (map export_entry exports.now)) }
     {
         self.list(7, exports)
@@ -334,7 +340,8 @@ impl Writer {
     /// `TooLarge` exactly where a count or the size of the section is 2^32 or more, and `Memory`. Refused, the bytes stay.
     pub fn element_section(&mut self, elements: &[RawElement]) -> Result<(), WireError>
         ensures appends { let written_elements = map element_entry elements.now in
-            Wrote result (written self.old) (written self.new) (listed Elements written_elements) (SectionFits (Elements written_elements)) }
+            Wrote result (written self.old) (written self.new)
+            (listed Elements written_elements) (SectionFits (Elements written_elements)) }
         ensures room { UsesRoom result self.old self.new (listed Elements (map element_entry elements.now)) }
     {
         self.list(9, elements)
@@ -361,11 +368,14 @@ impl Writer {
     /// of the bodies' places takes memory of its own. Refused, the bytes stay.
     pub fn code_section(&mut self, bodies: &[RawBody<'_>]) -> Result<CodePlaces, WireError>
         ensures appends { let written_bodies = map body_record bodies.now in
-            Wrote result (written self.old) (written self.new) (listed Code written_bodies) (SectionFits (Code written_bodies)) }
+            Wrote result (written self.old) (written self.new)
+            (listed Code written_bodies) (SectionFits (Code written_bodies)) }
         ensures count { IfOk result (λ places. places.count ≡ count_place (length (written self.old))
             (map body_record bodies.now)) }
         ensures places { let written_bodies = map body_record bodies.now in
-            IfOk result (λ places. places.bodies.items ≡ map range_of (placed_bodies (first_body (length (written self.old)) written_bodies) written_bodies)) }
+            IfOk result (λ places. places.bodies.items
+            ≡ map range_of
+            (placed_bodies (first_body (length (written self.old)) written_bodies) written_bodies)) }
         ensures room { OnOk result
             (room self.old ≤ room self.new + length (listed Code (map body_record bodies.now))) }
     {
@@ -390,7 +400,8 @@ impl Writer {
     /// `TooLarge` exactly where a count or a size is 2^32 or more, and `Memory`. Refused, the bytes stay.
     pub fn data_section(&mut self, segments: &[RawData<'_>]) -> Result<(), WireError>
         ensures appends { let written_segments = map data_entry segments.now in
-            Wrote result (written self.old) (written self.new) (listed DataSegments written_segments) (SectionFits (DataSegments written_segments)) }
+            Wrote result (written self.old) (written self.new)
+            (listed DataSegments written_segments) (SectionFits (DataSegments written_segments)) }
         ensures room { UsesRoom result self.old self.new (listed DataSegments (map data_entry segments.now)) }
     {
         self.list(11, segments)
@@ -413,7 +424,9 @@ impl Writer {
     /// Appends the section of this id that lists these, or nothing where there are none.
     fn list<E: Measured>(&mut self, id: u8, items: &[E]) -> Result<(), WireError>
         ensures appends { let content = vector_bytes E.spelled items.now in
-            Wrote result (written self.old) (written self.new) (unless_empty items.now (section_bytes id content)) (FitsVector E.Fits items.now × FitsLength content) }
+            Wrote result (written self.old) (written self.new)
+            (unless_empty items.now (section_bytes id content))
+            (FitsVector E.Fits items.now × FitsLength content) }
         ensures room { UsesRoom result self.old self.new
             (unless_empty items.now (section_bytes id (vector_bytes E.spelled items.now))) }
     {

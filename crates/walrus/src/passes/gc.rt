@@ -8,7 +8,8 @@ ghost use Rattle.walrus_model.specs.Kept.{Kept};
 ghost use Rattle.walrus_model.specs.Live.{IsLive};
 ghost use Rattle.walrus_model.specs.Pipeline.{Collected};
 ghost use Rattle.walrus_module.specs.Settings.{settings};
-ghost use Rattle.walrus_module.specs.View.{view};
+ghost use Rattle.walrus_module.specs.View.{contents_of, view};
+ghost use Rattle.walrus_reading.specs.Parsed.{ItemsAtOwnIds};
 ghost use Rattle.walrus.specs.Collected.{KeepsOnly};
 ghost use Rattle.walrus.specs.Marked.{ReachesSound, ReachesUnsound};
 ghost use Rattle.walrus.specs.Used.{IsRefusal};
@@ -27,6 +28,8 @@ pub fn run(alloc: Global, module: &mut Module) -> Result<()>
         (type_slots «module».old.types) (type_slots «module».new.types)) }
     ensures type_names { OnOk result (KeepsOnly (λ t. Kept (view «module».old) (Types, t))
         (type_names «module».old.types) (type_names «module».new.types)) }
+    ensures own_ids { OnOk result (ItemsAtOwnIds (contents_of «module».old)
+        → ItemsAtOwnIds (contents_of «module».new)) }
     ensures sound { OnOk result (ReachesSound (view «module».old)) }
     ensures settled { OnOk result ((x : Item) → IsLive (view «module».new) x → Kept (view «module».new) x) }
     ensures refused { IfErr result (IsRefusal (ReachesUnsound (view «module».old))) }

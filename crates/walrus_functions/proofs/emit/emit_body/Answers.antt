@@ -5,40 +5,21 @@ use Rattle.walrus_bodies.specs.declared.declarations.Declaration.{Declaration}
 use Rattle.std.specs.List.{IsDistinct}
 use Rattle.std.proofs.lemmas.List.{length-map, map-append}
 use Rattle.wasm_forms.specs.declared.types.RawVal.{RawVal}
-use Rattle.walrus_base.specs.Arena.{item_at}
 use Rattle.walrus_base.specs.Id.{place}
 use Rattle.walrus_base.specs.declared.id.Id.{Id}
 use Rattle.walrus_base.specs.declared.keys.LocalKey.{LocalKey}
 use Rattle.walrus_types.specs.Locals.{locals}
-use Rattle.walrus_types.specs.ModuleTypes.{type_slots}
 use Rattle.walrus_types.specs.Shape.{place_in}
-use Rattle.walrus_types.specs.declared.locals.ModuleLocals.{ModuleLocals}
-use Rattle.walrus_types.specs.declared.module_types.ModuleTypes.{ModuleTypes}
 use Rattle.walrus_code.specs.Code.{ops_of}
-use Rattle.walrus_code.specs.Function.{function_type, body_of}
 use Rattle.walrus_code.specs.Indices.{index_of, local_index}
-use Rattle.walrus_code.specs.declared.function.LocalFunction.{LocalFunction}
-use Rattle.walrus_code.specs.declared.indices.IdsToIndices.{IdsToIndices}
 use Rattle.walrus_bodies.specs.Blocks.{blocks_hold}
 use Rattle.walrus_bodies.specs.Declarations.{declaration, declarations_of}
 use Rattle.walrus_bodies.specs.FunctionTypes.{is_function_at}
-use Rattle.walrus_bodies.specs.declared.features.Features.{Features}
-use Rattle.walrus_functions.specs.EmittedBody.{Source, types_of}
+use Rattle.walrus_functions.specs.EmittedBody.{source_of, types_of}
 use Rattle.walrus_functions.specs.Writing.{DeclaresLocals, LocalsDeclared}
 use Rattle.walrus_functions.proofs.WrittenLemmas.{emitted, refused_declared, refused_found, all_there, all_differ, few_declarations, fits_type}
 use Rattle.std.proofs.lemmas.Result.{err_from_is_err_and}
 use Rattle.walrus_functions.proofs.emit.emit_body.Goals as goal
-
-abbrev source : IdsToIndices → ModuleLocals → ModuleTypes → LocalFunction → Features → Source
-source indices module_locals types function features = record {
-  names = index_of indices;
-  slots = types_of (locals module_locals);
-  def = item_at (type_slots types) (place (function_type function));
-  is_function_type = is_function_at types;
-  features = features;
-  parameters = map place function.args.items;
-  ops = body_of function;
-}
 
 abbrev Local : Type 0
 Local = Id LocalKey
@@ -59,7 +40,7 @@ if_ok P Q f (Err e) h = tt
 
 pub returns-in_err-declared-clause-written : goal.returns-in_err-declared-clause-written
 returns-in_err-declared-clause-written c =
-    refused_found (source c.args.indices.now c.args.module_locals.now c.args.types.now c.args.function.now c.args.features.now) _ _ _ view_ids c.from_residual-in_err-declared.result c.in_err-declared.field-0.0 c.from_residual-in_err-declared.ensures.1 c.in_err-declared.ensures
+    refused_found (source_of c.args.indices.now c.args.module_locals.now c.args.types.now c.args.function.now c.args.features.now) _ _ _ view_ids c.from_residual-in_err-declared.result c.in_err-declared.field-0.0 c.from_residual-in_err-declared.ensures.1 c.in_err-declared.ensures
 
 pub returns-then-len-2-clause-written : goal.returns-then-len-2-clause-written
 returns-then-len-2-clause-written c =
@@ -82,18 +63,18 @@ returns-then-len-clause-written c =
 
 pub declare-requires-clause-there : goal.declare-requires-clause-there
 declare-requires-clause-there c =
-    all_there (source c.args.indices.now c.args.module_locals.now c.args.types.now c.args.function.now c.args.features.now) (map place c.in_ok-declared.declared.items) c.in_ok-declared.ensures.1 place c.as_slice-4.result.now (ap (map place) c.as_slice-4.ensures.value)
+    all_there (source_of c.args.indices.now c.args.module_locals.now c.args.types.now c.args.function.now c.args.features.now) (map place c.in_ok-declared.declared.items) c.in_ok-declared.ensures.1 place c.as_slice-4.result.now (ap (map place) c.as_slice-4.ensures.value)
 
 pub returns-in_err-declarations-clause-written : goal.returns-in_err-declarations-clause-written
 returns-in_err-declarations-clause-written c =
-    refused_declared (source c.args.indices.now c.args.module_locals.now c.args.types.now c.args.function.now c.args.features.now) (map place c.in_ok-declared.declared.items) c.in_ok-declared.ensures.1 _ _ _ view_declarations c.from_residual-in_err-declarations.result c.in_err-declarations.field-0.0 c.from_residual-in_err-declarations.ensures.1
+    refused_declared (source_of c.args.indices.now c.args.module_locals.now c.args.types.now c.args.function.now c.args.features.now) (map place c.in_ok-declared.declared.items) c.in_ok-declared.ensures.1 _ _ _ view_declarations c.from_residual-in_err-declarations.result c.in_err-declarations.field-0.0 c.from_residual-in_err-declarations.ensures.1
     (subst (λ (ids : List Local). DeclaresLocals (index_of c.args.indices.now) (types_of (locals c.args.module_locals.now)) (map place ids) view_declarations (Err c.in_err-declarations.field-0.0)) c.as_slice-4.ensures.value c.in_err-declarations.ensures)
 
 pub number_locals-requires-clause-distinct : goal.number_locals-requires-clause-distinct
 number_locals-requires-clause-distinct c =
     let are = all_places c.in_ok-all.all.items c.args.function.now.args.items c.in_ok-declared.declared.items c.as_slice-2.result.now c.as_slice-3.result.now c.in_ok-all.ensures c.as_slice-2.ensures.value c.as_slice-3.ensures.value in
     subst (λ (ps : List ℕ). IsDistinct nat_eq ps) (sym (ap (map place) c.as_slice-5.ensures.value ∙ are))
-    (all_differ (source c.args.indices.now c.args.module_locals.now c.args.types.now c.args.function.now c.args.features.now) (map place c.in_ok-declared.declared.items) c.in_ok-declared.ensures.1 c.in_ok-declared.ensures.0)
+    (all_differ (source_of c.args.indices.now c.args.module_locals.now c.args.types.now c.args.function.now c.args.features.now) (map place c.in_ok-declared.declared.items) c.in_ok-declared.ensures.1 c.in_ok-declared.ensures.0)
 
 pub write_body-requires : goal.write_body-requires
 write_body-requires c =
@@ -104,14 +85,14 @@ write_body-requires c =
     let counted = length-map c.in_ok-declared.declared.items place in
     let under = c.if-len.false in
     let few : length order < 2 ^ 32 = omega (arith, size, counted, under) in
-    let small = few_declarations (source c.args.indices.now c.args.module_locals.now c.args.types.now c.args.function.now c.args.features.now) order c.in_ok-declared.ensures.1 (declarations_of ds) written few in
+    let small = few_declarations (source_of c.args.indices.now c.args.module_locals.now c.args.types.now c.args.function.now c.args.features.now) order c.in_ok-declared.ensures.1 (declarations_of ds) written few in
     let same = length-map ds declaration in
     let slice = ap length c.as_slice-6.ensures.value in
     omega (arith, small, same, slice)
 
 pub returns-clause-written : goal.returns-clause-written
 returns-clause-written c =
-    let s = source c.args.indices.now c.args.module_locals.now c.args.types.now c.args.function.now c.args.features.now in
+    let s = source_of c.args.indices.now c.args.module_locals.now c.args.types.now c.args.function.now c.args.features.now in
     let order = map place c.in_ok-declared.declared.items in
     let are = all_places c.in_ok-all.all.items c.args.function.now.args.items c.in_ok-declared.declared.items c.as_slice-2.result.now c.as_slice-3.result.now c.in_ok-all.ensures c.as_slice-2.ensures.value c.as_slice-3.ensures.value in
     let ds = declarations_of c.in_ok-declarations.declarations.items in

@@ -3,7 +3,7 @@ use Rattle.std.proofs.lemmas.List.{length_push}
 use Rattle.walrus_base.specs.Id.{place}
 use Rattle.walrus_types.specs.Locals.{locals}
 use Rattle.walrus_contents.proofs.Taking.{placed_more}
-use Rattle.walrus_reading.proofs.TakenBody.{typed_more}
+use Rattle.walrus_reading.proofs.Placed.{adds_param, adds_all}
 use Rattle.walrus_reading.proofs.contents.add_params.Goals as goal
 
 pub loop-ty-preserved : goal.loop-ty-preserved
@@ -13,5 +13,8 @@ loop-ty-preserved c =
     record {
       counted = omega (arith, more, before);
       args = placed_more place (length (locals c.args.all.now)) c.loop-ty.ty-index c.loop-ty.args.items _ c.in_ok-add.field-0 c.loop-ty.invariant.args c.in_ok-push.ensures.items (c.in_ok-add.ensures.0 ∙ before);
-      typed = typed_more (locals c.args.all.now) (locals c.loop-ty.all) (locals c.add.new.self) c.args.params.now c.loop-ty.ty-index _ _ c.loop-ty-test.true c.loop-ty.invariant.typed c.in_ok-add.ensures.1;
+      added = adds_param (locals c.args.all.now) (locals c.loop-ty.all) (locals c.add.new.self) c.args.params.now c.loop-ty.ty-index _ _ c.loop-ty-test.true c.loop-ty.invariant.added c.in_ok-add.ensures.0 c.in_ok-add.ensures.1;
     }
+
+pub returns-clause-added : goal.returns-clause-added
+returns-clause-added c = adds_all c.args.params.now c.loop-ty.ty-index (locals c.args.all.now) (locals c.loop-ty.all) c.loop-ty-test.false c.loop-ty.invariant.added

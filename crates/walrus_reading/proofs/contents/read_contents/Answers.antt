@@ -18,7 +18,7 @@ use Rattle.walrus_model.specs.Reads.{declared}
 use Rattle.walrus_model.proofs.Supported.{supported}
 use Rattle.walrus_reading.specs.Taken.{IsLocated}
 use Rattle.walrus_reading.proofs.TakenSections.{types_named, types_are_functions, exports_named, sections_refused, sections_taken}
-use Rattle.walrus_reading.proofs.TypesRefer.{types_declared}
+use Rattle.walrus_records.proofs.TypesRefer.{types_declared}
 use Rattle.walrus_reading.proofs.TypesTaken.{both_named}
 use Rattle.wasm_frames.specs.Record.{body_record, sections}
 use Rattle.walrus_reading.proofs.contents.read_contents.Goals as goal

@@ -1,11 +1,12 @@
-use Rattle.std.proofs.Common.{◌≡◌, sym, subst, ◌∙◌}
+use Rattle.std.proofs.Common.{subst}
 use Rattle.std.proofs.lemmas.Result.{err_from_is_err_and}
 use Rattle.wasm_frames.specs.Record.{sections}
 use Rattle.walrus_model.specs.Declared.{NothingUndeclared}
 use Rattle.walrus_contents.specs.References.{HasUndeclared}
-use Rattle.walrus_reading.specs.Parsed.{TakenFrom}
+use Rattle.walrus_reading.specs.Parsed.{TakenFrom, features_so_far}
 use Rattle.walrus_reading.proofs.Accepting.{is_parsed, references_refused, refused_bytes}
 use Rattle.walrus_reading.proofs.SupportedRules.{narrow_rules}
+use Rattle.walrus_reading.proofs.Placed.{own_ids}
 use Rattle.walrus_reading.proofs.Refusals.{frames_refused, rules_refused, supported_refused, bodies_refused}
 use Rattle.walrus_reading.proofs.Rooms.{fits_indices}
 use Rattle.walrus_reading.proofs.module.read.Goals as goal
@@ -13,17 +14,17 @@ use Rattle.walrus_reading.proofs.module.read.Goals as goal
 pub returns-in_err-raw-clause-refused : goal.returns-in_err-raw-clause-refused
 returns-in_err-raw-clause-refused c = λ config with.
     let p = err_from_is_err_and c.from_residual.result c.from_residual.ensures.1 in
-    rw (p.1, p.2) (refused_bytes config c.args.features.now with c.args.bytes.now _ (frames_refused c.args.features.now c.args.bytes.now _ c.in_err-raw.ensures.only c.in_err-raw.ensures.not_large))
+    rw (p.1, p.2) (refused_bytes config (features_so_far c.args.only_stable) with c.args.bytes.now _ (frames_refused (features_so_far c.args.only_stable) c.args.bytes.now _ c.in_err-raw.ensures.only c.in_err-raw.ensures.not_large))
 
 pub returns-in_err-check-clause-refused : goal.returns-in_err-check-clause-refused
 returns-in_err-check-clause-refused c = λ config with.
     let p = err_from_is_err_and c.from_residual-in_err-check.result c.from_residual-in_err-check.ensures.1 in
-    rw (p.1, p.2) (refused_bytes config c.args.features.now with c.args.bytes.now _ (rules_refused c.args.features.now c.args.bytes.now (sections c.in_ok-raw.raw) _ c.in_ok-raw.ensures.found c.in_err-check.ensures))
+    rw (p.1, p.2) (refused_bytes config (features_so_far c.args.only_stable) with c.args.bytes.now _ (rules_refused (features_so_far c.args.only_stable) c.args.bytes.now (sections c.in_ok-raw.raw) _ c.in_ok-raw.ensures.found c.in_err-check.ensures))
 
 pub returns-in_err-check_supported-clause-refused : goal.returns-in_err-check_supported-clause-refused
 returns-in_err-check_supported-clause-refused c = λ config with.
     let p = err_from_is_err_and c.from_residual-in_err-check_supported.result c.from_residual-in_err-check_supported.ensures.1 in
-    rw (p.1, p.2) (refused_bytes config c.args.features.now with c.args.bytes.now _ (supported_refused c.args.features.now c.args.bytes.now (sections c.in_ok-raw.raw) _ c.in_ok-raw.ensures.found c.in_err-check_supported.ensures))
+    rw (p.1, p.2) (refused_bytes config (features_so_far c.args.only_stable) with c.args.bytes.now _ (supported_refused (features_so_far c.args.only_stable) c.args.bytes.now (sections c.in_ok-raw.raw) _ c.in_ok-raw.ensures.found c.in_err-check_supported.ensures))
 
 pub read_contents-requires-clause-rules : goal.read_contents-requires-clause-rules
 read_contents-requires-clause-rules c = narrow_rules (sections c.in_ok-raw.raw) c.in_ok-check_supported.ensures c.in_ok-check.ensures
@@ -34,29 +35,34 @@ read_contents-requires-clause-room c = fits_indices c.args.bytes.now (sections c
 pub returns-in_err-contents-clause-refused : goal.returns-in_err-contents-clause-refused
 returns-in_err-contents-clause-refused c = λ config with.
     let p = err_from_is_err_and c.from_residual-in_err-contents.result c.from_residual-in_err-contents.ensures.1 in
-    rw (p.1, p.2) (refused_bytes config c.args.features.now with c.args.bytes.now _
-    (bodies_refused c.args.features.now c.args.bytes.now (sections c.in_ok-raw.raw) _ c.in_ok-raw.ensures.found c.in_err-contents.ensures.taken))
+    rw (p.1, p.2) (refused_bytes config (features_so_far c.args.only_stable) with c.args.bytes.now _
+    (bodies_refused (features_so_far c.args.only_stable) c.args.bytes.now (sections c.in_ok-raw.raw) _ c.in_ok-raw.ensures.found c.in_err-contents.ensures.taken))
+
+pub returns-then-branch-clause-taken : goal.returns-then-branch-clause-taken
+returns-then-branch-clause-taken c = record {
+  sections = sections c.in_ok-raw.raw;
+  framed = c.in_ok-raw.ensures.found;
+  supported = c.in_ok-check_supported.ensures;
+  rules = narrow_rules (sections c.in_ok-raw.raw) c.in_ok-check_supported.ensures c.in_ok-check.ensures;
+  taken = c.in_ok-contents.ensures.taken;
+}
+
+pub returns-then-branch-clause-own_ids : goal.returns-then-branch-clause-own_ids
+returns-then-branch-clause-own_ids c = own_ids (features_so_far c.args.only_stable) (sections c.in_ok-raw.raw) c.in_ok-contents.contents c.in_ok-contents.ensures.taken
 
 pub returns-then-branch-clause-found : goal.returns-then-branch-clause-found
 returns-then-branch-clause-found c = λ config with.
-    let t : TakenFrom c.args.features.now c.args.bytes.now c.in_ok-contents.contents = record {
-      sections = sections c.in_ok-raw.raw;
-      framed = c.in_ok-raw.ensures.found;
-      supported = c.in_ok-check_supported.ensures;
-      rules = narrow_rules (sections c.in_ok-raw.raw) c.in_ok-check_supported.ensures c.in_ok-check.ensures;
-      taken = c.in_ok-contents.ensures.taken;
-    } in
-    is_parsed config c.args.features.now with c.args.bytes.now c.in_ok-contents.contents c.in_ok-contents.ensures.produced
-    (subst NothingUndeclared c.parts.ensures (c.in_ok-are_references_declared.ensures.declared c.if-branch.true)) t
+    is_parsed config (features_so_far c.args.only_stable) with c.args.bytes.now c.in_ok-contents.contents c.in_ok-contents.ensures.produced
+    (subst NothingUndeclared c.parts.ensures (c.in_ok-are_references_declared.ensures.declared c.if-branch.true)) (returns-then-branch-clause-taken c)
 
 pub returns-clause-refused : goal.returns-clause-refused
 returns-clause-refused c = λ config with.
-    let t : TakenFrom c.args.features.now c.args.bytes.now c.in_ok-contents.contents = record {
+    let t : TakenFrom (features_so_far c.args.only_stable) c.args.bytes.now c.in_ok-contents.contents = record {
       sections = sections c.in_ok-raw.raw;
       framed = c.in_ok-raw.ensures.found;
       supported = c.in_ok-check_supported.ensures;
       rules = narrow_rules (sections c.in_ok-raw.raw) c.in_ok-check_supported.ensures c.in_ok-check.ensures;
       taken = c.in_ok-contents.ensures.taken;
     } in
-    references_refused config c.args.features.now with c.args.bytes.now c.in_ok-contents.contents t
+    references_refused config (features_so_far c.args.only_stable) with c.args.bytes.now c.in_ok-contents.contents t
     (subst HasUndeclared c.parts.ensures (c.in_ok-are_references_declared.ensures.undeclared c.if-branch.false))

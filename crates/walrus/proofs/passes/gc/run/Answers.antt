@@ -36,3 +36,10 @@ pub returns-clause-settled : goal.returns-clause-settled
 returns-clause-settled g c =
     let old = c.args.module.now in
     (stays_collected_lem (view old) (view_of c.keep_only-2.new.self old.locals c.keep_only.new.self old.exports old.producers) (returns-clause-collected g c)).items
+
+pub returns-clause-own_ids : goal.returns-clause-own_ids
+returns-clause-own_ids g c = λ own. record {
+  functions = λ i x here. own.functions i x ((returns-clause-functions g c).left i x here).1;
+  exports = own.exports;
+  locals = own.locals;
+}

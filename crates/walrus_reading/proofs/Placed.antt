@@ -1,0 +1,161 @@
+-- What is held place by place: what is added, and that it sits at its own ids.
+use Rattle.std.proofs.Common.{◌≡◌, ℕ, zero, suc, ◌+◌, ◌<◌, ◌≤◌, List, [], ◌∷◌, ◌++◌, length, map, flat_map, take, get_or, refl, sym, ap, subst, ◌∙◌, arith, append_assoc, append-nil, length-append}
+use Rattle.std.specs.Prelude.{Option, Some, None, zip}
+use Rattle.std.specs.List.{range_with_len}
+use Rattle.std.proofs.lemmas.List.{take_more, take_all, map-append}
+use Rattle.walrus_base.specs.Arena.{item_at}
+use Rattle.walrus_base.specs.Id.{place}
+use Rattle.walrus_base.specs.Types.{ValType}
+use Rattle.walrus_base.specs.declared.id.Id.{Id}
+use Rattle.walrus_base.specs.declared.keys.LocalKey.{LocalKey}
+use Rattle.walrus_types.specs.Locals.{locals, local_place, new_local}
+use Rattle.walrus_types.specs.TypeDef.{TypeDef}
+use Rattle.walrus_types.specs.Value.{val_type}
+use Rattle.walrus_types.specs.declared.locals.Local.{Local}
+use Rattle.walrus_types.specs.declared.value.ValType.{ValType as DeclaredValType}
+use Rattle.walrus_bodies.specs.BodyRead.{new_locals}
+use Rattle.walrus_bodies.specs.declared.features.Features.{Features}
+use Rattle.walrus_items.specs.Exports.{ExportValue, exports}
+use Rattle.walrus_items.specs.Functions.{FunctionValue, functions}
+use Rattle.walrus_items.specs.declared.functions.FunctionKind.TheVariants as variants
+use Rattle.walrus_model.specs.Sections.{Said, types_of}
+use Rattle.walrus_model.proofs.Standing.{some_inj}
+use Rattle.walrus_contents.specs.declared.parts.Contents.{Contents}
+use Rattle.walrus_contents.proofs.Lookups.{heads}
+use Rattle.walrus_reading.specs.Parsed.{ItemsAtOwnIds}
+use Rattle.walrus_reading.specs.Taken.{AllPlaced, AddsExport, AddsLocalsOf, HasTaken, HoldsExport, HoldsFunction, HoldsLocal, HoldFunctions, locals_said}
+use Rattle.wasm_entries.specs.Record as entries
+use Rattle.wasm_entries.specs.declared.record.RawExport.{RawExport}
+use Rattle.wasm_frames.specs.Record as wire
+
+-- ---- any row
+
+pub placed_length : {A B : Type 0} (R : ℕ → A → B → Type 0) (k : ℕ) (xs : List A) (ys : List B) → AllPlaced R k xs ys → length xs ≡ length ys
+placed_length R k [] [] h = refl
+placed_length R k [] (y ∷ ys) h = absurd h
+placed_length R k (x ∷ xs) [] h = absurd h
+placed_length R k (x ∷ xs) (y ∷ ys) h = ap suc (placed_length R (k + 1) xs ys h.1)
+
+pub placed_append : {A B : Type 0} (R : ℕ → A → B → Type 0) (k next : ℕ) (xs : List A) (ys : List B) (us : List A) (vs : List B) → next ≡ k + length ys → AllPlaced R k xs ys → AllPlaced R next us vs → AllPlaced R k (xs ++ us) (ys ++ vs)
+placed_append R k next [] [] us vs at h more = let e : next ≡ k = omega (arith, at) in subst (λ (n : ℕ). AllPlaced R n us vs) e more
+placed_append R k next [] (y ∷ ys) us vs at h more = absurd h
+placed_append R k next (x ∷ xs) [] us vs at h more = absurd h
+placed_append R k next (x ∷ xs) (y ∷ ys) us vs at h more = (h.0, placed_append R (k + 1) next xs ys us vs (omega (arith, at)) h.1 more)
+
+-- one more
+pub placed_push : {A B : Type 0} (R : ℕ → A → B → Type 0) (xs : List A) (ys : List B) (x : A) (y : B) → AllPlaced R 0 xs ys → R (length ys) x y → AllPlaced R 0 (xs ++ x ∷ []) (ys ++ y ∷ [])
+placed_push R xs ys x y h one = placed_append R 0 (length ys) xs ys (x ∷ []) (y ∷ []) (omega arith) h (one, tt)
+
+one_later : (a b : ℕ) → a + 1 + b ≡ a + suc b
+one_later a b = omega arith
+
+nothing_more : (a : ℕ) → a ≡ a + 0
+nothing_more a = omega arith
+
+-- what is held at each place with the id of the place sits at its own id
+placed_own : {A T : Type 0} (own : T → ℕ) (R : ℕ → A → Option T → Type 0) → ((n : ℕ) (a : A) (x : T) → R n a (Some x) → own x ≡ n) → (k : ℕ) (xs : List A) (slots : List (Option T)) → AllPlaced R k xs slots
+    → (i : ℕ) (x : T) → item_at slots i ≡ Some x → own x ≡ k + i
+placed_own own R give k [] [] h i x e = absurd cc
+placed_own own R give k [] (s ∷ slots) h i x e = absurd h
+placed_own own R give k (a ∷ xs) [] h i x e = absurd h
+placed_own {A} {T} own R give k (a ∷ xs) (s ∷ slots) h zero x e = give k a x (subst (λ (o : Option T). R k a o) e h.0) ∙ nothing_more k
+placed_own own R give k (a ∷ xs) (s ∷ slots) h (suc i) x e = placed_own own R give (k + 1) xs slots h.1 i x e ∙ one_later k i
+
+-- ---- locals
+
+pub new_placed : (k : ℕ) (ids : List (Id LocalKey)) (types : List DeclaredValType) → map place ids ≡ range_with_len k (length types) → AllPlaced HoldsLocal k (map val_type types) (new_locals ids types)
+new_placed k [] [] e = tt
+new_placed k [] (t ∷ types) e = absurd cc
+new_placed k (i ∷ ids) [] e = absurd cc
+new_placed k (i ∷ ids) (t ∷ types) e =
+    let parts = heads (place i) k (map place ids) (range_with_len (k + 1) (length types)) e in
+    (record { local = new_local i t; is = refl; own_id = parts.0; typed = refl; unnamed = refl }, new_placed (k + 1) ids types parts.1)
+
+pub adds_both : (xs ys : List (ValType ℕ)) (old middle new : List (Option Local)) → AddsLocalsOf xs old middle → AddsLocalsOf ys middle new → AddsLocalsOf (xs ++ ys) old new
+adds_both xs ys old middle new (a, (is, placed)) (b, (grown, more)) = (
+  a ++ b,
+  (
+    grown ∙ ap (λ (l : List (Option Local)). l ++ b) is ∙ append_assoc old a b,
+    placed_append HoldsLocal (length old) (length middle) xs a ys b (ap length is ∙ length-append old a) placed more,
+  ),
+)
+
+module _ (types : List DeclaredValType) where
+  pub adds_none : (old : List (Option Local)) → AddsLocalsOf (map val_type (take 0 types)) old old
+  adds_none old = ([], (sym (append-nil old), tt))
+
+  pub adds_all : (i : ℕ) (old new : List (Option Local)) → length types ≤ i → AddsLocalsOf (map val_type (take i types)) old new → AddsLocalsOf (map val_type types) old new
+  adds_all i old new le h = subst (λ (l : List DeclaredValType). AddsLocalsOf (map val_type l) old new) (take_all i types le) h
+
+-- one more parameter
+pub adds_param : (first old new : List (Option Local)) (params : List DeclaredValType) (i : ℕ) (d : DeclaredValType) (id : Id LocalKey) → i < length params → AddsLocalsOf (map val_type (take i params)) first old
+    → place id ≡ length old → new ≡ old ++ Some (new_local id (get_or params i d)) ∷ [] → AddsLocalsOf (map val_type (take (i + 1) params)) first new
+adds_param first old new params i d id lt before at push =
+    let v : DeclaredValType = get_or params i d in
+    let more : map val_type (take (i + 1) params) ≡ map val_type (take i params) ++ val_type v ∷ [] = ap (map val_type) (take_more params i d lt) ∙ map-append val_type (take i params) (v ∷ []) in
+    let one : AddsLocalsOf (val_type v ∷ []) old new = (Some (new_local id v) ∷ [], (push, (record { local = new_local id v; is = refl; own_id = at; typed = refl; unnamed = refl }, tt))) in
+    subst (λ (l : List (ValType ℕ)). AddsLocalsOf l first new) (sym more) (adds_both (map val_type (take i params)) (val_type v ∷ []) first old new before one)
+
+-- ---- functions
+
+module _ (types : ℕ → Option TypeDef) where
+  -- one more function, whose locals stand behind
+  pub held_push : (id first : ℕ) (ps : List (ℕ × Said)) (slots : List (Option FunctionValue)) (p : ℕ × Said) (slot : Option FunctionValue) (at behind : ℕ) → at ≡ id + length slots → behind ≡ first + length (flat_map (locals_said types) ps)
+      → HoldFunctions types id first ps slots → HoldsFunction types at behind p slot → HoldFunctions types id first (ps ++ p ∷ []) (slots ++ slot ∷ [])
+  held_push id first [] [] p slot at behind e f h one =
+      let own : at ≡ id = omega (arith, e) in
+      let from : behind ≡ first = f ∙ sym (nothing_more first) in
+      (subst (λ (n : ℕ). HoldsFunction types n first p slot) own (subst (λ (n : ℕ). HoldsFunction types at n p slot) from one), tt)
+  held_push id first [] (s ∷ slots) p slot at behind e f h one = absurd h
+  held_push id first (q ∷ ps) [] p slot at behind e f h one = absurd h
+  held_push id first (q ∷ ps) (s ∷ slots) p slot at behind e f h one =
+      let long = length-append (locals_said types q) (flat_map (locals_said types) ps) in
+      (h.0, held_push (id + 1) (first + length (locals_said types q)) ps slots p slot at behind (omega (arith, e)) (omega (arith, f, long)) h.1 one)
+
+  own_function : (id : ℕ) (first : ℕ) (p : ℕ × Said) (slot : Option FunctionValue) (x : FunctionValue) → HoldsFunction types id first p slot → slot ≡ Some x → x.id ≡ id
+  own_function id first p slot x h e = ap (λ (f : FunctionValue). f.id) (some_inj x (record { id = id; kind = variants.Local h.local; name = None }) (sym e ∙ h.is))
+
+  functions_own : (id first : ℕ) (ps : List (ℕ × Said)) (slots : List (Option FunctionValue)) → HoldFunctions types id first ps slots → (i : ℕ) (x : FunctionValue) → item_at slots i ≡ Some x → x.id ≡ id + i
+  functions_own id first [] [] h i x e = absurd cc
+  functions_own id first [] (s ∷ slots) h i x e = absurd h
+  functions_own id first (p ∷ ps) [] h i x e = absurd h
+  functions_own id first (p ∷ ps) (s ∷ slots) h zero x e = own_function id first p s x h.0 e ∙ nothing_more id
+  functions_own id first (p ∷ ps) (s ∷ slots) h (suc i) x e = functions_own (id + 1) (first + length (locals_said types p)) ps slots h.1 i x e ∙ one_later id i
+
+-- ---- exports
+
+-- one more export
+pub adds_export : (xs : List entries.Export) (old new : List (Option ExportValue)) (e : entries.Export) → AllPlaced HoldsExport 0 xs old → AddsExport e old new → AllPlaced HoldsExport 0 (xs ++ e ∷ []) new
+adds_export xs old new e h (slot, (push, holds)) = subst (λ (l : List (Option ExportValue)). AllPlaced HoldsExport 0 (xs ++ e ∷ []) l) (sym push) (placed_push HoldsExport xs old e slot h holds)
+
+module _ (raw : List RawExport) where
+  pub no_exports : (all : List (Option ExportValue)) → all ≡ [] → AllPlaced HoldsExport 0 (map entries.export_entry (take 0 raw)) all
+  no_exports all none = subst (λ (l : List (Option ExportValue)). AllPlaced HoldsExport 0 [] l) (sym none) tt
+
+  pub one_more_export : (i : ℕ) (d : RawExport) (old new : List (Option ExportValue)) → i < length raw → AllPlaced HoldsExport 0 (map entries.export_entry (take i raw)) old → AddsExport (entries.export_entry (get_or raw i d)) old new
+      → AllPlaced HoldsExport 0 (map entries.export_entry (take (i + 1) raw)) new
+  one_more_export i d old new lt before adds =
+      let v : RawExport = get_or raw i d in
+      let more : map entries.export_entry (take (i + 1) raw) ≡ map entries.export_entry (take i raw) ++ entries.export_entry v ∷ [] = ap (map entries.export_entry) (take_more raw i d lt) ∙ map-append entries.export_entry (take i raw) (v ∷ []) in
+      subst (λ (l : List entries.Export). AllPlaced HoldsExport 0 l new) (sym more) (adds_export (map entries.export_entry (take i raw)) old new (entries.export_entry v) before adds)
+
+  pub all_exports : (i : ℕ) (all : List (Option ExportValue)) → length raw ≤ i → AllPlaced HoldsExport 0 (map entries.export_entry (take i raw)) all → AllPlaced HoldsExport 0 (map entries.export_entry raw) all
+  all_exports i all le h = subst (λ (l : List RawExport). AllPlaced HoldsExport 0 (map entries.export_entry l) all) (take_all i raw le) h
+
+-- ---- all
+
+own_local : (n : ℕ) (t : ValType ℕ) (x : Local) → HoldsLocal n t (Some x) → local_place x ≡ n
+own_local n t x h = ap local_place (some_inj x h.local h.is) ∙ h.own_id
+
+own_export : (n : ℕ) (e : entries.Export) (x : ExportValue) → HoldsExport n e (Some x) → x.id ≡ n
+own_export n e x h = ap (λ (v : ExportValue). v.id) (some_inj x h.value h.is) ∙ h.own_id
+
+from_zero : (n i : ℕ) → n ≡ 0 + i → n ≡ i
+from_zero n i e = omega (arith, e)
+
+pub own_ids : (c : Features) (r : wire.Module) (m : Contents) → HasTaken c r m → ItemsAtOwnIds m
+own_ids c r m t = record {
+  functions = λ i x e. from_zero x.id i (functions_own (types_of r) 0 0 (zip r.functions t.bodies) (functions m.funcs) t.functions i x e);
+  exports = λ i x e. from_zero x.id i (placed_own (λ (v : ExportValue). v.id) HoldsExport own_export 0 r.exports (exports m.exports) t.exports i x e);
+  locals = λ i x e. from_zero (local_place x) i (placed_own local_place HoldsLocal own_local 0 (flat_map (locals_said (types_of r)) (zip r.functions t.bodies)) (locals m.locals) t.locals i x e);
+}
