@@ -1,6 +1,6 @@
 -- Where each function that ref.func names is exported, nothing is undeclared; else some function is.
 use Rattle.std.proofs.Common.{◌≡◌, ℕ, zero, suc, ◌+◌, Bool, true, false, ◌&&◌, ◌||◌, List, [], ◌∷◌, map, refl, sym, ap, ◌∙◌, subst, eqb-true, inl, ⊎_elim}
-use Rattle.std.proofs.lemmas.Bool.{eqb-false}
+use Rattle.std.proofs.lemmas.Bool.{false≢true}
 use Rattle.std.specs.Prelude.{Option, Some, None, Contains, IsSome, option_map, ◌==◌, if◌then◌else◌}
 use Rattle.std.specs.List.{list_all}
 use Rattle.walrus_base.specs.Arena.{item_at, items, entries_from}
@@ -11,8 +11,8 @@ use Rattle.walrus_types.specs.declared.locals.ModuleLocals.{ModuleLocals}
 use Rattle.walrus_types.specs.declared.module_types.ModuleTypes.{ModuleTypes}
 use Rattle.walrus_items.specs.Exports.{ExportValue, exported, exports}
 use Rattle.walrus_items.specs.Functions.{FunctionValue, functions}
-use Rattle.walrus_items.specs.declared.exports.ExportItem.{ExportItem}
-use Rattle.walrus_items.specs.declared.exports.ExportItem.TheVariants as item
+use Rattle.walrus_items.specs.Items.{is_item}
+use Rattle.walrus_items.proofs.ItemLemmas.{is_item-same, same-is_item}
 use Rattle.walrus_items.specs.declared.exports.ModuleExports.{ModuleExports}
 use Rattle.walrus_producers.specs.declared.producers.ModuleProducers.{ModuleProducers}
 use Rattle.walrus_items.specs.declared.functions.FunctionKind.{FunctionKind}
@@ -29,19 +29,16 @@ use Rattle.walrus_contents.specs.View.{export_of, body, kind_of, function, view_
 
 -- ---- exports
 
-led : (x : ExportItem) (f : ℕ) → ((exported x).1 == f) ≡ true → exported x ≡ function_item f
-led (item.Function id) f is = ap function_item (eqb-true (exported (item.Function id)).1 f is)
-
 -- an export that leads to the function
 exported_at : (es : List ExportValue) (f : ℕ) → is_exported es f ≡ true → (e : Export) × Contains (map export_of es) e × (e.item ≡ function_item f)
 exported_at [] f h = absurd (cc)
-exported_at (e ∷ es) f h = by_test (λ k. exported_at es f k) ((exported e.item).1 == f) refl h
+exported_at (e ∷ es) f h = by_test (λ k. exported_at es f k) (is_item (exported e.item) (function_item f)) refl h
   where
     later : ((x : Export) × Contains (map export_of es) x × (x.item ≡ function_item f)) → (x : Export) × Contains (map export_of (e ∷ es)) x × (x.item ≡ function_item f)
     later (x, at, is) = (x, Contains-tail (export_of e) x (map export_of es) at, is)
 
-    by_test : (is_exported es f ≡ true → (x : Export) × Contains (map export_of es) x × (x.item ≡ function_item f)) → (b : Bool) → ((exported e.item).1 == f) ≡ b → (b || is_exported es f) ≡ true → (x : Export) × Contains (map export_of (e ∷ es)) x × (x.item ≡ function_item f)
-    by_test rest true is h = (export_of e, Contains-head (export_of e) (map export_of es), led e.item f is)
+    by_test : (is_exported es f ≡ true → (x : Export) × Contains (map export_of es) x × (x.item ≡ function_item f)) → (b : Bool) → is_item (exported e.item) (function_item f) ≡ b → (b || is_exported es f) ≡ true → (x : Export) × Contains (map export_of (e ∷ es)) x × (x.item ≡ function_item f)
+    by_test rest true is h = (export_of e, Contains-head (export_of e) (map export_of es), is_item-same (exported e.item) (function_item f) is)
     by_test rest false is h = later (rest h)
 
 either_false : (b c : Bool) → (b || c) ≡ false → (b ≡ false) × (c ≡ false)
@@ -52,16 +49,16 @@ both_true : (b c : Bool) → (b && c) ≡ true → (b ≡ true) × (c ≡ true)
 both_true true c e = (refl, e)
 both_true false c e = absurd (cc)
 
-not_same : (n f : ℕ) → n ≡ f → (n == f) ≡ false → ⊥
-not_same n f e differs = eqb-false n f differs e
+not_same : (x y : Item) → x ≡ y → is_item x y ≡ false → ⊥
+not_same x y e differs = false≢true (sym differs ∙ same-is_item x y e)
 
 -- no export leads to it
 none_exported : (es : List ExportValue) (f : ℕ) → is_exported es f ≡ false → (e : Export) → Contains (map export_of es) e → e.item ≡ function_item f → ⊥
 none_exported [] f h e at is = Contains-none e at
 none_exported (x ∷ es) f h e at is =
-    let both = either_false ((exported x.item).1 == f) (is_exported es f) h in
+    let both = either_false (is_item (exported x.item) (function_item f)) (is_exported es f) h in
     ⊎_elim
-    (λ (eq : export_of x ≡ e). not_same (exported x.item).1 f (ap (λ (y : Export). y.item.1) eq ∙ ap (λ (y : Item). y.1) is) both.0)
+    (λ (eq : export_of x ≡ e). not_same (exported x.item) (function_item f) (ap (λ (y : Export). y.item) eq ∙ is) both.0)
     (λ d. none_exported es f both.1 e d is)
     (Contains-uncons (export_of x) e (map export_of es) at)
 

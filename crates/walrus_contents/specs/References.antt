@@ -4,8 +4,8 @@ use Rattle.std.specs.Prelude.{ℕ, Bool, true, List, [], ◌∷◌, ◌==◌, if
 use Rattle.std.specs.List.{list_all, list_any}
 use Rattle.wasm_opcodes.specs.declared.one_byte.TheConstants.{REF_FUNC}
 use Rattle.walrus_code.specs.Function.{body_of}
-use Rattle.walrus_types.specs.Operators.{Types, Functions, Tables, Memories, Tags, Globals, Elements, DataSegments, Arg, Index, Label, Local, Number, Count, Byte, S32, S64, Bits32, Bits64, Value, Heap, Block, Access, Op}
-use Rattle.walrus_items.specs.Exports.{ExportValue, exported}
+use Rattle.walrus_types.specs.Operators.{Types, Functions, Tables, Memories, Tags, Globals, Elements, DataSegments, Arg, Index, Label, Local, Number, Count, Byte, S32, S64, Bits32, Bits64, Value, Heap, Block, Access, Op, function_item}
+use Rattle.walrus_items.specs.Exports.{ExportValue, exports_item}
 use Rattle.walrus_items.specs.Functions.{FunctionValue}
 use Rattle.walrus_items.specs.declared.functions.FunctionKind.{FunctionKind}
 use Rattle.walrus_items.specs.declared.functions.FunctionKind.TheVariants as kind
@@ -15,7 +15,7 @@ use Rattle.walrus_model.specs.Live.{IsLive}
 
 -- an export leads to the function at this place
 abbrev pub is_exported : List ExportValue → ℕ → Bool
-is_exported exports f = list_any (λ e. (exported e.item).1 == f) exports
+is_exported exports f = list_any (exports_item (function_item f)) exports
 
 module _ (holds : ℕ → Bool) where
   -- a function that the argument names passes the test

@@ -21,8 +21,8 @@ use crate::parts::Parts;
 use std::alloc::{AllocError, Global};
 use std::result;
 use walrus_items::{
-    Error, ExportItem, Function, FunctionKind, HeapType, ItemId, LocalFunction, LocalId,
-    ModuleExports, ModuleFunctions, ModuleLocals, ModuleTypes, Operator, Result, TypeId, ValType,
+    Error, Function, FunctionKind, HeapType, ItemId, LocalFunction, LocalId, ModuleExports,
+    ModuleFunctions, ModuleLocals, ModuleTypes, Operator, Result, TypeId, ValType,
 };
 
 /// Puts what the exports name behind `to`, in order.
@@ -33,8 +33,7 @@ pub fn push_export_names(
     ensures { OnOk result (Puts to.old to.new (export_names exports.now)) }
 {
     for export in exports.iter() {
-        let ExportItem::Function(id) = export.item;
-        to.push(ItemId::Function(id))?;
+        to.push(export.item.item_id())?;
     }
     Ok(())
 }

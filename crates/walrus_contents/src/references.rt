@@ -1,11 +1,13 @@
 //! Functions that `ref.func` names (Instructions > Reference Instructions).
-ghost use Rattle.std.specs.Prelude.{◌≡◌, ℕ, true, false, map, IfOk, IsOkUnless};
+ghost use Rattle.std.specs.Prelude.{◌≡◌, ◌||◌, ℕ, true, false, map, IfOk, IsOkUnless, OnOk};
 ghost use Rattle.std.specs.List.{list_all};
 ghost use Rattle.walrus_base.specs.Arena.{items};
 ghost use Rattle.walrus_base.specs.IdSet.{has_id};
 ghost use Rattle.walrus_code.specs.Code.{arg_of, op_of};
-ghost use Rattle.walrus_items.specs.Exports.{exports};
+ghost use Rattle.walrus_items.specs.Exports.{exported, exports};
 ghost use Rattle.walrus_items.specs.Functions.{functions};
+ghost use Rattle.walrus_items.specs.Items.{is_item};
+ghost use Rattle.walrus_types.specs.Operators.{function_item};
 ghost use Rattle.walrus_parts.specs.Errors.{out_of_memory};
 ghost use Rattle.walrus_model.specs.Declared.{NothingUndeclared};
 ghost use Rattle.walrus_contents.specs.References.{is_exported, arg_passes, args_pass, op_passes, kind_passes, all_pass, HasUndeclared};
@@ -27,10 +29,21 @@ fn exported_functions(alloc: Global, all: &ModuleExports) -> Result<IdHashSet<Fu
 {
     let mut marks = IdHashSet::new(alloc);
     for export in all.iter() {
-        let ExportItem::Function(id) = export.item;
-        marks.insert(id)?;
+        mark_function(export.item, &mut marks)?;
     }
     Ok(marks)
+}
+
+// Marks what is exported, if it is a function.
+fn mark_function(item: ExportItem, marks: &mut IdHashSet<FunctionKey>) -> Result<()>
+    ensures marks { OnOk result ((f : ℕ) → has_id marks.new f
+        ≡ (is_item (exported item) (function_item f) || has_id marks.old f)) }
+    ensures fails { IsOkUnless result out_of_memory }
+{
+    if let ExportItem::Function(id) = item {
+        marks.insert(id)?;
+    }
+    Ok(())
 }
 
 // Whether a function that the argument names is marked.

@@ -1,2 +1,4 @@
 pub mod Found
+pub mod ItemLemmas
+pub mod KeepingLemmas
 pub mod SeenLemmas

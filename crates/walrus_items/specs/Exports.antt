@@ -1,16 +1,17 @@
 -- What a contract sees of the exports of a module ("Structure > Modules > Exports").
-use Rattle.std.specs.Prelude.{ℕ, Bool, true, ◌&&◌, List, Option, Some, map, option_and_then, bytes_eq, nat_eq}
+use Rattle.std.specs.Prelude.{ℕ, Bool, true, false, ◌&&◌, List, Option, Some, None, map, option_and_then, bytes_eq}
 use Rattle.std.specs.String.{string_bytes}
 use Rattle.walrus_base.specs.Id.{place}
 use Rattle.walrus_base.specs.Arena.{slots, entries_left, with_item}
 use Rattle.walrus_base.specs.declared.id.Id.{Id}
 use Rattle.walrus_base.specs.declared.keys.FunctionKey.{FunctionKey}
-use Rattle.walrus_types.specs.Operators.{Item, function_item}
+use Rattle.walrus_types.specs.Operators.{Tables, Memories, Globals, Tags, Item, function_item}
+use Rattle.walrus_items.specs.Items.{is_item}
 use Rattle.walrus_items.specs.Seen.{seen}
 use Rattle.walrus_items.specs.Searches.{first}
 use Rattle.walrus_items.specs.declared.exports.Export.{Export}
 use Rattle.walrus_items.specs.declared.exports.ExportItem.{ExportItem}
-use Rattle.walrus_items.specs.declared.exports.ExportItem.TheVariants.{Function}
+use Rattle.walrus_items.specs.declared.exports.ExportItem.TheVariants.{Function, Table, Memory, Global, Tag}
 use Rattle.walrus_items.specs.declared.exports.ModuleExports.{ModuleExports}
 use Rattle.walrus_items.specs.declared.exports.ExportIter.{ExportIter}
 use Rattle.walrus_items.specs.declared.exports.ExportEntries.{ExportEntries}
@@ -27,10 +28,18 @@ export_value e = record { id = place e.id; name = string_bytes e.name; item = e.
 -- what is exported, by its index space and place
 abbrev pub exported : ExportItem → Item
 exported (Function f) = function_item (place f)
+exported (Table t) = (Tables, place t)
+exported (Memory m) = (Memories, place m)
+exported (Global g) = (Globals, place g)
+exported (Tag t) = (Tags, place t)
 
 -- the function that is exported, if it is one
 abbrev pub exported_function : ExportItem → Option (Id FunctionKey)
 exported_function (Function f) = Some f
+exported_function (Table t) = None
+exported_function (Memory m) = None
+exported_function (Global g) = None
+exported_function (Tag t) = None
 
 -- the export or nothing at each place from 0 on
 abbrev pub exports : ModuleExports → List (Option ExportValue)
@@ -52,16 +61,17 @@ export_entries_left left = map (λ e. (e.0, export_value e.1)) (entries_left lef
 abbrev pub is_named : List ℕ → ExportValue → Bool
 is_named name e = bytes_eq e.name name
 
--- what is exported is the function at this place
-abbrev pub is_function_at : ℕ → ExportItem → Bool
-is_function_at number (Function f) = nat_eq (place f) number
-
-abbrev pub exports_function : ℕ → ExportValue → Bool
-exports_function number e = is_function_at number e.item
+-- what is exported is this item
+abbrev pub exports_item : Item → ExportValue → Bool
+exports_item x e = is_item (exported e.item) x
 
 -- what is exported is a function
 abbrev pub is_function : ExportItem → Bool
 is_function (Function f) = true
+is_function (Table t) = false
+is_function (Memory m) = false
+is_function (Global g) = false
+is_function (Tag t) = false
 
 -- the export is a function's, and has this name
 abbrev pub is_function_named : List ℕ → ExportValue → Bool

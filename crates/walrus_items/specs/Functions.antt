@@ -1,5 +1,5 @@
 -- What a contract sees of the functions of a module ("Structure > Modules > Functions").
-use Rattle.std.specs.Prelude.{ℕ, Bool, List, [], ◌∷◌, ◌++◌, Option, Some, None, map}
+use Rattle.std.specs.Prelude.{ℕ, Bool, List, [], ◌∷◌, ◌++◌, Option, Some, None, map, ⊤}
 use Rattle.std.specs.Option.{option_to_list}
 use Rattle.walrus_base.specs.Id.{place}
 use Rattle.walrus_base.specs.Arena.{slots, entries_left, with_item}
@@ -30,6 +30,18 @@ abbrev pub kind_type : FunctionKind → Id TypeKey
 kind_type (Import i) = i.ty
 kind_type (Local f) = function_type f
 kind_type (Uninitialized ty) = ty
+
+-- an import brings it
+abbrev pub IsImport : FunctionKind → Type 0
+IsImport (Import i) = ⊤
+IsImport (Local f) = ⊥
+IsImport (Uninitialized ty) = ⊥
+
+-- it has a body
+abbrev pub IsLocal : FunctionKind → Type 0
+IsLocal (Local f) = ⊤
+IsLocal (Import i) = ⊥
+IsLocal (Uninitialized ty) = ⊥
 
 -- the function or nothing at each place from 0 on
 abbrev pub functions : ModuleFunctions → List (Option FunctionValue)

@@ -1,7 +1,14 @@
+pub mod Equality
 pub mod Exports
 pub mod Functions
+pub mod Imports
+pub mod Items
+pub mod Keeping
 pub mod LendsExport
 pub mod LendsFunction
+pub mod LendsImport
+pub mod LendsKind
+pub mod Marks
 pub mod OwnIds
 pub mod Searches
 pub mod Seen

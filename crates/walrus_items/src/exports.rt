@@ -5,19 +5,63 @@ ghost use Rattle.std.specs.Borrow.{sem};
 ghost use Rattle.std.specs.Iterator.{YieldsFirstBy, item_count};
 ghost use Rattle.walrus_base.specs.Id.{place};
 ghost use Rattle.walrus_base.specs.Arena.{item_at, IsLive, items, entries};
+ghost use Rattle.walrus_code.specs.Code.{item_of};
+ghost use Rattle.walrus_types.specs.Operators.{Tables, Memories, Globals, function_item};
 ghost use Rattle.walrus_parts.specs.Errors.{out_of_memory};
+ghost use Rattle.walrus_items.specs.Items.{is_item};
 ghost use Rattle.walrus_items.specs.Searches.{first, RemovesFound};
-ghost use Rattle.walrus_items.specs.declared.exports.ExportItem.TheVariants.{Function};
+ghost use Rattle.walrus_items.specs.declared.exports.ExportItem.TheVariants.{Function, Table, Memory, Global, Tag};
 
 use std::alloc::Global;
-use walrus_base::{ArenaIter, ExportId, ExportKey, FunctionId, TombstoneArena};
-use walrus_parts::{Error, Result};
+use walrus_base::{
+    ArenaIter, ExportId, ExportKey, FunctionId, GlobalId, MemoryId, TableId, TagId, TombstoneArena,
+};
+use walrus_parts::{Error, ItemId, Result};
 
 /// What an export exports.
 #[derive(Clone, Copy, Debug)]
 pub enum ExportItem {
     /// A function.
     Function(FunctionId),
+    /// A table.
+    Table(TableId),
+    /// A memory.
+    Memory(MemoryId),
+    /// A global.
+    Global(GlobalId),
+    /// A tag.
+    Tag(TagId),
+}
+
+impl ExportItem {
+    ghost use Rattle.walrus_items.specs.Exports.{exported};
+
+    /// The item, as an operator would name it.
+    pub fn item_id(self) -> ItemId
+        ensures { item_of result ≡ exported self }
+    {
+        match self {
+            ExportItem::Function(id) => ItemId::Function(id),
+            ExportItem::Table(id) => ItemId::Table(id),
+            ExportItem::Memory(id) => ItemId::Memory(id),
+            ExportItem::Global(id) => ItemId::Global(id),
+            ExportItem::Tag(id) => ItemId::Tag(id),
+        }
+    }
+
+    // Whether it is the same item.
+    fn is_same(self, other: ExportItem) -> bool
+        ensures { result ≡ is_item (exported self) (exported other) }
+    {
+        match (self, other) {
+            (ExportItem::Function(one), ExportItem::Function(id)) => one == id,
+            (ExportItem::Table(one), ExportItem::Table(id)) => one == id,
+            (ExportItem::Memory(one), ExportItem::Memory(id)) => one == id,
+            (ExportItem::Global(one), ExportItem::Global(id)) => one == id,
+            (ExportItem::Tag(one), ExportItem::Tag(id)) => one == id,
+            _ => false,
+        }
+    }
 }
 
 impl From<FunctionId> for ExportItem {
@@ -25,6 +69,38 @@ impl From<FunctionId> for ExportItem {
 
     fn from(id: FunctionId) -> ExportItem {
         ExportItem::Function(id)
+    }
+}
+
+impl From<TableId> for ExportItem {
+    ghost from_gives = { λ id item. item ≡ Table id };
+
+    fn from(id: TableId) -> ExportItem {
+        ExportItem::Table(id)
+    }
+}
+
+impl From<MemoryId> for ExportItem {
+    ghost from_gives = { λ id item. item ≡ Memory id };
+
+    fn from(id: MemoryId) -> ExportItem {
+        ExportItem::Memory(id)
+    }
+}
+
+impl From<GlobalId> for ExportItem {
+    ghost from_gives = { λ id item. item ≡ Global id };
+
+    fn from(id: GlobalId) -> ExportItem {
+        ExportItem::Global(id)
+    }
+}
+
+impl From<TagId> for ExportItem {
+    ghost from_gives = { λ id item. item ≡ Tag id };
+
+    fn from(id: TagId) -> ExportItem {
+        ExportItem::Tag(id)
     }
 }
 
@@ -69,7 +145,7 @@ pub struct ModuleExports {
 }
 
 impl ModuleExports {
-    ghost use Rattle.walrus_items.specs.Exports.{ExportValue, export_value, exports, exports_left, export_entries_left, is_named, exports_function, function_named};
+    ghost use Rattle.walrus_items.specs.Exports.{ExportValue, export_value, exports, exports_left, export_entries_left, exported, is_named, exports_item, function_named};
     ghost use Rattle.walrus_items.specs.LendsExport.{LendsExport};
 
     /// No exports. Takes no memory until the first one comes.
@@ -182,8 +258,9 @@ impl ModuleExports {
     {
         for (_, export) in self.arena.iter() {
             if export.name.as_str() == name {
-                let ExportItem::Function(id) = export.item;
-                return Ok(id);
+                if let ExportItem::Function(id) = export.item {
+                    return Ok(id);
+                }
             }
         }
         Err(Error::NotFound)
@@ -192,15 +269,33 @@ impl ModuleExports {
     /// The first export of this function.
     pub fn get_exported_func(&self, id: FunctionId) -> Option<&Export>
         ensures { option_map (λ e. export_value e.now) result ≡ option_map (λ e. e.1)
-            (first (exports_function (place id)) (exports self.now)) }
+            (first (exports_item (function_item (place id))) (exports self.now)) }
     {
-        for (_, export) in self.arena.iter() {
-            let ExportItem::Function(exported) = export.item;
-            if exported == id {
-                return Some(export);
-            }
-        }
-        None
+        self.first_of(ExportItem::Function(id))
+    }
+
+    /// The first export of this table.
+    pub fn get_exported_table(&self, id: TableId) -> Option<&Export>
+        ensures { option_map (λ e. export_value e.now) result ≡ option_map (λ e. e.1)
+            (first (exports_item (Tables, place id)) (exports self.now)) }
+    {
+        self.first_of(ExportItem::Table(id))
+    }
+
+    /// The first export of this memory.
+    pub fn get_exported_memory(&self, id: MemoryId) -> Option<&Export>
+        ensures { option_map (λ e. export_value e.now) result ≡ option_map (λ e. e.1)
+            (first (exports_item (Memories, place id)) (exports self.now)) }
+    {
+        self.first_of(ExportItem::Memory(id))
+    }
+
+    /// The first export of this global.
+    pub fn get_exported_global(&self, id: GlobalId) -> Option<&Export>
+        ensures { option_map (λ e. export_value e.now) result ≡ option_map (λ e. e.1)
+            (first (exports_item (Globals, place id)) (exports self.now)) }
+    {
+        self.first_of(ExportItem::Global(id))
     }
 
     /// Takes away the first export of this name, or answers `NotFound` where there is none.
@@ -215,6 +310,19 @@ impl ModuleExports {
             }
             None => Err(Error::NotFound),
         }
+    }
+
+    // The first export of this item.
+    fn first_of(&self, item: ExportItem) -> Option<&Export>
+        ensures { option_map (λ e. export_value e.now) result ≡ option_map (λ e. e.1)
+            (first (exports_item (exported item)) (exports self.now)) }
+    {
+        for (_, export) in self.arena.iter() {
+            if export.item.is_same(item) {
+                return Some(export);
+            }
+        }
+        None
     }
 
     // The id of the first export of this name.

@@ -8,6 +8,7 @@ ghost use Rattle.walrus_base.specs.IdSet.{has_id};
 ghost use Rattle.walrus_parts.specs.Errors.{out_of_memory};
 ghost use Rattle.walrus_items.specs.Seen.{text_of, text_is};
 ghost use Rattle.walrus_items.specs.Searches.{first};
+ghost use Rattle.walrus_items.specs.declared.functions.FunctionKind.TheVariants.{Import, Local};
 
 use std::alloc::{AllocError, Global};
 use std::result;
@@ -35,6 +36,57 @@ pub enum FunctionKind {
     Local(LocalFunction),
     /// From the module, with this type, and its body isn't known yet.
     Uninitialized(TypeId),
+}
+
+impl FunctionKind {
+    ghost use Rattle.walrus_items.specs.Functions.{IsImport, IsLocal};
+    ghost use Rattle.walrus_items.specs.LendsKind.{LendsImported, LendsLocal};
+
+    /// What a function of an import is. Asks for such a function.
+    pub fn unwrap_import(&self) -> &ImportedFunction
+        requires { IsImport self.now }
+        ensures { self.now ≡ Import result.now }
+    {
+        match self {
+            FunctionKind::Import(imported) => imported,
+            _ => unreachable!(),
+        }
+    }
+
+    /// The body of a local function. Asks for such a function.
+    pub fn unwrap_local(&self) -> &LocalFunction
+        requires { IsLocal self.now }
+        ensures { self.now ≡ Local result.now }
+    {
+        match self {
+            FunctionKind::Local(local) => local,
+            _ => unreachable!(),
+        }
+    }
+
+    /// What a function of an import is, for writing. Asks for such a function.
+    pub fn unwrap_import_mut(&mut self) -> &mut ImportedFunction
+        requires { IsImport self.old }
+        ensures* writes_back { sem 𝓛 (LendsImported self.entry result) }
+        ensures value { self.old ≡ Import result.now }
+    {
+        match self {
+            FunctionKind::Import(imported) => imported,
+            _ => unreachable!(),
+        }
+    }
+
+    /// The body of a local function, for writing. Asks for such a function.
+    pub fn unwrap_local_mut(&mut self) -> &mut LocalFunction
+        requires { IsLocal self.old }
+        ensures* writes_back { sem 𝓛 (LendsLocal self.entry result) }
+        ensures value { self.old ≡ Local result.now }
+    {
+        match self {
+            FunctionKind::Local(local) => local,
+            _ => unreachable!(),
+        }
+    }
 }
 
 /// A function of a module.

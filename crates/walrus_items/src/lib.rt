@@ -3,12 +3,18 @@
 
 mod exports;
 mod functions;
+mod imports;
+mod law;
+mod marks;
 
 pub use exports::{Export, ExportEntries, ExportItem, ExportIter, ModuleExports};
 pub use functions::{
     Function, FunctionEntries, FunctionIter, FunctionKind, ImportedFunction, LocalFunctionIter,
     ModuleFunctions,
 };
+pub use imports::{Import, ImportEntries, ImportIter, ImportKind, ModuleImports};
+pub use law::{imports_are_equal_by_parts, items_are_told_apart, kinds_are_equal_as_items};
+pub use marks::ItemMarks;
 pub use walrus_parts::{
     AbstractHeapType, ArenaIter, Arg, Args, ArrayType, BlockType, CodeTransform, CompositeType,
     ConstExpr, ConstOp, CustomSection, CustomSectionKey, DataId, DataKey, ElementId, ElementKey,

@@ -2,10 +2,10 @@
 
 use std::alloc::{AllocError, Global};
 use std::test::Fail;
-use test_support::{demand, first_id, is_text};
-use walrus_base::{ExportId, FunctionId, FunctionKey, IdHashSet};
+use test_support::{demand, first_id, is_name, is_text, second_id};
+use walrus_base::{ExportId, FunctionId, FunctionKey, IdHashSet, ImportId};
 use walrus_ir::LocalFunction;
-use walrus_items::{ExportItem, FunctionKind, ModuleExports, ModuleFunctions};
+use walrus_items::{ExportItem, FunctionKind, ImportedFunction, ModuleExports, ModuleFunctions};
 use walrus_parts::Error;
 
 fn named_function(alloc: Global, name: &str) -> Result<LocalFunction, AllocError> {
@@ -187,5 +187,54 @@ fn functions_are_edited(rt: HostRuntime) -> Result<(), Fail> {
     demand(
         are_edited_functions(rt.alloc(), &mut functions),
         "two functions of one name",
+    )
+}
+
+// Whether it is a function of this import, of the first type.
+fn is_import(alloc: Global, kind: &FunctionKind, import: ImportId) -> bool {
+    if !matches!(kind, FunctionKind::Import(_)) {
+        return false;
+    }
+    let imported = kind.unwrap_import();
+    imported.ty == first_id(alloc) && imported.import == import
+}
+
+fn is_redirected(alloc: Global, kind: &mut FunctionKind, import: ImportId) -> bool {
+    if !matches!(kind, FunctionKind::Import(_)) {
+        return false;
+    }
+    kind.unwrap_import_mut().import = import;
+    is_import(alloc, kind, import)
+}
+
+fn is_named_f(kind: &FunctionKind) -> bool {
+    matches!(kind, FunctionKind::Local(_)) && is_name(&kind.unwrap_local().name, "f")
+}
+
+fn loses_name(kind: &mut FunctionKind) -> bool {
+    if !matches!(kind, FunctionKind::Local(_)) {
+        return false;
+    }
+    kind.unwrap_local_mut().name = None;
+    !is_named_f(kind)
+}
+
+fn are_unwrapped(alloc: Global, imported: &mut FunctionKind, local: &mut FunctionKind) -> bool {
+    is_import(alloc, imported, first_id(alloc))
+        && is_redirected(alloc, imported, second_id(alloc))
+        && is_named_f(local)
+        && loses_name(local)
+}
+
+#[test]
+fn kinds_of_functions(rt: HostRuntime) -> Result<(), Fail> {
+    let mut imported = FunctionKind::Import(ImportedFunction {
+        import: first_id(rt.alloc()),
+        ty: first_id(rt.alloc()),
+    });
+    let mut local = FunctionKind::Local(named_function(rt.alloc(), "f")?);
+    demand(
+        are_unwrapped(rt.alloc(), &mut imported, &mut local),
+        "an import and a body",
     )
 }

@@ -10,7 +10,11 @@ mod entities;
 #[cfg(test)]
 mod entries;
 #[cfg(test)]
+mod exports;
+#[cfg(test)]
 mod forms;
+#[cfg(test)]
+mod imports;
 #[cfg(test)]
 mod ir;
 #[cfg(test)]

@@ -15,7 +15,7 @@ use Rattle.walrus_code.specs.Names.{Lookup, named_val, named_ops}
 use Rattle.walrus_code.specs.declared.error.IrError.{IrError}
 use Rattle.walrus_code.specs.declared.error.IrError.TheVariants as Ir
 use Rattle.walrus_code.specs.declared.function.LocalFunction.{LocalFunction}
-use Rattle.walrus_types.specs.Operators.{Item, Types, Functions, Op, type_item, names_of, locals_of}
+use Rattle.walrus_types.specs.Operators.{Item, Types, Functions, Tables, Memories, Globals, Tags, Op, type_item, names_of, locals_of}
 use Rattle.walrus_types.specs.Shape.{place_in}
 use Rattle.walrus_bodies.specs.declared.features.Features.{Features}
 use Rattle.walrus_functions.specs.DeclaredLocals.{AreDeclared}
@@ -203,6 +203,10 @@ module _ (p : Parts) (none_dead : HasDead (parts_view p) → ⊥) (local : all_l
 
   export_named : (x : ExportItem) (name : List ℕ) → IsSome (names (exported x).0 (exported x).1) → IsSome (export_with_index names (record { name = name; item = exported x }))
   export_named (exports_as.Function f) name h = still_some (λ index. record { name = name; kind = kinds.Function; index = index }) (names Functions (place f)) h
+  export_named (exports_as.Table i) name h = still_some (λ index. record { name = name; kind = kinds.Table; index = index }) (names Tables (place i)) h
+  export_named (exports_as.Memory i) name h = still_some (λ index. record { name = name; kind = kinds.Memory; index = index }) (names Memories (place i)) h
+  export_named (exports_as.Global i) name h = still_some (λ index. record { name = name; kind = kinds.Global; index = index }) (names Globals (place i)) h
+  export_named (exports_as.Tag i) name h = still_some (λ index. record { name = name; kind = kinds.Tag; index = index }) (names Tags (place i)) h
 
   exports_named : (vs : List ExportValue) → ((e : abstract.Export) → Contains (map export_of vs) e → IsLive V e.item) → All (λ e. IsSome e) (map (λ v. export_with_index names (export_of v)) vs)
   exports_named [] l = λ k d lt. absurd (omega (arith, lt))

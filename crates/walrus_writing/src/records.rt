@@ -6,13 +6,13 @@ ghost use Rattle.walrus_base.specs.Id.{place};
 ghost use Rattle.walrus_types.specs.ModuleTypes.{type_slots};
 ghost use Rattle.walrus_groups.specs.Indexed.{NumbersTypes, AreIndexed, LacksAnIndex};
 ghost use Rattle.walrus_code.specs.Indices.{index_of};
-ghost use Rattle.walrus_items.specs.Exports.{exports, export_value};
+ghost use Rattle.walrus_items.specs.Exports.{exports, export_value, exported};
 ghost use Rattle.walrus_items.specs.Functions.{functions};
 ghost use Rattle.walrus_contents.specs.View.{export_of, parts_view};
 ghost use Rattle.walrus_parts.specs.Errors.{out_of_memory};
 ghost use Rattle.wasm_entries.specs.Record.{group, export_entry};
 ghost use Rattle.wasm_frames.specs.Record.{body_record, sections};
-ghost use Rattle.walrus_writing.specs.Parts.{index_at, type_index, export_with_index, unplaced};
+ghost use Rattle.walrus_writing.specs.Parts.{index_at, kind_in, type_index, export_with_index, unplaced};
 ghost use Rattle.walrus_writing.specs.Records.{sections_with};
 ghost use Rattle.walrus_writing.specs.Refusals.{RefusesTypes};
 
@@ -85,13 +85,38 @@ fn raw_export<'a>(export: &'a Export, indices: &IdsToIndices) -> Option<RawExpor
         (export_of (export_value export.now)) }
     ensures text { IfSome result (λ raw. IsUtf8 raw.name.now) }
 {
-    let ExportItem::Function(id) = export.item;
-    let index = indices.get_func_index(id)?;
+    let index = index_of_item(export.item, indices)?;
     Some(RawExport {
         name: export.name.as_str(),
-        kind: RawExportKind::Function,
+        kind: raw_kind(export.item),
         index,
     })
+}
+
+// The kind of what is exported.
+fn raw_kind(item: ExportItem) -> RawExportKind
+    ensures { Some result ≡ kind_in (exported item).0 }
+{
+    match item {
+        ExportItem::Function(_) => RawExportKind::Function,
+        ExportItem::Table(_) => RawExportKind::Table,
+        ExportItem::Memory(_) => RawExportKind::Memory,
+        ExportItem::Global(_) => RawExportKind::Global,
+        ExportItem::Tag(_) => RawExportKind::Tag,
+    }
+}
+
+// The index of what is exported, in its own index space.
+fn index_of_item(item: ExportItem, indices: &IdsToIndices) -> Option<u32>
+    ensures { result ≡ index_of indices.now (exported item).0 (exported item).1 }
+{
+    match item {
+        ExportItem::Function(id) => indices.get_func_index(id),
+        ExportItem::Table(id) => indices.get_table_index(id),
+        ExportItem::Memory(id) => indices.get_memory_index(id),
+        ExportItem::Global(id) => indices.get_global_index(id),
+        ExportItem::Tag(id) => indices.get_tag_index(id),
+    }
 }
 
 pub fn raw_exports<'a>(

@@ -1,8 +1,0 @@
-use Rattle.walrus_base.specs.Id.{place}
-use Rattle.walrus_base.specs.Arena.{slots}
-use Rattle.walrus_items.specs.Exports.{export_value, exports_function}
-use Rattle.walrus_items.proofs.SeenLemmas.{first-seen}
-use Rattle.walrus_items.proofs.exports.ModuleExports.get_exported_func.Goals as goal
-
-pub loop-export-init : goal.loop-export-init
-loop-export-init c = (tt, tt, rw (c.into_iter-export-iterator.ensures.into_iter_gives, c.iter-export-items.ensures) (first-seen export_value (exports_function (place c.args.id)) (slots c.args.self.now.arena)))

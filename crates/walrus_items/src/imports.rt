@@ -1,0 +1,356 @@
+//! The imports of a module ("Structure > Modules > Imports").
+ghost use Rattle.std.specs.Prelude.{◌≡◌, ◌++◌, ◌∷◌, [], length, Some, None, IsTrue, ◌↔◌, MatchResult, IfOk, IsOkUnless, count_by, is_some, slice_set, option_map};
+ghost use Rattle.std.specs.Borrow.{sem};
+ghost use Rattle.std.specs.Iterator.{YieldsFirstBy, item_count};
+ghost use Rattle.std.specs.Option.{ok_or};
+ghost use Rattle.walrus_base.specs.Id.{place};
+ghost use Rattle.walrus_base.specs.Arena.{item_at, IsLive, items, entries};
+ghost use Rattle.walrus_types.specs.Operators.{function_item};
+ghost use Rattle.walrus_parts.specs.Errors.{out_of_memory};
+ghost use Rattle.walrus_items.specs.Keeping.{kept_slot, kept_where};
+ghost use Rattle.walrus_items.specs.Searches.{first, RemovesFound};
+ghost use Rattle.walrus_items.specs.declared.imports.ImportKind.TheVariants.{Function, Table, Memory, Global, Tag};
+
+use crate::marks::ItemMarks;
+use std::alloc::Global;
+use walrus_base::{
+    ArenaIter, FunctionId, GlobalId, ImportId, ImportKey, MemoryId, TableId, TagId, TombstoneArena,
+};
+use walrus_parts::{Error, Result};
+
+/// What an import imports.
+#[derive(Clone, Copy, Debug, PartialEq, Eq, Hash)]
+pub enum ImportKind {
+    /// A function.
+    Function(FunctionId),
+    /// A table.
+    Table(TableId),
+    /// A memory.
+    Memory(MemoryId),
+    /// A global.
+    Global(GlobalId),
+    /// A tag.
+    Tag(TagId),
+}
+
+impl From<FunctionId> for ImportKind {
+    ghost from_gives = { λ id kind. kind ≡ Function id };
+
+    fn from(id: FunctionId) -> ImportKind {
+        ImportKind::Function(id)
+    }
+}
+
+impl From<TableId> for ImportKind {
+    ghost from_gives = { λ id kind. kind ≡ Table id };
+
+    fn from(id: TableId) -> ImportKind {
+        ImportKind::Table(id)
+    }
+}
+
+impl From<MemoryId> for ImportKind {
+    ghost from_gives = { λ id kind. kind ≡ Memory id };
+
+    fn from(id: MemoryId) -> ImportKind {
+        ImportKind::Memory(id)
+    }
+}
+
+impl From<GlobalId> for ImportKind {
+    ghost from_gives = { λ id kind. kind ≡ Global id };
+
+    fn from(id: GlobalId) -> ImportKind {
+        ImportKind::Global(id)
+    }
+}
+
+impl From<TagId> for ImportKind {
+    ghost from_gives = { λ id kind. kind ≡ Tag id };
+
+    fn from(id: TagId) -> ImportKind {
+        ImportKind::Tag(id)
+    }
+}
+
+/// An import of a module.
+#[derive(Debug, Drop, PartialEq, Eq, Hash)]
+pub struct Import {
+    id: ImportId,
+    /// The name of the module that the item comes from.
+    pub module: String,
+    /// The name that the item has there.
+    pub name: String,
+    /// What is imported.
+    pub kind: ImportKind,
+}
+
+impl Import {
+    ghost use Rattle.walrus_items.specs.Imports.{import_value};
+
+    /// The id under which the import was added.
+    pub fn id(&self) -> ImportId
+        ensures { place result ≡ (import_value self.now).id }
+    {
+        self.id
+    }
+
+    /// An equal import. `Memory` is the only error.
+    pub fn try_clone(&self) -> Result<Import>
+        ensures value { IfOk result (λ i. import_value i ≡ import_value self.now) }
+        ensures fails { IsOkUnless result out_of_memory }
+    {
+        Ok(Import {
+            id: self.id,
+            module: self.module.clone()?,
+            name: self.name.clone()?,
+            kind: self.kind,
+        })
+    }
+}
+
+/// The imports of a module, by their ids. Deleted ids are never used again.
+#[derive(Drop)]
+pub struct ModuleImports {
+    arena: TombstoneArena<ImportKey, Import>,
+    alloc: Global,
+}
+
+impl ModuleImports {
+    ghost use Rattle.walrus_items.specs.Imports.{ImportValue, import_value, imported, imports, imports_left, import_entries_left, is_import_of, imports_item, function_of, stays_under};
+    ghost use Rattle.walrus_items.specs.LendsImport.{LendsImport};
+
+    /// No imports. Takes no memory until the first one comes.
+    pub fn new(alloc: Global) -> ModuleImports
+        ensures { imports result ≡ [] }
+    {
+        ModuleImports {
+            arena: TombstoneArena::new(alloc),
+            alloc,
+        }
+    }
+
+    /// Makes room for `additional` more imports. `Memory` is the only error.
+    pub fn reserve(&mut self, additional: usize) -> Result<()>
+        ensures same { imports self.new ≡ imports self.old }
+        ensures fails { IsOkUnless result out_of_memory }
+    {
+        self.arena.reserve(additional)?;
+        Ok(())
+    }
+
+    /// The id that the next import gets.
+    pub fn next_id(&self) -> ImportId
+        ensures { place result ≡ length (imports self.now) }
+    {
+        self.arena.next_id()
+    }
+
+    /// Imports an item by the name of its module and its own. `Memory` is the only error; then nothing changes.
+    pub fn add(&mut self, module: &str, name: &str, kind: ImportKind) -> Result<ImportId>
+        ensures { MatchResult result
+            (λ id. (place id ≡ length (imports self.old))
+            × (imports self.new ≡ imports self.old
+            ++ Some (record {
+              id = place id;
+              module_name = «module».now;
+              name = name.now;
+              kind = kind;
+            }) ∷ []))
+            (λ e. (e ≡ out_of_memory) × (imports self.new ≡ imports self.old)) }
+    {
+        let module = String::from_str(self.alloc, module)?;
+        let name = String::from_str(self.alloc, name)?;
+        let id = self.arena.next_id();
+        Ok(
+            self.arena.alloc(Import {
+                id,
+                module,
+                name,
+                kind,
+            })?,
+        )
+    }
+
+    /// The import of a live id.
+    pub fn get(&self, id: ImportId) -> &Import
+        requires { IsLive (imports self.now) (place id) }
+        ensures { item_at (imports self.now) (place id) ≡ Some (import_value result.now) }
+    {
+        self.arena.get(id)
+    }
+
+    /// The import of a live id, for writing.
+    pub fn get_mut(&mut self, id: ImportId) -> &mut Import
+        requires { IsLive (imports self.old) (place id) }
+        ensures* writes_back { sem 𝓛 (LendsImport self.entry (place id) result) }
+        ensures value { item_at (imports self.old) (place id) ≡ Some (import_value result.now) }
+    {
+        self.arena.get_mut(id)
+    }
+
+    /// Whether the import of the id is there.
+    pub fn contains(&self, id: ImportId) -> bool
+        ensures { IsTrue result ↔ IsLive (imports self.now) (place id) }
+    {
+        self.arena.contains(id)
+    }
+
+    /// Takes the import of a live id away.
+    pub fn delete(&mut self, id: ImportId)
+        requires { IsLive (imports self.old) (place id) }
+        ensures { imports self.new ≡ slice_set (imports self.old) (place id) None }
+    {
+        let _ = self.arena.delete(id);
+    }
+
+    /// Deletes every import whose item isn't marked. The others stay, and so do all places. Takes no memory.
+    pub fn keep_only(&mut self, marks: ItemMarks<'_>)
+        ensures { imports self.new ≡ kept_where (stays_under marks.entry) (imports self.old) }
+    {
+        for place in 0..self.next_id().index() {
+            self.delete_unmarked(ImportId::at(place), marks);
+        }
+    }
+
+    // Deletes the import of the id, if it is there and its item isn't marked.
+    fn delete_unmarked(&mut self, id: ImportId, marks: ItemMarks<'_>)
+        ensures { imports self.new ≡ slice_set (imports self.old) (place id)
+            (kept_slot (stays_under marks.entry) (item_at (imports self.old) (place id))) }
+    {
+        if self.arena.contains(id) && !marks.has_import(self.arena.get(id).kind) {
+            self.delete(id);
+        }
+    }
+
+    /// How many imports there are.
+    pub fn len(&self) -> usize
+        ensures { result ≡ count_by is_some (imports self.now) }
+    {
+        self.arena.len()
+    }
+
+    /// Whether there is no import.
+    pub fn is_empty(&self) -> bool
+        ensures { IsTrue result ↔ (count_by is_some (imports self.now) ≡ 0) }
+    {
+        self.len() == 0
+    }
+
+    /// The imports, by rising id.
+    pub fn iter(&self) -> ImportIter<'_>
+        ensures { imports_left result ≡ items (imports self.now) }
+    {
+        ImportIter {
+            rest: self.arena.iter(),
+        }
+    }
+
+    /// The imports with their ids, by rising id.
+    pub fn iter_entries(&self) -> ImportEntries<'_>
+        ensures { import_entries_left result ≡ entries (imports self.now) }
+    {
+        ImportEntries {
+            rest: self.arena.iter(),
+        }
+    }
+
+    /// The first import of these two names.
+    pub fn find(&self, module: &str, name: &str) -> Option<ImportId>
+        ensures { option_map place result ≡ option_map (λ e. e.0)
+            (first (is_import_of «module».now name.now) (imports self.now)) }
+    {
+        for (id, import) in self.arena.iter() {
+            if import.module.as_str() == module && import.name.as_str() == name {
+                return Some(id);
+            }
+        }
+        None
+    }
+
+    /// The first function imported by these two names, or `NotFound` where there is none.
+    pub fn get_func(&self, module: &str, name: &str) -> Result<FunctionId>
+        ensures { result ≡ ok_or (function_of «module».now name.now (imports self.now)) Error.NotFound }
+    {
+        for (_, import) in self.arena.iter() {
+            if import.module.as_str() == module && import.name.as_str() == name {
+                if let ImportKind::Function(id) = import.kind {
+                    return Ok(id);
+                }
+            }
+        }
+        Err(Error::NotFound)
+    }
+
+    /// The first import of this function.
+    pub fn get_imported_func(&self, id: FunctionId) -> Option<&Import>
+        ensures { option_map (λ i. import_value i.now) result ≡ option_map (λ e. e.1)
+            (first (imports_item (function_item (place id))) (imports self.now)) }
+    {
+        for (_, import) in self.arena.iter() {
+            if let ImportKind::Function(imported) = import.kind {
+                if imported == id {
+                    return Some(import);
+                }
+            }
+        }
+        None
+    }
+
+    /// Takes away the first import of these two names, or answers `NotFound` where there is none.
+    pub fn remove(&mut self, module: &str, name: &str) -> Result<()>
+        ensures { RemovesFound (first (is_import_of «module».now name.now) (imports self.old))
+            (imports self.old) (imports self.new) result }
+    {
+        match self.find(module, name) {
+            Some(found) => {
+                self.delete(found);
+                Ok(())
+            }
+            None => Err(Error::NotFound),
+        }
+    }
+}
+
+/// The imports of a module, by rising id.
+#[derive(Drop)]
+pub struct ImportIter<'a> {
+    rest: ArenaIter<'a, ImportKey, Import>,
+}
+
+impl<'a> Iterator for ImportIter<'a> {
+    type Item = &'a Import;
+
+    ghost use Rattle.walrus_items.specs.Imports.{import_value, imports_left};
+
+    ghost next_gives = { YieldsFirstBy (λ i. import_value i.now) imports_left };
+
+    ghost remaining = { item_count imports_left };
+
+    fn next(&mut self) -> Option<&'a Import> {
+        match self.rest.next() {
+            Some((_, import)) => Some(import),
+            None => None,
+        }
+    }
+}
+
+/// The imports of a module with their ids, by rising id.
+#[derive(Drop)]
+pub struct ImportEntries<'a> {
+    rest: ArenaIter<'a, ImportKey, Import>,
+}
+
+impl<'a> Iterator for ImportEntries<'a> {
+    type Item = (ImportId, &'a Import);
+
+    ghost use Rattle.walrus_items.specs.Imports.{import_value, import_entries_left};
+
+    ghost next_gives = { YieldsFirstBy (λ e. (place e.0, import_value e.1.now)) import_entries_left };
+
+    ghost remaining = { item_count import_entries_left };
+
+    fn next(&mut self) -> Option<(ImportId, &'a Import)> {
+        self.rest.next()
+    }
+}
