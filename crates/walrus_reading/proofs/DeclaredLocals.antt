@@ -1,8 +1,9 @@
 -- The locals that a body in memory declares: those that it uses beside its parameters.
 use Rattle.std.proofs.Common.{◌≡◌, ◌≢◌, ℕ, ◌+◌, ◌<◌, ◌||◌, ◌&&◌, Bool, true, false, List, [], ◌∷◌, length, map, refl, sym, ap, subst, ◌∙◌, arith, ⊎_elim, ◌⊎◌, inl, inr}
-use Rattle.std.specs.Prelude.{Contains, filter, not, ◌==◌, cond}
+use Rattle.std.specs.Prelude.{AllPairs, Contains, filter, not, ◌==◌, cond}
 use Rattle.std.specs.List.{range_with_len}
 use Rattle.std.proofs.lemmas.Bool.Decides.{Decides-eqb}
+use Rattle.std.proofs.lemmas.List.FromFn.{length-range_with_len, get_or-range_with_len}
 use Rattle.std.proofs.lemmas.List.Kept.{AllPairs-filter}
 use Rattle.walrus_base.specs.Id.{place}
 use Rattle.walrus_types.specs.Locals.{locals}
@@ -17,7 +18,14 @@ use Rattle.walrus_model.proofs.Lists.{Contains-head, Contains-tail, Contains-unc
 use Rattle.walrus_model.proofs.Standing.{none_there}
 use Rattle.walrus_rules.specs.Pinned.{IsDeclared}
 use Rattle.walrus_rules.specs.WellMade.{IsCounted}
-use Rattle.walrus_reading.proofs.WholeLists.{range_apart}
+
+-- ---- places in a row
+
+range_apart : (a n : ℕ) → AllPairs (λ (x : ℕ) (y : ℕ). x ≢ y) (range_with_len a n)
+range_apart a n = λ i j d less within same.
+    let last : j < n = omega (arith, within, length-range_with_len a n) in
+    let first : i < n = omega (arith, less, last) in
+    omega (arith, less, same, get_or-range_with_len a n i d first, get_or-range_with_len a n j d last)
 
 -- ---- tests
 

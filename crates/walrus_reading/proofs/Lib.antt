@@ -3,7 +3,6 @@ pub mod Carrying
 pub mod DeclaredLocals
 pub mod Held
 pub mod Locating
-pub mod MovedRefs
 pub mod NoHandlers
 pub mod Parsing
 pub mod Placed
@@ -15,4 +14,3 @@ pub mod SupportedRules
 pub mod TakenBody
 pub mod TakenSections
 pub mod TypesTaken
-pub mod WholeLists

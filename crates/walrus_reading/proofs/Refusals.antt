@@ -7,15 +7,13 @@ use Rattle.wasm_forms.specs.declared.error.WireError.{WireError}
 use Rattle.wasm_forms.specs.declared.error.WireError.TheVariants as Wire
 use Rattle.wasm_frames.specs.Frames.{Frames}
 use Rattle.wasm_frames.specs.Record as wire
-use Rattle.wasm_wire.specs.Rules as wire_rules
-use Rattle.wasm_wire.specs.Rules.{Checks}
+use Rattle.wasm_wire.specs.Rules.{Rules, Checks}
 use Rattle.wasm_frames.proofs.Modules.{one_record_lem}
 use Rattle.walrus_bodies.specs.declared.features.Features.{Features}
 use Rattle.walrus_model.specs.Reads.{ReadsBodyWith}
 use Rattle.walrus_reading.specs.Parsed.{RefusesModule}
 use Rattle.walrus_model.specs.Supported.{IsSupported}
 use Rattle.walrus_reading.specs.Taken.{TakesSections}
-use Rattle.walrus_reading.proofs.SupportedRules.{widen_rules}
 use Rattle.walrus_parts.specs.Errors.{error_of_wire}
 use Rattle.walrus_parts.specs.declared.error.Error.{Error}
 use Rattle.walrus_parts.specs.declared.error.Error.TheVariants as Parts
@@ -25,8 +23,8 @@ frames_refused c bytes Wire.Malformed only small = λ a. let n : ◌≡◌ {A = 
 frames_refused c bytes (Wire.Memory m) only small = tt
 frames_refused c bytes Wire.TooLarge only small = absurd (small refl)
 
-pub rules_refused : (c : Features) (bytes : List ℕ) (w : wire.Module) (e : WireError) → Frames bytes w → Checks (Err e) (wire_rules.Rules w) → RefusesModule c bytes (error_of_wire e)
-rules_refused c bytes w Wire.Malformed f h = λ a. h (subst wire_rules.Rules (one_record_lem bytes a.sections w a.framed f) (widen_rules a.sections a.supported a.rules))
+pub rules_refused : (c : Features) (bytes : List ℕ) (w : wire.Module) (e : WireError) → Frames bytes w → Checks (Err e) (Rules w) → RefusesModule c bytes (error_of_wire e)
+rules_refused c bytes w Wire.Malformed f h = λ a. h (subst Rules (one_record_lem bytes a.sections w a.framed f) a.rules)
 rules_refused c bytes w (Wire.Memory m) f h = tt
 rules_refused c bytes w Wire.TooLarge f h = absurd h
 

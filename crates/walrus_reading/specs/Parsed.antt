@@ -18,8 +18,8 @@ use Rattle.walrus_items.specs.Functions.{functions}
 use Rattle.walrus_items.specs.OwnIds.{FunctionsAtOwnIds, ExportsAtOwnIds, LocalsAtOwnIds}
 use Rattle.walrus_contents.specs.declared.parts.Contents.{Contents}
 use Rattle.walrus_reading.specs.Taken.{HasTaken, IsLocated}
-use Rattle.walrus_reading.specs.Sections.{Rules}
 use Rattle.wasm_frames.specs.Frames.{Frames}
+use Rattle.wasm_wire.specs.Rules.{Rules}
 use Rattle.walrus_parts.specs.declared.error.Error.{Error}
 use Rattle.walrus_parts.specs.declared.error.Error.TheVariants.{Memory, InvalidWasm}
 

@@ -1,16 +1,11 @@
--- What the rules on the sections of a module come to, as far as they are supported so far ("Validation > Modules").
-use Rattle.std.specs.Prelude.{true, length, All, AllPairs, ◌≡◌, ◌≢◌, ◌<◌}
+-- What the rules on the sections of a module come to for reading what they hold, as far as they are supported so far: a premise inside.
+use Rattle.std.specs.Prelude.{true, length, All, ◌≡◌, ◌<◌}
 use Rattle.wasm_frames.specs.Record as wire
-use Rattle.wasm_frames.specs.Order.{InOrder}
 use Rattle.wasm_wire.specs.Indices.{TypesRefer}
-use Rattle.wasm_wire.specs.Rules.{LocalsHold}
 use Rattle.walrus_model.specs.Reads.{is_function}
 
 pub record Rules (m : wire.Module) : Type 0 where
-  pub sections_in_order : InOrder m.order
   pub types_refer : TypesRefer m.types
   pub function_types : All (λ t. is_function m t ≡ true) m.functions
   pub exports_hold : All (λ e. e.index < length m.functions) m.exports
   pub as_many_bodies : length m.bodies ≡ length m.functions
-  pub names_differ : AllPairs (λ a b. a.name ≢ b.name) m.exports
-  pub locals : All LocalsHold m.bodies

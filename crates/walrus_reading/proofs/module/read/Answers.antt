@@ -43,7 +43,7 @@ returns-then-branch-clause-taken c = record {
   sections = sections c.in_ok-raw.raw;
   framed = c.in_ok-raw.ensures.found;
   supported = c.in_ok-check_supported.ensures;
-  rules = narrow_rules (sections c.in_ok-raw.raw) c.in_ok-check_supported.ensures c.in_ok-check.ensures;
+  rules = c.in_ok-check.ensures;
   taken = c.in_ok-contents.ensures.taken;
 }
 
@@ -61,8 +61,8 @@ returns-clause-refused c = λ config with.
       sections = sections c.in_ok-raw.raw;
       framed = c.in_ok-raw.ensures.found;
       supported = c.in_ok-check_supported.ensures;
-      rules = narrow_rules (sections c.in_ok-raw.raw) c.in_ok-check_supported.ensures c.in_ok-check.ensures;
+      rules = c.in_ok-check.ensures;
       taken = c.in_ok-contents.ensures.taken;
     } in
-    references_refused config (features_so_far c.args.only_stable) with c.args.bytes.now c.in_ok-contents.contents t
+    references_refused config (features_so_far c.args.only_stable) with c.args.bytes.now c.in_ok-contents.contents c.in_ok-contents.ensures.produced t
     (subst HasUndeclared c.parts.ensures (c.in_ok-are_references_declared.ensures.undeclared c.if-branch.false))
