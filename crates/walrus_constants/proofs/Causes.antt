@@ -1,9 +1,9 @@
 -- Why a constant expression isn't written: what the code tests, with its causes.
-use Rattle.std.proofs.Common.{◌≡◌, ◌≢◌, ◌∙◌, ◌||◌, ◌⊎◌, ⊎_elim, ℕ, Bool, true, false, List, [], ◌∷◌, ◌++◌, map, length, Option, Some, None, refl, sym, ap, subst, append-nil}
+use Rattle.std.proofs.Common.{◌≡◌, ◌≢◌, ◌∙◌, ◌||◌, ⊎_elim, ℕ, Bool, true, false, List, [], ◌∷◌, ◌++◌, map, length, Option, Some, None, refl, sym, ap, subst, append-nil}
 use Rattle.std.specs.Prelude.{IsSome, Contains, flat_map, Result, Ok, Err, IfOk, All}
 use Rattle.std.proofs.lemmas.List.Elements.{Contains-append_left, Contains-append_right, Contains-append_cases}
 use Rattle.wasm_forms.specs.Reading.{◌>>=◌}
-use Rattle.wasm_forms.proofs.Bind.{bind_some, some_same}
+use Rattle.wasm_forms.proofs.Bind.{bind_some}
 use Rattle.wasm_entries.specs.Record.{Expression}
 use Rattle.wasm_entries.specs.Spelling.{ConstStands, ExpressionStands}
 use Rattle.walrus_base.specs.Types.{HeapType, OfHeap, Concrete, Exact, IsNotExact, ValType, I32, I64, F32, F64, V128, Ref, val_heaps, heap_names, val_names}
@@ -13,7 +13,7 @@ use Rattle.walrus_code.specs.Results.{heap_is_exact, val_is_exact, block_is_exac
 use Rattle.walrus_code.specs.declared.error.IrError.{IrError}
 use Rattle.walrus_code.specs.declared.error.IrError.TheVariants.{Malformed, Memory, NoIndex, NotWritable, TooLarge}
 use Rattle.walrus_groups.specs.Named.{each}
-use Rattle.walrus_model.specs.Constants.{const_of, consts_of}
+use Rattle.walrus_model.specs.Constants.{consts_of}
 use Rattle.walrus_model.specs.WellMade.{block_heaps, arg_heaps, op_heaps}
 use Rattle.walrus_model.proofs.Lists.{Contains-head, Contains-uncons, Contains-none}
 use Rattle.walrus_constants.specs.Named.{named_const_op, named_const}

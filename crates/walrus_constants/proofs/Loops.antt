@@ -1,5 +1,5 @@
 -- What the loops over operators keep.
-use Rattle.std.proofs.Common.{Bool, true, false, not, ◌||◌, ◌≡◌, ◌≢◌, ◌∙◌, ℕ, ◌+◌, ◌<◌, suc, List, [], ◌∷◌, ◌++◌, Option, Some, None, map, length, drop, drop-cons, get_or, refl, sym, ap, append_assoc, arith, All}
+use Rattle.std.proofs.Common.{Bool, true, false, ◌||◌, ◌≡◌, ◌≢◌, ◌∙◌, ℕ, ◌+◌, ◌<◌, suc, List, [], ◌∷◌, ◌++◌, Option, Some, None, map, length, drop, drop-cons, get_or, refl, sym, ap, append_assoc, arith, All}
 use Rattle.std.proofs.lemmas.List.{map-append}
 use Rattle.std.proofs.lemmas.List.Elements.{All-push}
 use Rattle.std.specs.List.{list_any}

@@ -1,5 +1,5 @@
 -- The laws of constant expressions that are put through look-ups, and of the items that they initialise.
-use Rattle.std.specs.Prelude.{◌≡◌, ◌↔◌, ℕ, List, map, Option, Some, None}
+use Rattle.std.specs.Prelude.{◌≡◌, ◌↔◌, ℕ, List, map, Some, None}
 use Rattle.wasm_entries.specs.Record as entries
 use Rattle.wasm_entries.specs.Spelling.{ExpressionStands}
 use Rattle.walrus_types.specs.Operators.{Space, Op, names_of}

@@ -1,5 +1,5 @@
 -- What is answered where a constant expression is written, and why it isn't.
-use Rattle.std.specs.Prelude.{◌≡◌, ⊤, ℕ, Bool, List, [], flat_map, Option, Some, None, Contains, Result, Ok, Err}
+use Rattle.std.specs.Prelude.{◌≡◌, ⊤, ℕ, Bool, List, [], flat_map, Some, None, Contains, Result, Ok, Err}
 use Rattle.std.specs.List.{list_any}
 use Rattle.walrus_base.specs.Types.{HeapType, IsNotExact}
 use Rattle.walrus_types.specs.Operators.{Item, Op, names_of}
