@@ -47,3 +47,18 @@ module _ {X W Y : Type 0} (seen : X → Y) (S : ℕ → Y → Y → Type 0) (slo
       let head : Some w ≡ option_and_then raw (item_at slots p) = cc in
       let rest : map Some raws ≡ map (λ q. option_and_then raw (item_at slots q)) order = cc in
       (one_stands p w (item_at slots p) refl head, stand_by_records order raws rest)
+
+-- the same over any look-up, where what an item is written as may turn on its being there
+module _ {X W : Type 0} (S : ℕ → X → X → Type 0) (xs : ℕ → Option X) (raw : X → Option W) (back : W → X) (law : (p : ℕ) (x : X) (w : W) → xs p ≡ Some x → raw x ≡ Some w → S p x (back w)) where
+  one_along : (p : ℕ) (w : W) (o : Option X) → xs p ≡ o → Some w ≡ option_and_then raw o → StandsFor S xs p (back w)
+  one_along p w (Some x) at e = (x, at, law p x w at (sym e))
+  one_along p w None at e = absurd (cc)
+
+  pub stand_along : (order : List ℕ) (raws : List W) → map Some raws ≡ map (λ p. option_and_then raw (xs p)) order → AllZip (StandsFor S xs) order (map back raws)
+  stand_along [] [] e = tt
+  stand_along [] (w ∷ raws) e = absurd (cc)
+  stand_along (p ∷ order) [] e = absurd (cc)
+  stand_along (p ∷ order) (w ∷ raws) e =
+      let head : Some w ≡ option_and_then raw (xs p) = cc in
+      let rest : map Some raws ≡ map (λ q. option_and_then raw (xs q)) order = cc in
+      (one_along p w (xs p) refl head, stand_along order raws rest)

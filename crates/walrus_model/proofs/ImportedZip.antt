@@ -37,6 +37,10 @@ uncoded Globals = refl
 uncoded Elements = refl
 uncoded DataSegments = refl
 
+-- spaces of one number are one
+pub one_code : (s t : Space) → code s ≡ code t → s ≡ t
+one_code s t e = sym (uncoded s) ∙ ap uncode e ∙ uncoded t
+
 untrue : {A : Type 0} (o : Option A) (x : A) → o ≡ None → o ≡ Some x → ⊥
 untrue o x e h = cc
 

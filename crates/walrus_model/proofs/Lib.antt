@@ -32,3 +32,6 @@ pub mod OffsetRules
 pub mod RulesTaken
 pub mod RulesSteps
 pub mod Living
+pub mod Indices
+pub mod Rising
+pub mod Arenas

@@ -1,6 +1,6 @@
 //! Laws that are said once for all index spaces. Nothing runs here: each function is its contract.
 
-ghost use Rattle.std.specs.Prelude.{ℕ, AllPairs, Contains, IsSome, List, Option, Some, filter_map, map, option_and_then, option_map, slice_get, ◌++◌, ◌≡◌, ◌<◌, ◌↔◌};
+ghost use Rattle.std.specs.Prelude.{ℕ, All, AllPairs, Contains, IsSome, List, [], length, None, Option, Some, filter_map, map, option_and_then, option_map, slice_get, ◌++◌, ◌≡◌, ◌<◌, ◌↔◌};
 ghost use Rattle.std.specs.List.{AllZip};
 ghost use Rattle.std.specs.List.Sorted.{IsPermutation};
 ghost use Rattle.wasm_entries.specs.Record as wire;
@@ -11,7 +11,8 @@ ghost use Rattle.walrus_model.specs.Carried.{Carries, In, KeepsApart};
 ghost use Rattle.walrus_model.specs.Imported.{IsBrought, brought, import_number, numbered_from};
 ghost use Rattle.walrus_model.specs.Kept.{IsImportOf, Kept};
 ghost use Rattle.walrus_model.specs.Laws.{CarriesAll};
-ghost use Rattle.walrus_model.specs.Live.{IsLive};
+ghost use Rattle.walrus_model.specs.Customs.{AreIndices};
+ghost use Rattle.walrus_model.specs.Live.{Has, IsLive};
 ghost use Rattle.walrus_model.specs.Order.{ByImport};
 ghost use Rattle.walrus_model.specs.Ordered.{FilledFrom, Lists, Ordered, StandsFor};
 ghost use Rattle.walrus_model.specs.Pipeline.{Collected, KeepsOnly, ReachedIsLive};
@@ -53,11 +54,38 @@ pub fn plans_carry()
         → IsLive v (s, i) → IsLive v (s, j) → ByImport v s i j → r.numbers s i < r.numbers s j }
 {}
 
+/// A plan gives each item that is there one index, and nothing else any; no two items of a space have the same. As many numbers as it holds
+/// rise, put in order.
+pub fn plans_number()
+    ensures indices { (names : Space → ℕ → Option ℕ) (plan : Plan) (v : Abstract) (r : Renaming)
+        → AreNumbered names plan → IsPlan v plan
+        → ((s : Space) (i : ℕ) → r.numbers s i ≡ numbers_by names s i)
+        → AreIndices v r (λ x. names x.0 x.1) }
+    ensures one_each { (names : Space → ℕ → Option ℕ) (plan : Plan) (v : Abstract) → AreNumbered names plan
+        → IsPlan v plan → (s : Space) (i j k : ℕ) → names s i ≡ Some k → names s j ≡ Some k → i ≡ j }
+    ensures rising { (v : Abstract) (plan : Plan) → IsPlan v plan → (s : Space) → (numbers : List ℕ)
+        × AllPairs (λ i j. i < j) numbers × All (Has v s) numbers × (length numbers ≡ length (plan s)) }
+{}
+
+/// Records of what stands along an order stand for it, where what is written of one thing is the same thing.
+pub fn records_stand()
+    ensures { (r : Renaming) (v : Abstract) (s : Space) (raw : Thing s → Option (Thing s))
+        → ((p : ℕ) (x w : Thing s) → look v s p ≡ Some x → raw x ≡ Some w → SameThing r s p x w)
+        → (order : List ℕ) (raws : List (Thing s)) → map Some raws
+        ≡ map (λ p. option_and_then raw (look v s p)) order
+        → AllZip (StandsFor (SameThing r s) (look v s)) order (map (λ w. w) raws) }
+{}
+
 /// Orders of what a module has: the entries of an arena, the same in another order, imported ones and behind them the others; and an
 /// arena that is filled thing by thing carries each in its place.
 pub fn orders_are_made()
     ensures entries { (slots : List (Option Table)) → Ordered (item_at slots)
         (map (λ e. e.0) (entries slots)) }
+    ensures rising { (slots : List (Option Table)) → AllPairs (λ i j. i < j)
+        (map (λ e. e.0) (entries slots)) }
+    ensures seen { (slots : List (Option Table)) (order : List ℕ) → Ordered (item_at slots) order
+        → Ordered (λ i. option_map (λ (t : Table). t) (item_at slots i)) order }
+    ensures nothing { Ordered {X = Table} (λ i. None) [] }
     ensures permuted { (v : Abstract) (s : Space) (xs ys : List ℕ) → IsPermutation xs ys
         → Ordered (look v s) xs → Ordered (look v s) ys }
     ensures imported_first { (v : Abstract) (s : Space) (xs ys : List ℕ) → Lists (IsImportedIn v s) xs

@@ -10,7 +10,8 @@ mod laws;
 mod pipeline;
 
 pub use family::{
-    imports_bring, orders_are_made, orders_hold, plans_carry, rules_are_kept, spaces_agree,
+    imports_bring, orders_are_made, orders_hold, plans_carry, plans_number, records_stand,
+    rules_are_kept, spaces_agree,
 };
 pub use laws::{
     names_follow, reached_follows, reached_is_least, renamings_compose, shapes_are_kept,

@@ -1,10 +1,11 @@
 -- Where all that is named is there, and each function has a body, all that is written has an index.
 use Rattle.wasm_entries.specs.Record as entries
-use Rattle.std.proofs.Common.{inl, inr, ◌≡◌, ℕ, suc, Bool, true, false, ⊎_elim, List, [], ◌∷◌, ◌++◌, map, refl, sym, ap, ◌∙◌, subst, arith, Some, None}
+use Rattle.wasm_entries.specs.declared.record.RawExportKind.TheVariants as kinds
+use Rattle.std.proofs.Common.{inl, inr, ◌≡◌, ℕ, suc, ◌<◌, Bool, true, false, ⊎_elim, List, [], ◌∷◌, ◌++◌, map, length, get_or, refl, sym, ap, ◌∙◌, subst, arith, Some, None}
 use Rattle.std.specs.Prelude.{Option, IsSome, All, Err, Contains, flat_map, option_map, option_and_then, ◌==◌, if◌then◌else◌}
 use Rattle.std.proofs.lemmas.List.{get_or-map, length-map}
 use Rattle.std.proofs.lemmas.List.Elements.{All-cons}
-use Rattle.walrus_base.specs.Arena.{item_at, entries, items}
+use Rattle.walrus_base.specs.Arena.{item_at, items}
 use Rattle.walrus_base.specs.Id.{place}
 use Rattle.walrus_base.specs.Types.{ValType, val_names, sub_names}
 use Rattle.walrus_base.specs.declared.id.Id.{Id}
@@ -14,13 +15,15 @@ use Rattle.walrus_code.specs.Names.{Lookup, named_val, named_ops}
 use Rattle.walrus_code.specs.declared.error.IrError.{IrError}
 use Rattle.walrus_code.specs.declared.error.IrError.TheVariants as Ir
 use Rattle.walrus_code.specs.declared.function.LocalFunction.{LocalFunction}
-use Rattle.walrus_types.specs.Operators.{Item, Types, Functions, Tables, Memories, Tags, Globals, Elements, DataSegments, Op, type_item, names_of, locals_of}
+use Rattle.walrus_types.specs.Operators.{Item, Types, Functions, Tables, Memories, Globals, Tags, Op, type_item, names_of, locals_of}
 use Rattle.walrus_types.specs.Shape.{place_in}
 use Rattle.walrus_bodies.specs.declared.features.Features.{Features}
 use Rattle.walrus_functions.specs.DeclaredLocals.{AreDeclared}
 use Rattle.walrus_functions.specs.EmittedBody.{EmitsBody, LacksAnIndex, index_in}
 use Rattle.walrus_items.specs.Exports.{ExportValue, exported, exports}
 use Rattle.walrus_items.specs.Functions.{FunctionValue, functions, kind_type, local_at}
+use Rattle.walrus_items.specs.declared.exports.ExportItem.{ExportItem}
+use Rattle.walrus_items.specs.declared.exports.ExportItem.TheVariants as exports_as
 use Rattle.walrus_types.specs.ModuleTypes.{type_slots}
 use Rattle.walrus_types.specs.TypeDef.{TypeDef}
 use Rattle.walrus_model.specs.Abstract as abstract
@@ -33,27 +36,36 @@ use Rattle.walrus_contents.specs.There.{AreLive}
 use Rattle.walrus_contents.specs.View.{body, export_of, function, kind_of, parts_view}
 use Rattle.walrus_contents.specs.declared.parts.Parts.{Parts}
 use Rattle.walrus_contents.proofs.LiveLemmas.{was_there}
+use Rattle.walrus_contents.proofs.Lookups.{still_some}
 use Rattle.walrus_contents.proofs.Slots.{item_seen}
 use Rattle.walrus_items.specs.declared.functions.FunctionKind.{FunctionKind}
 use Rattle.walrus_items.specs.declared.functions.FunctionKind.TheVariants as kind
 use Rattle.walrus_groups.specs.Indexed.{LacksAnIndex as TypesLackAnIndex}
 use Rattle.walrus_parts.specs.Errors.{error_of_ir}
+use Rattle.walrus_model.proofs.Indices.{planned_index, planned_live, planned_named}
 use Rattle.walrus_model.proofs.Living.{AllLive, all_live}
 use Rattle.walrus_model.proofs.Lists.{Contains-head, Contains-tail, Contains-map, Contains-uncons, Contains-none, Contains-append_1, Contains-append_2}
-use Rattle.walrus_model.specs.Plan.{AreNumbered}
+use Rattle.walrus_model.proofs.Standing.{none_there, some_inj, some_of, self_eq}
+use Rattle.walrus_model.specs.Plan.{AreNumbered, IsPlan, Plan}
 use Rattle.walrus_writing.specs.Refusals.{RefusesBodies}
-use Rattle.walrus_writing.specs.Numbered.{planned}
-use Rattle.walrus_writing.specs.Parts.{Held, parts_held, local_in, type_index, export_kind, export_with_index, source, IsIndexed}
-use Rattle.walrus_writing.specs.Sizes.{IsOrder}
-use Rattle.walrus_writing.specs.Local.{is_local, all_local}
-use Rattle.walrus_writing.proofs.Entries.{item_passes, entry_placed, contains_placed, LocalAt, order_live, order_placed}
+use Rattle.walrus_writing.specs.Parts.{IsIndexed, export_with_index, function_seen, local_in, slots_of, source, source_of, type_index, type_index_of}
+use Rattle.walrus_writing.specs.Local.{all_local}
+use Rattle.walrus_writing.proofs.BySize.{got_at}
 use Rattle.walrus_writing.proofs.NamedAll.{val_named, ops_named}
-use Rattle.walrus_writing.proofs.Somes.{none_there, some_inj, some_of, still_some}
+use Rattle.walrus_writing.proofs.Planning.{local_there}
 
-local_of_kind : (k : FunctionKind) → is_local k ≡ true → (f : LocalFunction) × (k ≡ kind.Local f)
-local_of_kind (kind.Local f) e = (f, refl)
-local_of_kind (kind.Import i) e = absurd (none_there e)
-local_of_kind (kind.Uninitialized ty) e = absurd (none_there e)
+-- ---- places
+
+placed_step : (b : Bool) (o : Option ℕ) → IsSome o → IsSome (if b then Some 0 else option_map suc o)
+placed_step true o h = refl
+placed_step false o h = still_some suc o h
+
+contains_placed : (xs : List ℕ) (n : ℕ) → Contains xs n → IsSome (place_in xs n)
+contains_placed [] n c = absurd (Contains-none n c)
+contains_placed (x ∷ xs) n c =
+    ⊎_elim (λ (e : x ≡ n). subst (λ m. IsSome (place_in (x ∷ xs) m)) e (rw (self_eq x) refl))
+    (λ (d : Contains xs n). placed_step (x == n) (place_in xs n) (contains_placed xs n d))
+    (Contains-uncons x n xs c)
 
 -- ---- lists
 
@@ -87,73 +99,69 @@ local_numbered slots used parameters order declared x v c is None e =
 -- ---- what is there, and numbered
 
 module _ (p : Parts) (none_dead : HasDead (parts_view p) → ⊥) (local : all_local (items (functions p.funcs.now)) ≡ true)
-    (names : Lookup) (order : List ℕ) (ordered : IsOrder (functions p.funcs.now) order) (numbered : AreNumbered names (planned (map (λ e. e.0) (entries (type_slots p.types.now))) order)) where
+    (names : Lookup) (plan : Plan) (is_plan : IsPlan (parts_view p) plan) (numbered : AreNumbered names plan) where
   abbrev V : Abstract
   V = parts_view p
 
   there : AllLive V
   there = all_live V none_dead
 
-  abbrev h : Held
-  h = parts_held p
+  abbrev types : List (Option TypeDef)
+  types = type_slots p.types.now
 
-  types_named : (n : ℕ) → IsSome (item_at h.types n) → IsSome (names Types n)
-  types_named n live = subst (λ (o : Option ℕ). IsSome o) (sym (numbered Types n)) (entry_placed h.types n live)
-
-  local_is : (n : ℕ) → IsSome (item_at h.funcs n) → LocalAt h.funcs n
-  local_is n live =
-      let v = some_of (item_at h.funcs n) live in
-      let f = local_of_kind v.0.kind (item_passes (λ f. is_local f.kind) h.funcs n v.0 local v.1) in
-      record { value = v.0; item = v.1; local = f.0; kind_is = f.1 }
-
-  functions_named : (n : ℕ) → IsSome (item_at h.funcs n) → IsSome (names Functions n)
-  functions_named n live = subst (λ (o : Option ℕ). IsSome o) (sym (numbered Functions n)) (order_placed h.funcs order ordered n (local_is n live))
+  abbrev slots : List (Option (ValType ℕ))
+  slots = slots_of p
 
   -- an item that is there has an index
   item_named : (x : Item) → IsLive V x → IsSome (names x.0 x.1)
-  item_named (Types, t) l = types_named t l
-  item_named (Functions, f) l = functions_named f (was_there (function p.locals.now) (item_at h.funcs f) l)
-  item_named (Tables, i) l = absurd (none_there l)
-  item_named (Memories, i) l = absurd (none_there l)
-  item_named (Tags, i) l = absurd (none_there l)
-  item_named (Globals, i) l = absurd (none_there l)
-  item_named (Elements, i) l = absurd (none_there l)
-  item_named (DataSegments, i) l = absurd (none_there l)
+  item_named x live = subst (λ (o : Option ℕ). IsSome o) (sym (planned_named numbered is_plan x.0 x.1 live)) refl
+
+  -- a function that is there has a body
+  pub record HasOwn (n : ℕ) : Type 0 where
+    pub own : LocalFunction
+    pub is : V.functions n ≡ Some (function_seen p own)
+
+  own_at : (n : ℕ) → IsLive V (Functions, n) → HasOwn n
+  own_at n live =
+      let v = some_of (item_at (functions p.funcs.now) n) (was_there (function p.locals.now) (item_at (functions p.funcs.now) n) live) in
+      let f = local_there (functions p.funcs.now) n local v.0 v.1 in
+      record {
+        own = f.0;
+        is = ap (option_map (function p.locals.now)) v.1 ∙ ap (λ (k : FunctionKind). Some (let g : abstract.Function = record { ty = place (kind_type k); kind = kind_of p.locals.now k } in g)) f.1;
+      }
 
   -- each type that a type names has an index
-  pub no_type_lacks : TypesLackAnIndex names (items h.types) → ⊥
+  pub no_type_lacks : TypesLackAnIndex names (items types) → ⊥
   no_type_lacks (x, (t, (has, named, none))) =
-      let at = item_seen h.types x has in
+      let at = item_seen types x has in
       let inside : Contains (type_names x) (Types, t) = Contains-append_2 (Types, t) (map type_item x.group) (map type_item (sub_names x.sub)) (Contains-map type_item t (sub_names x.sub) named) in
       let live : IsLive V (Types, t) = there.written (Types, at.0) (Types, t) (subst (λ (o : Option TypeDef). Contains (named_by type_names o) (Types, t)) (sym at.1) inside) in
       none_there (subst (λ (o : Option ℕ). IsSome o) none (item_named (Types, t) live))
 
   -- a function's type is there, and so are the items and the locals that its body names, and the types of these
   record IsWhole (f : LocalFunction) : Type 0 where
-    typed : IsSome (item_at h.types (place (function_type f)))
+    typed : IsLive V (Types, place (function_type f))
     named : AreLive V (names_of (body_of f))
-    used : (x : ℕ) → Contains (locals_of (body_of f)) x → IsSome (item_at h.slots x)
+    used : (x : ℕ) → Contains (locals_of (body_of f)) x → IsSome (item_at slots x)
     local_types : AreLive V (flat_map (local_names (body p.locals.now f)) (locals_of (body_of f)))
 
-  whole_is : (n : ℕ) (a : LocalAt h.funcs n) → IsWhole a.local
+  whole_is : (n : ℕ) (a : HasOwn n) → IsWhole a.own
   whole_is n a =
-      let first = type_item (place (function_type a.local)) in
-      let inner = names_of (body_of a.local) in
-      let outer = flat_map (local_names (body p.locals.now a.local)) (locals_of (body_of a.local)) in
-      let seen : V.functions n ≡ Some (record { ty = place (function_type a.local); kind = abstract.LocalFunction (body p.locals.now a.local) }) =
-      ap (option_map (function p.locals.now)) a.item ∙ ap (λ (k : FunctionKind). Some (let f : abstract.Function = record { ty = place (kind_type k); kind = kind_of p.locals.now k } in f)) a.kind_is in
-      let live : (y : Item) → Contains (first ∷ inner ++ outer) y → IsLive V y = (λ y c. there.written (Functions, n) y (subst (λ (o : Option abstract.Function). Contains (named_by function_names o) y) (sym seen) c)) in
+      let first = type_item (place (function_type a.own)) in
+      let inner = names_of (body_of a.own) in
+      let outer = flat_map (local_names (body p.locals.now a.own)) (locals_of (body_of a.own)) in
+      let live : (y : Item) → Contains (first ∷ inner ++ outer) y → IsLive V y = (λ y c. there.written (Functions, n) y (subst (λ (o : Option abstract.Function). Contains (named_by function_names o) y) (sym a.is) c)) in
       record {
         typed = live first (Contains-head first (inner ++ outer));
         named = λ y c. live y (Contains-tail first y (inner ++ outer) (Contains-append_1 y inner outer c));
-        used = λ x c. there.locals n (body p.locals.now a.local) x (ap body_of_function seen) c;
+        used = λ x c. there.locals n (body p.locals.now a.own) x (ap body_of_function a.is) c;
         local_types = λ y c. live y (Contains-tail first y (inner ++ outer) (Contains-append_2 y inner outer c));
       }
 
   -- a local that is used has a type, whose types are there
-  local_whole : (f : LocalFunction) → IsWhole f → (x : ℕ) → Contains (locals_of (body_of f)) x → (v : ValType ℕ) × ((item_at h.slots x ≡ Some v) × AreLive V (map type_item (val_names v)))
+  local_whole : (f : LocalFunction) → IsWhole f → (x : ℕ) → Contains (locals_of (body_of f)) x → (v : ValType ℕ) × ((item_at slots x ≡ Some v) × AreLive V (map type_item (val_names v)))
   local_whole f w x c =
-      let v = some_of (item_at h.slots x) (w.used x c) in (
+      let v = some_of (item_at slots x) (w.used x c) in (
         v.0,
         (
           v.1,
@@ -163,53 +171,52 @@ module _ (p : Parts) (none_dead : HasDead (parts_view p) → ⊥) (local : all_l
       )
 
   module _ (features : Features) (f : LocalFunction) (w : IsWhole f) where
-    operators_indexed : (declared : List ℕ) → AreDeclared h.slots (locals_of (body_of f)) (map place f.args.items) declared → IsSome (named_ops names (index_in (source h names features f) declared) (body_of f))
+    operators_indexed : (declared : List ℕ) → AreDeclared slots (locals_of (body_of f)) (map place f.args.items) declared → IsSome (named_ops names (index_in (source p names features f) declared) (body_of f))
     operators_indexed declared d =
-        ops_named names (index_in (source h names features f) declared) (body_of f) (λ y d. item_named y (w.named y d))
-        (λ x c. let v = local_whole f w x c in local_numbered h.slots (locals_of (body_of f)) (map place f.args.items) declared d x v.0 c v.1.0 (place_in (map place f.args.items) x) refl)
+        ops_named names (index_in (source p names features f) declared) (body_of f) (λ y d. item_named y (w.named y d))
+        (λ x c. let v = local_whole f w x c in local_numbered slots (locals_of (body_of f)) (map place f.args.items) declared d x v.0 c v.1.0 (place_in (map place f.args.items) x) refl)
 
-    type_indexed : (x : ℕ) (v : ValType ℕ) → Contains (locals_of (body_of f)) x → item_at h.slots x ≡ Some v → IsSome (named_val names v)
+    type_indexed : (x : ℕ) (v : ValType ℕ) → Contains (locals_of (body_of f)) x → item_at slots x ≡ Some v → IsSome (named_val names v)
     type_indexed x v c is =
         let u = local_whole f w x c in
         let same : u.0 ≡ v = some_inj u.0 v (sym u.1.0 ∙ is) in
         let live : AreLive V (map type_item (val_names v)) = subst (λ (z : ValType ℕ). AreLive V (map type_item (val_names z))) same u.1.1 in
         val_named names v (λ t d. item_named (Types, t) (live (Types, t) (Contains-map type_item t (val_names v) d)))
 
-    none_lacks : LacksAnIndex (source h names features f) → ⊥
+    none_lacks : LacksAnIndex (source p names features f) → ⊥
     none_lacks (inl l) = none_there (subst (λ (o : Option (List Op)). IsSome o) l.1.1 (operators_indexed l.0 l.1.0))
     none_lacks (inr l) = none_there (subst (λ (o : Option (ValType ℕ)). IsSome o) l.1.1.2 (type_indexed l.0 l.1.0 l.1.1.0.is_used l.1.1.1))
 
-  local_found : (n : ℕ) (a : LocalAt h.funcs n) → local_in h.funcs n ≡ Some (n, a.local)
-  local_found n a = ap (option_and_then (λ (f : FunctionValue). local_at n f.kind)) a.item ∙ ap (local_at n) a.kind_is
-
-  indexed_at : (features : Features) (n : ℕ) → LocalAt h.funcs n → IsIndexed h names features n
-  indexed_at features n a = record { local = a.local; is = local_found n a; indexed = none_lacks features a.local (whole_is n a) }
-
-  typed_at : (n : ℕ) → LocalAt h.funcs n → IsSome (type_index h.funcs names n)
-  typed_at n a =
-      subst (λ (o : Option (ℕ × LocalFunction)). IsSome (option_and_then (λ (f : ℕ × LocalFunction). names Types (place (function_type f.1))) o)) (sym (local_found n a))
-      (types_named (place (function_type a.local)) (whole_is n a).typed)
+  live_at : (k d : ℕ) → k < length (plan Functions) → IsLive V (Functions, get_or (plan Functions) k d)
+  live_at k d low = let at = got_at (plan Functions) k d low in planned_live numbered is_plan Functions (get_or (plan Functions) k d) k (planned_index numbered is_plan Functions (get_or (plan Functions) k d) k at)
 
   -- each function in the order
-  order_indexed : (features : Features) → All (IsIndexed h names features) order
-  order_indexed features = λ k d lt. indexed_at features _ (order_live h.funcs order ordered k d lt)
+  order_indexed : (features : Features) → All (IsIndexed p names features) (plan Functions)
+  order_indexed features = λ k d lt. (let a = own_at (get_or (plan Functions) k d) (live_at k d lt) in record { local = a.own; is = a.is; indexed = none_lacks features a.own (whole_is (get_or (plan Functions) k d) a) })
 
   -- so has its type
-  order_typed : All (λ n. IsSome (type_index h.funcs names n)) order
-  order_typed = λ k d lt. typed_at _ (order_live h.funcs order ordered k d lt)
+  order_typed : All (λ n. IsSome (option_and_then (type_index names) (V.functions n))) (plan Functions)
+  order_typed = λ k d lt. (
+      let a = own_at (get_or (plan Functions) k d) (live_at k d lt) in
+      subst (λ (o : Option abstract.Function). IsSome (option_and_then (type_index names) o)) (sym a.is) (item_named (Types, place (function_type a.own)) (whole_is (get_or (plan Functions) k d) a).typed)
+      )
 
-  abbrev with_index : ExportValue → ℕ → entries.Export
-  with_index e index = record { name = e.name; kind = export_kind e.item; index = index }
+  export_named : (x : ExportItem) (name : List ℕ) → IsSome (names (exported x).0 (exported x).1) → IsSome (export_with_index names (record { name = name; item = exported x }))
+  export_named (exports_as.Function f) name h = still_some (λ index. record { name = name; kind = kinds.Function; index = index }) (names Functions (place f)) h
+  export_named (exports_as.Table t) name h = still_some (λ index. record { name = name; kind = kinds.Table; index = index }) (names Tables (place t)) h
+  export_named (exports_as.Memory m) name h = still_some (λ index. record { name = name; kind = kinds.Memory; index = index }) (names Memories (place m)) h
+  export_named (exports_as.Global g) name h = still_some (λ index. record { name = name; kind = kinds.Global; index = index }) (names Globals (place g)) h
+  export_named (exports_as.Tag t) name h = still_some (λ index. record { name = name; kind = kinds.Tag; index = index }) (names Tags (place t)) h
 
-  exports_named : (vs : List ExportValue) → ((e : abstract.Export) → Contains (map export_of vs) e → IsLive V e.item) → All (λ e. IsSome e) (map (export_with_index names) vs)
+  exports_named : (vs : List ExportValue) → ((e : abstract.Export) → Contains (map export_of vs) e → IsLive V e.item) → All (λ e. IsSome e) (map (λ v. export_with_index names (export_of v)) vs)
   exports_named [] l = λ k d lt. absurd (omega (arith, lt))
   exports_named (e ∷ vs) l =
-      All-cons (λ (x : Option entries.Export). IsSome x) (export_with_index names e) (map (export_with_index names) vs)
-      (still_some (with_index e) (names (exported e.item).0 (exported e.item).1) (item_named (exported e.item) (l (export_of e) (Contains-head (export_of e) (map export_of vs)))))
+      All-cons (λ (x : Option entries.Export). IsSome x) (export_with_index names (export_of e)) (map (λ v. export_with_index names (export_of v)) vs)
+      (export_named e.item e.name (item_named (exported e.item) (l (export_of e) (Contains-head (export_of e) (map export_of vs)))))
       (exports_named vs (λ x c. l x (Contains-tail (export_of e) x (map export_of vs) c)))
 
   -- and what each export names
-  pub exports_indexed : All (λ e. IsSome e) (map (export_with_index names) (items (exports p.exports.now)))
+  pub exports_indexed : All (λ e. IsSome e) (map (λ v. export_with_index names (export_of v)) (items (exports p.exports.now)))
   exports_indexed = exports_named (items (exports p.exports.now)) there.exports
 
 -- ---- the ids of the functions, wherever they are lent
@@ -219,25 +226,59 @@ lent_all P ids lent h same =
     subst (λ (l : List (Id FunctionKey)). All (λ id. P (place id)) l) (sym same)
     (λ k d lt. subst P (get_or-map place ids k d (place d) lt) (h k (place d) (omega (arith, lt, length-map ids place))))
 
-module _ (p : Parts) (names : Lookup) (ids lent : List (Id FunctionKey)) (none_dead : HasDead (parts_view p) → ⊥) (local : all_local (items (functions p.funcs.now)) ≡ true)
-    (ordered : IsOrder (functions p.funcs.now) (map place ids)) (numbered : AreNumbered names (planned (map (λ e. e.0) (entries (type_slots p.types.now))) (map place ids))) (same : lent ≡ ids) where
-  pub ids_indexed : (features : Features) → All (λ id. IsIndexed (parts_held p) names features (place id)) lent
-  ids_indexed features = lent_all (IsIndexed (parts_held p) names features) ids lent (order_indexed p none_dead local names (map place ids) ordered numbered features) same
+module _ (p : Parts) (names : Lookup) (plan : Plan) (ids lent : List (Id FunctionKey)) (none_dead : HasDead (parts_view p) → ⊥) (local : all_local (items (functions p.funcs.now)) ≡ true)
+    (is_plan : IsPlan (parts_view p) plan) (numbered : AreNumbered names plan) (are : plan Functions ≡ map place ids) (same : lent ≡ ids) where
+  pub ids_indexed : (features : Features) → All (λ id. IsIndexed p names features (place id)) lent
+  ids_indexed features = lent_all (IsIndexed p names features) ids lent (subst (λ (l : List ℕ). All (IsIndexed p names features) l) are (order_indexed p none_dead local names plan is_plan numbered features)) same
 
-  pub ids_typed : All (λ id. IsSome (type_index (functions p.funcs.now) names (place id))) lent
-  ids_typed = lent_all (λ n. IsSome (type_index (functions p.funcs.now) names n)) ids lent (order_typed p none_dead local names (map place ids) ordered numbered) same
+  pub ids_typed : All (λ id. IsSome (option_and_then (type_index names) ((parts_view p).functions (place id)))) lent
+  ids_typed =
+      lent_all (λ n. IsSome (option_and_then (type_index names) ((parts_view p).functions n))) ids lent
+      (subst (λ (l : List ℕ). All (λ n. IsSome (option_and_then (type_index names) ((parts_view p).functions n))) l) are (order_typed p none_dead local names plan is_plan numbered)) same
+
+-- ---- a function with a body, as it is seen
+
+kind_seen : (p : Parts) (n : ℕ) (k : FunctionKind) (f : LocalFunction) → local_at n k ≡ Some (n, f) → (let g : abstract.Function = record { ty = place (kind_type k); kind = kind_of p.locals.now k } in g) ≡ function_seen p f
+kind_seen p n (kind.Local g) f e = ap (λ (x : ℕ × LocalFunction). function_seen p x.1) (some_inj (n, g) (n, f) e)
+kind_seen p n (kind.Import i) f e = absurd (cc)
+kind_seen p n (kind.Uninitialized ty) f e = absurd (cc)
+
+value_seen : (p : Parts) (n : ℕ) (o : Option FunctionValue) (f : LocalFunction) → option_and_then (λ (v : FunctionValue). local_at n v.kind) o ≡ Some (n, f) → option_map (function p.locals.now) o ≡ Some (function_seen p f)
+value_seen p n None f e = absurd (cc)
+value_seen p n (Some v) f e = ap (λ (g : abstract.Function). Some g) (kind_seen p n v.kind f e)
+
+pub local_seen : (p : Parts) (n : ℕ) (f : LocalFunction) → local_in (functions p.funcs.now) n ≡ Some (n, f) → (parts_view p).functions n ≡ Some (function_seen p f)
+local_seen p n f e = value_seen p n (item_at (functions p.funcs.now) n) f e
+
+-- the index of its type
+kind_index : (p : Parts) (names : Lookup) (n : ℕ) (k : FunctionKind) → option_and_then (λ (f : ℕ × LocalFunction). names Types (place (function_type f.1))) (local_at n k) ≡ type_index_of names (place (kind_type k)) (kind_of p.locals.now k)
+kind_index p names n (kind.Local g) = refl
+kind_index p names n (kind.Import i) = refl
+kind_index p names n (kind.Uninitialized ty) = refl
+
+value_index : (p : Parts) (names : Lookup) (n : ℕ) (o : Option FunctionValue) → option_and_then (λ (f : ℕ × LocalFunction). names Types (place (function_type f.1))) (option_and_then (λ (v : FunctionValue). local_at n v.kind) o) ≡ option_and_then (type_index names) (option_map (function p.locals.now) o)
+value_index p names n None = refl
+value_index p names n (Some v) = kind_index p names n v.kind
+
+pub index_seen : (p : Parts) (names : Lookup) (n : ℕ) → option_and_then (λ (f : ℕ × LocalFunction). names Types (place (function_type f.1))) (local_in (functions p.funcs.now) n) ≡ option_and_then (type_index names) ((parts_view p).functions n)
+index_seen p names n = value_index p names n (item_at (functions p.funcs.now) n)
 
 -- ---- why a body is refused
 
-same_local : (n : ℕ) (f g : LocalFunction) → ◌≡◌ {A = Option (ℕ × LocalFunction)} (Some (n, f)) (Some (n, g)) → f ≡ g
-same_local n f g e = ap (λ (x : ℕ × LocalFunction). x.1) (some_inj (n, f) (n, g) e)
+same_body : (a b : abstract.Body) → abstract.LocalFunction a ≡ abstract.LocalFunction b → a ≡ b
+same_body a b e = cc
 
-pub body_refused : {X : Type 0} (h : Held) (names : Lookup) (features : Features) (n : ℕ) (f : LocalFunction) (bytes places : X → List ℕ) (numbers : X → ℕ → Option ℕ) (e : IrError) → IsIndexed h names features n → local_in h.funcs n ≡ Some (n, f)
-    → EmitsBody (source h names features f) bytes places numbers (Err e) → RefusesBodies h features (error_of_ir e)
-body_refused h names features n f bytes places numbers Ir.NoIndex i is lacks =
-    let same : f ≡ i.local = same_local n f i.local (sym is ∙ i.is) in
-    absurd (i.indexed (subst (λ g. LacksAnIndex (source h names features g)) same lacks))
-body_refused h names features n f bytes places numbers Ir.NotWritable i is cant = (names, (n, (f, (is, cant))))
-body_refused h names features n f bytes places numbers Ir.TooLarge i is many = (names, (n, (f, (is, many))))
-body_refused h names features n f bytes places numbers (Ir.Memory m) i is u = tt
-body_refused h names features n f bytes places numbers Ir.Malformed i is u = absurd u
+-- what is said of a body to be written turns on what is seen of it alone
+module _ (p : Parts) (names : Lookup) (features : Features) where
+  lacks_same : (f g : LocalFunction) → function_seen p f ≡ function_seen p g → LacksAnIndex (source p names features f) → LacksAnIndex (source p names features g)
+  lacks_same f g e l =
+      subst (λ (b : abstract.Body). LacksAnIndex (source_of p names features (place (function_type g)) b)) (same_body (body p.locals.now f) (body p.locals.now g) (ap (λ (x : abstract.Function). x.kind) e))
+      (subst (λ (ty : ℕ). LacksAnIndex (source_of p names features ty (body p.locals.now f))) (ap (λ (x : abstract.Function). x.ty) e) l)
+
+  pub body_refused : {X : Type 0} (n : ℕ) (f : LocalFunction) (bytes places : X → List ℕ) (numbers : X → ℕ → Option ℕ) (e : IrError) → IsIndexed p names features n → local_in (functions p.funcs.now) n ≡ Some (n, f)
+      → EmitsBody (source p names features f) bytes places numbers (Err e) → RefusesBodies p features (error_of_ir e)
+  body_refused n f bytes places numbers Ir.NoIndex i is lacks = absurd (i.indexed (lacks_same f i.local (some_inj (function_seen p f) (function_seen p i.local) (sym (local_seen p n f is) ∙ i.is)) lacks))
+  body_refused n f bytes places numbers Ir.NotWritable i is cant = (names, (n, (f, (local_seen p n f is, cant))))
+  body_refused n f bytes places numbers Ir.TooLarge i is many = (names, (n, (f, (local_seen p n f is, many))))
+  body_refused n f bytes places numbers (Ir.Memory m) i is u = tt
+  body_refused n f bytes places numbers Ir.Malformed i is u = absurd u

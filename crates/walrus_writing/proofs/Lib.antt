@@ -1,12 +1,11 @@
 pub mod BodyTypes
+pub mod BySize
 pub mod CarriedOver
-pub mod Differ
 pub mod Emitted
 pub mod Emitting
 pub mod Entries
-pub mod InOrder
+pub mod FunctionsWritten
 pub mod Indexed
-pub mod Leads
 pub mod NamedAll
 pub mod NamedTypes
 pub mod NoCauseAll
@@ -14,6 +13,7 @@ pub mod NoCauseBodies
 pub mod NoCauseHeaps
 pub mod Numbering
 pub mod Placing
+pub mod Planning
 pub mod Ranked
 pub mod RefusesAll
 pub mod RefusesIndex
@@ -23,13 +23,12 @@ pub mod Refusing
 pub mod Renamed
 pub mod Rows
 pub mod SameBodies
+pub mod Sections
 pub mod Somes
 pub mod SpellsLemmas
-pub mod Standing
 pub mod TextStands
 pub mod Turns
 pub mod TypeRefusals
-pub mod TypeSizes
 pub mod TypesEntered
 pub mod WrittenAs
 pub mod WrittenLemmas

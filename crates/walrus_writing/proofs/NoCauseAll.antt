@@ -1,4 +1,9 @@
 -- Where all is there and the records of the sections are, there is no cause to refuse but the size.
+use Rattle.std.proofs.Common.{◌≡◌, true}
+use Rattle.walrus_base.specs.Arena.{items}
+use Rattle.walrus_types.specs.ModuleTypes.{type_slots}
+use Rattle.walrus_groups.specs.Indexed.{AreInOrder}
+use Rattle.walrus_items.specs.Functions.{functions}
 use Rattle.walrus_contents.specs.View.{parts_view}
 use Rattle.walrus_contents.specs.declared.parts.Parts.{Parts}
 use Rattle.walrus_model.specs.Abstract.{Abstract}
@@ -6,13 +11,13 @@ use Rattle.walrus_model.specs.Config.{Config}
 use Rattle.walrus_model.specs.Dead.{HasDead}
 use Rattle.walrus_rules.specs.Features.{features_of}
 use Rattle.walrus_rules.specs.Refused.{HasUnspelled, ExactType, ExactConstant, EmptyConstant, IllFormed, PassesLimits, HasNoCause}
-use Rattle.walrus_writing.specs.Parts.{parts_held, parts_exports}
+use Rattle.walrus_writing.specs.Local.{all_local}
 use Rattle.walrus_writing.specs.Records.{Records}
 use Rattle.walrus_writing.proofs.NoCauseBodies.{formed}
 use Rattle.walrus_writing.proofs.NoCauseHeaps.{not_exact, no_constants}
 use Rattle.walrus_writing.proofs.RefusesLarge.{no_two_indices, lacks_none}
 
-module _ (c : Config) (p : Parts) (r : Records (parts_held p) (features_of c) (parts_exports p)) where
+module _ (c : Config) (p : Parts) (r : Records p (features_of c)) where
   abbrev V : Abstract
   V = parts_view p
 
@@ -22,11 +27,11 @@ module _ (c : Config) (p : Parts) (r : Records (parts_held p) (features_of c) (p
   none_unspelled (EmptyConstant x at) = no_constants c p r x _ at
   none_unspelled (IllFormed lives i f b at is not) = not (formed c p r i f b at is)
 
-  pub no_cause : (HasDead V → ⊥) → (PassesLimits c V → ⊥) → HasNoCause c V
-  no_cause lives small = record {
+  pub no_cause : (HasDead V → ⊥) → all_local (items (functions p.funcs.now)) ≡ true → AreInOrder (type_slots p.types.now) → (PassesLimits c V → ⊥) → HasNoCause c V
+  no_cause lives local ordered small = record {
     all_there = lives;
     one_index = no_two_indices c p;
-    indices = lacks_none c p r.all_are_local r.in_order;
+    indices = lacks_none c p local ordered;
     spelled = none_unspelled;
     fits = small;
   }

@@ -1,10 +1,9 @@
 -- No exact heap type stands in what is written.
 use Rattle.std.proofs.Common.{◌≡◌, ℕ, List, [], ◌∷◌, ◌++◌, map, refl, sym, ap, ap₂, ◌∙◌, subst, Some, None}
-use Rattle.std.specs.Prelude.{Option, Contains, flat_map, option_map, slice_get}
+use Rattle.std.specs.Prelude.{Option, IsSome, Contains, flat_map, option_map, slice_get}
 use Rattle.std.specs.List.{AllByRecursion}
 use Rattle.wasm_forms.specs.Reading.{◌>>=◌}
 use Rattle.wasm_forms.proofs.Bind.{some_same, bind_some}
-use Rattle.walrus_base.specs.Arena.{entries, items}
 use Rattle.walrus_base.specs.Types.{HeapType, OfHeap, Concrete, Exact, ValType, I32, I64, F32, F64, V128, Ref, StorageType, Unpacked, I8, I16, FieldType, CompType, Func, Struct, Array, IsNotExact, val_heaps, storage_heaps, field_heaps, comp_heaps}
 use Rattle.walrus_types.specs.Operators.{Types, Functions, Tables, Memories, Tags, Globals, Elements, DataSegments, Item, Op}
 use Rattle.walrus_types.specs.TypeDef.{TypeDef, type_params}
@@ -13,25 +12,25 @@ use Rattle.walrus_code.specs.Names.{Lookup, named_heap, named_val}
 use Rattle.walrus_functions.specs.Handlers.{params_of}
 use Rattle.walrus_functions.proofs.LawNamed.{HasIndex, ops_found}
 use Rattle.walrus_groups.specs.Groups.{types_from}
-use Rattle.walrus_groups.specs.Named.{each, named_vals, named_storage, named_field, named_fields, named_comp, named_types, named_sub, named_def}
+use Rattle.walrus_groups.specs.Named.{each, named_vals, named_storage, named_field, named_fields, named_comp}
 use Rattle.walrus_contents.specs.View.{parts_view}
 use Rattle.walrus_contents.specs.declared.parts.Parts.{Parts}
 use Rattle.walrus_contents.proofs.Lookups.{got_map, mapped_some, mapped_append}
-use Rattle.walrus_contents.proofs.Slots.{entry_in}
 use Rattle.walrus_model.specs.Abstract.{Abstract, Body, Function, FunctionKind, LocalFunction, ImportedFunction, Uninitialised}
 use Rattle.walrus_model.specs.Config.{Config}
 use Rattle.walrus_model.specs.Refers.{used_locals}
 use Rattle.walrus_model.specs.WellMade.{heaps_by, heaps_in, consts_in, op_heaps, body_heaps, kind_heaps}
-use Rattle.walrus_model.proofs.Lists.{Contains-none, Contains-map}
-use Rattle.walrus_model.proofs.Standing.{got_in}
+use Rattle.walrus_model.proofs.Lists.{Contains-none}
+use Rattle.walrus_model.proofs.Standing.{got_in, some_inj}
 use Rattle.walrus_rules.specs.Features.{features_of}
 use Rattle.walrus_rules.specs.WellMade.{IsWellFormed}
 use Rattle.walrus_rules.proofs.PlainBodies.{ops_named, types_named}
 use Rattle.walrus_rules.proofs.PlainTypes.{Plain, plain_append, plain_left, plain_right, each_in, types_plain, TypePlain, ValsPlain}
 use Rattle.walrus_rules.proofs.TextShaped.{all_append}
-use Rattle.walrus_writing.specs.Parts.{Held, parts_held, parts_exports}
 use Rattle.walrus_writing.specs.Records.{Records}
+use Rattle.walrus_model.proofs.Indices.{planned_named}
 use Rattle.walrus_writing.proofs.NoCauseBodies.{formed}
+use Rattle.walrus_writing.proofs.TypesEntered.{type_entry}
 
 -- ---- heap types one behind another
 
@@ -109,26 +108,6 @@ module _ (names : Lookup) where
       let x = bind_some (named_field names element) (λ found. Some (Array found)) l e in
       field_back element x.0 x.1 (subst (λ (z : CompType ℕ). Plain (comp_heaps z)) (sym (some_same (Array x.0) l x.2)) n)
 
-  -- the composite type of a type that was looked up
-  pub comp_named : (x y : TypeDef) → named_def names x ≡ Some y → named_comp names x.sub.comp ≡ Some y.sub.comp
-  comp_named x y e =
-      let g = bind_some (named_types names x.group) (λ group. named_sub names x.sub >>= λ sub. let made : TypeDef = record { group = group; sub = sub } in Some made) y e in
-      let s = bind_some (named_sub names x.sub) (λ sub. let made : TypeDef = record { group = g.0; sub = sub } in Some made) y g.2 in
-      let sub_is = ap (λ (d : TypeDef). d.sub) (some_same _ y s.2) in
-      let t = bind_some (named_types names x.sub.supertypes) (λ supertypes. named_comp names x.sub.comp >>= λ comp. Some (record { is_final = x.sub.is_final; supertypes = supertypes; comp = comp })) s.0 s.1 in
-      let k = bind_some (named_comp names x.sub.comp) (λ comp. Some (record { is_final = x.sub.is_final; supertypes = t.0; comp = comp })) s.0 t.2 in
-      let comp_is = ap (λ z. z.comp) (some_same _ s.0 k.2) in
-      k.1 ∙ ap (λ (z : CompType ℕ). Some z) (comp_is ∙ ap (λ z. z.comp) sub_is)
-
-  -- what holds of each type that was found holds so of each that was looked up
-  pub defs_back : (P Q : TypeDef → Type 0) → ((x y : TypeDef) → named_comp names x.sub.comp ≡ Some y.sub.comp → Q y → P x) → (ys xs : List TypeDef) → map Some ys ≡ map (named_def names) xs → AllByRecursion Q ys → AllByRecursion P xs
-  defs_back P Q law ys [] e h = tt
-  defs_back P Q law [] (x ∷ xs) e h = absurd (cc)
-  defs_back P Q law (y ∷ ys) (x ∷ xs) e h =
-      let head : Some y ≡ named_def names x = cc in
-      let tail : map Some ys ≡ map (named_def names) xs = cc in
-      (law x y (comp_named x y (sym head)) h.0, defs_back P Q law ys xs tail h.1)
-
 -- ---- a body that is well formed
 
 option_plain : (o : Option TypeDef) → ((x : TypeDef) → o ≡ Some x → TypePlain x) → ValsPlain (params_of o)
@@ -171,17 +150,16 @@ module _ (c : Config) (v : Abstract) (types : (i : ℕ) (x : TypeDef) → v.type
 
 -- ---- all of it
 
-module _ (c : Config) (p : Parts) (r : Records (parts_held p) (features_of c) (parts_exports p)) where
+module _ (c : Config) (p : Parts) (r : Records p (features_of c)) where
   abbrev V : Abstract
   V = parts_view p
 
-  abbrev H : Held
-  H = parts_held p
-
   type_plain : (i : ℕ) (x : TypeDef) → V.types i ≡ Some x → TypePlain x
   type_plain i x at =
-      each_in TypePlain (items H.types) x (defs_back r.names TypePlain TypePlain (λ y z e n. comp_back r.names y.sub.comp z.sub.comp e n) (types_from 0 r.raw_types) (items H.types) r.types_are.read (types_plain 0 r.raw_types))
-      (Contains-map (λ (e : ℕ × TypeDef). e.1) (i, x) (entries H.types) (entry_in H.types i x at))
+      let z = type_entry r i _ (planned_named r.numbered r.is_plan Types i (subst (λ (o : Option TypeDef). IsSome o) (sym at) refl)) in
+      let same : z.old ≡ x = some_inj z.old x (sym z.is ∙ at) in
+      let g = got_in (types_from 0 r.types) _ z.new z.at in
+      subst TypePlain same (comp_back r.names z.old.sub.comp z.new.sub.comp z.named.comp (each_in TypePlain (types_from 0 r.types) z.new (types_plain 0 r.types) (_, g.0, g.1 z.new)))
 
   types_are_plain : (o : Option TypeDef) → ((x : TypeDef) → o ≡ Some x → TypePlain x) → Plain (heaps_by (λ (t : TypeDef). comp_heaps t.sub.comp) o)
   types_are_plain None h = tt

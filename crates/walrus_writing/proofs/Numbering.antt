@@ -1,15 +1,23 @@
--- Items get their indices one after another.
-use Rattle.std.proofs.Common.{inl, inr, ◌≡◌, ℕ, ◌+◌, List, [], ◌∷◌, ◌++◌, refl, sym, ap, ◌∙◌, subst, Some, None, length-append}
-use Rattle.std.specs.Prelude.{◌≢◌, ◌⊎◌, true, false, ◌==◌}
+-- Items get their indices one after another, and one space after another.
+use Rattle.std.proofs.Common.{inl, inr, ◌≡◌, ℕ, ◌+◌, Bool, true, false, List, [], ◌∷◌, ◌++◌, length, map, take, ◌<◌, refl, sym, ap, ◌∙◌, subst, arith, Some, None, length-append}
+use Rattle.std.specs.Prelude.{slice_index_or, ◌≢◌, ◌⊎◌, ◌==◌, nat_eq, if◌then◌else◌}
 use Rattle.std.proofs.lemmas.Bool.Decides.{eqb_tells}
-use Rattle.walrus_types.specs.Operators.{Space, Types, Functions, Tables, Memories, Tags, Globals, Elements, DataSegments}
+use Rattle.std.specs.List.{IsDistinct}
+use Rattle.walrus_base.specs.Id.{place}
+use Rattle.walrus_base.specs.declared.id.Id.{Id}
+use Rattle.walrus_types.specs.Operators.{Space}
 use Rattle.walrus_code.specs.Indices.{index_of, given, Numbers, SameIn}
-use Rattle.walrus_code.specs.Names.{Lookup}
 use Rattle.walrus_code.specs.declared.indices.IdsToIndices.{IdsToIndices}
 use Rattle.walrus_types.specs.Shape.{place_in}
-use Rattle.walrus_model.specs.Plan.{AreNumbered}
-use Rattle.walrus_writing.specs.Numbered.{NumbersIn, NumbersTypes, NumbersFunctions, planned}
-use Rattle.walrus_writing.proofs.Placing.{placed_last, placed_other}
+use Rattle.walrus_model.specs.Imported.{code}
+use Rattle.walrus_model.specs.Plan.{Plan, AreNumbered}
+use Rattle.walrus_model.proofs.ImportedZip.{one_code}
+use Rattle.walrus_parts.specs.declared.error.Error.{Error}
+use Rattle.walrus_parts.specs.declared.error.Error.TheVariants as errors
+use Rattle.walrus_writing.specs.Refusals.{RefusesCount, RefusesCounts}
+use Rattle.walrus_writing.specs.Numbered.{AreGiven, NumbersIn, NumbersSpace, with_places}
+use Rattle.walrus_writing.proofs.Placing.{fresh, placed_last, placed_other}
+use Rattle.walrus_writing.proofs.Turns.{map_snoc, one_more, split_at}
 
 -- the next one of a space
 numbers_at : (now new : IdsToIndices) (space : Space) (done : List ℕ) (p n : ℕ) → NumbersIn now space done → place_in done p ≡ None → Numbers now new space p
@@ -18,56 +26,63 @@ numbers_at now new space done p n h none g (inl e) =
     subst (λ m. index_of new space m ≡ place_in (done ++ p ∷ []) m) (sym e.1) (g.numbered ∙ ap Some h.count ∙ sym (placed_last done p none))
 numbers_at now new space done p n h none g (inr e) = g.kept n e.1 ∙ h.are n ∙ sym (placed_other done p n e.1)
 
-pub numbers_next : (now new : IdsToIndices) (space : Space) (done : List ℕ) (p : ℕ) → NumbersIn now space done → place_in done p ≡ None → Numbers now new space p → NumbersIn new space (done ++ p ∷ [])
-numbers_next now new space done p h none g = record {
-  count = g.counted ∙ ap (λ k. k + 1) h.count ∙ sym (length-append done (p ∷ []));
-  are = λ n. numbers_at now new space done p n h none g (eqb_tells n p);
-}
-
-pub same_then : (a b c : IdsToIndices) (space : Space) → SameIn a b space → SameIn b c space → SameIn a c space
+same_then : (a b c : IdsToIndices) (space : Space) → SameIn a b space → SameIn b c space → SameIn a c space
 same_then a b c space h g = (g.0 ∙ h.0, λ n. g.1 n ∙ h.1 n)
 
-pub functions_no_types : Functions ≢ Types
-functions_no_types e = cc
-
-pub types_no_functions : Types ≢ Functions
-types_no_functions e = cc
-
-pub types_next : (old now new : IdsToIndices) (done : List ℕ) (p : ℕ) → NumbersTypes old now done → place_in done p ≡ None → Numbers now new Types p → NumbersTypes old new (done ++ p ∷ [])
-types_next old now new done p h none g = record {
-  numbered = numbers_next now new Types done p h.numbered none g;
-  others = λ space apart. same_then old now new space (h.others space apart) (g.others space apart);
+pub numbers_next : (space : Space) (old now new : IdsToIndices) (done : List ℕ) (p : ℕ) → NumbersSpace space old now done → place_in done p ≡ None → Numbers now new space p → NumbersSpace space old new (done ++ p ∷ [])
+numbers_next space old now new done p h none g = record {
+  numbered = record {
+    count = g.counted ∙ ap (λ k. k + 1) h.numbered.count ∙ sym (length-append done (p ∷ []));
+    are = λ n. numbers_at now new space done p n h.numbered none g (eqb_tells n p);
+  };
+  others = λ other apart. same_then old now new other (h.others other apart) (g.others other apart);
 }
 
-pub functions_next : (old now new : IdsToIndices) (done : List ℕ) (p : ℕ) → NumbersFunctions old now done → place_in done p ≡ None → Numbers now new Functions p → NumbersFunctions old new (done ++ p ∷ [])
-functions_next old now new done p h none g = record {
-  numbered = numbers_next now new Functions done p h.numbered none g;
-  others = λ space apart. same_then old now new space (h.others space apart) (g.others space apart);
-}
+pub numbers_begin : (space : Space) (now : IdsToIndices) → ((n : ℕ) → index_of now space n ≡ None) → given now space ≡ 0 → NumbersSpace space now now []
+numbers_begin space now none count = record { numbered = record { count = count; are = none }; others = λ other apart. (refl, λ n. refl) }
 
-pub types_begin : (now : IdsToIndices) → ((n : ℕ) → index_of now Types n ≡ None) → given now Types ≡ 0 → NumbersTypes now now []
-types_begin now none count = record { numbered = record { count = count; are = none }; others = λ space apart. (refl, λ n. refl) }
+-- ---- space by space
 
-pub functions_begin : (now : IdsToIndices) → ((n : ℕ) → index_of now Functions n ≡ None) → given now Functions ≡ 0 → NumbersFunctions now now []
-functions_begin now none count = record { numbered = record { count = count; are = none }; others = λ space apart. (refl, λ n. refl) }
+pub none_given : (now : IdsToIndices) → ((s : Space) (n : ℕ) → index_of now s n ≡ None) → ((s : Space) → given now s ≡ 0) → AreGiven now (λ s. [])
+none_given now none count = λ s. record { count = count s; are = none s }
 
--- ---- all of a plan
+moved : (old new : IdsToIndices) (s : Space) (done : List ℕ) → NumbersIn old s done → SameIn old new s → NumbersIn new s done
+moved old new s done h same = record { count = same.0 ∙ h.count; are = λ n. same.1 n ∙ h.are n }
 
--- where types are numbered, and functions behind them, all is numbered by the plan
-module _ (start now new : IdsToIndices) (types functions : List ℕ) (none : (s : Space) (n : ℕ) → index_of start s n ≡ None) (t : NumbersTypes start now types) (f : NumbersFunctions now new functions) where
-  still_none : (s : Space) → s ≢ Types → s ≢ Functions → (n : ℕ) → index_of new s n ≡ None
-  still_none s no_type no_function n = (f.others s no_function).1 n ∙ (t.others s no_type).1 n ∙ none s n
+module _ (old new : IdsToIndices) (plan : Plan) (space : Space) (places : List ℕ) (before : AreGiven old plan) (h : NumbersSpace space old new places) where
+  given_in : (other : Space) → ((nat_eq (code other) (code space) ≡ true) × (code other ≡ code space)) ⊎ ((nat_eq (code other) (code space) ≡ false) × (code other ≢ code space)) → NumbersIn new other (with_places plan space places other)
+  given_in other (inl e) =
+      subst (λ (b : Bool). NumbersIn new other (if b then places else plan other)) (sym e.0)
+      (subst (λ (s : Space). NumbersIn new s places) (sym (one_code other space e.1)) h.numbered)
+  given_in other (inr e) =
+      subst (λ (b : Bool). NumbersIn new other (if b then places else plan other)) (sym e.0)
+      (moved old new other (plan other) (before other) (h.others other (λ same. e.1 (ap code same))))
 
-  pub numbers_all : AreNumbered (index_of new) (planned types functions)
-  numbers_all Types n = (f.others Types types_no_functions).1 n ∙ t.numbered.are n
-  numbers_all Functions n = f.numbered.are n
-  numbers_all Tables n = still_none Tables (λ e. cc) (λ e. cc) n
-  numbers_all Memories n = still_none Memories (λ e. cc) (λ e. cc) n
-  numbers_all Tags n = still_none Tags (λ e. cc) (λ e. cc) n
-  numbers_all Globals n = still_none Globals (λ e. cc) (λ e. cc) n
-  numbers_all Elements n = still_none Elements (λ e. cc) (λ e. cc) n
-  numbers_all DataSegments n = still_none DataSegments (λ e. cc) (λ e. cc) n
+  -- another space is numbered
+  pub given_more : AreGiven new (with_places plan space places)
+  given_more other = given_in other (eqb_tells (code other) (code space))
 
--- the same, of places that are said otherwise
-pub numbered_so : (names : Lookup) (types types' functions : List ℕ) → types ≡ types' → AreNumbered names (planned types functions) → AreNumbered names (planned types' functions)
-numbered_so names types types' functions same h = subst (λ ts. AreNumbered names (planned ts functions)) same h
+pub numbered_by : (now : IdsToIndices) (plan told : Plan) → AreGiven now plan → ((s : Space) → plan s ≡ told s) → AreNumbered (index_of now) told
+numbered_by now plan told h same s n = (h s).are n ∙ ap (λ (ps : List ℕ). place_in ps n) (same s)
+
+-- ---- one turn of a loop over the ids of a space
+
+module _ {K : Type 0} (order : List (Id K)) (i : ℕ) (d : Id K) (low : i < length order) (differ : IsDistinct nat_eq (map place order)) where
+  -- the next id isn't among those so far
+  pub new_at : place_in (map place (take i order)) (place (slice_index_or order i d)) ≡ None
+  new_at =
+      let parts = split_at place order i d low in
+      fresh (map place (take i order)) (place (slice_index_or order i d)) parts.0 (subst (λ (ps : List ℕ). IsDistinct nat_eq ps) parts.1 differ)
+
+pub numbers_turn : {K : Type 0} (space : Space) (old now new : IdsToIndices) (order : List (Id K)) (i : ℕ) (d : Id K) → i < length order → IsDistinct nat_eq (map place order)
+    → NumbersSpace space old now (map place (take i order)) → Numbers now new space (place (slice_index_or order i d)) → NumbersSpace space old new (map place (take (i + 1) order))
+numbers_turn space old now new order i d low differ h next =
+    subst (λ (ps : List ℕ). NumbersSpace space old new ps) (sym (ap (map place) (one_more order i d low) ∙ map_snoc place (take i order) (slice_index_or order i d)))
+    (numbers_next space old now new (map place (take i order)) (place (slice_index_or order i d)) h (new_at order i d low differ) next)
+
+-- ---- too many
+
+pub count_refused : (plan : Plan) (space : Space) (n : ℕ) (e : Error) → n ≡ length (plan space) → RefusesCount n e → RefusesCounts plan e
+count_refused plan space n (errors.Memory m) same r = tt
+count_refused plan space n errors.TooLarge same r = (space, omega (arith, r, same))
+count_refused plan space n _ same r = absurd r

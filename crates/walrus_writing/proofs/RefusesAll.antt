@@ -4,7 +4,8 @@ use Rattle.std.specs.Prelude.{IfOk, Result, Ok, Err}
 use Rattle.walrus_base.specs.Arena.{items}
 use Rattle.walrus_bodies.specs.declared.features.Features.{Features}
 use Rattle.walrus_groups.specs.Indexed.{AreInOrder}
-use Rattle.walrus_items.specs.Exports.{ExportValue}
+use Rattle.walrus_types.specs.ModuleTypes.{type_slots}
+use Rattle.walrus_items.specs.Functions.{functions}
 use Rattle.walrus_contents.specs.There.{IsRefusal}
 use Rattle.walrus_contents.specs.View.{parts_view}
 use Rattle.walrus_contents.specs.declared.parts.Parts.{Parts}
@@ -19,7 +20,6 @@ use Rattle.walrus_rules.specs.Refused.{PassesLimits}
 use Rattle.walrus_rules.specs.SoFar.{HasUndeclared, RefusesSoFar}
 use Rattle.walrus_writing.specs.Emitted.{IsPlain, told}
 use Rattle.walrus_writing.specs.Local.{all_local}
-use Rattle.walrus_writing.specs.Parts.{Held, parts_held, parts_exports}
 use Rattle.walrus_writing.specs.Records.{DoesNotFit, Spells}
 use Rattle.walrus_writing.specs.Refusals.{RefusesItems}
 use Rattle.walrus_writing.proofs.NoCauseAll.{no_cause}
@@ -36,28 +36,22 @@ dead_refused X c v _ r = absurd r
 
 -- ---- items
 
-module _ (c : Config) (p : Parts) (lives : HasDead (parts_view p) → ⊥) (declared : NothingUndeclared (parts_view p)) (local : all_local (items (parts_held p).funcs) ≡ true) (ordered : AreInOrder (parts_held p).types) where
+module _ (c : Config) (p : Parts) (lives : HasDead (parts_view p) → ⊥) (declared : NothingUndeclared (parts_view p)) (local : all_local (items (functions p.funcs.now)) ≡ true) (ordered : AreInOrder (type_slots p.types.now)) where
   abbrev V : Abstract
   V = parts_view p
 
-  abbrev H : Held
-  H = parts_held p
-
-  abbrev E : List ExportValue
-  E = parts_exports p
-
   -- what a size too large comes from, and what is written passes no limit, with these features
   abbrev Sizes : Features → Type 0
-  Sizes features = (DoesNotFit H features E → PassesLimits c V) × ((bytes : List ℕ) → Spells H features E bytes → PassesLimits c V → ⊥)
+  Sizes features = (DoesNotFit p features → PassesLimits c V) × ((bytes : List ℕ) → Spells p features bytes → PassesLimits c V → ⊥)
 
   abbrev Refuses : {X : Type 0} → (X → List ℕ) → Result X Error → Features → Type 0
-  Refuses view result features = Sizes features → IfOk result (λ x. Spells H features E (view x)) → RefusesItems H features E result → RefusesSoFar c V (told result)
+  Refuses view result features = Sizes features → IfOk result (λ x. Spells p features (view x)) → RefusesItems p features result → RefusesSoFar c V (told result)
 
   undeclared_none : HasUndeclared V → ⊥
   undeclared_none (f, undeclared) = declared f undeclared
 
   items_with : {X : Type 0} (view : X → List ℕ) (result : Result X Error) → Refuses view result (features_of c)
-  items_with view (Ok x) sizes spells r = (no_cause c p spells.records lives (sizes.1 (view x) spells), not_imported c p local, undeclared_none)
+  items_with view (Ok x) sizes spells r = (no_cause c p spells.records lives local ordered (sizes.1 (view x) spells), not_imported c p local, undeclared_none)
   items_with view (Err NotWritable) sizes spells r = inl (unspelled c p lives r)
   items_with view (Err TooLarge) sizes spells r = ((no_two_indices c p, lacks_none c p local ordered, λ sayable. passes c p sizes.0 r), not_imported c p local)
   items_with view (Err (Memory m)) sizes spells r = tt

@@ -1,36 +1,36 @@
 -- What passes 32 bits; and that where it does, each item has one index.
-use Rattle.std.proofs.Common.{inl, inr, ◌≡◌, ℕ, zero, suc, ◌<◌, ◌≤◌, ◌^◌, true, List, [], ◌∷◌, map, length, refl, sym, ap, ◌∙◌, subst, arith, Some, None}
+use Rattle.std.proofs.Common.{inl, inr, ◌≡◌, ℕ, zero, suc, ◌<◌, true, List, [], ◌∷◌, map, length, refl, sym, ap, ◌∙◌, subst, arith, Some, None}
 use Rattle.std.specs.Prelude.{◌≢◌, Option, IsSome, All, AllPairs, Contains, slice_index_or, option_map}
-use Rattle.std.proofs.lemmas.List.{length-map}
-use Rattle.walrus_base.specs.Arena.{item_at, entries, items}
+use Rattle.walrus_base.specs.Arena.{item_at, items}
 use Rattle.walrus_base.specs.Id.{place}
 use Rattle.walrus_base.specs.Types.{ValType}
 use Rattle.walrus_types.specs.Operators.{Types, Functions, Tables, Memories, Tags, Globals, Elements, DataSegments, Item, locals_of}
-use Rattle.walrus_types.specs.TypeDef.{TypeDef}
 use Rattle.walrus_code.specs.Function.{body_of as ops_of_local}
-use Rattle.walrus_code.specs.declared.function.LocalFunction.{LocalFunction}
 use Rattle.walrus_functions.specs.DeclaredLocals.{GoesBefore, AreDeclared}
 use Rattle.walrus_functions.proofs.LawOrder.{turn}
 use Rattle.walrus_groups.specs.Indexed.{AreInOrder}
-use Rattle.walrus_items.specs.Functions.{FunctionValue, local_functions}
+use Rattle.walrus_types.specs.ModuleTypes.{type_slots}
+use Rattle.walrus_functions.specs.EmittedBody.{HasTooManyLocals}
+use Rattle.walrus_items.specs.Functions.{FunctionValue, functions}
 use Rattle.walrus_items.specs.declared.functions.FunctionKind.{FunctionKind}
 use Rattle.walrus_items.specs.declared.functions.FunctionKind.TheVariants as kind
-use Rattle.walrus_contents.specs.View.{body, function, functions_of, kind_of, parts_view}
+use Rattle.walrus_contents.specs.View.{body, function, kind_of, parts_view}
 use Rattle.walrus_contents.specs.declared.parts.Parts.{Parts}
 use Rattle.walrus_model.specs.Abstract.{Abstract}
 use Rattle.walrus_model.specs.Config.{Config}
-use Rattle.walrus_model.specs.Names.{body_of, body_of_function}
+use Rattle.walrus_model.specs.Names.{body_of_function}
 use Rattle.walrus_model.specs.WellMade.{import_in, import_of, kind_import}
 use Rattle.walrus_model.proofs.Standing.{none_there}
 use Rattle.walrus_rules.specs.Features.{features_of}
 use Rattle.walrus_rules.specs.Refused.{HasTwoIndices, LocalImported, ImportedTwice, LacksIndex, NotBrought, LocalGlobalRead, LaterGlobalRead, LaterSupertype, LaterType, PassesLimits, ManyItems, ManyLocals}
 use Rattle.walrus_rules.specs.SoFar.{HasImported}
 use Rattle.walrus_writing.specs.Local.{is_local, all_local}
-use Rattle.walrus_writing.specs.Parts.{Held, parts_held, parts_exports}
+use Rattle.walrus_model.proofs.Indices.{planned_rising}
+use Rattle.walrus_writing.specs.Parts.{slots_of}
 use Rattle.walrus_writing.specs.Records.{DoesNotFit}
 use Rattle.walrus_writing.specs.Refusals as refusals
-use Rattle.walrus_writing.proofs.Entries.{none_some, item_passes, entries_live, entries_rise, LocalAt, locals_live, locals_rise}
-use Rattle.walrus_writing.proofs.RefusesUnspelled.{has_local, local_seen}
+use Rattle.walrus_writing.specs.Refusals.{HasBody, HasTooManyItems}
+use Rattle.walrus_writing.proofs.Entries.{none_some, item_passes}
 
 -- ---- declared locals
 
@@ -60,39 +60,22 @@ module _ (c : Config) (p : Parts) where
   abbrev V : Abstract
   V = parts_view p
 
-  abbrev H : Held
-  H = parts_held p
-
   -- ---- too many items or locals
 
-  pub too_many_types : 2 ^ 32 ≤ length (entries H.types) → PassesLimits c V
-  too_many_types h =
-      let numbers = map (λ (e : ℕ × TypeDef). e.0) (entries H.types) in
-      let long : 2 ^ 32 ≤ length numbers = omega (arith, h, length-map (entries H.types) (λ (e : ℕ × TypeDef). e.0)) in
-      ManyItems Types numbers (entries_rise H.types) (entries_live H.types) long
+  too_many_items : HasTooManyItems p → PassesLimits c V
+  too_many_items (plan, (is_plan, (s, many))) = let n = planned_rising V plan is_plan s in ManyItems s n.0 n.1 n.2 (omega (arith, many, n.3))
 
-  pub too_many_functions : 2 ^ 32 ≤ length (local_functions (entries H.funcs)) → PassesLimits c V
-  too_many_functions h =
-      let numbers = map (λ (e : ℕ × LocalFunction). e.0) (local_functions (entries H.funcs)) in
-      let long : 2 ^ 32 ≤ length numbers = omega (arith, h, length-map (local_functions (entries H.funcs)) (λ (e : ℕ × LocalFunction). e.0)) in
-      ManyItems Functions numbers (locals_rise H.funcs) (λ k d lt. function_there _ (locals_live H.funcs k d lt)) long
-    where
-      function_there : (n : ℕ) → LocalAt H.funcs n → IsSome (functions_of p.locals.now p.funcs.now n)
-      function_there n a = subst (λ o. IsSome (option_map (function p.locals.now) o)) (sym a.item) refl
-
-  many_locals : refusals.HasTooManyIn H (features_of c) → PassesLimits c V
+  many_locals : HasBody p (features_of c) HasTooManyLocals → PassesLimits c V
   many_locals (names, (n, (f, (is, (order, (declared, many)))))) =
-      let found : body_of V n ≡ Some (body p.locals.now f) = ap body_of_function (local_seen c p n f (has_local H.funcs n f is)) in
       let used = locals_of (ops_of_local f) in
       let parameters = map place f.args.items in
-      ManyLocals n (body p.locals.now f) order found (order_differs H.slots used parameters order declared) (order_used H.slots used parameters order declared) (order_apart H.slots used parameters order declared) many
+      ManyLocals n (body p.locals.now f) order (ap body_of_function is) (order_differs (slots_of p) used parameters order declared) (order_used (slots_of p) used parameters order declared) (order_apart (slots_of p) used parameters order declared) many
 
   -- a count or a size passes 32 bits
-  pub passes : (DoesNotFit H (features_of c) (parts_exports p) → PassesLimits c V) → refusals.PassesLimits H (features_of c) (parts_exports p) → PassesLimits c V
-  passes unfit (inl h) = too_many_types h
-  passes unfit (inr (inl h)) = too_many_functions h
-  passes unfit (inr (inr (inl h))) = many_locals h
-  passes unfit (inr (inr (inr h))) = unfit h
+  pub passes : (DoesNotFit p (features_of c) → PassesLimits c V) → refusals.PassesLimits p (features_of c) → PassesLimits c V
+  passes unfit (inl h) = too_many_items h
+  passes unfit (inr (inl h)) = many_locals h
+  passes unfit (inr (inr h)) = unfit h
 
   -- ---- nothing has two indices
 
@@ -102,18 +85,18 @@ module _ (c : Config) (p : Parts) where
 
   -- ---- where functions have bodies and types stand in order, nothing lacks one
 
-  module _ (local : all_local (items H.funcs) ≡ true) where
+  module _ (local : all_local (items (functions p.funcs.now)) ≡ true) where
     kind_own : (k : FunctionKind) → is_local k ≡ true → kind_import (kind_of p.locals.now k) ≡ None
     kind_own (kind.Local f) is = refl
     kind_own (kind.Import i) is = absurd (none_there is)
     kind_own (kind.Uninitialized ty) is = refl
 
-    function_own : (i : ℕ) (o : Option FunctionValue) → item_at H.funcs i ≡ o → import_in (λ f. kind_import f.kind) (option_map (function p.locals.now) o) ≡ None
+    function_own : (i : ℕ) (o : Option FunctionValue) → item_at (functions p.funcs.now) i ≡ o → import_in (λ f. kind_import f.kind) (option_map (function p.locals.now) o) ≡ None
     function_own i None at = refl
-    function_own i (Some v) at = kind_own v.kind (item_passes (λ (f : FunctionValue). is_local f.kind) H.funcs i v local at)
+    function_own i (Some v) at = kind_own v.kind (item_passes (λ (f : FunctionValue). is_local f.kind) (functions p.funcs.now) i v local at)
 
     no_import : (x : Item) → import_of V x ≡ None
-    no_import (Functions, i) = function_own i (item_at H.funcs i) refl
+    no_import (Functions, i) = function_own i (item_at (functions p.funcs.now) i) refl
     no_import (Types, i) = refl
     no_import (Tables, i) = refl
     no_import (Memories, i) = refl
@@ -125,7 +108,7 @@ module _ (c : Config) (p : Parts) where
     pub not_imported : HasImported V → ⊥
     not_imported (i, f, n, at, is) = none_some n (sym (no_import (Functions, i)) ∙ ap (import_in (λ g. kind_import g.kind)) at ∙ ap kind_import is)
 
-    pub lacks_none : AreInOrder H.types → LacksIndex V → ⊥
+    pub lacks_none : AreInOrder (type_slots p.types.now) → LacksIndex V → ⊥
     lacks_none ordered (NotBrought y needed has none) = none_there (subst (λ (o : Option ℕ). IsSome o) (no_import y) has)
     lacks_none ordered (LocalGlobalRead i g reads live not) = none_some reads.0 reads.1.1.0
     lacks_none ordered (LaterGlobalRead i g reads live not) = none_some reads.0 reads.1.1.0

@@ -1,44 +1,54 @@
--- What a refusal of a part says of the items that are written.
+-- What a refusal of a part says of the items that are written, and the records that are.
 use Rattle.wasm_entries.specs.Record as entries
-use Rattle.std.proofs.Common.{inl, inr, ◌≡◌, ℕ, suc, true, List, [], ◌∷◌, ◌++◌, map, length, sym, ap, ◌∙◌, subst, arith, Some, None}
-use Rattle.std.specs.Prelude.{Option, IsSome, All, Err}
+use Rattle.std.proofs.Common.{inl, inr, ◌≡◌, ℕ, ◌<◌, ◌^◌, suc, List, [], ◌∷◌, ◌++◌, map, length, sym, ap, ◌∙◌, subst, arith, Some, None}
+use Rattle.std.specs.Prelude.{Option, IsSome, All, Err, option_and_then}
 use Rattle.std.specs.Global.{Vec}
 use Rattle.std.specs.List.{AllZip}
 use Rattle.std.specs.Str.{IsUtf8}
-use Rattle.std.proofs.lemmas.List.{length-map}
-use Rattle.std.proofs.lemmas.List.Elements.{All-map}
+use Rattle.std.proofs.lemmas.List.Elements.{All-map, All-nil}
 use Rattle.wasm_frames.specs.Record as wire
-use Rattle.wasm_entries.specs.Record.{export_entry}
+use Rattle.wasm_frames.specs.Spelling.{body_bytes}
+use Rattle.wasm_forms.specs.Spelling.{number_bytes}
+use Rattle.wasm_forms.specs.Writing.{FitsLength}
+use Rattle.wasm_entries.specs.Record.{export_entry, group}
 use Rattle.wasm_entries.specs.declared.record.RawExport.{RawExport}
 use Rattle.wasm_entries.specs.declared.record.RawSub.{RawSub}
-use Rattle.wasm_entries.specs.Record.{Group, Export, group}
-use Rattle.walrus_base.specs.Arena.{entries, items}
-use Rattle.walrus_base.specs.Id.{place}
-use Rattle.walrus_base.specs.declared.id.Id.{Id}
-use Rattle.walrus_base.specs.declared.keys.FunctionKey.{FunctionKey}
-use Rattle.walrus_code.specs.Names.{Lookup}
-use Rattle.walrus_bodies.specs.declared.features.Features.{Features}
-use Rattle.walrus_items.specs.Exports.{ExportValue}
-use Rattle.walrus_groups.specs.Indexed.{AreIndexed, AreInOrder}
-use Rattle.walrus_items.specs.Functions.{local_functions}
-use Rattle.walrus_model.proofs.Lists.{map-map}
-use Rattle.walrus_model.specs.Plan.{AreNumbered}
-use Rattle.walrus_writing.specs.Refusals.{RefusesCounts, RefusesTypes, RefusesBodies, RefusesItems}
-use Rattle.walrus_writing.specs.Numbered.{planned}
-use Rattle.walrus_writing.specs.Parts.{Held, type_index, export_with_index, HasBytes}
-use Rattle.walrus_writing.specs.Sizes.{IsOrder}
-use Rattle.walrus_writing.specs.Records.{Records, Spells, sections_of}
-use Rattle.wasm_wire.specs.ModuleSpelling.{ModuleFits, WritesModule, module_bytes}
+use Rattle.wasm_entries.specs.Spelling as spelling
+use Rattle.wasm_entries.specs.TypeSpelling.{GroupFits, group_bytes, LimitsFit, limits_bytes}
+use Rattle.wasm_writer.specs.Spelling.{SectionFits, tag_bytes}
+use Rattle.wasm_writer.proofs.Listed.{fits_none}
+use Rattle.wasm_wire.specs.ModuleSpelling.{EachSection, ModuleFits, WritesModule, module_bytes}
 use Rattle.wasm_forms.specs.declared.error.WireError.{WireError}
 use Rattle.wasm_forms.specs.declared.error.WireError.TheVariants as Wire
+use Rattle.walrus_base.specs.Arena.{entries as entries_in, item_at, items}
+use Rattle.walrus_base.specs.Id.{place}
+use Rattle.walrus_types.specs.ModuleTypes.{type_slots}
+use Rattle.walrus_types.specs.Operators.{Space}
+use Rattle.walrus_code.specs.Names.{Lookup}
+use Rattle.walrus_bodies.specs.declared.features.Features.{Features}
+use Rattle.walrus_groups.specs.Indexed.{AreIndexed}
+use Rattle.walrus_groups.specs.Named.{named_def}
+use Rattle.walrus_items.specs.Exports.{exports}
+use Rattle.walrus_contents.specs.View.{export_of, parts_view}
+use Rattle.walrus_contents.specs.declared.parts.Parts.{Parts}
+use Rattle.walrus_contents.proofs.Slots.{stands_at}
+use Rattle.walrus_model.specs.Plan as model
+use Rattle.walrus_model.specs.Plan.{AreNumbered, IsPlan}
+use Rattle.walrus_model.proofs.Lists.{map-map, map-same_on}
+use Rattle.walrus_model.proofs.Standing.{none_there}
 use Rattle.walrus_parts.specs.Errors.{error_of_wire}
-use Rattle.walrus_base.specs.declared.keys.TypeKey.{TypeKey}
-use Rattle.walrus_writing.specs.Local.{all_local}
-use Rattle.walrus_writing.proofs.Entries.{order_length}
-use Rattle.walrus_writing.proofs.Somes.{none_there}
-use Rattle.walrus_writing.proofs.SpellsLemmas.{zip_seen}
 use Rattle.walrus_parts.specs.declared.error.Error.{Error}
-use Rattle.walrus_parts.specs.declared.error.Error.TheVariants as Parts
+use Rattle.walrus_parts.specs.declared.error.Error.TheVariants as Parts_error
+use Rattle.walrus_rules.specs.Examples.{empty_text}
+use Rattle.walrus_rules.proofs.OneSections.{laid}
+use Rattle.walrus_writing.specs.Parts.{HasBytes, export_with_index, type_index, unplaced}
+use Rattle.walrus_writing.specs.Places.{places}
+use Rattle.walrus_writing.specs.Records.{Records, Spells, sections_with, text_of}
+use Rattle.walrus_writing.specs.Refusals.{RefusesBodies, RefusesCounts, RefusesItems, RefusesTypes}
+use Rattle.walrus_writing.specs.declared.plan.Plan.{Plan}
+use Rattle.walrus_writing.proofs.Sections.{all_sections, bytes_same, each_section, plain}
+use Rattle.walrus_writing.proofs.SpellsLemmas.{zip_seen}
+use Rattle.walrus_writing.proofs.TextStands.{bodies_same}
 
 -- ---- what is still to come
 
@@ -53,68 +63,97 @@ next_has {B} {C} done g left after e all is step h none =
     let some : IsSome (g e) = at_seam (λ (o : Option C). IsSome o) done (g e) (map g after) (subst (λ (l : List (Option C)). All (λ o. IsSome o) l) parts h) in
     none_there (subst (λ (o : Option C). IsSome o) (sym none) some)
 
-module _ (h : Held) (features : Features) (exports : List ExportValue) where
-  -- ---- too many items
+-- ---- refusals
 
-  pub counts_refused : (X : Type 0) (types : List (Id TypeKey)) (ids : List (Id FunctionKey)) (e : Error) → map place types ≡ map (λ e. e.0) (entries h.types) → IsOrder h.funcs (map place ids)
-      → RefusesCounts (length types) (length ids) e → RefusesItems {X = X} h features exports (Err e)
-  counts_refused X types ids (Parts.Memory m) are ordered r = tt
-  counts_refused X types ids Parts.TooLarge are ordered (inl r) =
-      let as_many : length types ≡ length (entries h.types) = sym (length-map types place) ∙ ap (λ (l : List ℕ). length l) are ∙ length-map (entries h.types) (λ e. e.0) in
-      inl (omega (arith, r, as_many))
-  counts_refused X types ids Parts.TooLarge are ordered (inr r) =
-      let as_many : length ids ≡ length (local_functions (entries h.funcs)) = sym (length-map ids place) ∙ order_length h.funcs (map place ids) ordered in
-      inr (inl (omega (arith, r, as_many)))
-  counts_refused X types ids _ are ordered r = absurd r
+module _ (p : Parts) (features : Features) (X : Type 0) where
+  pub counts_refused : (plan : model.Plan) (e : Error) → IsPlan (parts_view p) plan → RefusesCounts plan e → RefusesItems {X = X} p features (Err e)
+  counts_refused plan (Parts_error.Memory m) is_plan r = tt
+  counts_refused plan Parts_error.TooLarge is_plan r = inl (plan, (is_plan, r))
+  counts_refused plan _ is_plan r = absurd r
 
-  -- ---- types and bodies
+  pub types_refused : (e : Error) → RefusesTypes (type_slots p.types.now) e → RefusesItems {X = X} p features (Err e)
+  types_refused (Parts_error.Memory m) r = tt
+  types_refused Parts_error.NotWritable r = inr r
+  types_refused _ r = absurd r
 
-  pub types_refused : (X : Type 0) (e : Error) → RefusesTypes h.types e → RefusesItems {X = X} h features exports (Err e)
-  types_refused X (Parts.Memory m) r = tt
-  types_refused X Parts.NotWritable r = inr r
-  types_refused X _ r = absurd r
+  pub bodies_refused : (e : Error) → RefusesBodies p features e → RefusesItems {X = X} p features (Err e)
+  bodies_refused (Parts_error.Memory m) r = tt
+  bodies_refused Parts_error.NotWritable r = inl r
+  bodies_refused Parts_error.TooLarge r = inr (inl r)
+  bodies_refused _ r = absurd r
 
-  pub bodies_refused : (X : Type 0) (e : Error) → RefusesBodies h features e → RefusesItems {X = X} h features exports (Err e)
-  bodies_refused X (Parts.Memory m) r = tt
-  bodies_refused X Parts.NotWritable r = inl r
-  bodies_refused X Parts.TooLarge r = inr (inr (inl r))
-  bodies_refused X _ r = absurd r
+-- ---- the records
 
-  -- ---- the records
+-- what is made of the items of an arena, by their places
+pub by_places : {T W : Type 0} (f : T → Option W) (slots : List (Option T)) → map (λ i. option_and_then f (item_at slots i)) (map (λ e. e.0) (entries_in slots)) ≡ map f (items slots)
+by_places {T} f slots =
+    map-map (λ i. option_and_then f (item_at slots i)) (λ (e : ℕ × T). e.0) (entries_in slots)
+    ∙ map-same_on (λ (e : ℕ × T). option_and_then f (item_at slots e.0)) (λ (e : ℕ × T). f e.1) (entries_in slots) (λ e at. ap (option_and_then f) (stands_at slots e at))
+    ∙ sym (map-map f (λ (e : ℕ × T). e.1) (entries_in slots))
 
-  abbrev pub records_of : (names : Lookup) (ids : List (Id FunctionKey)) (raws : List (Vec RawSub)) (raw_functions : List ℕ) (exported : List RawExport) (bodies : List (Vec ℕ)) → all_local (items h.funcs) ≡ true → IsOrder h.funcs (map place ids)
-      → AreNumbered names (planned (map (λ e. e.0) (entries h.types)) (map place ids))
-      → AreIndexed names (items h.types) (map group raws) → AreInOrder h.types
-      → map Some raw_functions ≡ map (λ id. type_index h.funcs names (place id)) ids
-      → map (λ e. Some (export_entry e)) exported ≡ map (export_with_index names) exports
-      → All (λ e. IsUtf8 e.name.now) exported
-      → AllZip (λ id bytes. HasBytes h names features (place id) bytes.items) ids bodies
-      → Records h features exports
-  records_of names ids raws raw_functions exported bodies local ordered numbered types_are in_order functions_are exports_are texts bodies_are = record {
-    all_are_local = local;
-    order = map place ids;
-    ordered = ordered;
+-- sections that list nothing fit
+none_fit : EachSection SectionFits (laid (plain empty_text))
+none_fit = record {
+  types = fits_none GroupFits group_bytes;
+  imports = fits_none spelling.ImportFits spelling.import_bytes;
+  functions = (let none = fits_none (λ (n : ℕ). Unit {0}) number_bytes in (none.0.0, none.1));
+  tables = fits_none spelling.TableFits spelling.table_bytes;
+  memories = fits_none LimitsFit limits_bytes;
+  tags = (let none = fits_none (λ (n : ℕ). Unit {0}) tag_bytes in (none.0.0, none.1));
+  globals = (let none = fits_none (λ (g : entries.Global). Unit {0}) spelling.global_bytes in (none.0.0, none.1));
+  exports = fits_none spelling.ExportFits spelling.export_bytes;
+  start = tt;
+  elements = fits_none spelling.ElementFits spelling.element_bytes;
+  data_count = tt;
+  bodies = fits_none (λ (b : wire.Body). FitsLength b.bytes) body_bytes;
+  data_segments = fits_none spelling.DataFits spelling.data_bytes;
+  customs = All-nil _;
+}
+
+module _ (p : Parts) (features : Features) (names : Lookup) (plan : Plan) (raws : List (Vec RawSub)) (raw_functions : List ℕ) (exported : List RawExport) (bodies : List (Vec ℕ))
+    (is_plan : IsPlan (parts_view p) (places plan)) (numbered : AreNumbered names (places plan)) (few : (s : Space) → length (places plan s) < 2 ^ 32)
+    (types : map place plan.types.items ≡ map (λ e. e.0) (entries_in (type_slots p.types.now)))
+    (types_are : AreIndexed names (items (type_slots p.types.now)) (map group raws))
+    (functions_are : map Some raw_functions ≡ map (λ id. option_and_then (type_index names) ((parts_view p).functions (place id))) plan.functions.items)
+    (exports_are : map (λ e. Some (export_entry e)) exported ≡ map (λ v. export_with_index names (export_of v)) (items (exports p.exports.now)))
+    (texts : All (λ e. IsUtf8 e.name.now) exported)
+    (bodies_are : AllZip (λ id bytes. HasBytes p names features (place id) bytes.items) plan.functions.items bodies) where
+  abbrev pub records_of : Records p features
+  records_of = record {
     names = names;
+    plan = places plan;
+    is_plan = is_plan;
     numbered = numbered;
-    raw_types = map group raws;
-    types_are = types_are;
-    in_order = in_order;
-    raw_functions = raw_functions;
-    functions_are = functions_are ∙ sym (map-map (type_index h.funcs names) place ids);
-    raw_exports = map export_entry exported;
-    exports_are = map-map (λ (e : entries.Export). Some e) export_entry exported ∙ exports_are;
-    texts = All-map (λ (e : entries.Export). IsUtf8 e.name) export_entry exported texts;
+    few = few;
+    types = map group raws;
+    types_are = types_are.read ∙ sym (by_places (named_def names) (type_slots p.types.now)) ∙ ap (map (λ i. option_and_then (named_def names) ((parts_view p).types i))) (sym types);
+    none_empty = types_are.none_empty;
+    types_stand = types_are.stand;
+    functions = raw_functions;
+    functions_are = functions_are ∙ sym (map-map (λ i. option_and_then (type_index names) ((parts_view p).functions i)) place plan.functions.items);
     bodies = map (λ (v : Vec ℕ). v.items) bodies;
-    bodies_are = zip_seen place (λ (v : Vec ℕ). v.items) (HasBytes h names features) ids bodies bodies_are;
+    bodies_are = zip_seen place (λ (v : Vec ℕ). v.items) (HasBytes p names features) plan.functions.items bodies bodies_are;
+    exports = map export_entry exported;
+    exports_are = map-map (λ (e : entries.Export). Some e) export_entry exported ∙ exports_are ∙ sym (map-map (export_with_index names) export_of (items (exports p.exports.now)));
+    texts = All-map (λ (e : entries.Export). IsUtf8 e.name) export_entry exported texts;
   }
 
-  -- ---- the records are written
+  -- the module of these sections
+  module _ (m : wire.Module) (code : List wire.Body) (sections : m ≡ sections_with (map group raws) raw_functions (map export_entry exported) code) (codes : code ≡ map (λ (v : Vec ℕ). unplaced v.items) bodies) where
+    module_is : m ≡ laid (text_of records_of)
+    module_is =
+        sections
+        ∙ ap (sections_with (map group raws) raw_functions (map export_entry exported))
+        (codes ∙ sym (map-map unplaced (λ (v : Vec ℕ). v.items) bodies) ∙ sym (bodies_same p names features (map place plan.functions.items) (map (λ (v : Vec ℕ). v.items) bodies) records_of.bodies_are))
 
-  module _ (r : Records h features exports) (m : wire.Module) (same : m ≡ sections_of r) where
-    pub records_written : (bytes : List ℕ) → bytes ≡ module_bytes m → ModuleFits m → Spells h features exports bytes
-    records_written bytes are fit = record { records = r; fit = subst ModuleFits same fit; are = are ∙ ap module_bytes same }
+    pub records_written : (bytes : List ℕ) → bytes ≡ module_bytes m → ModuleFits m → Spells p features bytes
+    records_written bytes are fit = record {
+      records = records_of;
+      fit = all_sections (text_of records_of) SectionFits (subst ModuleFits module_is fit);
+      are = are ∙ ap module_bytes module_is ∙ bytes_same (text_of records_of);
+    }
 
-    pub records_refused : (X : Type 0) (e : WireError) → WritesModule (Err e) m → RefusesItems {X = X} h features exports (Err (error_of_wire e))
+    pub records_refused : (X : Type 0) (e : WireError) → WritesModule (Err e) m → RefusesItems {X = X} p features (Err (error_of_wire e))
     records_refused X Wire.Malformed refused = absurd refused
     records_refused X (Wire.Memory e) refused = tt
-    records_refused X Wire.TooLarge refused = inr (inr (inr (record { records = r; too_large = λ fit. refused (subst ModuleFits (sym same) fit) })))
+    records_refused X Wire.TooLarge refused = inr (inr (record { records = records_of; too_large = λ all. refused (subst ModuleFits (sym module_is) (each_section (text_of records_of) SectionFits none_fit all)) }))

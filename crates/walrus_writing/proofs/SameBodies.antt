@@ -1,7 +1,7 @@
 -- A body that is written is the same body, under the indices that its items and locals are given.
 use Rattle.std.proofs.Common.{inl, inr, ◌≡◌, ◌⊎◌, ℕ, zero, suc, get_or, None, ◌+◌, ◌<◌, ◌≤◌, Bool, true, false, List, [], ◌∷◌, ◌++◌, length, map, refl, sym, ap, ap₂, subst, ◌∙◌, arith, Some}
 use Rattle.std.specs.Prelude.{◌≢◌, Option, IsSome, Contains, nat_eq, option_map, slice_get, unwrap_or, if◌then◌else◌}
-use Rattle.std.specs.List.{AllByRecursion, AllZip, IsDistinct, range_with_len}
+use Rattle.std.specs.List.{AllByRecursion, IsDistinct, range_with_len}
 use Rattle.std.proofs.lemmas.Bool.{ne_eqb}
 use Rattle.std.proofs.lemmas.Bool.Decides.{eqb_tells}
 use Rattle.walrus_base.specs.Arena.{item_at}
@@ -10,77 +10,38 @@ use Rattle.walrus_base.specs.Types.{ValType, map_val}
 use Rattle.walrus_types.specs.Operators.{Space, Types, DataSegments, Item, locals_of, names_of}
 use Rattle.walrus_types.specs.Shape.{place_in}
 use Rattle.walrus_code.specs.FromRaw.{ops_of}
-use Rattle.walrus_code.specs.Function.{body_of}
-use Rattle.walrus_code.specs.Names.{Lookup, named_val}
+use Rattle.walrus_code.specs.Function.{body_of, function_type}
+use Rattle.walrus_code.specs.Names.{named_val}
 use Rattle.walrus_bodies.specs.declared.features.Features.{Features}
 use Rattle.walrus_functions.specs.EmittedBody.{Source, index_in}
 use Rattle.walrus_functions.specs.Handlers.{params_of}
-use Rattle.walrus_items.specs.Exports.{ExportValue}
+use Rattle.walrus_contents.specs.View.{parts_view}
+use Rattle.walrus_contents.specs.declared.parts.Parts.{Parts}
 use Rattle.walrus_model.specs.Abstract.{Body}
 use Rattle.walrus_model.specs.Sections.{types_of, body_with}
 use Rattle.walrus_model.specs.Refers.{IsUsed}
 use Rattle.walrus_model.specs.Renaming.{Renaming, renamed, renamed_ops}
 use Rattle.walrus_model.specs.Same.{SameBody}
-use Rattle.walrus_writing.specs.Parts.{Held, type_index, HasBytes, source}
+use Rattle.walrus_writing.specs.Parts.{HasBytes, slots_of, source}
 use Rattle.walrus_writing.specs.Records.{Records}
 use Rattle.walrus_writing.proofs.TypesEntered.{params_typed}
 use Rattle.walrus_writing.proofs.BodyTypes.{types_in, typed_by, further_typed, as_many_further}
-use Rattle.walrus_writing.proofs.Leads.{found_at}
+use Rattle.walrus_model.proofs.Indices.{found_at, planned_live}
+use Rattle.walrus_model.proofs.Spaces.{live_to}
 use Rattle.walrus_contents.proofs.Lookups.{then_some, mapped_some, got_map, mapped_append, as_long, where_placed, place_range, place_past, Stands, there, range_length}
 use Rattle.walrus_contents.proofs.NamedFound.{locals_found, names_found}
 use Rattle.walrus_writing.proofs.Renamed.{val_renamed, ops_renamed}
-use Rattle.walrus_writing.proofs.WrittenAs.{texts_in, local_in_order, laid_of, renaming_of}
+use Rattle.walrus_writing.proofs.WrittenAs.{laid_of, number_is, renaming_of}
 use Rattle.walrus_model.proofs.Lists.{Contains-map}
 use Rattle.walrus_model.proofs.TakingOver.{Contains-map_back}
 use Rattle.walrus_model.proofs.OpsFollow.{ops_follow, ops_locals_follow}
-use Rattle.walrus_model.proofs.Standing.{got_in, got_where, none_there, some_of, some_inj, self_eq, stands_at}
+use Rattle.walrus_model.proofs.Standing.{got_in, got_where, none_there, some_of, some_inj, stands_at}
 use Rattle.walrus_functions.specs.DeclaredLocals.{GoesBefore, IsDeclared}
 use Rattle.walrus_functions.proofs.ApartLemmas.{locals_differ}
 use Rattle.walrus_functions.proofs.LawOrder.{Sorted, sorted_of, turn}
 use Rattle.walrus_rules.specs.Spelling.{UsesAll}
 use Rattle.walrus_rules.proofs.Agree.{Compared, compared}
 use Rattle.walrus_rules.proofs.SameVal.{unplaced}
-
--- ---- the body of a function among the texts
-
-module _ (h : Held) (names : Lookup) (features : Features) where
-  -- what is spelled for the function at place i, which stands k-th
-  pub record IsSpelledAs (order : List ℕ) (bodies : List (List ℕ)) (a : AllZip (HasBytes h names features) order bodies) (i k : ℕ) : Type 0 where
-    pub bytes : List ℕ
-    pub has : HasBytes h names features i bytes
-    pub text_at : slice_get (texts_in h names features order bodies a) k ≡ Some (record { declarations = has.written.declarations; operators = has.written.texts })
-    pub locals_at : (x : ℕ) → local_in_order h names features order bodies a i x ≡ unwrap_or (place_in (map place has.local.args.items ++ has.written.order) x) 0
-
-  first_spelled : (i : ℕ) (is : List ℕ) (b : List ℕ) (bs : List (List ℕ)) (a : AllZip (HasBytes h names features) (i ∷ is) (b ∷ bs)) → IsSpelledAs (i ∷ is) (b ∷ bs) a i 0
-  first_spelled i is b bs a = record {
-    bytes = b;
-    has = a.0;
-    text_at = refl;
-    locals_at = λ x. ap (λ (t : Bool). if t then unwrap_or (place_in (map place a.0.local.args.items ++ a.0.written.order) x) 0 else local_in_order h names features is bs a.1 i x) (self_eq i);
-  }
-
-  later_spelled : (i : ℕ) (is : List ℕ) (b : List ℕ) (bs : List (List ℕ)) (a : AllZip (HasBytes h names features) (i ∷ is) (b ∷ bs)) (f k : ℕ) → nat_eq i f ≡ false → IsSpelledAs is bs a.1 f k → IsSpelledAs (i ∷ is) (b ∷ bs) a f (suc k)
-  later_spelled i is b bs a f k d s = record {
-    bytes = s.bytes;
-    has = s.has;
-    text_at = s.text_at;
-    locals_at = λ x. ap (λ (t : Bool). if t then unwrap_or (place_in (map place a.0.local.args.items ++ a.0.written.order) x) 0 else local_in_order h names features is bs a.1 f x) d ∙ s.locals_at x;
-  }
-
-  spelled_by : (i : ℕ) (is : List ℕ) (b : List ℕ) (bs : List (List ℕ)) (a : AllZip (HasBytes h names features) (i ∷ is) (b ∷ bs)) (f k : ℕ) → ((nat_eq i f ≡ true) × (i ≡ f)) ⊎ ((nat_eq i f ≡ false) × (i ≢ f))
-      → place_in (i ∷ is) f ≡ Some k → ((j : ℕ) → place_in is f ≡ Some j → IsSpelledAs is bs a.1 f j) → IsSpelledAs (i ∷ is) (b ∷ bs) a f k
-  spelled_by i is b bs a f k (inl q) e later =
-      let zeroth : 0 ≡ k = some_inj 0 k (sym (ap (λ (t : Bool). if t then Some 0 else option_map suc (place_in is f)) q.0) ∙ e) in
-      subst (λ (j : ℕ). IsSpelledAs (i ∷ is) (b ∷ bs) a f j) zeroth (subst (λ (g : ℕ). IsSpelledAs (i ∷ is) (b ∷ bs) a g 0) q.1 (first_spelled i is b bs a))
-  spelled_by i is b bs a f k (inr q) e later =
-      let m = mapped_some suc (place_in is f) k (sym (ap (λ (t : Bool). if t then Some 0 else option_map suc (place_in is f)) q.0) ∙ e) in
-      subst (λ (j : ℕ). IsSpelledAs (i ∷ is) (b ∷ bs) a f j) (sym m.2) (later_spelled i is b bs a f m.0 q.0 (later m.0 m.1))
-
-  pub spelled_as_text : (order : List ℕ) (bodies : List (List ℕ)) (a : AllZip (HasBytes h names features) order bodies) (f k : ℕ) → place_in order f ≡ Some k → IsSpelledAs order bodies a f k
-  spelled_as_text [] [] a f k e = absurd (cc)
-  spelled_as_text (i ∷ is) (b ∷ bs) a f k e = spelled_by i is b bs a f k (eqb_tells i f) e (spelled_as_text is bs a.1 f)
-  spelled_as_text [] (b ∷ bs) a f k e = elim a [ ]
-  spelled_as_text (i ∷ is) [] a f k e = elim a [ ]
 
 -- ---- places behind a list
 
@@ -118,10 +79,13 @@ rest_of (suc a) (suc x) h = let d = rest_of a x (omega (arith, h)) in (d.0, let 
 
 -- ---- the types of its locals
 
-module _ {h : Held} {features : Features} {exports : List ExportValue} (r : Records h features exports) (i t : ℕ) (bytes : List ℕ) (b : HasBytes h r.names features i bytes) (e : type_index h.funcs r.names i ≡ Some t)
+module _ {p : Parts} {features : Features} (r : Records p features) (i t : ℕ) (bytes : List ℕ) (b : HasBytes p r.names features i bytes) (e : r.names Types (place (function_type b.local)) ≡ Some t)
     (found_locals : (x : ℕ) → (renaming_of r).locals i x ≡ unwrap_or (place_in (map place b.local.args.items ++ b.written.order) x) 0) where
   abbrev S : Source
-  S = source h r.names features b.local
+  S = source p r.names features b.local
+
+  abbrev slots : List (Option (ValType ℕ))
+  slots = slots_of p
 
   abbrev parameters : List ℕ
   parameters = map place b.local.args.items
@@ -141,14 +105,14 @@ module _ {h : Held} {features : Features} {exports : List ExportValue} (r : Reco
   abbrev ren : Renaming
   ren = renaming_of r
 
-  params_looked_up : map Some params ≡ map (typed_by r.names h.slots) parameters
-  params_looked_up = params_typed r (laid_of r) refl i t bytes b e
+  params_looked_up : map Some params ≡ map (typed_by r.names slots) parameters
+  params_looked_up = params_typed r i t bytes b e
 
-  locals_typed : map Some (params ++ further) ≡ map (typed_by r.names h.slots) all_locals
+  locals_typed : map Some (params ++ further) ≡ map (typed_by r.names slots) all_locals
   locals_typed =
       mapped_append (λ v. Some v) params further
       ∙ ap₂ (λ (x y : List (Option (ValType ℕ))). x ++ y) params_looked_up (further_typed S bytes b.places b.numbers b.written)
-      ∙ sym (mapped_append (typed_by r.names h.slots) parameters b.written.order)
+      ∙ sym (mapped_append (typed_by r.names slots) parameters b.written.order)
 
   -- ---- a local that is used
 
@@ -162,9 +126,6 @@ module _ {h : Held} {features : Features} {exports : List ExportValue} (r : Reco
       let s = some_of (place_in all_locals x) (locals_found r.names (index_in S b.written.order) S.ops (ops_of b.written.texts) b.written.named x u) in
       record { k = s.0; at = s.1; is = found_locals x ∙ ap (λ (o : Option ℕ). unwrap_or o 0) s.1 }
 
-  number_is : (space : Space) (p j : ℕ) → r.names space p ≡ Some j → j ≡ ren.numbers space p
-  number_is space p j g = sym (ap (λ (o : Option ℕ). unwrap_or o 0) g)
-
   kept_apart : (x y : ℕ) → Contains (locals_of (body_of b.local)) x → Contains (locals_of (body_of b.local)) y → ren.locals i x ≡ ren.locals i y → x ≡ y
   kept_apart x y u w same =
       let p = placed x u in
@@ -172,19 +133,19 @@ module _ {h : Held} {features : Features} {exports : List ExportValue} (r : Reco
       let k : p.k ≡ q.k = sym p.is ∙ same ∙ q.is in
       some_inj x y (sym (found_at all_locals x p.k p.at) ∙ ap (λ (n : ℕ). slice_get all_locals n) k ∙ found_at all_locals y q.k q.at)
 
-  type_kept : (x : ℕ) → Contains (locals_of (body_of b.local)) x → slice_get (params ++ further) (ren.locals i x) ≡ option_map (map_val (ren.numbers Types)) (item_at h.slots x)
+  type_kept : (x : ℕ) → Contains (locals_of (body_of b.local)) x → slice_get (params ++ further) (ren.locals i x) ≡ option_map (map_val (ren.numbers Types)) (item_at slots x)
   type_kept x u =
       let p = placed x u in
       let stands : slice_get all_locals p.k ≡ Some x = found_at all_locals x p.k p.at in
-      let typed : option_map (λ (v : ValType ℕ). Some v) (slice_get (params ++ further) p.k) ≡ Some (typed_by r.names h.slots x) =
-      sym (got_map (λ (v : ValType ℕ). Some v) (params ++ further) p.k) ∙ ap (λ (l : List (Option (ValType ℕ))). slice_get l p.k) locals_typed ∙ got_map (typed_by r.names h.slots) all_locals p.k ∙ ap (option_map (typed_by r.names h.slots)) stands in
-      let w : (w : ValType ℕ) × (slice_get (params ++ further) p.k ≡ Some w) × (typed_by r.names h.slots x ≡ Some w) = mapped_some (λ (v : ValType ℕ). Some v) (slice_get (params ++ further) p.k) (typed_by r.names h.slots x) typed in
-      let v : (v : ValType ℕ) × (item_at h.slots x ≡ Some v) × (named_val r.names v ≡ Some w.0) = then_some (named_val r.names) (item_at h.slots x) w.0 w.2 in
-      let renamed : w.0 ≡ map_val (ren.numbers Types) v.0 = val_renamed r.names ren number_is v.0 w.0 v.2 in
+      let typed : option_map (λ (v : ValType ℕ). Some v) (slice_get (params ++ further) p.k) ≡ Some (typed_by r.names slots x) =
+      sym (got_map (λ (v : ValType ℕ). Some v) (params ++ further) p.k) ∙ ap (λ (l : List (Option (ValType ℕ))). slice_get l p.k) locals_typed ∙ got_map (typed_by r.names slots) all_locals p.k ∙ ap (option_map (typed_by r.names slots)) stands in
+      let w : (w : ValType ℕ) × (slice_get (params ++ further) p.k ≡ Some w) × (typed_by r.names slots x ≡ Some w) = mapped_some (λ (v : ValType ℕ). Some v) (slice_get (params ++ further) p.k) (typed_by r.names slots x) typed in
+      let v : (v : ValType ℕ) × (item_at slots x ≡ Some v) × (named_val r.names v ≡ Some w.0) = then_some (named_val r.names) (item_at slots x) w.0 w.2 in
+      let renamed : w.0 ≡ map_val (ren.numbers Types) v.0 = val_renamed r.names ren (number_is r) v.0 w.0 v.2 in
       ap (λ (n : ℕ). slice_get (params ++ further) n) p.is ∙ w.1 ∙ ap (λ (y : ValType ℕ). Some y) renamed ∙ sym (ap (option_map (map_val (ren.numbers Types))) v.1)
 
   many : length params ≡ length parameters
-  many = as_long (λ v. Some v) (typed_by r.names h.slots) params parameters params_looked_up
+  many = as_long (λ v. Some v) (typed_by r.names slots) params parameters params_looked_up
 
   place_by : (x k : ℕ) → Stands parameters x k → place_in (range_with_len 0 (length params)) k ≡ place_in parameters x
   place_by x k (inl s) = let lt : k < length params = omega (arith, s.1, many) in place_range 0 (length params) k k (omega arith) lt ∙ sym s.0
@@ -196,11 +157,11 @@ module _ {h : Held} {features : Features} {exports : List ExportValue} (r : Reco
       ap (place_in (range_with_len 0 (length params))) p.is ∙ place_by x p.k (where_placed parameters b.written.order x p.k p.at)
 
   -- the body in memory, with its parameters and the types of its locals
-  pub same_body : (old : Body) → old.operators ≡ body_of b.local → old.parameters ≡ parameters → ((x : ℕ) → old.local_type x ≡ item_at h.slots x) → SameBody ren i old new
+  pub same_body : (old : Body) → old.operators ≡ body_of b.local → old.parameters ≡ parameters → ((x : ℕ) → old.local_type x ≡ item_at slots x) → SameBody ren i old new
   same_body old ops ps ts =
       let used : (x : ℕ) → IsUsed old x → Contains (locals_of (body_of b.local)) x = λ x u. subst (λ l. Contains (locals_of l) x) ops u in
       record {
-        operators = ops_renamed r.names ren number_is (index_in S b.written.order) (ren.locals i) (λ p j g. sym (found_locals p ∙ ap (λ (o : Option ℕ). unwrap_or o 0) g)) S.ops (ops_of b.written.texts) b.written.named
+        operators = ops_renamed r.names ren (number_is r) (index_in S b.written.order) (ren.locals i) (λ p j g. sym (found_locals p ∙ ap (λ (o : Option ℕ). unwrap_or o 0) g)) S.ops (ops_of b.written.texts) b.written.named
             ∙ ap (λ l. renamed_ops ren (ren.locals i) l) (sym ops);
         apart = λ x y u w same. kept_apart x y (used x u) (used y w) same;
         types = λ x u. type_kept x (used x u) ∙ ap (option_map (map_val (ren.numbers Types))) (sym (ts x));
@@ -213,10 +174,10 @@ module _ {h : Held} {features : Features} {exports : List ExportValue} (r : Reco
   order = b.written.order
 
   abbrev Before : ℕ → ℕ → Type 0
-  Before x y = GoesBefore h.slots (locals_of (body_of b.local)) parameters x y
+  Before x y = GoesBefore slots (locals_of (body_of b.local)) parameters x y
 
   order_differs : IsDistinct nat_eq order
-  order_differs = distinct_by order (sorted_of (λ (x : ℕ) (y : ℕ). x ≢ y) order (locals_differ h.slots (locals_of (body_of b.local)) parameters order b.written.declared.sorted))
+  order_differs = distinct_by order (sorted_of (λ (x : ℕ) (y : ℕ). x ≢ y) order (locals_differ slots (locals_of (body_of b.local)) parameters order b.written.declared.sorted))
 
   among : (k y : ℕ) → slice_get order k ≡ Some y → Contains order y
   among k y at = let g = got_in order k y at in (k, g.0, g.1 y)
@@ -233,14 +194,14 @@ module _ {h : Held} {features : Features} {exports : List ExportValue} (r : Reco
   in_turn x y k l at there g (inr (inl same)) =
       let one : x ≡ y = some_inj x y (sym at ∙ ap (slice_get order) same ∙ there) in
       let self : Before x x = subst (λ (z : ℕ). Before x z) (sym one) g in
-      absurd (turn h.slots (locals_of (body_of b.local)) parameters x x self self)
+      absurd (turn slots (locals_of (body_of b.local)) parameters x x self self)
   in_turn x y k l at there g (inr (inr lt)) =
       let p = got_in order l y there in
       let q = got_in order k x at in
       let back : Before y x = subst (λ (z : ℕ). Before z x) (p.1 x) (subst (λ (z : ℕ). Before (get_or order l x) z) (q.1 x) (b.written.declared.sorted l k x lt q.0)) in
-      absurd (turn h.slots (locals_of (body_of b.local)) parameters x y g back)
+      absurd (turn slots (locals_of (body_of b.local)) parameters x y g back)
 
-  pub locals_rise : (x y : ℕ) → IsDeclared h.slots (locals_of (body_of b.local)) parameters x → IsDeclared h.slots (locals_of (body_of b.local)) parameters y → Before x y → ren.locals i x < ren.locals i y
+  pub locals_rise : (x y : ℕ) → IsDeclared slots (locals_of (body_of b.local)) parameters x → IsDeclared slots (locals_of (body_of b.local)) parameters y → Before x y → ren.locals i x < ren.locals i y
   locals_rise x y dx dy g =
       let cx = (b.written.declared.which x).1 dx in
       let cy = (b.written.declared.which y).1 dy in
@@ -252,7 +213,7 @@ module _ {h : Held} {features : Features} {exports : List ExportValue} (r : Reco
       omega (arith, less, first, second)
 
   operators_renamed : ops_of b.written.texts ≡ renamed_ops ren (ren.locals i) (body_of b.local)
-  operators_renamed = ops_renamed r.names ren number_is (index_in S b.written.order) (ren.locals i) (λ p j g. sym (found_locals p ∙ ap (λ (o : Option ℕ). unwrap_or o 0) g)) S.ops (ops_of b.written.texts) b.written.named
+  operators_renamed = ops_renamed r.names ren (number_is r) (index_in S b.written.order) (ren.locals i) (λ p j g. sym (found_locals p ∙ ap (λ (o : Option ℕ). unwrap_or o 0) g)) S.ops (ops_of b.written.texts) b.written.named
 
   used_again : (y : ℕ) → Contains (locals_of (body_of b.local)) y → Contains (locals_of (ops_of b.written.texts)) (ren.locals i y)
   used_again y u =
@@ -282,4 +243,5 @@ module _ {h : Held} {features : Features} {exports : List ExportValue} (r : Reco
       let x = Contains-map_back (renamed ren) (names_of (body_of b.local)) (DataSegments, d) (subst (λ l. Contains l (DataSegments, d)) (ap names_of operators_renamed ∙ ops_follow ren (ren.locals i) (body_of b.local)) at) in
       let there = names_found r.names (index_in S b.written.order) S.ops (ops_of b.written.texts) b.written.named x.0 x.1 in
       let space : x.0.0 ≡ DataSegments = ap (λ (z : Item). z.0) x.2 in
-      none_there (subst (λ (o : Option ℕ). IsSome o) (r.numbered DataSegments x.0.1) (subst (λ (s : Space). IsSome (r.names s x.0.1)) space there))
+      let named = some_of (r.names DataSegments x.0.1) (subst (λ (s : Space). IsSome (r.names s x.0.1)) space there) in
+      none_there (live_to (parts_view p) DataSegments x.0.1 (planned_live r.numbered r.is_plan DataSegments x.0.1 named.0 named.1))

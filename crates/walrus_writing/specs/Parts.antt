@@ -1,93 +1,98 @@
 -- What the sections hold that a module is written as.
 use Rattle.wasm_entries.specs.Record as entries
-use Rattle.wasm_entries.specs.declared.record.RawExportKind.TheVariants as kinds
 use Rattle.wasm_entries.specs.declared.record.RawExportKind.{RawExportKind}
-use Rattle.std.specs.Prelude.{ℕ, List, Option, Some, option_map, option_and_then, map, ◌≡◌}
+use Rattle.wasm_entries.specs.declared.record.RawExportKind.TheVariants as kinds
+use Rattle.std.specs.Prelude.{ℕ, List, Option, Some, None, option_map, option_and_then, ◌≡◌}
 use Rattle.wasm_frames.specs.Record as wire
-use Rattle.walrus_base.specs.Arena.{item_at, items}
+use Rattle.walrus_base.specs.Arena.{item_at}
 use Rattle.walrus_base.specs.Id.{place}
 use Rattle.walrus_base.specs.Types.{ValType}
 use Rattle.walrus_types.specs.Locals.{locals}
-use Rattle.walrus_types.specs.ModuleTypes.{type_slots}
-use Rattle.walrus_types.specs.Operators.{Types}
-use Rattle.walrus_types.specs.TypeDef.{TypeDef}
-use Rattle.walrus_types.specs.declared.locals.ModuleLocals.{ModuleLocals}
-use Rattle.walrus_types.specs.declared.module_types.ModuleTypes.{ModuleTypes}
-use Rattle.walrus_code.specs.Function.{function_type, body_of}
+use Rattle.walrus_types.specs.Operators.{Space, Types, Functions, Tables, Memories, Tags, Globals, Elements, DataSegments}
+use Rattle.walrus_code.specs.Function.{function_type}
 use Rattle.walrus_code.specs.Names.{Lookup}
 use Rattle.walrus_code.specs.declared.function.LocalFunction.{LocalFunction}
 use Rattle.walrus_bodies.specs.FunctionTypes.{is_function_def}
 use Rattle.walrus_bodies.specs.declared.features.Features.{Features}
 use Rattle.walrus_functions.specs.EmittedBody.{Source, BodyWritten, LacksAnIndex, types_of as local_types}
-use Rattle.walrus_items.specs.Exports.{ExportValue, exported, exports}
-use Rattle.walrus_items.specs.Functions.{FunctionValue, functions, local_at}
-use Rattle.walrus_items.specs.declared.exports.ExportItem.{ExportItem}
-use Rattle.walrus_items.specs.declared.exports.ExportItem.TheVariants as item
-use Rattle.walrus_items.specs.declared.functions.ModuleFunctions.{ModuleFunctions}
+use Rattle.walrus_items.specs.Functions.{FunctionValue, local_at}
+use Rattle.walrus_contents.specs.View.{body, parts_view}
 use Rattle.walrus_contents.specs.declared.parts.Parts.{Parts}
+use Rattle.walrus_model.specs.Abstract as abstract
+use Rattle.walrus_model.specs.Abstract.{Body, Function}
 
--- what a module holds that bodies are written by: the types, the types of locals, and the functions, by their places
-pub record Held : Type 0 where
-  pub types : List (Option TypeDef)
-  pub slots : List (Option (ValType ℕ))
-  pub funcs : List (Option FunctionValue)
+-- the types of the locals of these parts, by their places
+abbrev pub slots_of : Parts → List (Option (ValType ℕ))
+slots_of p = local_types (locals p.locals.now)
 
--- what these types, locals and functions are
-abbrev pub held_in : ModuleTypes → ModuleLocals → ModuleFunctions → Held
-held_in types all funcs = record { types = type_slots types; slots = local_types (locals all); funcs = functions funcs }
-
--- what these parts hold, and their exports
-abbrev pub parts_held : Parts → Held
-parts_held p = held_in p.types.now p.locals.now p.funcs.now
-
-abbrev pub parts_exports : Parts → List ExportValue
-parts_exports p = items (exports p.exports.now)
+-- a function with this body, as it is seen
+abbrev pub function_seen : Parts → LocalFunction → Function
+function_seen p local = record { ty = place (function_type local); kind = abstract.LocalFunction (body p.locals.now local) }
 
 -- the function with a body at a place, with that place, if there is one
 abbrev pub local_in : List (Option FunctionValue) → ℕ → Option (ℕ × LocalFunction)
 local_in funcs number = option_and_then (λ f. local_at number f.kind) (item_at funcs number)
 
--- the index of the type of the function at a place
-abbrev pub type_index : List (Option FunctionValue) → Lookup → ℕ → Option ℕ
-type_index funcs names number = option_and_then (λ f. names Types (place (function_type f.1))) (local_in funcs number)
+-- the index of its type
+abbrev pub index_at : List (Option FunctionValue) → Lookup → ℕ → Option ℕ
+index_at funcs names number = option_and_then (λ f. names Types (place (function_type f.1))) (local_in funcs number)
 
--- the kind of what is exported
-abbrev pub export_kind : ExportItem → RawExportKind
-export_kind (item.Function f) = kinds.Function
-export_kind (item.Table t) = kinds.Table
-export_kind (item.Memory m) = kinds.Memory
-export_kind (item.Global g) = kinds.Global
-export_kind (item.Tag t) = kinds.Tag
+-- ---- the record of a thing under a look-up: none where something that it names has no index
 
--- an export with the index of what it exports
-abbrev pub export_with_index : Lookup → ExportValue → Option entries.Export
-export_with_index names e = option_map (λ index. record { name = e.name; kind = export_kind e.item; index = index }) (names (exported e.item).0 (exported e.item).1)
+-- a function with a body: the index of its type
+abbrev pub type_index_of : Lookup → ℕ → abstract.FunctionKind → Option ℕ
+type_index_of names ty (abstract.LocalFunction b) = names Types ty
+type_index_of names ty (abstract.ImportedFunction i) = None
+type_index_of names ty abstract.Uninitialised = None
 
--- a body to be written, under these indices and with these proposals
-abbrev pub source : Held → Lookup → Features → LocalFunction → Source
-source h names features local = record {
+abbrev pub type_index : Lookup → Function → Option ℕ
+type_index names f = type_index_of names f.ty f.kind
+
+-- the kind of an export that names an item of the space
+abbrev pub kind_in : Space → Option RawExportKind
+kind_in Functions = Some kinds.Function
+kind_in Tables = Some kinds.Table
+kind_in Memories = Some kinds.Memory
+kind_in Globals = Some kinds.Global
+kind_in Tags = Some kinds.Tag
+kind_in Types = None
+kind_in Elements = None
+kind_in DataSegments = None
+
+-- an export
+abbrev pub export_with_index : Lookup → abstract.Export → Option entries.Export
+export_with_index names e = option_and_then (λ kind. option_map (λ index. record { name = e.name; kind = kind; index = index }) (names e.item.0 e.item.1)) (kind_in e.item.0)
+
+-- ---- bodies
+
+-- a body to be written, of a function of a type, under these indices and with these proposals
+abbrev pub source_of : Parts → Lookup → Features → ℕ → Body → Source
+source_of p names features ty b = record {
   names = names;
-  slots = h.slots;
-  def = item_at h.types (place (function_type local));
-  is_function_type = λ t. is_function_def (item_at h.types t);
+  slots = slots_of p;
+  def = (parts_view p).types ty;
+  is_function_type = λ t. is_function_def ((parts_view p).types t);
   features = features;
-  parameters = map place local.args.items;
-  ops = body_of local;
+  parameters = b.parameters;
+  ops = b.operators;
 }
 
+abbrev pub source : Parts → Lookup → Features → LocalFunction → Source
+source p names features local = source_of p names features (place (function_type local)) (body p.locals.now local)
+
 -- the bytes are the body of the function at a place, under these indices
-pub record HasBytes (h : Held) (names : Lookup) (features : Features) (number : ℕ) (bytes : List ℕ) : Type 0 where
+pub record HasBytes (p : Parts) (names : Lookup) (features : Features) (number : ℕ) (bytes : List ℕ) : Type 0 where
   pub local : LocalFunction
-  pub is : local_in h.funcs number ≡ Some (number, local)
+  pub is : (parts_view p).functions number ≡ Some (function_seen p local)
   pub places : List ℕ
   pub numbers : ℕ → Option ℕ
-  pub written : BodyWritten (source h names features local) bytes places numbers
+  pub written : BodyWritten (source p names features local) bytes places numbers
 
 -- the function at a place has a body, and all that this names has an index
-pub record IsIndexed (h : Held) (names : Lookup) (features : Features) (number : ℕ) : Type 0 where
+pub record IsIndexed (p : Parts) (names : Lookup) (features : Features) (number : ℕ) : Type 0 where
   pub local : LocalFunction
-  pub is : local_in h.funcs number ≡ Some (number, local)
-  pub indexed : LacksAnIndex (source h names features local) → ⊥
+  pub is : (parts_view p).functions number ≡ Some (function_seen p local)
+  pub indexed : LacksAnIndex (source p names features local) → ⊥
 
 -- a body's bytes, wherever they lie
 abbrev pub unplaced : List ℕ → wire.Body

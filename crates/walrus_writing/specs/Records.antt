@@ -1,59 +1,77 @@
 -- The records of the sections that a module's parts are written as, and their bytes.
 use Rattle.wasm_entries.specs.Record as entries
 use Rattle.wasm_frames.specs.Record as wire
-use Rattle.std.specs.Prelude.{ℕ, true, List, Some, All, map, ◌≡◌}
+use Rattle.std.specs.Prelude.{ℕ, List, [], ◌∷◌, Option, Some, All, length, map, option_and_then, ◌≡◌, ◌≢◌, ◌<◌, ◌^◌}
 use Rattle.std.specs.List.{AllZip}
 use Rattle.std.specs.Str.{IsUtf8}
 use Rattle.wasm_entries.specs.Record.{Group}
-use Rattle.wasm_wire.specs.ModuleSpelling.{ModuleFits, module_bytes}
-use Rattle.walrus_base.specs.Arena.{entries, items}
+use Rattle.wasm_entries.specs.TypeSpelling.{GroupStands}
+use Rattle.wasm_writer.specs.Spelling.{SectionFits}
+use Rattle.walrus_types.specs.Operators.{Space, Types, Functions}
 use Rattle.walrus_code.specs.Names.{Lookup}
 use Rattle.walrus_bodies.specs.declared.features.Features.{Features}
-use Rattle.walrus_items.specs.Exports.{ExportValue}
-use Rattle.walrus_groups.specs.Indexed.{AreIndexed, AreInOrder}
-use Rattle.walrus_model.specs.Plan.{AreNumbered}
-use Rattle.walrus_writing.specs.Numbered.{planned}
-use Rattle.walrus_writing.specs.Parts.{Held, type_index, export_with_index, HasBytes, unplaced}
-use Rattle.walrus_writing.specs.Sizes.{IsOrder}
-use Rattle.walrus_writing.specs.Local.{all_local}
+use Rattle.walrus_groups.specs.Groups.{types_from}
+use Rattle.walrus_groups.specs.Named.{named_def}
+use Rattle.walrus_contents.specs.View.{parts_view}
+use Rattle.walrus_contents.specs.declared.parts.Parts.{Parts}
+use Rattle.walrus_model.specs.Abstract.{Abstract}
+use Rattle.walrus_model.specs.Plan.{AreNumbered, IsPlan, Plan}
+use Rattle.walrus_model.specs.Spaces.{Thing, look}
+use Rattle.walrus_rules.specs.Examples.{empty_text}
+use Rattle.walrus_rules.specs.Spelling.{written_as}
+use Rattle.walrus_rules.specs.Text.{BodyText, Text, sections_of}
+use Rattle.walrus_writing.specs.Parts.{type_index, export_with_index, HasBytes}
 
--- the records, entry by entry, of what a module holds
-pub record Records (h : Held) (features : Features) (exports : List ExportValue) : Type 0 where
-  -- each function has a body
-  pub all_are_local : all_local (items h.funcs) ≡ true
-  -- the functions in the order in which they are written, and the indices of types and functions
-  pub order : List ℕ
-  pub ordered : IsOrder h.funcs order
+-- the things of a space, in the order of the plan, have these records
+abbrev pub AreRecords : {W : Type 0} → Abstract → Plan → (s : Space) → (Thing s → Option W) → List W → Type 0
+AreRecords v plan s raw ws = map Some ws ≡ map (λ i. option_and_then raw (look v s i)) (plan s)
+
+-- the records, entry by entry, of what a module holds, under the indices that a plan of it gives
+pub record Records (p : Parts) (features : Features) : Type 0 where
   pub names : Lookup
-  pub numbered : AreNumbered names (planned (map (λ e. e.0) (entries h.types)) order)
-  -- the entries of the sections
-  pub raw_types : List Group
-  pub types_are : AreIndexed names (items h.types) raw_types
-  -- each type names only such as may stand before it, or in its group
-  pub in_order : AreInOrder h.types
-  pub raw_functions : List ℕ
-  pub functions_are : map Some raw_functions ≡ map (type_index h.funcs names) order
-  pub raw_exports : List entries.Export
-  pub exports_are : map Some raw_exports ≡ map (export_with_index names) exports
-  pub texts : All (λ e. IsUtf8 e.name) raw_exports
+  pub plan : Plan
+  pub is_plan : IsPlan (parts_view p) plan
+  pub numbered : AreNumbered names plan
+  pub few : (s : Space) → length (plan s) < 2 ^ 32
+  pub types : List Group
+  pub types_are : AreRecords (parts_view p) plan Types (named_def names) (types_from 0 types)
+  pub none_empty : All (λ g. g ≢ []) types
+  pub types_stand : All GroupStands types
+  pub functions : List ℕ
+  pub functions_are : AreRecords (parts_view p) plan Functions (type_index names) functions
   pub bodies : List (List ℕ)
-  pub bodies_are : AllZip (HasBytes h names features) order bodies
+  pub bodies_are : AllZip (HasBytes p names features) (plan Functions) bodies
+  pub exports : List entries.Export
+  pub exports_are : map Some exports ≡ map (export_with_index names) (parts_view p).exports
+  pub texts : All (λ e. IsUtf8 e.name) exports
+
+-- the text of each body
+abbrev pub texts_in : (p : Parts) (names : Lookup) (features : Features) (order : List ℕ) (bodies : List (List ℕ)) → AllZip (HasBytes p names features) order bodies → List BodyText
+texts_in p names features [] [] a = []
+texts_in p names features (i ∷ is) (b ∷ bs) a = record { declarations = a.0.written.declarations; operators = a.0.written.texts } ∷ texts_in p names features is bs a.1
+texts_in p names features [] (b ∷ bs) a = elim a [ ]
+texts_in p names features (i ∷ is) [] a = elim a [ ]
+
+-- the text made of the records
+abbrev pub text_of : {p : Parts} {features : Features} → Records p features → Text
+text_of {p} {features} r = record empty_text {
+  types = r.types;
+  functions = r.functions;
+  exports = r.exports;
+  bodies = texts_in p r.names features (r.plan Functions) r.bodies r.bodies_are;
+}
 
 -- a module of these sections
 abbrev pub sections_with : List Group → List ℕ → List entries.Export → List wire.Body → wire.Module
 sections_with types functions exports bodies = record wire.no_sections { types = types; functions = functions; exports = exports; bodies = bodies }
 
--- the sections that hold the records
-abbrev pub sections_of : {h : Held} {features : Features} {exports : List ExportValue} → Records h features exports → wire.Module
-sections_of r = sections_with r.raw_types r.raw_functions r.raw_exports (map unplaced r.bodies)
-
--- the bytes are those of the sections, which fit
-pub record Spells (h : Held) (features : Features) (exports : List ExportValue) (bytes : List ℕ) : Type 0 where
-  pub records : Records h features exports
-  pub fit : ModuleFits (sections_of records)
-  pub are : bytes ≡ module_bytes (sections_of records)
+-- the bytes are those of the text, which fits
+pub record Spells (p : Parts) (features : Features) (bytes : List ℕ) : Type 0 where
+  pub records : Records p features
+  pub fit : All SectionFits (sections_of (text_of records))
+  pub are : bytes ≡ written_as (text_of records)
 
 -- a count or a size in the sections passes 32 bits
-pub record DoesNotFit (h : Held) (features : Features) (exports : List ExportValue) : Type 0 where
-  pub records : Records h features exports
-  pub too_large : ModuleFits (sections_of records) → ⊥
+pub record DoesNotFit (p : Parts) (features : Features) : Type 0 where
+  pub records : Records p features
+  pub too_large : All SectionFits (sections_of (text_of records)) → ⊥

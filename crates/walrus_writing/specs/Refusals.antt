@@ -1,52 +1,59 @@
 -- Why items that name nothing dead, and that all have an index, can't be written.
 use Rattle.std.specs.Prelude.{ℕ, List, Option, Some, length, ◌≡◌, ◌≤◌, ◌^◌, ◌⊎◌, ⊤, Result, Ok, Err}
-use Rattle.walrus_base.specs.Arena.{entries, items}
+use Rattle.walrus_base.specs.Arena.{items}
+use Rattle.walrus_types.specs.ModuleTypes.{type_slots}
+use Rattle.walrus_types.specs.Operators.{Space}
+use Rattle.walrus_types.specs.TypeDef.{TypeDef}
 use Rattle.walrus_code.specs.Names.{Lookup}
 use Rattle.walrus_code.specs.declared.function.LocalFunction.{LocalFunction}
 use Rattle.walrus_bodies.specs.declared.features.Features.{Features}
-use Rattle.walrus_functions.specs.EmittedBody.{CantBeWritten, HasTooManyLocals}
-use Rattle.walrus_types.specs.TypeDef.{TypeDef}
-use Rattle.walrus_items.specs.Exports.{ExportValue}
-use Rattle.walrus_items.specs.Functions.{local_functions}
+use Rattle.walrus_functions.specs.EmittedBody.{Source, CantBeWritten, HasTooManyLocals}
 use Rattle.walrus_groups.specs.Indexed.{HasExact}
-use Rattle.walrus_writing.specs.Parts.{Held, local_in, source}
+use Rattle.walrus_contents.specs.View.{parts_view}
+use Rattle.walrus_contents.specs.declared.parts.Parts.{Parts}
+use Rattle.walrus_model.specs.Plan.{IsPlan, Plan}
+use Rattle.walrus_writing.specs.Parts.{function_seen, source}
 use Rattle.walrus_writing.specs.Records.{DoesNotFit}
 use Rattle.walrus_parts.specs.declared.error.Error.{Error}
 use Rattle.walrus_parts.specs.declared.error.Error.TheVariants.{Memory, NotWritable, TooLarge}
 
--- a function has a body that can't be spelled, under some indices
-abbrev pub HasUnwritable : Held → Features → Type 0
-HasUnwritable h features = (names : Lookup) × ((number : ℕ) × ((local : LocalFunction) × ((local_in h.funcs number ≡ Some (number, local)) × CantBeWritten (source h names features local))))
+-- a function has such a body, under some indices
+abbrev pub HasBody : Parts → Features → (Source → Type 0) → Type 0
+HasBody p features P = (names : Lookup) × ((number : ℕ) × ((local : LocalFunction) × (((parts_view p).functions number ≡ Some (function_seen p local)) × P (source p names features local))))
 
--- a function has more than 2 ^ 32 locals, or as many declared ones
-abbrev pub HasTooManyIn : Held → Features → Type 0
-HasTooManyIn h features = (names : Lookup) × ((number : ℕ) × ((local : LocalFunction) × ((local_in h.funcs number ≡ Some (number, local)) × HasTooManyLocals (source h names features local))))
+-- a space of the plan has too many items
+abbrev pub HasTooMany : Plan → Type 0
+HasTooMany plan = (space : Space) × (2 ^ 32 ≤ length (plan space))
 
--- a count or a size passes 32 bits: the types, the functions, the locals of one, or what is written
-abbrev pub PassesLimits : Held → Features → List ExportValue → Type 0
-PassesLimits h features exports = (2 ^ 32 ≤ length (entries h.types)) ⊎ ((2 ^ 32 ≤ length (local_functions (entries h.funcs))) ⊎ (HasTooManyIn h features ⊎ DoesNotFit h features exports))
+-- so has one of a plan of the module
+abbrev pub HasTooManyItems : Parts → Type 0
+HasTooManyItems p = (plan : Plan) × (IsPlan (parts_view p) plan × HasTooMany plan)
+
+-- a count or a size passes 32 bits: the items of a space, the locals of a function, or what is written
+abbrev pub PassesLimits : Parts → Features → Type 0
+PassesLimits p features = HasTooManyItems p ⊎ (HasBody p features HasTooManyLocals ⊎ DoesNotFit p features)
 
 -- items that name nothing dead and all have an index: each refusal comes with its cause
-abbrev pub RefusesItems : {X : Type 0} → Held → Features → List ExportValue → Result X Error → Type 0
-RefusesItems h features exports (Ok x) = ⊤
-RefusesItems h features exports (Err NotWritable) = HasUnwritable h features ⊎ HasExact (items h.types)
-RefusesItems h features exports (Err TooLarge) = PassesLimits h features exports
-RefusesItems h features exports (Err (Memory e)) = ⊤
-RefusesItems h features exports (Err _) = ⊥
+abbrev pub RefusesItems : {X : Type 0} → Parts → Features → Result X Error → Type 0
+RefusesItems p features (Ok x) = ⊤
+RefusesItems p features (Err NotWritable) = HasBody p features CantBeWritten ⊎ HasExact (items (type_slots p.types.now))
+RefusesItems p features (Err TooLarge) = PassesLimits p features
+RefusesItems p features (Err (Memory e)) = ⊤
+RefusesItems p features (Err _) = ⊥
 
 -- ---- refusals of the parts
 
--- items are numbered: there are too many of them
+-- the items of one space are numbered: there are too many of them
 abbrev pub RefusesCount : ℕ → Error → Type 0
 RefusesCount count (Memory e) = ⊤
 RefusesCount count TooLarge = 2 ^ 32 ≤ count
 RefusesCount count _ = ⊥
 
--- types and functions are numbered
-abbrev pub RefusesCounts : ℕ → ℕ → Error → Type 0
-RefusesCounts types functions (Memory e) = ⊤
-RefusesCounts types functions TooLarge = (2 ^ 32 ≤ types) ⊎ (2 ^ 32 ≤ functions)
-RefusesCounts types functions _ = ⊥
+-- the items of all spaces are numbered
+abbrev pub RefusesCounts : Plan → Error → Type 0
+RefusesCounts plan (Memory e) = ⊤
+RefusesCounts plan TooLarge = HasTooMany plan
+RefusesCounts plan _ = ⊥
 
 -- types are spelled: an exact heap type stands in one
 abbrev pub RefusesTypes : List (Option TypeDef) → Error → Type 0
@@ -55,8 +62,8 @@ RefusesTypes types NotWritable = HasExact (items types)
 RefusesTypes types _ = ⊥
 
 -- bodies are spelled
-abbrev pub RefusesBodies : Held → Features → Error → Type 0
-RefusesBodies h features (Memory e) = ⊤
-RefusesBodies h features NotWritable = HasUnwritable h features
-RefusesBodies h features TooLarge = HasTooManyIn h features
-RefusesBodies h features _ = ⊥
+abbrev pub RefusesBodies : Parts → Features → Error → Type 0
+RefusesBodies p features (Memory e) = ⊤
+RefusesBodies p features NotWritable = HasBody p features CantBeWritten
+RefusesBodies p features TooLarge = HasBody p features HasTooManyLocals
+RefusesBodies p features _ = ⊥

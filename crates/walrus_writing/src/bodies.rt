@@ -4,7 +4,7 @@ ghost use Rattle.std.specs.List.{AllZip};
 ghost use Rattle.walrus_base.specs.Id.{place};
 ghost use Rattle.walrus_code.specs.Indices.{index_of};
 ghost use Rattle.walrus_items.specs.Functions.{functions};
-ghost use Rattle.walrus_writing.specs.Parts.{local_in, HasBytes, IsIndexed, parts_held};
+ghost use Rattle.walrus_writing.specs.Parts.{local_in, HasBytes, IsIndexed};
 ghost use Rattle.walrus_writing.specs.Refusals.{RefusesBodies};
 
 use std::alloc::Global;
@@ -36,12 +36,11 @@ pub fn local_of(funcs: &ModuleFunctions, id: FunctionId) -> Option<&LocalFunctio
 
 // The body of the function of this id, under these indices.
 fn one_body(alloc: Global, under: Indexed<'_, '_, '_>, id: FunctionId) -> Result<Vec<u8>>
-    requires indexed { IsIndexed (parts_held under.parts) (index_of under.indices.now) under.features.now
-        (place id) }
+    requires indexed { IsIndexed under.parts (index_of under.indices.now) under.features.now (place id) }
     ensures value { IfOk result (λ bytes.
-        HasBytes (parts_held under.entry.parts) (index_of under.entry.indices.now) under.entry.features.now
+        HasBytes under.entry.parts (index_of under.entry.indices.now) under.entry.features.now
         (place id) bytes.items) }
-    ensures fails { IfErr result (RefusesBodies (parts_held under.entry.parts) under.entry.features.now) }
+    ensures fails { IfErr result (RefusesBodies under.entry.parts under.entry.features.now) }
 {
     let Some(local) = local_of(under.parts.funcs, id) else {
         return Err(Error::NoIndex);
@@ -64,13 +63,12 @@ pub fn body_bytes(
     order: &[FunctionId],
 ) -> Result<Vec<Vec<u8>>>
     requires indexed { All (λ id.
-        IsIndexed (parts_held under.parts) (index_of under.indices.now) under.features.now
-        (place id)) order.now }
+        IsIndexed under.parts (index_of under.indices.now) under.features.now (place id)) order.now }
     ensures value { IfOk result (λ bodies. AllZip (λ id bytes.
-        HasBytes (parts_held under.entry.parts) (index_of under.entry.indices.now) under.entry.features.now
+        HasBytes under.entry.parts (index_of under.entry.indices.now) under.entry.features.now
         (place id) bytes.items)
         order.now bodies.items) }
-    ensures fails { IfErr result (RefusesBodies (parts_held under.entry.parts) under.entry.features.now) }
+    ensures fails { IfErr result (RefusesBodies under.entry.parts under.entry.features.now) }
 {
     let mut bodies = Vec::new(alloc);
     for id in order {

@@ -1,16 +1,17 @@
 //! The order in which items are written, and their indices ("Structure > Modules > Indices").
-ghost use Rattle.std.specs.Prelude.{◌≡◌, ℕ, map, length, IfOk, IfErr, IsOkUnless, None, nat_eq};
+ghost use Rattle.std.specs.Prelude.{◌≡◌, ◌<◌, ◌^◌, ℕ, map, length, IfOk, IfErr, IsOkUnless, None, nat_eq, true};
 ghost use Rattle.walrus_base.specs.Arena.{entries, items};
 ghost use Rattle.std.specs.List.{IsDistinct};
 ghost use Rattle.walrus_base.specs.Id.{place};
 ghost use Rattle.walrus_types.specs.ModuleTypes.{type_slots};
 ghost use Rattle.walrus_code.specs.Indices.{index_of, given};
-ghost use Rattle.walrus_types.specs.Operators.{Types, Functions};
+ghost use Rattle.walrus_types.specs.Operators.{Space, Types, Functions};
 ghost use Rattle.walrus_items.specs.Functions.{functions};
-ghost use Rattle.walrus_model.specs.Plan.{AreNumbered};
+ghost use Rattle.walrus_model.specs.Plan.{AreNumbered, IsPlan};
+ghost use Rattle.walrus_contents.specs.View.{parts_view};
 ghost use Rattle.walrus_parts.specs.Errors.{out_of_memory};
 ghost use Rattle.walrus_writing.specs.Local.{all_local, is_local};
-ghost use Rattle.walrus_writing.specs.Numbered.{NumbersTypes, NumbersFunctions, planned};
+ghost use Rattle.walrus_writing.specs.Numbered.{NumbersSpace};
 ghost use Rattle.walrus_writing.specs.Places.{places};
 ghost use Rattle.walrus_writing.specs.Refusals.{RefusesCount, RefusesCounts};
 ghost use Rattle.walrus_writing.specs.Sizes.{local_sizes, IsOrder};
@@ -38,6 +39,8 @@ impl Plan {
             ≡ map (λ e. e.0) (entries (type_slots parts.entry.types.now))) }
         ensures functions { IfOk result (λ plan. IsOrder (functions parts.entry.funcs.now)
             (map place plan.functions.items)) }
+        ensures plan { IfOk result (λ plan. all_local (items (functions parts.entry.funcs.now)) ≡ true
+            → IsPlan (parts_view parts.entry) (places plan)) }
         ensures fails { IsOkUnless result out_of_memory }
     {
         Ok(Plan {
@@ -49,11 +52,10 @@ impl Plan {
     /// The index of each item; what the plan doesn't hold has none. Refused with `TooLarge` where an index space has 2^32 items or more,
     /// and with `Memory`.
     pub fn indices(&self, alloc: Global) -> Result<IdsToIndices>
-        requires types { IsDistinct nat_eq (map place self.now.types.items) }
-        requires functions { IsDistinct nat_eq (map place self.now.functions.items) }
+        requires distinct { (space : Space) → IsDistinct nat_eq (places self.now space) }
         ensures value { IfOk result (λ indices. AreNumbered (index_of indices) (places self.now)) }
-        ensures fails { IfErr result (RefusesCounts (length self.now.types.items)
-            (length self.now.functions.items)) }
+        ensures few { IfOk result (λ _. (space : Space) → length (places self.now space) < 2 ^ 32) }
+        ensures fails { IfErr result (RefusesCounts (places self.now)) }
     {
         let mut indices = IdsToIndices::new(alloc);
         number_types(&mut indices, self.types.as_slice())?;
@@ -139,7 +141,8 @@ fn number_types(indices: &mut IdsToIndices, order: &[TypeId]) -> Result<()>
     requires distinct { IsDistinct nat_eq (map place order.now) }
     requires none { (number : ℕ) → index_of indices.old Types number ≡ None }
     requires count { given indices.old Types ≡ 0 }
-    ensures value { IfOk result (λ _. NumbersTypes indices.old indices.new (map place order.now)) }
+    ensures value { IfOk result (λ _. NumbersSpace Types indices.old indices.new (map place order.now)) }
+    ensures few { IfOk result (λ _. length order.now < 2 ^ 32) }
     ensures fails { IfErr result (RefusesCount (length order.now)) }
 {
     if order.len() > u32::MAX as usize {
@@ -156,7 +159,8 @@ fn number_functions(indices: &mut IdsToIndices, order: &[FunctionId]) -> Result<
     requires distinct { IsDistinct nat_eq (map place order.now) }
     requires none { (number : ℕ) → index_of indices.old Functions number ≡ None }
     requires count { given indices.old Functions ≡ 0 }
-    ensures value { IfOk result (λ _. NumbersFunctions indices.old indices.new (map place order.now)) }
+    ensures value { IfOk result (λ _. NumbersSpace Functions indices.old indices.new (map place order.now)) }
+    ensures few { IfOk result (λ _. length order.now < 2 ^ 32) }
     ensures fails { IfErr result (RefusesCount (length order.now)) }
 {
     if order.len() > u32::MAX as usize {

@@ -1,5 +1,5 @@
 //! The records of the sections that a module is written as ("Binary Format > Modules").
-ghost use Rattle.std.specs.Prelude.{◌≡◌, map, All, Some, IsSome, IfOk, IfErr, IfSome, IsOkUnless, option_map};
+ghost use Rattle.std.specs.Prelude.{◌≡◌, map, All, Some, IsSome, IfOk, IfErr, IfSome, IsOkUnless, option_and_then, option_map};
 ghost use Rattle.std.specs.Str.{IsUtf8};
 ghost use Rattle.walrus_base.specs.Arena.{items};
 ghost use Rattle.walrus_base.specs.Id.{place};
@@ -8,15 +8,17 @@ ghost use Rattle.walrus_groups.specs.Indexed.{NumbersTypes, AreIndexed, LacksAnI
 ghost use Rattle.walrus_code.specs.Indices.{index_of};
 ghost use Rattle.walrus_items.specs.Exports.{exports, export_value, exported};
 ghost use Rattle.walrus_items.specs.Functions.{functions};
+ghost use Rattle.walrus_contents.specs.View.{export_of, parts_view};
 ghost use Rattle.walrus_parts.specs.Errors.{out_of_memory};
 ghost use Rattle.wasm_entries.specs.Record.{group, export_entry};
 ghost use Rattle.wasm_frames.specs.Record.{body_record, sections};
-ghost use Rattle.walrus_writing.specs.Parts.{type_index, export_kind, export_with_index, unplaced};
+ghost use Rattle.walrus_writing.specs.Parts.{index_at, type_index, kind_in, export_with_index, unplaced};
 ghost use Rattle.walrus_writing.specs.Records.{sections_with};
 ghost use Rattle.walrus_writing.specs.Refusals.{RefusesTypes};
 
 use crate::bodies::local_of;
 use std::alloc::Global;
+use walrus_contents::Parts;
 use walrus_groups::index_types;
 use walrus_ir::{FunctionId, IdsToIndices, ModuleTypes};
 use walrus_items::{Export, ExportItem, ModuleExports, ModuleFunctions};
@@ -39,30 +41,38 @@ pub fn raw_types(
     Ok(groups)
 }
 
-// The index of a function's type.
-fn raw_function(funcs: &ModuleFunctions, id: FunctionId, indices: &IdsToIndices) -> Option<u32>
-    ensures { result ≡ type_index (functions funcs.now) (index_of indices.now) (place id) }
+// The index of a function's type, if the function has a body.
+fn index_of_type(funcs: &ModuleFunctions, id: FunctionId, indices: &IdsToIndices) -> Option<u32>
+    ensures { result ≡ index_at (functions funcs.now) (index_of indices.now) (place id) }
 {
     let local = local_of(funcs, id)?;
     indices.get_type_index(local.ty())
 }
 
+fn raw_function(parts: Parts<'_>, id: FunctionId, indices: &IdsToIndices) -> Option<u32>
+    ensures { result ≡ option_and_then (type_index (index_of indices.now))
+        ((parts_view parts.entry).functions (place id)) }
+{
+    index_of_type(parts.funcs, id, indices)
+}
+
 // The index of each function's type, in the order of the functions.
 pub fn raw_functions(
     alloc: Global,
-    funcs: &ModuleFunctions,
+    parts: Parts<'_>,
     order: &[FunctionId],
     indices: &IdsToIndices,
 ) -> Result<Vec<u32>>
-    requires indexed { All (λ id. IsSome (type_index (functions funcs.now) (index_of indices.now) (place id)))
-        order.now }
+    requires indexed { All (λ id. IsSome (option_and_then (type_index (index_of indices.now))
+        ((parts_view parts).functions (place id)))) order.now }
     ensures value { IfOk result (λ raw. map Some raw.items
-        ≡ map (λ id. type_index (functions funcs.now) (index_of indices.now) (place id)) order.now) }
+        ≡ map (λ id. option_and_then (type_index (index_of indices.now))
+        ((parts_view parts.entry).functions (place id))) order.now) }
     ensures fails { IsOkUnless result out_of_memory }
 {
     let mut raw = Vec::with_capacity(alloc, order.len())?;
     for id in order {
-        let Some(index) = raw_function(funcs, *id, indices) else {
+        let Some(index) = raw_function(parts, *id, indices) else {
             return Err(Error::NoIndex);
         };
         raw.push(index)?;
@@ -72,20 +82,21 @@ pub fn raw_functions(
 
 fn raw_export<'a>(export: &'a Export, indices: &IdsToIndices) -> Option<RawExport<'a>>
     ensures value { option_map export_entry result ≡ export_with_index (index_of indices.now)
-        (export_value export.now) }
+        (export_of (export_value export.now)) }
     ensures text { IfSome result (λ raw. IsUtf8 raw.name.now) }
 {
+    let kind = raw_kind(export.item);
     let index = index_of_item(export.item, indices)?;
     Some(RawExport {
         name: export.name.as_str(),
-        kind: raw_kind(export.item),
+        kind,
         index,
     })
 }
 
 // The kind of what is exported.
 fn raw_kind(item: ExportItem) -> RawExportKind
-    ensures { result ≡ export_kind item }
+    ensures { kind_in (exported item).0 ≡ Some result }
 {
     match item {
         ExportItem::Function(_) => RawExportKind::Function,
@@ -114,10 +125,11 @@ pub fn raw_exports<'a>(
     all_exports: &'a ModuleExports,
     indices: &IdsToIndices,
 ) -> Result<Vec<RawExport<'a>>>
-    requires indexed { All (λ e. IsSome e) (map (export_with_index (index_of indices.now))
+    requires indexed { All (λ e. IsSome e) (map (λ v. export_with_index (index_of indices.now) (export_of v))
         (items (exports all_exports.now))) }
     ensures value { IfOk result (λ raw. map (λ e. Some (export_entry e)) raw.items
-        ≡ map (export_with_index (index_of indices.now)) (items (exports all_exports.now))) }
+        ≡ map (λ v. export_with_index (index_of indices.now) (export_of v))
+        (items (exports all_exports.now))) }
     ensures text { IfOk result (λ raw. All (λ e. IsUtf8 e.name.now) raw.items) }
     ensures fails { IsOkUnless result out_of_memory }
 {

@@ -10,7 +10,6 @@ ghost use Rattle.walrus_model.specs.Dead.{HasDead};
 ghost use Rattle.walrus_rules.specs.SoFar.{RefusesSoFar};
 ghost use Rattle.walrus_contents.specs.View.{parts_view};
 ghost use Rattle.walrus_writing.specs.Emitted.{IsEmitted, IsPlain, told};
-ghost use Rattle.walrus_writing.specs.Parts.{parts_exports, parts_held};
 ghost use Rattle.walrus_writing.specs.Records.{Spells};
 ghost use Rattle.walrus_writing.specs.Refusals.{RefusesItems};
 
@@ -56,15 +55,14 @@ fn write_items(alloc: Global, parts: Parts<'_>, features: &Features) -> Result<V
     requires there { HasDead (parts_view parts) → ⊥ }
     requires local { all_local (items (functions parts.funcs.now)) ≡ true }
     requires in_order { AreInOrder (type_slots parts.types.now) }
-    ensures spells { IfOk result (λ bytes. Spells (parts_held parts.entry) features.now
-        (parts_exports parts.entry) bytes.items) }
-    ensures refused { RefusesItems (parts_held parts.entry) features.now (parts_exports parts.entry) result }
+    ensures spells { IfOk result (λ bytes. Spells parts.entry features.now bytes.items) }
+    ensures refused { RefusesItems parts.entry features.now result }
 {
     let plan = Plan::new(alloc, parts)?;
     let indices = plan.indices(alloc)?;
     let order = plan.functions.as_slice();
     let types = raw_types(alloc, parts.types, &indices)?;
-    let functions = raw_functions(alloc, parts.funcs, order, &indices)?;
+    let functions = raw_functions(alloc, parts, order, &indices)?;
     let under = Indexed {
         parts,
         indices: &indices,

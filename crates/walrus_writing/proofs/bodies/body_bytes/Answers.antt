@@ -2,13 +2,13 @@ use Rattle.std.proofs.Common.{sym, subst, ◌+◌, take}
 use Rattle.std.specs.List.{AllZip}
 use Rattle.walrus_base.specs.Id.{place}
 use Rattle.walrus_code.specs.Indices.{index_of}
-use Rattle.walrus_writing.specs.Parts.{parts_held, HasBytes}
+use Rattle.walrus_writing.specs.Parts.{HasBytes}
 use Rattle.walrus_writing.proofs.Turns.{zip_turn}
 use Rattle.walrus_writing.proofs.bodies.body_bytes.Goals as goal
 
 pub loop-id-preserved : goal.loop-id-preserved
 loop-id-preserved c =
-    let held = parts_held c.args.under.parts in
+    let held = c.args.under.parts in
     subst (λ bs. AllZip (λ id bytes. HasBytes held (index_of c.args.under.indices.now) c.args.under.features.now (place id) bytes.items) (take (c.loop-id.id-index + 1) c.args.order.now) bs) (sym c.in_ok-push.ensures.items)
     (zip_turn (λ id bytes. HasBytes held (index_of c.args.under.indices.now) c.args.under.features.now (place id) bytes.items) c.args.order.now c.loop-id.id-index _ c.loop-id.bodies.items _ c.loop-id-test.true c.loop-id.invariant c.in_ok-one.ensures.value)
 

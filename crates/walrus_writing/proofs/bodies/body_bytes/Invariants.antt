@@ -2,9 +2,9 @@ use Rattle.std.proofs.Common.{take}
 use Rattle.std.specs.List.{AllZip}
 use Rattle.walrus_base.specs.Id.{place}
 use Rattle.walrus_code.specs.Indices.{index_of}
-use Rattle.walrus_writing.specs.Parts.{parts_held, HasBytes}
+use Rattle.walrus_writing.specs.Parts.{HasBytes}
 use Rattle.walrus_writing.proofs.bodies.body_bytes.Given as goal
 
 -- the bodies so far are those of the functions so far
 abbrev pub invariant-loop-id : goal.invariant-loop-id
-invariant-loop-id l = AllZip (λ id bytes. HasBytes (parts_held l.under.parts) (index_of l.under.indices.now) l.under.features.now (place id) bytes.items) (take l.id-index l.order) l.bodies.items
+invariant-loop-id l = AllZip (λ id bytes. HasBytes l.under.parts (index_of l.under.indices.now) l.under.features.now (place id) bytes.items) (take l.id-index l.order) l.bodies.items

@@ -6,6 +6,7 @@ use Rattle.wasm_entries.specs.declared.record.RawExport.{RawExport}
 use Rattle.walrus_base.specs.Arena.{items}
 use Rattle.walrus_code.specs.Indices.{index_of}
 use Rattle.walrus_items.specs.Exports.{exports, exports_left}
+use Rattle.walrus_contents.specs.View.{export_of}
 use Rattle.walrus_writing.specs.Parts.{export_with_index}
 use Rattle.walrus_writing.proofs.Refusing.{next_has}
 use Rattle.walrus_writing.proofs.Turns.{list_turn}
@@ -13,15 +14,15 @@ use Rattle.walrus_writing.proofs.records.raw_exports.Goals as goal
 
 pub loop-export-preserved : goal.loop-export-preserved
 loop-export-preserved c =
-    let all = map (export_with_index (index_of c.args.indices.now)) (items (exports c.args.all_exports.now)) in (
+    let all = map (λ v. export_with_index (index_of c.args.indices.now) (export_of v)) (items (exports c.args.all_exports.now)) in (
       tt,
       tt,
       rw (c.in_ok-push.ensures.items) (All-push (λ (e : RawExport). IsUtf8 e.name.now) c.loop-export.raw.items c.in-Some-raw_export.one c.loop-export.invariant.2 c.in-Some-raw_export.ensures.text),
-      ap (λ (raw : List RawExport). map (λ e. Some (export_entry e)) raw ++ map (export_with_index (index_of c.args.indices.now)) (exports_left c.next.new.self)) c.in_ok-push.ensures.items
-          ∙ list_turn (λ e. Some (export_entry e)) (export_with_index (index_of c.args.indices.now)) c.loop-export.raw.items c.in-Some-raw_export.one _ _ _ all c.loop-export.invariant.3 c.in-Some.ensures.steps c.in-Some-raw_export.ensures.value,
+      ap (λ (raw : List RawExport). map (λ e. Some (export_entry e)) raw ++ map (λ v. export_with_index (index_of c.args.indices.now) (export_of v)) (exports_left c.next.new.self)) c.in_ok-push.ensures.items
+          ∙ list_turn (λ e. Some (export_entry e)) (λ v. export_with_index (index_of c.args.indices.now) (export_of v)) c.loop-export.raw.items c.in-Some-raw_export.one _ _ _ all c.loop-export.invariant.3 c.in-Some.ensures.steps c.in-Some-raw_export.ensures.value,
     )
 
 pub returns-in_default-clause-fails : goal.returns-in_default-clause-fails
 returns-in_default-clause-fails c =
-    let all = map (export_with_index (index_of c.args.indices.now)) (items (exports c.args.all_exports.now)) in
-    absurd (next_has (map (λ e. Some (export_entry e)) c.loop-export.raw.items) (export_with_index (index_of c.args.indices.now)) _ _ _ all c.loop-export.invariant.3 c.in-Some.ensures.steps c.requires.indexed c.in_default.ensures.value)
+    let all = map (λ v. export_with_index (index_of c.args.indices.now) (export_of v)) (items (exports c.args.all_exports.now)) in
+    absurd (next_has (map (λ e. Some (export_entry e)) c.loop-export.raw.items) (λ v. export_with_index (index_of c.args.indices.now) (export_of v)) _ _ _ all c.loop-export.invariant.3 c.in-Some.ensures.steps c.requires.indexed c.in_default.ensures.value)

@@ -5,6 +5,7 @@ use Rattle.wasm_entries.specs.Record.{export_entry}
 use Rattle.walrus_base.specs.Arena.{items}
 use Rattle.walrus_code.specs.Indices.{index_of}
 use Rattle.walrus_items.specs.Exports.{exports, exports_left}
+use Rattle.walrus_contents.specs.View.{export_of}
 use Rattle.walrus_writing.specs.Parts.{export_with_index}
 use Rattle.walrus_writing.proofs.records.raw_exports.Given as goal
 
@@ -14,4 +15,4 @@ invariant-loop-export l =
     goal.iterator-loop-export.can_next l.export-iterator
     × goal.iterator-loop-export.is_finite l.export-iterator
     × All (λ e. IsUtf8 e.name.now) l.raw.items
-    × (map (λ e. Some (export_entry e)) l.raw.items ++ map (export_with_index (index_of l.indices)) (exports_left l.export-iterator) ≡ map (export_with_index (index_of l.indices)) (items (exports l.all_exports)))
+    × (map (λ e. Some (export_entry e)) l.raw.items ++ map (λ v. export_with_index (index_of l.indices) (export_of v)) (exports_left l.export-iterator) ≡ map (λ v. export_with_index (index_of l.indices) (export_of v)) (items (exports l.all_exports)))

@@ -1,98 +1,75 @@
-use Rattle.std.proofs.Common.{◌∙◌, ℕ, map, sym, ap, subst}
-use Rattle.std.specs.Prelude.{nat_eq}
+use Rattle.std.proofs.Common.{◌∙◌, ℕ, map, ap, refl, subst}
+use Rattle.std.specs.Prelude.{option_and_then}
 use Rattle.std.specs.Global.{Vec}
-use Rattle.std.specs.List.{AllZip, IsDistinct}
+use Rattle.std.specs.List.{AllZip}
 use Rattle.std.proofs.lemmas.Result.{err_from_is_err_and}
-use Rattle.wasm_entries.specs.Record.{group, export_entry}
 use Rattle.walrus_base.specs.Id.{place}
-use Rattle.walrus_types.specs.ModuleTypes.{type_slots}
 use Rattle.walrus_types.specs.Operators.{Types}
+use Rattle.walrus_types.specs.Shape.{place_in}
 use Rattle.walrus_code.specs.Indices.{index_of}
-use Rattle.walrus_items.specs.Functions.{functions}
-use Rattle.walrus_model.proofs.Lists.{map-map}
-use Rattle.walrus_writing.specs.Parts.{parts_exports, parts_held, type_index, HasBytes, unplaced}
-use Rattle.walrus_writing.specs.Records.{sections_with}
-use Rattle.walrus_writing.proofs.Differ.{places_differ, order_differs}
+use Rattle.walrus_contents.specs.View.{parts_view}
+use Rattle.walrus_writing.specs.Parts.{type_index, HasBytes, unplaced}
+use Rattle.walrus_writing.specs.Places.{places}
 use Rattle.walrus_writing.proofs.Indexed.{ids_indexed, ids_typed, no_type_lacks, exports_indexed}
-use Rattle.walrus_writing.proofs.Numbering.{numbered_so}
-use Rattle.walrus_writing.proofs.Refusing.{counts_refused, types_refused, bodies_refused, records_of, records_written, records_refused}
+use Rattle.walrus_writing.proofs.Refusing.{counts_refused, types_refused, bodies_refused, records_written, records_refused}
 use Rattle.walrus_writing.proofs.write.write_items.Goals as goal
 
 pub indices-requires : goal.indices-requires
-indices-requires c = record {
-  types = subst (λ ps. IsDistinct nat_eq ps) (sym c.in_ok-plan.ensures.types) (places_differ (type_slots c.args.parts.types.now));
-  functions = order_differs (functions c.args.parts.funcs.now) _ c.in_ok-plan.ensures.functions;
-}
+indices-requires c = record { distinct = λ s. ((c.in_ok-plan.ensures.plan c.requires.local).holds s).differ }
 
 pub returns-in_err-indices-clause-refused : goal.returns-in_err-indices-clause-refused
 returns-in_err-indices-clause-refused c =
     let p = err_from_is_err_and c.from_residual-in_err-indices.result c.from_residual-in_err-indices.ensures.1 in
-    rw (p.1, p.2) (counts_refused (parts_held c.args.parts) c.args.features.now (parts_exports c.args.parts) (Vec ℕ) c.in_ok-plan.plan.types.items c.in_ok-plan.plan.functions.items _ c.in_ok-plan.ensures.types c.in_ok-plan.ensures.functions c.in_err-indices.ensures.fails)
+    rw (p.1, p.2) (counts_refused c.args.parts c.args.features.now (Vec ℕ) (places c.in_ok-plan.plan) _ (c.in_ok-plan.ensures.plan c.requires.local) c.in_err-indices.ensures.fails)
 
 pub raw_types-requires : goal.raw_types-requires
-raw_types-requires c =
-    let names = index_of c.in_ok-indices.indices in
-    let numbered = numbered_so _ _ _ _ c.in_ok-plan.ensures.types c.in_ok-indices.ensures.value in
-    record {
-      numbered = λ t. numbered Types t;
-      indexed = no_type_lacks c.args.parts c.requires.there c.requires.local names _ c.in_ok-plan.ensures.functions numbered;
-    }
+raw_types-requires c = record {
+  numbered = λ t. c.in_ok-indices.ensures.value Types t ∙ ap (λ ps. place_in ps t) c.in_ok-plan.ensures.types;
+  indexed = no_type_lacks c.args.parts c.requires.there c.requires.local (index_of c.in_ok-indices.indices) (places c.in_ok-plan.plan) (c.in_ok-plan.ensures.plan c.requires.local) c.in_ok-indices.ensures.value;
+}
 
 pub returns-in_err-types-clause-refused : goal.returns-in_err-types-clause-refused
 returns-in_err-types-clause-refused c =
     let p = err_from_is_err_and c.from_residual-in_err-types.result c.from_residual-in_err-types.ensures.1 in
-    rw (p.1, p.2) (types_refused (parts_held c.args.parts) c.args.features.now (parts_exports c.args.parts) (Vec ℕ) _ c.in_err-types.ensures.fails)
+    rw (p.1, p.2) (types_refused c.args.parts c.args.features.now (Vec ℕ) _ c.in_err-types.ensures.fails)
 
 pub raw_functions-requires : goal.raw_functions-requires
-raw_functions-requires c =
-    let names = index_of c.in_ok-indices.indices in
-    let numbered = numbered_so _ _ _ _ c.in_ok-plan.ensures.types c.in_ok-indices.ensures.value in
-    record { indexed = ids_typed c.args.parts names c.in_ok-plan.plan.functions.items _ c.requires.there c.requires.local c.in_ok-plan.ensures.functions numbered c.as_slice-order.ensures.value }
+raw_functions-requires c = record {
+  indexed = ids_typed c.args.parts (index_of c.in_ok-indices.indices) (places c.in_ok-plan.plan) c.in_ok-plan.plan.functions.items _ c.requires.there c.requires.local (c.in_ok-plan.ensures.plan c.requires.local) c.in_ok-indices.ensures.value refl c.as_slice-order.ensures.value;
+}
 
 pub raw_exports-requires : goal.raw_exports-requires
-raw_exports-requires c =
-    let names = index_of c.in_ok-indices.indices in
-    let numbered = numbered_so _ _ _ _ c.in_ok-plan.ensures.types c.in_ok-indices.ensures.value in
-    record { indexed = exports_indexed c.args.parts c.requires.there c.requires.local names _ c.in_ok-plan.ensures.functions numbered }
+raw_exports-requires c = record {
+  indexed = exports_indexed c.args.parts c.requires.there c.requires.local (index_of c.in_ok-indices.indices) (places c.in_ok-plan.plan) (c.in_ok-plan.ensures.plan c.requires.local) c.in_ok-indices.ensures.value;
+}
 
 pub body_bytes-requires : goal.body_bytes-requires
-body_bytes-requires c =
-    let names = index_of c.in_ok-indices.indices in
-    let numbered = numbered_so _ _ _ _ c.in_ok-plan.ensures.types c.in_ok-indices.ensures.value in
-    record { indexed = ids_indexed c.args.parts names c.in_ok-plan.plan.functions.items _ c.requires.there c.requires.local c.in_ok-plan.ensures.functions numbered c.as_slice-order.ensures.value c.args.features.now }
+body_bytes-requires c = record {
+  indexed = ids_indexed c.args.parts (index_of c.in_ok-indices.indices) (places c.in_ok-plan.plan) c.in_ok-plan.plan.functions.items _ c.requires.there c.requires.local (c.in_ok-plan.ensures.plan c.requires.local) c.in_ok-indices.ensures.value refl c.as_slice-order.ensures.value c.args.features.now;
+}
 
 pub returns-in_err-bodies-clause-refused : goal.returns-in_err-bodies-clause-refused
 returns-in_err-bodies-clause-refused c =
     let p = err_from_is_err_and c.from_residual-in_err-bodies.result c.from_residual-in_err-bodies.ensures.1 in
-    rw (p.1, p.2) (bodies_refused (parts_held c.args.parts) c.args.features.now (parts_exports c.args.parts) (Vec ℕ) _ c.in_err-bodies.ensures.fails)
+    rw (p.1, p.2) (bodies_refused c.args.parts c.args.features.now (Vec ℕ) _ c.in_err-bodies.ensures.fails)
 
 pub returns-in_err-bytes-clause-refused : goal.returns-in_err-bytes-clause-refused
 returns-in_err-bytes-clause-refused c =
-    let held = parts_held c.args.parts in
     let names = index_of c.in_ok-indices.indices in
-    let records = records_of held c.args.features.now (parts_exports c.args.parts) names c.in_ok-plan.plan.functions.items c.in_ok-types.types.items c.in_ok-functions.functions.items c.in_ok-exports.exports.items c.in_ok-bodies.bodies.items
-    c.requires.local c.in_ok-plan.ensures.functions
-    (numbered_so _ _ _ _ c.in_ok-plan.ensures.types c.in_ok-indices.ensures.value)
-    c.in_ok-types.ensures.value c.requires.in_order
-    (c.in_ok-functions.ensures.value ∙ ap (map (λ id. type_index (functions c.args.parts.funcs.now) names (place id))) c.as_slice-order.ensures.value)
-    c.in_ok-exports.ensures.value c.in_ok-exports.ensures.text
-    (subst (λ ids. AllZip (λ id bytes. HasBytes held names c.args.features.now (place id) bytes.items) ids c.in_ok-bodies.bodies.items) c.as_slice-order.ensures.value c.in_ok-bodies.ensures.value) in
-    let same = c.raw_module-raw.ensures ∙ ap (sections_with (map group c.in_ok-types.types.items) c.in_ok-functions.functions.items (map export_entry c.in_ok-exports.exports.items))
-    (c.in_ok-code.ensures.value ∙ ap (map (λ (v : Vec ℕ). unplaced v.items)) c.as_slice.ensures.value ∙ sym (map-map unplaced (λ (v : Vec ℕ). v.items) c.in_ok-bodies.bodies.items)) in
     let p = err_from_is_err_and c.from_residual-in_err-bytes.result c.from_residual-in_err-bytes.ensures.1 in
-    rw (p.1, p.2) (records_refused held c.args.features.now (parts_exports c.args.parts) records _ same (Vec ℕ) _ c.in_err-bytes.ensures)
+    rw (p.1, p.2) (records_refused c.args.parts c.args.features.now names c.in_ok-plan.plan c.in_ok-types.types.items c.in_ok-functions.functions.items c.in_ok-exports.exports.items c.in_ok-bodies.bodies.items
+    (c.in_ok-plan.ensures.plan c.requires.local) c.in_ok-indices.ensures.value c.in_ok-indices.ensures.few c.in_ok-plan.ensures.types c.in_ok-types.ensures.value
+    (c.in_ok-functions.ensures.value ∙ ap (map (λ id. option_and_then (type_index names) ((parts_view c.args.parts).functions (place id)))) c.as_slice-order.ensures.value)
+    c.in_ok-exports.ensures.value c.in_ok-exports.ensures.text
+    (subst (λ ids. AllZip (λ id bytes. HasBytes c.args.parts names c.args.features.now (place id) bytes.items) ids c.in_ok-bodies.bodies.items) c.as_slice-order.ensures.value c.in_ok-bodies.ensures.value)
+    _ _ c.raw_module-raw.ensures (c.in_ok-code.ensures.value ∙ ap (map (λ (v : Vec ℕ). unplaced v.items)) c.as_slice.ensures.value) (Vec ℕ) _ c.in_err-bytes.ensures)
 
 pub returns-clause-spells : goal.returns-clause-spells
 returns-clause-spells c =
-    let held = parts_held c.args.parts in
     let names = index_of c.in_ok-indices.indices in
-    let records = records_of held c.args.features.now (parts_exports c.args.parts) names c.in_ok-plan.plan.functions.items c.in_ok-types.types.items c.in_ok-functions.functions.items c.in_ok-exports.exports.items c.in_ok-bodies.bodies.items
-    c.requires.local c.in_ok-plan.ensures.functions
-    (numbered_so _ _ _ _ c.in_ok-plan.ensures.types c.in_ok-indices.ensures.value)
-    c.in_ok-types.ensures.value c.requires.in_order
-    (c.in_ok-functions.ensures.value ∙ ap (map (λ id. type_index (functions c.args.parts.funcs.now) names (place id))) c.as_slice-order.ensures.value)
+    records_written c.args.parts c.args.features.now names c.in_ok-plan.plan c.in_ok-types.types.items c.in_ok-functions.functions.items c.in_ok-exports.exports.items c.in_ok-bodies.bodies.items
+    (c.in_ok-plan.ensures.plan c.requires.local) c.in_ok-indices.ensures.value c.in_ok-indices.ensures.few c.in_ok-plan.ensures.types c.in_ok-types.ensures.value
+    (c.in_ok-functions.ensures.value ∙ ap (map (λ id. option_and_then (type_index names) ((parts_view c.args.parts).functions (place id)))) c.as_slice-order.ensures.value)
     c.in_ok-exports.ensures.value c.in_ok-exports.ensures.text
-    (subst (λ ids. AllZip (λ id bytes. HasBytes held names c.args.features.now (place id) bytes.items) ids c.in_ok-bodies.bodies.items) c.as_slice-order.ensures.value c.in_ok-bodies.ensures.value) in
-    let same = c.raw_module-raw.ensures ∙ ap (sections_with (map group c.in_ok-types.types.items) c.in_ok-functions.functions.items (map export_entry c.in_ok-exports.exports.items))
-    (c.in_ok-code.ensures.value ∙ ap (map (λ (v : Vec ℕ). unplaced v.items)) c.as_slice.ensures.value ∙ sym (map-map unplaced (λ (v : Vec ℕ). v.items) c.in_ok-bodies.bodies.items)) in
-    records_written held c.args.features.now (parts_exports c.args.parts) records _ same c.in_ok-bytes.bytes.items c.in_ok-bytes.ensures.0 c.in_ok-bytes.ensures.1
+    (subst (λ ids. AllZip (λ id bytes. HasBytes c.args.parts names c.args.features.now (place id) bytes.items) ids c.in_ok-bodies.bodies.items) c.as_slice-order.ensures.value c.in_ok-bodies.ensures.value)
+    _ _ c.raw_module-raw.ensures (c.in_ok-code.ensures.value ∙ ap (map (λ (v : Vec ℕ). unplaced v.items)) c.as_slice.ensures.value) c.in_ok-bytes.bytes.items c.in_ok-bytes.ensures.0 c.in_ok-bytes.ensures.1

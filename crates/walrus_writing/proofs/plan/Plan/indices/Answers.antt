@@ -1,24 +1,46 @@
-use Rattle.std.proofs.Common.{◌∙◌, map, subst}
+use Rattle.std.proofs.Common.{◌∙◌, ap, length, map, subst, sym}
+use Rattle.std.specs.Prelude.{nat_eq}
+use Rattle.std.specs.List.{IsDistinct}
+use Rattle.std.proofs.lemmas.List.{length-map}
+use Rattle.std.proofs.lemmas.Result.{err_from_is_err_and}
 use Rattle.walrus_base.specs.Id.{place}
 use Rattle.walrus_types.specs.Operators.{Types, Functions}
-use Rattle.walrus_code.specs.Indices.{index_of}
-use Rattle.walrus_model.specs.Plan.{AreNumbered}
-use Rattle.walrus_writing.specs.Numbered.{planned}
-use Rattle.walrus_writing.proofs.Numbering.{functions_no_types, numbers_all}
+use Rattle.walrus_writing.specs.Places.{places}
+use Rattle.walrus_writing.proofs.Numbering.{count_refused, given_more, none_given, numbered_by}
+use Rattle.walrus_writing.proofs.Planning.{few_places, no_places, placed_so}
 use Rattle.walrus_writing.proofs.plan.Plan.indices.Goals as goal
 
-pub number_types-requires-clause-none : goal.number_types-requires-clause-none
-number_types-requires-clause-none c = λ n. c.new-indices.ensures.indices Types n
+pub number_types-requires : goal.number_types-requires
+number_types-requires c = record {
+  distinct = subst (λ ids. IsDistinct nat_eq (map place ids)) (sym c.as_slice.ensures.value) (c.requires.distinct Types);
+  none = c.new-indices.ensures.indices Types;
+  count = c.new-indices.ensures.given Types;
+}
 
-pub number_functions-requires-clause-none : goal.number_functions-requires-clause-none
-number_functions-requires-clause-none c = λ n. (c.in_ok-number_types.ensures.value.others Functions functions_no_types).1 n ∙ c.new-indices.ensures.indices Functions n
-
-pub number_functions-requires-clause-count : goal.number_functions-requires-clause-count
-number_functions-requires-clause-count c = (c.in_ok-number_types.ensures.value.others Functions functions_no_types).0 ∙ c.new-indices.ensures.given Functions
+pub number_functions-requires : goal.number_functions-requires
+number_functions-requires c =
+    let given = given_more _ _ no_places Types _ (none_given _ c.new-indices.ensures.indices c.new-indices.ensures.given) c.in_ok-number_types.ensures.value Functions in
+    record {
+      distinct = subst (λ ids. IsDistinct nat_eq (map place ids)) (sym c.as_slice-2.ensures.value) (c.requires.distinct Functions);
+      none = given.are;
+      count = given.count;
+    }
 
 pub returns-clause-value : goal.returns-clause-value
 returns-clause-value c =
-    let names = index_of c.number_functions.new.indices in
-    let numbered = numbers_all _ _ _ _ _ c.new-indices.ensures.indices c.in_ok-number_types.ensures.value c.in_ok-number_functions.ensures.value in
-    subst (λ fs. AreNumbered names (planned (map place c.args.self.now.types.items) (map place fs))) c.as_slice-2.ensures.value
-    (subst (λ ts. AreNumbered names (planned (map place ts) (map place c.as_slice-2.result.now))) c.as_slice.ensures.value numbered)
+    let types = given_more _ _ no_places Types _ (none_given _ c.new-indices.ensures.indices c.new-indices.ensures.given) c.in_ok-number_types.ensures.value in
+    let functions = given_more _ _ _ Functions _ types c.in_ok-number_functions.ensures.value in
+    numbered_by _ _ (places c.args.self.now) functions (placed_so c.args.self.now _ _ c.as_slice.ensures.value c.as_slice-2.ensures.value)
+
+pub returns-clause-few : goal.returns-clause-few
+returns-clause-few c = few_places c.args.self.now _ _ c.as_slice.ensures.value c.as_slice-2.ensures.value c.in_ok-number_types.ensures.few c.in_ok-number_functions.ensures.few
+
+pub returns-in_err-number_types-clause-fails : goal.returns-in_err-number_types-clause-fails
+returns-in_err-number_types-clause-fails c =
+    let p = err_from_is_err_and c.from_residual.result c.from_residual.ensures.1 in
+    rw (p.1, p.2) (count_refused (places c.args.self.now) Types _ _ (ap length c.as_slice.ensures.value ∙ sym (length-map _ place)) c.in_err-number_types.ensures.fails)
+
+pub returns-in_err-number_functions-clause-fails : goal.returns-in_err-number_functions-clause-fails
+returns-in_err-number_functions-clause-fails c =
+    let p = err_from_is_err_and c.from_residual-in_err-number_functions.result c.from_residual-in_err-number_functions.ensures.1 in
+    rw (p.1, p.2) (count_refused (places c.args.self.now) Functions _ _ (ap length c.as_slice-2.ensures.value ∙ sym (length-map _ place)) c.in_err-number_functions.ensures.fails)
