@@ -1,0 +1,4 @@
+pub mod Named
+pub mod Short
+pub mod Written
+pub mod Laws

@@ -1,0 +1,16 @@
+//! Constant expressions, there and back: over indices, as the entries of sections hold them, and over ids
+//! (Binary Format > Instructions > Expressions, Structure > Modules > Indices).
+#![tactic(auto)]
+
+mod heap;
+mod law;
+mod read;
+mod write;
+
+pub use law::{
+    constants_are_renamed, constants_lack, constants_lead_back, constants_stay_in_place,
+    globals_meet_their_records, look_ups_rename, operators_have_one_record,
+    tables_meet_their_records,
+};
+pub use read::{read_const, read_op};
+pub use write::{raw_const, raw_op};
