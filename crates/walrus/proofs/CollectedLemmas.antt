@@ -1,33 +1,54 @@
 -- Where gc keeps, of functions and of types, what is kept, the abstract module is collected.
-use Rattle.std.proofs.Common.{◌≡◌, ℕ, suc, length, Bool, ◌==◌, inl, inr, ⊎_elim, eqb-true, true, List, [], ◌∷◌, map, Option, Some, None, refl, ap, sym, subst, ◌∙◌}
-use Rattle.std.specs.Prelude.{◌↔◌, Contains, option_map}
+use Rattle.std.proofs.Common.{◌≡◌, ℕ, zero, suc, length, Bool, ◌==◌, inl, inr, ⊎_elim, eqb-true, true, false, List, [], ◌∷◌, map, Option, Some, None, refl, ap, sym, subst, ◌∙◌}
+use Rattle.std.specs.Prelude.{◌↔◌, Contains, option_map, if◌then◌else◌}
 use Rattle.std.proofs.lemmas.Bool.{false≢true}
 use Rattle.std.proofs.lemmas.Option.{none-some}
+use Rattle.std.proofs.lemmas.List.{length-map}
 use Rattle.std.proofs.lemmas.List.Elements.{Contains-append_left}
 use Rattle.walrus_base.specs.Arena.{item_at, kept_by}
+use Rattle.walrus_base.specs.Id.{place}
 use Rattle.walrus_base.specs.IdSet.{HasId, has_id}
 use Rattle.walrus_base.specs.declared.keys.TypeKey.{TypeKey}
 use Rattle.walrus_base.specs.declared.set.IdHashSet.{IdHashSet}
 use Rattle.walrus_base.proofs.Kept.{kept_marked, kept_there, kept_was}
 use Rattle.walrus_base.specs.Types.{sub_names}
 use Rattle.walrus_types.specs.ModuleTypes.{type_slots}
-use Rattle.walrus_types.specs.declared.locals.ModuleLocals.{ModuleLocals}
 use Rattle.walrus_types.specs.declared.module_types.ModuleTypes.{ModuleTypes}
-use Rattle.walrus_types.specs.Operators.{Types, Functions, Memories, Item, type_item}
+use Rattle.walrus_types.specs.Operators.{Types, Functions, Tables, Memories, Tags, Globals, Item, type_item}
 use Rattle.walrus_types.specs.PlaceList.{has}
 use Rattle.walrus_types.specs.TypeDef.{TypeDef}
 use Rattle.walrus_types.specs.Whole.{KeepsGroups}
 use Rattle.walrus_types.proofs.Noted.{or_cases}
 use Rattle.walrus_items.specs.Functions.{functions}
-use Rattle.walrus_items.specs.declared.exports.ModuleExports.{ModuleExports}
-use Rattle.walrus_producers.specs.declared.producers.ModuleProducers.{ModuleProducers}
+use Rattle.walrus_items.specs.Imports.{ImportValue, imported, stays_under}
+use Rattle.walrus_items.specs.Imports.{imports as imports_in}
+use Rattle.walrus_items.specs.Keeping.{kept_slot, kept_where}
+use Rattle.walrus_items.specs.Marks.{has_item}
+use Rattle.walrus_items.specs.declared.imports.ImportKind.{ImportKind}
+use Rattle.walrus_items.specs.declared.imports.ImportKind.TheVariants as imports
+use Rattle.walrus_items.specs.declared.imports.ModuleImports.{ModuleImports}
+use Rattle.walrus_items.specs.declared.marks.ItemMarks.{ItemMarks}
+use Rattle.walrus_entities.specs.Globals.{globals as globals_in}
+use Rattle.walrus_entities.specs.Memories.{memories as memories_in}
+use Rattle.walrus_entities.specs.Tables.{tables as tables_in}
+use Rattle.walrus_entities.specs.Tags.{tags as tags_in}
+use Rattle.walrus_entities.specs.declared.globals.ModuleGlobals.{ModuleGlobals}
+use Rattle.walrus_entities.specs.declared.memories.ModuleMemories.{ModuleMemories}
+use Rattle.walrus_entities.specs.declared.tables.ModuleTables.{ModuleTables}
+use Rattle.walrus_entities.specs.declared.tags.ModuleTags.{ModuleTags}
+use Rattle.walrus_contents.specs.View.{contents_view, global_of, import_of, memory_of, table_of, tag_of}
+use Rattle.walrus_contents.specs.declared.parts.Contents.{Contents}
+use Rattle.walrus_contents.proofs.Lookups.{mapped_some}
+use Rattle.walrus.specs.Marked.{IsMarked, MarksKept}
+use Rattle.walrus.specs.declared.passes.used.Used.{Used}
 use Rattle.walrus_items.specs.declared.functions.ModuleFunctions.{ModuleFunctions}
-use Rattle.walrus_model.specs.Kept.{Kept}
+use Rattle.walrus_model.specs.Abstract.{Abstract, Import}
+use Rattle.walrus_model.specs.Kept.{IsImportOf, Kept}
 use Rattle.walrus_model.specs.Pipeline.{Collected, KeepsOnly}
 use Rattle.walrus_model.specs.Reached.{step}
 use Rattle.walrus_model.specs.Refers.{named_by, type_names}
 use Rattle.walrus_model.proofs.Lists.{Contains-head, Contains-map, Contains-tail}
-use Rattle.walrus_module.specs.View.{function, handlers_at, view_of}
+use Rattle.walrus_module.specs.View.{function, handlers_at}
 use Rattle.walrus.specs.Collected as slots
 
 length-kept_by : {T : Type 0} (keeps : ℕ → Bool) (xs : List (Option T)) → length (kept_by keeps xs) ≡ length xs
@@ -66,27 +87,127 @@ nothing_kept : {X : Type 0} (K : ℕ → Type 0) → KeepsOnly {X = X} K (λ i. 
 nothing_kept K = record { kept = λ i h. refl; left = λ i x e. absurd (none-some x e) }
 
 -- what is kept of the types keeps its group
-keeps_groups : (types : ModuleTypes) (all : ModuleLocals) (funcs : ModuleFunctions) (es : ModuleExports) (made : ModuleProducers) (i q : ℕ) (x : TypeDef) → item_at (type_slots types) i ≡ Some x → Kept (view_of types all funcs es made) (Types, i) → has x.group q ≡ true → Kept (view_of types all funcs es made) (Types, q)
-keeps_groups types all funcs es made i q x at (inl reached) g =
+keeps_groups : (old : Contents) (i q : ℕ) (x : TypeDef) → item_at (type_slots old.types) i ≡ Some x → Kept (contents_view old) (Types, i) → has x.group q ≡ true → Kept (contents_view old) (Types, q)
+keeps_groups old i q x at (inl reached) g =
     let written : Contains (type_names x) (Types, q) = Contains-append_left (map type_item x.group) (map type_item (sub_names x.sub)) (Types, q) (Contains-map type_item q x.group (has_contains x.group q g)) in
     inl (step (Types, i) (Types, q) reached (inl (subst (λ (o : Option TypeDef). Contains (named_by type_names o) (Types, q)) (sym at) written)))
-keeps_groups types all funcs es made i q x at (inr spare) g = let apart : Types ≡ Memories = ap (λ (y : Item). y.0) spare.is in absurd (cc)
+keeps_groups old i q x at (inr spare) g = let apart : Types ≡ Memories = ap (λ (y : Item). y.0) spare.is in absurd (cc)
 
 -- the marked types are groups that are whole
-pub marks_groups : (types : ModuleTypes) (all : ModuleLocals) (funcs : ModuleFunctions) (es : ModuleExports) (made : ModuleProducers) (marks : IdHashSet TypeKey)
-    → ((t : ℕ) → HasId marks t ↔ Kept (view_of types all funcs es made) (Types, t)) → KeepsGroups (has_id marks) (type_slots types)
-marks_groups types all funcs es made marks same t x at marked p g = (same p).1 (keeps_groups types all funcs es made t p x at ((same t).0 marked) g)
+pub marks_groups : (old : Contents) (marks : IdHashSet TypeKey)
+    → ((t : ℕ) → HasId marks t ↔ Kept (contents_view old) (Types, t)) → KeepsGroups (has_id marks) (type_slots old.types)
+marks_groups old marks same t x at marked p g = (same p).1 (keeps_groups old t p x at ((same t).0 marked) g)
 
-module _ (types types_left : ModuleTypes) (all : ModuleLocals) (funcs funcs_left : ModuleFunctions) (es : ModuleExports) (made : ModuleProducers) where
-  pub is_collected : slots.KeepsOnly (λ i. Kept (view_of types all funcs es made) (Functions, i)) (functions funcs) (functions funcs_left) → slots.KeepsOnly (λ t. Kept (view_of types all funcs es made) (Types, t)) (type_slots types) (type_slots types_left) → Collected (view_of types all funcs es made) (view_of types_left all funcs_left es made)
-  is_collected f t = record {
-    types = record { kept = t.kept; left = t.left };
-    imports = nothing_kept _;
-    functions = seen_kept (λ i. function all) (λ i. Kept (view_of types all funcs es made) (Functions, i)) (functions funcs) (functions funcs_left) f;
-    tables = nothing_kept _;
-    memories = nothing_kept _;
-    tags = nothing_kept _;
-    globals = nothing_kept _;
+-- ---- imports
+
+module _ {T : Type 0} (stays : T → Bool) where
+  slot_kept : (xs : List (Option T)) (i : ℕ) → item_at (kept_where stays xs) i ≡ kept_slot stays (item_at xs i)
+  slot_kept [] i = refl
+  slot_kept (x ∷ xs) zero = refl
+  slot_kept (x ∷ xs) (suc i) = slot_kept xs i
+
+  slot_stays : (o : Option T) (x : T) → o ≡ Some x → stays x ≡ true → kept_slot stays o ≡ o
+  slot_stays (Some y) x e h =
+      let same : x ≡ y = cc in
+      ap (λ (b : Bool). if b then Some y else None) (subst (λ (z : T). stays z ≡ true) same h)
+  slot_stays None x e h = refl
+
+  slot_left : (o : Option T) (x : T) → kept_slot stays o ≡ Some x → (stays x ≡ true) × (o ≡ Some x)
+  slot_left None x e = absurd (none-some x e)
+  slot_left (Some y) x e = by_test (stays y) refl e where
+    by_test : (b : Bool) → stays y ≡ b → (if b then Some y else None) ≡ Some x → (stays x ≡ true) × (Some y ≡ Some x)
+    by_test true h e = let same : y ≡ x = cc in (subst (λ (z : T). stays z ≡ true) same h, e)
+    by_test false h e = absurd (none-some x e)
+
+length-kept_where : {T : Type 0} (stays : T → Bool) (xs : List (Option T)) → length (kept_where stays xs) ≡ length xs
+length-kept_where stays xs = length-map xs (kept_slot stays)
+
+-- the marks of those kinds that an import can bring
+pub record MarksThose (m : ItemMarks) (used : Used) : Type 0 where
+  pub funcs : m.funcs.now ≡ used.funcs
+  pub tables : m.tables.now ≡ used.tables
+  pub memories : m.memories.now ≡ used.memories
+  pub globals : m.globals.now ≡ used.globals
+  pub tags : m.tags.now ≡ used.tags
+
+-- the marks that read these sets, wherever the sets lie
+abbrev pub marks_of : Used → ItemMarks
+marks_of used = record {
+  funcs = record { ref_ptr = (0, 0); now = used.funcs };
+  tables = record { ref_ptr = (0, 0); now = used.tables };
+  memories = record { ref_ptr = (0, 0); now = used.memories };
+  globals = record { ref_ptr = (0, 0); now = used.globals };
+  tags = record { ref_ptr = (0, 0); now = used.tags };
+}
+
+one_set : {K : Type 0} (a b : IdHashSet K) (i : ℕ) → a ≡ b → (has_id a i ≡ true) ↔ HasId b i
+one_set {K} a b i e = (λ h. subst (λ (s : IdHashSet K). has_id s i ≡ true) e h, λ h. subst (λ (s : IdHashSet K). has_id s i ≡ true) (sym e) h)
+
+-- what is imported is marked exactly where it is in the set of its kind
+marks_same : (m : ItemMarks) (used : Used) → MarksThose m used → (k : ImportKind) → (has_item m (imported k) ≡ true) ↔ IsMarked used (imported k)
+marks_same m used t (imports.Function f) = one_set m.funcs.now used.funcs (place f) t.funcs
+marks_same m used t (imports.Table i) = one_set m.tables.now used.tables (place i) t.tables
+marks_same m used t (imports.Memory i) = one_set m.memories.now used.memories (place i) t.memories
+marks_same m used t (imports.Global i) = one_set m.globals.now used.globals (place i) t.globals
+marks_same m used t (imports.Tag i) = one_set m.tags.now used.tags (place i) t.tags
+
+-- the imports of what is kept stay, and no others
+module _ (held : Contents) (used : Used) (marked : MarksKept (contents_view held) used) (marks : ItemMarks) (are : MarksThose marks used) where
+  abbrev V : Abstract
+  V = contents_view held
+
+  abbrev stays : ImportValue → Bool
+  stays = stays_under marks
+
+  stays_kept : (k : ImportKind) → (has_item marks (imported k) ≡ true) ↔ Kept V (imported k)
+  stays_kept k = (
+    λ h. (marked (imported k)).0 ((marks_same marks used are k).0 h),
+    λ h. (marks_same marks used are k).1 ((marked (imported k)).1 h),
+  )
+
+  imports_kept : (new : List (Option ImportValue)) → new ≡ kept_where stays (imports_in held.imports) → slots.KeepsOnly (IsImportOf (Kept V) V) (imports_in held.imports) new
+  imports_kept new is = subst (λ (s : List (Option ImportValue)). slots.KeepsOnly (IsImportOf (Kept V) V) (imports_in held.imports) s) (sym is) (record {
+    kept = λ i brings.
+        let from = mapped_some import_of (item_at (imports_in held.imports) i) brings.0 brings.1 in
+        let kept : Kept V (imported from.0.kind) = subst (λ (y : Import). Kept V y.item) from.2 brings.2 in
+        slot_kept stays (imports_in held.imports) i ∙ slot_stays stays (item_at (imports_in held.imports) i) from.0 from.1 ((stays_kept from.0.kind).1 kept);
+    left = λ i x at.
+        let was = slot_left stays (item_at (imports_in held.imports) i) x (sym (slot_kept stays (imports_in held.imports) i) ∙ at) in
+        ((import_of x, ap (option_map import_of) was.1, (stays_kept x.kind).0 was.0), was.1);
+    places = length-kept_where stays (imports_in held.imports);
+  })
+
+-- the same, where the marks are told by what was kept
+pub imports_left : (held : Contents) (used : Used) → MarksKept (contents_view held) used → (marks : ItemMarks) (new : List (Option ImportValue))
+    → new ≡ kept_where (stays_under marks) (imports_in held.imports) → MarksThose marks used
+    → slots.KeepsOnly (IsImportOf (Kept (contents_view held)) (contents_view held)) (imports_in held.imports) new
+imports_left held used marked marks new is are = imports_kept held used marked marks are new is
+
+-- ---- the whole
+
+module _ (held : Contents) (kept_types : ModuleTypes) (kept_imports : ModuleImports) (kept_funcs : ModuleFunctions) (kept_tables : ModuleTables) (kept_memories : ModuleMemories) (kept_tags : ModuleTags) (kept_globals : ModuleGlobals) where
+  abbrev pub left : Contents
+  left = record held { types = kept_types; imports = kept_imports; funcs = kept_funcs; tables = kept_tables; memories = kept_memories; tags = kept_tags; globals = kept_globals }
+
+  -- what is left of each kind
+  pub record AreKept : Type 0 where
+    pub types : slots.KeepsOnly (λ i. Kept (contents_view held) (Types, i)) (type_slots held.types) (type_slots kept_types)
+    pub imports : slots.KeepsOnly (IsImportOf (Kept (contents_view held)) (contents_view held)) (imports_in held.imports) (imports_in kept_imports)
+    pub functions : slots.KeepsOnly (λ i. Kept (contents_view held) (Functions, i)) (functions held.funcs) (functions kept_funcs)
+    pub tables : slots.KeepsOnly (λ i. Kept (contents_view held) (Tables, i)) (tables_in held.tables) (tables_in kept_tables)
+    pub memories : slots.KeepsOnly (λ i. Kept (contents_view held) (Memories, i)) (memories_in held.memories) (memories_in kept_memories)
+    pub tags : slots.KeepsOnly (λ i. Kept (contents_view held) (Tags, i)) (tags_in held.tags) (tags_in kept_tags)
+    pub globals : slots.KeepsOnly (λ i. Kept (contents_view held) (Globals, i)) (globals_in held.globals) (globals_in kept_globals)
+
+  pub is_collected : AreKept → Collected (contents_view held) (contents_view left)
+  is_collected k = record {
+    types = record { kept = k.types.kept; left = k.types.left };
+    imports = seen_kept (λ i. import_of) (IsImportOf (Kept (contents_view held)) (contents_view held)) (imports_in held.imports) (imports_in kept_imports) k.imports;
+    functions = seen_kept (λ i. function held.locals) (λ i. Kept (contents_view held) (Functions, i)) (functions held.funcs) (functions kept_funcs) k.functions;
+    tables = seen_kept (λ i. table_of) (λ i. Kept (contents_view held) (Tables, i)) (tables_in held.tables) (tables_in kept_tables) k.tables;
+    memories = seen_kept (λ i. memory_of) (λ i. Kept (contents_view held) (Memories, i)) (memories_in held.memories) (memories_in kept_memories) k.memories;
+    tags = seen_kept (λ i. tag_of) (λ i. Kept (contents_view held) (Tags, i)) (tags_in held.tags) (tags_in kept_tags) k.tags;
+    globals = seen_kept (λ i. global_of) (λ i. Kept (contents_view held) (Globals, i)) (globals_in held.globals) (globals_in kept_globals) k.globals;
     elements = nothing_kept _;
     data_segments = nothing_kept _;
     exports = refl;
@@ -96,6 +217,6 @@ module _ (types types_left : ModuleTypes) (all : ModuleLocals) (funcs funcs_left
     named = λ y h. refl;
     table_segments = λ table h segment. refl;
     memory_segments = λ memory h segment. refl;
-    handler_types = λ i h. ap handlers_at (f.kept i h);
+    handler_types = λ i h. ap handlers_at (k.functions.kept i h);
     section_roots = refl;
   }

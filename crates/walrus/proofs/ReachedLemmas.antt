@@ -6,12 +6,7 @@ use Rattle.std.proofs.lemmas.Option.{none-some}
 use Rattle.std.proofs.lemmas.List.Elements.{Contains-append_left, Contains-append_right, Contains-append_cases}
 use Rattle.walrus_base.specs.Arena.{items}
 use Rattle.walrus_types.specs.Operators.{Types, Functions, Tables, Memories, Tags, Globals, Elements, DataSegments, Item, type_item}
-use Rattle.walrus_types.specs.declared.locals.ModuleLocals.{ModuleLocals}
-use Rattle.walrus_types.specs.declared.module_types.ModuleTypes.{ModuleTypes}
 use Rattle.walrus_items.specs.Exports.{ExportValue, exported, exports}
-use Rattle.walrus_items.specs.declared.exports.ModuleExports.{ModuleExports}
-use Rattle.walrus_producers.specs.declared.producers.ModuleProducers.{ModuleProducers}
-use Rattle.walrus_items.specs.declared.functions.ModuleFunctions.{ModuleFunctions}
 use Rattle.walrus_model.specs.Abstract as abstract
 use Rattle.walrus_model.specs.Kept.{Kept}
 use Rattle.walrus_model.specs.Reached.{Reached}
@@ -19,7 +14,9 @@ use Rattle.walrus_model.specs.Refers.{KeepsToo, Refers, written_in}
 use Rattle.walrus_model.specs.Roots.{IsRoot, exported as is_exported, start, data_segment, element_segment, asked_for}
 use Rattle.walrus_model.proofs.Lists.{Contains-map, Contains-none}
 use Rattle.walrus_model.proofs.Reach.{Contains-unmap}
-use Rattle.walrus_module.specs.View.{export_of, view_of}
+use Rattle.walrus_contents.specs.View.{contents_view}
+use Rattle.walrus_contents.specs.declared.parts.Contents.{Contents}
+use Rattle.walrus_module.specs.View.{export_of}
 use Rattle.walrus_parts.specs.declared.error.Error.{Error}
 use Rattle.walrus.specs.Marked.{IsMarked, MarksKept, ReachesSound, ReachesUnsound}
 use Rattle.walrus_contents.specs.Named.{all_names, export_names, kept_types}
@@ -36,9 +33,9 @@ is_marked used (Globals, i) = (λ h. h, λ h. h)
 is_marked used (Elements, i) = (λ h. h, λ h. h)
 is_marked used (DataSegments, i) = (λ h. h, λ h. h)
 
-module _ (types : ModuleTypes) (all : ModuleLocals) (funcs : ModuleFunctions) (es : ModuleExports) (made : ModuleProducers) where
+module _ (held : Contents) where
   abbrev v : abstract.Abstract
-  v = view_of types all funcs es made
+  v = contents_view held
 
   -- ---- what an item refers to is what it names
 
@@ -70,22 +67,22 @@ module _ (types : ModuleTypes) (all : ModuleLocals) (funcs : ModuleFunctions) (e
 
   -- ---- the roots are what the exports name
 
-  root_named : (x : Item) → IsRoot v x → Contains (export_names es) x
+  root_named : (x : Item) → IsRoot v x → Contains (export_names held.exports) x
   root_named x (is_exported e at is) =
-      let from = Contains-unmap export_of (items (exports es)) e at in
+      let from = Contains-unmap export_of (items (exports held.exports)) e at in
       let same : exported from.0.item ≡ x = ap (λ (y : abstract.Export). y.item) from.2 ∙ sym is in
-      subst (λ (y : Item). Contains (export_names es) y) same (Contains-map (λ (y : ExportValue). exported y.item) from.0 (items (exports es)) from.1)
+      subst (λ (y : Item). Contains (export_names held.exports) y) same (Contains-map (λ (y : ExportValue). exported y.item) from.0 (items (exports held.exports)) from.1)
   root_named x (start f at is) = absurd (none-some f at)
   root_named x (data_segment i d at kind is) = absurd (none-some d at)
   root_named x (element_segment i e at kind is) = absurd (none-some e at)
   root_named x (asked_for at) = absurd (Contains-none x at)
 
-  named_root : (x : Item) → Contains (export_names es) x → IsRoot v x
+  named_root : (x : Item) → Contains (export_names held.exports) x → IsRoot v x
   named_root x c =
-      let from = Contains-unmap (λ (e : ExportValue). exported e.item) (items (exports es)) x c in
-      is_exported (export_of from.0) (Contains-map export_of from.0 (items (exports es)) from.1) (sym from.2)
+      let from = Contains-unmap (λ (e : ExportValue). exported e.item) (items (exports held.exports)) x c in
+      is_exported (export_of from.0) (Contains-map export_of from.0 (items (exports held.exports)) from.1) (sym from.2)
 
-  pub roots_are : (x : Item) → IsRoot v x ↔ Contains (export_names es) x
+  pub roots_are : (x : Item) → IsRoot v x ↔ Contains (export_names held.exports) x
   roots_are x = (root_named x, named_root x)
 
   -- ---- the clauses of the search

@@ -16,10 +16,12 @@ pub use walrus_ir::{
 pub use walrus_module::{
     AbstractHeapType, Arg, Args, ArrayType, BlockType, CodeTransform, CompositeType, ConstExpr,
     ConstOp, CustomSection, DataId, ElementId, Error, ErrorKind, Export, ExportId, ExportItem,
-    FieldType, Function, FunctionBuilder, FunctionId, FunctionKind, FunctionType, GlobalId,
-    GroupIds, HeapType, Id, IdHashSet, IdsToIndices, ImportId, ImportedFunction, IndicesToIds,
-    InstrLocId, InstrSeqBuilder, ItemId, Local, LocalFunction, LocalId, MemoryId, Module,
-    ModuleConfig, ModuleCustomSections, ModuleExports, ModuleFunctions, ModuleLocals, ModuleTypes,
-    NewType, Operator, RawCustomSection, RefType, Result, Roots, SectionEntry, StorageType,
-    StructType, TableId, TagId, Type, TypeId, UntypedCustomSectionId, ValType, Value,
+    FieldType, Function, FunctionBuilder, FunctionId, FunctionKind, FunctionType, Global, GlobalId,
+    GlobalKind, GroupIds, HeapType, Id, IdHashSet, IdsToIndices, Import, ImportId, ImportKind,
+    ImportedFunction, IndicesToIds, InstrLocId, InstrSeqBuilder, ItemId, Local, LocalFunction,
+    LocalId, Memory, MemoryId, Module, ModuleConfig, ModuleCustomSections, ModuleExports,
+    ModuleFunctions, ModuleGlobals, ModuleImports, ModuleLocals, ModuleMemories, ModuleTables,
+    ModuleTags, ModuleTypes, NewType, Operator, RawCustomSection, RefType, Result, Roots,
+    SectionEntry, StorageType, StructType, Table, TableId, Tag, TagId, TagKind, Type, TypeId,
+    UntypedCustomSectionId, ValType, Value,
 };

@@ -1,5 +1,5 @@
 -- What a contract sees of a `TombstoneArena`.
-use Rattle.std.specs.Prelude.{ℕ, suc, ◌+◌, Bool, List, [], ◌∷◌, Option, Some, None, IsSome, slice_index_or, drop, map, if◌then◌else◌}
+use Rattle.std.specs.Prelude.{ℕ, suc, ◌+◌, ◌≤◌, vec_len, vec_capacity, Bool, List, [], ◌∷◌, Option, Some, None, IsSome, slice_index_or, drop, map, if◌then◌else◌}
 use Rattle.std.specs.Vec.{with_item as with_slot}
 use Rattle.walrus_base.specs.declared.arena.TombstoneArena.{TombstoneArena}
 use Rattle.walrus_base.specs.declared.arena.ArenaIter.{ArenaIter}
@@ -36,6 +36,10 @@ module _ {K T : Type 0} where
   -- the item or nothing at each place from 0 on
   abbrev pub slots : TombstoneArena K T → List (Option T)
   slots arena = arena.places.items
+
+  -- so many items can be added without asking for memory
+  abbrev pub HasRoom : TombstoneArena K T → ℕ → Type 0
+  HasRoom arena additional = vec_len arena.places + additional ≤ vec_capacity arena.places
 
   -- the arena with this item at a place
   abbrev pub with_item : TombstoneArena K T → ℕ → T → TombstoneArena K T

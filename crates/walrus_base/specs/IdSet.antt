@@ -1,6 +1,13 @@
 -- What a contract sees of an `IdHashSet`.
-use Rattle.std.specs.Prelude.{◌≡◌, ◌≢◌, ℕ, Bool, true, false, slice_index_or}
+use Rattle.std.specs.Prelude.{◌≡◌, ◌≢◌, ◌+◌, ℕ, Bool, true, false, List, [], ◌∷◌, drop, slice_index_or}
 use Rattle.walrus_base.specs.declared.set.IdHashSet.{IdHashSet}
+use Rattle.walrus_base.specs.declared.set.IdHashSetIter.{IdHashSetIter}
+
+-- the places that are marked, by rising place, where the first of these marks is that of `place`
+abbrev pub marked_from : ℕ → List Bool → List ℕ
+marked_from place [] = []
+marked_from place (false ∷ rest) = marked_from (place + 1) rest
+marked_from place (true ∷ rest) = place ∷ marked_from (place + 1) rest
 
 module _ {K : Type 0} where
   -- whether the id of this place is in
@@ -24,3 +31,11 @@ module _ {K : Type 0} where
   pub record Removes (old new : IdHashSet K) (place : ℕ) : Type 0 where
     pub removed : has_id new place ≡ false
     pub others : (other : ℕ) → other ≢ place → has_id new other ≡ has_id old other
+
+  -- the places of the ids that are in, by rising place
+  abbrev pub ids_in : IdHashSet K → List ℕ
+  ids_in ids = marked_from 0 ids.marks.items
+
+  -- the places of the ids that are still to come
+  abbrev pub ids_left : IdHashSetIter K → List ℕ
+  ids_left left = marked_from left.place (drop left.place left.marks.now)

@@ -1,8 +1,8 @@
 //! Items by their ids, in the order in which they came.
-ghost use Rattle.std.specs.Prelude.{ℕ, ◌≡◌, ◌<◌, ◌++◌, ◌∷◌, [], length, Some, None, IsTrue, IsSome, ◌↔◌, MatchResult, count_by, is_some, slice_set, vec_len, if◌then◌else◌};
+ghost use Rattle.std.specs.Prelude.{ℕ, ◌≡◌, ◌<◌, ◌++◌, ◌∷◌, [], length, Some, None, IsTrue, IsSome, IsOk, OnOk, ◌↔◌, MatchResult, count_by, is_some, slice_set, vec_len, if◌then◌else◌};
 ghost use Rattle.std.specs.Borrow.{sem};
 ghost use Rattle.std.specs.Iterator.{YieldsFirstBy, item_count};
-ghost use Rattle.walrus_base.specs.Arena.{slots, item_at, IsLive, entries, entries_left, kept_by};
+ghost use Rattle.walrus_base.specs.Arena.{HasRoom, slots, item_at, IsLive, entries, entries_left, kept_by};
 ghost use Rattle.walrus_base.specs.LendsSome.{LendsSome};
 ghost use Rattle.walrus_base.specs.Id.{place};
 ghost use Rattle.walrus_base.specs.IdSet.{has_id};
@@ -70,9 +70,10 @@ impl<K, T> TombstoneArena<K, T> {
         }
     }
 
-    /// Makes room for `additional` more items.
+    /// Makes room for `additional` more items: so many can then be added without asking for memory.
     pub fn reserve(&mut self, additional: usize) -> Result<(), AllocError>
-        ensures { slots self.new ≡ slots self.old }
+        ensures same { slots self.new ≡ slots self.old }
+        ensures room { OnOk result (HasRoom self.new additional) }
     {
         self.places.reserve(additional)
     }
@@ -88,10 +89,11 @@ impl<K, T> TombstoneArena<K, T> {
     pub fn alloc(&mut self, item: T) -> Result<Id<K>, AllocError>
     where
         T: Drop,
-        ensures { MatchResult result
+        ensures added { MatchResult result
             (λ id. (place id ≡ length (slots self.old))
             × (slots self.new ≡ slots self.old ++ Some item ∷ []))
             (λ _. slots self.new ≡ slots self.old) }
+        ensures succeeds { HasRoom self.old 1 → IsOk result }
     {
         let id = self.next_id();
         self.places.push(Some(item))?;

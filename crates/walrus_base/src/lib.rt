@@ -13,4 +13,4 @@ pub use keys::{
     FunctionKey, GlobalId, GlobalKey, ImportId, ImportKey, LocalId, LocalKey, MemoryId, MemoryKey,
     TableId, TableKey, TagId, TagKey, TypeId, TypeKey, UntypedCustomSectionId,
 };
-pub use set::IdHashSet;
+pub use set::{IdHashSet, IdHashSetIter};

@@ -1,6 +1,7 @@
 //! Sets of ids.
 ghost use Rattle.std.specs.Prelude.{◌≡◌, ◌≢◌, ◌<◌, ℕ, MatchResult, true, false, not};
-ghost use Rattle.walrus_base.specs.IdSet.{has_id, Adds, Removes, SameIds};
+ghost use Rattle.std.specs.Iterator.{YieldsFirstBy, item_count};
+ghost use Rattle.walrus_base.specs.IdSet.{has_id, ids_in, ids_left, Adds, Removes, SameIds};
 ghost use Rattle.walrus_base.specs.Id.{place};
 
 use crate::id::Id;
@@ -65,5 +66,44 @@ impl<K> IdHashSet<K> {
         let was_in = self.marks[place];
         self.marks[place] = false;
         was_in
+    }
+
+    /// The ids that are in, by rising place.
+    pub fn iter(&self) -> IdHashSetIter<'_, K>
+        ensures { ids_left result ≡ ids_in self.now }
+    {
+        IdHashSetIter {
+            marks: self.marks.as_slice(),
+            place: 0,
+            kind: PhantomData,
+        }
+    }
+}
+
+/// The ids of a set, by rising place.
+#[derive(Drop)]
+pub struct IdHashSetIter<'a, K> {
+    marks: &'a [bool],
+    // The first place that is still to be seen.
+    place: usize,
+    kind: PhantomData<K>,
+}
+
+impl<'a, K> Iterator for IdHashSetIter<'a, K> {
+    type Item = Id<K>;
+
+    ghost next_gives = { YieldsFirstBy place ids_left };
+
+    ghost remaining = { item_count ids_left };
+
+    fn next(&mut self) -> Option<Id<K>> {
+        while let Some(mark) = self.marks.get(self.place) {
+            let place = self.place;
+            self.place += 1;
+            if *mark {
+                return Some(Id::at(place));
+            }
+        }
+        None
     }
 }

@@ -1,12 +1,10 @@
 -- What the loops over operators keep.
-use Rattle.std.proofs.Common.{Bool, true, false, ◌||◌, ◌≡◌, ◌≢◌, ◌∙◌, ℕ, ◌+◌, ◌<◌, suc, List, [], ◌∷◌, ◌++◌, Option, Some, None, map, length, drop, drop-cons, get_or, refl, sym, ap, append_assoc, arith, All}
+use Rattle.std.proofs.Common.{Bool, false, ◌||◌, ◌≡◌, ◌∙◌, ℕ, ◌+◌, ◌<◌, suc, List, [], ◌∷◌, ◌++◌, Option, Some, None, map, length, drop, drop-cons, get_or, refl, sym, ap, append_assoc, arith, All}
 use Rattle.std.proofs.lemmas.List.{map-append}
 use Rattle.std.proofs.lemmas.List.Elements.{All-push}
 use Rattle.std.specs.List.{list_any}
 use Rattle.wasm_forms.specs.Reading.{◌>>=◌}
-use Rattle.walrus_types.specs.declared.const_expr.ConstOp.{ConstOp}
 use Rattle.walrus_groups.specs.Named.{each}
-use Rattle.walrus_constants.specs.Short.{is_extended}
 
 -- what was found so far, and what is left to find
 abbrev pub behind : {Y : Type 0} → List Y → Option (List Y) → Option (List Y)
@@ -48,9 +46,3 @@ module _ {A B X Y : Type 0} (find : X → Option Y) (is_exact : X → Bool) (sta
     exact_behind xs i d _ h found.1 keeps.1,
     rw e (All-push stands items y keeps.2 stand),
   )
-
--- several operators, or none, are no simple one
-pub several_extended : (ops : List ConstOp) → length ops ≢ 1 → is_extended ops ≡ true
-several_extended [] h = refl
-several_extended (op ∷ []) h = absurd (h refl)
-several_extended (op ∷ other ∷ rest) h = refl

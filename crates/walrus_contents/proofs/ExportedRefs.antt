@@ -1,31 +1,30 @@
 -- Where each function that ref.func names is exported, nothing is undeclared; else some function is.
-use Rattle.std.proofs.Common.{◌≡◌, ℕ, zero, suc, ◌+◌, Bool, true, false, ◌&&◌, ◌||◌, List, [], ◌∷◌, map, refl, sym, ap, ◌∙◌, subst, eqb-true, inl, ⊎_elim}
+use Rattle.std.proofs.Common.{◌≡◌, ℕ, zero, suc, ◌+◌, Bool, true, false, ◌&&◌, ◌||◌, List, [], ◌∷◌, map, refl, sym, ap, ◌∙◌, subst, eqb-true, inl, inr, ◌⊎◌, ⊎_elim}
 use Rattle.std.proofs.lemmas.Bool.{false≢true}
 use Rattle.std.specs.Prelude.{Option, Some, None, Contains, IsSome, option_map, ◌==◌, if◌then◌else◌}
 use Rattle.std.specs.List.{list_all}
+use Rattle.wasm_operators.proofs.OneStands.{and_both}
 use Rattle.walrus_base.specs.Arena.{item_at, items, entries_from}
 use Rattle.walrus_code.specs.Function.{body_of}
 use Rattle.walrus_code.specs.declared.function.LocalFunction.{LocalFunction}
 use Rattle.walrus_types.specs.Operators.{Types, Functions, Tables, Memories, Tags, Globals, Elements, DataSegments, Arg, Index, Label, Local, Number, Count, Byte, S32, S64, Bits32, Bits64, Value, Heap, Block, Access, Op, Item, function_item}
-use Rattle.walrus_types.specs.declared.locals.ModuleLocals.{ModuleLocals}
-use Rattle.walrus_types.specs.declared.module_types.ModuleTypes.{ModuleTypes}
 use Rattle.walrus_items.specs.Exports.{ExportValue, exported, exports}
 use Rattle.walrus_items.specs.Functions.{FunctionValue, functions}
 use Rattle.walrus_items.specs.Items.{is_item}
 use Rattle.walrus_items.proofs.ItemLemmas.{is_item-same, same-is_item}
-use Rattle.walrus_items.specs.declared.exports.ModuleExports.{ModuleExports}
-use Rattle.walrus_producers.specs.declared.producers.ModuleProducers.{ModuleProducers}
 use Rattle.walrus_items.specs.declared.functions.FunctionKind.{FunctionKind}
 use Rattle.walrus_items.specs.declared.functions.FunctionKind.TheVariants as kind
-use Rattle.walrus_items.specs.declared.functions.ModuleFunctions.{ModuleFunctions}
 use Rattle.walrus_model.specs.Abstract.{Abstract, Export, Body}
 use Rattle.walrus_model.specs.Abstract as abstract
-use Rattle.walrus_model.specs.Declared.{ref_func, IsRefInBody, IsUndeclared, NothingUndeclared}
+use Rattle.walrus_model.specs.Declared.{ref_func, IsRefInBody, IsRefInGlobal, IsUndeclared, NothingUndeclared}
 use Rattle.walrus_model.specs.Live.{IsLive}
 use Rattle.walrus_model.specs.Names.{body_of as body_in, body_of_function}
 use Rattle.walrus_model.proofs.Lists.{Contains-head, Contains-tail, Contains-uncons, Contains-none}
-use Rattle.walrus_contents.specs.References.{is_exported, arg_passes, args_pass, op_passes, kind_passes, refs_are_exported}
-use Rattle.walrus_contents.specs.View.{export_of, body, kind_of, function, view_of}
+use Rattle.walrus_entities.specs.Globals.{GlobalValue, globals}
+use Rattle.walrus_contents.proofs.Lookups.{mapped_some}
+use Rattle.walrus_contents.specs.References.{is_exported, arg_passes, args_pass, op_passes, init_passes, kind_passes, all_pass, all_globals_pass, refs_are_exported}
+use Rattle.walrus_contents.specs.declared.parts.Contents.{Contents}
+use Rattle.walrus_contents.specs.View.{export_of, body, kind_of, function, global_of, contents_view}
 
 -- ---- exports
 
@@ -45,9 +44,9 @@ either_false : (b c : Bool) → (b || c) ≡ false → (b ≡ false) × (c ≡ f
 either_false true c e = absurd (cc)
 either_false false c e = (refl, e)
 
-both_true : (b c : Bool) → (b && c) ≡ true → (b ≡ true) × (c ≡ true)
-both_true true c e = (refl, e)
-both_true false c e = absurd (cc)
+one_false : (b c : Bool) → (b && c) ≡ false → (b ≡ false) ⊎ (c ≡ false)
+one_false true c e = inr e
+one_false false c e = inl refl
 
 not_same : (x y : Item) → x ≡ y → is_item x y ≡ false → ⊥
 not_same x y e differs = false≢true (sym differs ∙ same-is_item x y e)
@@ -117,7 +116,7 @@ module _ (p : ℕ → Bool) where
   ops_good : (os : List Op) (f : ℕ) → list_all (op_passes p) os ≡ true → Contains os (ref_func f) → p f ≡ true
   ops_good [] f h at = absurd (Contains-none (ref_func f) at)
   ops_good (o ∷ os) f h at =
-      let both = both_true (op_passes p o) (list_all (op_passes p) os) h in
+      let both = and_both (op_passes p o) (list_all (op_passes p) os) h in
       ⊎_elim
       (λ (e : o ≡ ref_func f). ref_good f (subst (λ (x : Op). op_passes p x ≡ true) e both.0))
       (λ d. ops_good os f both.1 d)
@@ -127,6 +126,10 @@ module _ (p : ℕ → Bool) where
   kind_bad (kind.Local l) h = let q = ops_bad (body_of l) h in (l, refl, q.0, q.1, q.2)
   kind_bad (kind.Import i) h = absurd (cc)
   kind_bad (kind.Uninitialized ty) h = absurd (cc)
+
+  init_bad : (o : Option (List Op)) → init_passes p o ≡ false → (ops : List Op) × (o ≡ Some ops) × (f : ℕ) × Contains ops (ref_func f) × (p f ≡ false)
+  init_bad None h = absurd (cc)
+  init_bad (Some ops) h = let q = ops_bad ops h in (ops, refl, q.0, q.1, q.2)
 
 -- ---- slots
 
@@ -145,52 +148,79 @@ each_from test p (None ∷ rest) h zero x e = absurd (cc)
 each_from test p (None ∷ rest) h (suc i) x e = each_from test (p + 1) rest h i x e
 each_from test p (Some y ∷ rest) h zero x e =
     let same : y ≡ x = cc in
-    subst (λ z. test z ≡ true) same (both_true (test y) (list_all test (map (λ e. e.1) (entries_from (p + 1) rest))) h).0
-each_from test p (Some y ∷ rest) h (suc i) x e = each_from test (p + 1) rest (both_true (test y) (list_all test (map (λ e. e.1) (entries_from (p + 1) rest))) h).1 i x e
+    subst (λ z. test z ≡ true) same (and_both (test y) (list_all test (map (λ e. e.1) (entries_from (p + 1) rest))) h).0
+each_from test p (Some y ∷ rest) h (suc i) x e = each_from test (p + 1) rest (and_both (test y) (list_all test (map (λ e. e.1) (entries_from (p + 1) rest))) h).1 i x e
 
 -- ---- the module
 
-module _ (types : ModuleTypes) (all : ModuleLocals) (funcs : ModuleFunctions) (es : ModuleExports) (made : ModuleProducers) where
+module _ (c : Contents) where
   abbrev V : Abstract
-  V = view_of types all funcs es made
+  V = contents_view c
 
   abbrev E : List ExportValue
-  E = items (exports es)
+  E = items (exports c.exports)
 
   -- the function at a place, seen
-  seen_at : (i : ℕ) (value : FunctionValue) → item_at (functions funcs) i ≡ Some value → V.functions i ≡ Some (function all value)
-  seen_at i value e = ap (option_map (function all)) e
+  seen_at : (i : ℕ) (value : FunctionValue) → item_at (functions c.funcs) i ≡ Some value → V.functions i ≡ Some (function c.locals value)
+  seen_at i value e = ap (option_map (function c.locals)) e
 
-  slot_at : (o : Option FunctionValue) (b : Body) → body_of_function (option_map (function all) o) ≡ Some b → (value : FunctionValue) × (l : LocalFunction) × (o ≡ Some value) × (value.kind ≡ kind.Local l) × (b ≡ body all l)
+  slot_at : (o : Option FunctionValue) (b : Body) → body_of_function (option_map (function c.locals) o) ≡ Some b → (value : FunctionValue) × (l : LocalFunction) × (o ≡ Some value) × (value.kind ≡ kind.Local l) × (b ≡ body c.locals l)
   slot_at None b e = absurd (cc)
   slot_at (Some value) b e = by_kind value.kind refl e
     where
-      by_kind : (k : FunctionKind) → value.kind ≡ k → body_of_function (Some (let f : abstract.Function = record { ty = (function all value).ty; kind = kind_of all k } in f)) ≡ Some b → (v : FunctionValue) × (l : LocalFunction) × (Some value ≡ Some v) × (v.kind ≡ kind.Local l) × (b ≡ body all l)
-      by_kind (kind.Local l) is e = let same : body all l ≡ b = cc in (value, l, refl, is, sym same)
+      by_kind : (k : FunctionKind) → value.kind ≡ k → body_of_function (Some (let f : abstract.Function = record { ty = (function c.locals value).ty; kind = kind_of c.locals k } in f)) ≡ Some b → (v : FunctionValue) × (l : LocalFunction) × (Some value ≡ Some v) × (v.kind ≡ kind.Local l) × (b ≡ body c.locals l)
+      by_kind (kind.Local l) is e = let same : body c.locals l ≡ b = cc in (value, l, refl, is, sym same)
       by_kind (kind.Import i) is e = absurd (cc)
       by_kind (kind.Uninitialized ty) is e = absurd (cc)
 
-  in_body : refs_are_exported (items (functions funcs)) E ≡ true → (f : ℕ) → IsUndeclared (IsLive V) V f → IsRefInBody (IsLive V) V f → ⊥
+  -- it is named and exported
+  exported_yet : (f : ℕ) → IsUndeclared (IsLive V) V f → is_exported E f ≡ true → ⊥
+  exported_yet f u good = let e = exported_at E f good in u.not_exported e.0 e.1 e.2
+
+  in_body : all_pass (is_exported E) (items (functions c.funcs)) ≡ true → (f : ℕ) → IsUndeclared (IsLive V) V f → IsRefInBody (IsLive V) V f → ⊥
   in_body h f u r =
-      let s = slot_at (item_at (functions funcs) r.0) r.1 r.3 in
-      let passes = each_from (λ (v : FunctionValue). kind_passes (is_exported E) v.kind) 0 (functions funcs) h r.0 s.0 s.2 in
-      let good = ops_good (is_exported E) (body_of s.1) f (subst (λ (k : FunctionKind). kind_passes (is_exported E) k ≡ true) s.3 passes) (subst (λ (c : Body). Contains c.operators (ref_func f)) s.4 r.4) in
-      let e = exported_at E f good in
-      u.not_exported e.0 e.1 e.2
+      let s = slot_at (item_at (functions c.funcs) r.0) r.1 r.3 in
+      let passes = each_from (λ (v : FunctionValue). kind_passes (is_exported E) v.kind) 0 (functions c.funcs) h r.0 s.0 s.2 in
+      exported_yet f u (ops_good (is_exported E) (body_of s.1) f (subst (λ (k : FunctionKind). kind_passes (is_exported E) k ≡ true) s.3 passes) (subst (λ (c : Body). Contains c.operators (ref_func f)) s.4 r.4))
 
-  pub nothing_undeclared : refs_are_exported (items (functions funcs)) E ≡ true → NothingUndeclared V
-  nothing_undeclared h f u = ⊎_elim (λ r. in_body h f u r) (λ global. let is = global.4 in absurd (cc)) u.named
+  in_global : all_globals_pass (is_exported E) (items (globals c.globals)) ≡ true → (f : ℕ) → IsUndeclared (IsLive V) V f → IsRefInGlobal (IsLive V) V f → ⊥
+  in_global h f u r =
+      let s = mapped_some global_of (item_at (globals c.globals) r.0) r.1 r.4 in
+      let passes = each_from (λ (v : GlobalValue). init_passes (is_exported E) v.initialiser) 0 (globals c.globals) h r.0 s.0 s.1 in
+      let is : s.0.initialiser ≡ Some r.2 = ap (λ (g : abstract.Global). g.initialiser) (sym s.2) ∙ r.5 in
+      exported_yet f u (ops_good (is_exported E) r.2 f (subst (λ (o : Option (List Op)). init_passes (is_exported E) o ≡ true) is passes) r.6)
 
-  pub one_undeclared : refs_are_exported (items (functions funcs)) E ≡ false → (f : ℕ) × IsUndeclared (IsLive V) V f
-  one_undeclared h =
-      let q = found_from (λ (v : FunctionValue). kind_passes (is_exported E) v.kind) 0 (functions funcs) h in
+  pub nothing_undeclared : refs_are_exported (items (functions c.funcs)) (items (globals c.globals)) E ≡ true → NothingUndeclared V
+  nothing_undeclared h f u =
+      let both = and_both (all_pass (is_exported E) (items (functions c.funcs))) (all_globals_pass (is_exported E) (items (globals c.globals))) h in
+      ⊎_elim (λ r. in_body both.0 f u r) (λ r. in_global both.1 f u r) u.named
+
+  body_undeclared : all_pass (is_exported E) (items (functions c.funcs)) ≡ false → (f : ℕ) × IsUndeclared (IsLive V) V f
+  body_undeclared h =
+      let q = found_from (λ (v : FunctionValue). kind_passes (is_exported E) v.kind) 0 (functions c.funcs) h in
       let k = kind_bad (is_exported E) q.1.kind q.3 in
-      let there : V.functions q.0 ≡ Some (function all q.1) = seen_at q.0 q.1 q.2 in
-      let found : body_in V q.0 ≡ Some (body all k.0) = ap body_of_function there ∙ ap (λ (x : FunctionKind). body_of_function (Some (let f : abstract.Function = record { ty = (function all q.1).ty; kind = kind_of all x } in f))) k.1 in (
+      let there : V.functions q.0 ≡ Some (function c.locals q.1) = seen_at q.0 q.1 q.2 in
+      let found : body_in V q.0 ≡ Some (body c.locals k.0) = ap body_of_function there ∙ ap (λ (x : FunctionKind). body_of_function (Some (let f : abstract.Function = record { ty = (function c.locals q.1).ty; kind = kind_of c.locals x } in f))) k.1 in (
         k.2,
         record {
-          named = inl (q.0, body all k.0, subst (λ o. IsSome o) (sym there) refl, found, k.3);
+          named = inl (q.0, body c.locals k.0, subst (λ o. IsSome o) (sym there) refl, found, k.3);
           not_exported = none_exported E k.2 k.4;
           not_listed = λ i e live is at. absurd (cc);
         },
       )
+
+  global_undeclared : all_globals_pass (is_exported E) (items (globals c.globals)) ≡ false → (f : ℕ) × IsUndeclared (IsLive V) V f
+  global_undeclared h =
+      let q = found_from (λ (v : GlobalValue). init_passes (is_exported E) v.initialiser) 0 (globals c.globals) h in
+      let k = init_bad (is_exported E) q.1.initialiser q.3 in
+      let there : V.globals q.0 ≡ Some (global_of q.1) = ap (option_map global_of) q.2 in (
+        k.2,
+        record {
+          named = inr (q.0, global_of q.1, k.0, subst (λ o. IsSome o) (sym there) refl, there, k.1, k.3);
+          not_exported = none_exported E k.2 k.4;
+          not_listed = λ i e live is at. absurd (cc);
+        },
+      )
+
+  pub one_undeclared : refs_are_exported (items (functions c.funcs)) (items (globals c.globals)) E ≡ false → (f : ℕ) × IsUndeclared (IsLive V) V f
+  one_undeclared h = ⊎_elim body_undeclared global_undeclared (one_false (all_pass (is_exported E) (items (functions c.funcs))) (all_globals_pass (is_exported E) (items (globals c.globals))) h)

@@ -9,3 +9,5 @@ pub mod Taking
 pub mod TypeLists
 pub mod Named
 pub mod NamedFound
+pub mod ConstNames
+pub mod Plain

@@ -1,17 +1,12 @@
 -- Where each item is whole, and what is exported is there, nothing that is named is missing; and where nothing is, all is there.
-use Rattle.std.proofs.Common.{◌≡◌, ℕ, ◌<◌, ◌+◌, List, length, map, take, get_or, Some, None, sym, ap, ◌∙◌, subst, refl}
+use Rattle.std.proofs.Common.{◌≡◌, ℕ, ◌<◌, ◌+◌, List, ◌∷◌, length, map, take, get_or, Some, None, sym, ap, ◌∙◌, subst, refl}
 use Rattle.std.proofs.lemmas.Bool.{false≢true}
 use Rattle.std.specs.Prelude.{Option, IsSome, Contains, option_map, Result, MatchResult}
-use Rattle.walrus_base.specs.Arena.{items}
-use Rattle.walrus_types.specs.Operators.{Types, Functions, Tables, Memories, Tags, Globals, Elements, DataSegments, Item}
-use Rattle.walrus_types.specs.declared.locals.ModuleLocals.{ModuleLocals}
-use Rattle.walrus_types.specs.declared.module_types.ModuleTypes.{ModuleTypes}
+use Rattle.walrus_base.specs.Arena.{item_at, items}
+use Rattle.walrus_types.specs.Operators.{Space, Types, Functions, Tables, Memories, Tags, Globals, Elements, DataSegments, Item}
 use Rattle.walrus_code.specs.Code.{item_of}
 use Rattle.walrus_code.specs.declared.items.ItemId.{ItemId}
 use Rattle.walrus_items.specs.Exports.{ExportValue, exported, exports}
-use Rattle.walrus_items.specs.declared.exports.ModuleExports.{ModuleExports}
-use Rattle.walrus_producers.specs.declared.producers.ModuleProducers.{ModuleProducers}
-use Rattle.walrus_items.specs.declared.functions.ModuleFunctions.{ModuleFunctions}
 use Rattle.walrus_model.specs.Abstract as abstract
 use Rattle.walrus_model.specs.Abstract.{Abstract}
 use Rattle.walrus_model.specs.Dead.{HasDead, DeadName, DeadLocal, DeadExport, DeadStart, DeadImport, NoKind}
@@ -22,9 +17,13 @@ use Rattle.walrus_model.proofs.Lists.{Contains-map, Contains-none}
 use Rattle.walrus_model.proofs.Reach.{Contains-unmap}
 use Rattle.walrus_parts.specs.declared.error.Error.{Error}
 use Rattle.walrus_contents.specs.Named.{export_names}
-use Rattle.walrus_contents.specs.There.{AreLive, AreWhole, IsRefusal, IsSound, IsThere, IsUnsound, IsWhole, NoBody, NoLocal, OneIsDead}
-use Rattle.walrus_contents.specs.View.{export_of, view_of}
-use Rattle.walrus_contents.proofs.NamedLemmas.{result_map, row_more, some_none}
+use Rattle.walrus_contents.specs.There.{AreLive, AreWhole, ImportsAreLive, IsRefusal, IsSound, IsThere, IsUnsound, IsWhole, NoBody, NoLocal, OneIsDead}
+use Rattle.walrus_items.specs.Imports.{ImportValue, imported}
+use Rattle.walrus_contents.specs.View.{contents_view, export_of, import_of}
+use Rattle.walrus_contents.specs.declared.parts.Contents.{Contents}
+use Rattle.walrus_contents.proofs.Lookups.{mapped_some}
+use Rattle.walrus_contents.proofs.NamedLemmas.{among, result_map, row_more, same_some, some_none}
+use Rattle.walrus_contents.proofs.Walked.{Walked, next_there, walk_goes}
 
 -- what something is written in is there
 live_where : {X : Type 0} (names : X → List Item) (o : Option X) (y : Item) → Contains (named_by names o) y → IsSome o
@@ -58,6 +57,9 @@ module _ (v : Abstract) (ids : List ItemId) (i : ℕ) (d : ItemId) (lt : i < len
   pub live_more : AreLive v (map item_of (take i ids)) → IsLive v (item_of (get_or ids i d)) → AreLive v (map item_of (take (i + 1) ids))
   live_more before now = row_more item_of (λ x. IsLive v x) ids i d lt before now
 
+  pub one_dead : (IsLive v (item_of (get_or ids i d)) → ⊥) → OneIsDead v (map item_of ids)
+  one_dead dead = (item_of (get_or ids i d), (among item_of ids i d lt, dead))
+
 -- ---- what isn't there
 
 pub unsound_dead : (v : Abstract) (x : Item) → IsUnsound v x → HasDead v
@@ -72,78 +74,108 @@ item_checked v x named is sound r h = result_map (AreLive v named) (IsWhole v x)
     (λ dead. DeadName x dead.0 (subst (λ (ys : List Item). Contains ys dead.0) is dead.1.0) dead.1.1)
     r h
 
--- ---- where nothing that is named is missing, all is there
+-- ---- what is seen of a thing is there where the thing is
 
-some_unless : {X : Type 0} (o : Option X) → ((IsSome o → ⊥) → ⊥) → IsSome o
-some_unless (Some x) h = refl
-some_unless None h = absurd (h (λ e. false≢true e))
-
-live_unless : (v : Abstract) (x : Item) → ((IsLive v x → ⊥) → ⊥) → IsLive v x
-live_unless v (Types, i) h = some_unless (v.types i) h
-live_unless v (Functions, i) h = some_unless (v.functions i) h
-live_unless v (Tables, i) h = some_unless (v.tables i) h
-live_unless v (Memories, i) h = some_unless (v.memories i) h
-live_unless v (Tags, i) h = some_unless (v.tags i) h
-live_unless v (Globals, i) h = some_unless (v.globals i) h
-live_unless v (Elements, i) h = some_unless (v.elements i) h
-live_unless v (DataSegments, i) h = some_unless (v.data_segments i) h
-
-not_some : {X : Type 0} (o : Option X) → (IsSome o → ⊥) → o ≡ None
-not_some (Some x) h = absurd (h refl)
-not_some None h = refl
-
-pub none_dead : (v : Abstract) → (HasDead v → ⊥) → IsThere v
-none_dead v h = record {
-  written = λ x y c. live_unless v y (λ dead. h (DeadName x y c dead));
-  locals = λ i b x is used. some_unless (b.local_type x) (λ dead. h (DeadLocal i x b is used (not_some (b.local_type x) dead)));
-  exports = λ e c. live_unless v e.item (λ dead. h (DeadExport e c dead));
-  initialised = λ i f at none. h (NoKind i f at none);
-}
+pub seen_there : {A B : Type 0} (f : A → B) (o : Option A) (x : A) → o ≡ Some x → IsSome (option_map f o)
+seen_there {A} f o x e = subst (λ (s : Option A). IsSome (option_map f s)) (sym e) refl
 
 pub was_there : {A B : Type 0} (f : A → B) (o : Option A) → IsSome (option_map f o) → IsSome o
 was_there f (Some x) h = refl
 was_there f None h = h
 
-module _ (types : ModuleTypes) (all : ModuleLocals) (funcs : ModuleFunctions) (es : ModuleExports) (made : ModuleProducers) where
+-- what isn't a function is sound where it is there
+other_sound : (v : Abstract) (s : Space) (i : ℕ) → (s ≡ Functions → ⊥) → IsLive v (s, i) → IsSound v (s, i)
+other_sound v s i other live = record {
+  live = live;
+  initialised = λ j f same. absurd (other (ap (λ (x : Item). x.0) same));
+  locals = λ j f b l same. absurd (other (ap (λ (x : Item). x.0) same));
+}
+
+-- memories name nothing
+no_names : (o : Option abstract.Memory) (x : Item) → Contains (named_by memory_names o) x → ⊥
+no_names (Some m) x at = Contains-none x at
+no_names None x at = Contains-none x at
+
+memories_whole : (v : Abstract) → AreWhole v Memories
+memories_whole v i live = record {
+  sound = other_sound v Memories i (λ (same : Memories ≡ Functions). absurd (cc)) live;
+  written = λ x at. absurd (no_names (v.memories i) x at);
+}
+
+module _ (c : Contents) where
   abbrev V : Abstract
-  V = view_of types all funcs es made
+  V = contents_view c
 
-  pub exports_dead : OneIsDead V (export_names es) → HasDead V
+  pub exports_dead : OneIsDead V (export_names c.exports) → HasDead V
   exports_dead dead =
-      let from = Contains-unmap (λ (e : ExportValue). exported e.item) (items (exports es)) dead.0 dead.1.0 in
-      DeadExport (export_of from.0) (Contains-map export_of from.0 (items (exports es)) from.1) (λ live. dead.1.1 (subst (λ (y : Item). IsLive V y) from.2 live))
+      let from = Contains-unmap (λ (e : ExportValue). exported e.item) (items (exports c.exports)) dead.0 dead.1.0 in
+      DeadExport (export_of from.0) (Contains-map export_of from.0 (items (exports c.exports)) from.1) (λ live. dead.1.1 (subst (λ (y : Item). IsLive V y) from.2 live))
 
-  whole_at : AreWhole V Types → AreWhole V Functions → (x : Item) → IsLive V x → IsWhole V x
-  whole_at t f (Types, i) live = t i live
-  whole_at t f (Functions, i) live = f i live
-  whole_at t f (Tables, i) live = absurd (false≢true live)
-  whole_at t f (Memories, i) live = absurd (false≢true live)
-  whole_at t f (Tags, i) live = absurd (false≢true live)
-  whole_at t f (Globals, i) live = absurd (false≢true live)
-  whole_at t f (Elements, i) live = absurd (false≢true live)
-  whole_at t f (DataSegments, i) live = absurd (false≢true live)
+  -- what the check has found before it comes to the functions
+  pub record Checked : Type 0 where
+    pub exports : AreLive V (export_names c.exports)
+    pub imports : ImportsAreLive V
+    pub types : AreWhole V Types
+    pub tables : AreWhole V Tables
+    pub tags : AreWhole V Tags
+    pub globals : AreWhole V Globals
 
-  all_there : AreLive V (export_names es) → AreWhole V Types → AreWhole V Functions → IsThere V
-  all_there e t f = record {
-    written = λ x y c. (whole_at t f x (written_is_live V x y c)).written y c;
-    locals = λ i b x is used.
-        let at = local_function (V.functions i) b is in
-        (f i (subst (λ (o : Option abstract.Function). IsSome o) (sym at.1) refl)).sound.locals i at.0 b x refl at.1 at.2 used;
-    exports = λ x c.
-        let from = Contains-unmap export_of (items (exports es)) x c in
-        subst (λ (y : abstract.Export). IsLive V y.item) from.2 (e (exported from.0.item) (Contains-map (λ (y : ExportValue). exported y.item) from.0 (items (exports es)) from.1));
-    initialised = λ i g at. (f i (subst (λ (o : Option abstract.Function). IsSome o) (sym at) refl)).sound.initialised i g refl at;
-  }
+  module _ (k : Checked) (fs : AreWhole V Functions) where
+    whole_at : (x : Item) → IsLive V x → IsWhole V x
+    whole_at (Types, i) live = k.types i live
+    whole_at (Functions, i) live = fs i live
+    whole_at (Tables, i) live = k.tables i live
+    whole_at (Memories, i) live = memories_whole V i live
+    whole_at (Tags, i) live = k.tags i live
+    whole_at (Globals, i) live = k.globals i live
+    whole_at (Elements, i) live = absurd (false≢true live)
+    whole_at (DataSegments, i) live = absurd (false≢true live)
+
+    all_there : IsThere V
+    all_there = record {
+      written = λ x y at. (whole_at x (written_is_live V x y at)).written y at;
+      locals = λ i b x is used.
+          let at = local_function (V.functions i) b is in
+          (fs i (subst (λ (o : Option abstract.Function). IsSome o) (sym at.1) refl)).sound.locals i at.0 b x refl at.1 at.2 used;
+      exports = λ x at.
+          let from = Contains-unmap export_of (items (exports c.exports)) x at in
+          subst (λ (y : abstract.Export). IsLive V y.item) from.2 (k.exports (exported from.0.item) (Contains-map (λ (y : ExportValue). exported y.item) from.0 (items (exports c.exports)) from.1));
+      imports = k.imports;
+      initialised = λ i g at. (fs i (subst (λ (o : Option abstract.Function). IsSome o) (sym at) refl)).sound.initialised i g refl at;
+    }
 
   there_dead : IsThere V → HasDead V → ⊥
-  there_dead h (DeadName x y c dead) = dead (h.written x y c)
+  there_dead h (DeadName x y at dead) = dead (h.written x y at)
   there_dead h (DeadLocal f x b is used none) = some_none (b.local_type x) (h.locals f b x is used) none
-  there_dead h (DeadExport e c dead) = dead (h.exports e c)
+  there_dead h (DeadExport e at dead) = dead (h.exports e at)
   there_dead h (DeadStart f is none) = absurd cc
-  there_dead h (DeadImport i x at dead) = absurd cc
+  there_dead h (DeadImport i x at dead) = dead (h.imports i x at)
   there_dead h (NoKind i f at none) = h.initialised i f at none
 
   -- at the end of the check the functions decide
-  pub functions_checked : {T : Type 0} → AreLive V (export_names es) → AreWhole V Types → (r : Result T Error)
+  pub functions_checked : {T : Type 0} → Checked → (r : Result T Error)
       → MatchResult r (λ _. AreWhole V Functions) (IsRefusal (HasDead V)) → MatchResult r (λ _. HasDead V → ⊥) (IsRefusal (HasDead V))
-  functions_checked e t r h = result_map (AreWhole V Functions) (HasDead V → ⊥) (HasDead V) (HasDead V) (λ f. there_dead (all_there e t f)) (λ dead. dead) r h
+  functions_checked k r h = result_map (AreWhole V Functions) (HasDead V → ⊥) (HasDead V) (HasDead V) (λ fs. there_dead (all_there k fs)) (λ dead. dead) r h
+
+-- the import at a place, where what it brings is there
+pub imported_live : (v : Abstract) (o : Option ImportValue) (e : ImportValue) → o ≡ Some e → IsLive v (imported e.kind) → (x : abstract.Import) → option_map import_of o ≡ Some x → IsLive v x.item
+imported_live v o e is live x at =
+    let from = mapped_some import_of o x at in
+    let same : e ≡ from.0 = same_some o e from.0 is from.1 in
+    subst (λ (y : abstract.Import). IsLive v y.item) (sym from.2) (subst (λ (y : ImportValue). IsLive v (imported y.kind)) same live)
+
+-- where what is there of each import is live, so is what each import brings
+pub import_there : (v : Abstract) (o : Option ImportValue) → (IsSome o → (x : abstract.Import) → option_map import_of o ≡ Some x → IsLive v x.item) → (x : abstract.Import) → option_map import_of o ≡ Some x → IsLive v x.item
+import_there v (Some e) h x at = h refl x at
+import_there v None h x at = absurd cc
+
+-- what the import at a place brings, if one stands there, is there
+abbrev pub BringsLive : Abstract → List (Option ImportValue) → ℕ → Type 0
+BringsLive v slots i = (x : abstract.Import) → option_map import_of (item_at slots i) ≡ Some x → IsLive v x.item
+
+module _ (v : Abstract) (slots : List (Option ImportValue)) (left after : List (ℕ × ImportValue)) (e : ℕ × ImportValue) (steps : left ≡ e ∷ after) where
+  pub import_goes : IsLive v (imported e.1.kind) → Walked (BringsLive v slots) slots left → Walked (BringsLive v slots) slots after
+  import_goes live w = walk_goes (BringsLive v slots) slots left after e steps (λ x at. imported_live v (item_at slots e.0) e.1 (next_there (BringsLive v slots) slots left after e steps w) live x at) w
+
+  pub import_stops : ((i : ℕ) → v.imports i ≡ option_map import_of (item_at slots i)) → (IsLive v (imported e.1.kind) → ⊥) → Walked (BringsLive v slots) slots left → HasDead v
+  import_stops same dead w = DeadImport e.0 (import_of e.1) (same e.0 ∙ ap (option_map import_of) (next_there (BringsLive v slots) slots left after e steps w)) dead

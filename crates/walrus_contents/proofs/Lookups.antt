@@ -1,21 +1,17 @@
 -- Lists and what is found in them.
 use Rattle.std.proofs.Common.{inl, inr, ◌≡◌, ◌⊎◌, ℕ, zero, suc, ◌+◌, ◌<◌, ◌≤◌, Bool, List, [], ◌∷◌, ◌++◌, length, map, get_or, refl, sym, ap, ap₂, subst, ◌∙◌, arith, false, true}
-use Rattle.std.specs.Prelude.{Option, Some, None, IsSome, All, AllPairs, slice_get, zip, option_map, option_and_then, nat_eq, if◌then◌else◌}
+use Rattle.std.specs.Prelude.{Option, Some, None, IsSome, AllPairs, slice_get, zip, option_map, option_and_then, nat_eq, if◌then◌else◌}
 use Rattle.std.specs.List.{AllZip, range_with_len}
 use Rattle.std.proofs.lemmas.Bool.{ne_eqb}
 use Rattle.std.proofs.lemmas.List.{get_or-map, length-map}
 use Rattle.walrus_types.specs.Shape.{place_in}
-use Rattle.walrus_model.proofs.Standing.{some_inj, self_eq, none_there, got_in}
+use Rattle.walrus_model.proofs.Standing.{some_inj, self_eq}
 
 -- ---- options
 
 pub still_some : {A B : Type 0} (f : A → B) (o : Option A) → IsSome o → IsSome (option_map f o)
 still_some f (Some x) h = refl
 still_some f None h = h
-
-pub was_some : {A B : Type 0} (f : A → B) (o : Option A) → IsSome (option_map f o) → (a : A) × (o ≡ Some a)
-was_some f (Some a) h = (a, refl)
-was_some f None h = absurd (none_there h)
 
 pub mapped_some : {A B : Type 0} (f : A → B) (o : Option A) (y : B) → option_map f o ≡ Some y → (x : A) × (o ≡ Some x) × (y ≡ f x)
 mapped_some f (Some x) y e = (x, refl, (let p : f x ≡ y = cc in sym p))
@@ -32,12 +28,6 @@ got_map f [] i = refl
 got_map f (x ∷ xs) zero = refl
 got_map f (x ∷ xs) (suc i) = got_map f xs i
 
-pub got_zip : {A B : Type 0} (xs : List A) (ys : List B) (i : ℕ) (p : A × B) → slice_get (zip xs ys) i ≡ Some p → (slice_get xs i ≡ Some p.0) × (slice_get ys i ≡ Some p.1)
-got_zip [] ys i p e = cc
-got_zip (x ∷ xs) [] i p e = cc
-got_zip (x ∷ xs) (y ∷ ys) zero p e = let q : (x, y) ≡ p = cc in (ap (λ z. Some z.0) q, ap (λ z. Some z.1) q)
-got_zip (x ∷ xs) (y ∷ ys) (suc i) p e = got_zip xs ys i p e
-
 pub got_both : {A B : Type 0} (xs : List A) (ys : List B) (k : ℕ) (x : A) (y : B) → slice_get xs k ≡ Some x → slice_get ys k ≡ Some y → slice_get (zip xs ys) k ≡ Some (x, y)
 got_both [] ys k x y e h = absurd (cc)
 got_both (a ∷ xs) [] k x y e h = absurd (cc)
@@ -48,9 +38,6 @@ pub there : {A : Type 0} (xs : List A) (i : ℕ) → i < length xs → IsSome (s
 there [] i lt = absurd (omega arith)
 there (x ∷ xs) zero lt = refl
 there (x ∷ xs) (suc i) lt = there xs i (omega arith)
-
-pub all_got : {A : Type 0} (P : A → Type 0) (xs : List A) (i : ℕ) (x : A) → All P xs → slice_get xs i ≡ Some x → P x
-all_got P xs i x h e = let g = got_in xs i x e in subst P (g.1 x) (h i x g.0)
 
 pub there_mapped : {A B : Type 0} (f : A → B) (xs : List A) (i : ℕ) → i < length xs → IsSome (slice_get (map f xs) i)
 there_mapped f xs i lt = there (map f xs) i (omega (arith, length-map xs f))
@@ -90,11 +77,6 @@ pub as_long : {A B C : Type 0} (f : A → C) (g : B → C) (xs : List A) (ys : L
 as_long f g xs ys e = sym (length-map xs f) ∙ ap length e ∙ length-map ys g
 
 -- ---- places in ranges
-
-pub range_at : (a n k : ℕ) → k < n → slice_get (range_with_len a n) k ≡ Some (a + k)
-range_at a zero k lt = absurd (omega (arith, lt))
-range_at a (suc n) zero lt = let p : a ≡ a + 0 = omega arith in ap (λ (m : ℕ). Some m) p
-range_at a (suc n) (suc k) lt = let p : a + 1 + k ≡ a + suc k = omega arith in range_at (a + 1) n k (omega (arith, lt)) ∙ ap (λ (m : ℕ). Some m) p
 
 pub range_within : (a n k x : ℕ) → slice_get (range_with_len a n) k ≡ Some x → k < n
 range_within a zero k x e = cc

@@ -1,5 +1,5 @@
 -- What operators name that were looked up and found.
-use Rattle.std.proofs.Common.{◌≡◌, ℕ, Bool, true, List, [], ◌∷◌, ◌++◌, map, refl, sym, ap, ap₂, ◌∙◌, subst, ⊎_elim, Some}
+use Rattle.std.proofs.Common.{◌≡◌, ℕ, Bool, true, List, [], ◌∷◌, ◌++◌, map, refl, ap, ap₂, ◌∙◌, subst, ⊎_elim, Some}
 use Rattle.std.specs.Prelude.{Option, IsSome, Contains, flat_map, ◌&&◌}
 use Rattle.std.proofs.lemmas.List.Elements.{Contains-append_cases}
 use Rattle.wasm_forms.specs.Reading.{◌>>=◌}
@@ -10,9 +10,7 @@ use Rattle.walrus_bodies.specs.Blocks.{block_holds, args_hold, blocks_hold}
 use Rattle.walrus_model.proofs.Lists.{Contains-uncons, Contains-none}
 use Rattle.walrus_contents.proofs.Named.{through}
 use Rattle.walrus_model.proofs.Standing.{some_inj}
-
-pub is_some_by : {A : Type 0} (o : Option A) (x : A) → o ≡ Some x → IsSome o
-is_some_by o x e = subst (λ p. IsSome p) (sym e) (refl {A = Bool} {a = true})
+use Rattle.walrus_model.proofs.Orders.{is_some_by}
 
 one_item : {A : Type 0} (P : A → Type 0) (x y : A) → Contains (x ∷ []) y → P x → P y
 one_item P x y c p = ⊎_elim (λ (e : x ≡ y). subst P e p) (λ (d : Contains [] y). absurd (Contains-none y d)) (Contains-uncons x y [] c)

@@ -10,20 +10,17 @@ use Rattle.walrus_base.specs.Id.{place}
 use Rattle.walrus_base.specs.declared.id.Id.{Id}
 use Rattle.walrus_base.specs.declared.keys.LocalKey.{LocalKey}
 use Rattle.walrus_types.specs.declared.locals.ModuleLocals.{ModuleLocals}
-use Rattle.walrus_types.specs.declared.module_types.ModuleTypes.{ModuleTypes}
 use Rattle.walrus_types.specs.Operators.{Functions, Item, type_item, locals_of, names_of}
 use Rattle.walrus_code.specs.Function.{body_of}
 use Rattle.walrus_code.specs.declared.function.LocalFunction.{LocalFunction}
 use Rattle.walrus_code.specs.declared.items.ItemId.{ItemId}
 use Rattle.walrus_items.specs.Functions.{FunctionValue, functions}
-use Rattle.walrus_items.specs.declared.exports.ModuleExports.{ModuleExports}
-use Rattle.walrus_producers.specs.declared.producers.ModuleProducers.{ModuleProducers}
 use Rattle.walrus_items.specs.declared.functions.FunctionKind.{FunctionKind}
 use Rattle.walrus_items.specs.declared.functions.FunctionKind.TheVariants.{Import, Local, Uninitialized}
-use Rattle.walrus_items.specs.declared.functions.ModuleFunctions.{ModuleFunctions}
 use Rattle.walrus_model.specs.Abstract as abstract
 use Rattle.walrus_model.specs.Refers.{IsUsed, body_names, function_names, named_by, written_in}
-use Rattle.walrus_contents.specs.View.{body, function, handlers_at, kind_handlers, kind_of, view_of}
+use Rattle.walrus_contents.specs.View.{body, contents_view, function, handlers_at, kind_handlers, kind_of}
+use Rattle.walrus_contents.specs.declared.parts.Contents.{Contents}
 use Rattle.walrus_parts.specs.declared.error.Error.{Error}
 use Rattle.walrus_parts.specs.declared.error.Error.TheVariants.{Memory, DeadItem}
 use Rattle.walrus_model.proofs.Lists.{Contains-head, Contains-tail, Contains-none}
@@ -108,7 +105,7 @@ two_rows {Y = Y} old n1 n2 a b e1 e2 = e2 ∙ ap (λ (t : List Y). t ++ b) e1 �
 
 -- ---- functions
 
-same_some : {X : Type 0} (o : Option X) (x y : X) → o ≡ Some x → o ≡ Some y → x ≡ y
+pub same_some : {X : Type 0} (o : Option X) (x y : X) → o ≡ Some x → o ≡ Some y → x ≡ y
 same_some {X = X} o x y p q = let e : ◌≡◌ {A = Option X} (Some x) (Some y) = sym p ∙ q in cc
 
 pub result_map : {T : Type 0} (A B P Q : Type 0) → (A → B) → (P → Q) → (r : Result T Error) → MatchResult r (λ _. A) (IsRefusal P) → MatchResult r (λ _. B) (IsRefusal Q)
@@ -127,52 +124,52 @@ body_named all f r old now new used same first h = result_map
     (λ missing. missing)
     r (subst (λ (ps : List ℕ). MatchResult r (λ _. AreThere all ps × Puts now new (flat_map (local_type_names all) ps)) (IsRefusal (OneIsMissing all ps))) same h)
 
-module _ (types : ModuleTypes) (all : ModuleLocals) (funcs : ModuleFunctions) (es : ModuleExports) (made : ModuleProducers) where
+module _ (c : Contents) where
   abbrev v : abstract.Abstract
-  v = view_of types all funcs es made
+  v = contents_view c
 
-  ready_kind : (k : FunctionKind) → IsReady all k → kind_of all k ≡ abstract.Uninitialised → ⊥
+  ready_kind : (k : FunctionKind) → IsReady c.locals k → kind_of c.locals k ≡ abstract.Uninitialised → ⊥
   ready_kind (Import i) h e = absurd (cc)
   ready_kind (Local f) h e = absurd (cc)
   ready_kind (Uninitialized ty) h e = absurd h
 
-  ready_locals : (k : FunctionKind) → IsReady all k → (b : abstract.Body) → kind_of all k ≡ abstract.LocalFunction b → (l : ℕ) → IsUsed b l → IsSome (b.local_type l)
+  ready_locals : (k : FunctionKind) → IsReady c.locals k → (b : abstract.Body) → kind_of c.locals k ≡ abstract.LocalFunction b → (l : ℕ) → IsUsed b l → IsSome (b.local_type l)
   ready_locals (Import i) h b e l u = absurd (cc)
   ready_locals (Local f) h b e l u =
-      let same : body all f ≡ b = cc in
+      let same : body c.locals f ≡ b = cc in
       subst (λ (x : abstract.Body). IsUsed x l → IsSome (x.local_type l)) same (h l) u
   ready_locals (Uninitialized ty) h b e l u = absurd h
 
-  module _ (i : ℕ) (f : FunctionValue) (is : item_at (functions funcs) i ≡ Some f) where
-    seen_at : (j : ℕ) (g : abstract.Function) → ◌≡◌ {A = Item} (Functions, i) (Functions, j) → v.functions j ≡ Some g → function all f ≡ g
+  module _ (i : ℕ) (f : FunctionValue) (is : item_at (functions c.funcs) i ≡ Some f) where
+    seen_at : (j : ℕ) (g : abstract.Function) → ◌≡◌ {A = Item} (Functions, i) (Functions, j) → v.functions j ≡ Some g → function c.locals f ≡ g
     seen_at j g same at =
         let number : i ≡ j = ap (λ (x : Item). x.1) same in
-        same_some (v.functions j) (function all f) g (ap (option_map (function all)) (subst (λ (n : ℕ). item_at (functions funcs) n ≡ Some f) number is)) at
+        same_some (v.functions j) (function c.locals f) g (ap (option_map (function c.locals)) (subst (λ (n : ℕ). item_at (functions c.funcs) n ≡ Some f) number is)) at
 
-    sound_ready : IsReady all f.kind → IsSound v (Functions, i)
+    sound_ready : IsReady c.locals f.kind → IsSound v (Functions, i)
     sound_ready h = record {
-      live = subst (λ (o : Option FunctionValue). IsSome (option_map (function all) o)) (sym is) refl;
+      live = subst (λ (o : Option FunctionValue). IsSome (option_map (function c.locals) o)) (sym is) refl;
       initialised = λ j g same at e. ready_kind f.kind h (ap (λ (x : abstract.Function). x.kind) (seen_at j g same at) ∙ e);
       locals = λ j g b l same at e u. ready_locals f.kind h b (ap (λ (x : abstract.Function). x.kind) (seen_at j g same at) ∙ e) l u;
     }
 
-    unready_unsound : (k : FunctionKind) → f.kind ≡ k → IsUnready all k → IsUnsound v (Functions, i)
+    unready_unsound : (k : FunctionKind) → f.kind ≡ k → IsUnready c.locals k → IsUnsound v (Functions, i)
     unready_unsound (Import n) e u = absurd u
-    unready_unsound (Local n) e u = NoLocal i (function all f) (body all n) u.0 refl (ap (option_map (function all)) is) (ap (kind_of all) e) u.1.0 u.1.1
-    unready_unsound (Uninitialized ty) e u = NoBody i (function all f) refl (ap (option_map (function all)) is) (ap (kind_of all) e)
+    unready_unsound (Local n) e u = NoLocal i (function c.locals f) (body c.locals n) u.0 refl (ap (option_map (function c.locals)) is) (ap (kind_of c.locals) e) u.1.0 u.1.1
+    unready_unsound (Uninitialized ty) e u = NoBody i (function c.locals f) refl (ap (option_map (function c.locals)) is) (ap (kind_of c.locals) e)
 
     -- what stands written in a function, in the words of the abstract module
     pub function_named : {T : Type 0} (r : Result T Error) (old new : Vec ItemId)
-        → MatchResult r (λ _. IsReady all f.kind × Puts old new (function_names (function all f))) (IsRefusal (IsUnready all f.kind))
+        → MatchResult r (λ _. IsReady c.locals f.kind × Puts old new (function_names (function c.locals f))) (IsRefusal (IsUnready c.locals f.kind))
         → MatchResult r (λ _. IsSound v (Functions, i) × Puts old new (written_in v (Functions, i))) (IsRefusal (IsUnsound v (Functions, i)))
     function_named r old new h = result_map
-        (IsReady all f.kind × Puts old new (function_names (function all f)))
+        (IsReady c.locals f.kind × Puts old new (function_names (function c.locals f)))
         (IsSound v (Functions, i) × Puts old new (written_in v (Functions, i)))
-        (IsUnready all f.kind) (IsUnsound v (Functions, i))
-        (λ x. (sound_ready x.0, subst (λ (o : Option FunctionValue). Puts old new (named_by function_names (option_map (function all) o))) (sym is) x.1))
+        (IsUnready c.locals f.kind) (IsUnsound v (Functions, i))
+        (λ x. (sound_ready x.0, subst (λ (o : Option FunctionValue). Puts old new (named_by function_names (option_map (function c.locals) o))) (sym is) x.1))
         (unready_unsound f.kind refl)
         r h
 
   -- what a function keeps beside that
-  pub function_kept : (i : ℕ) (f : FunctionValue) → item_at (functions funcs) i ≡ Some f → kept_types v (Functions, i) ≡ map type_item (kind_handlers f.kind)
+  pub function_kept : (i : ℕ) (f : FunctionValue) → item_at (functions c.funcs) i ≡ Some f → kept_types v (Functions, i) ≡ map type_item (kind_handlers f.kind)
   function_kept i f is = ap (λ (o : Option FunctionValue). map type_item (handlers_at o)) is

@@ -3,7 +3,7 @@ use Rattle.wasm_frames.specs.Record as wire
 use Rattle.std.proofs.Common.{◌≡◌, ℕ, zero, suc, ◌+◌, ◌<◌, ◌≤◌, Bool, true, false, List, [], ◌∷◌, ◌++◌, length, map, take, get_or, refl, sym, ap, ◌∙◌, arith}
 use Rattle.std.specs.Prelude.{Option, Some, None, slice_get, zip, nat_lt, if◌then◌else◌, ◌≢◌}
 use Rattle.std.specs.List.{AllZip, range_with_len}
-use Rattle.std.proofs.lemmas.List.{take_more, take_all}
+use Rattle.std.proofs.lemmas.List.{take_more, take_all, length-map}
 use mathlib.Core.Path.{fun_ext}
 use borrow.Author.Tests.{ltb-true, ltb-false}
 use Rattle.walrus_base.specs.Arena.{item_at}
@@ -16,7 +16,7 @@ use Rattle.walrus_code.specs.declared.indices.IndicesToIds.{IndicesToIds}
 use Rattle.walrus_bodies.specs.FunctionTypes.{is_function_def, is_function_at}
 use Rattle.walrus_groups.specs.Groups.{types_from}
 use Rattle.walrus_model.specs.Reads.{declared, is_function}
-use Rattle.walrus_model.specs.Sections.{types_of}
+use Rattle.walrus_model.specs.Sections.{memory_of, tag_of, types_of}
 use Rattle.walrus_contents.proofs.Taking.{get_own, get_past}
 use Rattle.walrus_model.proofs.Supported.{supported}
 
@@ -39,12 +39,6 @@ zip_length R [] [] h = refl
 zip_length R [] (b ∷ ys) h = absurd h
 zip_length R (a ∷ xs) [] h = absurd h
 zip_length R (a ∷ xs) (b ∷ ys) h = ap suc (zip_length R xs ys h.1)
-
-pub zip_through : {A B : Type 0} (R S : A → B → Type 0) → ((x : A) (y : B) → R x y → S x y) → (xs : List A) (ys : List B) → AllZip R xs ys → AllZip S xs ys
-zip_through R S f [] [] h = tt
-zip_through R S f [] (b ∷ ys) h = absurd h
-zip_through R S f (a ∷ xs) [] h = absurd h
-zip_through R S f (a ∷ xs) (b ∷ ys) h = (f a b h.0, zip_through R S f xs ys h.1)
 
 -- ---- pairs of what stands at one place
 
@@ -81,16 +75,26 @@ nothing_at : (xs : List ℕ) (i : ℕ) → xs ≡ [] → slice_get xs i ≡ (if 
 nothing_at xs i none = ap (λ (l : List ℕ). slice_get l i) none ∙ below_by 0 i (nat_lt i 0) refl
 
 module _ (r : wire.Module) (indices : IndicesToIds) (types : places_in indices Types ≡ range_with_len 0 (length (types_from 0 r.types))) (functions : places_in indices Functions ≡ range_with_len 0 (length r.functions))
-    (others : (space : Space) → space ≢ Types → space ≢ Functions → places_in indices space ≡ []) where
+    (memories : places_in indices Memories ≡ range_with_len 0 (length r.memories)) (tags : places_in indices Tags ≡ range_with_len 0 (length r.tags))
+    (others : (space : Space) → space ≢ Types → space ≢ Functions → space ≢ Memories → space ≢ Tags → places_in indices space ≡ []) where
+  none_at : (space : Space) (i : ℕ) → space ≢ Types → space ≢ Functions → space ≢ Memories → space ≢ Tags → ids_at indices space i ≡ (if nat_lt i 0 then Some i else None)
+  none_at space i no_type no_function no_memory no_tag = nothing_at (places_in indices space) i (others space no_type no_function no_memory no_tag)
+
   names_at : (space : Space) (i : ℕ) → ids_at indices space i ≡ declared (supported r) space i
   names_at Types i = ap (λ l. slice_get l i) types ∙ below_by (length (types_from 0 r.types)) i (nat_lt i (length (types_from 0 r.types))) refl
   names_at Functions i = ap (λ l. slice_get l i) functions ∙ below_by (length r.functions) i (nat_lt i (length r.functions)) refl
-  names_at Tables i = nothing_at (places_in indices Tables) i (others Tables (λ (e : Tables ≡ Types). cc) (λ (e : Tables ≡ Functions). cc))
-  names_at Memories i = nothing_at (places_in indices Memories) i (others Memories (λ (e : Memories ≡ Types). cc) (λ (e : Memories ≡ Functions). cc))
-  names_at Tags i = nothing_at (places_in indices Tags) i (others Tags (λ (e : Tags ≡ Types). cc) (λ (e : Tags ≡ Functions). cc))
-  names_at Globals i = nothing_at (places_in indices Globals) i (others Globals (λ (e : Globals ≡ Types). cc) (λ (e : Globals ≡ Functions). cc))
-  names_at Elements i = nothing_at (places_in indices Elements) i (others Elements (λ (e : Elements ≡ Types). cc) (λ (e : Elements ≡ Functions). cc))
-  names_at DataSegments i = nothing_at (places_in indices DataSegments) i (others DataSegments (λ (e : DataSegments ≡ Types). cc) (λ (e : DataSegments ≡ Functions). cc))
+  names_at Tables i = none_at Tables i (λ (e : Tables ≡ Types). cc) (λ (e : Tables ≡ Functions). cc) (λ (e : Tables ≡ Memories). cc) (λ (e : Tables ≡ Tags). cc)
+  names_at Memories i =
+      ap (λ l. slice_get l i) memories
+      ∙ below_by (length r.memories) i (nat_lt i (length r.memories)) refl
+      ∙ ap (λ (n : ℕ). if nat_lt i n then Some i else None) (sym (length-map r.memories memory_of))
+  names_at Tags i =
+      ap (λ l. slice_get l i) tags
+      ∙ below_by (length r.tags) i (nat_lt i (length r.tags)) refl
+      ∙ ap (λ (n : ℕ). if nat_lt i n then Some i else None) (sym (length-map r.tags tag_of))
+  names_at Globals i = none_at Globals i (λ (e : Globals ≡ Types). cc) (λ (e : Globals ≡ Functions). cc) (λ (e : Globals ≡ Memories). cc) (λ (e : Globals ≡ Tags). cc)
+  names_at Elements i = none_at Elements i (λ (e : Elements ≡ Types). cc) (λ (e : Elements ≡ Functions). cc) (λ (e : Elements ≡ Memories). cc) (λ (e : Elements ≡ Tags). cc)
+  names_at DataSegments i = none_at DataSegments i (λ (e : DataSegments ≡ Types). cc) (λ (e : DataSegments ≡ Functions). cc) (λ (e : DataSegments ≡ Memories). cc) (λ (e : DataSegments ≡ Tags). cc)
 
   pub same_names : ids_at indices ≡ declared (supported r)
   same_names = fun_ext (λ space. fun_ext (names_at space))

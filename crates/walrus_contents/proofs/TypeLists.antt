@@ -1,15 +1,14 @@
 -- The types of a type section one behind another: where each stands, and how many they are.
-use Rattle.std.proofs.Common.{inl, inr, ◌≡◌, ◌⊎◌, ⊎_elim, ℕ, zero, suc, ◌+◌, ◌<◌, ◌≤◌, List, [], ◌∷◌, ◌++◌, length, map, get_or, take, refl, sym, ap, ap₂, subst, ◌∙◌, arith}
+use Rattle.std.proofs.Common.{inl, inr, ◌≡◌, ◌⊎◌, ⊎_elim, ℕ, zero, suc, ◌+◌, ◌<◌, ◌≤◌, List, [], ◌∷◌, ◌++◌, length, map, get_or, take, refl, sym, ap, ap₂, ◌∙◌, arith}
 use Rattle.std.specs.Prelude.{Some, Contains, slice_get, flat_map, sum_by, option_map}
 use Rattle.std.specs.List.{range_with_len}
-use Rattle.std.proofs.lemmas.List.{length-append, length-map}
+use Rattle.std.proofs.lemmas.List.{length-append, length-map, map-append}
 use Rattle.std.proofs.lemmas.List.FromFn.{length-range_with_len, get_or-range_with_len}
 use Rattle.std.proofs.lemmas.List.Sums.{sum_by-cons}
 use Rattle.wasm_entries.specs.Record.{Sub, Group}
 use Rattle.walrus_types.specs.TypeDef.{TypeDef}
 use Rattle.walrus_groups.specs.Groups.{sub_of, members_of, types_from}
 use Rattle.walrus_contents.proofs.Lookups.{mapped_some, got_map}
-use Rattle.walrus_model.proofs.Standing.{got_in}
 
 -- ---- how many
 
@@ -31,21 +30,13 @@ subs_of_group : (first n : ℕ) (g : Group) → map (λ (x : TypeDef). x.sub) (m
 subs_of_group first n [] = refl
 subs_of_group first n (s ∷ g) = ap (λ l. sub_of s ∷ l) (subs_of_group first n g)
 
-map_both : {A B : Type 0} (f : A → B) (xs ys : List A) → map f (xs ++ ys) ≡ map f xs ++ map f ys
-map_both f [] ys = refl
-map_both f (x ∷ xs) ys = ap (λ l. f x ∷ l) (map_both f xs ys)
-
 -- the types themselves are those of the groups
 pub types_subs : (first : ℕ) (gs : List Group) → map (λ (x : TypeDef). x.sub) (types_from first gs) ≡ map sub_of (flat_map (λ g. g) gs)
 types_subs first [] = refl
 types_subs first (g ∷ gs) =
-    map_both (λ (x : TypeDef). x.sub) (members_of first g) (types_from (first + length g) gs)
+    map-append (λ (x : TypeDef). x.sub) (members_of first g) (types_from (first + length g) gs)
     ∙ ap₂ ◌++◌ (subs_of_group first (length g) g) (types_subs (first + length g) gs)
-    ∙ sym (map_both sub_of g (flat_map (λ g. g) gs))
-
-pub flat_count : (gs : List Group) → length (flat_map (λ g. g) gs) ≡ count gs
-flat_count [] = refl
-flat_count (g ∷ gs) = length-append g (flat_map (λ g. g) gs) ∙ ap (λ n. length g + n) (flat_count gs) ∙ sym (count_more g gs)
+    ∙ sym (map-append sub_of g (flat_map (λ g. g) gs))
 
 -- ---- numbers one behind another
 
@@ -123,14 +114,6 @@ member_from first (g ∷ gs) i x e =
 
 pub type_is_member : (gs : List Group) (i : ℕ) (x : TypeDef) → slice_get (types_from 0 gs) i ≡ Some x → IsMember 0 gs i x
 type_is_member gs i x e = member_from 0 gs i x e
-
--- a type is among its group
-pub type_among : (first : ℕ) (gs : List Group) (i : ℕ) (x : TypeDef) → IsMember first gs i x → Contains x.group (first + i)
-type_among first gs i x m =
-    let place : first + count (take m.number gs) + m.at ≡ first + i = omega (arith, m.index) in
-    subst (λ (l : List ℕ). Contains l (first + i)) (sym m.group_is)
-    (subst (λ (n : ℕ). Contains (range_with_len (first + count (take m.number gs)) (length m.group)) n) place
-    (in_range (first + count (take m.number gs)) (length m.group) m.at (got_in m.group m.at m.sub m.sub_there).0))
 
 got_left : {A : Type 0} (xs ys : List A) (k : ℕ) (v : A) → slice_get xs k ≡ Some v → slice_get (xs ++ ys) k ≡ Some v
 got_left [] ys k v e = cc

@@ -25,7 +25,7 @@ items_in ids = map item_of ids.items
 abbrev pub Puts : Vec ItemId → Vec ItemId → List Item → Type 0
 Puts old new names = items_in new ≡ items_in old ++ names
 
--- what an item keeps beside what is written in it: a function the types of its legacy handlers
+-- what an item keeps beside what is written in it: a function the types of its legacy handlers; no segments are there so far
 abbrev pub kept_types : Abstract → Item → List Item
 kept_types m (Functions, f) = map type_item (m.handler_types f)
 kept_types m (Types, i) = []

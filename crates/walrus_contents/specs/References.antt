@@ -1,6 +1,6 @@
 -- Functions that ref.func names ("Instructions > Reference Instructions"). Each has to be exported so far, since a segment that declares it
 -- can't be written yet ("Validation > Modules": the context's references).
-use Rattle.std.specs.Prelude.{ℕ, Bool, true, List, [], ◌∷◌, ◌==◌, if◌then◌else◌}
+use Rattle.std.specs.Prelude.{ℕ, Bool, true, ◌&&◌, List, [], ◌∷◌, Option, Some, None, ◌==◌, if◌then◌else◌}
 use Rattle.std.specs.List.{list_all, list_any}
 use Rattle.wasm_opcodes.specs.declared.one_byte.TheConstants.{REF_FUNC}
 use Rattle.walrus_code.specs.Function.{body_of}
@@ -9,6 +9,7 @@ use Rattle.walrus_items.specs.Exports.{ExportValue, exports_item}
 use Rattle.walrus_items.specs.Functions.{FunctionValue}
 use Rattle.walrus_items.specs.declared.functions.FunctionKind.{FunctionKind}
 use Rattle.walrus_items.specs.declared.functions.FunctionKind.TheVariants as kind
+use Rattle.walrus_entities.specs.Globals.{GlobalValue}
 use Rattle.walrus_model.specs.Abstract.{Abstract}
 use Rattle.walrus_model.specs.Declared.{IsUndeclared}
 use Rattle.walrus_model.specs.Live.{IsLive}
@@ -60,9 +61,17 @@ module _ (holds : ℕ → Bool) where
   abbrev pub all_pass : List FunctionValue → Bool
   all_pass funcs = list_all (λ f. kind_passes f.kind) funcs
 
--- each function that ref.func names in a body is exported
-abbrev pub refs_are_exported : List FunctionValue → List ExportValue → Bool
-refs_are_exported funcs exports = all_pass (is_exported exports) funcs
+  -- so does each in an initialiser, if there is one
+  abbrev pub init_passes : Option (List Op) → Bool
+  init_passes None = true
+  init_passes (Some ops) = list_all op_passes ops
+
+  abbrev pub all_globals_pass : List GlobalValue → Bool
+  all_globals_pass globals = list_all (λ g. init_passes g.initialiser) globals
+
+-- each function that ref.func names in a body or in the initialiser of a global is exported
+abbrev pub refs_are_exported : List FunctionValue → List GlobalValue → List ExportValue → Bool
+refs_are_exported funcs globals exports = all_pass (is_exported exports) funcs && all_globals_pass (is_exported exports) globals
 
 -- ref.func names a function that isn't exported: a segment would have to declare it
 abbrev pub HasUndeclared : Abstract → Type 0

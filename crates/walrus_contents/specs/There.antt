@@ -1,7 +1,7 @@
--- What has to be there: what items and exports name, and the locals that bodies use.
+-- What has to be there: what items, imports and exports name, and the locals that bodies use.
 use Rattle.std.specs.Prelude.{ℕ, List, Some, None, IsSome, Contains, ◌≡◌, ◌≢◌, ⊤}
 use Rattle.walrus_types.specs.Operators.{Space, Functions, Item}
-use Rattle.walrus_model.specs.Abstract.{Abstract, Body, Uninitialised, LocalFunction, Function, Export}
+use Rattle.walrus_model.specs.Abstract.{Abstract, Body, Uninitialised, LocalFunction, Function, Import, Export}
 use Rattle.walrus_model.specs.Closed.{NamesAreLive}
 use Rattle.walrus_model.specs.Live.{Has, IsLive}
 use Rattle.walrus_model.specs.Names.{body_of}
@@ -9,11 +9,16 @@ use Rattle.walrus_model.specs.Refers.{IsUsed, written_in}
 use Rattle.walrus_parts.specs.declared.error.Error.{Error}
 use Rattle.walrus_parts.specs.declared.error.Error.TheVariants.{Memory, DeadItem}
 
--- what items and exports name is there, the locals that bodies use among it, and each function has an import or a body
+-- what each import brings is there
+abbrev pub ImportsAreLive : Abstract → Type 0
+ImportsAreLive v = (i : ℕ) (x : Import) → v.imports i ≡ Some x → IsLive v x.item
+
+-- what items, imports and exports name is there, the locals that bodies use among it, and each function has an import or a body
 pub record IsThere (v : Abstract) : Type 0 where
   pub written : NamesAreLive v
   pub locals : (i : ℕ) (b : Body) (x : ℕ) → body_of v i ≡ Some b → IsUsed b x → IsSome (b.local_type x)
   pub exports : (e : Export) → Contains v.exports e → IsLive v e.item
+  pub imports : ImportsAreLive v
   pub initialised : (i : ℕ) (f : Function) → v.functions i ≡ Some f → f.kind ≢ Uninitialised
 
 -- ---- item by item

@@ -1,11 +1,11 @@
--- The parts of a module in memory as an abstract module: the number of an item is the place of its id. What isn't read or written so
--- far is absent: imports, tables, memories, tags, globals, segments, a start function, custom sections, names.
+-- The parts of a module in memory as an abstract module: the number of an item is the place of its id. What isn't kept so far is absent:
+-- segments, and so that a table or a memory holds one, a start function, custom sections, names.
 use Rattle.std.specs.Prelude.{ℕ, Bool, false, ◌&&◌, not, List, [], map, filter, length, Option, Some, None, option_map, ◌≡◌}
 use Rattle.std.specs.List.{range_with_len}
 use Rattle.walrus_base.specs.Arena.{item_at, items}
 use Rattle.walrus_base.specs.Id.{place}
 use Rattle.walrus_types.specs.Locals.{locals}
-use Rattle.walrus_types.specs.ModuleTypes.{type_slots}
+use Rattle.walrus_types.specs.ModuleTypes.{type_names, type_slots}
 use Rattle.walrus_types.specs.Operators.{locals_of}
 use Rattle.walrus_types.specs.PlaceList.{has}
 use Rattle.walrus_types.specs.declared.locals.ModuleLocals.{ModuleLocals}
@@ -15,10 +15,20 @@ use Rattle.walrus_code.specs.declared.function.LocalFunction.{LocalFunction}
 use Rattle.walrus_functions.specs.EmittedBody.{types_of as local_types}
 use Rattle.walrus_items.specs.Exports.{ExportValue, exports, exported}
 use Rattle.walrus_items.specs.Functions.{FunctionValue, functions, kind_type}
+use Rattle.walrus_items.specs.Imports.{ImportValue, imports, imported}
+use Rattle.walrus_items.specs.declared.imports.ModuleImports.{ModuleImports}
 use Rattle.walrus_items.specs.declared.exports.ModuleExports.{ModuleExports}
 use Rattle.walrus_items.specs.declared.functions.FunctionKind.TheVariants as kind
 use Rattle.walrus_items.specs.declared.functions.FunctionKind.{FunctionKind}
 use Rattle.walrus_items.specs.declared.functions.ModuleFunctions.{ModuleFunctions}
+use Rattle.walrus_entities.specs.Globals.{GlobalValue, globals}
+use Rattle.walrus_entities.specs.Memories.{MemoryValue, memories}
+use Rattle.walrus_entities.specs.Tables.{TableValue, tables}
+use Rattle.walrus_entities.specs.Tags.{TagValue, tags}
+use Rattle.walrus_entities.specs.declared.globals.ModuleGlobals.{ModuleGlobals}
+use Rattle.walrus_entities.specs.declared.memories.ModuleMemories.{ModuleMemories}
+use Rattle.walrus_entities.specs.declared.tables.ModuleTables.{ModuleTables}
+use Rattle.walrus_entities.specs.declared.tags.ModuleTags.{ModuleTags}
 use Rattle.walrus_model.specs.Abstract as abstract
 use Rattle.walrus_producers.specs.Seen.{producers}
 use Rattle.walrus_producers.specs.declared.producers.ModuleProducers.{ModuleProducers}
@@ -69,7 +79,111 @@ export_of e = record { name = e.name; item = exported e.item }
 abbrev pub exports_of : ModuleExports → List abstract.Export
 exports_of all = map export_of (items (exports all))
 
--- a module of these types, locals, functions, exports and producers
+-- ---- what imports bring, or the module defines
+
+-- what brings an item of which the import is known
+abbrev pub origin_of : Option ℕ → abstract.Origin
+origin_of None = abstract.Defined
+origin_of (Some i) = abstract.ImportedBy i
+
+abbrev pub import_of : ImportValue → abstract.Import
+import_of i = record { module_name = i.module_name; name = i.name; item = imported i.kind }
+
+abbrev pub imports_of : ModuleImports → ℕ → Option abstract.Import
+imports_of all i = option_map import_of (item_at (imports all) i)
+
+abbrev pub table_of : TableValue → abstract.Table
+table_of t = record {
+  origin = origin_of t.imported_by;
+  ty = record { limits = record { wide = t.table64; minimum = t.initial; maximum = t.maximum }; element = t.element };
+  initialiser = t.initialiser;
+}
+
+abbrev pub tables_of : ModuleTables → ℕ → Option abstract.Table
+tables_of all i = option_map table_of (item_at (tables all) i)
+
+abbrev pub memory_of : MemoryValue → abstract.Memory
+memory_of m = record {
+  origin = origin_of m.imported_by;
+  ty = record { limits = record { wide = m.memory64; minimum = m.initial; maximum = m.maximum }; shared = m.shared; page_exponent = m.page_size_log2 };
+}
+
+abbrev pub memories_of : ModuleMemories → ℕ → Option abstract.Memory
+memories_of all i = option_map memory_of (item_at (memories all) i)
+
+abbrev pub tag_of : TagValue → abstract.Tag
+tag_of t = record { origin = origin_of t.imported_by; ty = t.ty }
+
+abbrev pub tags_of : ModuleTags → ℕ → Option abstract.Tag
+tags_of all i = option_map tag_of (item_at (tags all) i)
+
+abbrev pub global_of : GlobalValue → abstract.Global
+global_of g = record { origin = origin_of g.imported_by; ty = record { value = g.ty; mutable = g.mutable; shared = g.shared }; initialiser = g.initialiser }
+
+abbrev pub globals_of : ModuleGlobals → ℕ → Option abstract.Global
+globals_of all i = option_map global_of (item_at (globals all) i)
+
+-- ---- the module
+
+-- what is lent, as if it were owned
+abbrev pub lent : Parts → Contents
+lent p = record {
+  types = p.types.now;
+  locals = p.locals.now;
+  imports = p.imports.now;
+  funcs = p.funcs.now;
+  tables = p.tables.now;
+  memories = p.memories.now;
+  tags = p.tags.now;
+  globals = p.globals.now;
+  exports = p.exports.now;
+  producers = p.producers.now;
+}
+
+-- the module of these contents
+abbrev pub contents_view : Contents → abstract.Abstract
+contents_view c = record {
+  types = types_of c.types;
+  imports = imports_of c.imports;
+  functions = functions_of c.locals c.funcs;
+  tables = tables_of c.tables;
+  memories = memories_of c.memories;
+  tags = tags_of c.tags;
+  globals = globals_of c.globals;
+  elements = λ i. None;
+  data_segments = λ i. None;
+  exports = exports_of c.exports;
+  start = None;
+  customs = [];
+  producers = producers c.producers;
+  named = λ x. [];
+  table_segments = λ t e. false;
+  memory_segments = λ y d. false;
+  handler_types = λ f. handlers_at (item_at (functions c.funcs) f);
+  section_roots = [];
+}
+
+-- the same of parts
+abbrev pub parts_view : Parts → abstract.Abstract
+parts_view p = contents_view (lent p)
+
+-- it holds types, locals, functions, exports and producers alone: no import, table, memory, tag or global, dropped ones included
+pub record HoldsNoOthers (c : Contents) : Type 0 where
+  pub imports : imports c.imports ≡ []
+  pub tables : tables c.tables ≡ []
+  pub memories : memories c.memories ≡ []
+  pub tags : tags c.tags ≡ []
+  pub globals : globals c.globals ≡ []
+
+-- no import, table, memory, tag or global is there
+pub record HasNoOthers (c : Contents) : Type 0 where
+  pub imports : (i : ℕ) → item_at (imports c.imports) i ≡ None
+  pub tables : (i : ℕ) → item_at (tables c.tables) i ≡ None
+  pub memories : (i : ℕ) → item_at (memories c.memories) i ≡ None
+  pub tags : (i : ℕ) → item_at (tags c.tags) i ≡ None
+  pub globals : (i : ℕ) → item_at (globals c.globals) i ≡ None
+
+-- the module of these types, locals, functions, exports and producers alone
 abbrev pub view_of : ModuleTypes → ModuleLocals → ModuleFunctions → ModuleExports → ModuleProducers → abstract.Abstract
 view_of types all funcs es made = record {
   types = types_of types;
@@ -92,18 +206,20 @@ view_of types all funcs es made = record {
   section_roots = [];
 }
 
--- the module of these parts
-abbrev pub parts_view : Parts → abstract.Abstract
-parts_view p = view_of p.types.now p.locals.now p.funcs.now p.exports.now p.producers.now
-
--- the same of contents
-abbrev pub contents_view : Contents → abstract.Abstract
-contents_view c = view_of c.types c.locals c.funcs c.exports c.producers
+-- what the parts are beside imports, tables, memories, tags and globals
+abbrev pub plain_view : Parts → abstract.Abstract
+plain_view p = view_of p.types.now p.locals.now p.funcs.now p.exports.now p.producers.now
 
 -- they hold nothing, dropped items included
 pub record HoldsNothing (c : Contents) : Type 0 where
   pub types : type_slots c.types ≡ []
+  pub type_names : type_names c.types ≡ []
   pub locals : locals c.locals ≡ []
+  pub imports : imports c.imports ≡ []
   pub functions : functions c.funcs ≡ []
+  pub tables : tables c.tables ≡ []
+  pub memories : memories c.memories ≡ []
+  pub tags : tags c.tags ≡ []
+  pub globals : globals c.globals ≡ []
   pub exports : exports c.exports ≡ []
   pub producers : producers c.producers ≡ []

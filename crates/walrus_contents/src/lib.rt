@@ -1,6 +1,7 @@
 //! What a module contains: its parts, what its items name, and whether all that is named is there.
 #![tactic(auto)]
 
+mod initialisers;
 mod live;
 mod names;
 mod parts;

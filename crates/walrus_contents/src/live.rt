@@ -1,18 +1,19 @@
 //! Whether all that a module names is there.
-ghost use Rattle.std.specs.Prelude.{MatchResult, map};
+ghost use Rattle.std.specs.Prelude.{◌≡◌, MatchResult, map};
 ghost use Rattle.walrus_code.specs.Code.{item_of};
 ghost use Rattle.walrus_model.specs.Dead.{HasDead};
 ghost use Rattle.walrus_model.specs.Live.{IsLive};
-ghost use Rattle.walrus_types.specs.Operators.{Functions, Types};
-ghost use Rattle.walrus_contents.specs.There.{AreLive, AreWhole, IsRefusal, IsWhole, OneIsDead};
+ghost use Rattle.walrus_items.specs.Imports.{imported};
+ghost use Rattle.walrus_types.specs.Operators.{Functions, Globals, Tables, Tags, Types};
+ghost use Rattle.walrus_contents.specs.There.{AreLive, AreWhole, ImportsAreLive, IsRefusal, IsWhole, OneIsDead};
 ghost use Rattle.walrus_contents.specs.View.{parts_view};
 
 use crate::names::{push_export_names, push_written_names};
 use crate::parts::{Parts, is_live};
 use std::alloc::Global;
-use walrus_items::{Error, ItemId, Result};
+use walrus_items::{Error, ImportKind, ItemId, Result};
 
-/// Checks that each function has an import or a body, and that all that types, functions and exports name is there, the locals of
+/// Checks that each function has an import or a body, and that all that items, imports and exports name is there, the locals of
 /// bodies among it. Refused with `DeadItem` exactly where one of these isn't so, and with `Memory`.
 pub fn check_live(alloc: Global, parts: Parts<'_>) -> Result<()>
     ensures { MatchResult result (λ _. HasDead (parts_view parts.entry) → ⊥)
@@ -21,8 +22,36 @@ pub fn check_live(alloc: Global, parts: Parts<'_>) -> Result<()>
     let mut named = Vec::new(alloc);
     push_export_names(parts.exports, &mut named)?;
     check_all(parts, named.as_slice())?;
+    check_imports(parts)?;
     check_types(alloc, parts, &mut named)?;
+    check_tables(alloc, parts, &mut named)?;
+    check_tags(alloc, parts, &mut named)?;
+    check_globals(alloc, parts, &mut named)?;
     check_functions(alloc, parts, &mut named)
+}
+
+// The same for what imports bring.
+fn check_imports(parts: Parts<'_>) -> Result<()>
+    ensures { MatchResult result (λ _. ImportsAreLive (parts_view parts.entry))
+        (IsRefusal (HasDead (parts_view parts.entry))) }
+{
+    for (_, import) in parts.imports.iter_entries() {
+        check_one(parts, item_of_import(import.kind))?;
+    }
+    Ok(())
+}
+
+// What is imported, as an operator would name it.
+fn item_of_import(kind: ImportKind) -> ItemId
+    ensures { item_of result ≡ imported kind }
+{
+    match kind {
+        ImportKind::Function(id) => ItemId::Function(id),
+        ImportKind::Table(id) => ItemId::Table(id),
+        ImportKind::Memory(id) => ItemId::Memory(id),
+        ImportKind::Global(id) => ItemId::Global(id),
+        ImportKind::Tag(id) => ItemId::Tag(id),
+    }
 }
 
 // The same for what types name. What was in `named` is let go.
@@ -32,6 +61,39 @@ fn check_types(alloc: Global, parts: Parts<'_>, named: &mut Vec<ItemId>) -> Resu
 {
     for ty in parts.types.iter() {
         check_item(alloc, parts, ItemId::Type(ty.id()), named)?;
+    }
+    Ok(())
+}
+
+// The same for what tables name.
+fn check_tables(alloc: Global, parts: Parts<'_>, named: &mut Vec<ItemId>) -> Result<()>
+    ensures { MatchResult result (λ _. AreWhole (parts_view parts.entry) Tables)
+        (IsRefusal (HasDead (parts_view parts.entry))) }
+{
+    for (id, _table) in parts.tables.iter_entries() {
+        check_item(alloc, parts, ItemId::Table(id), named)?;
+    }
+    Ok(())
+}
+
+// The same for what tags name.
+fn check_tags(alloc: Global, parts: Parts<'_>, named: &mut Vec<ItemId>) -> Result<()>
+    ensures { MatchResult result (λ _. AreWhole (parts_view parts.entry) Tags)
+        (IsRefusal (HasDead (parts_view parts.entry))) }
+{
+    for (id, _tag) in parts.tags.iter_entries() {
+        check_item(alloc, parts, ItemId::Tag(id), named)?;
+    }
+    Ok(())
+}
+
+// The same for what globals name.
+fn check_globals(alloc: Global, parts: Parts<'_>, named: &mut Vec<ItemId>) -> Result<()>
+    ensures { MatchResult result (λ _. AreWhole (parts_view parts.entry) Globals)
+        (IsRefusal (HasDead (parts_view parts.entry))) }
+{
+    for (id, _global) in parts.globals.iter_entries() {
+        check_item(alloc, parts, ItemId::Global(id), named)?;
     }
     Ok(())
 }
@@ -65,9 +127,19 @@ fn check_all(parts: Parts<'_>, named: &[ItemId]) -> Result<()>
         (IsRefusal (OneIsDead (parts_view parts.entry) (map item_of named.now))) }
 {
     for item in named {
-        if !is_live(parts, *item) {
-            return Err(Error::DeadItem);
-        }
+        check_one(parts, *item)?;
     }
     Ok(())
+}
+
+// The same for one item.
+fn check_one(parts: Parts<'_>, item: ItemId) -> Result<()>
+    ensures { MatchResult result (λ _. IsLive (parts_view parts.entry) (item_of item))
+        (IsRefusal (IsLive (parts_view parts.entry) (item_of item) → ⊥)) }
+{
+    if is_live(parts, item) {
+        Ok(())
+    } else {
+        Err(Error::DeadItem)
+    }
 }

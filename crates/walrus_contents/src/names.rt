@@ -4,7 +4,7 @@ ghost use Rattle.std.specs.Prelude.{◌≡◌, ◌++◌, map, flat_map, IfOk, Is
 ghost use Rattle.walrus_base.specs.Arena.{IsLive as IsLiveAt};
 ghost use Rattle.walrus_base.specs.Id.{place};
 ghost use Rattle.walrus_base.specs.Types.{heap_names, val_names};
-ghost use Rattle.walrus_code.specs.Code.{item_of, ops_of};
+ghost use Rattle.walrus_code.specs.Code.{item_of};
 ghost use Rattle.walrus_code.specs.Function.{body_of};
 ghost use Rattle.walrus_items.specs.Functions.{function_value};
 ghost use Rattle.walrus_model.specs.Live.{IsLive};
@@ -17,12 +17,13 @@ ghost use Rattle.walrus_types.specs.Value.{heap_type, val_type};
 ghost use Rattle.walrus_contents.specs.There.{IsRefusal, IsSound, IsUnsound};
 ghost use Rattle.walrus_contents.specs.Named.{AreThere, IsReady, IsUnready, OneIsMissing, Puts, all_names, export_names, kept_types, local_type_names, type_at};
 
+use crate::initialisers::{push_global_names, push_table_names, push_tag_names};
 use crate::parts::Parts;
 use std::alloc::{AllocError, Global};
 use std::result;
 use walrus_items::{
     Error, Function, FunctionKind, HeapType, ItemId, LocalFunction, LocalId, ModuleExports,
-    ModuleFunctions, ModuleLocals, ModuleTypes, Operator, Result, TypeId, ValType,
+    ModuleFunctions, ModuleLocals, ModuleTypes, Result, TypeId, ValType,
 };
 
 /// Puts what the exports name behind `to`, in order.
@@ -74,12 +75,10 @@ pub fn push_written_names(
     match item {
         ItemId::Type(id) => Ok(push_type_names(alloc, parts.types, id, to)?),
         ItemId::Function(id) => push_function_names(alloc, parts.locals, parts.funcs.get(id), to),
-        ItemId::Table(_)
-        | ItemId::Memory(_)
-        | ItemId::Tag(_)
-        | ItemId::Global(_)
-        | ItemId::Element(_)
-        | ItemId::Data(_) => Ok(()),
+        ItemId::Table(id) => Ok(push_table_names(parts.tables.get(id), to)?),
+        ItemId::Tag(id) => Ok(push_tag_names(parts.tags.get(id), to)?),
+        ItemId::Global(id) => Ok(push_global_names(parts.globals.get(id), to)?),
+        ItemId::Memory(_) | ItemId::Element(_) | ItemId::Data(_) => Ok(()),
     }
 }
 
@@ -202,29 +201,31 @@ fn push_body_names(
         (body_names (body locals.now function.now)))
         (IsRefusal (OneIsMissing locals.now (locals_of (body_of function.now)))) }
 {
-    push_operator_names(function.operators.as_slice(), to)?;
-    let used = used_locals(alloc, function.operators.as_slice())?;
+    push_operator_names(function, to)?;
+    let used = used_locals(alloc, function)?;
     push_local_types(locals, used.as_slice(), to)
 }
 
-// The same for operators.
+// The same for the operators of a body.
 fn push_operator_names(
-    operators: &[Operator],
+    function: &LocalFunction,
     to: &mut Vec<ItemId>,
 ) -> result::Result<(), AllocError>
-    ensures { OnOk result (Puts to.old to.new (names_of (ops_of operators.now))) }
+    ensures { OnOk result (Puts to.old to.new (names_of (body_of function.now))) }
 {
+    let operators = function.operators.as_slice();
     for operator in operators {
         walrus_code::push_names(to, operator)?;
     }
     Ok(())
 }
 
-// The locals that operators use, in order, each as often as it is used.
-fn used_locals(alloc: Global, operators: &[Operator]) -> result::Result<Vec<LocalId>, AllocError>
-    ensures { IfOk result (λ used. map place used.items ≡ locals_of (ops_of operators.now)) }
+// The locals that a body uses, in order, each as often as it is used.
+fn used_locals(alloc: Global, function: &LocalFunction) -> result::Result<Vec<LocalId>, AllocError>
+    ensures { IfOk result (λ used. map place used.items ≡ locals_of (body_of function.now)) }
 {
     let mut used = Vec::new(alloc);
+    let operators = function.operators.as_slice();
     for operator in operators {
         walrus_code::push_locals(&mut used, operator)?;
     }
@@ -259,7 +260,7 @@ fn push_local_type(locals: &ModuleLocals, id: LocalId, to: &mut Vec<ItemId>) -> 
 }
 
 // The same for a value type.
-fn push_value_type(ty: ValType, to: &mut Vec<ItemId>) -> result::Result<(), AllocError>
+pub(crate) fn push_value_type(ty: ValType, to: &mut Vec<ItemId>) -> result::Result<(), AllocError>
     ensures { OnOk result (Puts to.old to.new (map type_item (val_names (val_type ty)))) }
 {
     match ty {
@@ -269,7 +270,7 @@ fn push_value_type(ty: ValType, to: &mut Vec<ItemId>) -> result::Result<(), Allo
 }
 
 // The same for a heap type.
-fn push_heap_type(heap: HeapType, to: &mut Vec<ItemId>) -> result::Result<(), AllocError>
+pub(crate) fn push_heap_type(heap: HeapType, to: &mut Vec<ItemId>) -> result::Result<(), AllocError>
     ensures { OnOk result (Puts to.old to.new (map type_item (heap_names (heap_type heap)))) }
 {
     match heap {

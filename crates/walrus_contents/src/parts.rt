@@ -6,7 +6,10 @@ ghost use Rattle.walrus_model.specs.Live.{IsLive};
 ghost use Rattle.walrus_contents.specs.View.{HoldsNothing, contents_view, parts_view};
 
 use std::alloc::Global;
-use walrus_items::{ItemId, ModuleExports, ModuleFunctions, ModuleLocals, ModuleTypes, Result};
+use walrus_entities::{ModuleGlobals, ModuleMemories, ModuleTables, ModuleTags};
+use walrus_items::{
+    ItemId, ModuleExports, ModuleFunctions, ModuleImports, ModuleLocals, ModuleTypes, Result,
+};
 use walrus_producers::ModuleProducers;
 
 /// The collections in which a module keeps its items, and what these are made of.
@@ -16,8 +19,18 @@ pub struct Parts<'a> {
     pub types: &'a ModuleTypes,
     /// The locals of all local functions.
     pub locals: &'a ModuleLocals,
+    /// The imports.
+    pub imports: &'a ModuleImports,
     /// The functions.
     pub funcs: &'a ModuleFunctions,
+    /// The tables.
+    pub tables: &'a ModuleTables,
+    /// The memories.
+    pub memories: &'a ModuleMemories,
+    /// The tags.
+    pub tags: &'a ModuleTags,
+    /// The globals.
+    pub globals: &'a ModuleGlobals,
     /// The exports.
     pub exports: &'a ModuleExports,
     /// The producers.
@@ -31,8 +44,18 @@ pub struct Contents {
     pub types: ModuleTypes,
     /// The locals of all local functions.
     pub locals: ModuleLocals,
+    /// The imports.
+    pub imports: ModuleImports,
     /// The functions.
     pub funcs: ModuleFunctions,
+    /// The tables.
+    pub tables: ModuleTables,
+    /// The memories.
+    pub memories: ModuleMemories,
+    /// The tags.
+    pub tags: ModuleTags,
+    /// The globals.
+    pub globals: ModuleGlobals,
     /// The exports.
     pub exports: ModuleExports,
     /// The producers.
@@ -48,7 +71,12 @@ impl Contents {
         Ok(Contents {
             types: ModuleTypes::new(alloc),
             locals: ModuleLocals::new(alloc),
+            imports: ModuleImports::new(alloc),
             funcs: ModuleFunctions::new(alloc)?,
+            tables: ModuleTables::new(alloc),
+            memories: ModuleMemories::new(alloc),
+            tags: ModuleTags::new(alloc)?,
+            globals: ModuleGlobals::new(alloc),
             exports: ModuleExports::new(alloc),
             producers: ModuleProducers::new(alloc),
         })
@@ -61,25 +89,29 @@ impl Contents {
         Parts {
             types: &self.types,
             locals: &self.locals,
+            imports: &self.imports,
             funcs: &self.funcs,
+            tables: &self.tables,
+            memories: &self.memories,
+            tags: &self.tags,
+            globals: &self.globals,
             exports: &self.exports,
             producers: &self.producers,
         }
     }
 }
 
-/// Whether the item is there. A module has types and functions so far.
+/// Whether the item is there. A module has no segments so far.
 pub fn is_live(parts: Parts<'_>, item: ItemId) -> bool
     ensures { IsTrue result ↔ IsLive (parts_view parts.entry) (item_of item) }
 {
     match item {
         ItemId::Type(id) => parts.types.contains(id),
         ItemId::Function(id) => parts.funcs.contains(id),
-        ItemId::Table(_)
-        | ItemId::Memory(_)
-        | ItemId::Tag(_)
-        | ItemId::Global(_)
-        | ItemId::Element(_)
-        | ItemId::Data(_) => false,
+        ItemId::Table(id) => parts.tables.contains(id),
+        ItemId::Memory(id) => parts.memories.contains(id),
+        ItemId::Tag(id) => parts.tags.contains(id),
+        ItemId::Global(id) => parts.globals.contains(id),
+        ItemId::Element(_) | ItemId::Data(_) => false,
     }
 }

@@ -1,9 +1,9 @@
 //! The globals of a module ("Structure > Modules > Globals").
-ghost use Rattle.std.specs.Prelude.{◌≡◌, [], Some, None, IsTrue, ◌↔◌, IsOkUnless, count_by, is_some, slice_set};
+ghost use Rattle.std.specs.Prelude.{◌≡◌, [], Some, None, IsTrue, ◌↔◌, IsOkUnless, count_by, is_some, slice_set, IsOk, OnOk, length};
 ghost use Rattle.std.specs.Borrow.{sem};
 ghost use Rattle.std.specs.Iterator.{YieldsFirstBy, item_count};
 ghost use Rattle.walrus_base.specs.Id.{place};
-ghost use Rattle.walrus_base.specs.Arena.{item_at, IsLive, items, entries, kept_by};
+ghost use Rattle.walrus_base.specs.Arena.{HasRoom, item_at, IsLive, items, entries, kept_by};
 ghost use Rattle.walrus_base.specs.IdSet.{has_id};
 ghost use Rattle.walrus_parts.specs.Errors.{out_of_memory};
 ghost use Rattle.walrus_entities.specs.Added.{IsAdded};
@@ -73,10 +73,18 @@ impl ModuleGlobals {
     /// Makes room for `additional` more globals. `Memory` is the only error.
     pub fn reserve(&mut self, additional: usize) -> Result<()>
         ensures same { globals self.new ≡ globals self.old }
+        ensures room { OnOk result (HasRoom self.new.arena additional) }
         ensures fails { IsOkUnless result out_of_memory }
     {
         self.arena.reserve(additional)?;
         Ok(())
+    }
+
+    /// The id that the next global gets.
+    pub fn next_id(&self) -> GlobalId
+        ensures { place result ≡ length (globals self.now) }
+    {
+        self.arena.next_id()
     }
 
     /// Adds a global that this import brings in, without a name. `Memory` is the only error; then nothing changes.
@@ -87,7 +95,7 @@ impl ModuleGlobals {
         shared: bool,
         import: ImportId,
     ) -> Result<GlobalId>
-        ensures { IsAdded result (globals self.old) (globals self.new) (λ own. record {
+        ensures added { IsAdded result (globals self.old) (globals self.new) (λ own. record {
           id = own;
           ty = val_type ty;
           mutable = mutable;
@@ -96,6 +104,7 @@ impl ModuleGlobals {
           initialiser = None;
           name = None;
         }) }
+        ensures succeeds { HasRoom self.old.arena 1 → IsOk result }
     {
         let id = self.arena.next_id();
         Ok(

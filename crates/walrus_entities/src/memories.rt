@@ -1,9 +1,9 @@
 //! The memories of a module ("Structure > Modules > Memories").
-ghost use Rattle.std.specs.Prelude.{◌≡◌, [], Some, None, IsTrue, ◌↔◌, IsOkUnless, count_by, is_some, slice_set};
+ghost use Rattle.std.specs.Prelude.{◌≡◌, [], Some, None, IsTrue, ◌↔◌, IsOkUnless, count_by, is_some, slice_set, IsOk, OnOk, length};
 ghost use Rattle.std.specs.Borrow.{sem};
 ghost use Rattle.std.specs.Iterator.{YieldsFirstBy, item_count};
 ghost use Rattle.walrus_base.specs.Id.{place};
-ghost use Rattle.walrus_base.specs.Arena.{item_at, IsLive, items, entries, kept_by};
+ghost use Rattle.walrus_base.specs.Arena.{HasRoom, item_at, IsLive, items, entries, kept_by};
 ghost use Rattle.walrus_base.specs.IdSet.{has_id};
 ghost use Rattle.walrus_parts.specs.Errors.{out_of_memory};
 ghost use Rattle.walrus_entities.specs.Added.{IsAdded, no_segments};
@@ -70,10 +70,18 @@ impl ModuleMemories {
     /// Makes room for `additional` more memories. `Memory` is the only error.
     pub fn reserve(&mut self, additional: usize) -> Result<()>
         ensures same { memories self.new ≡ memories self.old }
+        ensures room { OnOk result (HasRoom self.new.arena additional) }
         ensures fails { IsOkUnless result out_of_memory }
     {
         self.arena.reserve(additional)?;
         Ok(())
+    }
+
+    /// The id that the next memory gets.
+    pub fn next_id(&self) -> MemoryId
+        ensures { place result ≡ length (memories self.now) }
+    {
+        self.arena.next_id()
     }
 
     /// Adds a memory that this import brings in, without a name and segments. `Memory` is the only error; then nothing
@@ -87,7 +95,7 @@ impl ModuleMemories {
         page_size_log2: Option<u32>,
         import: ImportId,
     ) -> Result<MemoryId>
-        ensures { IsAdded result (memories self.old) (memories self.new) (λ own. record {
+        ensures added { IsAdded result (memories self.old) (memories self.new) (λ own. record {
           id = own;
           shared = shared;
           memory64 = memory64;
@@ -98,6 +106,7 @@ impl ModuleMemories {
           segments = no_segments;
           name = None;
         }) }
+        ensures succeeds { HasRoom self.old.arena 1 → IsOk result }
     {
         let id = self.arena.next_id();
         Ok(

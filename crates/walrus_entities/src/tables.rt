@@ -1,9 +1,9 @@
 //! The tables of a module ("Structure > Modules > Tables").
-ghost use Rattle.std.specs.Prelude.{◌≡◌, [], Some, None, IsTrue, ◌↔◌, IsOkUnless, count_by, is_some, slice_set, option_map};
+ghost use Rattle.std.specs.Prelude.{◌≡◌, [], Some, None, IsTrue, ◌↔◌, IsOkUnless, count_by, is_some, slice_set, option_map, IsOk, OnOk, length};
 ghost use Rattle.std.specs.Borrow.{sem};
 ghost use Rattle.std.specs.Iterator.{YieldsFirstBy, item_count};
 ghost use Rattle.walrus_base.specs.Id.{place};
-ghost use Rattle.walrus_base.specs.Arena.{item_at, IsLive, items, entries, kept_by};
+ghost use Rattle.walrus_base.specs.Arena.{HasRoom, item_at, IsLive, items, entries, kept_by};
 ghost use Rattle.walrus_base.specs.IdSet.{has_id};
 ghost use Rattle.walrus_parts.specs.Errors.{out_of_memory};
 ghost use Rattle.walrus_entities.specs.Added.{IsAdded, no_segments};
@@ -82,10 +82,18 @@ impl ModuleTables {
     /// Makes room for `additional` more tables. `Memory` is the only error.
     pub fn reserve(&mut self, additional: usize) -> Result<()>
         ensures same { tables self.new ≡ tables self.old }
+        ensures room { OnOk result (HasRoom self.new.arena additional) }
         ensures fails { IsOkUnless result out_of_memory }
     {
         self.arena.reserve(additional)?;
         Ok(())
+    }
+
+    /// The id that the next table gets.
+    pub fn next_id(&self) -> TableId
+        ensures { place result ≡ length (tables self.now) }
+    {
+        self.arena.next_id()
     }
 
     /// Adds a table that this import brings in, without a name, an initialiser and segments. `Memory` is the only error;
@@ -98,7 +106,7 @@ impl ModuleTables {
         element_ty: RefType,
         import: ImportId,
     ) -> Result<TableId>
-        ensures { IsAdded result (tables self.old) (tables self.new) (λ own. record {
+        ensures added { IsAdded result (tables self.old) (tables self.new) (λ own. record {
           id = own;
           table64 = table64;
           initial = initial;
@@ -109,6 +117,7 @@ impl ModuleTables {
           segments = no_segments;
           name = None;
         }) }
+        ensures succeeds { HasRoom self.old.arena 1 → IsOk result }
     {
         let id = self.arena.next_id();
         Ok(

@@ -1,9 +1,9 @@
 //! The tags of a module ("Structure > Modules > Tags").
-ghost use Rattle.std.specs.Prelude.{◌≡◌, [], Some, None, IsTrue, ◌↔◌, IsOkUnless, count_by, is_some, slice_set, IfOk};
+ghost use Rattle.std.specs.Prelude.{◌≡◌, [], Some, None, IsTrue, ◌↔◌, IsOkUnless, count_by, is_some, slice_set, IfOk, IsOk, OnOk, length};
 ghost use Rattle.std.specs.Borrow.{sem};
 ghost use Rattle.std.specs.Iterator.{YieldsFirstBy, item_count};
 ghost use Rattle.walrus_base.specs.Id.{place};
-ghost use Rattle.walrus_base.specs.Arena.{item_at, IsLive, items, entries, kept_by};
+ghost use Rattle.walrus_base.specs.Arena.{HasRoom, item_at, IsLive, items, entries, kept_by};
 ghost use Rattle.walrus_base.specs.IdSet.{has_id};
 ghost use Rattle.walrus_parts.specs.Errors.{out_of_memory};
 ghost use Rattle.walrus_entities.specs.Added.{IsAdded};
@@ -91,6 +91,7 @@ impl ModuleTags {
     /// Makes room for `additional` more tags. `Memory` is the only error.
     pub fn reserve(&mut self, additional: usize) -> Result<()>
         ensures same { tags self.new ≡ tags self.old }
+        ensures room { OnOk result (HasRoom self.new.arena additional) }
         ensures fails { IsOkUnless result out_of_memory }
     {
         self.arena.reserve(additional)?;
@@ -110,14 +111,22 @@ impl ModuleTags {
         Ok(self.arena.alloc(Tag::new(id, ty))?)
     }
 
+    /// The id that the next tag gets.
+    pub fn next_id(&self) -> TagId
+        ensures { place result ≡ length (tags self.now) }
+    {
+        self.arena.next_id()
+    }
+
     /// Adds a tag that this import brings in, without a name. `Memory` is the only error; then nothing changes.
     pub fn add_import(&mut self, ty: TypeId, import: ImportId) -> Result<TagId>
-        ensures { IsAdded result (tags self.old) (tags self.new) (λ own. record {
+        ensures added { IsAdded result (tags self.old) (tags self.new) (λ own. record {
           id = own;
           ty = place ty;
           imported_by = Some (place «import»);
           name = None;
         }) }
+        ensures succeeds { HasRoom self.old.arena 1 → IsOk result }
     {
         let id = self.arena.next_id();
         Ok(

@@ -9,3 +9,4 @@ mod WrittenCauses
 mod WrittenWalk
 mod WrittenTurns
 mod WrittenWhole
+mod Unnamed

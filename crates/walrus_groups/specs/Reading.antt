@@ -1,5 +1,5 @@
 -- What the functions that read types answer.
-use Rattle.std.specs.Prelude.{◌≡◌, ◌≢◌, ℕ, ⊤, List, [], ◌∷◌, length, Option, Some, None, Result, Ok, Err}
+use Rattle.std.specs.Prelude.{◌≡◌, ◌≢◌, ◌++◌, ℕ, ⊤, List, [], ◌∷◌, All, length, Option, Some, None, Result, Ok, Err}
 use Rattle.std.specs.List.{range_with_len}
 use Rattle.wasm_forms.specs.Reading.{◌>>=◌}
 use Rattle.walrus_base.specs.Types.{SubType}
@@ -19,6 +19,12 @@ TypesInPlace indices slots = places_in indices Types ≡ range_with_len 0 (lengt
 -- nothing but types has changed
 abbrev pub OnlyTypesChange : IndicesToIds → IndicesToIds → Type 0
 OnlyTypesChange old new = (other : Space) → other ≢ Types → places_in new other ≡ places_in old other
+
+-- what stands of the names of types: more types, none of which has a name
+pub record AddsUnnamed (old new : List (Option (Option (List ℕ)))) : Type 0 where
+  pub more : List (Option (Option (List ℕ)))
+  pub behind : new ≡ old ++ more
+  pub unnamed : All (λ name. name ≡ Some None) more
 
 -- refused only where they are too many, or memory ran out
 abbrev pub RefusedAsTooMany : Result Unit IrError → (too_many : Type 0) → Type 0

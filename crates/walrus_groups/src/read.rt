@@ -7,13 +7,13 @@ ghost use Rattle.walrus_base.specs.Id.{place};
 ghost use Rattle.walrus_types.specs.Operators.{Types};
 ghost use Rattle.walrus_types.specs.Value.{val_type};
 ghost use Rattle.walrus_types.specs.Composite.{storage_type, field_type, comp_type, function_comp, function_type, supertypes, new_sub};
-ghost use Rattle.walrus_types.specs.ModuleTypes.{type_slots};
+ghost use Rattle.walrus_types.specs.ModuleTypes.{type_names, type_slots};
 ghost use Rattle.walrus_code.specs.FromRaw.{val_of};
 ghost use Rattle.walrus_code.specs.Indices.{places_in, ids_at};
 ghost use Rattle.walrus_code.specs.Results.{Finds};
 ghost use Rattle.walrus_groups.specs.Groups.{storage_of, field_of, comp_of, sub_of, ReadsTypes};
 ghost use Rattle.walrus_groups.specs.Named.{each, named_vals, named_storage, named_field, named_fields, named_function, named_comp};
-ghost use Rattle.walrus_groups.specs.Reading.{one_supertype, read_sub, TypesInPlace, OnlyTypesChange, RefusedAsTooMany};
+ghost use Rattle.walrus_groups.specs.Reading.{AddsUnnamed, one_supertype, read_sub, TypesInPlace, OnlyTypesChange, RefusedAsTooMany};
 
 use std::alloc::Global;
 use walrus_base::TypeId;
@@ -25,7 +25,7 @@ use walrus_types::{
 use wasm_entries::{RawComp, RawFieldType, RawFuncType, RawGroup, RawStorage, RawSub, RawVal};
 
 /// Reads the types of a type section (Binary Format > Modules > Type Section): adds them behind those that are there, a group at a
-/// time (Structure > Types > Recursive Types), and gives each the next index.
+/// time (Structure > Types > Recursive Types), and gives each the next index. None has a name.
 ///
 /// # Errors
 ///
@@ -41,6 +41,7 @@ pub fn read_types(
     ensures read { ReadsTypes (map group groups.now) (type_slots types.old) (type_slots types.new) result }
     ensures in_place { OnOk result (TypesInPlace indices.new (type_slots types.new)) }
     ensures only_types { OnOk result (OnlyTypesChange indices.old indices.new) }
+    ensures unnamed { OnOk result (AddsUnnamed (type_names types.old) (type_names types.new)) }
 {
     for members in groups {
         read_group(alloc, members, indices, types)?;
@@ -59,6 +60,7 @@ fn read_group(
     ensures read { ReadsTypes (map sub raw.now ∷ []) (type_slots types.old) (type_slots types.new) result }
     ensures in_place { OnOk result (TypesInPlace indices.new (type_slots types.new)) }
     ensures only_types { OnOk result (OnlyTypesChange indices.old indices.new) }
+    ensures unnamed { OnOk result (AddsUnnamed (type_names types.old) (type_names types.new)) }
 {
     let ids = types.next_ids(alloc, raw.len())?;
     give_indices(indices, ids.as_slice())?;

@@ -1,9 +1,9 @@
 //! The functions of a module ("Structure > Modules > Functions").
-ghost use Rattle.std.specs.Prelude.{◌≡◌, ◌++◌, ◌∷◌, [], length, Some, None, IsTrue, ◌↔◌, MatchResult, IfOk, IsOkUnless, count_by, is_some, slice_set, option_map};
+ghost use Rattle.std.specs.Prelude.{◌≡◌, ◌++◌, ◌∷◌, [], length, Some, None, IsTrue, ◌↔◌, MatchResult, IfOk, IsOkUnless, count_by, is_some, slice_set, option_map, IsOk, OnOk};
 ghost use Rattle.std.specs.Borrow.{sem};
 ghost use Rattle.std.specs.Iterator.{YieldsFirstBy, item_count};
 ghost use Rattle.walrus_base.specs.Id.{place};
-ghost use Rattle.walrus_base.specs.Arena.{item_at, IsLive, items, entries, kept_by};
+ghost use Rattle.walrus_base.specs.Arena.{HasRoom, item_at, IsLive, items, entries, kept_by};
 ghost use Rattle.walrus_base.specs.IdSet.{has_id};
 ghost use Rattle.walrus_parts.specs.Errors.{out_of_memory};
 ghost use Rattle.walrus_items.specs.Seen.{text_of, text_is};
@@ -164,15 +164,23 @@ impl ModuleFunctions {
     /// Makes room for `additional` more functions. `Memory` is the only error.
     pub fn reserve(&mut self, additional: usize) -> Result<()>
         ensures same { functions self.new ≡ functions self.old }
+        ensures room { OnOk result (HasRoom self.new.arena additional) }
         ensures fails { IsOkUnless result out_of_memory }
     {
         self.arena.reserve(additional)?;
         Ok(())
     }
 
+    /// The id that the next function gets.
+    pub fn next_id(&self) -> FunctionId
+        ensures { place result ≡ length (functions self.now) }
+    {
+        self.arena.next_id()
+    }
+
     /// Adds a function that this import brings in, without a name. `Memory` is the only error; then nothing changes.
     pub fn add_import(&mut self, ty: TypeId, import: ImportId) -> Result<FunctionId>
-        ensures { MatchResult result
+        ensures added { MatchResult result
             (λ id. (place id ≡ length (functions self.old))
             × (functions self.new ≡ functions self.old
             ++ Some (record {
@@ -182,6 +190,7 @@ impl ModuleFunctions {
               name = None;
             }) ∷ []))
             (λ e. (e ≡ out_of_memory) × (functions self.new ≡ functions self.old)) }
+        ensures succeeds { HasRoom self.old.arena 1 → IsOk result }
     {
         let id = self.arena.next_id();
         Ok(

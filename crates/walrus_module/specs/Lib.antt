@@ -1,8 +1,10 @@
 pub mod Customs
 pub mod Entry
 pub mod Flags
+pub mod Imported
 pub mod LendsSection
 pub mod Meaning
 pub mod Raws
 pub mod Settings
 pub mod View
+pub mod OnlyMemory

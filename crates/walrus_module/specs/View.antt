@@ -2,7 +2,7 @@
 use Rattle.std.specs.Prelude.{[], ◌≡◌}
 use Rattle.walrus_model.specs.Abstract.{Abstract}
 use Rattle.walrus_module.specs.Customs.{sections}
-pub use Rattle.walrus_contents.specs.View.{types_of, is_declared, body, kind_of, kind_handlers, handlers_at, function, functions_of, export_of, exports_of, view_of, parts_view}
+pub use Rattle.walrus_contents.specs.View.{types_of, is_declared, body, kind_of, kind_handlers, handlers_at, function, functions_of, export_of, exports_of, imports_of, tables_of, memories_of, tags_of, globals_of, parts_view}
 use Rattle.walrus_contents.specs.View.{HoldsNothing, contents_view}
 use Rattle.walrus_contents.specs.declared.parts.Contents.{Contents}
 use Rattle.walrus_module.specs.declared.module.Module.{Module}
@@ -10,7 +10,18 @@ use Rattle.walrus_module.specs.declared.module.Module.{Module}
 module _ {V : Type 0} {O : V → Type 0} where
   -- what it holds, custom sections aside
   abbrev pub contents_of : Module V O → Contents
-  contents_of m = record { types = m.types; locals = m.locals; funcs = m.funcs; exports = m.exports; producers = m.producers }
+  contents_of m = record {
+    types = m.types;
+    locals = m.locals;
+    imports = m.imports;
+    funcs = m.funcs;
+    tables = m.tables;
+    memories = m.memories;
+    tags = m.tags;
+    globals = m.globals;
+    exports = m.exports;
+    producers = m.producers;
+  }
 
   abbrev pub view : Module V O → Abstract
   view m = contents_view (contents_of m)

@@ -36,7 +36,12 @@ impl Module {
         Parts {
             types: &self.types,
             locals: &self.locals,
+            imports: &self.imports,
             funcs: &self.funcs,
+            tables: &self.tables,
+            memories: &self.memories,
+            tags: &self.tags,
+            globals: &self.globals,
             exports: &self.exports,
             producers: &self.producers,
         }

@@ -8,22 +8,33 @@ use crate::customs::ModuleCustomSections;
 use crate::entry::SectionEntry;
 use std::alloc::Global;
 use walrus_contents::Contents;
+use walrus_entities::{ModuleGlobals, ModuleMemories, ModuleTables, ModuleTags};
 use walrus_ir::{ModuleLocals, ModuleTypes};
-use walrus_items::{ModuleExports, ModuleFunctions};
+use walrus_items::{ModuleExports, ModuleFunctions, ModuleImports};
 use walrus_parts::Result;
 use walrus_producers::ModuleProducers;
 
 /// A WebAssembly module ("Structure > Modules"). Its items are named by ids, which stay when other items come and go.
 #[derive(Drop)]
 pub struct Module {
+    /// The imports.
+    pub imports: ModuleImports,
+    /// The tables.
+    pub tables: ModuleTables,
     /// The types.
     pub types: ModuleTypes,
     /// The functions.
     pub funcs: ModuleFunctions,
+    /// The globals.
+    pub globals: ModuleGlobals,
     /// The locals of all local functions.
     pub locals: ModuleLocals,
     /// The exports.
     pub exports: ModuleExports,
+    /// The memories.
+    pub memories: ModuleMemories,
+    /// The tags.
+    pub tags: ModuleTags,
     /// The producers. They are kept and not written so far.
     pub producers: ModuleProducers,
     /// The custom sections.
@@ -54,10 +65,15 @@ impl Module {
         ensures configured { settings result ≡ flags config }
     {
         Module {
+            imports: contents.imports,
+            tables: contents.tables,
             types: contents.types,
             funcs: contents.funcs,
+            globals: contents.globals,
             locals: contents.locals,
             exports: contents.exports,
+            memories: contents.memories,
+            tags: contents.tags,
             producers: contents.producers,
             customs: ModuleCustomSections::<SectionEntry>::new(alloc),
             config,

@@ -6,19 +6,11 @@ mod base;
 #[cfg(test)]
 mod bodies;
 #[cfg(test)]
-mod entities;
-#[cfg(test)]
 mod entries;
-#[cfg(test)]
-mod exports;
 #[cfg(test)]
 mod forms;
 #[cfg(test)]
-mod imports;
-#[cfg(test)]
 mod ir;
-#[cfg(test)]
-mod items;
 #[cfg(test)]
 mod measures;
 #[cfg(test)]

@@ -35,10 +35,10 @@ use Rattle.walrus_reading.proofs.References.{references_read, references_seen}
 
 -- where no custom sections are supported, none says names or producers
 none_named : (s : wire.Module) → IsSupported s → AllZip (Names (has_function s)) (payloads (codes "name") s) []
-none_named = by_supported (λ s. AllZip (Names (has_function s)) (payloads (codes "name") s) []) (λ s of_functions. tt)
+none_named = by_supported (λ s. AllZip (Names (has_function s)) (payloads (codes "name") s) []) (λ s. tt)
 
 none_produced : (s : wire.Module) → IsSupported s → AllZip Fields (payloads (codes "producers") s) []
-none_produced = by_supported (λ s. AllZip Fields (payloads (codes "producers") s) []) (λ s of_functions. tt)
+none_produced = by_supported (λ s. AllZip Fields (payloads (codes "producers") s) []) (λ s. tt)
 
 module _ (config : Config) (c : Features) (with : IsReadWith config c) (bytes : List ℕ) where
   -- ---- what was taken in was parsed
@@ -46,7 +46,7 @@ module _ (config : Config) (c : Features) (with : IsReadWith config c) (bytes : 
   module _ (m : Contents) (put_in : (contents_view m).producers ≡ produced []) where
     in_memory : (s : wire.Module) → IsSupported s → length s.bodies ≡ length s.functions → (taken : HasTaken c s m) → ParsedAs config (module_of s taken.bodies [] []) (contents_view m)
     in_memory = by_supported (λ s. length s.bodies ≡ length s.functions → (taken : HasTaken c s m) → ParsedAs config (module_of s taken.bodies [] []) (contents_view m))
-        (λ s of_functions many taken. parsed c s m many taken config with.no_names (no_handlers c s taken.bodies (ap (λ (f : Features). f.legacy_exceptions) with.features_are ∙ with.no_handlers) taken.read) put_in)
+        (λ s many taken. parsed c s m many taken config with.no_names (no_handlers c s taken.bodies (ap (λ (f : Features). f.legacy_exceptions) with.features_are ∙ with.no_handlers) taken.read) put_in)
 
     pub is_parsed : NothingUndeclared (contents_view m) → TakenFrom c bytes m → IsParsed config bytes (contents_view m)
     is_parsed declared t =

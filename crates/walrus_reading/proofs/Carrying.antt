@@ -28,7 +28,7 @@ use Rattle.walrus_rules.specs.Namings.{is_in_range}
 use Rattle.walrus_rules.specs.Sections.{items_of, module_of}
 use Rattle.walrus_reading.proofs.DeclaredLocals.{counts}
 use Rattle.walrus_model.specs.Reads.{arity, ReadsBodyWith}
-use Rattle.walrus_model.specs.Sections.{Said, function_with, body_with, types_of}
+use Rattle.walrus_model.specs.Sections.{Said, function_with, body_with, types_of, globals_of, memories_of, tables_of, tags_of}
 use Rattle.walrus_model.specs.Config.{Config}
 use Rattle.walrus_model.specs.Handlers.{handlers_of}
 use Rattle.walrus_model.specs.Names.{body_of, body_of_function, name_of, names_that_count, synthetic_name, last_name, or_else}
@@ -42,7 +42,15 @@ use Rattle.walrus_model.proofs.Lists.{map-itself, map-same}
 use Rattle.walrus_model.proofs.TypeMaps.{sub-itself, val-itself, heap-itself}
 use Rattle.walrus_reading.specs.Taken.{HasTaken}
 use Rattle.walrus_reading.proofs.Held.{HeldBody, HeldFunction, held, exported}
-use Rattle.walrus_contents.specs.View.{body, kind_of, kind_handlers, handlers_at, function, contents_view}
+use Rattle.walrus_contents.specs.View.{body, kind_of, kind_handlers, handlers_at, function, contents_view, global_of, import_of, memory_of, table_of, tag_of}
+use Rattle.walrus_model.proofs.PipelineSame.{global_stays, memory_stays, table_stays, tag_stays}
+use Rattle.walrus_reading.specs.Held.{HoldsGlobal, HoldsMemory, HoldsTable, HoldsTag}
+use Rattle.walrus_reading.specs.Placed.{AllPlaced}
+use Rattle.walrus_items.specs.Imports.{ImportValue}
+use Rattle.walrus_entities.specs.Globals.{globals}
+use Rattle.walrus_entities.specs.Memories.{memories}
+use Rattle.walrus_entities.specs.Tables.{tables}
+use Rattle.walrus_entities.specs.Tags.{tags}
 use Rattle.walrus_contents.specs.declared.parts.Contents.{Contents}
 use Rattle.walrus_contents.proofs.Lookups.{got_map, there, there_mapped}
 use Rattle.walrus_reading.proofs.Parsing.{read_at, used_below}
@@ -213,6 +221,26 @@ was_some f None h = absurd (none_there h)
 no_items : {X : Type 0} (A : ℕ → Type 0) (S : ℕ → X → X → Type 0) → Carries (λ i. IsSome {T = X} None) A (λ i. i) S (λ i. None) (λ i. None)
 no_items A S = record { same = λ i h. absurd (none_there h); onto = λ j h. absurd (none_there h) }
 
+both_same : {X : Type 0} (S : X → X → Type 0) (o : Option X) → IsSome o → ((x : X) → S x x) → BothAnd S o o
+both_same S (Some x) h all = all x
+both_same S None h all = absurd (none_there h)
+
+-- the same items under the same numbers
+carried_there : {X : Type 0} (A : ℕ → Type 0) (S : ℕ → X → X → Type 0) (xs ys : ℕ → Option X) → ((i : ℕ) → ys i ≡ xs i) → ((i : ℕ) (x : X) → S i x x) → Carries (λ i. IsSome (xs i)) A (λ i. i) S xs ys
+carried_there A S xs ys same all = record {
+  same = λ i live. subst (λ (o : Option _). BothAnd (S i) (xs i) o) (sym (same i)) (both_same (S i) (xs i) live (all i));
+  onto = λ j live. inl (j, subst (λ (o : Option _). IsSome o) (same j) live, refl);
+}
+
+-- what is held slot by slot is seen at its place
+seen_there : {X T : Type 0} (see : T → X) (R : ℕ → X → Option T → Type 0) → ((n : ℕ) (x : X) (slot : Option T) → R n x slot → (value : T) × ((slot ≡ Some value) × (see value ≡ x)))
+    → (k : ℕ) (xs : List X) (slots : List (Option T)) → AllPlaced R k xs slots → (i : ℕ) → option_map see (item_at slots i) ≡ slice_get xs i
+seen_there see R give k [] [] h i = refl
+seen_there see R give k [] (s ∷ slots) h i = absurd h
+seen_there see R give k (x ∷ xs) [] h i = absurd h
+seen_there see R give k (x ∷ xs) (s ∷ slots) h zero = let g = give k x s h.0 in ap (option_map see) g.1.0 ∙ ap Some g.1.1
+seen_there see R give k (x ∷ xs) (s ∷ slots) h (suc i) = seen_there see R give (k + 1) xs slots h.1 i
+
 -- ---- bodies are whole
 
 module _ (moved : ℕ → ℕ → ℕ) (all : ModuleLocals) (c : Features) (r : wire.Module) (i : ℕ) (p : ℕ × Said) (b : wire.Body) (g : LocalFunction)
@@ -373,12 +401,12 @@ module _ (c : Features) (r : wire.Module) (x : Contents) (many : length r.bodies
         same = λ i live. subst (λ o. BothAnd (SameType (λ k. k) i) (types_of r i) o) (sym (type_at i)) (both_types i (types_of r i) live);
         onto = λ j live. inl (j, subst (λ o. IsSome o) (type_at j) live, refl);
       };
-      imports = record { same = λ i x. (let e = x.1 in cc); onto = λ j live. absurd (none_there live) };
+      imports = record { same = λ i x. (let e = x.1 in cc); onto = λ j live. absurd (none_there (subst (λ (l : List (Option ImportValue)). IsSome (option_map import_of (item_at l j))) h.imports live)) };
       functions = record { same = function_carried; onto = λ j live. inl (j, function_there j live, refl) };
-      tables = no_items _ _;
-      memories = no_items _ _;
-      tags = no_items _ _;
-      globals = no_items _ _;
+      tables = carried_there _ _ M.tables v.tables (seen_there table_of HoldsTable (λ n t s k. (k.value, (k.is, k.read))) 0 (tables_of (supported r)) (tables x.tables) h.tables) (λ i t. sym (table_stays (moving moved) (λ s n. refl) (λ n. refl) t));
+      memories = carried_there _ _ M.memories v.memories (seen_there memory_of HoldsMemory (λ n y s k. (k.value, (k.is, k.read))) 0 (memories_of (supported r)) (memories x.memories) h.memories) (λ i y. sym (memory_stays (moving moved) (λ s n. refl) (λ n. refl) y));
+      tags = carried_there _ _ M.tags v.tags (seen_there tag_of HoldsTag (λ n t s k. (k.value, (k.is, k.read))) 0 (tags_of (supported r)) (tags x.tags) h.tags) (λ i t. sym (tag_stays (moving moved) (λ s n. refl) (λ n. refl) t));
+      globals = carried_there _ _ M.globals v.globals (seen_there global_of HoldsGlobal (λ n g s k. (k.value, (k.is, k.read))) 0 (globals_of (supported r)) (globals x.globals) h.globals) (λ i g. sym (global_stays (moving moved) (λ s n. refl) (λ n. refl) g));
       elements = no_items _ _;
       data_segments = no_items _ _;
       imports_apart = λ i j k l e. e;

@@ -23,7 +23,8 @@ use Rattle.walrus_model.specs.Abstract.{Export}
 use Rattle.walrus_model.specs.Sections.{Said, types_of, export_of}
 use Rattle.walrus_contents.specs.View as view
 use Rattle.walrus_contents.specs.declared.parts.Contents.{Contents}
-use Rattle.walrus_reading.specs.Taken.{AllPlaced, HasTaken, HoldsExport, HoldsLocal, HoldFunctions, locals_said}
+use Rattle.walrus_reading.specs.Placed.{AllPlaced}
+use Rattle.walrus_reading.specs.Taken.{HasTaken, HoldsExport, HoldsLocal, HoldFunctions, locals_said}
 use Rattle.wasm_entries.specs.Record as entries
 use Rattle.wasm_frames.specs.Record as wire
 

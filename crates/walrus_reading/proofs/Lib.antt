@@ -1,4 +1,5 @@
 pub mod Accepting
+pub mod Brought
 pub mod Carrying
 pub mod DeclaredLocals
 pub mod Held
@@ -9,6 +10,9 @@ pub mod Placed
 pub mod References
 pub mod Refusals
 pub mod Rooms
+pub mod Rows
+pub mod Stays
+pub mod StaysByRules
 pub mod SupportedOnly
 pub mod SupportedRules
 pub mod TakenBody

@@ -18,48 +18,24 @@ use Rattle.walrus_bodies.specs.declared.features.Features.{Features}
 use Rattle.walrus_items.specs.Exports.{ExportValue, exports}
 use Rattle.walrus_items.specs.Functions.{FunctionValue, functions}
 use Rattle.walrus_items.specs.declared.functions.FunctionKind.TheVariants as variants
-use Rattle.walrus_model.specs.Sections.{Said, types_of}
+use Rattle.walrus_items.specs.Imports.{ImportValue, imports}
+use Rattle.walrus_entities.specs.Globals.{GlobalValue, globals}
+use Rattle.walrus_entities.specs.Memories.{MemoryValue, memories}
+use Rattle.walrus_entities.specs.Tables.{TableValue, tables}
+use Rattle.walrus_entities.specs.Tags.{TagValue, tags}
+use Rattle.walrus_model.specs.Abstract.{Global, Memory, Table, Tag}
+use Rattle.walrus_model.specs.Sections.{Said, types_of, globals_of, memories_of, tables_of, tags_of}
+use Rattle.walrus_reading.specs.Held.{HoldsGlobal, HoldsMemory, HoldsTable, HoldsTag}
 use Rattle.walrus_model.proofs.Standing.{some_inj}
 use Rattle.walrus_contents.specs.declared.parts.Contents.{Contents}
 use Rattle.walrus_contents.proofs.Lookups.{heads}
+use Rattle.walrus_reading.proofs.Rows.{adds_both, nothing_more, one_later, placed_own, placed_push}
 use Rattle.walrus_reading.specs.Parsed.{ItemsAtOwnIds}
-use Rattle.walrus_reading.specs.Taken.{AllPlaced, AddsExport, AddsLocalsOf, HasTaken, HoldsExport, HoldsFunction, HoldsLocal, HoldFunctions, locals_said}
+use Rattle.walrus_reading.specs.Placed.{AllPlaced}
+use Rattle.walrus_reading.specs.Taken.{AddsExport, AddsLocalsOf, HasTaken, HoldsExport, HoldsFunction, HoldsLocal, HoldFunctions, locals_said}
 use Rattle.wasm_entries.specs.Record as entries
 use Rattle.wasm_entries.specs.declared.record.RawExport.{RawExport}
 use Rattle.wasm_frames.specs.Record as wire
-
--- ---- any row
-
-pub placed_length : {A B : Type 0} (R : ℕ → A → B → Type 0) (k : ℕ) (xs : List A) (ys : List B) → AllPlaced R k xs ys → length xs ≡ length ys
-placed_length R k [] [] h = refl
-placed_length R k [] (y ∷ ys) h = absurd h
-placed_length R k (x ∷ xs) [] h = absurd h
-placed_length R k (x ∷ xs) (y ∷ ys) h = ap suc (placed_length R (k + 1) xs ys h.1)
-
-pub placed_append : {A B : Type 0} (R : ℕ → A → B → Type 0) (k next : ℕ) (xs : List A) (ys : List B) (us : List A) (vs : List B) → next ≡ k + length ys → AllPlaced R k xs ys → AllPlaced R next us vs → AllPlaced R k (xs ++ us) (ys ++ vs)
-placed_append R k next [] [] us vs at h more = let e : next ≡ k = omega (arith, at) in subst (λ (n : ℕ). AllPlaced R n us vs) e more
-placed_append R k next [] (y ∷ ys) us vs at h more = absurd h
-placed_append R k next (x ∷ xs) [] us vs at h more = absurd h
-placed_append R k next (x ∷ xs) (y ∷ ys) us vs at h more = (h.0, placed_append R (k + 1) next xs ys us vs (omega (arith, at)) h.1 more)
-
--- one more
-pub placed_push : {A B : Type 0} (R : ℕ → A → B → Type 0) (xs : List A) (ys : List B) (x : A) (y : B) → AllPlaced R 0 xs ys → R (length ys) x y → AllPlaced R 0 (xs ++ x ∷ []) (ys ++ y ∷ [])
-placed_push R xs ys x y h one = placed_append R 0 (length ys) xs ys (x ∷ []) (y ∷ []) (omega arith) h (one, tt)
-
-one_later : (a b : ℕ) → a + 1 + b ≡ a + suc b
-one_later a b = omega arith
-
-nothing_more : (a : ℕ) → a ≡ a + 0
-nothing_more a = omega arith
-
--- what is held at each place with the id of the place sits at its own id
-placed_own : {A T : Type 0} (own : T → ℕ) (R : ℕ → A → Option T → Type 0) → ((n : ℕ) (a : A) (x : T) → R n a (Some x) → own x ≡ n) → (k : ℕ) (xs : List A) (slots : List (Option T)) → AllPlaced R k xs slots
-    → (i : ℕ) (x : T) → item_at slots i ≡ Some x → own x ≡ k + i
-placed_own own R give k [] [] h i x e = absurd cc
-placed_own own R give k [] (s ∷ slots) h i x e = absurd h
-placed_own own R give k (a ∷ xs) [] h i x e = absurd h
-placed_own {A} {T} own R give k (a ∷ xs) (s ∷ slots) h zero x e = give k a x (subst (λ (o : Option T). R k a o) e h.0) ∙ nothing_more k
-placed_own own R give k (a ∷ xs) (s ∷ slots) h (suc i) x e = placed_own own R give (k + 1) xs slots h.1 i x e ∙ one_later k i
 
 -- ---- locals
 
@@ -70,15 +46,6 @@ new_placed k (i ∷ ids) [] e = absurd cc
 new_placed k (i ∷ ids) (t ∷ types) e =
     let parts = heads (place i) k (map place ids) (range_with_len (k + 1) (length types)) e in
     (record { local = new_local i t; is = refl; own_id = parts.0; typed = refl; unnamed = refl }, new_placed (k + 1) ids types parts.1)
-
-pub adds_both : (xs ys : List (ValType ℕ)) (old middle new : List (Option Local)) → AddsLocalsOf xs old middle → AddsLocalsOf ys middle new → AddsLocalsOf (xs ++ ys) old new
-adds_both xs ys old middle new (a, (is, placed)) (b, (grown, more)) = (
-  a ++ b,
-  (
-    grown ∙ ap (λ (l : List (Option Local)). l ++ b) is ∙ append_assoc old a b,
-    placed_append HoldsLocal (length old) (length middle) xs a ys b (ap length is ∙ length-append old a) placed more,
-  ),
-)
 
 module _ (types : List DeclaredValType) where
   pub adds_none : (old : List (Option Local)) → AddsLocalsOf (map val_type (take 0 types)) old old
@@ -94,7 +61,7 @@ adds_param first old new params i d id lt before at push =
     let v : DeclaredValType = get_or params i d in
     let more : map val_type (take (i + 1) params) ≡ map val_type (take i params) ++ val_type v ∷ [] = ap (map val_type) (take_more params i d lt) ∙ map-append val_type (take i params) (v ∷ []) in
     let one : AddsLocalsOf (val_type v ∷ []) old new = (Some (new_local id v) ∷ [], (push, (record { local = new_local id v; is = refl; own_id = at; typed = refl; unnamed = refl }, tt))) in
-    subst (λ (l : List (ValType ℕ)). AddsLocalsOf l first new) (sym more) (adds_both (map val_type (take i params)) (val_type v ∷ []) first old new before one)
+    subst (λ (l : List (ValType ℕ)). AddsLocalsOf l first new) (sym more) (adds_both HoldsLocal (map val_type (take i params)) (val_type v ∷ []) first old new before one)
 
 -- ---- functions
 
@@ -150,6 +117,21 @@ own_local n t x h = ap local_place (some_inj x h.local h.is) ∙ h.own_id
 own_export : (n : ℕ) (e : entries.Export) (x : ExportValue) → HoldsExport n e (Some x) → x.id ≡ n
 own_export n e x h = ap (λ (v : ExportValue). v.id) (some_inj x h.value h.is) ∙ h.own_id
 
+own_memory : (n : ℕ) (a : Memory) (x : MemoryValue) → HoldsMemory n a (Some x) → x.id ≡ n
+own_memory n a x h = ap (λ (v : MemoryValue). v.id) (some_inj x h.value h.is) ∙ h.own_id
+
+own_table : (n : ℕ) (a : Table) (x : TableValue) → HoldsTable n a (Some x) → x.id ≡ n
+own_table n a x h = ap (λ (v : TableValue). v.id) (some_inj x h.value h.is) ∙ h.own_id
+
+own_tag : (n : ℕ) (a : Tag) (x : TagValue) → HoldsTag n a (Some x) → x.id ≡ n
+own_tag n a x h = ap (λ (v : TagValue). v.id) (some_inj x h.value h.is) ∙ h.own_id
+
+own_global : (n : ℕ) (a : Global) (x : GlobalValue) → HoldsGlobal n a (Some x) → x.id ≡ n
+own_global n a x h = ap (λ (v : GlobalValue). v.id) (some_inj x h.value h.is) ∙ h.own_id
+
+no_import : (slots : List (Option ImportValue)) → slots ≡ [] → (i : ℕ) (x : ImportValue) → item_at slots i ≡ Some x → x.id ≡ i
+no_import slots none i x e = let no : ◌≡◌ {A = Option ImportValue} None (Some x) = sym (ap (λ (l : List (Option ImportValue)). item_at l i) none) ∙ e in absurd (cc)
+
 from_zero : (n i : ℕ) → n ≡ 0 + i → n ≡ i
 from_zero n i e = omega (arith, e)
 
@@ -158,4 +140,9 @@ own_ids c r m t = record {
   functions = λ i x e. from_zero x.id i (functions_own (types_of r) 0 0 (zip r.functions t.bodies) (functions m.funcs) t.functions i x e);
   exports = λ i x e. from_zero x.id i (placed_own (λ (v : ExportValue). v.id) HoldsExport own_export 0 r.exports (exports m.exports) t.exports i x e);
   locals = λ i x e. from_zero (local_place x) i (placed_own local_place HoldsLocal own_local 0 (flat_map (locals_said (types_of r)) (zip r.functions t.bodies)) (locals m.locals) t.locals i x e);
+  imports = no_import (imports m.imports) t.imports;
+  tables = λ i x e. from_zero x.id i (placed_own (λ (v : TableValue). v.id) HoldsTable own_table 0 (tables_of r) (tables m.tables) t.tables i x e);
+  memories = λ i x e. from_zero x.id i (placed_own (λ (v : MemoryValue). v.id) HoldsMemory own_memory 0 (memories_of r) (memories m.memories) t.memories i x e);
+  tags = λ i x e. from_zero x.id i (placed_own (λ (v : TagValue). v.id) HoldsTag own_tag 0 (tags_of r) (tags m.tags) t.tags i x e);
+  globals = λ i x e. from_zero x.id i (placed_own (λ (v : GlobalValue). v.id) HoldsGlobal own_global 0 (globals_of r) (globals m.globals) t.globals i x e);
 }

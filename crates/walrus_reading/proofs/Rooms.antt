@@ -1,9 +1,10 @@
--- A module has fewer than 2 ^ 32 functions: a section has, and each section stands at most once.
+-- A module has fewer than 2 ^ 32 functions, memories and tags: a section has, and each section stands at most once.
 use Rattle.wasm_frames.specs.Record as wire
 use Rattle.std.proofs.Common.{◌≡◌, ℕ, zero, suc, ◌+◌, ◌<◌, ◌^◌, List, [], ◌∷◌, ◌++◌, length, get_or, refl, sym, ap, subst, ◌∙◌, arith, inl, inr, ◌⊎◌, length-append}
 use Rattle.std.specs.Prelude.{Contains, AllPairs}
 use Rattle.std.proofs.lemmas.List.{append-nil, append_assoc, get_or-append-add}
 use Rattle.std.proofs.lemmas.List.Elements.{Contains-append_left, Contains-push}
+use Rattle.wasm_entries.specs.declared.record.RawLimits.{RawLimits}
 use Rattle.wasm_frames.specs.Record.{Module, no_sections}
 use Rattle.wasm_frames.specs.Order.{StandsBefore}
 use Rattle.wasm_frames.specs.Frames.{Section, CustomSection, Types, Imports, Functions, Tables, Memories, Globals, Exports, Start, Elements, Code, DataSegments, DataCount, Tags, IsSection, AreSections, with_section, gathered_onto, Frames}
@@ -153,11 +154,115 @@ functions_few place bytes (DataSegments ds) h = inl refl
 functions_few place bytes (DataCount n) h = inl refl
 functions_few place bytes (Tags ts) h = inl refl
 
--- the functions of a module whose sections stand in order
+-- ---- memories
+
+abbrev memories_in : Section → List RawLimits
+memories_in (CustomSection c) = []
+memories_in (Types gs) = []
+memories_in (Imports is) = []
+memories_in (Functions fs) = []
+memories_in (Tables ts) = []
+memories_in (Memories ms) = ms
+memories_in (Globals gs) = []
+memories_in (Exports es) = []
+memories_in (Start f) = []
+memories_in (Elements es) = []
+memories_in (Code bs) = []
+memories_in (DataSegments ds) = []
+memories_in (DataCount n) = []
+memories_in (Tags ts) = []
+
+memories_added : (m : Module) (s : Section) → (with_section m s).memories ≡ m.memories ++ memories_in s
+memories_added m (CustomSection c) = sym (append-nil m.memories)
+memories_added m (Types gs) = sym (append-nil m.memories)
+memories_added m (Imports is) = sym (append-nil m.memories)
+memories_added m (Functions fs) = sym (append-nil m.memories)
+memories_added m (Tables ts) = sym (append-nil m.memories)
+memories_added m (Memories ms) = refl
+memories_added m (Globals gs) = sym (append-nil m.memories)
+memories_added m (Exports es) = sym (append-nil m.memories)
+memories_added m (Start f) = sym (append-nil m.memories)
+memories_added m (Elements es) = sym (append-nil m.memories)
+memories_added m (Code bs) = sym (append-nil m.memories)
+memories_added m (DataSegments ds) = sym (append-nil m.memories)
+memories_added m (DataCount n) = sym (append-nil m.memories)
+memories_added m (Tags ts) = sym (append-nil m.memories)
+
+memories_few : (place : ℕ) (bytes : List ℕ) (s : Section) → IsSection place bytes s → (memories_in s ≡ []) ⊎ ((ids_in s ≡ 5 ∷ []) × (length (memories_in s) < 2 ^ 32))
+memories_few place bytes (CustomSection c) h = inl refl
+memories_few place bytes (Types gs) h = inl refl
+memories_few place bytes (Imports is) h = inl refl
+memories_few place bytes (Functions fs) h = inl refl
+memories_few place bytes (Tables ts) h = inl refl
+memories_few place bytes (Memories ms) h = let u = h.used in let lt : length ms < 2 ^ 32 = omega (arith, u.1.1.1.2.1, u.1.1.1.1.small) in inr (refl, lt)
+memories_few place bytes (Globals gs) h = inl refl
+memories_few place bytes (Exports es) h = inl refl
+memories_few place bytes (Start f) h = inl refl
+memories_few place bytes (Elements es) h = inl refl
+memories_few place bytes (Code bs) h = inl refl
+memories_few place bytes (DataSegments ds) h = inl refl
+memories_few place bytes (DataCount n) h = inl refl
+memories_few place bytes (Tags ts) h = inl refl
+
+-- ---- tags
+
+abbrev tags_in : Section → List ℕ
+tags_in (CustomSection c) = []
+tags_in (Types gs) = []
+tags_in (Imports is) = []
+tags_in (Functions fs) = []
+tags_in (Tables ts) = []
+tags_in (Memories ms) = []
+tags_in (Globals gs) = []
+tags_in (Exports es) = []
+tags_in (Start f) = []
+tags_in (Elements es) = []
+tags_in (Code bs) = []
+tags_in (DataSegments ds) = []
+tags_in (DataCount n) = []
+tags_in (Tags ts) = ts
+
+tags_added : (m : Module) (s : Section) → (with_section m s).tags ≡ m.tags ++ tags_in s
+tags_added m (CustomSection c) = sym (append-nil m.tags)
+tags_added m (Types gs) = sym (append-nil m.tags)
+tags_added m (Imports is) = sym (append-nil m.tags)
+tags_added m (Functions fs) = sym (append-nil m.tags)
+tags_added m (Tables ts) = sym (append-nil m.tags)
+tags_added m (Memories ms) = sym (append-nil m.tags)
+tags_added m (Globals gs) = sym (append-nil m.tags)
+tags_added m (Exports es) = sym (append-nil m.tags)
+tags_added m (Start f) = sym (append-nil m.tags)
+tags_added m (Elements es) = sym (append-nil m.tags)
+tags_added m (Code bs) = sym (append-nil m.tags)
+tags_added m (DataSegments ds) = sym (append-nil m.tags)
+tags_added m (DataCount n) = sym (append-nil m.tags)
+tags_added m (Tags ts) = refl
+
+tags_few : (place : ℕ) (bytes : List ℕ) (s : Section) → IsSection place bytes s → (tags_in s ≡ []) ⊎ ((ids_in s ≡ 13 ∷ []) × (length (tags_in s) < 2 ^ 32))
+tags_few place bytes (CustomSection c) h = inl refl
+tags_few place bytes (Types gs) h = inl refl
+tags_few place bytes (Imports is) h = inl refl
+tags_few place bytes (Functions fs) h = inl refl
+tags_few place bytes (Tables ts) h = inl refl
+tags_few place bytes (Memories ms) h = inl refl
+tags_few place bytes (Globals gs) h = inl refl
+tags_few place bytes (Exports es) h = inl refl
+tags_few place bytes (Start f) h = inl refl
+tags_few place bytes (Elements es) h = inl refl
+tags_few place bytes (Code bs) h = inl refl
+tags_few place bytes (DataSegments ds) h = inl refl
+tags_few place bytes (DataCount n) h = inl refl
+tags_few place bytes (Tags ts) h = let u = h.used in let lt : length ts < 2 ^ 32 = omega (arith, u.1.1.1.2.1, u.1.1.1.1.small) in inr (refl, lt)
+
+-- those of a module whose sections stand in order
 pub fits_indices : (bytes : List ℕ) (m : wire.Module) → Frames bytes m → AllPairs StandsBefore m.order → FitsIndices m
 fits_indices bytes m f h =
     let h' : AllPairs StandsBefore (gathered_onto no_sections f.parts).order = subst (λ (x : Module). AllPairs StandsBefore x.order) f.holds h in
     record {
       functions = subst (λ (x : Module). length x.functions < 2 ^ 32) (sym f.holds)
           (room (λ x. x.functions) 3 functions_in functions_added functions_few 8 f.rest no_sections f.parts f.framed (omega arith) (inl refl) h');
+      memories = subst (λ (x : Module). length x.memories < 2 ^ 32) (sym f.holds)
+          (room (λ x. x.memories) 5 memories_in memories_added memories_few 8 f.rest no_sections f.parts f.framed (omega arith) (inl refl) h');
+      tags = subst (λ (x : Module). length x.tags < 2 ^ 32) (sym f.holds)
+          (room (λ x. x.tags) 13 tags_in tags_added tags_few 8 f.rest no_sections f.parts f.framed (omega arith) (inl refl) h');
     }

@@ -27,8 +27,10 @@ use Rattle.walrus_items.specs.Functions.{FunctionValue}
 use Rattle.walrus_items.specs.declared.functions.FunctionKind.TheVariants as kind
 use Rattle.walrus_items.specs.declared.functions.ModuleFunctions.{ModuleFunctions}
 use Rattle.walrus_model.specs.Sections.{Said}
-use Rattle.walrus_reading.specs.Taken.{AddsLocalsOf, AllPlaced, AreTaken, HoldsLocal, IsSaid, IsTaken, SaysUnder, TakesFunction, TakesFunctions, locals_said}
-use Rattle.walrus_reading.proofs.Placed.{adds_both, held_push, new_placed, placed_append, placed_length}
+use Rattle.walrus_reading.specs.Placed.{AllPlaced}
+use Rattle.walrus_reading.specs.Taken.{AddsLocalsOf, AreTaken, HoldsLocal, IsSaid, IsTaken, SaysUnder, TakesFunction, TakesFunctions, locals_said}
+use Rattle.walrus_reading.proofs.Placed.{held_push, new_placed}
+use Rattle.walrus_reading.proofs.Rows.{adds_both, placed_append, placed_length}
 use Rattle.walrus_contents.proofs.Steps.{zip_push, zip_at, pair_at, pairs_long, pairs_more, pairs_all}
 use Rattle.walrus_parts.specs.Errors.{error_of_ir}
 use Rattle.walrus_parts.specs.declared.error.Error.{Error}
@@ -81,7 +83,7 @@ module _ (c : Context) (types : ℕ → Option TypeDef) (f : ℕ × wire.Body) (
     all_added : AddsLocalsOf (params_of (types f.0) ++ map val_type is.types) old new
     all_added =
         let declared : AddsLocalsOf (map val_type is.types) middle new = (new_locals body.declared.items is.types, (is.added.added, new_placed (length middle) body.declared.items is.types is.added.places)) in
-        subst (λ (l : List (ValType ℕ)). AddsLocalsOf (l ++ map val_type is.types) old new) (sym takes) (adds_both (map val_type params) (map val_type is.types) old middle new added declared)
+        subst (λ (l : List (ValType ℕ)). AddsLocalsOf (l ++ map val_type is.types) old new) (sym takes) (adds_both HoldsLocal (map val_type params) (map val_type is.types) old middle new added declared)
 
     pub taken : (g : LocalFunction) (id : ℕ) (slot : Option FunctionValue) → slot ≡ Some (record { id = id; kind = kind.Local g; name = None }) → place (function_type g) ≡ f.0 → map place g.args.items ≡ args → ops_of g.operators.items ≡ ops_of body.operators.items
         → g.handler_types.items ≡ [] → g.name ≡ None → IsTaken c types id old new f slot

@@ -1,4 +1,9 @@
+pub mod Held
+pub mod Imported
+pub mod Numbers
 pub mod Parsed
+pub mod Placed
 pub mod Sections
+pub mod Stays
 pub mod SupportedOnly
 pub mod Taken

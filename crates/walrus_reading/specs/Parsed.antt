@@ -15,7 +15,12 @@ use Rattle.walrus_model.specs.Supported.{IsSupported}
 use Rattle.std.specs.List.{AllZip}
 use Rattle.walrus_items.specs.declared.functions.ModuleFunctions.{ModuleFunctions}
 use Rattle.walrus_items.specs.Functions.{functions}
-use Rattle.walrus_items.specs.OwnIds.{FunctionsAtOwnIds, ExportsAtOwnIds, LocalsAtOwnIds}
+use Rattle.walrus_items.specs.Imports.{imports}
+use Rattle.walrus_entities.specs.Globals.{globals}
+use Rattle.walrus_entities.specs.Memories.{memories}
+use Rattle.walrus_entities.specs.Tables.{tables}
+use Rattle.walrus_entities.specs.Tags.{tags}
+use Rattle.walrus_items.specs.OwnIds.{AtOwnIds, FunctionsAtOwnIds, ExportsAtOwnIds, LocalsAtOwnIds}
 use Rattle.walrus_contents.specs.declared.parts.Contents.{Contents}
 use Rattle.walrus_reading.specs.Taken.{HasTaken, IsLocated}
 use Rattle.wasm_frames.specs.Frames.{Frames}
@@ -61,11 +66,16 @@ pub record TakenFrom (features : Features) (bytes : List ℕ) (m : Contents) : T
   pub rules : Rules sections
   pub taken : HasTaken features sections m
 
--- each function, export and local sits at its own id; types always do
+-- each item, export and local sits at its own id; types always do
 pub record ItemsAtOwnIds (m : Contents) : Type 0 where
   pub functions : FunctionsAtOwnIds m.funcs
   pub exports : ExportsAtOwnIds m.exports
   pub locals : LocalsAtOwnIds m.locals
+  pub imports : AtOwnIds (λ x. x.id) (imports m.imports)
+  pub tables : AtOwnIds (λ x. x.id) (tables m.tables)
+  pub memories : AtOwnIds (λ x. x.id) (memories m.memories)
+  pub tags : AtOwnIds (λ x. x.id) (tags m.tags)
+  pub globals : AtOwnIds (λ x. x.id) (globals m.globals)
 
 -- ---- for the functions inside
 

@@ -1,11 +1,11 @@
 -- What the fields of a module hold of the sections that were read.
-use Rattle.std.specs.Prelude.{ℕ, ◌+◌, List, [], ◌∷◌, ◌++◌, map, flat_map, zip, Option, Some, None, length, ◌≡◌, ◌<◌, ◌^◌, Result, Ok, Err}
+use Rattle.std.specs.Prelude.{ℕ, ◌+◌, All, List, [], ◌∷◌, ◌++◌, map, flat_map, zip, Option, Some, None, length, ◌≡◌, ◌<◌, ◌^◌, Result, Ok, Err}
 use Rattle.std.specs.List.{AllZip, range_with_len}
 use Rattle.walrus_base.specs.Arena.{item_at}
 use Rattle.walrus_base.specs.Id.{place}
 use Rattle.walrus_base.specs.Types.{ValType}
 use Rattle.walrus_types.specs.Locals.{locals, local_place, local_type}
-use Rattle.walrus_types.specs.ModuleTypes.{type_slots}
+use Rattle.walrus_types.specs.ModuleTypes.{type_names, type_slots}
 use Rattle.walrus_types.specs.TypeDef.{TypeDef}
 use Rattle.walrus_types.specs.Value.{val_type}
 use Rattle.walrus_types.specs.declared.locals.Local.{Local as LocalItem}
@@ -29,9 +29,16 @@ use Rattle.walrus_items.specs.declared.functions.FunctionKind.TheVariants.{Local
 use Rattle.walrus_items.specs.declared.functions.ModuleFunctions.{ModuleFunctions}
 use Rattle.walrus_groups.specs.Groups.{types_from}
 use Rattle.walrus_model.specs.Reads.{ReadsBodyWith}
-use Rattle.walrus_model.specs.Sections.{Said, types_of, export_of}
+use Rattle.walrus_items.specs.Imports.{imports}
+use Rattle.walrus_entities.specs.Globals.{globals}
+use Rattle.walrus_entities.specs.Memories.{memories}
+use Rattle.walrus_entities.specs.Tables.{tables}
+use Rattle.walrus_entities.specs.Tags.{tags}
+use Rattle.walrus_model.specs.Sections.{Said, types_of, export_of, tables_of, memories_of, tags_of, globals_of}
+use Rattle.walrus_reading.specs.Held.{HoldsGlobal, HoldsMemory, HoldsTable, HoldsTag}
 use Rattle.walrus_contents.specs.View as view
 use Rattle.walrus_contents.specs.declared.parts.Contents.{Contents}
+use Rattle.walrus_reading.specs.Placed.{AddsPlaced, AllPlaced}
 use Rattle.walrus_reading.specs.declared.contents.Under.{Under}
 use Rattle.wasm_entries.specs.Record as entries
 use Rattle.wasm_frames.specs.Record as wire
@@ -39,13 +46,6 @@ use Rattle.walrus_parts.specs.declared.error.Error.{Error}
 use Rattle.walrus_parts.specs.declared.error.Error.TheVariants.{Memory, InvalidWasm}
 
 -- ---- what is held of what was read; nothing is deleted, each item sits at its own id, and nothing of these has a name
-
--- what is listed stands at the places from this one on, in order
-abbrev pub AllPlaced : {A B : Type 0} → (ℕ → A → B → Type 0) → ℕ → List A → List B → Type 0
-AllPlaced R place [] [] = Unit {0}
-AllPlaced R place [] (y ∷ ys) = ⊥
-AllPlaced R place (x ∷ xs) [] = ⊥
-AllPlaced R place (x ∷ xs) (y ∷ ys) = R place x y × AllPlaced R (place + 1) xs ys
 
 -- the types of the locals of a function: its parameters, and then those that its body declares, used or not
 abbrev pub locals_said : (types : ℕ → Option TypeDef) → ℕ × Said → List (ValType ℕ)
@@ -100,19 +100,27 @@ pub record IsLocated (body : wire.Body) (slot : Option FunctionValue) : Type 0 w
   pub kind : value.kind ≡ Local local
   pub places : BodyLocated IsPlace body.start body.bytes (locations local.operators.items)
 
--- the functions have room for their indices
+-- the functions, memories and tags have room for their indices
 pub record FitsIndices (r : wire.Module) : Type 0 where
   pub functions : length r.functions < 2 ^ 32
+  pub memories : length r.memories < 2 ^ 32
+  pub tags : length r.tags < 2 ^ 32
 
--- The module holds these sections, whose bodies say this: the types, functions and exports in their order, and the locals of all functions, function
--- by function; nothing else.
+-- The module holds these sections, whose bodies say this: the items of each index space and the exports in their order, and the locals of all
+-- functions, function by function; nothing else. No type has a name.
 pub record HasTaken (features : Features) (r : wire.Module) (m : Contents) : Type 0 where
   pub bodies : List Said
   pub read : AllZip (ReadsBodyWith features r) (zip r.functions r.bodies) bodies
   pub types : type_slots m.types ≡ map Some (types_from 0 r.types)
+  pub type_names : All (λ name. name ≡ Some None) (type_names m.types)
   pub functions : HoldFunctions (types_of r) 0 0 (zip r.functions bodies) (functions m.funcs)
   pub locals : AllPlaced HoldsLocal 0 (flat_map (locals_said (types_of r)) (zip r.functions bodies)) (locals m.locals)
   pub exports : AllPlaced HoldsExport 0 r.exports (exports m.exports)
+  pub imports : imports m.imports ≡ []
+  pub tables : AllPlaced HoldsTable 0 (tables_of r) (tables m.tables)
+  pub memories : AllPlaced HoldsMemory 0 (memories_of r) (memories m.memories)
+  pub tags : AllPlaced HoldsTag 0 (tags_of r) (tags m.tags)
+  pub globals : AllPlaced HoldsGlobal 0 (globals_of r) (globals m.globals)
 
 -- taken in: the module holds the sections; refused: the bodies aren't read, or memory ran out
 abbrev pub TakesSections : Features → wire.Module → Result Contents Error → Type 0
@@ -136,7 +144,7 @@ SaysUnder c types f said = BodyReads c (locals_from 0 (length (params_of (types 
 
 -- locals of these types stand behind the others
 abbrev pub AddsLocalsOf : List (ValType ℕ) → (old new : List (Option LocalItem)) → Type 0
-AddsLocalsOf types old new = (more : List (Option LocalItem)) × ((new ≡ old ++ more) × AllPlaced HoldsLocal (length old) types more)
+AddsLocalsOf types old new = AddsPlaced HoldsLocal types old new
 
 -- the export stands behind the others
 abbrev pub AddsExport : entries.Export → (old new : List (Option ExportValue)) → Type 0

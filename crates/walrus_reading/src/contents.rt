@@ -1,42 +1,47 @@
 //! From the records of a module's sections to what a module in memory holds.
-ghost use Rattle.std.specs.Prelude.{true, ◌≡◌, ◌≢◌, ◌++◌, ◌∷◌, ◌<◌, ◌^◌, ℕ, [], length, map, zip, All, IfOk, OnOk, IsOkUnless, Some};
+ghost use Rattle.std.specs.Prelude.{true, ◌≡◌, ◌≢◌, ◌++◌, ◌∷◌, ◌<◌, ◌^◌, ℕ, [], length, map, zip, All, IfOk, OnOk, IsOkUnless, Some, None, option_map};
 ghost use Rattle.std.specs.Fn.{FnReturnsAt};
 ghost use Rattle.std.specs.List.{range_with_len, AllZip};
 ghost use Rattle.walrus_base.specs.Id.{place};
 ghost use Rattle.walrus_types.specs.Locals.{locals};
-ghost use Rattle.walrus_types.specs.ModuleTypes.{type_slots};
-ghost use Rattle.walrus_types.specs.Operators.{Space, Types, Functions};
+ghost use Rattle.walrus_types.specs.ModuleTypes.{type_names, type_slots};
+ghost use Rattle.walrus_types.specs.Operators.{Space, Types};
 ghost use Rattle.walrus_types.specs.Value.{val_type};
 ghost use Rattle.walrus_code.specs.Indices.{places_in, ids_at};
 ghost use Rattle.walrus_code.specs.Location.{location, location_at};
 ghost use Rattle.walrus_bodies.specs.BodyRead.{ReadsBody, BodyLocated};
 ghost use Rattle.walrus_bodies.specs.Results.{locations};
 ghost use Rattle.walrus_bodies.specs.FunctionTypes.{is_function_at};
-ghost use Rattle.walrus_items.specs.Exports.{exports};
+ghost use Rattle.walrus_items.specs.Exports.{exported, exports};
 ghost use Rattle.walrus_items.specs.Functions.{functions};
 ghost use Rattle.walrus_groups.specs.Groups.{types_from, AreDeclared};
 ghost use Rattle.walrus_model.specs.Producers.{produced};
 ghost use Rattle.walrus_producers.specs.Seen.{producers};
-ghost use Rattle.walrus_reading.specs.Taken.{AddsExport, AddsLocalsOf, AddsLocated, AllPlaced, FitsIndices, HoldsExport, IsPlace, IsLocated, TakesFunction, TakesFunctions, TakesSections, context_under, types_under};
-ghost use Rattle.walrus_model.specs.Supported.{IsOfFunction, IsSupported};
+ghost use Rattle.walrus_reading.specs.Placed.{AllPlaced};
+ghost use Rattle.walrus_reading.specs.Taken.{AddsExport, AddsLocalsOf, AddsLocated, FitsIndices, HoldsExport, IsPlace, IsLocated, TakesFunction, TakesFunctions, TakesSections, context_under, types_under};
+ghost use Rattle.walrus_model.specs.Sections.{space_of};
+ghost use Rattle.walrus_model.specs.Supported.{IsSupported};
 ghost use Rattle.walrus_reading.specs.Sections.{Rules};
 ghost use Rattle.walrus_parts.specs.Errors.{out_of_memory};
 ghost use Rattle.wasm_entries.specs.Record.{group, export_entry};
 ghost use Rattle.wasm_frames.specs.Record.{body_record, sections};
 
+use crate::entities::{add_memories, add_tags};
+use crate::numbers::{number_functions, number_memories, number_tags};
 use std::alloc::{AllocError, Global};
 use std::result;
 use walrus_bodies::{ReadBody, read_body_over};
 use walrus_contents::Contents;
+use walrus_entities::{ModuleGlobals, ModuleMemories, ModuleTables, ModuleTags};
 use walrus_groups::read_types;
 use walrus_ir::{
-    Features, Id, IndicesToIds, InstrLocId, IrError, LocalFunction, LocalId, ModuleLocals,
-    ModuleTypes, ValType,
+    Features, IndicesToIds, InstrLocId, IrError, LocalFunction, LocalId, ModuleLocals, ModuleTypes,
+    ValType,
 };
-use walrus_items::{ExportItem, ModuleExports, ModuleFunctions};
+use walrus_items::{ExportItem, ModuleExports, ModuleFunctions, ModuleImports};
 use walrus_parts::{Error, Result};
 use walrus_producers::ModuleProducers;
-use wasm_wire::{Raw, RawBody, RawExport, RawGroup};
+use wasm_wire::{Raw, RawBody, RawExport, RawExportKind, RawGroup};
 
 /// What sections that keep the rules hold, where bodies may use these proposals.
 ///
@@ -55,9 +60,16 @@ pub(crate) fn read_contents(alloc: Global, raw: &Raw<'_>, features: &Features) -
     let mut locals = ModuleLocals::new(alloc);
     let mut funcs = ModuleFunctions::new(alloc)?;
     let mut exports = ModuleExports::new(alloc);
+    let imports = ModuleImports::new(alloc);
+    let tables = ModuleTables::new(alloc);
+    let mut memories = ModuleMemories::new(alloc);
+    let mut tags = ModuleTags::new(alloc)?;
+    let globals = ModuleGlobals::new(alloc);
     let mut indices = IndicesToIds::new(alloc);
     add_types(alloc, &raw.types, &mut indices, &mut types)?;
     number_functions(raw.functions.len(), &mut indices)?;
+    number_memories(raw.memories.len(), &mut indices)?;
+    number_tags(raw.tags.len(), &mut indices)?;
     let under = Under {
         alloc,
         features,
@@ -65,11 +77,18 @@ pub(crate) fn read_contents(alloc: Global, raw: &Raw<'_>, features: &Features) -
         types: &types,
     };
     add_functions(under, &raw.functions, &raw.bodies, &mut locals, &mut funcs)?;
+    add_memories(&raw.memories, &mut memories)?;
+    add_tags(&raw.tags, &indices, &mut tags)?;
     add_exports(&raw.exports, &indices, &mut exports)?;
     Ok(Contents {
         types,
         locals,
+        imports,
         funcs,
+        tables,
+        memories,
+        tags,
+        globals,
         exports,
         producers: own_producers(alloc)?,
     })
@@ -94,22 +113,7 @@ struct Under<'a> {
     types: &'a ModuleTypes,
 }
 
-// The indices of so many functions.
-fn number_functions(count: usize, indices: &mut IndicesToIds) -> Result<()>
-    requires none { places_in indices.old Functions ≡ [] }
-    requires room { count < 2 ^ 32 }
-    ensures numbered { OnOk result (places_in indices.new Functions ≡ range_with_len 0 count) }
-    ensures others { OnOk result ((space : Space) → space ≢ Functions → places_in indices.new space
-        ≡ places_in indices.old space) }
-    ensures fails { IsOkUnless result out_of_memory }
-{
-    for place in 0..count {
-        indices.push_func(Id::at(place))?;
-    }
-    Ok(())
-}
-
-// Each type gets the next id and the next index.
+// Each type gets the next id and the next index, and no name.
 fn add_types(
     alloc: Global,
     raw: &[RawGroup],
@@ -117,12 +121,14 @@ fn add_types(
     types: &mut ModuleTypes,
 ) -> Result<()>
     requires none { type_slots types.old ≡ [] }
+    requires no_names { type_names types.old ≡ [] }
     requires no_indices { (space : Space) → places_in indices.old space ≡ [] }
     requires declared { AreDeclared 0 (map group raw.now) }
     ensures added { OnOk result (type_slots types.new ≡ map Some (types_from 0 (map group raw.now))) }
     ensures numbered { OnOk result (places_in indices.new Types ≡ range_with_len 0
         (length (types_from 0 (map group raw.now)))) }
     ensures others { OnOk result ((space : Space) → space ≢ Types → places_in indices.new space ≡ []) }
+    ensures unnamed { OnOk result (All (λ name. name ≡ Some None) (type_names types.new)) }
     ensures fails { IsOkUnless result out_of_memory }
 {
     match read_types(alloc, raw, indices, types) {
@@ -230,25 +236,38 @@ fn add_functions(
     Ok(())
 }
 
-// The export leads to the function of its index: what is supported exports functions alone.
+// What an index of this kind names, if it names something.
+fn item_named(kind: RawExportKind, index: u32, indices: &IndicesToIds) -> Option<ExportItem>
+    ensures { option_map exported result
+        ≡ option_map (λ i. (space_of kind, i)) (ids_at indices.now (space_of kind) index) }
+{
+    match kind {
+        RawExportKind::Function => Some(ExportItem::Function(indices.get_func(index)?)),
+        RawExportKind::Table => Some(ExportItem::Table(indices.get_table(index)?)),
+        RawExportKind::Memory => Some(ExportItem::Memory(indices.get_memory(index)?)),
+        RawExportKind::Global => Some(ExportItem::Global(indices.get_global(index)?)),
+        RawExportKind::Tag => Some(ExportItem::Tag(indices.get_tag(index)?)),
+    }
+}
+
+// The export leads to the item of its index.
 fn add_export(entry: &RawExport<'_>, indices: &IndicesToIds, all: &mut ModuleExports) -> Result<()>
-    requires declared { ids_at indices.now Functions entry.now.index ≡ Some entry.now.index }
-    requires function { IsOfFunction (export_entry entry.now) }
+    requires declared { ids_at indices.now (space_of entry.now.kind) entry.now.index
+        ≡ Some entry.now.index }
     ensures added { OnOk result (AddsExport (export_entry entry.now) (exports all.old) (exports all.new)) }
     ensures fails { IsOkUnless result out_of_memory }
 {
-    let Some(id) = indices.get_func(entry.index) else {
+    let Some(item) = item_named(entry.kind, entry.index, indices) else {
         unreachable!();
     };
-    all.add(entry.name, ExportItem::Function(id))?;
+    all.add(entry.name, item)?;
     Ok(())
 }
 
 fn add_exports(raw: &[RawExport<'_>], indices: &IndicesToIds, all: &mut ModuleExports) -> Result<()>
     requires none { exports all.old ≡ [] }
-    requires declared { All (λ e. ids_at indices.now Functions e.index ≡ Some e.index)
+    requires declared { All (λ e. ids_at indices.now (space_of e.kind) e.index ≡ Some e.index)
         (map export_entry raw.now) }
-    requires functions { All IsOfFunction (map export_entry raw.now) }
     ensures added { OnOk result (AllPlaced HoldsExport 0 (map export_entry raw.now) (exports all.new)) }
     ensures fails { IsOkUnless result out_of_memory }
 {

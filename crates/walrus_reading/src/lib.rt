@@ -2,7 +2,11 @@
 #![tactic(auto)]
 
 mod contents;
+mod entities;
+mod imports;
+mod law;
 mod module;
+mod numbers;
 mod supported;
 
 pub use module::read;

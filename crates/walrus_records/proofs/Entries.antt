@@ -12,11 +12,12 @@ use Rattle.wasm_wire.specs.Indices.{DescHolds, ImportHolds, InitialHolds, TableH
 use Rattle.walrus_base.specs.Types.{heap_names}
 use Rattle.walrus_types.specs.Operators.{Globals, Item, Op, type_item, function_item, names_of}
 use Rattle.walrus_code.specs.FromRaw.{heap_of}
+use Rattle.walrus_functions.proofs.LawNamed.{each_append}
 use Rattle.walrus_model.specs.Abstract.{Function, Table, Global, Tag}
 use Rattle.walrus_model.specs.Constants.{consts_of}
 use Rattle.walrus_model.specs.Refers.{named_by, function_names, table_names, global_names, tag_names, element_kind_names, element_item_names, element_names, data_kind_names, data_names}
 use Rattle.walrus_model.specs.Sections.{imported, imported_function, imported_table, imported_global, imported_tag, table_of, element_kind, element_items, element_of, data_kind, data_of}
-use Rattle.walrus_records.proofs.Lists.{all_both, all_parts, all_mapped, all_unmapped, all_flat, all_unflat}
+use Rattle.walrus_records.proofs.Lists.{all_parts, all_mapped, all_unmapped, all_flat, all_unflat}
 use Rattle.walrus_records.proofs.Within.{Within, heap_within, heap_holds, value_within, value_holds, expression_within, expression_holds, scoped_within, scoped_low, scoped_holds}
 
 module _ (c : Counts) (e d : ℕ) where
@@ -40,9 +41,9 @@ module _ (c : Counts) (e d : ℕ) where
 
   desc_brings : (i : ℕ) (x : RawDesc) (fs : List Function) (ts : List Table) (gs : List Global) (us : List Tag) → DescHolds c.types x → Brought fs ts gs us → With i x fs ts gs us
   desc_brings i (descs.Function ty) fs ts gs us h b = record { functions = ((h, tt), b.functions); tables = b.tables; globals = b.globals; tags = b.tags }
-  desc_brings i (descs.Table t) fs ts gs us h b = record { functions = b.functions; tables = (all_both W (map type_item (heap_names (heap_of t.element.heap))) [] (heap_within c e d t.element.heap h) tt, b.tables); globals = b.globals; tags = b.tags }
+  desc_brings i (descs.Table t) fs ts gs us h b = record { functions = b.functions; tables = (each_append W (map type_item (heap_names (heap_of t.element.heap))) [] (heap_within c e d t.element.heap h) tt, b.tables); globals = b.globals; tags = b.tags }
   desc_brings i (descs.Memory l) fs ts gs us h b = record { functions = b.functions; tables = b.tables; globals = b.globals; tags = b.tags }
-  desc_brings i (descs.Global g) fs ts gs us h b = record { functions = b.functions; tables = b.tables; globals = (all_both W _ [] (value_within c e d g.value h) tt, b.globals); tags = b.tags }
+  desc_brings i (descs.Global g) fs ts gs us h b = record { functions = b.functions; tables = b.tables; globals = (each_append W _ [] (value_within c e d g.value h) tt, b.globals); tags = b.tags }
   desc_brings i (descs.Tag ty) fs ts gs us h b = record { functions = b.functions; tables = b.tables; globals = b.globals; tags = ((h, tt), b.tags) }
 
   desc_was : (i : ℕ) (x : RawDesc) (fs : List Function) (ts : List Table) (gs : List Global) (us : List Tag) → With i x fs ts gs us → DescHolds c.types x × Brought fs ts gs us
@@ -84,7 +85,7 @@ module _ (c : Counts) (e d : ℕ) where
   initial_holds n (Some x) a low = scoped_holds c e d n x a (low (consts_of x) refl)
 
   pub table_within : c.imported_globals ≤ c.globals → (t : entries.Table) → TableHolds c t → Names table_names (table_of t)
-  table_within few t h = all_both W (map type_item (heap_names (heap_of t.ty.element.heap))) (named_by names_of (option_map consts_of t.initial)) (heap_within c e d t.ty.element.heap h.0) (initial_within c.imported_globals few t.initial h.1)
+  table_within few t h = each_append W (map type_item (heap_names (heap_of t.ty.element.heap))) (named_by names_of (option_map consts_of t.initial)) (heap_within c e d t.ty.element.heap h.0) (initial_within c.imported_globals few t.initial h.1)
 
   pub table_holds : (t : entries.Table) → Names table_names (table_of t) → ((ops : List Op) → option_map consts_of t.initial ≡ Some ops → (g : ℕ) → Contains (names_of ops) (Globals, g) → g < c.imported_globals) → TableHolds c t
   table_holds t a low =
@@ -106,7 +107,7 @@ module _ (c : Counts) (e d : ℕ) where
   items_within : (x : entries.Items) → ItemsHold c x → AllByRecursion W (element_item_names (element_items x))
   items_within (entries.Functions fs) h = all_mapped W function_item fs (recursion_from_All (λ f. f < c.functions) fs h)
   items_within (entries.Expressions ty es) h =
-      all_both W (map type_item (heap_names (heap_of ty.heap))) (flat_map names_of (map consts_of es)) (heap_within c e d ty.heap h.0)
+      each_append W (map type_item (heap_names (heap_of ty.heap))) (flat_map names_of (map consts_of es)) (heap_within c e d ty.heap h.0)
       (all_flat (ExpressionHolds c) W consts_of names_of (expression_within c e d) es (recursion_from_All (ExpressionHolds c) es h.1))
 
   items_hold : (x : entries.Items) → AllByRecursion W (element_item_names (element_items x)) → ItemsHold c x
@@ -116,7 +117,7 @@ module _ (c : Counts) (e d : ℕ) where
       (heap_holds c e d ty.heap p.0, All-from_recursion (ExpressionHolds c) es (all_unflat (ExpressionHolds c) W consts_of names_of (expression_holds c e d) es p.1))
 
   pub element_within : (x : entries.Element) → ElementHolds c x → Names element_names (element_of x)
-  element_within x h = all_both W (element_kind_names (element_kind x.mode)) (element_item_names (element_items x.items)) (mode_within x.mode h.0) (items_within x.items h.1)
+  element_within x h = each_append W (element_kind_names (element_kind x.mode)) (element_item_names (element_items x.items)) (mode_within x.mode h.0) (items_within x.items h.1)
 
   pub element_holds : (x : entries.Element) → Names element_names (element_of x) → ElementHolds c x
   element_holds x a =

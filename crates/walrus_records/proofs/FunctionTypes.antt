@@ -15,8 +15,10 @@ use Rattle.walrus_model.specs.Abstract.{Function, Tag}
 use Rattle.walrus_model.specs.Rules.{IsFunctionComp, IsFunctionType, IsEmptyFunctionType}
 use Rattle.walrus_model.specs.Sections.{Said, types_of, functions_of, tags_of, module_of}
 use Rattle.walrus_model.proofs.Standing.{some_inj}
+use Rattle.walrus_rules.proofs.TextShaped.{all_at}
+use Rattle.walrus_rules.proofs.SpelledFits.{all_each}
 use Rattle.walrus_records.proofs.Images.{types_look, functions_look, tags_look}
-use Rattle.walrus_records.proofs.Lists.{each_at, each_of, looked, looked_at}
+use Rattle.walrus_records.proofs.Lists.{looked, looked_at}
 
 -- ---- one type
 
@@ -95,23 +97,23 @@ module _ (s : wire.Module) (bodies : List Said) where
 
   pub functions_typed : length bodies ≡ length s.functions → records.AreFunctionTypes flat (context_of s).functions → (i : ℕ) (f : Function) → slice_get (functions_of s bodies) i ≡ Some f → Typed f.ty
   functions_typed many h i f e =
-      each_at (λ (x : Function). Typed x.ty) (functions_of s bodies) i f
+      all_at (λ (x : Function). Typed x.ty) (functions_of s bodies) i f
       (looked (λ (x : Function). x.ty) (λ (t : ℕ). t) (λ t. records.IsFunction (slice_get flat t)) (λ (x : Function). Typed x.ty) (λ x t. typed_by x.ty t) (functions_of s bodies) (context_of s).functions (functions_look s bodies many) (recursion_from_All (λ t. records.IsFunction (slice_get flat t)) (context_of s).functions h)) e
 
   pub functions_were : length bodies ≡ length s.functions → ((i : ℕ) (f : Function) → slice_get (functions_of s bodies) i ≡ Some f → Typed f.ty) → records.AreFunctionTypes flat (context_of s).functions
   functions_were many h =
       All-from_recursion (λ t. records.IsFunction (slice_get flat t)) (context_of s).functions
-      (looked (λ (t : ℕ). t) (λ (x : Function). x.ty) (λ (x : Function). Typed x.ty) (λ t. records.IsFunction (slice_get flat t)) (λ t x. typed_was t x.ty) (context_of s).functions (functions_of s bodies) (sym (functions_look s bodies many)) (each_of (λ (x : Function). Typed x.ty) (functions_of s bodies) h))
+      (looked (λ (t : ℕ). t) (λ (x : Function). x.ty) (λ (x : Function). Typed x.ty) (λ t. records.IsFunction (slice_get flat t)) (λ t x. typed_was t x.ty) (context_of s).functions (functions_of s bodies) (sym (functions_look s bodies many)) (all_each (λ (x : Function). Typed x.ty) (functions_of s bodies) h))
 
   pub tags_typed : records.AreFunctionTypes flat (context_of s).tags → (i : ℕ) (f : Tag) → slice_get (tags_of s) i ≡ Some f → Typed f.ty
   tags_typed h i f e =
-      each_at (λ (x : Tag). Typed x.ty) (tags_of s) i f
+      all_at (λ (x : Tag). Typed x.ty) (tags_of s) i f
       (looked (λ (x : Tag). x.ty) (λ (t : ℕ). t) (λ t. records.IsFunction (slice_get flat t)) (λ (x : Tag). Typed x.ty) (λ x t. typed_by x.ty t) (tags_of s) (context_of s).tags (tags_look s) (recursion_from_All (λ t. records.IsFunction (slice_get flat t)) (context_of s).tags h)) e
 
   pub tags_were : ((i : ℕ) (f : Tag) → slice_get (tags_of s) i ≡ Some f → Typed f.ty) → records.AreFunctionTypes flat (context_of s).tags
   tags_were h =
       All-from_recursion (λ t. records.IsFunction (slice_get flat t)) (context_of s).tags
-      (looked (λ (t : ℕ). t) (λ (x : Tag). x.ty) (λ (x : Tag). Typed x.ty) (λ t. records.IsFunction (slice_get flat t)) (λ t x. typed_was t x.ty) (context_of s).tags (tags_of s) (sym (tags_look s)) (each_of (λ (x : Tag). Typed x.ty) (tags_of s) h))
+      (looked (λ (t : ℕ). t) (λ (x : Tag). x.ty) (λ (x : Tag). Typed x.ty) (λ t. records.IsFunction (slice_get flat t)) (λ t x. typed_was t x.ty) (context_of s).tags (tags_of s) (sym (tags_look s)) (all_each (λ (x : Tag). Typed x.ty) (tags_of s) h))
 
   -- ---- start
 

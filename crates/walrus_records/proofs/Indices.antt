@@ -12,13 +12,14 @@ use Rattle.wasm_frames.specs.Record as wire
 use Rattle.wasm_wire.specs.declared.rules.counts.Counts.{Counts}
 use Rattle.wasm_wire.specs.Context.{context_of, counts_of}
 use Rattle.wasm_wire.specs.Indices as wire_indices
-use Rattle.wasm_wire.specs.Indices.{ImportHolds, TableHolds, GlobalHolds, ElementHolds, SegmentHolds, ExportHolds, StartExists, count_of, AllFrom}
+use Rattle.wasm_wire.specs.Indices.{TableHolds, GlobalHolds, ElementHolds, SegmentHolds, ExportHolds, StartExists, count_of}
 use Rattle.wasm_wire.specs.Rules as records
 use Rattle.walrus_bodies.specs.declared.features.Features.{Features}
 use Rattle.walrus_code.specs.FromRaw.{val_of}
 use Rattle.walrus_base.specs.Types.{val_names, sub_names}
 use Rattle.walrus_types.specs.TypeDef.{TypeDef}
 use Rattle.walrus_types.specs.Operators.{Space, Types, Functions, Tables, Memories, Tags, Globals, Elements, DataSegments, Item, type_item, names_of}
+use Rattle.walrus_functions.proofs.LawNamed.{each_append}
 use Rattle.walrus_groups.specs.Groups.{types_from}
 use Rattle.walrus_model.specs.Abstract.{Abstract, Body, Function, FunctionKind, Export}
 use Rattle.walrus_model.specs.Constants.{consts_of}
@@ -29,11 +30,14 @@ use Rattle.walrus_model.specs.Rules.{IndicesHold, IsImportedGlobal, IsFunctionTy
 use Rattle.walrus_model.specs.Sections.{Said, types_of, imported, imported_function, imported_table, imported_global, imported_tag, function_types, function_with, table_of, global_of, tag_of, element_of, data_of, export_of, space_of, functions_of, tables_of, memories_of, tags_of, globals_of, elements_of, data_segments_of, module_of}
 use Rattle.walrus_model.proofs.Lists.{Contains-uncons, Contains-none}
 use Rattle.walrus_model.proofs.Standing.{some_inj, got_in}
+use Rattle.walrus_rules.proofs.SpelledReads.{all_such}
+use Rattle.walrus_rules.proofs.TextShaped.{all_at}
+use Rattle.walrus_rules.proofs.SpelledFits.{all_each}
 use Rattle.walrus_contents.proofs.Lookups.{there, as_long, got_map}
 use Rattle.walrus_records.proofs.Entries.{Brought, imports_bring, imports_hold, table_within, table_holds, element_within, element_holds, data_within, data_holds}
 use Rattle.walrus_records.proofs.Images.{function_types_look}
 use Rattle.walrus_records.proofs.Initialisers.{few_imported, few_before, imported_there, imported_low, TableLow, tables_low, own_tables_low, own_index, globals_low}
-use Rattle.walrus_records.proofs.Lists.{each_at, each_of, all_both, all_parts, all_mapped, all_unmapped, all_through, all_two}
+use Rattle.walrus_records.proofs.Lists.{all_parts, all_mapped, all_unmapped, all_two}
 use Rattle.walrus_records.proofs.Living.{live_within, within_live, named_within, named_live}
 use Rattle.walrus_records.proofs.ReadBody.{low, named_if, Stands, function_stands, body_at, local_typed, names_live, types_live}
 use Rattle.walrus_records.proofs.TypeRules.{group_live, subs_live}
@@ -91,13 +95,13 @@ module _ (features : Features) (s : wire.Module) (bodies : List Said) (many : le
 
     tables_there : AllByRecursion (There table_names) (tables_of s)
     tables_there =
-        all_both (There table_names) (imported imported_table 0 s.imports) (map table_of s.tables) brings.tables
-        (all_mapped (There table_names) table_of s.tables (all_through (TableHolds c) (λ t. There table_names (table_of t)) (table_within c e d (few_imported s bodies)) s.tables (recursion_from_All (TableHolds c) s.tables h.tables)))
+        each_append (There table_names) (imported imported_table 0 s.imports) (map table_of s.tables) brings.tables
+        (all_mapped (There table_names) table_of s.tables (all_such (TableHolds c) (λ t. There table_names (table_of t)) (table_within c e d (few_imported s bodies)) s.tables (recursion_from_All (TableHolds c) s.tables h.tables)))
 
     tags_there : AllByRecursion (There tag_names) (tags_of s)
     tags_there =
-        all_both (There tag_names) (imported imported_tag 0 s.imports) (map tag_of s.tags) brings.tags
-        (all_mapped (There tag_names) tag_of s.tags (all_through (λ t. t < c.types) (λ t. There tag_names (tag_of t)) (λ t lt. (lt, tt)) s.tags (recursion_from_All (λ t. t < c.types) s.tags h.tags)))
+        each_append (There tag_names) (imported imported_tag 0 s.imports) (map tag_of s.tags) brings.tags
+        (all_mapped (There tag_names) tag_of s.tags (all_such (λ t. t < c.types) (λ t. There tag_names (tag_of t)) (λ t lt. (lt, tt)) s.tags (recursion_from_All (λ t. t < c.types) s.tags h.tags)))
 
     global_at : (j : ℕ) (x : entries.Global) → slice_get s.globals j ≡ Some x → GlobalHolds c (c.imported_globals + j) x
     global_at j x at =
@@ -107,19 +111,19 @@ module _ (features : Features) (s : wire.Module) (bodies : List Said) (many : le
     global_there : (j : ℕ) (x : entries.Global) → slice_get s.globals j ≡ Some x → There global_names (global_of x)
     global_there j x at =
         let k = global_at j x at in
-        all_both (λ y. Within c e d y) (map type_item (val_names (val_of x.ty.value))) (names_of (consts_of x.initial)) (value_within c e d x.ty.value k.0)
+        each_append (λ y. Within c e d y) (map type_item (val_names (val_of x.ty.value))) (names_of (consts_of x.initial)) (value_within c e d x.ty.value k.0)
         (scoped_within c e d (c.imported_globals + j) (few_before s bodies j (got_in s.globals j x at).0) x.initial k.1)
 
     globals_there : AllByRecursion (There global_names) (globals_of s)
     globals_there =
-        all_both (There global_names) (imported imported_global 0 s.imports) (map global_of s.globals) brings.globals
-        (all_mapped (There global_names) global_of s.globals (each_of (λ x. There global_names (global_of x)) s.globals global_there))
+        each_append (There global_names) (imported imported_global 0 s.imports) (map global_of s.globals) brings.globals
+        (all_mapped (There global_names) global_of s.globals (all_each (λ x. There global_names (global_of x)) s.globals global_there))
 
     elements_there : AllByRecursion (There element_names) (elements_of s)
-    elements_there = all_mapped (There element_names) element_of s.elements (all_through (ElementHolds c) (λ x. There element_names (element_of x)) (element_within c e d) s.elements (recursion_from_All (ElementHolds c) s.elements h.elements))
+    elements_there = all_mapped (There element_names) element_of s.elements (all_such (ElementHolds c) (λ x. There element_names (element_of x)) (element_within c e d) s.elements (recursion_from_All (ElementHolds c) s.elements h.elements))
 
     data_there : AllByRecursion (There data_names) (data_segments_of s)
-    data_there = all_mapped (There data_names) data_of s.data_segments (all_through (SegmentHolds c) (λ x. There data_names (data_of x)) (data_within c e d) s.data_segments (recursion_from_All (SegmentHolds c) s.data_segments h.data_segments))
+    data_there = all_mapped (There data_names) data_of s.data_segments (all_such (SegmentHolds c) (λ x. There data_names (data_of x)) (data_within c e d) s.data_segments (recursion_from_All (SegmentHolds c) s.data_segments h.data_segments))
 
     -- ---- what bodies may name
 
@@ -180,7 +184,7 @@ module _ (features : Features) (s : wire.Module) (bodies : List Said) (many : le
             subst (λ (z : Body). IsSome (z.local_type x)) (sym a.is) (local_typed features s a.function a.read x (subst (λ (z : Body). IsUsed z x) a.is u));
         exports = λ x at. All-contains (λ (x : Export). IsLive M x.item) (map export_of s.exports) x exports_live at;
         start = λ f is. within_live s bodies many (Functions, f) (start_within s.start f h.start is);
-        tables = λ i g t ops at is n. imported_there s bodies g (each_at (TableLow s bodies) (tables_of s) i t (tables_low s bodies d e (recursion_from_All (TableHolds c) s.tables h.tables)) at ops is g n);
+        tables = λ i g t ops at is n. imported_there s bodies g (all_at (TableLow s bodies) (tables_of s) i t (tables_low s bodies d e (recursion_from_All (TableHolds c) s.tables h.tables)) at ops is g n);
         globals = λ i g x ops at is n. inr (globals_low s bodies d e global_at i g x ops at is n);
       }
 
@@ -218,10 +222,10 @@ module _ (features : Features) (s : wire.Module) (bodies : List Said) (many : le
 
     tables_hold : AllByRecursion (TableHolds c) s.tables
     tables_hold =
-        all_through (λ t. There table_names (table_of t) × TableLow s bodies (table_of t)) (TableHolds c) (λ t p. table_holds c e d t p.0 p.1) s.tables
+        all_such (λ t. There table_names (table_of t) × TableLow s bodies (table_of t)) (TableHolds c) (λ t p. table_holds c e d t p.0 p.1) s.tables
         (all_two (λ t. There table_names (table_of t)) (λ t. TableLow s bodies (table_of t)) s.tables
         (all_unmapped (There table_names) table_of s.tables tables_parts.1)
-        (own_tables_low s bodies (each_of (TableLow s bodies) (tables_of s) (λ i t at ops is g n. imported_low s bodies g (h.tables i g t ops at is n)))))
+        (own_tables_low s bodies (all_each (TableLow s bodies) (tables_of s) (λ i t at ops is g n. imported_low s bodies g (h.tables i g t ops at is n)))))
 
     global_low : (j : ℕ) (x : entries.Global) → slice_get s.globals j ≡ Some x → (g : ℕ) → Contains (names_of (consts_of x.initial)) (Globals, g) → g < c.imported_globals + j
     global_low j x at g n =
@@ -232,7 +236,7 @@ module _ (features : Features) (s : wire.Module) (bodies : List Said) (many : le
 
     global_holds : (j : ℕ) (x : entries.Global) → slice_get s.globals j ≡ Some x → GlobalHolds c (c.imported_globals + j) x
     global_holds j x at =
-        let names : There global_names (global_of x) = each_at (λ x. There global_names (global_of x)) s.globals j x (all_unmapped (There global_names) global_of s.globals globals_parts.1) at in
+        let names : There global_names (global_of x) = all_at (λ x. There global_names (global_of x)) s.globals j x (all_unmapped (There global_names) global_of s.globals globals_parts.1) at in
         let p = all_parts (λ y. Within c e d y) (map type_item (val_names (val_of x.ty.value))) (names_of (consts_of x.initial)) names in
         (value_holds c e d x.ty.value p.0, scoped_holds c e d (c.imported_globals + j) x.initial p.1 (global_low j x at))
 
@@ -241,14 +245,14 @@ module _ (features : Features) (s : wire.Module) (bodies : List Said) (many : le
       imports = imports_hold c e d s.imports (record { functions = functions_parts.0; tables = tables_parts.0; globals = globals_parts.0; tags = tags_parts.0 });
       functions = All-from_recursion (λ t. t < c.types) s.functions (types_low s.functions bodies many functions_parts.1);
       tables = All-from_recursion (TableHolds c) s.tables tables_hold;
-      tags = All-from_recursion (λ t. t < c.types) s.tags (all_through (λ t. There tag_names (tag_of t)) (λ t. t < c.types) (λ t a. a.0) s.tags (all_unmapped (There tag_names) tag_of s.tags tags_parts.1));
+      tags = All-from_recursion (λ t. t < c.types) s.tags (all_such (λ t. There tag_names (tag_of t)) (λ t. t < c.types) (λ t a. a.0) s.tags (all_unmapped (There tag_names) tag_of s.tags tags_parts.1));
       globals = λ i x lt. global_holds i (get_or s.globals i x) (slice_get-get_or s.globals i x lt);
       exports = λ k x lt.
           let y = get_or s.exports k x in
           export_holds y.kind y.index (live_within s bodies many (space_of y.kind, y.index) (h.exports (export_of y) (k, omega (arith, lt, length-map s.exports export_of), get_or-map export_of s.exports k x (export_of y) lt)));
       start = start_exists s.start (λ f is. live_within s bodies many (Functions, f) (h.start f is));
-      elements = All-from_recursion (ElementHolds c) s.elements (all_through (λ x. There element_names (element_of x)) (ElementHolds c) (element_holds c e d) s.elements
+      elements = All-from_recursion (ElementHolds c) s.elements (all_such (λ x. There element_names (element_of x)) (ElementHolds c) (element_holds c e d) s.elements
           (all_unmapped (There element_names) element_of s.elements (named_within s bodies many element_names (elements_of s) (λ k y at. h.written (Elements, k) y at))));
-      data_segments = All-from_recursion (SegmentHolds c) s.data_segments (all_through (λ x. There data_names (data_of x)) (SegmentHolds c) (data_holds c e d) s.data_segments
+      data_segments = All-from_recursion (SegmentHolds c) s.data_segments (all_such (λ x. There data_names (data_of x)) (SegmentHolds c) (data_holds c e d) s.data_segments
           (all_unmapped (There data_names) data_of s.data_segments (named_within s bodies many data_names (data_segments_of s) (λ k y at. h.written (DataSegments, k) y at))));
     }

@@ -12,17 +12,22 @@ use Rattle.wasm_wire.specs.Context.{context_of, counts_of, desc_global}
 use Rattle.wasm_wire.specs.Indices.{TableHolds, GlobalHolds}
 use Rattle.wasm_wire.specs.declared.rules.counts.Counts.{Counts}
 use Rattle.walrus_types.specs.Operators.{Globals, Op, names_of}
+use Rattle.walrus_functions.proofs.LawNamed.{each_append}
 use Rattle.walrus_model.specs.Abstract.{Abstract, Table, Global}
 use Rattle.walrus_model.specs.Constants.{consts_of}
 use Rattle.walrus_model.specs.Roots.{IsImported}
 use Rattle.walrus_model.specs.Rules.{IsImportedGlobal}
 use Rattle.walrus_model.specs.Sections.{Said, imported, imported_table, imported_global, table_of, global_of, tables_of, globals_of, global_type_of, module_of}
 use Rattle.walrus_model.proofs.Standing.{some_inj}
+use Rattle.walrus_rules.proofs.UsedLocals.{behind}
+use Rattle.walrus_rules.proofs.ReadFits.{some_there}
+use Rattle.walrus_rules.proofs.SpelledReads.{all_such}
+use Rattle.walrus_rules.proofs.TextShaped.{all_at}
 use Rattle.walrus_contents.proofs.Lookups.{mapped_some, got_map, as_long}
 use Rattle.walrus_contents.proofs.TypeLists.{got_either}
 use Rattle.walrus_records.proofs.Entries.{initial_low}
 use Rattle.walrus_records.proofs.Images.{imported_globals_look}
-use Rattle.walrus_records.proofs.Lists.{all_both, all_parts, all_mapped, all_unmapped, all_through, each_at, got_front, got_right, some_within}
+use Rattle.walrus_records.proofs.Lists.{all_parts, all_mapped, all_unmapped, got_front}
 use Rattle.walrus_records.proofs.Within.{scoped_low}
 
 -- ---- what imports bring has no initialiser
@@ -39,7 +44,7 @@ no_table i (descs.Tag ty) = tt
 
 no_tables : (i : ℕ) (ws : List entries.Import) → AllByRecursion NoTable (imported imported_table i ws)
 no_tables i [] = tt
-no_tables i (w ∷ ws) = all_both NoTable (option_to_list (imported_table i w.desc)) (imported imported_table (i + 1) ws) (no_table i w.desc) (no_tables (i + 1) ws)
+no_tables i (w ∷ ws) = each_append NoTable (option_to_list (imported_table i w.desc)) (imported imported_table (i + 1) ws) (no_table i w.desc) (no_tables (i + 1) ws)
 
 abbrev pub Brought : Global → Type 0
 Brought g = IsImported g.origin × (g.initialiser ≡ None)
@@ -53,7 +58,7 @@ brought_global i (descs.Tag ty) = tt
 
 pub brought_globals : (i : ℕ) (ws : List entries.Import) → AllByRecursion Brought (imported imported_global i ws)
 brought_globals i [] = tt
-brought_globals i (w ∷ ws) = all_both Brought (option_to_list (imported_global i w.desc)) (imported imported_global (i + 1) ws) (brought_global i w.desc) (brought_globals (i + 1) ws)
+brought_globals i (w ∷ ws) = each_append Brought (option_to_list (imported_global i w.desc)) (imported imported_global (i + 1) ws) (brought_global i w.desc) (brought_globals (i + 1) ws)
 
 module _ (s : wire.Module) (bodies : List Said) where
   abbrev M : Abstract
@@ -91,7 +96,7 @@ module _ (s : wire.Module) (bodies : List Said) where
 
   pub imported_low : (g : ℕ) → IsImportedGlobal M g → g < c.imported_globals
   imported_low g (x, is, h) = ⊎_elim
-      (λ (e : slice_get front g ≡ Some x). let lt = some_within front g (ap is_some e) in subst (λ (n : ℕ). g < n) front_long lt)
+      (λ (e : slice_get front g ≡ Some x). let lt = some_there front g (ap is_some e) in subst (λ (n : ℕ). g < n) front_long lt)
       (λ later. own_imported g later.0 x later.2 h)
       (got_either front (map global_of s.globals) g x is)
 
@@ -106,9 +111,9 @@ module _ (s : wire.Module) (bodies : List Said) where
 
   pub tables_low : (d e : ℕ) → AllByRecursion (TableHolds c) s.tables → AllByRecursion TableLow (tables_of s)
   tables_low d e h =
-      all_both TableLow (imported imported_table 0 s.imports) (map table_of s.tables)
-      (all_through NoTable TableLow none_low (imported imported_table 0 s.imports) (no_tables 0 s.imports))
-      (all_mapped TableLow table_of s.tables (all_through (TableHolds c) (λ t. TableLow (table_of t)) (λ t k. initial_low c d e c.imported_globals t.initial k.1) s.tables h))
+      each_append TableLow (imported imported_table 0 s.imports) (map table_of s.tables)
+      (all_such NoTable TableLow none_low (imported imported_table 0 s.imports) (no_tables 0 s.imports))
+      (all_mapped TableLow table_of s.tables (all_such (TableHolds c) (λ t. TableLow (table_of t)) (λ t k. initial_low c d e c.imported_globals t.initial k.1) s.tables h))
 
   pub own_tables_low : AllByRecursion TableLow (tables_of s) → AllByRecursion (λ t. TableLow (table_of t)) s.tables
   own_tables_low h = all_unmapped TableLow table_of s.tables (all_parts TableLow (imported imported_table 0 s.imports) (map table_of s.tables) h).1
@@ -116,12 +121,12 @@ module _ (s : wire.Module) (bodies : List Said) where
   -- ---- globals
 
   pub own_index : (j i : ℕ) → i ≡ c.imported_globals + j → slice_get (globals_of s) i ≡ slice_get (map global_of s.globals) j
-  own_index j i is = got_right front (map global_of s.globals) j i (is ∙ ap (λ (n : ℕ). n + j) (sym front_long))
+  own_index j i is = behind front (map global_of s.globals) j i (is ∙ ap (λ (n : ℕ). n + j) (sym front_long))
 
   -- a global's initialiser names earlier globals alone
   pub globals_low : (d e : ℕ) → ((j : ℕ) (x : entries.Global) → slice_get s.globals j ≡ Some x → GlobalHolds c (c.imported_globals + j) x) → (i g : ℕ) (x : Global) (ops : List Op) → slice_get (globals_of s) i ≡ Some x → x.initialiser ≡ Some ops → Contains (names_of ops) (Globals, g) → g < i
   globals_low d e h i g x ops is has at = ⊎_elim
-      (λ (f : slice_get front i ≡ Some x). absurd (let p : None ≡ Some ops = sym (each_at Brought front i x (brought_globals 0 s.imports) f).1 ∙ has in cc))
+      (λ (f : slice_get front i ≡ Some x). absurd (let p : None ≡ Some ops = sym (all_at Brought front i x (brought_globals 0 s.imports) f).1 ∙ has in cc))
       (λ later.
       let w = mapped_some global_of (slice_get s.globals later.0) x (sym (got_map global_of s.globals later.0) ∙ later.2) in
       let same : consts_of w.0.initial ≡ ops = some_inj (consts_of w.0.initial) ops (sym (ap (λ (y : Global). y.initialiser) w.2) ∙ has) in

@@ -10,8 +10,10 @@ use Rattle.walrus_model.specs.Abstract.{Table, TableType, Memory}
 use Rattle.walrus_model.specs.Rules.{IsAtMost, MaximumIsAtMost, IsExponent, MemoryHolds}
 use Rattle.walrus_model.specs.Sections.{tables_of, memories_of, table_type_of, memory_type_of}
 use Rattle.walrus_model.proofs.Standing.{none_there}
+use Rattle.walrus_rules.proofs.TextShaped.{all_at}
+use Rattle.walrus_rules.proofs.SpelledFits.{all_each}
 use Rattle.walrus_records.proofs.Images.{tables_look, memories_look}
-use Rattle.walrus_records.proofs.Lists.{each_at, each_of, looked}
+use Rattle.walrus_records.proofs.Lists.{looked}
 
 at_most : (n : ℕ) (o : Option ℕ) → records.IsAtMost n o → IsAtMost n o
 at_most n None h = tt
@@ -69,20 +71,20 @@ module _ (s : wire.Module) where
 
   pub tables_hold : All records.TableLimitsHold (context_of s).tables → (i : ℕ) (t : Table) → slice_get (tables_of s) i ≡ Some t → Fine t.ty
   tables_hold h i t e =
-      each_at (λ (x : Table). Fine x.ty) (tables_of s) i t
+      all_at (λ (x : Table). Fine x.ty) (tables_of s) i t
       (looked (λ (x : Table). x.ty) table_type_of records.TableLimitsHold (λ (x : Table). Fine x.ty) (λ x a same k. subst Fine (sym same) (at_most a.limits.minimum a.limits.maximum k)) (tables_of s) (context_of s).tables (tables_look s) (recursion_from_All records.TableLimitsHold (context_of s).tables h)) e
 
   pub tables_held : ((i : ℕ) (t : Table) → slice_get (tables_of s) i ≡ Some t → Fine t.ty) → All records.TableLimitsHold (context_of s).tables
   tables_held h =
       All-from_recursion records.TableLimitsHold (context_of s).tables
-      (looked table_type_of (λ (x : Table). x.ty) (λ (x : Table). Fine x.ty) records.TableLimitsHold (λ a x same k. was_at_most a.limits.minimum a.limits.maximum (subst Fine (sym same) k)) (context_of s).tables (tables_of s) (sym (tables_look s)) (each_of (λ (x : Table). Fine x.ty) (tables_of s) h))
+      (looked table_type_of (λ (x : Table). x.ty) (λ (x : Table). Fine x.ty) records.TableLimitsHold (λ a x same k. was_at_most a.limits.minimum a.limits.maximum (subst Fine (sym same) k)) (context_of s).tables (tables_of s) (sym (tables_look s)) (all_each (λ (x : Table). Fine x.ty) (tables_of s) h))
 
   pub memories_hold : All records.MemoryHolds (context_of s).memories → (i : ℕ) (m : Memory) → slice_get (memories_of s) i ≡ Some m → MemoryHolds m.ty
   memories_hold h i m e =
-      each_at (λ (x : Memory). MemoryHolds x.ty) (memories_of s) i m
+      all_at (λ (x : Memory). MemoryHolds x.ty) (memories_of s) i m
       (looked (λ (x : Memory). x.ty) memory_type_of records.MemoryHolds (λ (x : Memory). MemoryHolds x.ty) (λ x a same k. subst MemoryHolds (sym same) (memory_holds a k)) (memories_of s) (context_of s).memories (memories_look s) (recursion_from_All records.MemoryHolds (context_of s).memories h)) e
 
   pub memories_held : ((i : ℕ) (m : Memory) → slice_get (memories_of s) i ≡ Some m → MemoryHolds m.ty) → All records.MemoryHolds (context_of s).memories
   memories_held h =
       All-from_recursion records.MemoryHolds (context_of s).memories
-      (looked memory_type_of (λ (x : Memory). x.ty) (λ (x : Memory). MemoryHolds x.ty) records.MemoryHolds (λ a x same k. memory_held a (subst MemoryHolds (sym same) k)) (context_of s).memories (memories_of s) (sym (memories_look s)) (each_of (λ (x : Memory). MemoryHolds x.ty) (memories_of s) h))
+      (looked memory_type_of (λ (x : Memory). x.ty) (λ (x : Memory). MemoryHolds x.ty) records.MemoryHolds (λ a x same k. memory_held a (subst MemoryHolds (sym same) k)) (context_of s).memories (memories_of s) (sym (memories_look s)) (all_each (λ (x : Memory). MemoryHolds x.ty) (memories_of s) h))

@@ -1,38 +1,17 @@
 -- Lists whose items keep a fact, and two lists that look the same.
-use Rattle.std.proofs.Common.{◌≡◌, ℕ, zero, suc, ◌+◌, ◌<◌, List, [], ◌∷◌, ◌++◌, length, map, refl, sym, ap, ap₂, subst, ◌∙◌, arith}
-use Rattle.std.specs.Prelude.{Some, IsSome, Contains, slice_get, option_map, flat_map}
+use Rattle.std.proofs.Common.{◌≡◌, ℕ, zero, suc, ◌+◌, ◌<◌, List, [], ◌∷◌, ◌++◌, length, map, refl, sym, ap, ap₂, ◌∙◌, arith}
+use Rattle.std.specs.Prelude.{Some, Contains, slice_get, option_map, flat_map}
 use Rattle.std.specs.List.{AllByRecursion}
 use Rattle.std.proofs.lemmas.List.{map-append}
-use Rattle.std.proofs.lemmas.List.Elements.{All-contains, All-from_recursion}
+use Rattle.walrus_functions.proofs.LawNamed.{each_append}
 use Rattle.walrus_model.proofs.Lists.{Contains-head, Contains-tail}
-use Rattle.walrus_model.proofs.Standing.{none_there}
 use Rattle.walrus_contents.proofs.Lookups.{heads}
 
 -- ---- what holds of each
 
-pub each_at : {A : Type 0} (P : A → Type 0) (xs : List A) (k : ℕ) (x : A) → AllByRecursion P xs → slice_get xs k ≡ Some x → P x
-each_at P [] k x h e = absurd (cc)
-each_at P (y ∷ ys) zero x h e = let p : y ≡ x = cc in subst P p h.0
-each_at P (y ∷ ys) (suc k) x h e = each_at P ys k x h.1 e
-
-pub each_of : {A : Type 0} (P : A → Type 0) (xs : List A) → ((k : ℕ) (x : A) → slice_get xs k ≡ Some x → P x) → AllByRecursion P xs
-each_of P [] h = tt
-each_of P (x ∷ xs) h = (h 0 x refl, each_of P xs (λ k y e. h (suc k) y e))
-
 pub all_in : {A : Type 0} (P : A → Type 0) (xs : List A) → ((x : A) → Contains xs x → P x) → AllByRecursion P xs
 all_in P [] h = tt
 all_in P (x ∷ xs) h = (h x (Contains-head x xs), all_in P xs (λ y c. h y (Contains-tail x y xs c)))
-
-pub in_all : {A : Type 0} (P : A → Type 0) (xs : List A) (x : A) → AllByRecursion P xs → Contains xs x → P x
-in_all P xs x h c = All-contains P xs x (All-from_recursion P xs h) c
-
-pub all_through : {A : Type 0} (P Q : A → Type 0) → ((x : A) → P x → Q x) → (xs : List A) → AllByRecursion P xs → AllByRecursion Q xs
-all_through P Q f [] a = tt
-all_through P Q f (x ∷ xs) a = (f x a.0, all_through P Q f xs a.1)
-
-pub all_both : {A : Type 0} (P : A → Type 0) (xs ys : List A) → AllByRecursion P xs → AllByRecursion P ys → AllByRecursion P (xs ++ ys)
-all_both P [] ys a b = b
-all_both P (x ∷ xs) ys a b = (a.0, all_both P xs ys a.1 b)
 
 pub all_parts : {A : Type 0} (P : A → Type 0) (xs ys : List A) → AllByRecursion P (xs ++ ys) → AllByRecursion P xs × AllByRecursion P ys
 all_parts P [] ys a = (tt, a)
@@ -50,7 +29,7 @@ all_unmapped P f (x ∷ xs) a = (a.0, all_unmapped P f xs a.1)
 
 pub all_flat : {A B C : Type 0} (P : A → Type 0) (Q : C → Type 0) (f : A → B) (h : B → List C) → ((x : A) → P x → AllByRecursion Q (h (f x))) → (xs : List A) → AllByRecursion P xs → AllByRecursion Q (flat_map h (map f xs))
 all_flat P Q f h one [] a = tt
-all_flat P Q f h one (x ∷ xs) a = all_both Q (h (f x)) (flat_map h (map f xs)) (one x a.0) (all_flat P Q f h one xs a.1)
+all_flat P Q f h one (x ∷ xs) a = each_append Q (h (f x)) (flat_map h (map f xs)) (one x a.0) (all_flat P Q f h one xs a.1)
 
 pub all_unflat : {A B C : Type 0} (P : A → Type 0) (Q : C → Type 0) (f : A → B) (h : B → List C) → ((x : A) → AllByRecursion Q (h (f x)) → P x) → (xs : List A) → AllByRecursion Q (flat_map h (map f xs)) → AllByRecursion P xs
 all_unflat P Q f h one [] a = tt
@@ -58,23 +37,13 @@ all_unflat P Q f h one (x ∷ xs) a = let p = all_parts Q (h (f x)) (flat_map h 
 
 pub all_itself : {A B : Type 0} (Q : B → Type 0) (h : A → List B) (xs : List A) → AllByRecursion (λ x. AllByRecursion Q (h x)) xs → AllByRecursion Q (flat_map h xs)
 all_itself Q h [] a = tt
-all_itself Q h (x ∷ xs) a = all_both Q (h x) (flat_map h xs) a.0 (all_itself Q h xs a.1)
+all_itself Q h (x ∷ xs) a = each_append Q (h x) (flat_map h xs) a.0 (all_itself Q h xs a.1)
 
 pub all_apart : {A B : Type 0} (Q : B → Type 0) (h : A → List B) (xs : List A) → AllByRecursion Q (flat_map h xs) → AllByRecursion (λ x. AllByRecursion Q (h x)) xs
 all_apart Q h [] a = tt
 all_apart Q h (x ∷ xs) a = let p = all_parts Q (h x) (flat_map h xs) a in (p.0, all_apart Q h xs p.1)
 
 -- ---- places
-
-pub some_within : {A : Type 0} (xs : List A) (k : ℕ) → IsSome (slice_get xs k) → k < length xs
-some_within [] k h = absurd (none_there h)
-some_within (x ∷ xs) zero h = omega arith
-some_within (x ∷ xs) (suc k) h = let lt : k < length xs = some_within xs k h in omega (arith, lt)
-
-pub got_right : {A : Type 0} (xs ys : List A) (k n : ℕ) → n ≡ length xs + k → slice_get (xs ++ ys) n ≡ slice_get ys k
-got_right [] ys k n e = let p : n ≡ k = omega (arith, e) in ap (slice_get ys) p
-got_right (x ∷ xs) ys k zero e = absurd (omega (arith, e))
-got_right (x ∷ xs) ys k (suc n) e = got_right xs ys k n (omega (arith, e))
 
 -- what stands in front
 pub got_front : {A : Type 0} (P : A → Type 0) (xs ys : List A) (k : ℕ) → AllByRecursion P xs → k < length xs → (x : A) × (slice_get (xs ++ ys) k ≡ Some x) × P x

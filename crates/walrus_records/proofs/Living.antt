@@ -13,9 +13,13 @@ use Rattle.walrus_model.specs.Abstract.{Abstract, Function, Table, Memory, Globa
 use Rattle.walrus_model.specs.Live.{IsLive}
 use Rattle.walrus_model.specs.Refers.{named_by}
 use Rattle.walrus_model.specs.Sections.{Said, functions_of, tables_of, memories_of, globals_of, tags_of, elements_of, data_segments_of, element_of, data_of, table_type_of, memory_type_of, global_type_of, module_of}
+use Rattle.walrus_rules.proofs.PlainTypes.{each_in}
+use Rattle.walrus_rules.proofs.ReadFits.{some_there}
+use Rattle.walrus_rules.proofs.TextShaped.{all_at}
+use Rattle.walrus_rules.proofs.SpelledFits.{all_each}
 use Rattle.walrus_contents.proofs.Lookups.{there, as_long}
 use Rattle.walrus_records.proofs.Images.{types_look, functions_look, tables_look, memories_look, globals_look, tags_look}
-use Rattle.walrus_records.proofs.Lists.{all_in, in_all, each_of, each_at, some_within}
+use Rattle.walrus_records.proofs.Lists.{all_in}
 use Rattle.walrus_records.proofs.Within.{Within}
 
 module _ (s : wire.Module) (bodies : List Said) (many : length bodies ≡ length s.functions) where
@@ -48,7 +52,7 @@ module _ (s : wire.Module) (bodies : List Said) (many : length bodies ≡ length
 
   -- what is there has an index below the number of its list, and the other way round
   low : {X : Type 0} (xs : List X) (n i : ℕ) → length xs ≡ n → IsSome (slice_get xs i) → i < n
-  low xs n i same h = subst (λ (k : ℕ). i < k) same (some_within xs i h)
+  low xs n i same h = subst (λ (k : ℕ). i < k) same (some_there xs i h)
 
   high : {X : Type 0} (xs : List X) (n i : ℕ) → length xs ≡ n → i < n → IsSome (slice_get xs i)
   high xs n i same h = there xs i (subst (λ (k : ℕ). i < k) (sym same) h)
@@ -77,7 +81,7 @@ module _ (s : wire.Module) (bodies : List Said) (many : length bodies ≡ length
 
   -- all that a list's things name is there
   pub named_within : {X : Type 0} (names : X → List Item) (xs : List X) → ((k : ℕ) (y : Item) → Contains (named_by names (slice_get xs k)) y → IsLive M y) → AllByRecursion (λ x. AllByRecursion W (names x)) xs
-  named_within names xs h = each_of (λ x. AllByRecursion W (names x)) xs (λ k x e. all_in W (names x) (λ y at. live_within y (h k y (subst (λ o. Contains (named_by names o) y) (sym e) at))))
+  named_within names xs h = all_each (λ x. AllByRecursion W (names x)) xs (λ k x e. all_in W (names x) (λ y at. live_within y (h k y (subst (λ o. Contains (named_by names o) y) (sym e) at))))
 
   pub named_live : {X : Type 0} (names : X → List Item) (xs : List X) → AllByRecursion (λ x. AllByRecursion W (names x)) xs → (k : ℕ) (x : X) → slice_get xs k ≡ Some x → (y : Item) → Contains (names x) y → IsLive M y
-  named_live names xs h k x e y at = within_live y (in_all W (names x) y (each_at (λ x. AllByRecursion W (names x)) xs k x h e) at)
+  named_live names xs h k x e y at = within_live y (each_in W (names x) y (all_at (λ x. AllByRecursion W (names x)) xs k x h e) at)

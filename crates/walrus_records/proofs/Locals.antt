@@ -10,14 +10,17 @@ use Rattle.wasm_frames.specs.Record as wire
 use Rattle.wasm_wire.specs.Rules as records
 use Rattle.walrus_bodies.specs.declared.features.Features.{Features}
 use Rattle.walrus_functions.specs.Handlers.{params_of}
+use Rattle.walrus_functions.proofs.LawNamed.{each_append}
 use Rattle.walrus_model.specs.Abstract.{Body, Function}
 use Rattle.walrus_model.specs.Names.{body_of_function, body_of_kind}
 use Rattle.walrus_model.specs.Reads.{ReadsBodyWith}
 use Rattle.walrus_model.specs.Rules.{LocalsHold}
 use Rattle.walrus_model.specs.Sections.{Said, types_of, imported, imported_function, function_with, body_with, functions_of, module_of}
 use Rattle.walrus_model.proofs.Standing.{some_inj}
+use Rattle.walrus_rules.proofs.TextShaped.{all_at}
+use Rattle.walrus_rules.proofs.SpelledFits.{all_each}
 use Rattle.walrus_records.proofs.CountedLocals.{DeclaresFew, counted_few, all_counted}
-use Rattle.walrus_records.proofs.Lists.{all_both, all_parts, each_at, each_of}
+use Rattle.walrus_records.proofs.Lists.{all_parts}
 
 -- a body that it has declares few
 abbrev Few : Function → Type 0
@@ -32,7 +35,7 @@ desc_few i (descs.Tag ty) = tt
 
 imports_few : (i : ℕ) (ws : List entries.Import) → AllByRecursion Few (imported imported_function i ws)
 imports_few i [] = tt
-imports_few i (w ∷ ws) = all_both Few (option_to_list (imported_function i w.desc)) (imported imported_function (i + 1) ws) (desc_few i w.desc) (imports_few (i + 1) ws)
+imports_few i (w ∷ ws) = each_append Few (option_to_list (imported_function i w.desc)) (imported imported_function (i + 1) ws) (desc_few i w.desc) (imports_few (i + 1) ws)
 
 few_by : (o : Option Function) (b : Body) → body_of_function o ≡ Some b → ((f : Function) → o ≡ Some f → Few f) → b.declared ≤ 50_000
 few_by None b e h = absurd (cc)
@@ -63,11 +66,11 @@ module _ (features : Features) (s : wire.Module) where
     pub locals_hold : All records.LocalsHold s.bodies → LocalsHold (module_of s bodies)
     locals_hold h i b e =
         let local : AllByRecursion Few (map (function_with s) (zip s.functions bodies)) = functions_few s.functions bodies (saids_few s.functions s.bodies bodies read (recursion_from_All records.LocalsHold s.bodies h)) in
-        let all : AllByRecursion Few (functions_of s bodies) = all_both Few (imported imported_function 0 s.imports) (map (function_with s) (zip s.functions bodies)) (imports_few 0 s.imports) local in
-        few_by (slice_get (functions_of s bodies) i) b e (λ f at. each_at Few (functions_of s bodies) i f all at)
+        let all : AllByRecursion Few (functions_of s bodies) = each_append Few (imported imported_function 0 s.imports) (map (function_with s) (zip s.functions bodies)) (imports_few 0 s.imports) local in
+        few_by (slice_get (functions_of s bodies) i) b e (λ f at. all_at Few (functions_of s bodies) i f all at)
 
     pub locals_held : length s.bodies ≡ length s.functions → length bodies ≡ length s.functions → LocalsHold (module_of s bodies) → All records.LocalsHold s.bodies
     locals_held as_many many h =
-        let all : AllByRecursion Few (functions_of s bodies) = each_of Few (functions_of s bodies) (λ i f at b e. h i b (ap body_of_function at ∙ e)) in
+        let all : AllByRecursion Few (functions_of s bodies) = all_each Few (functions_of s bodies) (λ i f at b e. h i b (ap body_of_function at ∙ e)) in
         let local : AllByRecursion Few (map (function_with s) (zip s.functions bodies)) = (all_parts Few (imported imported_function 0 s.imports) (map (function_with s) (zip s.functions bodies)) all).1 in
         all_counted features s bodies as_many read (All-from_recursion DeclaresFew bodies (few_functions s.functions bodies many local))

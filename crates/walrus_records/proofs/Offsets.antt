@@ -21,9 +21,11 @@ use Rattle.walrus_model.specs.Constants.{const_of, consts_of}
 use Rattle.walrus_model.specs.Rules.{IsPlainOp, IsGetOf, OffsetHolds, offset_type, offset_const}
 use Rattle.walrus_model.specs.Sections.{Said, tables_of, memories_of, globals_of, elements_of, data_segments_of, element_of, element_kind, data_of, data_kind, table_type_of, memory_type_of, global_type_of, module_of}
 use Rattle.walrus_model.proofs.Standing.{some_inj}
+use Rattle.walrus_rules.proofs.TextShaped.{all_at}
+use Rattle.walrus_rules.proofs.SpelledFits.{all_each}
 use Rattle.walrus_contents.proofs.Lookups.{mapped_some, got_map}
 use Rattle.walrus_records.proofs.Images.{tables_look, memories_look, globals_look}
-use Rattle.walrus_records.proofs.Lists.{each_at, each_of, looked_at}
+use Rattle.walrus_records.proofs.Lists.{looked_at}
 
 -- ---- types of addresses
 
@@ -228,11 +230,11 @@ module _ (s : wire.Module) (bodies : List Said) where
   pub elements_hold : All (records.ElementOffsetHolds tables types) s.elements → (i table : ℕ) (e : Element) (t : Table) (offset : List Op) → slice_get (elements_of s) i ≡ Some e → e.kind ≡ ActiveElements table offset → slice_get (tables_of s) table ≡ Some t → OffsetHolds M t.ty.limits.wide offset
   elements_hold h i table e t offset at k there =
       let w = mapped_some element_of (slice_get s.elements i) e (sym (got_map element_of s.elements i) ∙ at) in
-      mode_by w.0.mode (each_at (records.ElementOffsetHolds tables types) s.elements i w.0 (recursion_from_All (records.ElementOffsetHolds tables types) s.elements h) w.1) table offset t (sym (ap (λ (x : Element). x.kind) w.2) ∙ k) there
+      mode_by w.0.mode (all_at (records.ElementOffsetHolds tables types) s.elements i w.0 (recursion_from_All (records.ElementOffsetHolds tables types) s.elements h) w.1) table offset t (sym (ap (λ (x : Element). x.kind) w.2) ∙ k) there
 
   pub elements_held : ((i table : ℕ) (e : Element) (t : Table) (offset : List Op) → slice_get (elements_of s) i ≡ Some e → e.kind ≡ ActiveElements table offset → slice_get (tables_of s) table ≡ Some t → OffsetHolds M t.ty.limits.wide offset) → All (records.ElementOffsetHolds tables types) s.elements
   elements_held h =
-      All-from_recursion (records.ElementOffsetHolds tables types) s.elements (each_of (records.ElementOffsetHolds tables types) s.elements
+      All-from_recursion (records.ElementOffsetHolds tables types) s.elements (all_each (records.ElementOffsetHolds tables types) s.elements
       (λ i x at. mode_was x.mode (λ table offset t k there. h i table (element_of x) t offset (got_map element_of s.elements i ∙ ap (option_map element_of) at) k there)))
 
   -- ---- data segments
@@ -274,9 +276,9 @@ module _ (s : wire.Module) (bodies : List Said) where
   pub data_hold : All (records.DataOffsetHolds memories types) s.data_segments → (i memory : ℕ) (d : DataSegment) (m : Memory) (offset : List Op) → slice_get (data_segments_of s) i ≡ Some d → d.kind ≡ ActiveData memory offset → slice_get (memories_of s) memory ≡ Some m → OffsetHolds M m.ty.limits.wide offset
   data_hold h i memory d m offset at k there =
       let w = mapped_some data_of (slice_get s.data_segments i) d (sym (got_map data_of s.data_segments i) ∙ at) in
-      data_mode_by w.0.mode (each_at (records.DataOffsetHolds memories types) s.data_segments i w.0 (recursion_from_All (records.DataOffsetHolds memories types) s.data_segments h) w.1) memory offset m (sym (ap (λ (x : DataSegment). x.kind) w.2) ∙ k) there
+      data_mode_by w.0.mode (all_at (records.DataOffsetHolds memories types) s.data_segments i w.0 (recursion_from_All (records.DataOffsetHolds memories types) s.data_segments h) w.1) memory offset m (sym (ap (λ (x : DataSegment). x.kind) w.2) ∙ k) there
 
   pub data_held : ((i memory : ℕ) (d : DataSegment) (m : Memory) (offset : List Op) → slice_get (data_segments_of s) i ≡ Some d → d.kind ≡ ActiveData memory offset → slice_get (memories_of s) memory ≡ Some m → OffsetHolds M m.ty.limits.wide offset) → All (records.DataOffsetHolds memories types) s.data_segments
   data_held h =
-      All-from_recursion (records.DataOffsetHolds memories types) s.data_segments (each_of (records.DataOffsetHolds memories types) s.data_segments
+      All-from_recursion (records.DataOffsetHolds memories types) s.data_segments (all_each (records.DataOffsetHolds memories types) s.data_segments
       (λ i x at. data_mode_was x.mode (λ memory offset m k there. h i memory (data_of x) m offset (got_map data_of s.data_segments i ∙ ap (option_map data_of) at) k there)))

@@ -23,6 +23,7 @@ use Rattle.walrus_bodies.specs.FunctionTypes.{is_function_comp, is_function_def}
 use Rattle.walrus_bodies.specs.declared.features.Features.{Features}
 use Rattle.walrus_functions.specs.Handlers.{params_of}
 use Rattle.walrus_functions.specs.ReadFunction.{locals_from}
+use Rattle.walrus_functions.proofs.LawNamed.{each_append}
 use Rattle.walrus_groups.specs.Groups.{types_from}
 use Rattle.walrus_model.specs.Abstract.{Abstract, Body, ImportedFunction, Function}
 use Rattle.walrus_model.specs.Live.{Has, IsLive}
@@ -33,10 +34,11 @@ use Rattle.walrus_model.specs.Rules.{IsFunctionComp}
 use Rattle.walrus_model.specs.Sections.{Said, types_of, imported, imported_function, function_types, function_with, body_with, functions_of, tables_of, memories_of, tags_of, globals_of, elements_of, module_of}
 use Rattle.walrus_model.proofs.Lists.{Contains-uncons, Contains-none}
 use Rattle.walrus_model.proofs.Standing.{none_there, some_of, some_inj}
+use Rattle.walrus_rules.proofs.SpelledReads.{all_such}
+use Rattle.walrus_rules.proofs.TextShaped.{all_at}
 use Rattle.walrus_contents.proofs.Lookups.{there, range_within}
 use Rattle.walrus_contents.proofs.Named.{through, val_again, ops_again}
 use Rattle.walrus_contents.proofs.NamedFound.{val_found, names_found, locals_found}
-use Rattle.walrus_records.proofs.Lists.{all_both, all_through, each_at}
 use Rattle.walrus_records.proofs.TypeRules.{params_live}
 
 -- ---- lists
@@ -175,7 +177,7 @@ module _ (features : Features) (s : wire.Module) where
 
   imports_bring : (i : ℕ) (ws : List entries.Import) → AllByRecursion IsBrought (imported imported_function i ws)
   imports_bring i [] = tt
-  imports_bring i (w ∷ ws) = all_both IsBrought (option_to_list (imported_function i w.desc)) (imported imported_function (i + 1) ws) (desc_brings i w.desc) (imports_bring (i + 1) ws)
+  imports_bring i (w ∷ ws) = each_append IsBrought (option_to_list (imported_function i w.desc)) (imported imported_function (i + 1) ws) (desc_brings i w.desc) (imports_bring (i + 1) ws)
 
   -- each function is imported, or its body is read
   abbrev pub Stands : Function → Type 0
@@ -183,12 +185,12 @@ module _ (features : Features) (s : wire.Module) where
 
   stand : (bodies : List Said) → AllZip (ReadsBodyWith features s) (zip s.functions s.bodies) bodies → AllByRecursion Stands (functions_of s bodies)
   stand bodies read =
-      all_both Stands (imported imported_function 0 s.imports) (map (function_with s) (zip s.functions bodies))
-      (all_through IsBrought Stands (λ f b. inl b) (imported imported_function 0 s.imports) (imports_bring 0 s.imports))
-      (all_through IsRead Stands (λ f r. inr r) (map (function_with s) (zip s.functions bodies)) (local_read s.functions s.bodies bodies read))
+      each_append Stands (imported imported_function 0 s.imports) (map (function_with s) (zip s.functions bodies))
+      (all_such IsBrought Stands (λ f b. inl b) (imported imported_function 0 s.imports) (imports_bring 0 s.imports))
+      (all_such IsRead Stands (λ f r. inr r) (map (function_with s) (zip s.functions bodies)) (local_read s.functions s.bodies bodies read))
 
   pub function_stands : (bodies : List Said) → AllZip (ReadsBodyWith features s) (zip s.functions s.bodies) bodies → (i : ℕ) (f : Function) → slice_get (functions_of s bodies) i ≡ Some f → Stands f
-  function_stands bodies read i f e = each_at Stands (functions_of s bodies) i f (stand bodies read) e
+  function_stands bodies read i f e = all_at Stands (functions_of s bodies) i f (stand bodies read) e
 
   pub record BodyAt (bodies : List Said) (i : ℕ) (b : Body) : Type 0 where
     pub function : Function

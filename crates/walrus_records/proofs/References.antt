@@ -14,6 +14,7 @@ use Rattle.wasm_entries.specs.Record.{Expression}
 use Rattle.wasm_frames.specs.Record as wire
 use Rattle.walrus_types.specs.Operators.{Functions, Item, Arg, Index, Op, function_item}
 use Rattle.walrus_functions.specs.Handlers.{params_of}
+use Rattle.walrus_functions.proofs.LawNamed.{each_append}
 use Rattle.walrus_model.specs.Abstract.{Abstract, Body, Function, Global, Element, Export}
 use Rattle.walrus_model.specs.Constants.{const_of, consts_of}
 use Rattle.walrus_model.specs.Declared.{ref_func, Lists, IsRefInBody, IsRefInGlobal, IsUndeclared}
@@ -23,11 +24,12 @@ use Rattle.walrus_model.specs.Sections.{Said, types_of, imported, imported_funct
 use Rattle.walrus_model.proofs.Lists.{Contains-head, Contains-tail, Contains-map}
 use Rattle.walrus_model.proofs.PipelineOps.{from_map}
 use Rattle.walrus_model.proofs.Standing.{some_inj, got_where, got_in}
+use Rattle.walrus_rules.proofs.UsedLocals.{behind}
+use Rattle.walrus_rules.proofs.TextShaped.{all_at}
 use Rattle.walrus_contents.proofs.Lookups.{mapped_some, got_map, got_both, heads}
 use Rattle.walrus_contents.proofs.TypeLists.{got_either}
 use Rattle.walrus_records.specs.Declared.{BodiesName, GlobalsName, Exports, ItemsList, Segments, IsUndeclaredIn, ReferencesAgree}
 use Rattle.walrus_records.proofs.Initialisers.{Brought, brought_globals}
-use Rattle.walrus_records.proofs.Lists.{all_both, each_at, got_right}
 
 -- ---- ref.func as a constant
 
@@ -113,7 +115,7 @@ module _ (s : wire.Module) (bodies : List Said) where
 
   imports_say : (i : ℕ) (ws : List entries.Import) → AllByRecursion Says (imported imported_function i ws)
   imports_say i [] = tt
-  imports_say i (w ∷ ws) = all_both Says (option_to_list (imported_function i w.desc)) (imported imported_function (i + 1) ws) (desc_says i w.desc) (imports_say (i + 1) ws)
+  imports_say i (w ∷ ws) = each_append Says (option_to_list (imported_function i w.desc)) (imported imported_function (i + 1) ws) (desc_says i w.desc) (imports_say (i + 1) ws)
 
   local_says : (fs : List ℕ) (saids : List Said) → ((said : Said) → Contains saids said → Contains bodies said) → AllByRecursion Says (map (function_with s) (zip fs saids))
   local_says [] saids among = tt
@@ -124,7 +126,7 @@ module _ (s : wire.Module) (bodies : List Said) where
   )
 
   all_say : AllByRecursion Says (functions_of s bodies)
-  all_say = all_both Says (imported imported_function 0 s.imports) (map (function_with s) (zip s.functions bodies)) (imports_say 0 s.imports) (local_says s.functions bodies (λ said at. at))
+  all_say = each_append Says (imported imported_function 0 s.imports) (map (function_with s) (zip s.functions bodies)) (imports_say 0 s.imports) (local_says s.functions bodies (λ said at. at))
 
   said_by : (o : Option Function) (b : Body) → body_of_function o ≡ Some b → ((f : Function) → o ≡ Some f → Says f) → (said : Said) × Contains bodies said × (b.operators ≡ said.1)
   said_by None b e h = absurd (cc)
@@ -132,7 +134,7 @@ module _ (s : wire.Module) (bodies : List Said) where
 
   bodies_was : (f : ℕ) → IsRefInBody (IsLive M) M f → BodiesName bodies f
   bodies_was f (i, b, live, is, at) =
-      let w = said_by (slice_get (functions_of s bodies) i) b is (λ g there. each_at Says (functions_of s bodies) i g all_say there) in
+      let w = said_by (slice_get (functions_of s bodies) i) b is (λ g there. all_at Says (functions_of s bodies) i g all_say there) in
       (w.0, w.1, subst (λ (l : List Op). Contains l (ref_func f)) w.2 at)
 
   bodies_by : length bodies ≡ length s.functions → (f : ℕ) → BodiesName bodies f → IsRefInBody (IsLive M) M f
@@ -141,14 +143,14 @@ module _ (s : wire.Module) (bodies : List Said) where
       let pair : slice_get (zip s.functions bodies) among.0 ≡ Some (get_or s.functions among.0 0, said) = got_both s.functions bodies among.0 (get_or s.functions among.0 0) said (slice_get-get_or s.functions among.0 0 lt) (got_where bodies said among) in
       let here : slice_get (map (function_with s) (zip s.functions bodies)) among.0 ≡ Some (function_with s (get_or s.functions among.0 0, said)) = got_map (function_with s) (zip s.functions bodies) among.0 ∙ ap (option_map (function_with s)) pair in
       let there : M.functions (length (imported imported_function 0 s.imports) + among.0) ≡ Some (function_with s (get_or s.functions among.0 0, said)) =
-      got_right (imported imported_function 0 s.imports) (map (function_with s) (zip s.functions bodies)) among.0 (length (imported imported_function 0 s.imports) + among.0) refl ∙ here in
+      behind (imported imported_function 0 s.imports) (map (function_with s) (zip s.functions bodies)) among.0 (length (imported imported_function 0 s.imports) + among.0) refl ∙ here in
       (length (imported imported_function 0 s.imports) + among.0, body_with (params_of (types_of s (get_or s.functions among.0 0))) said, ap is_some there, ap body_of_function there, at)
 
   -- ---- globals
 
   globals_was : (f : ℕ) → IsRefInGlobal (IsLive M) M f → GlobalsName s f
   globals_was f (i, g, os, live, is, has, at) = ⊎_elim
-      (λ (e : slice_get (imported imported_global 0 s.imports) i ≡ Some g). absurd (let p : None ≡ Some os = sym (each_at Brought (imported imported_global 0 s.imports) i g (brought_globals 0 s.imports) e).1 ∙ has in cc))
+      (λ (e : slice_get (imported imported_global 0 s.imports) i ≡ Some g). absurd (let p : None ≡ Some os = sym (all_at Brought (imported imported_global 0 s.imports) i g (brought_globals 0 s.imports) e).1 ∙ has in cc))
       (λ later.
       let w = mapped_some global_of (slice_get s.globals later.0) g (sym (got_map global_of s.globals later.0) ∙ later.2) in
       let same : consts_of w.0.initial ≡ os = some_inj (consts_of w.0.initial) os (sym (ap (λ (y : Global). y.initialiser) w.2) ∙ has) in
@@ -160,7 +162,7 @@ module _ (s : wire.Module) (bodies : List Said) where
   globals_by f (x, among, at) =
       let here : slice_get (map global_of s.globals) among.0 ≡ Some (global_of x) = got_map global_of s.globals among.0 ∙ ap (option_map global_of) (got_where s.globals x among) in
       let there : M.globals (length (imported imported_global 0 s.imports) + among.0) ≡ Some (global_of x) =
-      got_right (imported imported_global 0 s.imports) (map global_of s.globals) among.0 (length (imported imported_global 0 s.imports) + among.0) refl ∙ here in
+      behind (imported imported_global 0 s.imports) (map global_of s.globals) among.0 (length (imported imported_global 0 s.imports) + among.0) refl ∙ here in
       (length (imported imported_global 0 s.imports) + among.0, global_of x, consts_of x.initial, ap is_some there, there, refl, names_by f x.initial at)
 
   -- ---- what declares it

@@ -16,10 +16,12 @@ use Rattle.walrus_base.specs.Types.{HeapType, ValType, CompType, Func, heap_name
 use Rattle.walrus_base.specs.Types as types
 use Rattle.walrus_code.specs.FromRaw.{heap_of, val_of}
 use Rattle.walrus_types.specs.TypeDef.{TypeDef, type_params}
+use Rattle.walrus_functions.proofs.LawNamed.{each_append}
 use Rattle.walrus_groups.specs.Groups.{storage_of, field_of, comp_of, sub_of, NamesBelow, AreDeclared}
 use Rattle.walrus_contents.proofs.TypeLists.{count, count_more, IsMember}
 use Rattle.walrus_model.proofs.Standing.{got_in}
-use Rattle.walrus_records.proofs.Lists.{each_at, all_both, all_parts, all_flat, all_unflat, all_itself, all_apart}
+use Rattle.walrus_rules.proofs.TextShaped.{all_at}
+use Rattle.walrus_records.proofs.Lists.{all_parts, all_flat, all_unflat, all_itself, all_apart}
 
 -- ---- what a type names
 
@@ -89,7 +91,7 @@ module _ (end : ℕ) where
   pub comp_below : (c : Comp) → CompHolds end c → All (λ t. t < end) (comp_names (comp_of c))
   comp_below (Function t) a =
       names_below (flat_map val_heaps (map val_of t.params) ++ flat_map val_heaps (map val_of t.results))
-      (all_both HeapBelow (flat_map val_heaps (map val_of t.params)) (flat_map val_heaps (map val_of t.results)) (values_below t.params a.0) (values_below t.results a.1))
+      (each_append HeapBelow (flat_map val_heaps (map val_of t.params)) (flat_map val_heaps (map val_of t.results)) (values_below t.params a.0) (values_below t.results a.1))
   comp_below (Struct fields) a = names_below (flat_map field_heaps (map field_of fields)) (all_flat (FieldHolds end) HeapBelow field_of field_heaps field_below fields (recursion_from_All (FieldHolds end) fields a))
   comp_below (Array field) a = names_below (field_heaps (field_of field)) (field_below field a)
 
@@ -105,7 +107,7 @@ module _ (end : ℕ) where
   pub params_below : (c : CompType ℕ) → All (λ t. t < end) (comp_names c) → (k : ℕ) (v : ValType ℕ) → slice_get (type_params c) k ≡ Some v → All (λ t. t < end) (val_names v)
   params_below (Func params results) a k v e =
       let p = all_parts HeapBelow (flat_map val_heaps params) (flat_map val_heaps results) (heaps_below (flat_map val_heaps params ++ flat_map val_heaps results) a) in
-      names_below (val_heaps v) (each_at (λ w. HeapsBelow (val_heaps w)) params k v (all_apart HeapBelow val_heaps params p.0) e)
+      names_below (val_heaps v) (all_at (λ w. HeapsBelow (val_heaps w)) params k v (all_apart HeapBelow val_heaps params p.0) e)
   params_below (types.Struct fields) a k v e = cc
   params_below (types.Array field) a k v e = cc
 

@@ -16,7 +16,8 @@ use Rattle.walrus_base.specs.Types.{heap_names, val_names}
 use Rattle.walrus_types.specs.Operators.{Space, Types, Functions, Tables, Memories, Tags, Globals, Elements, DataSegments, Item, Byte, type_item, arg_names, op_names, names_of}
 use Rattle.walrus_code.specs.FromRaw.{heap_of, val_of}
 use Rattle.walrus_model.specs.Constants.{const_of, consts_of}
-use Rattle.walrus_records.proofs.Lists.{all_in, in_all, all_flat, all_unflat}
+use Rattle.walrus_rules.proofs.PlainTypes.{each_in}
+use Rattle.walrus_records.proofs.Lists.{all_in, all_flat, all_unflat}
 
 -- ---- so many of each space
 
@@ -158,13 +159,13 @@ module _ (c : Counts) (e d n : ℕ) where
   narrower (DataSegments, i) h low = h
 
   pub scoped_within : n ≤ c.globals → (x : Expression) → ExpressionHolds (with_globals c n) x → AllByRecursion (λ y. Within c e d y) (names_of (consts_of x))
-  scoped_within few x h = all_in (λ y. Within c e d y) (names_of (consts_of x)) (λ y at. wider few y (in_all (λ y. Within (with_globals c n) e d y) (names_of (consts_of x)) y (expression_within (with_globals c n) e d x h) at))
+  scoped_within few x h = all_in (λ y. Within c e d y) (names_of (consts_of x)) (λ y at. wider few y (each_in (λ y. Within (with_globals c n) e d y) (names_of (consts_of x)) y (expression_within (with_globals c n) e d x h) at))
 
   -- the globals that it names
   pub scoped_low : (x : Expression) → ExpressionHolds (with_globals c n) x → (g : ℕ) → Contains (names_of (consts_of x)) (Globals, g) → g < n
-  scoped_low x h g at = in_all (λ y. Within (with_globals c n) e d y) (names_of (consts_of x)) (Globals, g) (expression_within (with_globals c n) e d x h) at
+  scoped_low x h g at = each_in (λ y. Within (with_globals c n) e d y) (names_of (consts_of x)) (Globals, g) (expression_within (with_globals c n) e d x h) at
 
   pub scoped_holds : (x : Expression) → AllByRecursion (λ y. Within c e d y) (names_of (consts_of x)) → ((g : ℕ) → Contains (names_of (consts_of x)) (Globals, g) → g < n) → ExpressionHolds (with_globals c n) x
   scoped_holds x a low =
       expression_holds (with_globals c n) e d x (all_in (λ y. Within (with_globals c n) e d y) (names_of (consts_of x))
-      (λ y at. narrower y (in_all (λ y. Within c e d y) (names_of (consts_of x)) y a at) (λ g is. low g (subst (λ (z : Item). Contains (names_of (consts_of x)) z) is at))))
+      (λ y at. narrower y (each_in (λ y. Within c e d y) (names_of (consts_of x)) y a at) (λ g is. low g (subst (λ (z : Item). Contains (names_of (consts_of x)) z) is at))))

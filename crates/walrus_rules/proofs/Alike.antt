@@ -7,11 +7,9 @@ use Rattle.walrus_model.specs.Abstract.{TypeDef, Origin, ImportedBy, Defined, Ta
 use Rattle.walrus_model.specs.Refers.{named_by, type_names, table_names, tag_names, global_names, element_kind_names, element_item_names, element_names, data_kind_names, data_names}
 use Rattle.walrus_model.specs.WellMade.{origin_import}
 use Rattle.walrus_model.specs.Renaming.{Renaming, renamed, renamed_block, renamed_arg, renamed_op, renamed_ops, renamed_const, renamed_origin, renamed_table, renamed_memory, renamed_tag, renamed_global, renamed_element_kind, renamed_element_items, renamed_element, renamed_data_kind, renamed_data, renamed_import, renamed_export}
-use Rattle.walrus_model.proofs.Lists.{map-same_on, Contains-head, Contains-tail, Contains-map, Contains-append_1, Contains-append_2, Contains-none}
-use Rattle.walrus_rules.proofs.TypesAlike.{Contains-flat_map, heap_alike, ref_alike, val_alike}
-
-no_local : {A : Type 0} (x : ℕ) → Contains {X = ℕ} [] x → A
-no_local x at = absurd (Contains-none x at)
+use Rattle.walrus_model.proofs.Lists.{map-same_on, Contains-head, Contains-tail, Contains-map, Contains-append_1, Contains-append_2}
+use Rattle.walrus_model.proofs.TypeRules.{Contains-flat_map}
+use Rattle.walrus_rules.proofs.TypesAlike.{heap_alike, ref_alike, val_alike}
 
 module _ (r s : Renaming) where
   -- both give one number

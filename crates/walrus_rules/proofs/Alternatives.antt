@@ -2,6 +2,7 @@
 use Rattle.std.proofs.Common.{◌≡◌, ℕ, ◌<◌, Bool, true, false, List, [], ◌∷◌, length, refl, ap, subst, arith, inl, inr}
 use Rattle.std.specs.Prelude.{Option, Some, None, ◌≢◌, codes, ◌==◌, ◌&&◌, ◌++◌, if◌then◌else◌}
 use Rattle.std.proofs.lemmas.Bool.Decides.{eqb_tells}
+use Rattle.std.proofs.lemmas.Bool.{eqb-true}
 use mathlib.Core.Path.{fun_ext}
 use Rattle.wasm_forms.specs.declared.types.RawHeap.{RawHeap}
 use Rattle.wasm_forms.specs.declared.types.RawHeap.TheVariants as raw_heap
@@ -51,11 +52,8 @@ turned true false a b apart = refl
 turned false true a b apart = refl
 turned false false a b apart = refl
 
-equal_by : (a b : ℕ) → (a == b) ≡ true → a ≡ b
-equal_by a b is = elim (eqb_tells a b) [ inl h ↦ h.1 | inr h ↦ absurd (cc (is, h.0)) ]
-
 never_both : (i : ℕ) → (0 == i) ≡ true → (1 == i) ≡ true → ⊥
-never_both i h g = let zero : 0 ≡ i = equal_by 0 i h in let one : 1 ≡ i = equal_by 1 i g in omega (arith, zero, one)
+never_both i h g = let zero : 0 ≡ i = eqb-true 0 i h in let one : 1 ≡ i = eqb-true 1 i g in omega (arith, zero, one)
 
 either_order : (x : Subject) → (said_by rising).named x ≡ (said_by falling).named x
 either_order TheModule = refl

@@ -37,6 +37,7 @@ use Rattle.walrus_model.specs.Refers.{IsUsed, named_by, local_names, body_names,
 use Rattle.walrus_model.specs.Rules.{Holds}
 use Rattle.walrus_model.proofs.Lists.{Contains-tail, Contains-none, Contains-append_1, Contains-append_2}
 use Rattle.walrus_model.proofs.PipelineOps.{from_map}
+use Rattle.walrus_model.proofs.TypeRules.{Contains-flat_map}
 use Rattle.walrus_rules.specs.Features.{features_of}
 use Rattle.walrus_rules.specs.Headline.{ReadsBody}
 use Rattle.walrus_rules.specs.Spelling.{BodyStands, UsesAll, NeedsCount, NamesData, IsCount, IsSpelling}
@@ -48,7 +49,6 @@ use Rattle.walrus_rules.proofs.OneSections.{laid, later}
 use Rattle.walrus_rules.proofs.OneSpelling.{told}
 use Rattle.walrus_rules.proofs.ReadFits.{some_there, zip_short}
 use Rattle.walrus_rules.proofs.SpelledFits.{all_each, all_back}
-use Rattle.walrus_rules.proofs.TypesAlike.{Contains-flat_map}
 use Rattle.walrus_rules.proofs.UsedLocals.{behind}
 
 -- ---- one body

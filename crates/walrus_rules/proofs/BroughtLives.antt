@@ -1,6 +1,6 @@
 -- What the steps bring a module to names nothing that isn't there.
-use Rattle.std.proofs.Common.{◌≡◌, ℕ, List, refl, sym, ◌∙◌, subst}
-use Rattle.std.specs.Prelude.{Option, Some, None, IsSome}
+use Rattle.std.proofs.Common.{◌≡◌, ℕ, List, sym, ◌∙◌, subst}
+use Rattle.std.specs.Prelude.{Option, Some}
 use Rattle.walrus_model.specs.Abstract.{Abstract, Function, Uninitialised, Element, Import}
 use Rattle.walrus_model.specs.Config.{Config}
 use Rattle.walrus_model.specs.Declared.{AreUndeclared}
@@ -20,13 +20,6 @@ use Rattle.walrus_rules.proofs.StepLeaves.{Between, between}
 use Rattle.walrus_rules.proofs.StepParsed.{initialised, live_v}
 use Rattle.walrus_rules.proofs.StepRead.{read_is_plain}
 use Rattle.walrus_model.proofs.TakingOver.{live_after}
-
-no_some : {A X : Type 0} (x : X) → None ≡ Some x → A
-no_some x e = absurd (cc)
-
-not_some : {X : Type 0} (o : Option X) → (IsSome o → ⊥) → o ≡ None
-not_some None h = refl
-not_some (Some x) h = absurd (h refl)
 
 -- all that it names is there
 pub record Lives (v : Abstract) : Type 0 where

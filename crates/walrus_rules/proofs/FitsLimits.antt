@@ -15,6 +15,7 @@ use Rattle.walrus_model.specs.Renaming.{Renaming, renamed_table, renamed_memory}
 use Rattle.walrus_model.specs.Same.{SameType, SameBody, SameKind, SameFunction}
 use Rattle.walrus_model.proofs.Lists.{Contains-map}
 use Rattle.walrus_model.proofs.OpsFollow.{ops_locals_follow}
+use Rattle.walrus_model.proofs.Orders.{is_some_by}
 use Rattle.walrus_rules.specs.OneRun.{Fits}
 use Rattle.walrus_rules.specs.Pinned.{IsWrittenAs}
 use Rattle.walrus_rules.specs.Refused.{HasDead, HasUnspelled, IllFormed, PassesLimit, PassesLimits, ManyItems, ManyLocals, TableLimit, MemoryLimit, Unfit}
@@ -31,7 +32,7 @@ use Rattle.walrus_rules.proofs.Pigeon.{apart_distinct, all_in}
 use Rattle.walrus_rules.proofs.Shaped.{Shaped}
 use Rattle.walrus_rules.proofs.TextFits.{UsesFew, text_fits, few_uses}
 use Rattle.walrus_rules.proofs.TextShaped.{shaped}
-use Rattle.walrus_rules.proofs.Things.{still_there, both_there, some_same, body_at, body_is, local_kind}
+use Rattle.walrus_rules.proofs.Things.{both_there, some_same, body_at, body_is, local_kind}
 
 no_more : (further used new top : ℕ) → further ≤ used → new ≡ used → new < top → top ≤ further → ⊥
 no_more further used new top low same fit many = omega (arith, low, same, fit, many)
@@ -63,14 +64,14 @@ module _ (c : Config) (v n : Abstract) (t : Text) (alive : HasDead v → ⊥) (s
 
   table_fits : (i : ℕ) (x : Table) → v.tables i ≡ Some x → PassesLimit x.ty.limits → ⊥
   table_fits i x e h =
-      let both = both_there (λ y z. z ≡ renamed_table r y) (v.tables i) (n.tables (r.numbers Tables i)) (is.written.carried.tables.same i (still_there (v.tables i) x e)) in
+      let both = both_there (λ y z. z ≡ renamed_table r y) (v.tables i) (n.tables (r.numbers Tables i)) (is.written.carried.tables.same i (is_some_by (v.tables i) x e)) in
       let one : both.0 ≡ x = some_same both.0 x (sym both.2 ∙ e) in
       let is_it : n.tables (r.numbers Tables i) ≡ Some (renamed_table r x) = both.3 ∙ ap Some (both.4 ∙ ap (renamed_table r) one) in
       small.tables (r.numbers Tables i) (renamed_table r x) is_it h
 
   memory_fits : (i : ℕ) (x : Memory) → v.memories i ≡ Some x → PassesLimit x.ty.limits → ⊥
   memory_fits i x e h =
-      let both = both_there (λ y z. z ≡ renamed_memory r y) (v.memories i) (n.memories (r.numbers Memories i)) (is.written.carried.memories.same i (still_there (v.memories i) x e)) in
+      let both = both_there (λ y z. z ≡ renamed_memory r y) (v.memories i) (n.memories (r.numbers Memories i)) (is.written.carried.memories.same i (is_some_by (v.memories i) x e)) in
       let one : both.0 ≡ x = some_same both.0 x (sym both.2 ∙ e) in
       let is_it : n.memories (r.numbers Memories i) ≡ Some (renamed_memory r x) = both.3 ∙ ap Some (both.4 ∙ ap (renamed_memory r) one) in
       small.memories (r.numbers Memories i) (renamed_memory r x) is_it h
@@ -92,7 +93,7 @@ module _ (c : Config) (v n : Abstract) (t : Text) (alive : HasDead v → ⊥) (s
   pair : (f : ℕ) (b : Body) → body_of v f ≡ Some b → Pair f b
   pair f b e =
       let g = body_at (v.functions f) b e in
-      let both = both_there (SameFunction r f) (v.functions f) (n.functions (r.numbers Functions f)) (is.written.carried.functions.same f (still_there (v.functions f) g.0 g.1)) in
+      let both = both_there (SameFunction r f) (v.functions f) (n.functions (r.numbers Functions f)) (is.written.carried.functions.same f (is_some_by (v.functions f) g.0 g.1)) in
       let one : both.0 ≡ g.0 = some_same both.0 g.0 (sym both.2 ∙ g.1) in
       let same : SameFunction r f g.0 both.1 = subst (λ y. SameFunction r f y both.1) one both.4 in
       let local = local_kind r f b both.1.kind (subst (λ k. SameKind r f k both.1.kind) g.2 same.kind) in
@@ -122,7 +123,7 @@ module _ (c : Config) (v n : Abstract) (t : Text) (alive : HasDead v → ⊥) (s
     params_long : IsWellFormed c v p.old.ty b → length b.parameters ≡ length params
     params_long formed =
         let ty = p.old.ty in
-        let type = both_there (SameType (r.numbers Types) ty) (v.types ty) (n.types (r.numbers Types ty)) (is.written.carried.types.same ty (still_there (v.types ty) formed.function_type.0 formed.function_type.1)) in
+        let type = both_there (SameType (r.numbers Types) ty) (v.types ty) (n.types (r.numbers Types ty)) (is.written.carried.types.same ty (is_some_by (v.types ty) formed.function_type.0 formed.function_type.1)) in
         sym (length-map b.parameters b.local_type)
         ∙ ap (λ l. length l) formed.typed
         ∙ length-map (params_of (v.types ty)) Some

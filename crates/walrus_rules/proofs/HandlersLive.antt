@@ -14,8 +14,9 @@ use Rattle.walrus_model.specs.Refers.{named_by, type_names, function_names, kind
 use Rattle.walrus_model.specs.Rules.{Holds}
 use Rattle.walrus_rules.specs.OneRun.{HandlersLive}
 use Rattle.walrus_model.proofs.Lists.{Contains-head, Contains-tail, Contains-uncons, Contains-none, Contains-map, Contains-append_1, Contains-append_2}
+use Rattle.walrus_model.proofs.TypeRules.{Contains-flat_map}
+use Rattle.walrus_model.proofs.Reach.{Contains-unmap}
 use Rattle.walrus_rules.proofs.Things.{body_at}
-use Rattle.walrus_rules.proofs.TypesAlike.{Contains-flat_map}
 
 un_append : {A : Type 0} (xs ys : List A) (y : A) → Contains (xs ++ ys) y → Contains xs y ⊎ Contains ys y
 un_append [] ys y at = inr at
@@ -24,19 +25,12 @@ un_append (x ∷ xs) ys y at = ⊎_elim
     (λ (rest : Contains (xs ++ ys) y). ⊎_elim (λ h. inl (Contains-tail x y xs h)) (λ h. inr h) (un_append xs ys y rest))
     (Contains-uncons x y (xs ++ ys) at)
 
-un_flat : {A B : Type 0} (f : A → List B) (xs : List A) (y : B) → Contains (flat_map f xs) y → (x : A) × Contains xs x × Contains (f x) y
+pub un_flat : {A B : Type 0} (f : A → List B) (xs : List A) (y : B) → Contains (flat_map f xs) y → (x : A) × Contains xs x × Contains (f x) y
 un_flat f [] y at = absurd (Contains-none y at)
 un_flat f (x ∷ xs) y at = ⊎_elim
     (λ (h : Contains (f x) y). (x, Contains-head x xs, h))
     (λ (h : Contains (flat_map f xs) y). let u = un_flat f xs y h in (u.0, Contains-tail x u.0 xs u.1, u.2))
     (un_append (f x) (flat_map f xs) y at)
-
-un_map : {A B : Type 0} (f : A → B) (xs : List A) (y : B) → Contains (map f xs) y → (x : A) × Contains xs x × (f x ≡ y)
-un_map f [] y at = absurd (Contains-none y at)
-un_map f (x ∷ xs) y at = ⊎_elim
-    (λ (e : f x ≡ y). (x, Contains-head x xs, e))
-    (λ (h : Contains (map f xs) y). let u = un_map f xs y h in (u.0, Contains-tail x u.0 xs u.1, u.2))
-    (Contains-uncons (f x) y (map f xs) at)
 
 module _ (m : Abstract) (holds : Holds m) where
   abbrev On : List (ValType ℕ) → Type 0
@@ -192,6 +186,6 @@ module _ (m : Abstract) (holds : Holds m) where
 
 pub handlers_live : HandlersLive
 handlers_live m holds f b e comp at t has =
-    let u = un_map function_comp (handlers_from m.types (tag_type m) (OtherBlock ∷ []) b.operators) comp at in
+    let u = Contains-unmap function_comp (handlers_from m.types (tag_type m) (OtherBlock ∷ []) b.operators) comp at in
     let on = all_live m holds (OtherBlock ∷ []) b.operators tt (body_names m holds f b e) u.0 u.1 in
     comp_live m holds u.0.params u.0.results on.0 on.1 t (subst (λ z. Contains (comp_names z) t) (sym u.2) has)

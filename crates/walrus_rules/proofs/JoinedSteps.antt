@@ -1,5 +1,5 @@
 -- A renaming that moves locals alone, and then another one.
-use Rattle.std.proofs.Common.{◌≡◌, ℕ, suc, ◌<◌, List, [], ◌∷◌, length, map, refl, sym, ap, ap₂, ◌∙◌, subst, inl, inr, arith}
+use Rattle.std.proofs.Common.{◌≡◌, ℕ, ◌<◌, List, [], ◌∷◌, length, map, refl, sym, ap, ap₂, ◌∙◌, subst, inl, inr, arith}
 use Rattle.std.specs.Prelude.{Option, Some, None, Contains, option_map}
 use Rattle.walrus_base.specs.Types.{ValType, map_val}
 use Rattle.walrus_types.specs.Operators.{Types, Item, function_item, BlockType, NoResult, OneResult, OfType, Arg, Index, Label, Local, Number, Count, Byte, S32, S64, Bits32, Bits64, Value, Heap, Block, Access, Op, locals_of}
@@ -15,10 +15,7 @@ use Rattle.walrus_rules.proofs.Straight.{straight}
 use Rattle.walrus_model.proofs.TypeMaps.{heap-map, val-map}
 use Rattle.walrus_rules.proofs.UsedLocals.{unmap}
 use Rattle.std.proofs.Common.{⊎_elim}
-
-pub as_long : {A B : Type 0} (f : A → B) (xs : List A) → length (map f xs) ≡ length xs
-as_long f [] = refl
-as_long f (x ∷ xs) = ap suc (as_long f xs)
+use Rattle.std.proofs.lemmas.List.{length-map}
 
 module _ (move : ℕ → ℕ → ℕ) where
   abbrev r : Renaming
@@ -35,7 +32,7 @@ module _ (move : ℕ → ℕ → ℕ) where
   used_back i a b s y u = unmap (move i) (used_locals a) y (subst (λ l. Contains l y) (used_map i a b s) u)
 
   same_size : (i : ℕ) (a b : Body) → SameBody r i a b → size b ≡ size a
-  same_size i a b s = ap (λ (os : List Op). length os) s.operators ∙ as_long (renamed_op r (move i)) a.operators
+  same_size i a b s = ap (λ (os : List Op). length os) s.operators ∙ length-map a.operators (renamed_op r (move i))
 
   -- references to functions are the same
   pub refs_there : (i : ℕ) (a b : Body) (f : ℕ) → SameBody r i a b → Contains a.operators (ref_func f) → Contains b.operators (ref_func f)

@@ -25,9 +25,12 @@ use Rattle.walrus_rules.proofs.JoinedSteps.{used_back}
 use Rattle.walrus_model.proofs.Lists.{map-itself, Contains-head, Contains-tail, Contains-uncons, Contains-none, Contains-map, Contains-append_1, Contains-append_2}
 use Rattle.walrus_rules.proofs.ManyItems.{second}
 use Rattle.walrus_model.proofs.OpsFollow.{heap_items, val_items, const_follows, consts_follow, initialiser_follows}
-use Rattle.walrus_rules.proofs.Plain.{some_at, Twins, from_w, read_from, kept_item}
+use Rattle.walrus_model.proofs.Orders.{is_some_by}
+use Rattle.walrus_model.proofs.Standing.{some_of}
+use Rattle.walrus_rules.proofs.Plain.{Twins, from_w, read_from, kept_item}
 use Rattle.walrus_rules.proofs.Straight.{straight, moved, carried, not_there, functions_name}
-use Rattle.walrus_rules.proofs.Things.{still_there, some_same}
+use Rattle.walrus_rules.proofs.Things.{some_same}
+use Rattle.walrus_rules.proofs.WellFormedWhole.{slice_there}
 
 -- ---- items that move no number name the same
 
@@ -82,11 +85,6 @@ at_append [] z zero x e = inr (some_same z x e)
 at_append [] z (suc i) x e = absurd (cc)
 at_append (y ∷ ys) z zero x e = inl e
 at_append (y ∷ ys) z (suc i) x e = at_append ys z i x e
-
-some_below : {X : Type 0} (xs : List X) (k : ℕ) → k < length xs → IsSome (slice_get xs k)
-some_below [] k h = absurd (omega (arith, h))
-some_below (x ∷ xs) zero h = refl
-some_below (x ∷ xs) (suc k) h = some_below xs k (omega (arith, h))
 
 module _ (count : ℕ) where
   abbrev Below : CompType ℕ → Type 0
@@ -164,7 +162,7 @@ module _ (handlers : HandlersLive) (c : Config) (m v w : Abstract) (holds : Hold
   -- types
 
   type_below : (t : ℕ) → IsLive m (Types, t) → t < length p.types
-  type_below t h = let x = some_at (m.types t) h in slice_get_within p.types t x.0 (sym (p.types_read t) ∙ x.1)
+  type_below t h = let x = some_of (m.types t) h in slice_get_within p.types t x.0 (sym (p.types_read t) ∙ x.1)
 
   first_closed : Closed p.types
   first_closed i x e t (inl at) = type_below t (holds.indices.written (Types, i) (type_item t) (subst (λ o. Contains (named_by type_names o) (type_item t)) (sym (p.types_read i ∙ e)) (Contains-append_1 (type_item t) (map type_item x.group) (map type_item (sub_names x.sub)) (Contains-map type_item t x.group at))))
@@ -178,7 +176,7 @@ module _ (handlers : HandlersLive) (c : Config) (m v w : Abstract) (holds : Hold
   all_good = good_handlers (length p.types) m v.handler_types _ p.types p.all_types (λ f comp at. below_by f (body_of m f) refl comp at) p.handlers (omega arith, first_closed)
 
   type_there : (t : ℕ) → t < length p.all_types → IsLive v (Types, t)
-  type_there t lt = subst (λ o. IsSome o) (sym (p.types_made t)) (some_below p.all_types t lt)
+  type_there t lt = subst (λ o. IsSome o) (sym (p.types_made t)) (slice_there p.all_types t lt)
 
   of_type : (i : ℕ) (o : Option TypeDef) → slice_get p.all_types i ≡ o → (y : Item) → Contains (named_by type_names o) y → IsLive v y
   of_type i None e y at = absurd (Contains-none y at)
@@ -264,8 +262,8 @@ module _ (handlers : HandlersLive) (c : Config) (m v w : Abstract) (holds : Hold
       typed : (f : ℕ) (a b : Body) → Twins c m v w p k holds f a b → (y : ℕ) → IsUsed b y → IsSome (b.local_type y)
       typed f a b z y u =
           let x = used_back (moved c m v p) f a b z.same y u in
-          let t = some_at (a.local_type x.0) (holds.indices.locals f a x.0 z.in_m x.1) in
-          subst (λ n. IsSome (b.local_type n)) x.2 (still_there (b.local_type (moved c m v p f x.0)) t.0 (z.whole.types x.0 t.0 t.1))
+          let t = some_of (a.local_type x.0) (holds.indices.locals f a x.0 z.in_m x.1) in
+          subst (λ n. IsSome (b.local_type n)) x.2 (is_some_by (b.local_type (moved c m v p f x.0)) t.0 (z.whole.types x.0 t.0 t.1))
 
 pub kept_lives : KeptLives
 kept_lives c bytes m v w reads holds p k = premises handlers_live c m v w holds p k

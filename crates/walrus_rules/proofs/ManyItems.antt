@@ -2,6 +2,7 @@
 use Rattle.std.proofs.Common.{◌≡◌, ℕ, zero, suc, ◌+◌, ◌<◌, ◌≤◌, List, [], ◌∷◌, length, refl, sym, ◌∙◌, subst, arith, inl, inr}
 use Rattle.std.specs.Prelude.{Option, Some, None, IsSome, Contains, AllPairs, All, ◌≢◌}
 use Rattle.walrus_types.specs.Operators.{Space, Types, Functions, Tables, Memories, Tags, Globals, Elements, DataSegments}
+use Rattle.walrus_functions.proofs.LawOrder.{In}
 use Rattle.walrus_model.specs.Abstract.{Abstract, Element}
 use Rattle.walrus_model.specs.Config.{Config}
 use Rattle.walrus_model.specs.Declared.{HasDeclaredSegment}
@@ -11,10 +12,9 @@ use Rattle.walrus_model.specs.Same.{BothAnd}
 use Rattle.walrus_rules.specs.Pinned.{IsWrittenAs}
 use Rattle.walrus_rules.proofs.Agree.{Compared, compared}
 use Rattle.walrus_model.proofs.Lists.{Contains-none}
+use Rattle.walrus_model.proofs.Orders.{is_some_by}
 use Rattle.walrus_rules.proofs.Pigeon.{rising_distinct, all_in, counted}
 use Rattle.walrus_rules.proofs.SameVal.{Told, told_nat}
-use Rattle.walrus_rules.proofs.SpaceList.{In}
-use Rattle.walrus_rules.proofs.Things.{still_there}
 
 pub second : {X Y : Type 0} (S : X → Y → Type 0) (a : Option X) (b : Option Y) → IsSome a → BothAnd S a b → IsSome b
 second S (Some x) (Some y) h s = refl
@@ -59,7 +59,7 @@ module _ (c : Config) (v n : Abstract) (is : IsWrittenAs c v n) where
 
   pub segment_by : (gs : List ℕ) (f : ℕ) → Contains gs f → (o : Option ℕ) → HasDeclaredSegment (IsLive v) t v n gs o → Segment
   segment_by [] f at o h = absurd (Contains-none f at)
-  segment_by (g ∷ gs) f at o h = record { number = h.0; at = still_there (n.elements h.0) _ h.2.is; last = h.2.last }
+  segment_by (g ∷ gs) f at o h = record { number = h.0; at = is_some_by (n.elements h.0) _ h.2.is; last = h.2.last }
 
   module _ (k : ℕ) (positive : 0 < k) (small : (space : Space) (i : ℕ) → Has n space i → i + 1 < k) where
     pred : (d : ℕ) → 0 < d → (e : ℕ) × (d ≡ e + 1)

@@ -2,11 +2,13 @@
 use Rattle.std.proofs.Common.{◌≡◌, ℕ, zero, suc, ◌+◌, ◌<◌, ◌≤◌, List, [], ◌∷◌, ◌++◌, length, map, refl, sym, ap, ◌∙◌, subst, arith, inl, inr, length-append}
 use Rattle.std.specs.Prelude.{Option, Some, None, Contains, AllPairs, All, ◌≢◌, ◌^◌}
 use Rattle.std.proofs.lemmas.List.FromFn.{length-range_with_len}
+use Rattle.std.proofs.lemmas.List.{length-map}
 use Rattle.walrus_base.specs.Types.{ValType, CompType, Func, Struct, Array, map_comp, map_val}
 use Rattle.walrus_types.specs.TypeDef.{type_params}
 use Rattle.walrus_types.specs.Operators.{Types, Functions, type_item, locals_of}
 use Rattle.walrus_types.specs.Shape.{place_in}
 use Rattle.walrus_functions.specs.Handlers.{params_of}
+use Rattle.walrus_functions.proofs.LawOrder.{In}
 use Rattle.walrus_model.specs.Abstract.{Abstract, TypeDef, Body, LocalFunction, Function}
 use Rattle.walrus_model.specs.Config.{Config}
 use Rattle.walrus_model.specs.Live.{IsLive}
@@ -24,18 +26,18 @@ use Rattle.walrus_rules.specs.OneRun.{Fits}
 use Rattle.walrus_rules.specs.Pinned.{IsWrittenAs}
 use Rattle.walrus_rules.specs.Spelling.{IsSpelling}
 use Rattle.walrus_rules.specs.Text.{Text}
-use Rattle.walrus_rules.proofs.JoinedSteps.{as_long, used_back}
+use Rattle.walrus_rules.proofs.JoinedSteps.{used_back}
 use Rattle.walrus_model.proofs.Lists.{Contains-head, Contains-map}
 use Rattle.walrus_model.proofs.OpsFollow.{ops_locals_follow}
 use Rattle.walrus_rules.proofs.Pigeon.{Distinct, pigeon, in_map, distinct_map, distinct_unmap, apart_distinct, all_in}
 use Rattle.walrus_rules.proofs.Plain.{masked, plain, Twins, from_w}
 use Rattle.walrus_rules.proofs.SameVal.{unplaced}
 use Rattle.walrus_model.proofs.Seen.{same_sub}
+use Rattle.walrus_model.proofs.Orders.{is_some_by}
 use Rattle.walrus_rules.proofs.Shaped.{Shaped}
-use Rattle.walrus_rules.proofs.SpaceList.{In}
 use Rattle.walrus_rules.proofs.Straight.{moved, carried}
 use Rattle.walrus_rules.proofs.TextShaped.{shaped, Fine, all_at, functions_fine}
-use Rattle.walrus_rules.proofs.Things.{still_there, both_there, some_same, body_at, body_is, local_kind}
+use Rattle.walrus_rules.proofs.Things.{both_there, some_same, body_at, body_is, local_kind}
 use Rattle.walrus_rules.proofs.UsedLocals.{past_range}
 
 gap : (lo k : ℕ) → lo ≤ k → (d : ℕ) × (k ≡ lo + d)
@@ -69,14 +71,14 @@ module _ (a d : Body) (i : ℕ) (t : Renaming) (s : SameBody t i a d) (qs : List
       (distinct_map (t.locals i) ys dist (λ x y hx hy same. s.apart x y (are x hx).0 (are y hy).0 same))
       (λ z h. let r = in_map (t.locals i) ys z h in
       (subst (λ y. length qs ≤ y) r.1.1 (is_past r.0 (are r.0 r.1.0).0 (are r.0 r.1.0).1), within z g.0 g.1 (subst (λ y. y < k) r.1.1 (used r.0 (are r.0 r.1.0).0)))) in
-      let same : length (map (t.locals i) ys) ≡ length ys = as_long (t.locals i) ys in
+      let same : length (map (t.locals i) ys) ≡ length ys = length-map ys (t.locals i) in
       omega (arith, long, same, g.1)
     where
       within : (z r : ℕ) → k ≡ length qs + r → z < k → z < length qs + r
       within z r p q = omega (arith, p, q)
 
 params_long : (g : ℕ → ℕ) (x : CompType ℕ) → length (type_params (map_comp g x)) ≡ length (type_params x)
-params_long g (Func params results) = as_long (map_val g) params
+params_long g (Func params results) = length-map params (map_val g)
 params_long g (Struct fields) = refl
 params_long g (Array element) = refl
 
@@ -140,7 +142,7 @@ module _ (c : Config) (bytes : List ℕ) (m v w n : Abstract) (reads : Reads c b
     parameters_a : length b.parameters ≡ length (params_of (m.types old.ty))
     parameters_a =
         ap (λ (l : List ℕ). length l) z.whole.parameters
-        ∙ as_long (moved c m v p f) a.parameters
+        ∙ length-map a.parameters (moved c m v p f)
         ∙ ap (λ (y : Body). length y.parameters) was.1
         ∙ length-range_with_len 0 (length (params_of (m.types old.ty)))
 
@@ -165,7 +167,7 @@ module _ (c : Config) (bytes : List ℕ) (m v w n : Abstract) (reads : Reads c b
         let dist : Distinct ys.0 = distinct_unmap (moved c m v p f) ys.0 (subst Distinct (sym ys.1.0) (apart_distinct further apart)) in
         let low : length (params_of (n.types new.ty)) ≤ 2 ^ 32 = subst (λ l. l ≤ 2 ^ 32) parameters_d (fits.parameters (r.numbers Functions f) d in_n) in
         let all : length (params_of (n.types new.ty)) + length ys.0 ≤ 2 ^ 32 = few a d f r body (params_of (n.types new.ty)) now.0 now.1 (2 ^ 32) low (λ y u. fits.used (r.numbers Functions f) d (r.locals f y) in_n (used_new y u)) ys.0 dist ys.1.1 in
-        let as_many : length further ≡ length ys.0 = ap (λ (l : List ℕ). length l) (sym ys.1.0) ∙ as_long (moved c m v p f) ys.0 in
+        let as_many : length further ≡ length ys.0 = ap (λ (l : List ℕ). length l) (sym ys.1.0) ∙ length-map ys.0 (moved c m v p f) in
         let both : length (b.parameters ++ further) ≡ length b.parameters + length further = length-append b.parameters further in
         subst (λ l. l ≤ 2 ^ 32) (sym (sum (length b.parameters) (length further) (length (params_of (n.types new.ty))) (length ys.0) (parameters_a ∙ sym long) as_many) ∙ sym both) all
       where
@@ -179,7 +181,7 @@ module _ (c : Config) (bytes : List ℕ) (m v w n : Abstract) (reads : Reads c b
   too_many_locals f b further e apart used away many =
       let z = from_w c m v w p k holds f b e in
       let g = body_at (u.functions f) z.0 z.1.in_u in
-      let both = both_there (SameFunction r f) (u.functions f) (n.functions (r.numbers Functions f)) (is.written.carried.functions.same f (still_there (u.functions f) g.0 g.1)) in
+      let both = both_there (SameFunction r f) (u.functions f) (n.functions (r.numbers Functions f)) (is.written.carried.functions.same f (is_some_by (u.functions f) g.0 g.1)) in
       let one : both.0 ≡ g.0 = some_same both.0 g.0 (sym both.2 ∙ g.1) in
       let same : SameFunction r f g.0 both.1 = subst (λ y. SameFunction r f y both.1) one both.4 in
       let local = local_kind r f z.0 both.1.kind (subst (λ y. SameKind r f y both.1.kind) g.2 same.kind) in

@@ -28,10 +28,6 @@ one_way None None h k = refl
 one_way (Some x) q h k = h refl
 one_way None (Some y) h k = sym (k refl)
 
-some_there : {X : Type 0} (o : Option X) → IsSome o → (x : X) × (o ≡ Some x)
-some_there (Some x) h = (x, refl)
-some_there None h = absurd (cc)
-
 module _ (c : Config) (v : Abstract) (p : Premises v) (n m : Abstract) (a : Side c v n) (b : Side c v m) where
   abbrev r : Renaming
   r = a.is.written.renaming

@@ -10,7 +10,7 @@ use Rattle.wasm_entries.specs.declared.record.RawExportKind.TheVariants as kinds
 use Rattle.wasm_frames.specs.Frames.{Start, Exports, Tags}
 use Rattle.wasm_writer.specs.Spelling.{SectionStands}
 use Rattle.walrus_types.specs.Operators as items
-use Rattle.walrus_types.specs.Operators.{Space, Types, Functions, Tables, Memories, Globals, Elements, DataSegments, Item}
+use Rattle.walrus_types.specs.Operators.{Space, Types, Functions, Tables, Memories, Globals, Elements, DataSegments}
 use Rattle.walrus_model.specs.Abstract.{Abstract, Export, Tag}
 use Rattle.walrus_model.specs.Live.{IsLive}
 use Rattle.walrus_model.specs.Order.{ByImport}

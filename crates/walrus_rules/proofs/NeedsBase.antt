@@ -1,6 +1,7 @@
 -- Small modules: what is written of them, their indices, and their order.
 use Rattle.std.proofs.Common.{◌≡◌, true, false, ℕ, zero, suc, ◌<◌, List, [], ◌∷◌, refl, sym, ◌∙◌, subst, arith, inl, ap}
 use Rattle.std.specs.Prelude.{Option, Some, None, IsSome, Bool, slice_get, if◌then◌else◌}
+use Rattle.std.proofs.lemmas.Bool.{false_from_ne_true}
 use Rattle.walrus_types.specs.Operators as items
 use Rattle.walrus_types.specs.Operators.{Space, Types, Functions, Tables, Memories, Globals, Elements, DataSegments, Item}
 use Rattle.walrus_model.specs.Abstract.{Abstract, Indices, Name}
@@ -54,15 +55,11 @@ live_has v (Globals, i) h = h
 live_has v (Elements, i) h = h
 live_has v (DataSegments, i) h = h
 
-is_false : (b : Bool) → (b ≡ true → ⊥) → b ≡ false
-is_false true h = absurd (h refl)
-is_false false h = refl
-
 pub are_given : (v : Abstract) (r : Renaming) → AreIndices v r (given v r)
 unfolding given
 are_given v r = record {
   live = λ x h. ap (λ (b : Bool). if b then Some (r.numbers x.0 x.1) else None) (has_live v x h);
-  dead = λ x h. ap (λ (b : Bool). if b then Some (r.numbers x.0 x.1) else None) (is_false (has v x) (λ e. h (live_has v x e)));
+  dead = λ x h. ap (λ (b : Bool). if b then Some (r.numbers x.0 x.1) else None) (false_from_ne_true (has v x) (λ e. h (live_has v x e)));
 }
 
 -- no space has more than one item, and none comes before itself

@@ -1,7 +1,8 @@
 -- Operators put through a renaming nest as they did, and those that are allowed still are.
-use Rattle.std.proofs.Common.{◌≡◌, ℕ, Bool, true, false, List, [], ◌∷◌, map, refl, ap, ap₂, ◌∙◌, subst}
+use Rattle.std.proofs.Common.{◌≡◌, ℕ, Bool, true, List, [], ◌∷◌, map, refl, ap, ap₂, ◌∙◌, subst}
 use Rattle.std.specs.Prelude.{◌&&◌, if◌then◌else◌, Option, Some, None, Contains}
 use Rattle.std.specs.List.{list_all}
+use Rattle.std.specs.Cmp.Derive.{both_true}
 use Rattle.walrus_base.specs.Types.{CompType, Func, Struct, Array}
 use Rattle.walrus_types.specs.Operators.{NoResult, OneResult, OfType, Arg, Index, Local, Value, Heap, Block, Access, Label, Number, Count, Byte, S32, S64, Bits32, Bits64, Op}
 use Rattle.walrus_bodies.specs.declared.blocks.Opened.{Opened}
@@ -64,10 +65,6 @@ function_comp (Array element) h = absurd h
 pub function_def : (m : Abstract) (t : ℕ) → IsFunctionType m t → is_function_def (m.types t) ≡ true
 function_def m t h = ap is_function_def h.1 ∙ function_comp h.0.sub.comp h.2
 
-both_true : (a b : Bool) → a ≡ true → b ≡ true → (a && b) ≡ true
-both_true true b e f = f
-both_true false b e f = absurd (cc)
-
 module _ (p : ℕ → Bool) where
   block_fine : (a : Arg) → ((t : ℕ) → a ≡ Block (OfType t) → p t ≡ true) → block_holds p a ≡ true
   block_fine (Block (OfType t)) h = h t refl
@@ -90,13 +87,13 @@ module _ (p : ℕ → Bool) where
   args_fine : (xs : List Arg) → ((t : ℕ) → Contains xs (Block (OfType t)) → p t ≡ true) → args_hold p xs ≡ true
   args_fine [] h = refl
   args_fine (x ∷ xs) h =
-      both_true (block_holds p x) (args_hold p xs)
+      both_true
       (block_fine x (λ t e. h t (subst (Contains (x ∷ xs)) e (Contains-head x xs))))
       (args_fine xs (λ t at. h t (Contains-tail x (Block (OfType t)) xs at)))
 
   pub blocks_fine : (ops : List Op) → ((t : ℕ) (o : Op) → Contains ops o → Contains o.args (Block (OfType t)) → p t ≡ true) → blocks_hold p ops ≡ true
   blocks_fine [] h = refl
   blocks_fine (o ∷ ops) h =
-      both_true (args_hold p o.args) (blocks_hold p ops)
+      both_true
       (args_fine o.args (λ t at. h t o (Contains-head o ops) at))
       (blocks_fine ops (λ t x at has. h t x (Contains-tail o x ops at) has))

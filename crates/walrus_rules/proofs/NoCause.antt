@@ -1,6 +1,7 @@
 -- A well-made module has no cause to be refused, its size aside.
 use Rattle.std.proofs.Common.{◌≡◌, ℕ, refl, sym, ap, ◌∙◌}
 use Rattle.std.specs.Prelude.{Option, Some, None, IsSome}
+use Rattle.std.proofs.lemmas.Option.{same_Some}
 use Rattle.walrus_types.specs.Operators.{Types, Functions, Tables, Memories, Tags, Globals, Elements, DataSegments, Item}
 use Rattle.walrus_model.specs.Abstract.{Abstract}
 use Rattle.walrus_model.specs.Config.{Config}
@@ -27,9 +28,6 @@ import_live m (Types, k) i e = absurd (cc)
 import_live m (Elements, k) i e = absurd (cc)
 import_live m (DataSegments, k) i e = absurd (cc)
 
-some_same : (i j : ℕ) → Some i ≡ Some j → i ≡ j
-some_same i j e = cc
-
 pub well_lives : (c : Config) (u : Abstract) → IsWellMade c u → Lives u
 well_lives c u made = record {
   indices = made.rules.indices;
@@ -39,7 +37,7 @@ well_lives c u made = record {
 
 two : (u : Abstract) → ImportsMatch u → HasTwoIndices u → ⊥
 two u match (LocalImported i x at live kind none) = let no : Some i ≡ None = sym (match.imports i x at) ∙ none in cc
-two u match (ImportedTwice i j x y at too live apart same) = apart (some_same i j (sym (match.imports i x at) ∙ ap (import_of u) same ∙ match.imports j y too))
+two u match (ImportedTwice i j x y at too live apart same) = apart (same_Some i j (sym (match.imports i x at) ∙ ap (import_of u) same ∙ match.imports j y too))
 
 lacks : (c : Config) (u : Abstract) → IsWellMade c u → LacksIndex u → ⊥
 lacks c u made (NotBrought y needed has none) =

@@ -26,6 +26,7 @@ use Rattle.walrus_rules.proofs.BytesOnce.{one_module}
 use Rattle.walrus_rules.proofs.Counting.{no_longer}
 use Rattle.walrus_rules.proofs.KeptLives.{kept_lives}
 use Rattle.walrus_model.proofs.Lists.{Contains-head}
+use Rattle.walrus_model.proofs.Orders.{is_some_by}
 use Rattle.walrus_rules.proofs.ManyItems.{segment_by, too_many, too_many_segments}
 use Rattle.walrus_rules.proofs.ManyLocals.{too_many_locals}
 use Rattle.walrus_rules.proofs.OneOutput.{kept, from_read, one_way}
@@ -34,7 +35,7 @@ use Rattle.walrus_rules.proofs.ReadFits.{read_fits}
 use Rattle.walrus_rules.proofs.SpelledFits.{spelled_fits}
 use Rattle.walrus_rules.proofs.Plain.{there, undeclared_there, plain_premises}
 use Rattle.walrus_rules.proofs.ReadsOnce.{reads_once_lem}
-use Rattle.walrus_rules.proofs.Things.{still_there, both_there, some_same}
+use Rattle.walrus_rules.proofs.Things.{both_there, some_same}
 
 -- d is brought from m too; n is what m is written as, and fits
 module _ (c : Config) (bytes : List ℕ) (m d n : Abstract) (reads : Reads c bytes m) (holds : Holds m) (b : BringsTo c m d) (t : Text) (spells : IsSpelling n t) (premises : Premises (kept c m d b)) (is : IsWrittenAs c (kept c m d b) n) (fits : Fits n) (sections : (s : Section) → Contains (sections_of t) s → SectionFits s) where
@@ -91,7 +92,7 @@ module _ (c : Config) (bytes : List ℕ) (m d n : Abstract) (reads : Reads c byt
   table_fits : (i : ℕ) (x : Table) → w.tables i ≡ Some x → PassesLimit x.ty.limits → ⊥
   table_fits i x e h =
       let s = is.written.renaming in
-      let both = both_there (λ y z. z ≡ renamed_table s y) (w.tables i) (n.tables (s.numbers Tables i)) (is.written.carried.tables.same i (still_there (w.tables i) x e)) in
+      let both = both_there (λ y z. z ≡ renamed_table s y) (w.tables i) (n.tables (s.numbers Tables i)) (is.written.carried.tables.same i (is_some_by (w.tables i) x e)) in
       let one : both.0 ≡ x = some_same both.0 x (sym both.2 ∙ e) in
       let is_it : n.tables (s.numbers Tables i) ≡ Some (renamed_table s x) = both.3 ∙ ap Some (both.4 ∙ ap (renamed_table s) one) in
       fits.tables (s.numbers Tables i) (renamed_table s x) is_it h
@@ -99,7 +100,7 @@ module _ (c : Config) (bytes : List ℕ) (m d n : Abstract) (reads : Reads c byt
   memory_fits : (i : ℕ) (x : Memory) → w.memories i ≡ Some x → PassesLimit x.ty.limits → ⊥
   memory_fits i x e h =
       let s = is.written.renaming in
-      let both = both_there (λ y z. z ≡ renamed_memory s y) (w.memories i) (n.memories (s.numbers Memories i)) (is.written.carried.memories.same i (still_there (w.memories i) x e)) in
+      let both = both_there (λ y z. z ≡ renamed_memory s y) (w.memories i) (n.memories (s.numbers Memories i)) (is.written.carried.memories.same i (is_some_by (w.memories i) x e)) in
       let one : both.0 ≡ x = some_same both.0 x (sym both.2 ∙ e) in
       let is_it : n.memories (s.numbers Memories i) ≡ Some (renamed_memory s x) = both.3 ∙ ap Some (both.4 ∙ ap (renamed_memory s) one) in
       fits.memories (s.numbers Memories i) (renamed_memory s x) is_it h

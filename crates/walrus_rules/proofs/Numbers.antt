@@ -1,6 +1,7 @@
 -- Live items, and their imports, get one number under two renamings.
 use Rattle.std.proofs.Common.{◌≡◌, ℕ, ◌<◌, List, [], ◌∷◌, refl, sym, ap, ◌∙◌, subst, arith, inl, inr, ◌⊎◌, ⊎_elim}
 use Rattle.std.specs.Prelude.{Option, Some, None, IsSome, option_map}
+use Rattle.std.proofs.lemmas.Option.{same_Some}
 use Rattle.walrus_types.specs.Operators.{Space, Types, Functions, Tables, Memories, Tags, Globals, Elements, DataSegments, Item}
 use Rattle.walrus_model.specs.Abstract.{Abstract, Origin, ImportedBy, Defined, Body, FunctionKind, ImportedFunction, LocalFunction, Uninitialised, Function, Import}
 use Rattle.walrus_model.specs.Carried.{Carries, In}
@@ -12,15 +13,12 @@ use Rattle.walrus_model.specs.Order.{size, LargerFirst, FunctionsByImport, Origi
 use Rattle.walrus_model.specs.Renaming.{Renaming, renamed, renamed_origin, renamed_table, renamed_memory, renamed_tag, renamed_global, renamed_import}
 use Rattle.walrus_model.specs.Same.{BothAnd, SameKind, SameFunction}
 use Rattle.walrus_model.specs.WellMade.{ImportsMatch, import_in, import_of, origin_import, kind_import}
+use Rattle.walrus_model.proofs.Orders.{is_some_by}
+use Rattle.walrus_model.proofs.Compose.{second_there}
 use Rattle.walrus_rules.proofs.Agree.{Compared, compared, Ordered, Rising, NoGap, agree}
 use Rattle.walrus_rules.proofs.Shaped.{Closes, Side}
 
 -- ---- what is carried leaves no gap
-
-pub second_there : {X : Type 0} (S : X → X → Type 0) (a b : Option X) → BothAnd S a b → IsSome b
-second_there S (Some x) (Some y) h = refl
-second_there S (Some x) None h = absurd h
-second_there S None b h = absurd h
 
 no_gap : {X : Type 0} (K Added : ℕ → Type 0) (r : ℕ → ℕ) (S : ℕ → X → X → Type 0) (xs ys : ℕ → Option X) → Carries K Added r S xs ys → Closes ys → ((i j : ℕ) → K i → Added j → r i < j) → NoGap K 0 r
 no_gap K Added r S xs ys c close last i m k le lt = ⊎_elim
@@ -29,9 +27,6 @@ no_gap K Added r S xs ys c close last i m k le lt = ⊎_elim
     (c.onto m (close (r i) m lt (second_there (S i) (xs i) (ys (r i)) (c.same i k))))
 
 -- ---- the order of live items is total
-
-abbrev Orders : (ℕ → ℕ → Type 0) → (ℕ → ℕ → Type 0) → ℕ → ℕ → Type 0
-Orders There Back i j = There i j ⊎ ((i ≡ j) ⊎ Back j i)
 
 origins : (i j : ℕ) (a b : Origin) → ((p : ℕ) → a ≡ ImportedBy p → b ≡ ImportedBy p → i ≡ j) → OriginsInOrder i j a b ⊎ ((i ≡ j) ⊎ OriginsInOrder j i b a)
 origins i j (ImportedBy p) (ImportedBy q) one = by (compared p q)
@@ -112,10 +107,6 @@ still : {X Y : Type 0} (f : X → Y) (o : Option X) → IsSome o → IsSome (opt
 still f (Some x) h = refl
 still f None h = h
 
-still_some : {X : Type 0} (o : Option X) (x : X) → o ≡ Some x → IsSome o
-still_some (Some y) x e = refl
-still_some None x e = absurd (cc)
-
 -- a function that is carried has a kind
 carried_kind : (r : Renaming) (i : ℕ) (a b : FunctionKind) → SameKind r i a b → a ≡ Uninitialised → ⊥
 carried_kind r i (ImportedFunction p) b s e = cc
@@ -157,9 +148,6 @@ made_there : {X : Type 0} (f : X → X) (a b : Option X) (x : X) → BothAnd (λ
 made_there f (Some z) (Some y) x s e = let h : z ≡ x = cc in ap Some (s ∙ ap f h)
 made_there f (Some z) None x s e = absurd s
 made_there f None b x s e = absurd s
-
-some_nat : (x y : ℕ) → Some x ≡ Some y → x ≡ y
-some_nat x y e = cc
 
 no_types : (v : Abstract) (x : Item) (q : ℕ) → import_of v x ≡ Some q → x.0 ≡ Types → ⊥
 no_types v (Types, i) q h e = absurd (cc)
@@ -211,7 +199,7 @@ module _ (c : Config) (v : Abstract) where
     brought : (x : Item) (q : ℕ) → IsLive v x → import_of v x ≡ Some q → Brought x q
     brought x q live e =
         let named = a.shaped.matched.items (renamed r x) (r.imports q) (import_carried x q live e) in
-        let found : (i : ℕ) × IsImportOf (IsLive v) v i × (r.imports i ≡ r.imports q) = ⊎_elim (λ h. h) (λ none. absurd none) (a.is.written.carried.imports.onto (r.imports q) (still_some (n.imports (r.imports q)) named.0 named.1)) in
+        let found : (i : ℕ) × IsImportOf (IsLive v) v i × (r.imports i ≡ r.imports q) = ⊎_elim (λ h. h) (λ none. absurd none) (a.is.written.carried.imports.onto (r.imports q) (is_some_by (n.imports (r.imports q)) named.0 named.1)) in
         let there : n.imports (r.imports found.0) ≡ Some (renamed_import r found.1.0) = made_there (renamed_import r) (v.imports found.0) (n.imports (r.imports found.0)) found.1.0 (a.is.written.carried.imports.same found.0 found.1) found.1.1 in
         let one : named.0 ≡ renamed_import r found.1.0 = some_import named.0 (renamed_import r found.1.0) (sym named.1 ∙ ap n.imports (sym found.2) ∙ there) in
         let items : renamed r x ≡ renamed r found.1.0.item = sym named.2 ∙ ap (λ (i : Import). i.item) one in
@@ -232,7 +220,7 @@ module _ (c : Config) (v : Abstract) where
         let second : n.imports (r.imports j) ≡ Some (renamed_import r z) = made_there (renamed_import r) (v.imports j) (n.imports (r.imports j)) z (a.is.written.carried.imports.same j (z, ez, lz)) ez in
         let from_y : import_of n (renamed r y.item) ≡ Some (r.imports i) = a.shaped.matched.imports (r.imports i) (renamed_import r y) first in
         let from_z : import_of n (renamed r z.item) ≡ Some (r.imports j) = a.shaped.matched.imports (r.imports j) (renamed_import r z) second in
-        some_nat (r.imports i) (r.imports j) (sym from_y ∙ ap (λ (k : Item). import_of n (renamed r k)) (hy ∙ sym hz) ∙ from_z)
+        same_Some (r.imports i) (r.imports j) (sym from_y ∙ ap (λ (k : Item). import_of n (renamed r k)) (hy ∙ sym hz) ∙ from_z)
 
     total : (space : Space) (i j : ℕ) → IsLive v (space, i) → IsLive v (space, j) → Ordered (ByImport v space) i j
     total Types i j li lj = compared i j

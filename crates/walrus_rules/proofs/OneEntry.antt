@@ -1,6 +1,6 @@
 -- Entries are told by what they say: each comes back from that.
 use Rattle.std.proofs.Common.{◌≡◌, ℕ, Bool, false, List, [], ◌∷◌, map, refl, sym, ap, ap₂, ◌∙◌}
-use Rattle.std.specs.Prelude.{ℤ, Option, Some, None, option_map, unwrap_or, All, nat_eq, if◌then◌else◌}
+use Rattle.std.specs.Prelude.{Option, Some, None, option_map, unwrap_or, All, nat_eq, if◌then◌else◌}
 use Rattle.wasm_forms.specs.declared.types.RawHeap.{RawHeap}
 use Rattle.wasm_forms.specs.declared.types.RawHeap.TheVariants as raw_heap
 use Rattle.wasm_forms.specs.declared.types.RawRef.{RawRef}
@@ -20,7 +20,7 @@ use Rattle.walrus_base.specs.Types.{RefType}
 use Rattle.walrus_types.specs.Operators.{Space, Functions, Tables, Memories, Tags, Globals, Arg, Index, Number, Byte, S32, S64, Bits32, Bits64, Heap, Op}
 use Rattle.walrus_model.specs.Abstract.{TableType, MemoryType, GlobalType, Table, Global, DataKind, PassiveData, ActiveData, DataSegment, Export}
 use Rattle.walrus_model.specs.Constants.{const_of, consts_of}
-use Rattle.walrus_model.specs.Sections.{ref_of, table_type_of, memory_type_of, global_type_of, table_of, global_of, data_kind, data_of, export_of, space_of}
+use Rattle.walrus_model.specs.Sections.{ref_of, table_type_of, global_type_of, table_of, global_of, data_kind, data_of, export_of, space_of}
 use Rattle.walrus_rules.proofs.OneGroup.{map_back, heap_stands, val_stands}
 use Rattle.walrus_rules.proofs.OneText.{raw_heap_of, raw_val_of, heap_back, val_back}
 
@@ -29,11 +29,6 @@ use Rattle.walrus_rules.proofs.OneText.{raw_heap_of, raw_val_of, heap_back, val_
 abbrev index_in : List Arg → ℕ
 index_in (Index x ∷ args) = x.1
 index_in args = 0
-
-abbrev integer_in : List Arg → ℤ → ℤ
-integer_in (S32 z ∷ args) d = z
-integer_in (S64 z ∷ args) d = z
-integer_in args d = d
 
 abbrev bits_in : List Arg → ℕ
 bits_in (Bits32 n ∷ args) = n
@@ -134,9 +129,6 @@ ref_back r h = ap (λ (t : RawHeap). record { nullable = r.nullable; heap = t })
 
 abbrev pub raw_memory : MemoryType → RawLimits
 raw_memory m = record { minimum = m.limits.minimum; maximum = m.limits.maximum; shared = m.shared; wide = m.limits.wide; page = m.page_exponent }
-
-pub memory_type_back : (l : RawLimits) → raw_memory (memory_type_of l) ≡ l
-memory_type_back l = refl
 
 abbrev pub raw_table_type : TableType → RawTableType
 raw_table_type t = record { element = raw_ref t.element; limits = record { minimum = t.limits.minimum; maximum = t.limits.maximum; shared = false; wide = t.limits.wide; page = None } }

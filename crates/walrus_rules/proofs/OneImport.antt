@@ -119,9 +119,6 @@ record SameDesc (i : ℕ) (d e : RawDesc) : Type 0 where
   globals : option_to_list (imported_global i d) ≡ option_to_list (imported_global i e)
   tags : option_to_list (imported_tag i d) ≡ option_to_list (imported_tag i e)
 
-apart : {a b : Space} → a ≡ b → subsection a ≡ subsection b
-apart e = ap subsection e
-
 one_desc : (i : ℕ) (d e : RawDesc) → DescStands d → DescStands e → SameDesc i d e → d ≡ e
 one_desc i (descs.Function t) (descs.Function u) h g s = ap (λ (f : Function). descs.Function f.ty) (one_some _ _ s.functions)
 one_desc i (descs.Function t) (descs.Table u) h g s = absurd (cc (s.kind))

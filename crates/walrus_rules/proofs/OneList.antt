@@ -6,7 +6,7 @@ use Rattle.std.proofs.lemmas.List.Elements as elements
 use Rattle.wasm_forms.proofs.Bind.{some_same, some_not_none}
 use Rattle.walrus_rules.proofs.OneGroup.{map_back}
 
-got_at : {X : Type 0} (xs ys : List X) → ((i : ℕ) → slice_get xs i ≡ slice_get ys i) → xs ≡ ys
+pub got_at : {X : Type 0} (xs ys : List X) → ((i : ℕ) → slice_get xs i ≡ slice_get ys i) → xs ≡ ys
 got_at [] [] h = refl
 got_at [] (y ∷ ys) h = absurd (some_not_none y (sym (h 0)))
 got_at (x ∷ xs) [] h = absurd (some_not_none x (h 0))

@@ -1,10 +1,10 @@
 -- The namings of a text give to each subject what its maps hold for it, so that they tell the maps.
-use Rattle.std.proofs.Common.{◌≡◌, ℕ, Bool, true, false, List, [], ◌∷◌, ◌++◌, map, refl, sym, ap, ap₂, ◌∙◌, arith, inl, inr, append_assoc}
+use Rattle.std.proofs.Common.{◌≡◌, ℕ, Bool, true, false, List, [], ◌∷◌, ◌++◌, map, refl, sym, ap, ap₂, ◌∙◌, arith}
 use Rattle.std.specs.Prelude.{◌≢◌, Option, Some, None, All, flat_map, option_to_list, ◌==◌, ◌&&◌, if◌then◌else◌}
 use Rattle.std.specs.List.{AllByRecursion}
-use Rattle.std.proofs.lemmas.Bool.Decides.{eqb_tells}
 use Rattle.std.proofs.lemmas.List.{append-nil}
 use Rattle.std.proofs.lemmas.List.Elements.{All-head, All-tail, recursion_from_All}
+use Rattle.std.proofs.lemmas.Bool.{eqb-true}
 use mathlib.Core.Path.{fun_ext}
 use Rattle.wasm_payloads.specs.declared.naming.NameSpace.{NameSpace}
 use Rattle.wasm_payloads.specs.declared.naming.NameSpace.TheVariants as spaces
@@ -17,26 +17,21 @@ use Rattle.walrus_rules.specs.Spelling.{MapStands, NamesStand}
 use Rattle.walrus_functions.proofs.LawOrder.{Sorted, sorted_of}
 use Rattle.wasm_operators.proofs.OneStands.{and_both}
 use Rattle.walrus_rules.proofs.OneName.{looked, looked_at, Lower, MapGood, one_map, one_maps}
+use Rattle.walrus_rules.proofs.TextNames.{given_append}
 
 -- ---- namings one after another
 
-given_both : (xs ys : List Named) (x : Subject) → names_given (xs ++ ys) x ≡ names_given xs x ++ names_given ys x
-given_both [] ys x = refl
-given_both (n ∷ xs) ys x =
-    ap (λ l. (if is_same (naming_of n).0 x then (naming_of n).1 ∷ [] else []) ++ l) (given_both xs ys x)
-    ∙ sym (append_assoc (if is_same (naming_of n).0 x then (naming_of n).1 ∷ [] else []) (names_given xs x) (names_given ys x))
-
 given_each : {A : Type 0} (f : A → List Named) (xs : List A) (x : Subject) → names_given (flat_map f xs) x ≡ flat_map (λ y. names_given (f y) x) xs
 given_each f [] x = refl
-given_each f (y ∷ ys) x = given_both (f y) (flat_map f ys) x ∙ ap (λ l. names_given (f y) x ++ l) (given_each f ys x)
+given_each f (y ∷ ys) x = given_append (f y) (flat_map f ys) x ∙ ap (λ l. names_given (f y) x ++ l) (given_each f ys x)
 
 -- what the four parts of a text give
 parts_given : (t : NameText) (x : Subject) → names_given (namings_of t) x ≡ names_given (module_naming t.module_name) x ++ names_given (space_namings t spaces.Functions) x ++ flat_map (λ f. names_given (function_namings f) x) t.locals ++ flat_map (λ s. names_given (space_namings t s) x) further_spaces
 parts_given t x =
-    given_both (module_naming t.module_name ++ space_namings t spaces.Functions ++ flat_map function_namings t.locals) (flat_map (space_namings t) further_spaces) x
+    given_append (module_naming t.module_name ++ space_namings t spaces.Functions ++ flat_map function_namings t.locals) (flat_map (space_namings t) further_spaces) x
     ∙ ap₂ ◌++◌
-    (given_both (module_naming t.module_name ++ space_namings t spaces.Functions) (flat_map function_namings t.locals) x
-    ∙ ap₂ ◌++◌ (given_both (module_naming t.module_name) (space_namings t spaces.Functions) x) (given_each function_namings t.locals x))
+    (given_append (module_naming t.module_name ++ space_namings t spaces.Functions) (flat_map function_namings t.locals) x
+    ∙ ap₂ ◌++◌ (given_append (module_naming t.module_name) (space_namings t spaces.Functions) x) (given_each function_namings t.locals x))
     (given_each (space_namings t) further_spaces x)
 
 none_each : {A B : Type 0} (f : A → List B) (xs : List A) → ((x : A) → f x ≡ []) → flat_map f xs ≡ []
@@ -142,9 +137,6 @@ one_space Elements Elements e = refl
 one_space DataSegments DataSegments e = refl
 one_space a b e = absurd (omega (arith, e))
 
-equal_by : (a b : ℕ) → (a == b) ≡ true → a ≡ b
-equal_by a b is = elim (eqb_tells a b) [ inl h ↦ h.1 | inr h ↦ absurd (cc (is, h.0)) ]
-
 untrue : false ≡ true → ⊥
 untrue e = cc
 
@@ -158,10 +150,10 @@ same_subject (ALocal f a) TheModule is = absurd (untrue is)
 same_subject (ALocal f a) (AnItem b) is = absurd (untrue is)
 same_subject (AnItem a) (AnItem b) is =
     let both = and_both (subsection a.0 == subsection b.0) (a.1 == b.1) is in
-    ap₂ (λ (s : Space) (i : ℕ). AnItem (s, i)) (one_space a.0 b.0 (equal_by (subsection a.0) (subsection b.0) both.0)) (equal_by a.1 b.1 both.1)
+    ap₂ (λ (s : Space) (i : ℕ). AnItem (s, i)) (one_space a.0 b.0 (eqb-true (subsection a.0) (subsection b.0) both.0)) (eqb-true a.1 b.1 both.1)
 same_subject (ALocal f a) (ALocal g b) is =
     let both = and_both (f == g) (a == b) is in
-    ap₂ ALocal (equal_by f g both.0) (equal_by a b both.1)
+    ap₂ ALocal (eqb-true f g both.0) (eqb-true a b both.1)
 
 module _ (n : Abstract) where
   abbrev IsThere : Named → Type 0

@@ -23,13 +23,14 @@ use Rattle.walrus_rules.proofs.BytesOnce.{bytes_once}
 use Rattle.walrus_rules.proofs.KeptLives.{kept_lives}
 use Rattle.walrus_rules.proofs.KeptOnce.{kept_same, collected_same}
 use Rattle.walrus_model.proofs.Lists.{Contains-uncons, Contains-none}
+use Rattle.walrus_model.proofs.Orders.{is_some_by}
 use Rattle.walrus_rules.proofs.OneModule.{same_fields}
 use Rattle.walrus_rules.proofs.OneSpelling.{spelled_once}
 use Rattle.walrus_rules.proofs.Plain.{masked, plain, pair, plain_written, plain_premises}
 use Rattle.walrus_rules.proofs.ReadsOnce.{reads_once_lem}
 use Rattle.walrus_rules.proofs.Straight.{straight, moved, carried}
 use Rattle.walrus_rules.proofs.TextImports.{imports_match}
-use Rattle.walrus_rules.proofs.Things.{still_there, both_there, some_same}
+use Rattle.walrus_rules.proofs.Things.{both_there, some_same}
 use Rattle.walrus_rules.proofs.Undeclared.{PlainCustoms, BringsNoSegment, left_written}
 
 -- ---- what is known of a module that was read
@@ -71,7 +72,7 @@ module _ (c : Config) (m v w : Abstract) (p : ParsedAs c m v) (k : Collected v w
       let both = both_there (λ a b. b ≡ renamed_import (straight (moved c m v p)) a) (m.imports i) (v.imports i) ((carried c m v p).imports.same i chosen) in
       (both.0, both.2, ap (λ (a : Import). a.item.0) (some_same x both.1 (sym e ∙ both.3) ∙ both.4)))
       (λ none. absurd none)
-      ((carried c m v p).imports.onto i (still_there (v.imports i) x e))
+      ((carried c m v p).imports.onto i (is_some_by (v.imports i) x e))
 
   kept_imports : BringsNoSegment m → BringsNoSegment w
   kept_imports h i x e is =
@@ -88,9 +89,9 @@ module _ (c : Config) (m v w x y : Abstract) (p : ParsedAs c m v) (q : ParsedAs 
       by_look : (o : Option Function) → x.functions i ≡ o → masked o (m.functions i) ≡ Some f → masked (y.functions i) (m.functions i) ≡ Some f
       by_look None e h = absurd (cc)
       by_look (Some g) e h =
-          let a = pair c m v x p cx holds i (still_there (x.functions i) g e) in
+          let a = pair c m v x p cx holds i (is_some_by (x.functions i) g e) in
           let l = kept_same c m v w p q (Functions, i) a.kept in
-          let both = both_there _ (m.functions i) (w.functions i) ((carried c m w q).functions.same i (still_there (m.functions i) a.old a.at_m)) in
+          let both = both_there _ (m.functions i) (w.functions i) ((carried c m w q).functions.same i (is_some_by (m.functions i) a.old a.at_m)) in
           let at : y.functions i ≡ Some both.1 = cy.functions.kept i l ∙ both.3 in
           ap (λ z. masked z (m.functions i)) at ∙ h
 

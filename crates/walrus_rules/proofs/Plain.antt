@@ -17,6 +17,8 @@ use Rattle.walrus_model.specs.Refers.{IsUsed, named_by, function_names, written_
 use Rattle.walrus_model.specs.Renaming.{Renaming, joined, renamed_table, renamed_memory, renamed_tag, renamed_global, renamed_element, renamed_data, renamed_import}
 use Rattle.walrus_model.specs.Rules.{Holds}
 use Rattle.walrus_model.specs.Same.{BothAnd, SameBody, SameKind, SameFunction}
+use Rattle.walrus_model.proofs.Orders.{is_some_by}
+use Rattle.walrus_model.proofs.Standing.{some_of}
 use Rattle.walrus_rules.specs.Chain.{IsBehind, IsWholeBody, ParsedAs}
 use Rattle.walrus_rules.specs.Once.{Premises}
 use Rattle.walrus_rules.specs.Pinned.{HasType, IsDeclared, BeginsBefore, TypeGoesBefore, GoesBefore, IsWrittenAs}
@@ -24,7 +26,7 @@ use Rattle.walrus_rules.proofs.Alike.{table_one, memory_one, tag_one, global_one
 use Rattle.walrus_rules.proofs.JoinedSteps.{used_there, used_back, refs_there, refs_back, by_kinds, function_joined}
 use Rattle.walrus_rules.proofs.SameVal.{placed, unplaced}
 use Rattle.walrus_rules.proofs.Straight.{straight, moved, carried, was_read, named_same}
-use Rattle.walrus_rules.proofs.Things.{still_there, both_there, some_same, body_at, body_is, local_kind}
+use Rattle.walrus_rules.proofs.Things.{both_there, some_same, body_at, body_is, local_kind}
 
 -- ---- the module
 
@@ -70,10 +72,6 @@ masked_some (Some x) q h = refl
 unmasked : {X Y : Type 0} (o : Option X) (q : Option Y) → IsSome (masked o q) → IsSome o
 unmasked None q h = absurd (cc)
 unmasked (Some x) q h = refl
-
-pub some_at : {X : Type 0} (o : Option X) → IsSome o → (x : X) × (o ≡ Some x)
-some_at None h = absurd (cc)
-some_at (Some x) h = (x, refl)
 
 pub both_of : {X Y : Type 0} (S : X → Y → Type 0) (a : Option X) (b : Option Y) (x : X) (y : Y) → a ≡ Some x → b ≡ Some y → S x y → BothAnd S a b
 both_of S (Some x) (Some y) u v d e s = let p : x ≡ u = cc in let q : y ≡ v = cc in subst (λ z. S z y) (sym p) (subst (S u) (sym q) s)
@@ -123,9 +121,9 @@ module _ (c : Config) (m v w : Abstract) (p : ParsedAs c m v) (k : Collected v w
 
   pub pair : (i : ℕ) → IsSome (w.functions i) → Pair i
   pair i h =
-      let g = some_at (w.functions i) h in
+      let g = some_of (w.functions i) h in
       let left = k.functions.left i g.0 g.1 in
-      let read : IsSome (m.functions i) = was_read c m v p i (still_there (v.functions i) g.0 left.1) in
+      let read : IsSome (m.functions i) = was_read c m v p i (is_some_by (v.functions i) g.0 left.1) in
       let both = both_there (SameFunction r i) (m.functions i) (v.functions i) ((carried c m v p).functions.same i read) in
       let one : both.1 ≡ g.0 = some_same both.1 g.0 (sym both.3 ∙ left.1) in
       record {
@@ -141,7 +139,7 @@ module _ (c : Config) (m v w : Abstract) (p : ParsedAs c m v) (k : Collected v w
 
   pub there : (x : Item) → IsLive w x → IsLive u x
   there (Types, i) h = h
-  there (Functions, i) h = still_there (u.functions i) ((pair i h).old) ((pair i h).at_u)
+  there (Functions, i) h = is_some_by (u.functions i) ((pair i h).old) ((pair i h).at_u)
   there (Tables, i) h = h
   there (Memories, i) h = h
   there (Tags, i) h = h
@@ -186,7 +184,7 @@ module _ (c : Config) (m v w : Abstract) (p : ParsedAs c m v) (k : Collected v w
   from_u : (i : ℕ) (a : Body) → body_of u i ≡ Some a → (b : Body) × Twins i a b
   from_u i a e =
       let g = body_at (u.functions i) a e in
-      let q = pair i (back (Functions, i) (still_there (u.functions i) g.0 g.1)) in
+      let q = pair i (back (Functions, i) (is_some_by (u.functions i) g.0 g.1)) in
       let one : q.old ≡ g.0 = some_same q.old g.0 (sym q.at_u ∙ g.1) in
       let kind : q.old.kind ≡ LocalFunction a = ap (λ (z : Function). z.kind) one ∙ g.2 in
       let local = local_kind r i a q.new.kind (subst (λ z. SameKind r i z q.new.kind) kind q.same.kind) in
@@ -195,7 +193,7 @@ module _ (c : Config) (m v w : Abstract) (p : ParsedAs c m v) (k : Collected v w
   pub from_w : (i : ℕ) (b : Body) → body_of w i ≡ Some b → (a : Body) × Twins i a b
   from_w i b e =
       let g = body_at (w.functions i) b e in
-      let q = pair i (still_there (w.functions i) g.0 g.1) in
+      let q = pair i (is_some_by (w.functions i) g.0 g.1) in
       let one : q.new ≡ g.0 = some_same q.new g.0 (sym q.at_w ∙ g.1) in
       let kind : q.new.kind ≡ LocalFunction b = ap (λ (z : Function). z.kind) one ∙ g.2 in
       let local = local_back i q.old.kind b (subst (λ z. SameKind r i q.old.kind z) kind q.same.kind) in
@@ -231,11 +229,11 @@ module _ (c : Config) (m v w : Abstract) (p : ParsedAs c m v) (k : Collected v w
         behind : (y : ℕ) → IsDeclared b y → HasType b y t → move i h.0 < y
         behind y d e =
             let x = used_back move i a b z.same y d.0 in
-            let ty = some_at (a.local_type x.0) (typed x.0 x.1) in
+            let ty = some_of (a.local_type x.0) (typed x.0 x.1) in
             let one : ty.0 ≡ t = one_type x.0 ty.0 t ty.1 (ap b.local_type x.2 ∙ e) in
             let away : Contains a.parameters x.0 → ⊥ = a_parameter x.0 x.1 (λ at. d.1 (subst (Contains b.parameters) x.2 at)) in
             let lt : h.0 < x.0 = h.1.2 x.0 (x.1, away) (ty.1 ∙ ap Some one) in
-            subst (λ n. move i h.0 < n) x.2 (z.whole.rise h.0 x.0 (still_there (a.local_type h.0) s h.1.1) (typed x.0 x.1) lt)
+            subst (λ n. move i h.0 < n) x.2 (z.whole.rise h.0 x.0 (is_some_by (a.local_type h.0) s h.1.1) (typed x.0 x.1) lt)
 
     type_goes : (s t : ValType ℕ) → TypeGoesBefore a s t → TypeGoesBefore b s t
     type_goes s t (inl h) = inl h
@@ -243,7 +241,7 @@ module _ (c : Config) (m v w : Abstract) (p : ParsedAs c m v) (k : Collected v w
 
     goes_by : (s t : ValType ℕ) (x y : ℕ) → HasType a x s → HasType a y t → (TypeGoesBefore a s t) ⊎ ((s ≡ t) × (x < y)) → (TypeGoesBefore b s t) ⊎ ((s ≡ t) × (move i x < move i y))
     goes_by s t x y e f (inl h) = inl (type_goes s t h)
-    goes_by s t x y e f (inr h) = inr (h.0, z.whole.rise x y (still_there (a.local_type x) s e) (still_there (a.local_type y) t f) h.1)
+    goes_by s t x y e f (inr h) = inr (h.0, z.whole.rise x y (is_some_by (a.local_type x) s e) (is_some_by (a.local_type y) t f) h.1)
 
     goes : (x y : ℕ) → GoesBefore a x y → GoesBefore b (move i x) (move i y)
     goes x y (s, (t, (e, f, h))) = (s, (t, (z.whole.types x s e, z.whole.types y t f, goes_by s t x y e f h)))
@@ -251,14 +249,14 @@ module _ (c : Config) (m v w : Abstract) (p : ParsedAs c m v) (k : Collected v w
   -- ---- what is named
 
   pub kept_item : (x : Item) → IsLive w x → Kept v x × IsLive v x
-  kept_item (Types, i) h = let g = some_at (w.types i) h in let l = k.types.left i g.0 g.1 in (l.0, still_there (v.types i) g.0 l.1)
-  kept_item (Functions, i) h = let g = some_at (w.functions i) h in let l = k.functions.left i g.0 g.1 in (l.0, still_there (v.functions i) g.0 l.1)
-  kept_item (Tables, i) h = let g = some_at (w.tables i) h in let l = k.tables.left i g.0 g.1 in (l.0, still_there (v.tables i) g.0 l.1)
-  kept_item (Memories, i) h = let g = some_at (w.memories i) h in let l = k.memories.left i g.0 g.1 in (l.0, still_there (v.memories i) g.0 l.1)
-  kept_item (Tags, i) h = let g = some_at (w.tags i) h in let l = k.tags.left i g.0 g.1 in (l.0, still_there (v.tags i) g.0 l.1)
-  kept_item (Globals, i) h = let g = some_at (w.globals i) h in let l = k.globals.left i g.0 g.1 in (l.0, still_there (v.globals i) g.0 l.1)
-  kept_item (Elements, i) h = let g = some_at (w.elements i) h in let l = k.elements.left i g.0 g.1 in (l.0, still_there (v.elements i) g.0 l.1)
-  kept_item (DataSegments, i) h = let g = some_at (w.data_segments i) h in let l = k.data_segments.left i g.0 g.1 in (l.0, still_there (v.data_segments i) g.0 l.1)
+  kept_item (Types, i) h = let g = some_of (w.types i) h in let l = k.types.left i g.0 g.1 in (l.0, is_some_by (v.types i) g.0 l.1)
+  kept_item (Functions, i) h = let g = some_of (w.functions i) h in let l = k.functions.left i g.0 g.1 in (l.0, is_some_by (v.functions i) g.0 l.1)
+  kept_item (Tables, i) h = let g = some_of (w.tables i) h in let l = k.tables.left i g.0 g.1 in (l.0, is_some_by (v.tables i) g.0 l.1)
+  kept_item (Memories, i) h = let g = some_of (w.memories i) h in let l = k.memories.left i g.0 g.1 in (l.0, is_some_by (v.memories i) g.0 l.1)
+  kept_item (Tags, i) h = let g = some_of (w.tags i) h in let l = k.tags.left i g.0 g.1 in (l.0, is_some_by (v.tags i) g.0 l.1)
+  kept_item (Globals, i) h = let g = some_of (w.globals i) h in let l = k.globals.left i g.0 g.1 in (l.0, is_some_by (v.globals i) g.0 l.1)
+  kept_item (Elements, i) h = let g = some_of (w.elements i) h in let l = k.elements.left i g.0 g.1 in (l.0, is_some_by (v.elements i) g.0 l.1)
+  kept_item (DataSegments, i) h = let g = some_of (w.data_segments i) h in let l = k.data_segments.left i g.0 g.1 in (l.0, is_some_by (v.data_segments i) g.0 l.1)
 
   pub read_from : {X : Type 0} (K A : ℕ → Type 0) (S : ℕ → X → X → Type 0) (xs ys : ℕ → Option X) → Carries K A (λ i. i) S xs ys → ((j : ℕ) → A j → ⊥) → (j : ℕ) → IsSome (ys j) → K j
   read_from K A S xs ys d away j h = ⊎_elim (λ (z : (i : ℕ) × K i × (i ≡ j)). subst K z.2 z.1) (λ a. absurd (away j a)) (d.onto j h)
@@ -268,7 +266,7 @@ module _ (c : Config) (m v w : Abstract) (p : ParsedAs c m v) (k : Collected v w
 
   wanted_type : (i : ℕ) (o : Option TypeDef) → m.types i ≡ o → own_name v (AnItem (Types, i)) ≡ masked o (name_of c m (AnItem (Types, i)))
   wanted_type i None e = p.added i (past_of p.types i (sym (p.types_read i) ∙ e))
-  wanted_type i (Some x) e = p.items (Types, i) (still_there (m.types i) x e)
+  wanted_type i (Some x) e = p.items (Types, i) (is_some_by (m.types i) x e)
 
   named_v : (x : Item) → IsLive v x → own_name v (AnItem x) ≡ wanted c m (AnItem x)
   named_v (Types, i) h = wanted_type i (m.types i) refl
@@ -453,7 +451,7 @@ module _ (c : Config) (m v w : Abstract) (p : ParsedAs c m v) (k : Collected v w
   functions_name : (i : ℕ) (o : Option Function) → w.functions i ≡ o → named_by function_names (masked o (m.functions i)) ≡ named_by function_names o
   functions_name i None e = refl
   functions_name i (Some g) e =
-      let a = pair i (still_there (w.functions i) g e) in
+      let a = pair i (is_some_by (w.functions i) g e) in
       let one : a.new ≡ g = some_same a.new g (sym a.at_w ∙ e) in
       ap (named_by function_names) a.at_m
       ∙ sym (named_same move i (Some a.old) (Some a.new) (λ h. a.same) (λ h. refl))

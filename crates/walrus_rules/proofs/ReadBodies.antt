@@ -10,6 +10,7 @@ use Rattle.wasm_entries.specs.Record as entries
 use Rattle.std.proofs.lemmas.Slice.Eq.{bytes_eq-Decides}
 use Rattle.wasm_frames.specs.Record as wire
 use Rattle.wasm_payloads.specs.Names.{Named}
+use Rattle.walrus_types.proofs.Noted.{or_left}
 use Rattle.walrus_code.specs.Names.{Lookup}
 use Rattle.walrus_bodies.specs.Body.{context, BodyReads}
 use Rattle.walrus_bodies.specs.FunctionTypes.{is_function_def}
@@ -25,7 +26,7 @@ use Rattle.walrus_rules.specs.Headline.{ReadsBody, Reads}
 use Rattle.walrus_rules.specs.Sections.{module_of}
 use Rattle.walrus_model.proofs.PipelineOps.{from_map}
 use Rattle.walrus_rules.proofs.TextImports.{imports_match}
-use Rattle.walrus_rules.proofs.TextShaped.{all_at, all_append}
+use Rattle.walrus_rules.proofs.TextShaped.{all_at, all_append, local_same}
 
 -- what a body of a function of this type says
 pub record SaidIn (c : Config) (m : Abstract) (names : Lookup) (ty : ℕ) (b : Body) : Type 0 where
@@ -40,9 +41,6 @@ pub record IsRead (c : Config) (m : Abstract) : Type 0 where
   pub imports : ImportsMatch m
   pub customs : (s : Custom) → Contains m.customs s → (s.name ≢ codes "name") × (s.name ≢ codes "producers")
 
-local_same : (b d : Body) → LocalFunction b ≡ LocalFunction d → d ≡ b
-local_same b d e = cc
-
 filtered : {X : Type 0} (p : X → Bool) (xs : List X) (x : X) → Contains (filter p xs) x → p x ≡ true
 filtered p xs x at = subst (λ y. p y ≡ true) at.2 (filter_passes p xs at.0 x at.1)
 
@@ -55,13 +53,9 @@ later true b c e = refl
 later false true c e = refl
 later false false c e = absurd (cc)
 
-first : (a b : Bool) → a ≡ true → (a || b) ≡ true
-first true b e = refl
-first false b e = absurd (cc)
-
 not_apart : (name : List ℕ) → not (is_apart name) ≡ true → (name ≢ codes "name") × (name ≢ codes "producers")
 not_apart name h = (
-  (λ e. refused (is_apart name) (first (bytes_eq name (codes "name")) (bytes_eq name (codes "producers") || is_debug_name name) ((bytes_eq-Decides name (codes "name")).1 e)) h),
+  (λ e. refused (is_apart name) (or_left (bytes_eq name (codes "name")) (bytes_eq name (codes "producers") || is_debug_name name) ((bytes_eq-Decides name (codes "name")).1 e)) h),
   (λ e. refused (is_apart name) (later (bytes_eq name (codes "name")) (bytes_eq name (codes "producers")) (is_debug_name name) ((bytes_eq-Decides name (codes "producers")).1 e)) h),
 )
 

@@ -31,7 +31,6 @@ use Rattle.walrus_rules.specs.Examples.{two_functions_bytes, one_function_bytes}
 use Rattle.walrus_rules.specs.Spelling.{IsSpelledAs}
 use Rattle.walrus_rules.proofs.Worked.{one_spelled}
 use Rattle.walrus_model.specs.Sections.{body_with}
-use Rattle.walrus_model.specs.Supported.{IsOfFunction}
 use Rattle.walrus_model.proofs.Supported.{are_supported}
 use Rattle.walrus_model.specs.Abstract.{Body}
 use Rattle.walrus_model.specs.Declared.{ref_func, NothingUndeclared}
@@ -225,9 +224,6 @@ in_order =
     (All-cons (StandsBefore 7) 10 [] (stands 7 11 7 10 (omega arith) refl refl) (All-nil (StandsBefore 7)))
     (AllPairs-cons StandsBefore 10 [] (All-nil (StandsBefore 10)) (λ i j d less at. absurd (omega arith)))))
 
-of_function : (index : ℕ) → All IsOfFunction (export_f index ∷ [])
-of_function index = All-cons IsOfFunction (export_f index) [] refl (All-nil IsOfFunction)
-
 -- ---- no function is named by ref.func
 
 one_alone : (x y : Op) → Contains (x ∷ []) y → x ≡ y
@@ -259,12 +255,12 @@ one_declares f u = ⊎_elim (λ body. just_ends body.1 f (one_ends body.0 body.1
 
 pub two_functions_read : (c : Config) → ReadsSoFar c two_functions_bytes two_functions
 two_functions_read c =
-    reads_so_far c two_functions_bytes two_functions_sections (([], just_end) ∷ ([], just_end) ∷ []) two_frames (are_supported two_functions_sections (of_function 1)) in_order refl
+    reads_so_far c two_functions_bytes two_functions_sections (([], just_end) ∷ ([], just_end) ∷ []) two_frames (are_supported two_functions_sections) in_order refl
     (body_read c two_functions_sections (locals_from 0 0), (body_read c two_functions_sections (locals_from 0 0), tt)) two_declare
 
 pub one_function_read : (c : Config) → ReadsSoFar c one_function_bytes one_function
 one_function_read c =
-    reads_so_far c one_function_bytes one_function_sections (([], just_end) ∷ []) one_frames (are_supported one_function_sections (of_function 0)) in_order refl
+    reads_so_far c one_function_bytes one_function_sections (([], just_end) ∷ []) one_frames (are_supported one_function_sections) in_order refl
     (body_read c one_function_sections (locals_from 0 0), tt) one_declares
 
 -- what the text of the worked row says is this module

@@ -3,15 +3,15 @@ use Rattle.std.proofs.Common.{◌≡◌, ℕ, zero, suc, ◌<◌, ◌≤◌, Lis
 use Rattle.std.specs.Prelude.{Option, Some, None, IsSome, is_some, Contains, option_map, slice_get}
 use Rattle.walrus_base.specs.Types.{comp_names}
 use Rattle.walrus_types.specs.Operators.{Space, Types, Functions, Globals, Elements, Item, type_item}
-use Rattle.walrus_model.specs.Abstract.{Abstract, TypeDef, Function, Uninitialised, Global, Memory}
+use Rattle.walrus_model.specs.Abstract.{Abstract, TypeDef, Function, Uninitialised, Global}
 use Rattle.walrus_model.specs.Config.{Config}
-use Rattle.walrus_model.specs.Kept.{Kept, IsSpareMemory}
+use Rattle.walrus_model.specs.Kept.{Kept}
 use Rattle.walrus_model.specs.Live.{IsLive}
 use Rattle.walrus_model.specs.Names.{body_of}
 use Rattle.walrus_model.specs.Order.{OriginsInOrder, ByImport}
 use Rattle.walrus_model.specs.Pipeline.{Collected, ReachedIsLive}
-use Rattle.walrus_model.specs.Reached.{Reached, root, step}
-use Rattle.walrus_model.specs.Refers.{named_by, memory_names, written_in, type_names}
+use Rattle.walrus_model.specs.Reached.{root}
+use Rattle.walrus_model.specs.Refers.{named_by, written_in, type_names}
 use Rattle.walrus_model.specs.Renaming.{unchanged}
 use Rattle.walrus_model.specs.Roots.{exported, start}
 use Rattle.walrus_model.specs.Rules.{Holds}
@@ -24,6 +24,7 @@ use Rattle.walrus_model.proofs.PipelineOps.{from_map}
 use Rattle.walrus_model.specs.RulesCarried.{TakenOver}
 use Rattle.walrus_rules.proofs.StepPlain.{IsPlain}
 use Rattle.walrus_rules.proofs.StepParsed.{in_place, Behind, carried_parsed, globals_stay, by_below, live_forth}
+use Rattle.walrus_rules.proofs.SettleReach.{kept_closed}
 
 abbrev GlobalsInOrder : ℕ → ℕ → Option Global → Option Global → Type 0
 GlobalsInOrder i j a b = BothAnd (OriginsInOrder i j) (option_map (λ g. g.origin) a) (option_map (λ g. g.origin) b)
@@ -84,21 +85,10 @@ module _ (c : Config) (m v : Abstract) (p : ParsedAs c m v) (plain : IsPlain m) 
 
 -- ---- gc
 
-no_memory_names : (y : Item) (o : Option Memory) → Contains (named_by memory_names o) y → ⊥
-no_memory_names y None h = Contains-none y h
-no_memory_names y (Some x) h = Contains-none y h
-
--- what gc keeps names only what it keeps
-pub kept_named : (v : Abstract) (x y : Item) → Kept v x → Contains (written_in v x) y → Kept v y
-kept_named v x y k at = ⊎_elim
-    (λ (h : Reached v x). inl (step x y h (inl at)))
-    (λ (s : IsSpareMemory v x). absurd (no_memory_names y (v.memories s.memory) (subst (λ (z : Item). Contains (written_in v z) y) s.is at)))
-    k
-
 pub collected_taken : (v w : Abstract) → Collected v w → ReachedIsLive v → ((i : ℕ) (f : Function) → v.functions i ≡ Some f → f.kind ≡ Uninitialised → ⊥) → TakenOver (Kept v) (λ x. ⊥) (ByImport v) (ByImport w) unchanged v w
 collected_taken v w c live made = record {
   carried = carried_collected v w c live made;
-  named = kept_named v;
+  named = kept_closed v;
   exported = λ e at. inl (root e.item (exported e at refl));
   started = λ f at. inl (root (Functions, f) (start f at refl));
   types_rise = λ i j a b lt. lt;

@@ -13,7 +13,7 @@ use Rattle.walrus_rules.specs.Headline.{Reads, ComesTo, ComesOutTooLarge}
 use Rattle.walrus_rules.specs.Pinned.{IsWrittenAs}
 use Rattle.walrus_rules.specs.Refused.{Refusal, Memory, DeadItem, NoIndex, TwoIndices, TooLarge, NotWritable, Caller, Another, PassesLimits, IsSayable}
 use Rattle.walrus_rules.specs.RunLaws.{IsFineSoFar, FineSoFar, OutputSoFar, OkSoFar, TooLargeSoFar, IsFewSoFar}
-use Rattle.walrus_rules.specs.SoFar.{ReadsSoFar, HasImported, RefusesSoFar}
+use Rattle.walrus_rules.specs.SoFar.{ReadsSoFar, HasUnwritten, RefusesSoFar}
 use Rattle.walrus_rules.specs.Spelling.{IsSpelledAs}
 use Rattle.walrus_rules.specs.Text.{sections_of}
 use Rattle.walrus_rules.specs.WellMade.{IsWellMade}
@@ -22,7 +22,7 @@ use Rattle.walrus_rules.proofs.DeclaredStays.{parsed_declared, left_declared}
 use Rattle.walrus_rules.proofs.FitsTold.{ok_fits}
 use Rattle.walrus_rules.proofs.NoCause.{well_no_cause}
 pub use Rattle.walrus_rules.proofs.ReadSoFar.{reads_so_far, so_far_says}
-use Rattle.walrus_rules.proofs.ReadLocal.{parsed_local, parsed_elements, left_local}
+use Rattle.walrus_rules.proofs.ReadLocal.{parsed_written, parsed_elements, left_written}
 use Rattle.walrus_rules.proofs.StepParsed.{live_v}
 use Rattle.walrus_rules.proofs.StepRead.{read_is_plain, steps_come_out_lem}
 use Rattle.walrus_rules.proofs.Straight.{not_there}
@@ -89,14 +89,14 @@ module _ (c : Config) (bytes : List ℕ) (m v w : Abstract) (read : ReadsSoFar c
   pub brought : BringsTo c m w
   brought = brings_itself c m v w parsed collected declared_left
 
-fine : (c : Config) (v : Abstract) → IsWellMade c v → NothingUndeclared v → (HasImported v → ⊥) → IsFineSoFar c v
-fine c v made nothing all_local = record { made = made; declared = nothing; all_local = all_local; no_cause = well_no_cause c v made; sayable = well_sayable c v made }
+fine : (c : Config) (v : Abstract) → IsWellMade c v → NothingUndeclared v → (HasUnwritten v → ⊥) → IsFineSoFar c v
+fine c v made nothing all_written = record { made = made; declared = nothing; all_written = all_written; no_cause = well_no_cause c v made; sayable = well_sayable c v made }
 
 pub fine_so_far : FineSoFar
 fine_so_far c bytes m v w read holds parsed collected = record {
-  parsed = fine c v (made_parsed c bytes m v w read holds parsed collected) (declared_parsed c bytes m v w read holds parsed collected) (parsed_local c bytes m read holds v parsed);
+  parsed = fine c v (made_parsed c bytes m v w read holds parsed collected) (declared_parsed c bytes m v w read holds parsed collected) (parsed_written c bytes m read holds v parsed);
   reached = reached_live c bytes m v w read holds parsed collected;
-  left = fine c w (made_left c bytes m v w read holds parsed collected) (declared_left c bytes m v w read holds parsed collected) (left_local c bytes m read holds v parsed w collected);
+  left = fine c w (made_left c bytes m v w read holds parsed collected) (declared_left c bytes m v w read holds parsed collected) (left_written c bytes m read holds v parsed w collected);
   brings = brought c bytes m v w read holds parsed collected;
 }
 
@@ -120,6 +120,6 @@ few_so_far c w (Err TooLarge) are h = tt
 few_so_far c w (Err Caller) are h = let no : false ≡ true = h.1.2 in cc
 few_so_far c w (Err DeadItem) are h = are.no_cause.all_there h
 few_so_far c w (Err TwoIndices) are h = are.no_cause.one_index h
-few_so_far c w (Err NoIndex) are h = ⊎_elim (λ lacks. are.no_cause.indices lacks) (λ imported. are.all_local imported) h
+few_so_far c w (Err NoIndex) are h = ⊎_elim (λ lacks. are.no_cause.indices lacks) (λ unwritten. are.all_written unwritten) h
 few_so_far c w (Err NotWritable) are h = ⊎_elim (λ bad. are.no_cause.spelled bad) (λ undeclared. are.declared undeclared.0 undeclared.1) h
 few_so_far c w (Err Another) are h = h

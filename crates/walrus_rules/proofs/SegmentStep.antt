@@ -1,6 +1,7 @@
 -- The declared segment: the module with it takes over the one without it.
 use Rattle.std.proofs.Common.{◌≡◌, ℕ, List, [], ◌∷◌, map, refl, sym, ap, ◌∙◌, subst, inr, ⊎_elim}
 use Rattle.std.specs.Prelude.{Option, Some, None, IsSome, is_some, Contains, flat_map}
+use Rattle.std.proofs.lemmas.Option.{same_Some}
 use Rattle.walrus_types.specs.Operators.{Space, Types, Functions, Tables, Memories, Tags, Globals, Elements, DataSegments, Item, Op, type_item, function_item, names_of, op_names}
 use Rattle.walrus_base.specs.Types.{val_names}
 use Rattle.walrus_model.specs.Abstract.{Abstract, Function, Uninitialised, Global, Body, Element, DeclaredElements, ListedFunctions, Import}
@@ -70,9 +71,6 @@ module _ (v : Abstract) (named : (x y : Item) → Contains (written_in v x) y �
       (λ (h : IsRefInGlobal (IsLive v) v f). live_get h.0 f h.1 h.2 h.4 h.5 h.6)
       u.named
 
-some_same : (i j : ℕ) → Some i ≡ Some j → i ≡ j
-some_same i j e = cc
-
 module _ (w : Abstract) (elements : ℕ → Option Element) (fs : List ℕ) (b : Between w (record w { elements = elements }) fs) (are : AreUndeclared (IsLive w) w fs) where
   abbrev u : Abstract
   u = record w { elements = elements }
@@ -80,7 +78,7 @@ module _ (w : Abstract) (elements : ℕ → Option Element) (fs : List ℕ) (b :
   -- the segment lists the functions
   segment_at : (gs : List ℕ) → SegmentIs elements gs b.segment → (j : ℕ) → b.segment ≡ Some j → elements j ≡ Some (record { kind = DeclaredElements; items = ListedFunctions gs })
   segment_at [] is j at = absurd (let none : None ≡ Some j = sym is ∙ at in cc)
-  segment_at (g ∷ gs) is j at = subst (λ k. elements k ≡ Some (record { kind = DeclaredElements; items = ListedFunctions (g ∷ gs) })) (some_same is.0 j (sym is.1 ∙ at)) is.2
+  segment_at (g ∷ gs) is j at = subst (λ k. elements k ≡ Some (record { kind = DeclaredElements; items = ListedFunctions (g ∷ gs) })) (same_Some is.0 j (sym is.1 ∙ at)) is.2
 
   pub the_segment : (j : ℕ) → b.segment ≡ Some j → elements j ≡ Some (record { kind = DeclaredElements; items = ListedFunctions fs })
   the_segment j at = segment_at fs b.is j at

@@ -15,6 +15,7 @@ use Rattle.walrus_model.specs.Rules.{Holds}
 use Rattle.walrus_model.proofs.Lists.{Contains-map, Contains-none}
 use Rattle.walrus_model.proofs.Steps.{given}
 use Rattle.walrus_model.proofs.PipelineOps.{from_map, kind_body_on, kind_body_back}
+use Rattle.walrus_model.proofs.Reach.{taken}
 use Rattle.walrus_rules.proofs.StepPlain.{IsPlain}
 use Rattle.walrus_rules.proofs.StepLeaves.{declares_none}
 use Rattle.walrus_rules.proofs.SettleReach.{SetsAre, image_kept, segment_kept}
@@ -34,12 +35,6 @@ body_pair_on r i None b s d e = absurd s
 pub body_there : (o : Option Function) (b : Body) → body_of_function o ≡ Some b → (f : Function) × (o ≡ Some f)
 body_there (Some f) b e = (f, refl)
 body_there None b e = absurd (cc)
-
--- what stands at the old number, where it is known what stands at the new one
-pub taken : {X : Type 0} (S : X → X → Type 0) (a b : Option X) (y : X) → BothAnd S a b → b ≡ Some y → (x : X) × (a ≡ Some x) × S x y
-taken S (Some x) (Some z) y s e = (x, refl, subst (λ w. S x w) (let p : z ≡ y = cc in p) s)
-taken S (Some x) None y s e = absurd s
-taken S None b y s e = absurd s
 
 -- ---- ref.func
 

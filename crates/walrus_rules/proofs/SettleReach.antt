@@ -75,11 +75,6 @@ module _ (r : Renaming) where
   on_memory_forth i (ActiveData memory offset) h = eq-eqb (r.numbers Memories memory) (r.numbers Memories i) (ap (r.numbers Memories) (eqb-true memory i h))
   on_memory_forth i PassiveData h = h
 
--- what is kept and no memory is reached
-pub kept_reached : (m : Abstract) (x : Item) → (x.0 ≡ Memories → ⊥) → Kept m x → Reached m x
-kept_reached m x other (inl h) = h
-kept_reached m x other (inr s) = absurd (other (ap (λ (y : Item). y.0) s.is))
-
 -- what a kept item names is kept
 pub kept_closed : (m : Abstract) (x y : Item) → Kept m x → Contains (written_in m x) y → Kept m y
 kept_closed m x y (inl h) at = inl (step x y h (inl at))

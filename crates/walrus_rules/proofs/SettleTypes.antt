@@ -21,12 +21,13 @@ use Rattle.walrus_model.specs.Out.{Out, IsHandlerType, IsLoneFunctionType, IsTyp
 use Rattle.walrus_model.specs.Rules.{Holds}
 use Rattle.walrus_rules.specs.Settled.{IsLike}
 use Rattle.walrus_model.proofs.Lists.{map-same_on, Contains-map, Contains-append_1, Contains-append_2}
-use Rattle.walrus_rules.proofs.TypesAlike.{Contains-flat_map, sub_alike}
+use Rattle.walrus_rules.proofs.TypesAlike.{sub_alike}
 use Rattle.walrus_model.proofs.TypeMaps.{comp-map, sub-map}
 use Rattle.walrus_rules.proofs.Alike.{One, On, on_1, on_2, on_head, on_tail, val_one, ops_one, table_one, memory_one, tag_one, global_one, element_one, data_one, import_one, exports_one}
 use Rattle.walrus_rules.proofs.SameVal.{Told}
 use Rattle.walrus_model.proofs.PipelineOps.{from_map}
 use Rattle.walrus_model.proofs.PipelineCollected.{kept_is_live}
+use Rattle.walrus_model.proofs.TypeRules.{Contains-flat_map}
 use Rattle.walrus_rules.proofs.StepPlain.{IsPlain}
 use Rattle.walrus_rules.proofs.StepParsed.{reached_live}
 use Rattle.walrus_rules.proofs.StepHandlers.{handlers_fine, function_has}

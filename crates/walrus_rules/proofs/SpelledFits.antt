@@ -246,9 +246,6 @@ behind_less front back top lt = omega (arith, lt, length-append front back)
 fewer : (n top : ℕ) → suc n < top → n < top
 fewer n top lt = omega (arith, lt)
 
-abbrev FunctionsFit : List ℕ → Type 0
-FunctionsFit fs = length (vector_bytes number_bytes fs) < 2 ^ 32
-
 element_fits : (m : ElementMode) (i : Items) → length (element_spelled m i) < 2 ^ 32 → ItemsFit i
 element_fits (ActiveElements None offset) (entries.Functions fs) lt = length_fits number_bytes number_long fs (behind_less (expression_bytes offset) _ _ (fewer _ _ lt))
 element_fits PassiveElements (entries.Functions fs) lt = length_fits number_bytes number_long fs (fewer _ _ (fewer _ _ lt))

@@ -1,5 +1,5 @@
 -- The one spelling of a module reads as the module.
-use Rattle.std.proofs.Common.{◌≡◌, ℕ, ◌+◌, ◌≤◌, ◌<◌, ◌^◌, Bool, true, false, List, [], ◌∷◌, ◌++◌, length, map, zip, refl, sym, ap, ap₂, subst, ◌∙◌, arith, length-append, ◌⊎◌, inl, inr, lt-ltb, ltb, ltb-true, ltb-false, ⊎_elim}
+use Rattle.std.proofs.Common.{◌≡◌, ℕ, ◌+◌, ◌≤◌, ◌<◌, ◌^◌, Bool, true, false, List, [], ◌∷◌, ◌++◌, length, map, zip, refl, sym, ap, ap₂, subst, ◌∙◌, arith, length-append, ◌⊎◌, inl, lt-ltb, ltb, ltb-true, ltb-false, ⊎_elim}
 use Rattle.std.specs.Prelude.{Option, Some, None, IsSome, All, codes, bytes_eq, cond, filter, flat_map, not, ◌||◌}
 use Rattle.std.specs.List.{AllByRecursion, AllZip}
 use Rattle.std.proofs.lemmas.List.{append-nil}
@@ -17,6 +17,7 @@ use Rattle.wasm_payloads.specs.Producers.{Fields}
 use Rattle.wasm_payloads.proofs.Agreed.{names_once_lem}
 use Rattle.wasm_writer.specs.Spelling.{SectionFits}
 use Rattle.walrus_types.specs.Operators.{Types, Functions, Tables, Memories, Tags, Globals, Elements, DataSegments}
+use Rattle.walrus_types.proofs.Noted.{or_cases}
 use Rattle.walrus_model.specs.Abstract.{Abstract, Name, Body, Function, ProducerValue, ProducerField}
 use Rattle.walrus_model.specs.Config.{Config}
 use Rattle.walrus_model.specs.Names.{body_of, body_of_function}
@@ -153,12 +154,8 @@ filter_none test (x ∷ xs) h = ap (λ b. cond b (x ∷ filter test xs) (filter 
 other_name : (c : wire.Custom) (own name : Name) → bytes_eq own name ≡ false → bytes_eq c.name own ≡ true → called name c ≡ false
 other_name c own name differ same = ap (λ n. bytes_eq n name) ((bytes_eq-Decides c.name own).0 same) ∙ differ
 
-either : (a b : Bool) → (a || b) ≡ true → (a ≡ true) ⊎ (b ≡ true)
-either true b h = inl refl
-either false b h = inr h
-
 dylink_not : (name : Name) → bytes_eq (codes "dylink") name ≡ false → bytes_eq (codes "dylink.0") name ≡ false → (c : wire.Custom) → is_dylink c ≡ true → called name c ≡ false
-dylink_not name a b c h = ⊎_elim (λ e. other_name c (codes "dylink") name a e) (λ e. other_name c (codes "dylink.0") name b e) (either (bytes_eq c.name (codes "dylink")) (bytes_eq c.name (codes "dylink.0")) h)
+dylink_not name a b c h = ⊎_elim (λ e. other_name c (codes "dylink") name a e) (λ e. other_name c (codes "dylink.0") name b e) (or_cases (bytes_eq c.name (codes "dylink")) (bytes_eq c.name (codes "dylink.0")) h)
 
 not_either : (a b : Bool) → not (a || b) ≡ true → (a ≡ false) × (b ≡ false)
 not_either true b h = absurd cc
@@ -175,7 +172,7 @@ other_not c h =
     let apart = neither (bytes_eq c.name (codes "name")) _ (not_either (is_dylink c) (is_apart c.name) h).1 in
     (apart.0, (neither (bytes_eq c.name (codes "producers")) _ apart.1).0)
 
-all_such : {A : Type 0} (P Q : A → Type 0) → ((x : A) → P x → Q x) → (xs : List A) → AllByRecursion P xs → AllByRecursion Q xs
+pub all_such : {A : Type 0} (P Q : A → Type 0) → ((x : A) → P x → Q x) → (xs : List A) → AllByRecursion P xs → AllByRecursion Q xs
 all_such P Q law [] h = tt
 all_such P Q law (x ∷ xs) h = (law x h.0, all_such P Q law xs h.1)
 

@@ -2,6 +2,7 @@
 use Rattle.std.proofs.Common.{◌≡◌, ℕ, ◌<◌, List, [], ◌∷◌, refl, sym, ap, ◌∙◌, subst, arith, inl, inr, ⊎_elim, ◌⊎◌}
 use Rattle.std.proofs.lemmas.Bool.Decides.{eqb_tells}
 use Rattle.std.specs.Prelude.{Option, Some, None, IsSome, is_some, Contains}
+use Rattle.std.proofs.lemmas.Option.{same_Some}
 use Rattle.walrus_types.specs.Operators.{Elements, Item}
 use Rattle.walrus_model.specs.Abstract.{Abstract, Element, AnItem, DeclaredElements, ListedFunctions}
 use Rattle.walrus_model.specs.Live.{IsLive}
@@ -34,9 +35,6 @@ pub record Between (w u : Abstract) (fs : List ℕ) : Type 0 where
 none_some : {X P : Type 0} (x : X) → ◌≡◌ {A = Option X} None (Some x) → P
 none_some x e = absurd (cc)
 
-some_same : (i j : ℕ) → Some i ≡ Some j → i ≡ j
-some_same i j e = cc
-
 between_of : (w u : Abstract) (fs : List ℕ) → AddsSegment w u fs → Between w u fs
 between_of w u [] e = record {
   segment = None;
@@ -50,9 +48,9 @@ between_of w u (f ∷ fs) (s, e) = record {
   segment = Some s.id;
   same = e;
   is = (s.id, refl, s.is);
-  last = λ i j live is. subst (λ k. i < k) (some_same s.id j is) (s.last i live);
+  last = λ i j live is. subst (λ k. i < k) (same_Some s.id j is) (s.last i live);
   others = λ i apart. s.others i (λ is. apart (ap Some (sym is)));
-  unnamed = λ j is. subst (λ k. own_name w (AnItem (Elements, k)) ≡ None) (some_same s.id j is) s.unnamed;
+  unnamed = λ j is. subst (λ k. own_name w (AnItem (Elements, k)) ≡ None) (same_Some s.id j is) s.unnamed;
 }
 
 pub between : (w u : Abstract) (l : Leaves w u) → Between w u l.functions
@@ -61,7 +59,7 @@ between w u l = between_of w u l.functions l.added
 -- whether a number is the segment's
 pub is_segment : (s : Option ℕ) (j : ℕ) → (s ≡ Some j) ⊎ (s ≡ Some j → ⊥)
 is_segment None j = inr (λ e. none_some j e)
-is_segment (Some k) j = ⊎_elim (λ h. inl (ap Some h.1)) (λ h. inr (λ e. h.1 (some_same k j e))) (eqb_tells k j)
+is_segment (Some k) j = ⊎_elim (λ h. inl (ap Some h.1)) (λ h. inr (λ e. h.1 (same_Some k j e))) (eqb_tells k j)
 
 no_members : (fs : List ℕ) → ((f : ℕ) → Contains fs f → ⊥) → fs ≡ []
 no_members [] none = refl

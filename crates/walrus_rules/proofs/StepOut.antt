@@ -38,6 +38,7 @@ use Rattle.walrus_rules.proofs.StepHandlers.{Placed}
 use Rattle.walrus_rules.proofs.StepParsed.{in_place, Behind, carried_parsed, tables_stay, memories_stay, tags_stay, globals_stay, elements_stay, function_of_v, initialised, exports_same, below_some, places_of, IsPlace, place_reached, kept_on, kept_either, kept_back, live_v, kept_live, live_forth, written_stays}
 use Rattle.walrus_rules.proofs.StepTypes.{lone_type}
 use Rattle.walrus_rules.proofs.StepLeaves.{SegmentIs, Between, between, is_segment, declares_none, nothing_undeclared, carried_between}
+use Rattle.walrus_rules.proofs.Straight.{not_there}
 
 -- ---- custom sections whose data is the same under all indices
 
@@ -67,9 +68,6 @@ module _ {X : Type 0} (J K A : ℕ → Type 0) (r : ℕ → ℕ) (S : ℕ → X 
         (λ added. inr added)
         (c.onto j there);
   }
-
-no_some : {X P : Type 0} (o : Option X) → o ≡ None → IsSome o → P
-no_some o e h = let none : false ≡ true = subst IsSome e h in absurd (cc)
 
 -- ---- the whole way
 
@@ -197,7 +195,7 @@ module _ (c : Config) (m v w n : Abstract) (elements : ℕ → Option Element) (
       (λ f at. nothing_undeclared w elements fs b undeclared f ((o.declares.undeclared.are f).0 at)) o.declares.declared
 
   none_new : (space : Space) (j : ℕ) → IsTheSegment o.segment (space, j) → ⊥
-  none_new Elements j is = no_some o.segment no_segment (ap is_some is)
+  none_new Elements j is = not_there o.segment no_segment (ap is_some is)
   none_new Types j h = h
   none_new Functions j h = h
   none_new Tables j h = h
@@ -395,7 +393,7 @@ module _ (c : Config) (m v w n : Abstract) (elements : ℕ → Option Element) (
   only_in : (y : Item) → IsNoType y → IsSome (own_name n (AnItem y)) → AreNamed (own_name after) (IsLive after) o.renaming after n → (space : Space) (i : ℕ) → IsLive after (space, i) → y ≡ renamed o.renaming (space, i) → Kept m (space, i)
   only_in y no_type there h Types i live is = absurd (subst IsNoType is no_type)
   only_in y no_type there h Elements i live is = ⊎_elim
-      (λ at. no_some (own_name n (AnItem y)) (ap (λ z. own_name n (AnItem z)) is ∙ h.items (Elements, i) live tt ∙ b.unnamed i at) there)
+      (λ at. not_there (own_name n (AnItem y)) (ap (λ z. own_name n (AnItem z)) is ∙ h.items (Elements, i) live tt ∙ b.unnamed i at) there)
       (λ other. kept_w (Elements, i) (λ e. absurd (cc)) (subst IsSome (b.others i other) live))
       (is_segment b.segment i)
   only_in y no_type there h Functions i live is = kept_w (Functions, i) (λ e. absurd (cc)) live
@@ -465,9 +463,9 @@ module _ (c : Config) (m v w n : Abstract) (elements : ℕ → Option Element) (
   -- ---- which types are there and kept in memory is told by what gc left
 
   told_there : (t : ℕ) (o q : Option TypeDef) → m.types t ≡ o → w.types t ≡ q → Told (IsLive m (Types, t) × Kept v (Types, t))
-  told_there t None q e f = inr (λ h. no_some (m.types t) e h.0)
+  told_there t None q e f = inr (λ h. not_there (m.types t) e h.0)
   told_there t (Some x) (Some y) e f = inl (ap is_some e, left_is_kept v w l (Types, t) (ap is_some f))
-  told_there t (Some x) None e f = inr (λ h. no_some (v.types t) (sym (l.types.kept t h.1) ∙ f) (live_forth c m v p (Types, t) h.0))
+  told_there t (Some x) None e f = inr (λ h. not_there (v.types t) (sym (l.types.kept t h.1) ∙ f) (live_forth c m v p (Types, t) h.0))
 
   kept_named : (t : ℕ) (y : Item) → IsLive m (Types, t) → Kept v (Types, t) → Contains (written_in m (Types, t)) y → Kept v y
   kept_named t y live (inl h) at = inl (step (Types, t) y h (inl (subst (λ l. Contains l y) (sym (written_stays c m v p (Types, t) live)) at)))

@@ -1,5 +1,5 @@
 -- What is parsed of one module twice is one module, the numbers of locals and what nothing asks for aside.
-use Rattle.std.proofs.Common.{◌≡◌, ℕ, zero, suc, ◌+◌, ◌<◌, ◌≤◌, List, [], ◌∷◌, ◌++◌, length, map, refl, sym, ap, ap₂, ◌∙◌, subst, arith, inl, inr, ◌⊎◌, ⊎_elim}
+use Rattle.std.proofs.Common.{◌≡◌, ℕ, ◌+◌, ◌<◌, ◌≤◌, ◌∷◌, ◌++◌, length, map, refl, sym, ap, ap₂, ◌∙◌, subst, arith, inl, inr, ◌⊎◌, ⊎_elim}
 use Rattle.std.specs.Prelude.{Option, Some, None, IsSome, Contains, flat_map, option_map, slice_get}
 use Rattle.std.specs.List.{range_with_len}
 use Rattle.std.proofs.lemmas.Bool.{cases_lt}
@@ -17,9 +17,11 @@ use Rattle.walrus_rules.specs.Chain.{IsBehind, ParsedAs, AddsHandlers}
 use Rattle.walrus_rules.proofs.Agree.{same_looks}
 use Rattle.walrus_rules.proofs.Alike.{table_one, memory_one, tag_one, global_one, element_one, data_one}
 use Rattle.walrus_rules.proofs.HandlersOnce.{places_once}
-use Rattle.walrus_model.proofs.Lists.{Contains-head, Contains-tail, map-itself, flat_map-follows}
+use Rattle.walrus_model.proofs.Lists.{map-itself, flat_map-follows}
 use Rattle.walrus_model.proofs.OpsFollow.{ops_follow, ops_locals_follow, val_items}
-use Rattle.walrus_rules.proofs.Things.{made, some_same}
+use Rattle.walrus_rules.proofs.Things.{made}
+use Rattle.walrus_rules.proofs.ShapesEnd.{range_has}
+use Rattle.walrus_rules.proofs.OneList.{got_at}
 
 -- every number stays but those of locals
 abbrev pub straight : (ℕ → ℕ → ℕ) → Renaming
@@ -40,19 +42,6 @@ module _ (c : Config) (m v : Abstract) (p : ParsedAs c m v) where
   carried = subst (λ r. Carried (IsLive m) (IsBehind (length p.types)) r m v) (is_straight p.renaming p.in_place p.imports_in_place) p.carried
 
 -- ---- both modules
-
-same_list : {X : Type 0} (xs ys : List X) → ((k : ℕ) → slice_get xs k ≡ slice_get ys k) → xs ≡ ys
-same_list [] [] h = refl
-same_list [] (y ∷ ys) h = let e : None ≡ Some y = h 0 in absurd (cc)
-same_list (x ∷ xs) [] h = let e : Some x ≡ None = h 0 in absurd (cc)
-same_list (x ∷ xs) (y ∷ ys) h = ap₂ ◌∷◌ (some_same x y (h 0)) (same_list xs ys (λ k. h (suc k)))
-
-in_range : (s n f : ℕ) → s ≤ f → f < s + n → Contains (range_with_len s n) f
-in_range s zero f le lt = absurd (omega (arith, le, lt))
-in_range s (suc n) f le lt = ⊎_elim
-    (λ (h : s < f). Contains-tail s f (range_with_len (s + 1) n) (in_range (s + 1) n f (omega (arith, h)) (omega (arith, lt))))
-    (λ (h : f ≤ s). let e : s ≡ f = omega (arith, h, le) in subst (Contains (s ∷ range_with_len (s + 1) n)) e (Contains-head s (range_with_len (s + 1) n)))
-    (cases_lt s f)
 
 module _ (c : Config) (m v w : Abstract) (p : ParsedAs c m v) (q : ParsedAs c m w) where
   abbrev a : Renaming
@@ -102,7 +91,7 @@ module _ (c : Config) (m v w : Abstract) (p : ParsedAs c m v) (q : ParsedAs c m 
   -- types and the types of handlers
 
   types_read : p.types ≡ q.types
-  types_read = same_list p.types q.types (λ k. sym (p.types_read k) ∙ q.types_read k)
+  types_read = got_at p.types q.types (λ k. sym (p.types_read k) ∙ q.types_read k)
 
   count_one : p.functions ≡ q.functions
   count_one = by_either (cases_lt p.functions q.functions) (cases_lt q.functions p.functions)
@@ -122,7 +111,7 @@ module _ (c : Config) (m v w : Abstract) (p : ParsedAs c m v) (q : ParsedAs c m 
   types_same = fun_ext (λ i. p.types_made i ∙ ap (λ ts. slice_get ts i) placed.0 ∙ sym (q.types_made i))
 
   handlers_at : (f : ℕ) → (f < p.functions) ⊎ (p.functions ≤ f) → v.handler_types f ≡ w.handler_types f
-  handlers_at f (inl h) = placed.1 f (in_range 0 p.functions f (omega arith) (omega (arith, h)))
+  handlers_at f (inl h) = placed.1 f (range_has 0 p.functions f (omega arith) (omega (arith, h)))
   handlers_at f (inr h) = p.no_handlers f h ∙ sym (q.no_handlers f (subst (λ n. n ≤ f) count_one h))
 
   pub handlers_same : v.handler_types ≡ w.handler_types

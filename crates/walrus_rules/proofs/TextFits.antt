@@ -1,10 +1,10 @@
 -- What is spelled in sections that fit has counts, limits and numbers of locals that 32 bits hold, whatever its bodies are.
-use Rattle.std.proofs.Common.{◌≡◌, ℕ, zero, suc, ◌+◌, ◌≤◌, ◌<◌, ◌^◌, ◌/◌, Bool, true, false, List, [], ◌∷◌, ◌++◌, length, map, zip, sym, subst, arith, length-append, ⊎_elim}
-use Rattle.std.specs.Prelude.{Some, All, Contains, flat_map, if◌then◌else◌, nat_lt, slice_get}
+use Rattle.std.proofs.Common.{◌≡◌, ℕ, ◌+◌, ◌≤◌, ◌<◌, ◌^◌, List, [], ◌∷◌, ◌++◌, length, map, zip, sym, subst, arith, length-append, ⊎_elim}
+use Rattle.std.specs.Prelude.{Some, All, Contains, flat_map, slice_get}
 use Rattle.std.specs.List.{AllByRecursion}
 use Rattle.std.proofs.lemmas.List.Elements.{All-head, recursion_from_All}
 use Rattle.std.proofs.lemmas.List.{length-map}
-use Rattle.wasm_forms.specs.Spelling.{number_bytes, groups, row_bytes}
+use Rattle.wasm_forms.specs.Spelling.{number_bytes, row_bytes}
 use Rattle.wasm_forms.specs.Writing.{FitsLength, EachFits}
 use Rattle.wasm_frames.specs.Frames as frames
 use Rattle.wasm_frames.specs.Frames.{Section, CustomSection}
@@ -41,21 +41,7 @@ use Rattle.walrus_rules.proofs.StepHandlers.{Contains-split}
 use Rattle.walrus_rules.proofs.TextShaped.{all_at, all_append}
 use Rattle.walrus_rules.proofs.TextsStand.{ArgGood, operator_good}
 use Rattle.walrus_rules.proofs.UsedFound.{ArgHolds, OpsHold}
-
--- ---- a number takes a byte or more
-
-either_some : (t : Bool) (x y : ℕ) (rest : List ℕ) → 1 ≤ length (if t then x ∷ [] else y ∷ rest)
-either_some true x y rest = omega arith
-either_some false x y rest = omega arith
-
-groups_some : (below : Bool) (stop most n : ℕ) → 1 ≤ length (groups below stop most n)
-unfolding groups
-groups_some below stop zero n = omega arith
-groups_some below stop (suc most) n = either_some (nat_lt n stop) _ _ (groups below stop most (n / 128))
-
-number_some : (n : ℕ) → 1 ≤ length (number_bytes n)
-unfolding number_bytes
-number_some n = groups_some false 128 9 n
+use Rattle.walrus_rules.proofs.SpelledFits.{number_long}
 
 -- ---- operators have no more uses of locals than bytes
 
@@ -63,7 +49,7 @@ least : (n : ℕ) → 0 ≤ n
 least n = omega arith
 
 arg_uses : (a : RawArg) → length (arg_locals (arg_of a)) ≤ length (arg_bytes a)
-arg_uses (raw.Local n) = number_some n
+arg_uses (raw.Local n) = number_long n
 arg_uses a = least (length (arg_bytes a))
 
 args_use : (xs : List RawArg) → length (flat_map arg_locals (map arg_of xs)) ≤ length (row_bytes arg_bytes xs)
@@ -81,7 +67,7 @@ text_uses : (x : BodyText) → length (locals_of (said x).1) ≤ length (text_by
 text_uses x = omega (arith, ops_use x.operators, length-append (declarations_bytes x.declarations) (row_bytes op_bytes x.operators))
 
 text_some : (x : BodyText) → 1 ≤ length (text_bytes x)
-text_some x = omega (arith, number_some (length x.declarations), length-append (number_bytes (length x.declarations)) (row_bytes declaration_bytes x.declarations), length-append (declarations_bytes x.declarations) (row_bytes op_bytes x.operators))
+text_some x = omega (arith, number_long (length x.declarations), length-append (number_bytes (length x.declarations)) (row_bytes declaration_bytes x.declarations), length-append (declarations_bytes x.declarations) (row_bytes op_bytes x.operators))
 
 -- ---- and these name small ones
 
@@ -121,7 +107,7 @@ bodies_take : (xs : List BodyText) → length xs + length xs ≤ length (row_byt
 bodies_take [] = omega arith
 bodies_take (x ∷ xs) =
     let size : List ℕ = number_bytes (length (text_bytes x)) in
-    omega (arith, length-append (size ++ text_bytes x) (row_bytes body_bytes (map unplaced xs)), length-append size (text_bytes x), number_some (length (text_bytes x)), text_some x, bodies_take xs)
+    omega (arith, length-append (size ++ text_bytes x) (row_bytes body_bytes (map unplaced xs)), length-append size (text_bytes x), number_long (length (text_bytes x)), text_some x, bodies_take xs)
 
 few_bodies : (xs : List BodyText) → All SectionFits (listed frames.Code (map unplaced xs)) → length xs + length xs < 2 ^ 32
 few_bodies [] h = omega arith

@@ -7,14 +7,15 @@ use Rattle.std.proofs.lemmas.List.Elements.{recursion_from_All}
 use Rattle.wasm_payloads.specs.declared.naming.NameSpace.{NameSpace}
 use Rattle.wasm_payloads.specs.declared.naming.NameSpace.TheVariants as spaces
 use Rattle.wasm_payloads.specs.Names.{Named, ItemName, LocalName}
+use Rattle.wasm_operators.proofs.OneStands.{and_both}
 use Rattle.walrus_types.specs.Operators.{Space, Types, Functions, Tables, Memories, Tags, Globals, Elements, DataSegments, Item}
+use Rattle.walrus_functions.proofs.LawOrder.{Sorted, sorted_of}
 use Rattle.walrus_model.specs.Abstract.{Abstract, Name, Subject, TheModule, AnItem, ALocal}
 use Rattle.walrus_rules.specs.Namings.{space_of, naming_of, subsection, is_same, names_given}
 use Rattle.walrus_rules.specs.Spelling.{MapStands, NamesStand}
 use Rattle.walrus_rules.specs.Text.{NameMap, NameText, module_naming, space_namings, function_namings, further_spaces, namings_of}
-use Rattle.walrus_rules.proofs.SpaceList.{Sorted, sorted_of}
 
-given_append : (xs ys : List Named) (x : Subject) → names_given (xs ++ ys) x ≡ names_given xs x ++ names_given ys x
+pub given_append : (xs ys : List Named) (x : Subject) → names_given (xs ++ ys) x ≡ names_given xs x ++ names_given ys x
 given_append [] ys x = refl
 given_append (n ∷ ns) ys x =
     let here : List Name = if is_same (naming_of n).0 x then (naming_of n).1 ∷ [] else [] in
@@ -26,10 +27,6 @@ count ns x = length (names_given ns x)
 
 count_append : (xs ys : List Named) (x : Subject) → count (xs ++ ys) x ≡ count xs x + count ys x
 count_append xs ys x = ap length (given_append xs ys x) ∙ length-append (names_given xs x) (names_given ys x)
-
-both_true : (a b : Bool) → (a && b) ≡ true → (a ≡ true) × (b ≡ true)
-both_true true b e = (refl, e)
-both_true false b e = absurd (cc)
 
 -- ---- a map of names that rises
 
@@ -75,7 +72,7 @@ rising es h = sorted_of (λ (d : ℕ × Name) (e : ℕ × Name). d.0 < e.0) es h
 -- ---- items
 
 one_item : (space : NameSpace) (sp : Space) (i : ℕ) (d e : ℕ × Name) → (subsection (space_of space) == subsection sp && d.0 == i) ≡ true → (subsection (space_of space) == subsection sp && e.0 == i) ≡ true → d.0 ≡ e.0
-one_item space sp i d e h k = eqb-true d.0 i (both_true (subsection (space_of space) == subsection sp) (d.0 == i) h).1 ∙ sym (eqb-true e.0 i (both_true (subsection (space_of space) == subsection sp) (e.0 == i) k).1)
+one_item space sp i d e h k = eqb-true d.0 i (and_both (subsection (space_of space) == subsection sp) (d.0 == i) h).1 ∙ sym (eqb-true e.0 i (and_both (subsection (space_of space) == subsection sp) (e.0 == i) k).1)
 
 module _ (t : NameText) (n : Abstract) (stand : NamesStand n t) where
   in_space : (space : NameSpace) (sp : Space) (i : ℕ) → count (space_namings t space) (AnItem (sp, i)) ≤ 1
@@ -93,7 +90,7 @@ module _ (t : NameText) (n : Abstract) (stand : NamesStand n t) where
 -- ---- locals
 
 one_local : (f g y : ℕ) (d e : ℕ × Name) → (f == g && d.0 == y) ≡ true → (f == g && e.0 == y) ≡ true → d.0 ≡ e.0
-one_local f g y d e h k = eqb-true d.0 y (both_true (f == g) (d.0 == y) h).1 ∙ sym (eqb-true e.0 y (both_true (f == g) (e.0 == y) k).1)
+one_local f g y d e h k = eqb-true d.0 y (and_both (f == g) (d.0 == y) h).1 ∙ sym (eqb-true e.0 y (and_both (f == g) (e.0 == y) k).1)
 
 abbrev FunctionStands : ℕ × NameMap → Type 0
 FunctionStands f = MapStands f.1

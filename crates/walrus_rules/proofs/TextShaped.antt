@@ -44,7 +44,7 @@ all_map : {X Y : Type 0} (P : Y → Type 0) (f : X → Y) (xs : List X) → ((x 
 all_map P f [] h = tt
 all_map P f (x ∷ xs) h = (h x, all_map P f xs h)
 
-local_same : (b d : Body) → LocalFunction b ≡ LocalFunction d → d ≡ b
+pub local_same : (b d : Body) → LocalFunction b ≡ LocalFunction d → d ≡ b
 local_same b d e = cc
 
 module _ (w : wire.Module) where

@@ -4,7 +4,6 @@ use Rattle.std.specs.Prelude.{Option, Some, None, flat_map, nat_lt}
 use Rattle.std.specs.List.{AllByRecursion}
 use Rattle.wasm_forms.specs.Grammar.{Form, Is, IsRow, Fails, ◌then◌, Led, Made, Where, U32}
 use Rattle.wasm_forms.specs.Types.{value_type}
-use Rattle.wasm_forms.specs.declared.types.RawVal.{RawVal}
 use Rattle.wasm_operators.specs.declared.kind.Kind.{Kind}
 use Rattle.wasm_operators.specs.declared.kind.Kind.TheVariants as kinds
 use Rattle.wasm_operators.specs.declared.operator.RawArg.{RawArg}
@@ -14,7 +13,6 @@ use Rattle.wasm_operators.specs.Operators.{Op}
 use Rattle.wasm_operators.specs.Standing.{heap_spells, value_spells, block_spells, is_of}
 use Rattle.wasm_operators.specs.Table.{kinds_of}
 use Rattle.wasm_operators.proofs.OneRead.{chosen, value_type_read, block_one, heap_one, access_one}
-use Rattle.walrus_bodies.specs.Body.{declarations}
 
 -- each abstract heap type in it is spelled by one of its bytes, and an index of a local is below 2 ^ 32
 abbrev pub ArgGood : RawArg → Type 0
@@ -139,16 +137,3 @@ from_good b bytes o i =
 pub operator_good : (bytes : List ℕ) (o : Op) → Is operator bytes o → ArgsGood o.args
 unfolding operator
 operator_good bytes o i = from_good i.0 i.1.1.0 o i.1.1.1.2
-
--- ---- declarations
-
-abbrev pub TypeGood : ℕ × RawVal → Type 0
-TypeGood d = value_spells d.1 ≡ true
-
-row_good : (bytes : List ℕ) (ds : List (ℕ × RawVal)) → IsRow (Is (U32 then value_type)) bytes ds → AllByRecursion TypeGood ds
-row_good bytes [] h = tt
-row_good bytes (d ∷ ds) h = let one = h.1.1.1 in ((value_type_read one.1.0 d.1 one.1.1.2).0, row_good h.1.0 ds h.1.1.2)
-
-pub declarations_good : (bytes : List ℕ) (ds : List (ℕ × RawVal)) → Is declarations bytes ds → AllByRecursion TypeGood ds
-unfolding declarations
-declarations_good bytes ds i = row_good i.1.1.0 ds i.1.1.1.2.0

@@ -25,8 +25,10 @@ use Rattle.walrus_model.proofs.Lists.{Contains-map, Contains-none, Contains-unco
 use Rattle.walrus_rules.proofs.Numbers.{numbers_one, imports_one, named_import_one}
 use Rattle.walrus_rules.proofs.SpaceList.{one_rising}
 use Rattle.walrus_model.proofs.Seen.{same_sub}
+use Rattle.walrus_model.proofs.Orders.{is_some_by}
+use Rattle.walrus_model.proofs.TypeRules.{Contains-flat_map}
 use Rattle.walrus_rules.proofs.Shaped.{Side}
-use Rattle.walrus_rules.proofs.TypesAlike.{Contains-flat_map, sub_alike}
+use Rattle.walrus_rules.proofs.TypesAlike.{sub_alike}
 use Rattle.walrus_rules.proofs.UsedLocals.{Comes, one_said, used_one}
 
 -- what stands at both numbers of a chosen item
@@ -37,10 +39,6 @@ pub both_there : {X : Type 0} (S : X → X → Type 0) (a b : Option X) → Both
 both_there S (Some x) (Some y) h = (x, y, refl, refl, h)
 both_there S (Some x) None h = absurd h
 both_there S None b h = absurd h
-
-pub still_there : {X : Type 0} (o : Option X) (y : X) → o ≡ Some y → IsSome o
-still_there (Some x) y e = refl
-still_there None y e = absurd (cc)
 
 pub there : {X : Type 0} (K A B : ℕ → Type 0) (r s : ℕ → ℕ) (S T : ℕ → X → X → Type 0) (xs ys zs : ℕ → Option X)
     → Carries K A r S xs ys → Carries K B s T xs zs → ((i : ℕ) → K i → r i ≡ s i)
@@ -58,7 +56,7 @@ there {X} K A B r s S T xs ys zs c d one law added j y e = ⊎_elim
     let place : s found.0 ≡ j = sym (one found.0 found.1) ∙ found.2 in
     ap zs (sym place) ∙ q.3 ∙ ap Some (sym same ∙ is))
     (λ (a : A j). added j y a e)
-    (c.onto j (still_there (ys j) y e))
+    (c.onto j (is_some_by (ys j) y e))
 
 -- the same, where what stands at the new number is made of the old one
 pub made : {X : Type 0} (K A B : ℕ → Type 0) (r s : ℕ → ℕ) (f g : X → X) (xs ys zs : ℕ → Option X)
@@ -187,7 +185,7 @@ module _ (c : Config) (v : Abstract) (p : Premises v) where
 
     pub stands : (i : ℕ) (x : Function) (body : Body) (typed : Typed body) → v.functions i ≡ Some x → x.kind ≡ LocalFunction body → Stands i x body typed
     stands i x body typed e k =
-        let live : IsLive v (Functions, i) = still_there (v.functions i) x e in
+        let live : IsLive v (Functions, i) = is_some_by (v.functions i) x e in
         let both = both_there (SameFunction q i) (v.functions i) (n.functions (q.numbers Functions i)) (a.is.written.carried.functions.same i live) in
         let first : both.0 ≡ x = some_same both.0 x (sym both.2 ∙ e) in
         let same : SameFunction q i x both.1 = subst (λ w. SameFunction q i w both.1) first both.4 in
@@ -265,7 +263,7 @@ module _ (c : Config) (v : Abstract) (p : Premises v) where
     kind_law : (i : ℕ) (x y z : Function) (k h l : FunctionKind) → v.functions i ≡ Some x → n.functions (f.numbers Functions i) ≡ Some y → m.functions (g.numbers Functions i) ≡ Some z → x.kind ≡ k → y.kind ≡ h → z.kind ≡ l → y.ty ≡ z.ty → SameKind f i k h → SameKind g i k l → y ≡ z
     kind_law i x y z (ImportedFunction q) (ImportedFunction t) (ImportedFunction u) e ey ez kx ky kz ty same other =
         let at : import_of v (Functions, i) ≡ Some q = import_at c v p n m a b (λ w. kind_import w.kind) (v.functions i) x e ∙ ap kind_import kx in
-        let one : f.imports q ≡ g.imports q = on_import c v p n m a b (Functions, i) (Some q) (still_there (v.functions i) x e) at q refl in
+        let one : f.imports q ≡ g.imports q = on_import c v p n m a b (Functions, i) (Some q) (is_some_by (v.functions i) x e) at q refl in
         let kinds : y.kind ≡ z.kind = ky ∙ ap ImportedFunction (same ∙ one ∙ sym other) ∙ sym kz in
         ap₂ (λ (t : ℕ) (w : FunctionKind). record { ty = t; kind = w }) ty kinds
     kind_law i x y z (LocalFunction body) h l e ey ez kx ky kz ty same other = function_one i x body e kx y z ey ez
@@ -334,8 +332,8 @@ module _ (c : Config) (v : Abstract) (p : Premises v) where
         let here : h.0 ≡ j = some_same h.0 j (sym h.1 ∙ e) in
         let first : n.elements j ≡ Some (record { kind = DeclaredElements; items = ListedFunctions (map (a.is.written.renaming.numbers Functions) (u ∷ us)) }) = subst (λ i. n.elements i ≡ _) here h.2.is in
         let last : (i : ℕ) → IsLive v (Elements, i) → a.is.written.renaming.numbers Elements i < j = λ i li. subst (λ t. a.is.written.renaming.numbers Elements i < t) here (h.2.last i li) in
-        let not_here : h.0 < k.0 → ⊥ = not_behind n m a b h.0 k.0 h.2.last k.1 (still_there (m.elements k.0) _ k.2.is) in
-        let not_there : k.0 < h.0 → ⊥ = not_behind m n b a k.0 h.0 k.2.last h.1 (still_there (n.elements h.0) _ h.2.is) in
+        let not_here : h.0 < k.0 → ⊥ = not_behind n m a b h.0 k.0 h.2.last k.1 (is_some_by (m.elements k.0) _ k.2.is) in
+        let not_there : k.0 < h.0 → ⊥ = not_behind m n b a k.0 h.0 k.2.last h.1 (is_some_by (n.elements h.0) _ h.2.is) in
         let place : k.0 ≡ j = by h.0 k.0 j here not_here not_there (compared h.0 k.0) in
         let listed : map (a.is.written.renaming.numbers Functions) (u ∷ us) ≡ map (b.is.written.renaming.numbers Functions) (w ∷ ws) =
         functions_one a.is.written.renaming b.is.written.renaming (u ∷ us) (on (u ∷ us) live) ∙ ap (map (b.is.written.renaming.numbers Functions)) same in

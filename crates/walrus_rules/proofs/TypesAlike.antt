@@ -1,16 +1,9 @@
 -- Two maps of names that agree on the names that stand in a type make one type of it.
-use Rattle.std.proofs.Common.{◌≡◌, List, [], ◌∷◌, map, refl, sym, ap, ap₂, subst}
+use Rattle.std.proofs.Common.{◌≡◌, List, [], map, refl, ap, ap₂}
 use Rattle.std.specs.Prelude.{flat_map, Contains}
 use Rattle.walrus_base.specs.Types.{HeapType, OfHeap, Concrete, Exact, RefType, ValType, I32, I64, F32, F64, V128, Ref, StorageType, Unpacked, I8, I16, FieldType, CompType, Func, Struct, Array, SubType, map_heap, map_ref, map_val, map_storage, map_field, map_comp, map_sub, val_heaps, storage_heaps, field_heaps, comp_heaps, heap_names, val_names, comp_names, sub_names}
-use Rattle.walrus_model.proofs.Lists.{map-same_on, Contains-head, Contains-append_1, Contains-append_2, Contains-uncons, Contains-none}
-use Rattle.std.proofs.Common.{⊎_elim}
-
-pub Contains-flat_map : {A B : Type 0} (f : A → List B) (xs : List A) (x : A) (y : B) → Contains xs x → Contains (f x) y → Contains (flat_map f xs) y
-Contains-flat_map f [] x y at has = absurd (Contains-none x at)
-Contains-flat_map {A} {B} f (z ∷ zs) x y at has = ⊎_elim
-    (λ (e : z ≡ x). Contains-append_1 y (f z) (flat_map f zs) (subst (λ w. Contains (f w) y) (sym e) has))
-    (λ (rest : Contains zs x). Contains-append_2 y (f z) (flat_map f zs) (Contains-flat_map f zs x y rest has))
-    (Contains-uncons z x zs at)
+use Rattle.walrus_model.proofs.Lists.{map-same_on, Contains-head, Contains-append_1, Contains-append_2}
+use Rattle.walrus_model.proofs.TypeRules.{Contains-flat_map}
 
 module _ {R S : Type 0} (f g : R → S) where
   abbrev pub Agrees : List R → Type 0

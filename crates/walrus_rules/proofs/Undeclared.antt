@@ -17,11 +17,12 @@ use Rattle.walrus_model.specs.Same.{BothAnd}
 use Rattle.walrus_rules.specs.Chain.{AddsSegment, Leaves}
 use Rattle.walrus_rules.specs.Pinned.{IsWrittenAs}
 use Rattle.walrus_model.proofs.Lists.{Contains-head, Contains-tail}
+use Rattle.walrus_model.proofs.Orders.{is_some_by}
 use Rattle.walrus_rules.proofs.OneModule.{told_live}
 use Rattle.walrus_rules.proofs.Plain.{chosen_by}
 use Rattle.walrus_rules.proofs.SameVal.{Told, told_nat}
 use Rattle.walrus_rules.proofs.Straight.{not_there}
-use Rattle.walrus_rules.proofs.Things.{still_there, both_there, some_same}
+use Rattle.walrus_rules.proofs.Things.{both_there, some_same}
 
 -- each custom section has the same data under all indices
 abbrev pub PlainCustoms : Abstract → Type 0
@@ -92,7 +93,7 @@ module _ (c : Config) (w : Abstract) (customs : PlainCustoms w) (brings : Brings
   there (DataSegments, i) h = h
 
   live_id : IsLive u (Elements, id)
-  live_id = still_there (es id) the at_id
+  live_id = is_some_by (es id) the at_id
 
   -- it was there, or it is the segment
   back : (x : Item) → IsLive u x → (IsLive w x) ⊎ (◌≡◌ {A = Item} x (Elements, id))

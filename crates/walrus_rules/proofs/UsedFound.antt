@@ -60,12 +60,3 @@ module _ (names : Lookup) (locals : ℕ → Option ℕ) (P : ℕ → Type 0) whe
       (λ here. args_found o.args a.0 h.0 a.1 x (subst (λ (p : Op). Contains (op_locals p) x) (sym (some_same _ y.0 a.2)) here))
       (ops_found os z.0 h.1 z.1 x)
       (Contains-split x (op_locals y.0) (locals_of z.0) (subst (λ l. Contains (locals_of l) x) (sym (some_same (y.0 ∷ z.0) ops z.2)) at))
-
-any_args : (args : List Arg) → AllByRecursion (ArgHolds (λ n. Unit {0})) args
-any_args [] = tt
-any_args (Local n ∷ args) = (tt, any_args args)
-any_args (arg ∷ args) = (tt, any_args args)
-
-any_ops : (ops : List Op) → OpsHold (λ n. Unit {0}) ops
-any_ops [] = tt
-any_ops (o ∷ ops) = (any_args o.args, any_ops ops)

@@ -3,7 +3,7 @@ use Rattle.std.proofs.Common.{◌≡◌, ℕ, zero, suc, ◌+◌, ◌<◌, ◌�
 use Rattle.std.specs.Prelude.{Option, Some, None, IsSome, Contains, option_map, slice_get}
 use Rattle.std.specs.List.{range_with_len}
 use Rattle.std.proofs.lemmas.Bool.{cases_lt}
-use Rattle.std.proofs.lemmas.Option.{slice_get_within, slice_get_past}
+use Rattle.std.proofs.lemmas.Option.{slice_get_within, slice_get_past, same_Some}
 use Rattle.std.proofs.lemmas.List.FromFn.{length-range_with_len}
 use Rattle.walrus_base.specs.Types.{ValType, map_val, val_names}
 use Rattle.walrus_types.specs.Operators.{Types, Item, Op, type_item, locals_of, names_of}
@@ -22,6 +22,7 @@ use Rattle.walrus_rules.proofs.Alike.{On, val_one, ops_one}
 use Rattle.walrus_model.proofs.OpsFollow.{ops_locals_follow}
 use Rattle.walrus_rules.proofs.Places.{place_range, place_past}
 use Rattle.walrus_rules.proofs.SameVal.{Told, told_both, told_not, told_in, told_val, told_type, unplaced, placed, least}
+use Rattle.walrus_rules.proofs.OneList.{got_at}
 
 -- ---- the order of declared locals is total
 
@@ -82,15 +83,12 @@ module _ (a : Body) where
 
 -- ---- numbers in a range of parameters
 
-some_nat : (x y : ℕ) → Some x ≡ Some y → x ≡ y
-some_nat x y e = cc
-
 no_some : {A X : Type 0} (x : X) → Some x ≡ None → A
 no_some x e = absurd (cc)
 
 in_range : (n m k : ℕ) → place_in (range_with_len 0 n) m ≡ Some k → (m ≡ k) × (m < n)
 in_range n m k e = ⊎_elim
-    (λ (lt : m < n). (some_nat m k (sym (place_range 0 n m m (omega arith) lt) ∙ e), lt))
+    (λ (lt : m < n). (same_Some m k (sym (place_range 0 n m m (omega arith) lt) ∙ e), lt))
     (λ (le : n ≤ m). no_some k (sym e ∙ place_past 0 n m (omega (arith, le))))
     (cases_lt m n)
 
@@ -115,12 +113,6 @@ pub behind : {X : Type 0} (xs ys : List X) (k m : ℕ) → m ≡ length xs + k �
 behind [] ys k m e = ap (slice_get ys) (let p : m ≡ k = omega (arith, e) in p)
 behind (x ∷ xs) ys k zero e = absurd (omega (arith, e))
 behind (x ∷ xs) ys k (suc m) e = behind xs ys k m (omega (arith, e))
-
-same_list : {X : Type 0} (xs ys : List X) → ((k : ℕ) → slice_get xs k ≡ slice_get ys k) → xs ≡ ys
-same_list [] [] h = refl
-same_list [] (y ∷ ys) h = no_some y (sym (h 0))
-same_list (x ∷ xs) [] h = no_some x (h 0)
-same_list (x ∷ xs) (y ∷ ys) h = ap₂ ◌∷◌ (let p : Some x ≡ Some y = h 0 in let q : x ≡ y = cc in q) (same_list xs ys (λ k. h (suc k)))
 
 -- ---- one body
 
@@ -200,5 +192,5 @@ module _ (a : Body) (i : ℕ) (ps : List (ValType ℕ)) (typed : (x : ℕ) → I
       let there : (k : ℕ) → k < length said.0 → slice_get said.0 k ≡ slice_get other.0 k = local_there r s said other c d on_ops on_locals in
       let back : (k : ℕ) → k < length other.0 → slice_get other.0 k ≡ slice_get said.0 k = local_there s r other said d c (on_back r s (names_of a.operators) on_ops) (λ x u. on_back r s (local_names a x) (on_locals x u)) in
       ap₂ (λ (ts : List (ValType ℕ)) (os : List Op). (ts, os))
-      (same_list said.0 other.0 (λ k. ⊎_elim (there k) (λ past. ⊎_elim (λ lt. sym (back k lt)) (λ too. slice_get_past said.0 k past ∙ sym (slice_get_past other.0 k too)) (cases_lt k (length other.0))) (cases_lt k (length said.0))))
+      (got_at said.0 other.0 (λ k. ⊎_elim (there k) (λ past. ⊎_elim (λ lt. sym (back k lt)) (λ too. slice_get_past said.0 k past ∙ sym (slice_get_past other.0 k too)) (cases_lt k (length other.0))) (cases_lt k (length said.0))))
       (operators_one r s said other c d on_ops on_locals)

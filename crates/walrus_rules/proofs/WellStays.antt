@@ -1,6 +1,8 @@
 -- Gc and the declared segment keep a module well made.
-use Rattle.std.proofs.Common.{◌≡◌, ℕ, Bool, true, false, List, [], ◌∷◌, ◌++◌, map, refl, sym, ap, ◌∙◌, subst, ⊎_elim}
-use Rattle.std.specs.Prelude.{Option, Some, None, IsSome, Contains, ◌&&◌, flat_map, slice_get}
+use Rattle.std.proofs.Common.{◌≡◌, ℕ, Bool, true, List, [], ◌∷◌, ◌++◌, map, refl, sym, ap, ◌∙◌, subst, ⊎_elim}
+use Rattle.std.specs.Prelude.{Option, Some, None, IsSome, Contains, flat_map, slice_get}
+use Rattle.std.specs.Cmp.Derive.{both_true}
+use Rattle.wasm_operators.proofs.OneStands.{and_both}
 use Rattle.walrus_base.specs.Types.{HeapType, ValType}
 use Rattle.walrus_code.specs.Names.{Lookup}
 use Rattle.walrus_bodies.specs.declared.features.Features.{Features}
@@ -25,19 +27,12 @@ use Rattle.walrus_model.proofs.Lists.{Contains-none, Contains-head, Contains-tai
 use Rattle.walrus_rules.proofs.NoCause.{import_live, well_lives}
 use Rattle.walrus_model.proofs.OffsetRules.{rules_carried}
 use Rattle.walrus_model.proofs.PipelineCollected.{left_is_kept}
-use Rattle.walrus_rules.proofs.RulesSteps.{collected_taken, kept_named}
+use Rattle.walrus_rules.proofs.RulesSteps.{collected_taken}
 use Rattle.walrus_rules.proofs.SegmentStep.{segment_taken, the_segment}
 use Rattle.walrus_rules.proofs.StepLeaves.{Between, between, is_segment, nothing_undeclared}
+use Rattle.walrus_rules.proofs.SettleReach.{kept_closed}
 
 -- ---- a body stays well formed where the types that it names stay
-
-and_parts : (a b : Bool) → (a && b) ≡ true → (a ≡ true) × (b ≡ true)
-and_parts true b e = (refl, e)
-and_parts false b e = absurd (cc)
-
-and_both : (a b : Bool) → a ≡ true → b ≡ true → (a && b) ≡ true
-and_both true b e f = f
-and_both false b e f = absurd (cc)
 
 module _ (p q : ℕ → Bool) where
   abbrev pub Same : List Item → Type 0
@@ -64,16 +59,16 @@ module _ (p q : ℕ → Bool) where
   args_stay : (args : List Arg) → Same (flat_map arg_names args) → args_hold p args ≡ true → args_hold q args ≡ true
   args_stay [] s h = h
   args_stay (a ∷ args) s h =
-      let both = and_parts (block_holds p a) (args_hold p args) h in
-      and_both (block_holds q a) (args_hold q args)
+      let both = and_both (block_holds p a) (args_hold p args) h in
+      both_true
       (block_stays a (λ t at. s t (Contains-append_1 (type_item t) (arg_names a) (flat_map arg_names args) at)) both.0)
       (args_stay args (λ t at. s t (Contains-append_2 (type_item t) (arg_names a) (flat_map arg_names args) at)) both.1)
 
   pub blocks_stay : (ops : List Op) → Same (names_of ops) → blocks_hold p ops ≡ true → blocks_hold q ops ≡ true
   blocks_stay [] s h = h
   blocks_stay (o ∷ ops) s h =
-      let both = and_parts (args_hold p o.args) (blocks_hold p ops) h in
-      and_both (args_hold q o.args) (blocks_hold q ops)
+      let both = and_both (args_hold p o.args) (blocks_hold p ops) h in
+      both_true
       (args_stay o.args (λ t at. s t (Contains-append_1 (type_item t) (op_names o) (names_of ops) at)) both.0)
       (blocks_stay ops (λ t at. s t (Contains-append_2 (type_item t) (op_names o) (names_of ops) at)) both.1)
 
@@ -212,8 +207,8 @@ collected_well config v w made live c = record {
   bodies = λ i f b at is.
       let left = c.functions.left i f at in
       well_formed_in config v w f.ty b
-      (c.types.kept f.ty (kept_named v (Functions, i) (type_item f.ty) left.0 (has_type v i f left.1)))
-      (λ t has. c.types.kept t (kept_named v (Functions, i) (type_item t) left.0 (function_has v i f b (type_item t) left.1 is has)))
+      (c.types.kept f.ty (kept_closed v (Functions, i) (type_item f.ty) left.0 (has_type v i f left.1)))
+      (λ t has. c.types.kept t (kept_closed v (Functions, i) (type_item t) left.0 (function_has v i f b (type_item t) left.1 is has)))
       (made.bodies i f b left.1 is);
   rules = rules_carried (collected_taken v w c live (λ i f at un. made.writable.initialised i f at un)) (λ f b at. made.rules.locals f b (body_stays v w c f b (w.functions f) refl at)) made.rules;
   customs = λ s at. made.customs s (subst (λ l. Contains l s) c.customs at);

@@ -1,6 +1,6 @@
 -- The worked row is spelled; wrong texts aren't.
-use Rattle.std.proofs.Common.{◌≡◌, true, false, ℕ, zero, suc, ◌<◌, List, [], ◌∷◌, length, refl, sym, subst, arith, inl, inr, ap, ◌∙◌}
-use Rattle.std.specs.Prelude.{codes, All, Some, Contains, ◌≢◌, ◌++◌, Bool}
+use Rattle.std.proofs.Common.{◌≡◌, true, false, ℕ, zero, suc, List, [], ◌∷◌, refl, sym, subst, arith, inl, inr, ap, ◌∙◌}
+use Rattle.std.specs.Prelude.{codes, All, Some, ◌≢◌, ◌++◌, Bool}
 use Rattle.std.proofs.lemmas.Str.Ascii.{IsAscii-nil, IsAscii-cons}
 use Rattle.std.proofs.lemmas.Str.{IsUtf8-from_ascii}
 use Rattle.std.proofs.lemmas.List.Elements.{All-nil, All-cons}
@@ -22,11 +22,9 @@ use Rattle.wasm_forms.specs.declared.types.RawVal.TheVariants as vals
 use Rattle.wasm_operators.specs.declared.operator.RawArg.TheVariants as args
 use Rattle.wasm_operators.specs.Operators as wire
 use Rattle.wasm_operators.specs.Forms.{arg_form}
+use Rattle.walrus_model.proofs.Lists.{Contains-none}
 use Rattle.walrus_rules.specs.Spelling.{BodyStands, UsesAll, NeedsCount, IsNarrow, IsSpelledAs, written_as}
 use Rattle.walrus_rules.specs.Examples.{no_values, the_end, empty_body, one_text, one_function, one_function_bytes, padded_bytes, AreRefused}
-
-contains_none : {A : Type 0} (x : A) → Contains [] x → ⊥
-contains_none {A = A} x h = let lt : h.0 < length {A = A} [] = h.1 in omega arith
 
 end_read : Is operator (0x0B ∷ []) the_end
 unfolding operator operator_from operator_of args_form kinds_of
@@ -57,7 +55,7 @@ uses (suc f) b e = absurd (cc)
 no_data : NeedsCount one_function → ⊥
 no_data (inl (zero, p)) = p
 no_data (inl (suc d, p)) = p
-no_data (inr (zero, (d, c))) = contains_none _ c
+no_data (inr (zero, (d, c))) = Contains-none _ c
 no_data (inr (suc f, (d, c))) = c
 
 all_four : {A : Type 0} (P : A → Type 0) (a b c d : A) → P a → P b → P c → P d → All P (a ∷ b ∷ c ∷ d ∷ [])
@@ -133,7 +131,7 @@ are_refused = record {
   types_turned = λ s. let low = s.ranked 0 1 (0, vals.I32) (omega arith) (omega arith) in omega arith;
   type_twice = λ s. s.apart 0 1 (0, vals.I32) (omega arith) (omega arith) refl;
   none = λ s. let low = s.filled 0 (0, vals.I32) (omega arith) in omega arith;
-  unused = λ u. contains_none 0 (u 0 (omega arith) (omega arith));
+  unused = λ u. Contains-none 0 (u 0 (omega arith) (omega arith));
   empty_group = λ n s. s.filled 0 [] (omega arith) refl;
   table_named = λ n t at narrow c. c (refl, subst IsNarrow (sym at) narrow, tt);
   table_unnamed = λ n t at wide c. is_wide (subst IsNarrow at c.1) wide;

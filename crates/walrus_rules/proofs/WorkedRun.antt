@@ -24,7 +24,8 @@ use Rattle.walrus_model.specs.Same.{BothAnd, SameFunction, SameKind}
 use Rattle.walrus_model.specs.Sections.{export_of}
 use Rattle.walrus_model.proofs.HoldExample.{two_functions_hold}
 use Rattle.walrus_model.proofs.Least.{lies_within}
-use Rattle.walrus_model.proofs.Lists.{Contains-head, Contains-uncons, Contains-none}
+use Rattle.walrus_model.proofs.Lists.{Contains-head, Contains-none}
+use Rattle.walrus_model.proofs.Examples.{only_one as one_alone}
 use Rattle.walrus_rules.specs.Chain.{ParsedAs, AndThose, NoFunction, NoMore, IsWholeBody, IsBehind}
 use Rattle.walrus_rules.specs.Examples.{one_function, one_function_bytes, two_functions_bytes, RowRuns}
 use Rattle.walrus_rules.specs.Headline.{Reads, ComesTo}
@@ -159,9 +160,6 @@ isnt_first (items.Tags, i) = true
 isnt_first (Globals, i) = true
 isnt_first (Elements, i) = true
 isnt_first (DataSegments, i) = true
-
-one_alone : {A : Type 0} (x y : A) → Contains (x ∷ []) y → x ≡ y
-one_alone x y at = ⊎_elim (λ e. e) (λ none. absurd (Contains-none y none)) (Contains-uncons x y [] at)
 
 is_type : (y : Item) → Contains ((Types, 0) ∷ []) y → IsTrue (isnt_first y)
 is_type y at = subst (λ y. IsTrue (isnt_first y)) (one_alone (Types, 0) y at) refl

@@ -17,7 +17,7 @@ use Rattle.walrus_rules.specs.Chain.{ParsedAs, handlers_by}
 use Rattle.walrus_rules.specs.WellMadeLaws.{ParsedWell}
 use Rattle.walrus_rules.proofs.BehindAlone.{IsAlone, all_alone, none_yet}
 use Rattle.walrus_model.proofs.Follow.{used_follow}
-use Rattle.walrus_model.proofs.Lists.{Contains-none, Contains-tail, Contains-head}
+use Rattle.walrus_model.proofs.Lists.{Contains-none}
 use Rattle.walrus_rules.proofs.MovedBody.{moved_arg, moved_op, ops_are}
 use Rattle.walrus_rules.proofs.ParsedWell.{Was, was, parsed_well}
 use Rattle.walrus_rules.proofs.PlainBodies.{ops_named, types_named}
@@ -31,6 +31,7 @@ use Rattle.walrus_rules.proofs.StepRead.{read_is_plain}
 use Rattle.walrus_rules.proofs.Things.{body_at}
 use Rattle.walrus_rules.proofs.UsedLocals.{unmap}
 use Rattle.walrus_rules.proofs.WellFormedWhole.{slice_there}
+use Rattle.walrus_rules.proofs.HandlersLive.{un_flat}
 
 abbrev NE : HeapType ℕ → Type 0
 NE h = IsNotExact h
@@ -42,13 +43,6 @@ from_heaps get None h at = absurd (Contains-none h at)
 from_consts : {X : Type 0} (get : X → List (List Op)) (o : Option X) (ops : List Op) → Contains (consts_by get o) ops → (x : X) × (o ≡ Some x) × Contains (get x) ops
 from_consts get (Some x) ops at = (x, refl, at)
 from_consts get None ops at = absurd (Contains-none ops at)
-
-flat_back : {A B : Type 0} (f : A → List B) (xs : List A) (y : B) → Contains (flat_map f xs) y → (x : A) × Contains xs x × Contains (f x) y
-flat_back f [] y at = absurd (Contains-none y at)
-flat_back {A} f (x ∷ xs) y at = ⊎_elim
-    (λ here. (x, Contains-head x xs, here))
-    (λ later. let r : (z : A) × Contains xs z × Contains (f z) y = flat_back f xs y later in (r.0, Contains-tail x r.0 xs r.1, r.2))
-    (Contains-split y (f x) (flat_map f xs) at)
 
 val_at : (vs : List (ValType ℕ)) (k : ℕ) (v : ValType ℕ) → ValsPlain vs → slice_get vs k ≡ Some v → Plain (val_heaps v)
 val_at [] k v h e = absurd (cc)
@@ -96,7 +90,7 @@ module _ (c : Config) (m v : Abstract) (p : ParsedAs c m v) (plain : IsPlain m) 
   local_plain i b w h at =
       let ps = params_of (m.types w.function.ty) in
       let l = p.renaming.locals w.index in
-      let found = flat_back (λ x. heaps_by val_heaps (b.local_type x)) (used_locals b) h at in
+      let found = un_flat (λ x. heaps_by val_heaps (b.local_type x)) (used_locals b) h at in
       let u = unmap (p.renaming.locals w.index) (used_locals (body_with (params_of (m.types w.function.ty)) w.said)) found.0 (subst (λ xs. Contains xs found.0) (used_follow (in_place c m v p) w.index (body_with (params_of (m.types w.function.ty)) w.said) b w.same) found.1) in
       by u.0 (slice_get (params_of (m.types w.function.ty) ++ w.said.0) u.0) refl (w.typed u.0 u.1) (subst (λ x. Contains (heaps_by val_heaps (b.local_type x)) h) (sym u.2) found.2)
     where

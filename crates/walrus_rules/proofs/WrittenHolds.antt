@@ -37,9 +37,6 @@ use Rattle.walrus_rules.proofs.Things.{Stands, stands, body_is}
 use Rattle.walrus_model.proofs.TypeRules.{body_came, body_was}
 use Rattle.walrus_rules.proofs.UsedLocals.{stands_for, no_parameter}
 
-body_same : (a b : Body) → LocalFunction a ≡ LocalFunction b → a ≡ b
-body_same a b e = cc
-
 premises_hold_of : (u : Abstract) → RulesHold (ByImport u) u → Premises u
 premises_hold_of u rules = record {
   written = rules.indices.written;

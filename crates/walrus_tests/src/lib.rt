@@ -1,4 +1,4 @@
-//! Tests that cross crates: worked modules byte for byte, the words of the program, devices that fail.
+//! Tests that cross crates: worked modules byte for byte, the words of the program, devices that fail, globals and memories.
 #![tactic(auto)]
 
 #[cfg(test)]
@@ -8,8 +8,14 @@ mod devices;
 #[cfg(test)]
 mod failing;
 #[cfg(test)]
+mod imported;
+#[cfg(test)]
 mod library;
 #[cfg(test)]
 mod modules;
 #[cfg(test)]
+mod parts;
+#[cfg(test)]
 mod rows;
+#[cfg(test)]
+mod spaces;

@@ -6,7 +6,7 @@ use std::test::Fail;
 use test_support::{add_bytes, demand};
 
 // Inputs and what they come to, in hexadecimal.
-const ROWS: [(&str, &str); 14] = [
+const ROWS: [(&str, &str); 19] = [
     // the header alone
     ("00 61 73 6D 01 00 00 00", "00 61 73 6D 01 00 00 00"),
     // two empty functions, of which the second is exported
@@ -43,6 +43,31 @@ const ROWS: [(&str, &str); 14] = [
     (
         "00 61 73 6D 01 00 00 00 01 04 01 60 00 00 03 02 01 00 07 05 01 01 66 00 00 0A 07 01 05 00 D2 00 1A 0B",
         "00 61 73 6D 01 00 00 00 01 04 01 60 00 00 03 02 01 00 07 05 01 01 66 00 00 0A 07 01 05 00 D2 00 1A 0B",
+    ),
+    // a memory that nothing reaches
+    (
+        "00 61 73 6D 01 00 00 00 05 03 01 00 01",
+        "00 61 73 6D 01 00 00 00",
+    ),
+    // of two memories the second is exported
+    (
+        "00 61 73 6D 01 00 00 00 05 05 02 00 01 00 02 07 05 01 01 6D 02 01",
+        "00 61 73 6D 01 00 00 00 05 03 01 00 02 07 05 01 01 6D 02 00",
+    ),
+    // a function that asks for the size of the memory, and the memory with it
+    (
+        "00 61 73 6D 01 00 00 00 01 05 01 60 00 01 7F 03 02 01 00 05 03 01 00 01 07 05 01 01 66 00 00 0A 06 01 04 00 3F 00 0B",
+        "00 61 73 6D 01 00 00 00 01 05 01 60 00 01 7F 03 02 01 00 05 03 01 00 01 07 05 01 01 66 00 00 0A 06 01 04 00 3F 00 0B",
+    ),
+    // a tag that nothing reaches, and its type
+    (
+        "00 61 73 6D 01 00 00 00 01 04 01 60 00 00 0D 03 01 00 00",
+        "00 61 73 6D 01 00 00 00",
+    ),
+    // of two tags a function throws the second
+    (
+        "00 61 73 6D 01 00 00 00 01 04 01 60 00 00 03 02 01 00 0D 05 02 00 00 00 00 07 05 01 01 66 00 00 0A 06 01 04 00 08 01 0B",
+        "00 61 73 6D 01 00 00 00 01 04 01 60 00 00 03 02 01 00 0D 03 01 00 00 07 05 01 01 66 00 00 0A 06 01 04 00 08 00 0B",
     ),
     // a type alone in a group that is spelled as one
     (

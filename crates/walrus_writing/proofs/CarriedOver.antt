@@ -1,6 +1,7 @@
 -- The module that the records say holds all of the module in memory, space by space, under the indices that are given.
 use Rattle.wasm_entries.specs.Record as entries
 use Rattle.wasm_entries.specs.declared.record.RawExportKind.{RawExportKind}
+use Rattle.wasm_entries.specs.declared.record.RawLimits.{RawLimits}
 use Rattle.wasm_entries.specs.declared.record.RawExportKind.TheVariants as kinds
 use Rattle.std.proofs.Common.{◌≡◌, ℕ, List, [], ◌∷◌, map, refl, sym, ap, ap₂, subst, ◌∙◌, inl, inr, ⊎_elim, ◌<◌, Bool, true}
 use Rattle.std.specs.Prelude.{Option, Some, None, IsSome, Contains, option_map}
@@ -17,19 +18,20 @@ use Rattle.walrus_functions.specs.Handlers.{params_of}
 use Rattle.walrus_bodies.specs.declared.features.Features.{Features}
 use Rattle.walrus_groups.specs.Groups.{types_from}
 use Rattle.walrus_groups.specs.Named.{named_def}
-use Rattle.walrus_contents.specs.View.{body, parts_view}
+use Rattle.walrus_contents.specs.View.{body}
+use Rattle.walrus_writing.specs.SoFar.{plain_view}
 use Rattle.walrus_contents.specs.declared.parts.Parts.{Parts}
 use Rattle.walrus_contents.proofs.Lookups.{heads, mapped_some, then_some}
-use Rattle.walrus_model.specs.Abstract.{Abstract, Body, Export, Function}
+use Rattle.walrus_model.specs.Abstract.{Abstract, Body, Export, Function, Memory, Origin, Tag}
 use Rattle.walrus_model.specs.Carried.{Carried}
 use Rattle.walrus_model.specs.Live.{IsLive}
 use Rattle.walrus_model.specs.Names.{body_of, body_of_function}
 use Rattle.walrus_model.specs.Ordered.{StandsFor}
 use Rattle.walrus_model.specs.Out.{IsTheSegment}
 use Rattle.walrus_model.specs.Plan.{IsPlan, IsWrittenAlong, Plan}
-use Rattle.walrus_model.specs.Renaming.{Renaming, renamed_export}
+use Rattle.walrus_model.specs.Renaming.{Renaming, renamed_export, renamed_memory, renamed_origin, renamed_tag}
 use Rattle.walrus_model.specs.Same.{SameType}
-use Rattle.walrus_model.specs.Sections.{export_of, space_of, types_of, body_with}
+use Rattle.walrus_model.specs.Sections.{export_of, memory_of, space_of, tag_of, types_of, body_with}
 use Rattle.walrus_model.specs.Spaces.{SameThing, look}
 use Rattle.walrus_model.proofs.AlongRecords.{stand_along}
 use Rattle.walrus_model.proofs.Indices.{planned_named, planned_stands}
@@ -40,7 +42,7 @@ use Rattle.walrus_model.proofs.Standing.{none_there, some_inj, zip_left, zip_rig
 use Rattle.walrus_rules.specs.Pinned.{HasType, IsDeclared, BeginsBefore, GoesBefore}
 use Rattle.walrus_rules.specs.Spelling.{UsesAll}
 use Rattle.walrus_rules.specs.Text.{said}
-use Rattle.walrus_writing.specs.Parts.{export_with_index, kind_in, slots_of}
+use Rattle.walrus_writing.specs.Parts.{export_with_index, kind_in, memory_limits, slots_of, tag_index}
 use Rattle.walrus_writing.specs.Records.{Records}
 use Rattle.walrus_writing.proofs.FunctionsWritten.{IsRow, all_rows, functions_stand, new_functions, text_in}
 use Rattle.walrus_writing.proofs.NamedTypes.{def_parts, each_place, same_in_group, group_renamed}
@@ -114,7 +116,7 @@ live_by o x e = subst (λ p. IsSome p) (sym e) (refl {A = Bool} {a = true})
 
 module _ {p : Parts} {features : Features} (r : Records p features) where
   abbrev before : Abstract
-  before = parts_view p
+  before = plain_view p
 
   abbrev after : Abstract
   after = module_said r
@@ -140,14 +142,36 @@ module _ {p : Parts} {features : Features} (r : Records p features) where
       subst (λ (ws : List TypeDef). AllZip (StandsFor (SameType (renaming.numbers Types)) before.types) (r.plan Types) ws) (map-itself (λ (w : TypeDef). w) (types_from 0 r.types) (λ w. refl))
       (stand_along (SameType (renaming.numbers Types)) before.types (named_def r.names) (λ (w : TypeDef). w) same_type (r.plan Types) (types_from 0 r.types) r.types_are)
 
+  -- ---- memories
+
+  same_memory : (i : ℕ) (x : Memory) (w : RawLimits) → before.memories i ≡ Some x → Some (memory_limits x) ≡ Some w → memory_of w ≡ renamed_memory renaming x
+  same_memory i x w at e =
+      ap memory_of (sym (some_inj (memory_limits x) w e))
+      ∙ ap (λ (o : Origin). let made : Memory = record { origin = o; ty = x.ty } in made) (sym (ap (renamed_origin renaming) (r.own.memories i x at)))
+
+  -- ---- tags
+
+  same_tag : (i : ℕ) (x : Tag) (t : ℕ) → before.tags i ≡ Some x → tag_index r.names x ≡ Some t → tag_of t ≡ renamed_tag renaming x
+  same_tag i x t at e =
+      ap tag_of (number_is r Types x.ty t e)
+      ∙ ap (λ (o : Origin). let made : Tag = record { origin = o; ty = renaming.numbers Types x.ty } in made) (sym (ap (renamed_origin renaming) (r.own.tags i x at)))
+
   -- ---- all spaces
 
   written_along : (s : Space) → IsWrittenAlong renaming before after r.plan s
   written_along Types = record { written = types_from 0 r.types; reads = λ j. refl; stand = types_stand }
   written_along Functions = record { written = new_functions r; reads = λ j. refl; stand = functions_stand r }
   written_along Tables = nothing_along renaming before after r.plan Tables r.is_plan (λ i. refl) (λ j. refl)
-  written_along Memories = nothing_along renaming before after r.plan Memories r.is_plan (λ i. refl) (λ j. refl)
-  written_along Tags = nothing_along renaming before after r.plan Tags r.is_plan (λ i. refl) (λ j. refl)
+  written_along Memories = record {
+    written = map memory_of r.memories;
+    reads = λ j. refl;
+    stand = stand_along (SameThing renaming Memories) before.memories (λ (m : Memory). Some (memory_limits m)) memory_of same_memory (r.plan Memories) r.memories r.memories_are;
+  }
+  written_along Tags = record {
+    written = map tag_of r.tags;
+    reads = λ j. refl;
+    stand = stand_along (SameThing renaming Tags) before.tags (tag_index r.names) tag_of same_tag (r.plan Tags) r.tags r.tags_are;
+  }
   written_along Globals = nothing_along renaming before after r.plan Globals r.is_plan (λ i. refl) (λ j. refl)
   written_along Elements = nothing_along renaming before after r.plan Elements r.is_plan (λ i. refl) (λ j. refl)
   written_along DataSegments = nothing_along renaming before after r.plan DataSegments r.is_plan (λ i. refl) (λ j. refl)

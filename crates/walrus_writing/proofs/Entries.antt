@@ -10,7 +10,7 @@ none_some x e = cc
 
 -- ---- two tests
 
-both_pass : (a b : Bool) → (a && b) ≡ true → (a ≡ true) × (b ≡ true)
+pub both_pass : (a b : Bool) → (a && b) ≡ true → (a ≡ true) × (b ≡ true)
 both_pass true b e = (refl, e)
 both_pass false b e = absurd (none_there e)
 

@@ -8,7 +8,8 @@ use Rattle.walrus_types.specs.Operators.{Types, Functions}
 use Rattle.walrus_types.specs.Shape.{place_in}
 use Rattle.walrus_code.specs.Function.{function_type}
 use Rattle.walrus_bodies.specs.declared.features.Features.{Features}
-use Rattle.walrus_contents.specs.View.{body, parts_view}
+use Rattle.walrus_contents.specs.View.{body}
+use Rattle.walrus_writing.specs.SoFar.{plain_view}
 use Rattle.walrus_contents.specs.declared.parts.Parts.{Parts}
 use Rattle.walrus_contents.proofs.Lookups.{heads}
 use Rattle.walrus_model.specs.Abstract.{Abstract, Function}
@@ -35,7 +36,7 @@ other_than i f is differ at = subst (λ (y : ℕ). nat_eq i y ≡ false) at.2 (A
 
 module _ {p : Parts} {features : Features} (r : Records p features) where
   abbrev V : Abstract
-  V = parts_view p
+  V = plain_view p
 
   abbrev R : Renaming
   R = renaming_of r

@@ -24,6 +24,7 @@ use Rattle.walrus_items.specs.Exports.{ExportValue, exported, exports}
 use Rattle.walrus_items.specs.Functions.{FunctionValue, functions, kind_type, local_at}
 use Rattle.walrus_items.specs.declared.exports.ExportItem.{ExportItem}
 use Rattle.walrus_items.specs.declared.exports.ExportItem.TheVariants as exports_as
+use Rattle.walrus_entities.specs.Tags.{TagValue, tags}
 use Rattle.walrus_types.specs.ModuleTypes.{type_slots}
 use Rattle.walrus_types.specs.TypeDef.{TypeDef}
 use Rattle.walrus_model.specs.Abstract as abstract
@@ -31,9 +32,10 @@ use Rattle.walrus_model.specs.Abstract.{Abstract}
 use Rattle.walrus_model.specs.Dead.{HasDead}
 use Rattle.walrus_model.specs.Live.{IsLive}
 use Rattle.walrus_model.specs.Names.{body_of_function}
-use Rattle.walrus_model.specs.Refers.{named_by, type_names, function_names, local_names}
+use Rattle.walrus_model.specs.Refers.{named_by, type_names, function_names, local_names, tag_names}
 use Rattle.walrus_contents.specs.There.{AreLive}
-use Rattle.walrus_contents.specs.View.{body, export_of, function, kind_of, parts_view}
+use Rattle.walrus_contents.specs.View.{body, export_of, function, kind_of, tag_of}
+use Rattle.walrus_writing.specs.SoFar.{plain_view}
 use Rattle.walrus_contents.specs.declared.parts.Parts.{Parts}
 use Rattle.walrus_contents.proofs.LiveLemmas.{was_there}
 use Rattle.walrus_contents.proofs.Lookups.{still_some}
@@ -48,7 +50,7 @@ use Rattle.walrus_model.proofs.Lists.{Contains-head, Contains-tail, Contains-map
 use Rattle.walrus_model.proofs.Standing.{none_there, some_inj, some_of, self_eq}
 use Rattle.walrus_model.specs.Plan.{AreNumbered, IsPlan, Plan}
 use Rattle.walrus_writing.specs.Refusals.{RefusesBodies}
-use Rattle.walrus_writing.specs.Parts.{IsIndexed, export_with_index, function_seen, local_in, slots_of, source, source_of, type_index, type_index_of}
+use Rattle.walrus_writing.specs.Parts.{IsIndexed, export_with_index, function_seen, local_in, slots_of, source, source_of, tag_index, type_index, type_index_of}
 use Rattle.walrus_writing.specs.Local.{all_local}
 use Rattle.walrus_writing.proofs.BySize.{got_at}
 use Rattle.walrus_writing.proofs.NamedAll.{val_named, ops_named}
@@ -96,12 +98,17 @@ local_numbered slots used parameters order declared x v c is None e =
     (Contains-append_2 x parameters order
     ((declared.which x).1 (record { is_used = c; no_parameter = λ p. none_there (subst (λ (o : Option ℕ). IsSome o) e (contains_placed parameters x p)); ty = v; typed = is })))
 
+-- what is made of each is there
+each_there : {X Y : Type 0} (f : X → Option Y) (xs : List X) → ((x : X) → Contains xs x → IsSome (f x)) → All (λ o. IsSome o) (map f xs)
+each_there f [] h = λ k d low. absurd (omega (arith, low))
+each_there {X} {Y} f (x ∷ xs) h = All-cons (λ (o : Option Y). IsSome o) (f x) (map f xs) (h x (Contains-head x xs)) (each_there f xs (λ y at. h y (Contains-tail x y xs at)))
+
 -- ---- what is there, and numbered
 
-module _ (p : Parts) (none_dead : HasDead (parts_view p) → ⊥) (local : all_local (items (functions p.funcs.now)) ≡ true)
-    (names : Lookup) (plan : Plan) (is_plan : IsPlan (parts_view p) plan) (numbered : AreNumbered names plan) where
+module _ (p : Parts) (none_dead : HasDead (plain_view p) → ⊥) (local : all_local (items (functions p.funcs.now)) ≡ true)
+    (names : Lookup) (plan : Plan) (is_plan : IsPlan (plain_view p) plan) (numbered : AreNumbered names plan) where
   abbrev V : Abstract
-  V = parts_view p
+  V = plain_view p
 
   there : AllLive V
   there = all_live V none_dead
@@ -201,6 +208,14 @@ module _ (p : Parts) (none_dead : HasDead (parts_view p) → ⊥) (local : all_l
       subst (λ (o : Option abstract.Function). IsSome (option_and_then (type_index names) o)) (sym a.is) (item_named (Types, place (function_type a.own)) (whole_is (get_or (plan Functions) k d) a).typed)
       )
 
+  -- the type of each tag has an index
+  pub tags_indexed : All (λ o. IsSome o) (map (λ t. tag_index names (tag_of t)) (items (tags p.tags.now)))
+  tags_indexed =
+      each_there (λ t. tag_index names (tag_of t)) (items (tags p.tags.now))
+      (λ t has.
+      let at = item_seen (tags p.tags.now) t has in
+      item_named (Types, t.ty) (there.written (Tags, at.0) (Types, t.ty) (subst (λ (o : Option TagValue). Contains (named_by tag_names (option_map tag_of o)) (Types, t.ty)) (sym at.1) (Contains-head (Types, t.ty) []))))
+
   export_named : (x : ExportItem) (name : List ℕ) → IsSome (names (exported x).0 (exported x).1) → IsSome (export_with_index names (record { name = name; item = exported x }))
   export_named (exports_as.Function f) name h = still_some (λ index. record { name = name; kind = kinds.Function; index = index }) (names Functions (place f)) h
   export_named (exports_as.Table i) name h = still_some (λ index. record { name = name; kind = kinds.Table; index = index }) (names Tables (place i)) h
@@ -226,15 +241,15 @@ lent_all P ids lent h same =
     subst (λ (l : List (Id FunctionKey)). All (λ id. P (place id)) l) (sym same)
     (λ k d lt. subst P (get_or-map place ids k d (place d) lt) (h k (place d) (omega (arith, lt, length-map ids place))))
 
-module _ (p : Parts) (names : Lookup) (plan : Plan) (ids lent : List (Id FunctionKey)) (none_dead : HasDead (parts_view p) → ⊥) (local : all_local (items (functions p.funcs.now)) ≡ true)
-    (is_plan : IsPlan (parts_view p) plan) (numbered : AreNumbered names plan) (are : plan Functions ≡ map place ids) (same : lent ≡ ids) where
+module _ (p : Parts) (names : Lookup) (plan : Plan) (ids lent : List (Id FunctionKey)) (none_dead : HasDead (plain_view p) → ⊥) (local : all_local (items (functions p.funcs.now)) ≡ true)
+    (is_plan : IsPlan (plain_view p) plan) (numbered : AreNumbered names plan) (are : plan Functions ≡ map place ids) (same : lent ≡ ids) where
   pub ids_indexed : (features : Features) → All (λ id. IsIndexed p names features (place id)) lent
   ids_indexed features = lent_all (IsIndexed p names features) ids lent (subst (λ (l : List ℕ). All (IsIndexed p names features) l) are (order_indexed p none_dead local names plan is_plan numbered features)) same
 
-  pub ids_typed : All (λ id. IsSome (option_and_then (type_index names) ((parts_view p).functions (place id)))) lent
+  pub ids_typed : All (λ id. IsSome (option_and_then (type_index names) ((plain_view p).functions (place id)))) lent
   ids_typed =
-      lent_all (λ n. IsSome (option_and_then (type_index names) ((parts_view p).functions n))) ids lent
-      (subst (λ (l : List ℕ). All (λ n. IsSome (option_and_then (type_index names) ((parts_view p).functions n))) l) are (order_typed p none_dead local names plan is_plan numbered)) same
+      lent_all (λ n. IsSome (option_and_then (type_index names) ((plain_view p).functions n))) ids lent
+      (subst (λ (l : List ℕ). All (λ n. IsSome (option_and_then (type_index names) ((plain_view p).functions n))) l) are (order_typed p none_dead local names plan is_plan numbered)) same
 
 -- ---- a function with a body, as it is seen
 
@@ -247,7 +262,7 @@ value_seen : (p : Parts) (n : ℕ) (o : Option FunctionValue) (f : LocalFunction
 value_seen p n None f e = absurd (cc)
 value_seen p n (Some v) f e = ap (λ (g : abstract.Function). Some g) (kind_seen p n v.kind f e)
 
-pub local_seen : (p : Parts) (n : ℕ) (f : LocalFunction) → local_in (functions p.funcs.now) n ≡ Some (n, f) → (parts_view p).functions n ≡ Some (function_seen p f)
+pub local_seen : (p : Parts) (n : ℕ) (f : LocalFunction) → local_in (functions p.funcs.now) n ≡ Some (n, f) → (plain_view p).functions n ≡ Some (function_seen p f)
 local_seen p n f e = value_seen p n (item_at (functions p.funcs.now) n) f e
 
 -- the index of its type
@@ -260,7 +275,7 @@ value_index : (p : Parts) (names : Lookup) (n : ℕ) (o : Option FunctionValue) 
 value_index p names n None = refl
 value_index p names n (Some v) = kind_index p names n v.kind
 
-pub index_seen : (p : Parts) (names : Lookup) (n : ℕ) → option_and_then (λ (f : ℕ × LocalFunction). names Types (place (function_type f.1))) (local_in (functions p.funcs.now) n) ≡ option_and_then (type_index names) ((parts_view p).functions n)
+pub index_seen : (p : Parts) (names : Lookup) (n : ℕ) → option_and_then (λ (f : ℕ × LocalFunction). names Types (place (function_type f.1))) (local_in (functions p.funcs.now) n) ≡ option_and_then (type_index names) ((plain_view p).functions n)
 index_seen p names n = value_index p names n (item_at (functions p.funcs.now) n)
 
 -- ---- why a body is refused

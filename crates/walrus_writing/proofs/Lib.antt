@@ -5,6 +5,8 @@ pub mod Emitted
 pub mod Emitting
 pub mod Entries
 pub mod FunctionsWritten
+pub mod GlobalRecords
+pub mod GlobalsLeft
 pub mod Indexed
 pub mod NamedAll
 pub mod NamedTypes
@@ -12,7 +14,10 @@ pub mod NoCauseAll
 pub mod NoCauseBodies
 pub mod NoCauseHeaps
 pub mod Numbering
+pub mod OwnItems
+pub mod OwnRise
 pub mod Placing
+pub mod PlainParts
 pub mod Planning
 pub mod Ranked
 pub mod RefusesAll
@@ -32,3 +37,4 @@ pub mod TypeRefusals
 pub mod TypesEntered
 pub mod WrittenAs
 pub mod WrittenLemmas
+pub mod Counted

@@ -4,7 +4,7 @@ use Rattle.walrus_base.specs.Arena.{items}
 use Rattle.walrus_types.specs.ModuleTypes.{type_slots}
 use Rattle.walrus_groups.specs.Indexed.{AreInOrder}
 use Rattle.walrus_items.specs.Functions.{functions}
-use Rattle.walrus_contents.specs.View.{parts_view}
+use Rattle.walrus_writing.specs.SoFar.{plain_view}
 use Rattle.walrus_contents.specs.declared.parts.Parts.{Parts}
 use Rattle.walrus_model.specs.Abstract.{Abstract}
 use Rattle.walrus_model.specs.Config.{Config}
@@ -19,7 +19,7 @@ use Rattle.walrus_writing.proofs.RefusesLarge.{no_two_indices, lacks_none}
 
 module _ (c : Config) (p : Parts) (r : Records p (features_of c)) where
   abbrev V : Abstract
-  V = parts_view p
+  V = plain_view p
 
   pub none_unspelled : HasUnspelled c V → ⊥
   none_unspelled (ExactType x h at not) = not (not_exact c p r x h at)
@@ -31,7 +31,7 @@ module _ (c : Config) (p : Parts) (r : Records p (features_of c)) where
   no_cause lives local ordered small = record {
     all_there = lives;
     one_index = no_two_indices c p;
-    indices = lacks_none c p local ordered;
+    indices = lacks_none c p local r.own ordered;
     spelled = none_unspelled;
     fits = small;
   }

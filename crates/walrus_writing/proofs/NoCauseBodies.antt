@@ -8,7 +8,8 @@ use Rattle.walrus_code.specs.Names.{Lookup, LeadsBack, LocalsLeadBack}
 use Rattle.walrus_bodies.specs.Body.{context}
 use Rattle.walrus_functions.specs.EmittedBody.{Source, comp_takes, takes, index_in}
 use Rattle.walrus_functions.specs.Handlers.{params_of}
-use Rattle.walrus_contents.specs.View.{body, parts_view}
+use Rattle.walrus_contents.specs.View.{body}
+use Rattle.walrus_writing.specs.SoFar.{plain_view}
 use Rattle.walrus_contents.specs.declared.parts.Parts.{Parts}
 use Rattle.walrus_model.specs.Abstract.{Abstract, Body, Function, LocalFunction as OfBody}
 use Rattle.walrus_model.specs.Config.{Config}
@@ -37,7 +38,7 @@ same_body b d e = cc
 
 module _ (c : Config) (p : Parts) (r : Records p (features_of c)) where
   abbrev V : Abstract
-  V = parts_view p
+  V = plain_view p
 
   -- ---- a body that is seen has bytes
 

@@ -7,14 +7,19 @@ use Rattle.walrus_base.specs.Id.{place}
 use Rattle.walrus_base.specs.declared.id.Id.{Id}
 use Rattle.walrus_base.specs.declared.keys.TypeKey.{TypeKey}
 use Rattle.walrus_base.specs.declared.keys.FunctionKey.{FunctionKey}
+use Rattle.walrus_base.specs.declared.keys.MemoryKey.{MemoryKey}
+use Rattle.walrus_base.specs.declared.keys.TagKey.{TagKey}
 use Rattle.walrus_code.specs.Code.{op_of}
 use Rattle.walrus_code.specs.declared.function.LocalFunction.{LocalFunction}
 use Rattle.walrus_types.specs.ModuleTypes.{type_slots}
 use Rattle.walrus_types.specs.Operators.{Space, Types, Functions, Tables, Memories, Tags, Globals, Elements, DataSegments}
 use Rattle.walrus_items.specs.Functions.{FunctionValue, functions}
 use Rattle.walrus_items.specs.declared.functions.FunctionKind.{FunctionKind}
+use Rattle.walrus_entities.specs.Memories.{MemoryValue, memories}
+use Rattle.walrus_entities.specs.Tags.{TagValue, tags}
 use Rattle.walrus_items.specs.declared.functions.FunctionKind.TheVariants as kind
-use Rattle.walrus_contents.specs.View.{body, function, kind_of, parts_view}
+use Rattle.walrus_contents.specs.View.{body, function, kind_of, memory_of, tag_of}
+use Rattle.walrus_writing.specs.SoFar.{DefinesItems, plain_view}
 use Rattle.walrus_contents.specs.declared.parts.Parts.{Parts}
 use Rattle.walrus_model.specs.Abstract as abstract
 use Rattle.walrus_model.specs.Abstract.{Abstract, Function, LocalFunction as OfBody, Table, Memory, Tag, Global, Element, DataSegment}
@@ -33,6 +38,7 @@ use Rattle.walrus_writing.specs.Sizes.{IsOrder}
 use Rattle.walrus_writing.specs.declared.plan.Plan.{Plan}
 use Rattle.walrus_writing.proofs.BySize.{bodies_in, body_at, body_there, ordered_by_size, own_body, pairs_by_size}
 use Rattle.walrus_writing.proofs.Entries.{item_passes}
+use Rattle.walrus_writing.proofs.OwnRise.{own_rise}
 
 -- ---- functions, each of which has a body
 
@@ -66,7 +72,7 @@ functions_ordered funcs order h local =
 
 module _ (p : Parts) where
   abbrev V : Abstract
-  V = parts_view p
+  V = plain_view p
 
   kind_by : (k : FunctionKind) (f : LocalFunction) → own_body k ≡ Some f → kind_of p.locals.now k ≡ OfBody (body p.locals.now f)
   kind_by (kind.Local g) f e = ap (λ (h : LocalFunction). OfBody (body p.locals.now h)) (some_inj g f e)
@@ -92,7 +98,14 @@ module _ (p : Parts) where
   abbrev IsInOrder : Space → List ℕ → Type 0
   IsInOrder s order = Ordered (look V s) order × AllPairs (ByImport V s) order
 
-  module _ (plan : Plan) (types : map place plan.types.items ≡ map (λ e. e.0) (entries (type_slots p.types.now))) (order : IsOrder (functions p.funcs.now) (map place plan.functions.items)) (local : all_local (items (functions p.funcs.now)) ≡ true) where
+  abbrev memory_slots : List (Option MemoryValue)
+  memory_slots = memories p.memories.now
+
+  abbrev tag_slots : List (Option TagValue)
+  tag_slots = tags p.tags.now
+
+  module _ (plan : Plan) (types : map place plan.types.items ≡ map (λ e. e.0) (entries (type_slots p.types.now))) (order : IsOrder (functions p.funcs.now) (map place plan.functions.items))
+      (rising : map place plan.memories.items ≡ map (λ e. e.0) (entries memory_slots)) (tags_rise : map place plan.tags.items ≡ map (λ e. e.0) (entries tag_slots)) (local : all_local (items (functions p.funcs.now)) ≡ true) (own : DefinesItems V) where
     in_order : (s : Space) → IsInOrder s (places plan s)
     in_order Types = subst (IsInOrder Types) (sym types) (ordered_entries (type_slots p.types.now), entries_rise (type_slots p.types.now))
     in_order Functions = (
@@ -100,8 +113,12 @@ module _ (p : Parts) where
       pairs_by_size (functions p.funcs.now) (map place plan.functions.items) order (ByImport V Functions) comes_first,
     )
     in_order Tables = (ordered_nothing Table, no_pairs (ByImport V Tables))
-    in_order Memories = (ordered_nothing Memory, no_pairs (ByImport V Memories))
-    in_order Tags = (ordered_nothing Tag, no_pairs (ByImport V Tags))
+    in_order Memories =
+        subst (IsInOrder Memories) (sym rising)
+        (ordered_seen memory_of memory_slots _ (ordered_entries memory_slots), own_rise memory_of (λ (m : Memory). m.origin) memory_slots own.memories)
+    in_order Tags =
+        subst (IsInOrder Tags) (sym tags_rise)
+        (ordered_seen tag_of tag_slots _ (ordered_entries tag_slots), own_rise tag_of (λ (t : Tag). t.origin) tag_slots own.tags)
     in_order Globals = (ordered_nothing Global, no_pairs (ByImport V Globals))
     in_order Elements = (ordered_nothing Element, no_pairs (ByImport V Elements))
     in_order DataSegments = (ordered_nothing DataSegment, no_pairs (ByImport V DataSegments))
@@ -114,13 +131,13 @@ module _ (p : Parts) where
 abbrev pub no_places : model.Plan
 no_places s = []
 
-module _ (plan : Plan) (types : List (Id TypeKey)) (functions : List (Id FunctionKey)) (same_types : types ≡ plan.types.items) (same_functions : functions ≡ plan.functions.items) where
-  pub placed_so : (s : Space) → with_places (with_places no_places Types (map place types)) Functions (map place functions) s ≡ places plan s
+module _ (plan : Plan) (types : List (Id TypeKey)) (functions : List (Id FunctionKey)) (own : List (Id MemoryKey)) (tag_ids : List (Id TagKey)) (same_types : types ≡ plan.types.items) (same_functions : functions ≡ plan.functions.items) (same_own : own ≡ plan.memories.items) (same_tags : tag_ids ≡ plan.tags.items) where
+  pub placed_so : (s : Space) → with_places (with_places (with_places (with_places no_places Types (map place types)) Functions (map place functions)) Memories (map place own)) Tags (map place tag_ids) s ≡ places plan s
   placed_so Types = ap (map place) same_types
   placed_so Functions = ap (map place) same_functions
   placed_so Tables = refl
-  placed_so Memories = refl
-  placed_so Tags = refl
+  placed_so Memories = ap (map place) same_own
+  placed_so Tags = ap (map place) same_tags
   placed_so Globals = refl
   placed_so Elements = refl
   placed_so DataSegments = refl
@@ -128,12 +145,12 @@ module _ (plan : Plan) (types : List (Id TypeKey)) (functions : List (Id Functio
   few_of : {K : Type 0} (ids lent : List (Id K)) → lent ≡ ids → length lent < 2 ^ 32 → length (map place ids) < 2 ^ 32
   few_of ids lent same few = omega (arith, few, ap length same, length-map ids place)
 
-  pub few_places : length types < 2 ^ 32 → length functions < 2 ^ 32 → (s : Space) → length (places plan s) < 2 ^ 32
-  few_places few many Types = few_of plan.types.items types same_types few
-  few_places few many Functions = few_of plan.functions.items functions same_functions many
-  few_places few many Tables = omega arith
-  few_places few many Memories = omega arith
-  few_places few many Tags = omega arith
-  few_places few many Globals = omega arith
-  few_places few many Elements = omega arith
-  few_places few many DataSegments = omega arith
+  pub few_places : length types < 2 ^ 32 → length functions < 2 ^ 32 → length own < 2 ^ 32 → length tag_ids < 2 ^ 32 → (s : Space) → length (places plan s) < 2 ^ 32
+  few_places few many some more Types = few_of plan.types.items types same_types few
+  few_places few many some more Functions = few_of plan.functions.items functions same_functions many
+  few_places few many some more Tables = omega arith
+  few_places few many some more Memories = few_of plan.memories.items own same_own some
+  few_places few many some more Tags = few_of plan.tags.items tag_ids same_tags more
+  few_places few many some more Globals = omega arith
+  few_places few many some more Elements = omega arith
+  few_places few many some more DataSegments = omega arith

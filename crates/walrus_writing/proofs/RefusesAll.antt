@@ -7,7 +7,7 @@ use Rattle.walrus_groups.specs.Indexed.{AreInOrder}
 use Rattle.walrus_types.specs.ModuleTypes.{type_slots}
 use Rattle.walrus_items.specs.Functions.{functions}
 use Rattle.walrus_contents.specs.There.{IsRefusal}
-use Rattle.walrus_contents.specs.View.{parts_view}
+use Rattle.walrus_writing.specs.SoFar.{DefinesItems, plain_view}
 use Rattle.walrus_contents.specs.declared.parts.Parts.{Parts}
 use Rattle.walrus_model.specs.Abstract.{Abstract}
 use Rattle.walrus_model.specs.Config.{Config}
@@ -36,9 +36,9 @@ dead_refused X c v _ r = absurd r
 
 -- ---- items
 
-module _ (c : Config) (p : Parts) (lives : HasDead (parts_view p) → ⊥) (declared : NothingUndeclared (parts_view p)) (local : all_local (items (functions p.funcs.now)) ≡ true) (ordered : AreInOrder (type_slots p.types.now)) where
+module _ (c : Config) (p : Parts) (lives : HasDead (plain_view p) → ⊥) (declared : NothingUndeclared (plain_view p)) (local : all_local (items (functions p.funcs.now)) ≡ true) (own : DefinesItems (plain_view p)) (ordered : AreInOrder (type_slots p.types.now)) where
   abbrev V : Abstract
-  V = parts_view p
+  V = plain_view p
 
   -- what a size too large comes from, and what is written passes no limit, with these features
   abbrev Sizes : Features → Type 0
@@ -51,9 +51,9 @@ module _ (c : Config) (p : Parts) (lives : HasDead (parts_view p) → ⊥) (decl
   undeclared_none (f, undeclared) = declared f undeclared
 
   items_with : {X : Type 0} (view : X → List ℕ) (result : Result X Error) → Refuses view result (features_of c)
-  items_with view (Ok x) sizes spells r = (no_cause c p spells.records lives local ordered (sizes.1 (view x) spells), not_imported c p local, undeclared_none)
+  items_with view (Ok x) sizes spells r = (no_cause c p spells.records lives local ordered (sizes.1 (view x) spells), not_imported c p local own, undeclared_none)
   items_with view (Err NotWritable) sizes spells r = inl (unspelled c p lives r)
-  items_with view (Err TooLarge) sizes spells r = ((no_two_indices c p, lacks_none c p local ordered, λ sayable. passes c p sizes.0 r), not_imported c p local)
+  items_with view (Err TooLarge) sizes spells r = ((no_two_indices c p, lacks_none c p local own ordered, λ sayable. passes c p sizes.0 r), not_imported c p local own)
   items_with view (Err (Memory m)) sizes spells r = tt
   items_with view (Err _) sizes spells r = absurd r
 

@@ -12,7 +12,8 @@ use Rattle.walrus_types.specs.ModuleTypes.{type_slots}
 use Rattle.walrus_items.specs.Functions.{FunctionValue, functions}
 use Rattle.walrus_items.specs.declared.functions.FunctionKind.{FunctionKind}
 use Rattle.walrus_items.specs.declared.functions.FunctionKind.TheVariants as kind
-use Rattle.walrus_contents.specs.View.{function, kind_of, parts_view}
+use Rattle.walrus_contents.specs.View.{function, kind_of}
+use Rattle.walrus_writing.specs.SoFar.{plain_view}
 use Rattle.walrus_contents.specs.declared.parts.Parts.{Parts}
 use Rattle.walrus_model.specs.Abstract.{Abstract}
 use Rattle.walrus_model.specs.Dead.{HasDead, DeadName, NoKind}
@@ -21,13 +22,13 @@ use Rattle.walrus_model.specs.Refers.{named_by, type_names}
 use Rattle.walrus_model.proofs.Lists.{Contains-map, Contains-append_1, Contains-append_2}
 use Rattle.walrus_model.proofs.Standing.{none_there}
 use Rattle.walrus_rules.specs.Refused.{LacksIndex, LaterSupertype, LaterType}
-use Rattle.walrus_rules.specs.SoFar.{HasImported}
+use Rattle.walrus_rules.specs.SoFar.{HasUnwritten, OfAnImport}
 use Rattle.walrus_writing.specs.Local.{is_local, all_local}
 use Rattle.walrus_writing.proofs.Entries.{Failing, item_fails}
 
-module _ (p : Parts) (lives : HasDead (parts_view p) → ⊥) where
+module _ (p : Parts) (lives : HasDead (plain_view p) → ⊥) where
   abbrev V : Abstract
-  V = parts_view p
+  V = plain_view p
 
   abbrev funcs : List (Option FunctionValue)
   funcs = functions p.funcs.now
@@ -37,12 +38,12 @@ module _ (p : Parts) (lives : HasDead (parts_view p) → ⊥) where
 
   -- ---- a function with an import
 
-  imported_one : (i : ℕ) (v : FunctionValue) (k : FunctionKind) → item_at funcs i ≡ Some v → v.kind ≡ k → is_local k ≡ false → HasImported V
-  imported_one i v (kind.Import imported) at same not = (i, function p.locals.now v, place imported.«import», ap (option_map (function p.locals.now)) at, ap (kind_of p.locals.now) same)
+  imported_one : (i : ℕ) (v : FunctionValue) (k : FunctionKind) → item_at funcs i ≡ Some v → v.kind ≡ k → is_local k ≡ false → HasUnwritten V
+  imported_one i v (kind.Import imported) at same not = OfAnImport i (function p.locals.now v) (place imported.«import») (ap (option_map (function p.locals.now)) at) (ap (kind_of p.locals.now) same)
   imported_one i v (kind.Local f) at same not = absurd (none_there (sym not))
   imported_one i v (kind.Uninitialized ty) at same not = absurd (lives (NoKind i (function p.locals.now v) (ap (option_map (function p.locals.now)) at) (ap (kind_of p.locals.now) same)))
 
-  pub imported : all_local (items funcs) ≡ false → HasImported V
+  pub imported : all_local (items funcs) ≡ false → HasUnwritten V
   imported not =
       let f : Failing (λ (v : FunctionValue). is_local v.kind) funcs = item_fails (λ (v : FunctionValue). is_local v.kind) funcs not in
       imported_one f.at f.value f.value.kind f.item refl f.fails

@@ -14,16 +14,17 @@ use Rattle.walrus_functions.specs.EmittedBody.{HasTooManyLocals}
 use Rattle.walrus_items.specs.Functions.{FunctionValue, functions}
 use Rattle.walrus_items.specs.declared.functions.FunctionKind.{FunctionKind}
 use Rattle.walrus_items.specs.declared.functions.FunctionKind.TheVariants as kind
-use Rattle.walrus_contents.specs.View.{body, function, kind_of, parts_view}
+use Rattle.walrus_contents.specs.View.{body, function, kind_of}
+use Rattle.walrus_writing.specs.SoFar.{DefinesItems, plain_view}
 use Rattle.walrus_contents.specs.declared.parts.Parts.{Parts}
-use Rattle.walrus_model.specs.Abstract.{Abstract}
+use Rattle.walrus_model.specs.Abstract.{Abstract, Memory, Tag}
 use Rattle.walrus_model.specs.Config.{Config}
 use Rattle.walrus_model.specs.Names.{body_of_function}
-use Rattle.walrus_model.specs.WellMade.{import_in, import_of, kind_import}
+use Rattle.walrus_model.specs.WellMade.{import_in, import_of, kind_import, origin_import}
 use Rattle.walrus_model.proofs.Standing.{none_there}
 use Rattle.walrus_rules.specs.Features.{features_of}
 use Rattle.walrus_rules.specs.Refused.{HasTwoIndices, LocalImported, ImportedTwice, LacksIndex, NotBrought, LocalGlobalRead, LaterGlobalRead, LaterSupertype, LaterType, PassesLimits, ManyItems, ManyLocals}
-use Rattle.walrus_rules.specs.SoFar.{HasImported}
+use Rattle.walrus_rules.specs.SoFar.{HasUnwritten, AnImport, ATable, AGlobal, OfAnImport, AnImportedMemory, AnImportedTag}
 use Rattle.walrus_writing.specs.Local.{is_local, all_local}
 use Rattle.walrus_model.proofs.Indices.{planned_rising}
 use Rattle.walrus_writing.specs.Parts.{slots_of}
@@ -58,7 +59,7 @@ module _ (slots : List (Option (ValType ℕ))) (used parameters order : List ℕ
 
 module _ (c : Config) (p : Parts) where
   abbrev V : Abstract
-  V = parts_view p
+  V = plain_view p
 
   -- ---- too many items or locals
 
@@ -83,9 +84,9 @@ module _ (c : Config) (p : Parts) where
   no_two_indices (LocalImported i x at live has none) = none_some x at
   no_two_indices (ImportedTwice i j x y at too live apart same) = none_some x at
 
-  -- ---- where functions have bodies and types stand in order, nothing lacks one
+  -- ---- where functions have bodies, no import brings a memory or a tag and types stand in order, nothing lacks one
 
-  module _ (local : all_local (items (functions p.funcs.now)) ≡ true) where
+  module _ (local : all_local (items (functions p.funcs.now)) ≡ true) (own : DefinesItems V) where
     kind_own : (k : FunctionKind) → is_local k ≡ true → kind_import (kind_of p.locals.now k) ≡ None
     kind_own (kind.Local f) is = refl
     kind_own (kind.Import i) is = absurd (none_there is)
@@ -95,18 +96,31 @@ module _ (c : Config) (p : Parts) where
     function_own i None at = refl
     function_own i (Some v) at = kind_own v.kind (item_passes (λ (f : FunctionValue). is_local f.kind) (functions p.funcs.now) i v local at)
 
+    memory_own : (i : ℕ) (o : Option Memory) → V.memories i ≡ o → import_in (λ m. origin_import m.origin) o ≡ None
+    memory_own i None at = refl
+    memory_own i (Some m) at = ap origin_import (own.memories i m at)
+
+    tag_own : (i : ℕ) (o : Option Tag) → V.tags i ≡ o → import_in (λ t. origin_import t.origin) o ≡ None
+    tag_own i None at = refl
+    tag_own i (Some t) at = ap origin_import (own.tags i t at)
+
     no_import : (x : Item) → import_of V x ≡ None
     no_import (Functions, i) = function_own i (item_at (functions p.funcs.now) i) refl
     no_import (Types, i) = refl
     no_import (Tables, i) = refl
-    no_import (Memories, i) = refl
-    no_import (Tags, i) = refl
+    no_import (Memories, i) = memory_own i (V.memories i) refl
+    no_import (Tags, i) = tag_own i (V.tags i) refl
     no_import (Globals, i) = refl
     no_import (Elements, i) = refl
     no_import (DataSegments, i) = refl
 
-    pub not_imported : HasImported V → ⊥
-    not_imported (i, f, n, at, is) = none_some n (sym (no_import (Functions, i)) ∙ ap (import_in (λ g. kind_import g.kind)) at ∙ ap kind_import is)
+    pub not_imported : HasUnwritten V → ⊥
+    not_imported (AnImport i x at) = none_some x at
+    not_imported (ATable i t at) = none_some t at
+    not_imported (AGlobal i g at) = none_some g at
+    not_imported (OfAnImport i f n at is) = none_some n (sym (no_import (Functions, i)) ∙ ap (import_in (λ g. kind_import g.kind)) at ∙ ap kind_import is)
+    not_imported (AnImportedMemory i y n at brought) = none_some n (ap origin_import (sym (own.memories i y at) ∙ brought))
+    not_imported (AnImportedTag i t n at brought) = none_some n (ap origin_import (sym (own.tags i t at) ∙ brought))
 
     pub lacks_none : AreInOrder (type_slots p.types.now) → LacksIndex V → ⊥
     lacks_none ordered (NotBrought y needed has none) = none_there (subst (λ (o : Option ℕ). IsSome o) (no_import y) has)

@@ -14,7 +14,8 @@ use Rattle.walrus_functions.specs.Handlers.{params_of}
 use Rattle.walrus_functions.specs.Laws as laws
 use Rattle.walrus_functions.proofs.LawWritable.{ill_formed}
 use Rattle.walrus_groups.specs.Indexed.{HasExact}
-use Rattle.walrus_contents.specs.View.{body, parts_view}
+use Rattle.walrus_contents.specs.View.{body}
+use Rattle.walrus_writing.specs.SoFar.{plain_view}
 use Rattle.walrus_contents.specs.declared.parts.Parts.{Parts}
 use Rattle.walrus_contents.proofs.Slots.{item_seen}
 use Rattle.walrus_model.specs.Abstract as abstract
@@ -40,7 +41,7 @@ def_taken def x e is = subst (λ (o : Option TypeDef). takes o ≡ Some (params_
 
 module _ (c : Config) (p : Parts) where
   abbrev V : abstract.Abstract
-  V = parts_view p
+  V = plain_view p
 
   abbrev types : List (Option TypeDef)
   types = type_slots p.types.now

@@ -1,7 +1,7 @@
 -- What a refusal of a part says of the items that are written, and the records that are.
 use Rattle.wasm_entries.specs.Record as entries
 use Rattle.std.proofs.Common.{inl, inr, ◌≡◌, ℕ, ◌<◌, ◌^◌, suc, List, [], ◌∷◌, ◌++◌, map, length, sym, ap, ◌∙◌, subst, arith, Some, None}
-use Rattle.std.specs.Prelude.{Option, IsSome, All, Err, option_and_then}
+use Rattle.std.specs.Prelude.{Option, IsSome, All, Err, option_and_then, option_map}
 use Rattle.std.specs.Global.{Vec}
 use Rattle.std.specs.List.{AllZip}
 use Rattle.std.specs.Str.{IsUtf8}
@@ -12,9 +12,10 @@ use Rattle.wasm_forms.specs.Spelling.{number_bytes}
 use Rattle.wasm_forms.specs.Writing.{FitsLength}
 use Rattle.wasm_entries.specs.Record.{export_entry, group}
 use Rattle.wasm_entries.specs.declared.record.RawExport.{RawExport}
+use Rattle.wasm_entries.specs.declared.record.RawLimits.{RawLimits}
 use Rattle.wasm_entries.specs.declared.record.RawSub.{RawSub}
 use Rattle.wasm_entries.specs.Spelling as spelling
-use Rattle.wasm_entries.specs.TypeSpelling.{GroupFits, group_bytes, LimitsFit, limits_bytes}
+use Rattle.wasm_entries.specs.TypeSpelling.{GroupFits, group_bytes, LimitsFit, LimitsStand, limits_bytes}
 use Rattle.wasm_writer.specs.Spelling.{SectionFits, tag_bytes}
 use Rattle.wasm_writer.proofs.Listed.{fits_none}
 use Rattle.wasm_wire.specs.ModuleSpelling.{EachSection, ModuleFits, WritesModule, module_bytes}
@@ -29,9 +30,13 @@ use Rattle.walrus_bodies.specs.declared.features.Features.{Features}
 use Rattle.walrus_groups.specs.Indexed.{AreIndexed}
 use Rattle.walrus_groups.specs.Named.{named_def}
 use Rattle.walrus_items.specs.Exports.{exports}
-use Rattle.walrus_contents.specs.View.{export_of, parts_view}
+use Rattle.walrus_entities.specs.Memories.{memories}
+use Rattle.walrus_entities.specs.Tags.{tags}
+use Rattle.walrus_contents.specs.View.{export_of, memory_of, tag_of}
+use Rattle.walrus_writing.specs.SoFar.{DefinesItems, plain_view}
 use Rattle.walrus_contents.specs.declared.parts.Parts.{Parts}
 use Rattle.walrus_contents.proofs.Slots.{stands_at}
+use Rattle.walrus_model.specs.Abstract.{Memory}
 use Rattle.walrus_model.specs.Plan as model
 use Rattle.walrus_model.specs.Plan.{AreNumbered, IsPlan}
 use Rattle.walrus_model.proofs.Lists.{map-map, map-same_on}
@@ -41,7 +46,7 @@ use Rattle.walrus_parts.specs.declared.error.Error.{Error}
 use Rattle.walrus_parts.specs.declared.error.Error.TheVariants as Parts_error
 use Rattle.walrus_rules.specs.Examples.{empty_text}
 use Rattle.walrus_rules.proofs.OneSections.{laid}
-use Rattle.walrus_writing.specs.Parts.{HasBytes, export_with_index, type_index, unplaced}
+use Rattle.walrus_writing.specs.Parts.{HasBytes, export_with_index, memory_limits, tag_index, type_index, unplaced}
 use Rattle.walrus_writing.specs.Places.{places}
 use Rattle.walrus_writing.specs.Records.{Records, Spells, sections_with, text_of}
 use Rattle.walrus_writing.specs.Refusals.{RefusesBodies, RefusesCounts, RefusesItems, RefusesTypes}
@@ -66,7 +71,7 @@ next_has {B} {C} done g left after e all is step h none =
 -- ---- refusals
 
 module _ (p : Parts) (features : Features) (X : Type 0) where
-  pub counts_refused : (plan : model.Plan) (e : Error) → IsPlan (parts_view p) plan → RefusesCounts plan e → RefusesItems {X = X} p features (Err e)
+  pub counts_refused : (plan : model.Plan) (e : Error) → IsPlan (plain_view p) plan → RefusesCounts plan e → RefusesItems {X = X} p features (Err e)
   counts_refused plan (Parts_error.Memory m) is_plan r = tt
   counts_refused plan Parts_error.TooLarge is_plan r = inl (plan, (is_plan, r))
   counts_refused plan _ is_plan r = absurd r
@@ -91,6 +96,14 @@ by_places {T} f slots =
     ∙ map-same_on (λ (e : ℕ × T). option_and_then f (item_at slots e.0)) (λ (e : ℕ × T). f e.1) (entries_in slots) (λ e at. ap (option_and_then f) (stands_at slots e at))
     ∙ sym (map-map f (λ (e : ℕ × T). e.1) (entries_in slots))
 
+-- the same, of what is seen of them
+pub seen_by_places : {T X W : Type 0} (seen : T → X) (f : X → Option W) (slots : List (Option T))
+    → map (λ i. option_and_then f (option_map seen (item_at slots i))) (map (λ e. e.0) (entries_in slots)) ≡ map (λ t. f (seen t)) (items slots)
+seen_by_places {T} seen f slots =
+    map-map (λ i. option_and_then f (option_map seen (item_at slots i))) (λ (e : ℕ × T). e.0) (entries_in slots)
+    ∙ map-same_on (λ (e : ℕ × T). option_and_then f (option_map seen (item_at slots e.0))) (λ (e : ℕ × T). f (seen e.1)) (entries_in slots) (λ e at. ap (λ (o : Option T). option_and_then f (option_map seen o)) (stands_at slots e at))
+    ∙ sym (map-map (λ (t : T). f (seen t)) (λ (e : ℕ × T). e.1) (entries_in slots))
+
 -- sections that list nothing fit
 none_fit : EachSection SectionFits (laid (plain empty_text))
 none_fit = record {
@@ -110,11 +123,17 @@ none_fit = record {
   customs = All-nil _;
 }
 
-module _ (p : Parts) (features : Features) (names : Lookup) (plan : Plan) (raws : List (Vec RawSub)) (raw_functions : List ℕ) (exported : List RawExport) (bodies : List (Vec ℕ))
-    (is_plan : IsPlan (parts_view p) (places plan)) (numbered : AreNumbered names (places plan)) (few : (s : Space) → length (places plan s) < 2 ^ 32)
+module _ (p : Parts) (features : Features) (names : Lookup) (plan : Plan) (raws : List (Vec RawSub)) (raw_functions : List ℕ) (raw_memories : List RawLimits) (raw_tags : List ℕ) (exported : List RawExport) (bodies : List (Vec ℕ))
+    (is_plan : IsPlan (plain_view p) (places plan)) (numbered : AreNumbered names (places plan)) (few : (s : Space) → length (places plan s) < 2 ^ 32)
     (types : map place plan.types.items ≡ map (λ e. e.0) (entries_in (type_slots p.types.now)))
     (types_are : AreIndexed names (items (type_slots p.types.now)) (map group raws))
-    (functions_are : map Some raw_functions ≡ map (λ id. option_and_then (type_index names) ((parts_view p).functions (place id))) plan.functions.items)
+    (functions_are : map Some raw_functions ≡ map (λ id. option_and_then (type_index names) ((plain_view p).functions (place id))) plan.functions.items)
+    (own : DefinesItems (plain_view p))
+    (rising : map place plan.memories.items ≡ map (λ e. e.0) (entries_in (memories p.memories.now)))
+    (memories_are : map Some raw_memories ≡ map (λ m. Some (memory_limits (memory_of m))) (items (memories p.memories.now)))
+    (memories_stand : All LimitsStand raw_memories)
+    (tags_rise : map place plan.tags.items ≡ map (λ e. e.0) (entries_in (tags p.tags.now)))
+    (tags_are : map Some raw_tags ≡ map (λ t. tag_index names (tag_of t)) (items (tags p.tags.now)))
     (exports_are : map (λ e. Some (export_entry e)) exported ≡ map (λ v. export_with_index names (export_of v)) (items (exports p.exports.now)))
     (texts : All (λ e. IsUtf8 e.name.now) exported)
     (bodies_are : AllZip (λ id bytes. HasBytes p names features (place id) bytes.items) plan.functions.items bodies) where
@@ -122,15 +141,23 @@ module _ (p : Parts) (features : Features) (names : Lookup) (plan : Plan) (raws 
   records_of = record {
     names = names;
     plan = places plan;
+    own = own;
     is_plan = is_plan;
     numbered = numbered;
     few = few;
     types = map group raws;
-    types_are = types_are.read ∙ sym (by_places (named_def names) (type_slots p.types.now)) ∙ ap (map (λ i. option_and_then (named_def names) ((parts_view p).types i))) (sym types);
+    types_are = types_are.read ∙ sym (by_places (named_def names) (type_slots p.types.now)) ∙ ap (map (λ i. option_and_then (named_def names) ((plain_view p).types i))) (sym types);
     none_empty = types_are.none_empty;
     types_stand = types_are.stand;
     functions = raw_functions;
-    functions_are = functions_are ∙ sym (map-map (λ i. option_and_then (type_index names) ((parts_view p).functions i)) place plan.functions.items);
+    functions_are = functions_are ∙ sym (map-map (λ i. option_and_then (type_index names) ((plain_view p).functions i)) place plan.functions.items);
+    memories = raw_memories;
+    memories_are =
+        memories_are ∙ sym (seen_by_places memory_of (λ (m : Memory). Some (memory_limits m)) (memories p.memories.now))
+        ∙ ap (map (λ i. option_and_then (λ (m : Memory). Some (memory_limits m)) ((plain_view p).memories i))) (sym rising);
+    memories_stand = memories_stand;
+    tags = raw_tags;
+    tags_are = tags_are ∙ sym (seen_by_places tag_of (tag_index names) (tags p.tags.now)) ∙ ap (map (λ i. option_and_then (tag_index names) ((plain_view p).tags i))) (sym tags_rise);
     bodies = map (λ (v : Vec ℕ). v.items) bodies;
     bodies_are = zip_seen place (λ (v : Vec ℕ). v.items) (HasBytes p names features) plan.functions.items bodies bodies_are;
     exports = map export_entry exported;
@@ -139,11 +166,11 @@ module _ (p : Parts) (features : Features) (names : Lookup) (plan : Plan) (raws 
   }
 
   -- the module of these sections
-  module _ (m : wire.Module) (code : List wire.Body) (sections : m ≡ sections_with (map group raws) raw_functions (map export_entry exported) code) (codes : code ≡ map (λ (v : Vec ℕ). unplaced v.items) bodies) where
+  module _ (m : wire.Module) (code : List wire.Body) (sections : m ≡ sections_with (map group raws) raw_functions raw_memories raw_tags (map export_entry exported) code) (codes : code ≡ map (λ (v : Vec ℕ). unplaced v.items) bodies) where
     module_is : m ≡ laid (text_of records_of)
     module_is =
         sections
-        ∙ ap (sections_with (map group raws) raw_functions (map export_entry exported))
+        ∙ ap (sections_with (map group raws) raw_functions raw_memories raw_tags (map export_entry exported))
         (codes ∙ sym (map-map unplaced (λ (v : Vec ℕ). v.items) bodies) ∙ sym (bodies_same p names features (map place plan.functions.items) (map (λ (v : Vec ℕ). v.items) bodies) records_of.bodies_are))
 
     pub records_written : (bytes : List ℕ) → bytes ≡ module_bytes m → ModuleFits m → Spells p features bytes

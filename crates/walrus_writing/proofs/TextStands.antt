@@ -7,10 +7,10 @@ use Rattle.std.specs.Str.{IsUtf8}
 use Rattle.std.proofs.lemmas.List.Elements.{All-nil, All-from_recursion, recursion_from_All}
 use Rattle.wasm_entries.specs.Spelling.{IsIndex, ExportStands}
 use Rattle.wasm_writer.specs.Spelling.{SectionStands}
-use Rattle.walrus_types.specs.Operators.{Space, Types, Functions}
+use Rattle.walrus_types.specs.Operators.{Space, Types, Functions, Tags}
 use Rattle.walrus_bodies.specs.declared.features.Features.{Features}
 use Rattle.walrus_code.specs.Names.{Lookup}
-use Rattle.walrus_contents.specs.View.{parts_view}
+use Rattle.walrus_writing.specs.SoFar.{plain_view}
 use Rattle.walrus_contents.specs.declared.parts.Parts.{Parts}
 use Rattle.walrus_contents.proofs.Lookups.{heads, then_some}
 use Rattle.walrus_model.specs.Abstract.{Abstract, Export, FunctionKind, ImportedFunction, LocalFunction, Uninitialised}
@@ -18,7 +18,7 @@ use Rattle.walrus_model.proofs.Indices.{planned_below}
 use Rattle.walrus_rules.specs.Spelling.{BodyStands}
 use Rattle.walrus_rules.specs.Text.{sections_of}
 use Rattle.walrus_rules.specs.Text as text
-use Rattle.walrus_writing.specs.Parts.{HasBytes, source, type_index, type_index_of, export_with_index, unplaced}
+use Rattle.walrus_writing.specs.Parts.{HasBytes, source, tag_index, type_index, type_index_of, export_with_index, unplaced}
 use Rattle.walrus_writing.specs.Records.{Records, text_of, texts_in}
 use Rattle.walrus_writing.proofs.CarriedOver.{export_parts}
 use Rattle.walrus_writing.proofs.Ranked.{body_stands}
@@ -40,7 +40,7 @@ kind_named names ty t Uninitialised e = absurd (cc)
 
 module _ {p : Parts} {features : Features} (r : Records p features) where
   abbrev V : Abstract
-  V = parts_view p
+  V = plain_view p
 
   -- ---- bodies
 
@@ -79,6 +79,14 @@ module _ {p : Parts} {features : Features} (r : Records p features) where
       let f = then_some (type_index r.names) (V.functions i) t (sym q.0) in
       (is_index Types f.0.ty t (kind_named r.names f.0.ty t f.0.kind f.2), functions_stand raws order q.1)
 
+  tags_stand : (raws order : List ℕ) → map Some raws ≡ map (λ i. option_and_then (tag_index r.names) (V.tags i)) order → AllByRecursion IsIndex raws
+  tags_stand [] order e = tt
+  tags_stand (t ∷ raws) [] e = absurd (cc)
+  tags_stand (t ∷ raws) (i ∷ order) e =
+      let q = heads (Some t) (option_and_then (tag_index r.names) (V.tags i)) (map Some raws) (map (λ j. option_and_then (tag_index r.names) (V.tags j)) order) e in
+      let f = then_some (tag_index r.names) (V.tags i) t (sym q.0) in
+      (is_index Types f.0.ty t f.2, tags_stand raws order q.1)
+
   exports_stand : (raws : List entries.Export) (all : List Export) → map Some raws ≡ map (export_with_index r.names) all → AllByRecursion (λ (e : entries.Export). IsUtf8 e.name) raws → AllByRecursion ExportStands raws
   exports_stand [] all e texts = tt
   exports_stand (y ∷ raws) [] e texts = absurd (cc)
@@ -93,8 +101,8 @@ module _ {p : Parts} {features : Features} (r : Records p features) where
     imports = All-nil _;
     functions = All-from_recursion IsIndex r.functions (functions_stand r.functions (r.plan Functions) r.functions_are);
     tables = All-nil _;
-    memories = All-nil _;
-    tags = All-nil _;
+    memories = r.memories_stand;
+    tags = All-from_recursion IsIndex r.tags (tags_stand r.tags (r.plan Tags) r.tags_are);
     globals = All-nil _;
     exports = All-from_recursion ExportStands r.exports (exports_stand r.exports V.exports r.exports_are (recursion_from_All (λ (e : entries.Export). IsUtf8 e.name) r.exports r.texts));
     start = tt;

@@ -13,7 +13,7 @@ use Rattle.walrus_functions.specs.EmittedBody.{takes, comp_takes}
 use Rattle.walrus_functions.specs.Handlers.{params_of}
 use Rattle.walrus_groups.specs.Groups.{types_from}
 use Rattle.walrus_groups.specs.Named.{named_def}
-use Rattle.walrus_contents.specs.View.{parts_view}
+use Rattle.walrus_writing.specs.SoFar.{plain_view}
 use Rattle.walrus_contents.specs.declared.parts.Parts.{Parts}
 use Rattle.walrus_model.specs.Abstract.{Abstract}
 use Rattle.walrus_model.specs.Sections.{types_of}
@@ -27,7 +27,7 @@ use Rattle.walrus_writing.proofs.WrittenAs.{laid_of}
 
 module _ {p : Parts} {features : Features} (r : Records p features) where
   abbrev V : Abstract
-  V = parts_view p
+  V = plain_view p
 
   -- the types over indices
   abbrev pub new_types : List TypeDef

@@ -4,7 +4,7 @@ use Rattle.std.proofs.Common.{◌≡◌, ℕ, map, Bool, true, false, List, [], 
 use Rattle.std.specs.Prelude.{if◌then◌else◌, None, Contains}
 use Rattle.walrus_types.specs.Operators.{Types}
 use Rattle.walrus_bodies.specs.declared.features.Features.{Features}
-use Rattle.walrus_contents.specs.View.{parts_view}
+use Rattle.walrus_writing.specs.SoFar.{plain_view}
 use Rattle.walrus_contents.specs.declared.parts.Parts.{Parts}
 use Rattle.walrus_model.specs.Abstract.{Abstract, Name}
 use Rattle.walrus_model.specs.Config.{Config}
@@ -38,9 +38,9 @@ none_given false = refl
 
 -- A module in memory is written as this, where each function that ref.func names is declared: nothing is written so far that would
 -- declare it.
-module _ (c : Config) (features : Features) (plain : IsPlain c features) (p : Parts) (declared : NothingUndeclared (parts_view p)) (r : Records p features) where
+module _ (c : Config) (features : Features) (plain : IsPlain c features) (p : Parts) (declared : NothingUndeclared (plain_view p)) (r : Records p features) where
   abbrev V : Abstract
-  V = parts_view p
+  V = plain_view p
 
   abbrev R : Renaming
   R = renaming_of r

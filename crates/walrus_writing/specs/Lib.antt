@@ -1,4 +1,5 @@
 pub mod Emitted
+pub mod Globals
 pub mod Local
 pub mod Numbered
 pub mod Parts
@@ -6,3 +7,4 @@ pub mod Records
 pub mod Refusals
 pub mod Sizes
 pub mod Places
+pub mod SoFar

@@ -1,6 +1,7 @@
 -- What the sections hold that a module is written as.
 use Rattle.wasm_entries.specs.Record as entries
 use Rattle.wasm_entries.specs.declared.record.RawExportKind.{RawExportKind}
+use Rattle.wasm_entries.specs.declared.record.RawLimits.{RawLimits}
 use Rattle.wasm_entries.specs.declared.record.RawExportKind.TheVariants as kinds
 use Rattle.std.specs.Prelude.{ℕ, List, Option, Some, None, option_map, option_and_then, ◌≡◌}
 use Rattle.wasm_frames.specs.Record as wire
@@ -16,7 +17,8 @@ use Rattle.walrus_bodies.specs.FunctionTypes.{is_function_def}
 use Rattle.walrus_bodies.specs.declared.features.Features.{Features}
 use Rattle.walrus_functions.specs.EmittedBody.{Source, BodyWritten, LacksAnIndex, types_of as local_types}
 use Rattle.walrus_items.specs.Functions.{FunctionValue, local_at}
-use Rattle.walrus_contents.specs.View.{body, parts_view}
+use Rattle.walrus_contents.specs.View.{body}
+use Rattle.walrus_writing.specs.SoFar.{plain_view}
 use Rattle.walrus_contents.specs.declared.parts.Parts.{Parts}
 use Rattle.walrus_model.specs.Abstract as abstract
 use Rattle.walrus_model.specs.Abstract.{Body, Function}
@@ -48,6 +50,20 @@ type_index_of names ty abstract.Uninitialised = None
 abbrev pub type_index : Lookup → Function → Option ℕ
 type_index names f = type_index_of names f.ty f.kind
 
+-- a memory that the module defines: it names nothing
+abbrev pub memory_limits : abstract.Memory → RawLimits
+memory_limits m = record {
+  minimum = m.ty.limits.minimum;
+  maximum = m.ty.limits.maximum;
+  shared = m.ty.shared;
+  wide = m.ty.limits.wide;
+  page = m.ty.page_exponent;
+}
+
+-- a tag: the index of its type
+abbrev pub tag_index : Lookup → abstract.Tag → Option ℕ
+tag_index names t = names Types t.ty
+
 -- the kind of an export that names an item of the space
 abbrev pub kind_in : Space → Option RawExportKind
 kind_in Functions = Some kinds.Function
@@ -70,8 +86,8 @@ abbrev pub source_of : Parts → Lookup → Features → ℕ → Body → Source
 source_of p names features ty b = record {
   names = names;
   slots = slots_of p;
-  def = (parts_view p).types ty;
-  is_function_type = λ t. is_function_def ((parts_view p).types t);
+  def = (plain_view p).types ty;
+  is_function_type = λ t. is_function_def ((plain_view p).types t);
   features = features;
   parameters = b.parameters;
   ops = b.operators;
@@ -83,7 +99,7 @@ source p names features local = source_of p names features (place (function_type
 -- the bytes are the body of the function at a place, under these indices
 pub record HasBytes (p : Parts) (names : Lookup) (features : Features) (number : ℕ) (bytes : List ℕ) : Type 0 where
   pub local : LocalFunction
-  pub is : (parts_view p).functions number ≡ Some (function_seen p local)
+  pub is : (plain_view p).functions number ≡ Some (function_seen p local)
   pub places : List ℕ
   pub numbers : ℕ → Option ℕ
   pub written : BodyWritten (source p names features local) bytes places numbers
@@ -91,7 +107,7 @@ pub record HasBytes (p : Parts) (names : Lookup) (features : Features) (number :
 -- the function at a place has a body, and all that this names has an index
 pub record IsIndexed (p : Parts) (names : Lookup) (features : Features) (number : ℕ) : Type 0 where
   pub local : LocalFunction
-  pub is : (parts_view p).functions number ≡ Some (function_seen p local)
+  pub is : (plain_view p).functions number ≡ Some (function_seen p local)
   pub indexed : LacksAnIndex (source p names features local) → ⊥
 
 -- a body's bytes, wherever they lie

@@ -1,7 +1,7 @@
 -- The order in which items are written, as the plan of a module.
 use Rattle.std.specs.Prelude.{[], map}
 use Rattle.walrus_base.specs.Id.{place}
-use Rattle.walrus_types.specs.Operators.{Types, Functions}
+use Rattle.walrus_types.specs.Operators.{Types, Functions, Memories, Tags}
 use Rattle.walrus_model.specs.Plan as model
 use Rattle.walrus_writing.specs.declared.plan.Plan.{Plan}
 
@@ -9,4 +9,6 @@ use Rattle.walrus_writing.specs.declared.plan.Plan.{Plan}
 abbrev pub places : Plan → model.Plan
 places p Types = map place p.types.items
 places p Functions = map place p.functions.items
+places p Memories = map place p.memories.items
+places p Tags = map place p.tags.items
 places p space = []

@@ -1,18 +1,19 @@
 -- The records of the sections that a module's parts are written as, and their bytes.
 use Rattle.wasm_entries.specs.Record as entries
+use Rattle.wasm_entries.specs.declared.record.RawLimits.{RawLimits}
 use Rattle.wasm_frames.specs.Record as wire
 use Rattle.std.specs.Prelude.{ℕ, List, [], ◌∷◌, Option, Some, All, length, map, option_and_then, ◌≡◌, ◌≢◌, ◌<◌, ◌^◌}
 use Rattle.std.specs.List.{AllZip}
 use Rattle.std.specs.Str.{IsUtf8}
 use Rattle.wasm_entries.specs.Record.{Group}
-use Rattle.wasm_entries.specs.TypeSpelling.{GroupStands}
+use Rattle.wasm_entries.specs.TypeSpelling.{GroupStands, LimitsStand}
 use Rattle.wasm_writer.specs.Spelling.{SectionFits}
-use Rattle.walrus_types.specs.Operators.{Space, Types, Functions}
+use Rattle.walrus_types.specs.Operators.{Space, Types, Functions, Memories, Tags}
 use Rattle.walrus_code.specs.Names.{Lookup}
 use Rattle.walrus_bodies.specs.declared.features.Features.{Features}
 use Rattle.walrus_groups.specs.Groups.{types_from}
 use Rattle.walrus_groups.specs.Named.{named_def}
-use Rattle.walrus_contents.specs.View.{parts_view}
+use Rattle.walrus_writing.specs.SoFar.{DefinesItems, plain_view}
 use Rattle.walrus_contents.specs.declared.parts.Parts.{Parts}
 use Rattle.walrus_model.specs.Abstract.{Abstract}
 use Rattle.walrus_model.specs.Plan.{AreNumbered, IsPlan, Plan}
@@ -20,7 +21,7 @@ use Rattle.walrus_model.specs.Spaces.{Thing, look}
 use Rattle.walrus_rules.specs.Examples.{empty_text}
 use Rattle.walrus_rules.specs.Spelling.{written_as}
 use Rattle.walrus_rules.specs.Text.{BodyText, Text, sections_of}
-use Rattle.walrus_writing.specs.Parts.{type_index, export_with_index, HasBytes}
+use Rattle.walrus_writing.specs.Parts.{type_index, memory_limits, tag_index, export_with_index, HasBytes}
 
 -- the things of a space, in the order of the plan, have these records
 abbrev pub AreRecords : {W : Type 0} → Abstract → Plan → (s : Space) → (Thing s → Option W) → List W → Type 0
@@ -30,19 +31,25 @@ AreRecords v plan s raw ws = map Some ws ≡ map (λ i. option_and_then raw (loo
 pub record Records (p : Parts) (features : Features) : Type 0 where
   pub names : Lookup
   pub plan : Plan
-  pub is_plan : IsPlan (parts_view p) plan
+  pub own : DefinesItems (plain_view p)
+  pub is_plan : IsPlan (plain_view p) plan
   pub numbered : AreNumbered names plan
   pub few : (s : Space) → length (plan s) < 2 ^ 32
   pub types : List Group
-  pub types_are : AreRecords (parts_view p) plan Types (named_def names) (types_from 0 types)
+  pub types_are : AreRecords (plain_view p) plan Types (named_def names) (types_from 0 types)
   pub none_empty : All (λ g. g ≢ []) types
   pub types_stand : All GroupStands types
   pub functions : List ℕ
-  pub functions_are : AreRecords (parts_view p) plan Functions (type_index names) functions
+  pub functions_are : AreRecords (plain_view p) plan Functions (type_index names) functions
   pub bodies : List (List ℕ)
   pub bodies_are : AllZip (HasBytes p names features) (plan Functions) bodies
+  pub memories : List RawLimits
+  pub memories_are : AreRecords (plain_view p) plan Memories (λ m. Some (memory_limits m)) memories
+  pub memories_stand : All LimitsStand memories
+  pub tags : List ℕ
+  pub tags_are : AreRecords (plain_view p) plan Tags (tag_index names) tags
   pub exports : List entries.Export
-  pub exports_are : map Some exports ≡ map (export_with_index names) (parts_view p).exports
+  pub exports_are : map Some exports ≡ map (export_with_index names) (plain_view p).exports
   pub texts : All (λ e. IsUtf8 e.name) exports
 
 -- the text of each body
@@ -57,13 +64,15 @@ abbrev pub text_of : {p : Parts} {features : Features} → Records p features �
 text_of {p} {features} r = record empty_text {
   types = r.types;
   functions = r.functions;
+  memories = r.memories;
+  tags = r.tags;
   exports = r.exports;
   bodies = texts_in p r.names features (r.plan Functions) r.bodies r.bodies_are;
 }
 
 -- a module of these sections
-abbrev pub sections_with : List Group → List ℕ → List entries.Export → List wire.Body → wire.Module
-sections_with types functions exports bodies = record wire.no_sections { types = types; functions = functions; exports = exports; bodies = bodies }
+abbrev pub sections_with : List Group → List ℕ → List RawLimits → List ℕ → List entries.Export → List wire.Body → wire.Module
+sections_with types functions memories tags exports bodies = record wire.no_sections { types = types; functions = functions; memories = memories; tags = tags; exports = exports; bodies = bodies }
 
 -- the bytes are those of the text, which fits
 pub record Spells (p : Parts) (features : Features) (bytes : List ℕ) : Type 0 where

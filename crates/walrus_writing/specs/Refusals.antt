@@ -9,7 +9,7 @@ use Rattle.walrus_code.specs.declared.function.LocalFunction.{LocalFunction}
 use Rattle.walrus_bodies.specs.declared.features.Features.{Features}
 use Rattle.walrus_functions.specs.EmittedBody.{Source, CantBeWritten, HasTooManyLocals}
 use Rattle.walrus_groups.specs.Indexed.{HasExact}
-use Rattle.walrus_contents.specs.View.{parts_view}
+use Rattle.walrus_writing.specs.SoFar.{plain_view}
 use Rattle.walrus_contents.specs.declared.parts.Parts.{Parts}
 use Rattle.walrus_model.specs.Plan.{IsPlan, Plan}
 use Rattle.walrus_writing.specs.Parts.{function_seen, source}
@@ -19,7 +19,7 @@ use Rattle.walrus_parts.specs.declared.error.Error.TheVariants.{Memory, NotWrita
 
 -- a function has such a body, under some indices
 abbrev pub HasBody : Parts → Features → (Source → Type 0) → Type 0
-HasBody p features P = (names : Lookup) × ((number : ℕ) × ((local : LocalFunction) × (((parts_view p).functions number ≡ Some (function_seen p local)) × P (source p names features local))))
+HasBody p features P = (names : Lookup) × ((number : ℕ) × ((local : LocalFunction) × (((plain_view p).functions number ≡ Some (function_seen p local)) × P (source p names features local))))
 
 -- a space of the plan has too many items
 abbrev pub HasTooMany : Plan → Type 0
@@ -27,7 +27,7 @@ HasTooMany plan = (space : Space) × (2 ^ 32 ≤ length (plan space))
 
 -- so has one of a plan of the module
 abbrev pub HasTooManyItems : Parts → Type 0
-HasTooManyItems p = (plan : Plan) × (IsPlan (parts_view p) plan × HasTooMany plan)
+HasTooManyItems p = (plan : Plan) × (IsPlan (plain_view p) plan × HasTooMany plan)
 
 -- a count or a size passes 32 bits: the items of a space, the locals of a function, or what is written
 abbrev pub PassesLimits : Parts → Features → Type 0

@@ -2,6 +2,8 @@
 #![tactic(auto)]
 
 mod bodies;
+mod globals;
+mod others;
 mod plan;
 mod records;
 mod write;

@@ -1,16 +1,19 @@
 //! The order in which items are written, and their indices ("Structure > Modules > Indices").
-ghost use Rattle.std.specs.Prelude.{◌≡◌, ◌<◌, ◌^◌, ℕ, map, length, IfOk, IfErr, IsOkUnless, None, nat_eq, true};
+ghost use Rattle.std.specs.Prelude.{◌≡◌, ◌<◌, ◌^◌, ℕ, map, length, IfOk, IfErr, IsOkUnless, None, nat_eq, option_map, true};
 ghost use Rattle.walrus_base.specs.Arena.{entries, items};
 ghost use Rattle.std.specs.List.{IsDistinct};
 ghost use Rattle.walrus_base.specs.Id.{place};
 ghost use Rattle.walrus_types.specs.ModuleTypes.{type_slots};
 ghost use Rattle.walrus_code.specs.Indices.{index_of, given};
-ghost use Rattle.walrus_types.specs.Operators.{Space, Types, Functions};
+ghost use Rattle.walrus_types.specs.Operators.{Space, Types, Functions, Memories, Tags, Globals};
 ghost use Rattle.walrus_items.specs.Functions.{functions};
+ghost use Rattle.walrus_entities.specs.Globals.{globals, global_import};
+ghost use Rattle.walrus_entities.specs.Memories.{memories};
+ghost use Rattle.walrus_entities.specs.Tags.{tags, tag_import};
 ghost use Rattle.walrus_model.specs.Plan.{AreNumbered, IsPlan};
-ghost use Rattle.walrus_contents.specs.View.{parts_view};
+ghost use Rattle.walrus_writing.specs.SoFar.{DefinesItems, plain_view};
 ghost use Rattle.walrus_parts.specs.Errors.{out_of_memory};
-ghost use Rattle.walrus_writing.specs.Local.{all_local, is_local};
+ghost use Rattle.walrus_writing.specs.Local.{all_local, is_local, is_own, memories_own, tags_own, globals_own};
 ghost use Rattle.walrus_writing.specs.Numbered.{NumbersSpace};
 ghost use Rattle.walrus_writing.specs.Places.{places};
 ghost use Rattle.walrus_writing.specs.Refusals.{RefusesCount, RefusesCounts};
@@ -19,7 +22,10 @@ ghost use Rattle.walrus_writing.specs.Sizes.{local_sizes, IsOrder};
 use std::alloc::Global;
 use std::cmp::Reverse;
 use walrus_contents::Parts;
-use walrus_ir::{FunctionId, IdsToIndices, ModuleTypes, TypeId};
+use walrus_entities::{GlobalKind, ModuleGlobals, ModuleMemories, ModuleTags, TagKind};
+use walrus_ir::{
+    FunctionId, GlobalId, IdsToIndices, ImportId, MemoryId, ModuleTypes, TagId, TypeId,
+};
 use walrus_items::{FunctionKind, ModuleFunctions};
 use walrus_parts::{Error, Result};
 
@@ -30,6 +36,10 @@ pub struct Plan {
     pub types: Vec<TypeId>,
     /// The functions: those with a body, the larger ones first, and of two as large the one of the smaller id.
     pub functions: Vec<FunctionId>,
+    /// The memories, by rising id.
+    pub memories: Vec<MemoryId>,
+    /// The tags, by rising id.
+    pub tags: Vec<TagId>,
 }
 
 impl Plan {
@@ -39,13 +49,20 @@ impl Plan {
             ≡ map (λ e. e.0) (entries (type_slots parts.entry.types.now))) }
         ensures functions { IfOk result (λ plan. IsOrder (functions parts.entry.funcs.now)
             (map place plan.functions.items)) }
+        ensures memories { IfOk result (λ plan. map place plan.memories.items
+            ≡ map (λ e. e.0) (entries (memories parts.entry.memories.now))) }
+        ensures tags { IfOk result (λ plan. map place plan.tags.items
+            ≡ map (λ e. e.0) (entries (tags parts.entry.tags.now))) }
         ensures plan { IfOk result (λ plan. all_local (items (functions parts.entry.funcs.now)) ≡ true
-            → IsPlan (parts_view parts.entry) (places plan)) }
+            → DefinesItems (plain_view parts.entry)
+            → IsPlan (plain_view parts.entry) (places plan)) }
         ensures fails { IsOkUnless result out_of_memory }
     {
         Ok(Plan {
             types: types_in_order(alloc, parts.types)?,
             functions: functions_by_size(alloc, parts.funcs)?,
+            memories: memories_in_order(alloc, parts.memories)?,
+            tags: tags_in_order(alloc, parts.tags)?,
         })
     }
 
@@ -60,6 +77,8 @@ impl Plan {
         let mut indices = IdsToIndices::new(alloc);
         number_types(&mut indices, self.types.as_slice())?;
         number_functions(&mut indices, self.functions.as_slice())?;
+        number_memories(&mut indices, self.memories.as_slice())?;
+        number_tags(&mut indices, self.tags.as_slice())?;
         Ok(indices)
     }
 }
@@ -79,6 +98,69 @@ pub fn are_all_local(funcs: &ModuleFunctions) -> bool
 {
     for function in funcs.iter() {
         if !is_kind_local(&function.kind) {
+            return false;
+        }
+    }
+    true
+}
+
+fn is_own(brought_by: Option<ImportId>) -> bool
+    ensures { result ≡ is_own (option_map place brought_by) }
+{
+    match brought_by {
+        None => true,
+        Some(_) => false,
+    }
+}
+
+/// Whether the module defines each memory.
+pub fn are_memories_own(all: &ModuleMemories) -> bool
+    ensures { result ≡ memories_own (items (memories all.now)) }
+{
+    for memory in all.iter() {
+        if !is_own(memory.import) {
+            return false;
+        }
+    }
+    true
+}
+
+fn is_kind_own(kind: &TagKind) -> bool
+    ensures { result ≡ is_own (tag_import kind.now) }
+{
+    match kind {
+        TagKind::Local => true,
+        TagKind::Import(_) => false,
+    }
+}
+
+/// Whether the module defines each tag.
+pub fn are_tags_own(all: &ModuleTags) -> bool
+    ensures { result ≡ tags_own (items (tags all.now)) }
+{
+    for tag in all.iter() {
+        if !is_kind_own(&tag.kind) {
+            return false;
+        }
+    }
+    true
+}
+
+fn is_global_own(kind: &GlobalKind) -> bool
+    ensures { result ≡ is_own (global_import kind.now) }
+{
+    match kind {
+        GlobalKind::Local(_) => true,
+        GlobalKind::Import(_) => false,
+    }
+}
+
+/// Whether the module defines each global.
+pub fn are_globals_own(all: &ModuleGlobals) -> bool
+    ensures { result ≡ globals_own (items (globals all.now)) }
+{
+    for global in all.iter() {
+        if !is_global_own(&global.kind) {
             return false;
         }
     }
@@ -136,6 +218,45 @@ fn types_in_order(alloc: Global, types: &ModuleTypes) -> Result<Vec<TypeId>>
     Ok(ids)
 }
 
+// The memories, by rising id.
+fn memories_in_order(alloc: Global, all: &ModuleMemories) -> Result<Vec<MemoryId>>
+    ensures value { IfOk result (λ ids. map place ids.items
+        ≡ map (λ e. e.0) (entries (memories all.now))) }
+    ensures fails { IsOkUnless result out_of_memory }
+{
+    let mut ids = Vec::with_capacity(alloc, all.len())?;
+    for (id, _) in all.iter_entries() {
+        ids.push(id)?;
+    }
+    Ok(ids)
+}
+
+// The tags, by rising id.
+fn tags_in_order(alloc: Global, all: &ModuleTags) -> Result<Vec<TagId>>
+    ensures value { IfOk result (λ ids. map place ids.items
+        ≡ map (λ e. e.0) (entries (tags all.now))) }
+    ensures fails { IsOkUnless result out_of_memory }
+{
+    let mut ids = Vec::with_capacity(alloc, all.len())?;
+    for (id, _) in all.iter_entries() {
+        ids.push(id)?;
+    }
+    Ok(ids)
+}
+
+// The globals, by rising id.
+pub fn globals_in_order(alloc: Global, all: &ModuleGlobals) -> Result<Vec<GlobalId>>
+    ensures value { IfOk result (λ ids. map place ids.items
+        ≡ map (λ e. e.0) (entries (globals all.now))) }
+    ensures fails { IsOkUnless result out_of_memory }
+{
+    let mut ids = Vec::with_capacity(alloc, all.len())?;
+    for (id, _) in all.iter_entries() {
+        ids.push(id)?;
+    }
+    Ok(ids)
+}
+
 // Gives each of these types its index.
 fn number_types(indices: &mut IdsToIndices, order: &[TypeId]) -> Result<()>
     requires distinct { IsDistinct nat_eq (map place order.now) }
@@ -168,6 +289,60 @@ fn number_functions(indices: &mut IdsToIndices, order: &[FunctionId]) -> Result<
     }
     for id in order {
         indices.push_func(*id)?;
+    }
+    Ok(())
+}
+
+// Gives each of these memories its index.
+fn number_memories(indices: &mut IdsToIndices, order: &[MemoryId]) -> Result<()>
+    requires distinct { IsDistinct nat_eq (map place order.now) }
+    requires none { (number : ℕ) → index_of indices.old Memories number ≡ None }
+    requires count { given indices.old Memories ≡ 0 }
+    ensures value { IfOk result (λ _. NumbersSpace Memories indices.old indices.new (map place order.now)) }
+    ensures few { IfOk result (λ _. length order.now < 2 ^ 32) }
+    ensures fails { IfErr result (RefusesCount (length order.now)) }
+{
+    if order.len() > u32::MAX as usize {
+        return Err(Error::TooLarge);
+    }
+    for id in order {
+        indices.push_memory(*id)?;
+    }
+    Ok(())
+}
+
+// Gives each of these tags its index.
+fn number_tags(indices: &mut IdsToIndices, order: &[TagId]) -> Result<()>
+    requires distinct { IsDistinct nat_eq (map place order.now) }
+    requires none { (number : ℕ) → index_of indices.old Tags number ≡ None }
+    requires count { given indices.old Tags ≡ 0 }
+    ensures value { IfOk result (λ _. NumbersSpace Tags indices.old indices.new (map place order.now)) }
+    ensures few { IfOk result (λ _. length order.now < 2 ^ 32) }
+    ensures fails { IfErr result (RefusesCount (length order.now)) }
+{
+    if order.len() > u32::MAX as usize {
+        return Err(Error::TooLarge);
+    }
+    for id in order {
+        indices.push_tag(*id)?;
+    }
+    Ok(())
+}
+
+// Gives each of these globals its index.
+pub fn number_globals(indices: &mut IdsToIndices, order: &[GlobalId]) -> Result<()>
+    requires distinct { IsDistinct nat_eq (map place order.now) }
+    requires none { (number : ℕ) → index_of indices.old Globals number ≡ None }
+    requires count { given indices.old Globals ≡ 0 }
+    ensures value { IfOk result (λ _. NumbersSpace Globals indices.old indices.new (map place order.now)) }
+    ensures few { IfOk result (λ _. length order.now < 2 ^ 32) }
+    ensures fails { IfErr result (RefusesCount (length order.now)) }
+{
+    if order.len() > u32::MAX as usize {
+        return Err(Error::TooLarge);
+    }
+    for id in order {
+        indices.push_global(*id)?;
     }
     Ok(())
 }

@@ -1,5 +1,5 @@
 //! The records of the sections that a module is written as ("Binary Format > Modules").
-ghost use Rattle.std.specs.Prelude.{◌≡◌, map, All, Some, IsSome, IfOk, IfErr, IfSome, IsOkUnless, option_and_then, option_map};
+ghost use Rattle.std.specs.Prelude.{◌≡◌, ◌<◌, ◌^◌, map, All, Some, IsSome, IfOk, IfErr, IfSome, IsOkUnless, option_and_then, option_map};
 ghost use Rattle.std.specs.Str.{IsUtf8};
 ghost use Rattle.walrus_base.specs.Arena.{items};
 ghost use Rattle.walrus_base.specs.Id.{place};
@@ -8,22 +8,27 @@ ghost use Rattle.walrus_groups.specs.Indexed.{NumbersTypes, AreIndexed, LacksAnI
 ghost use Rattle.walrus_code.specs.Indices.{index_of};
 ghost use Rattle.walrus_items.specs.Exports.{exports, export_value, exported};
 ghost use Rattle.walrus_items.specs.Functions.{functions};
-ghost use Rattle.walrus_contents.specs.View.{export_of, parts_view};
+ghost use Rattle.walrus_entities.specs.Memories.{memories, memory_value};
+ghost use Rattle.walrus_entities.specs.Tags.{tags, tag_value};
+ghost use Rattle.walrus_contents.specs.View.{export_of, memory_of, tag_of};
+ghost use Rattle.walrus_writing.specs.SoFar.{plain_view};
 ghost use Rattle.walrus_parts.specs.Errors.{out_of_memory};
 ghost use Rattle.wasm_entries.specs.Record.{group, export_entry};
+ghost use Rattle.wasm_entries.specs.TypeSpelling.{IsBelow, LimitsStand};
 ghost use Rattle.wasm_frames.specs.Record.{body_record, sections};
-ghost use Rattle.walrus_writing.specs.Parts.{index_at, kind_in, type_index, export_with_index, unplaced};
+ghost use Rattle.walrus_writing.specs.Parts.{index_at, kind_in, type_index, memory_limits, tag_index, export_with_index, unplaced};
 ghost use Rattle.walrus_writing.specs.Records.{sections_with};
 ghost use Rattle.walrus_writing.specs.Refusals.{RefusesTypes};
 
 use crate::bodies::local_of;
 use std::alloc::Global;
 use walrus_contents::Parts;
+use walrus_entities::{Memory, ModuleMemories, ModuleTags, Tag};
 use walrus_groups::index_types;
 use walrus_ir::{FunctionId, IdsToIndices, ModuleTypes};
 use walrus_items::{Export, ExportItem, ModuleExports, ModuleFunctions};
 use walrus_parts::{Error, Result};
-use wasm_wire::{Raw, RawBody, RawExport, RawExportKind, RawGroup};
+use wasm_wire::{Raw, RawBody, RawExport, RawExportKind, RawGroup, RawLimits};
 
 // The groups of the type section.
 pub fn raw_types(
@@ -51,7 +56,7 @@ fn index_of_type(funcs: &ModuleFunctions, id: FunctionId, indices: &IdsToIndices
 
 fn raw_function(parts: Parts<'_>, id: FunctionId, indices: &IdsToIndices) -> Option<u32>
     ensures { result ≡ option_and_then (type_index (index_of indices.now))
-        ((parts_view parts.entry).functions (place id)) }
+        ((plain_view parts.entry).functions (place id)) }
 {
     index_of_type(parts.funcs, id, indices)
 }
@@ -64,15 +69,96 @@ pub fn raw_functions(
     indices: &IdsToIndices,
 ) -> Result<Vec<u32>>
     requires indexed { All (λ id. IsSome (option_and_then (type_index (index_of indices.now))
-        ((parts_view parts).functions (place id)))) order.now }
+        ((plain_view parts).functions (place id)))) order.now }
     ensures value { IfOk result (λ raw. map Some raw.items
         ≡ map (λ id. option_and_then (type_index (index_of indices.now))
-        ((parts_view parts.entry).functions (place id))) order.now) }
+        ((plain_view parts.entry).functions (place id))) order.now) }
     ensures fails { IsOkUnless result out_of_memory }
 {
     let mut raw = Vec::with_capacity(alloc, order.len())?;
     for id in order {
         let Some(index) = raw_function(parts, *id, indices) else {
+            return Err(Error::NoIndex);
+        };
+        raw.push(index)?;
+    }
+    Ok(raw)
+}
+
+// How many pages there are at first is a number of 64 bits.
+fn pages_of(initial: u64) -> u64
+    ensures same { result ≡ initial }
+    ensures stands { result < 2 ^ 64 }
+{
+    initial
+}
+
+// A limit is a number of 64 bits.
+fn limit_of(maximum: Option<u64>) -> Option<u64>
+    ensures same { result ≡ maximum }
+    ensures stands { IsBelow (2 ^ 64) result }
+{
+    match maximum {
+        Some(number) => Some(number),
+        None => None,
+    }
+}
+
+// The exponent of a page's size is a number of 32 bits.
+fn exponent_of(page: Option<u32>) -> Option<u32>
+    ensures same { result ≡ page }
+    ensures stands { IsBelow (2 ^ 32) result }
+{
+    match page {
+        Some(number) => Some(number),
+        None => None,
+    }
+}
+
+fn raw_memory(memory: &Memory) -> RawLimits
+    ensures value { result ≡ memory_limits (memory_of (memory_value memory.now)) }
+    ensures stands { LimitsStand result }
+{
+    RawLimits {
+        minimum: pages_of(memory.initial),
+        maximum: limit_of(memory.maximum),
+        shared: memory.shared,
+        wide: memory.memory64,
+        page: exponent_of(memory.page_size_log2),
+    }
+}
+
+// The limits of each memory, by rising id.
+pub fn raw_memories(alloc: Global, all: &ModuleMemories) -> Result<Vec<RawLimits>>
+    ensures value { IfOk result (λ raw. map Some raw.items
+        ≡ map (λ m. Some (memory_limits (memory_of m))) (items (memories all.now))) }
+    ensures stand { IfOk result (λ raw. All LimitsStand raw.items) }
+    ensures fails { IsOkUnless result out_of_memory }
+{
+    let mut raw = Vec::with_capacity(alloc, all.len())?;
+    for memory in all.iter() {
+        raw.push(raw_memory(memory))?;
+    }
+    Ok(raw)
+}
+
+fn raw_tag(tag: &Tag, indices: &IdsToIndices) -> Option<u32>
+    ensures { result ≡ tag_index (index_of indices.now) (tag_of (tag_value tag.now)) }
+{
+    indices.get_type_index(tag.ty)
+}
+
+// The index of each tag's type, by rising id.
+pub fn raw_tags(alloc: Global, all: &ModuleTags, indices: &IdsToIndices) -> Result<Vec<u32>>
+    requires indexed { All (λ o. IsSome o) (map (λ t. tag_index (index_of indices.now) (tag_of t))
+        (items (tags all.now))) }
+    ensures value { IfOk result (λ raw. map Some raw.items
+        ≡ map (λ t. tag_index (index_of indices.now) (tag_of t)) (items (tags all.now))) }
+    ensures fails { IsOkUnless result out_of_memory }
+{
+    let mut raw = Vec::with_capacity(alloc, all.len())?;
+    for tag in all.iter() {
+        let Some(index) = raw_tag(tag, indices) else {
             return Err(Error::NoIndex);
         };
         raw.push(index)?;
@@ -162,11 +248,13 @@ pub fn raw_module<'a>(
     alloc: Global,
     types: Vec<RawGroup>,
     functions: Vec<u32>,
+    memories: Vec<RawLimits>,
+    tags: Vec<u32>,
     exports: Vec<RawExport<'a>>,
     bodies: Vec<RawBody<'a>>,
 ) -> Raw<'a>
-    ensures { sections result ≡ sections_with (map group types.items) functions.items
-        (map export_entry exports.entry.items) (map body_record bodies.entry.items) }
+    ensures { sections result ≡ sections_with (map group types.items) functions.items memories.items
+        tags.items (map export_entry exports.entry.items) (map body_record bodies.entry.items) }
 {
     Raw {
         order: Vec::new(alloc),
@@ -174,8 +262,8 @@ pub fn raw_module<'a>(
         imports: Vec::new(alloc),
         functions,
         tables: Vec::new(alloc),
-        memories: Vec::new(alloc),
-        tags: Vec::new(alloc),
+        memories,
+        tags,
         globals: Vec::new(alloc),
         exports,
         start: None,

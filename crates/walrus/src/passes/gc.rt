@@ -2,9 +2,14 @@
 
 ghost use Rattle.std.specs.Prelude.{◌≡◌, IfErr, OnErr, OnOk};
 ghost use Rattle.walrus_types.specs.ModuleTypes.{type_names, type_slots};
-ghost use Rattle.walrus_types.specs.Operators.{Item, Functions, Types};
+ghost use Rattle.walrus_types.specs.Operators.{Item, Functions, Globals, Memories, Tables, Tags, Types};
+ghost use Rattle.walrus_entities.specs.Globals.{globals};
+ghost use Rattle.walrus_entities.specs.Memories.{memories};
+ghost use Rattle.walrus_entities.specs.Tables.{tables};
+ghost use Rattle.walrus_entities.specs.Tags.{tags};
+ghost use Rattle.walrus_items.specs.Imports.{imports};
 ghost use Rattle.walrus_items.specs.Functions.{functions};
-ghost use Rattle.walrus_model.specs.Kept.{Kept};
+ghost use Rattle.walrus_model.specs.Kept.{IsImportOf, Kept};
 ghost use Rattle.walrus_model.specs.Live.{IsLive};
 ghost use Rattle.walrus_model.specs.Pipeline.{Collected};
 ghost use Rattle.walrus_module.specs.Settings.{settings};
@@ -16,9 +21,10 @@ ghost use Rattle.walrus.specs.Used.{IsRefusal};
 
 use crate::passes::used::Used;
 use std::alloc::Global;
-use walrus_module::{Module, Result};
+use walrus_module::{ItemMarks, Module, Result};
 
-/// Deletes the items that the module's roots don't reach, but the memory that stays with data. A second run deletes nothing.
+/// Deletes the items that the module's roots don't reach, but the memory that stays with data, and the imports of items that
+/// don't stay. A second run deletes nothing.
 /// Refused as [`Used::new`] is; then nothing is deleted.
 pub fn run(alloc: Global, module: &mut Module) -> Result<()>
     ensures collected { OnOk result (Collected (view «module».old) (view «module».new)) }
@@ -26,6 +32,16 @@ pub fn run(alloc: Global, module: &mut Module) -> Result<()>
         (functions «module».old.funcs) (functions «module».new.funcs)) }
     ensures types { OnOk result (KeepsOnly (λ t. Kept (view «module».old) (Types, t))
         (type_slots «module».old.types) (type_slots «module».new.types)) }
+    ensures tables { OnOk result (KeepsOnly (λ i. Kept (view «module».old) (Tables, i))
+        (tables «module».old.tables) (tables «module».new.tables)) }
+    ensures memories { OnOk result (KeepsOnly (λ i. Kept (view «module».old) (Memories, i))
+        (memories «module».old.memories) (memories «module».new.memories)) }
+    ensures tags { OnOk result (KeepsOnly (λ i. Kept (view «module».old) (Tags, i))
+        (tags «module».old.tags) (tags «module».new.tags)) }
+    ensures globals { OnOk result (KeepsOnly (λ i. Kept (view «module».old) (Globals, i))
+        (globals «module».old.globals) (globals «module».new.globals)) }
+    ensures imports { OnOk result (KeepsOnly (IsImportOf (Kept (view «module».old)) (view «module».old))
+        (imports «module».old.imports) (imports «module».new.imports)) }
     ensures type_names { OnOk result (KeepsOnly (λ t. Kept (view «module».old) (Types, t))
         (type_names «module».old.types) (type_names «module».new.types)) }
     ensures own_ids { OnOk result (ItemsAtOwnIds (contents_of «module».old)
@@ -42,5 +58,16 @@ pub fn run(alloc: Global, module: &mut Module) -> Result<()>
     let used = Used::new(alloc, module)?;
     module.funcs.keep_only(&used.funcs);
     module.types.keep_only(&used.types);
+    module.imports.keep_only(ItemMarks {
+        funcs: &used.funcs,
+        tables: &used.tables,
+        memories: &used.memories,
+        globals: &used.globals,
+        tags: &used.tags,
+    });
+    module.tables.keep_only(&used.tables);
+    module.memories.keep_only(&used.memories);
+    module.tags.keep_only(&used.tags);
+    module.globals.keep_only(&used.globals);
     Ok(())
 }

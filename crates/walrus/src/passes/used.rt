@@ -80,7 +80,12 @@ impl Used {
         let parts = Parts {
             types: &module.types,
             locals: &module.locals,
+            imports: &module.imports,
             funcs: &module.funcs,
+            tables: &module.tables,
+            memories: &module.memories,
+            tags: &module.tags,
+            globals: &module.globals,
             exports: &module.exports,
             producers: &module.producers,
         };

@@ -6,7 +6,7 @@ use Rattle.walrus_types.specs.Operators.{Item}
 use Rattle.walrus_contents.specs.Named.{export_names}
 use Rattle.walrus_contents.specs.There.{AreLive, OneIsDead}
 use Rattle.walrus_model.specs.Dead.{HasDead}
-use Rattle.walrus_contents.specs.View.{parts_view}
+use Rattle.walrus_contents.specs.View.{lent, parts_view}
 use Rattle.walrus_contents.proofs.LiveLemmas.{exports_dead, functions_checked}
 use Rattle.walrus_contents.proofs.NamedLemmas.{refusal_map}
 use Rattle.walrus_contents.proofs.live.check_live.Goals as goal
@@ -19,7 +19,7 @@ returns-in_err-check_all c =
     let names = export_names parts.exports.now in
     let are : map item_of c.as_slice.result.now ≡ names = ap (λ (ids : List ItemId). map item_of ids) c.as_slice.ensures.value ∙ c.in_ok-push_export_names.ensures ∙ ap (λ (ids : List ItemId). map item_of ids ++ names) c.new-named.ensures.items in
     rw (p.1, p.2) (refusal_map (OneIsDead v (map item_of c.as_slice.result.now)) (HasDead v)
-    (λ dead. exports_dead parts.types.now parts.locals.now parts.funcs.now parts.exports.now parts.producers.now (subst (OneIsDead v) are dead))
+    (λ dead. exports_dead (lent parts) (subst (OneIsDead v) are dead))
     c.in_err-check_all.field-0.0 c.in_err-check_all.ensures)
 
 pub returns-in_err-check_types : goal.returns-in_err-check_types
@@ -27,10 +27,37 @@ returns-in_err-check_types c =
     let p = err_from_is_err_and c.from_residual-in_err-check_types.result c.from_residual-in_err-check_types.ensures.1 in
     rw (p.1, p.2) c.in_err-check_types.ensures
 
+pub returns-in_err-check_imports : goal.returns-in_err-check_imports
+returns-in_err-check_imports c =
+    let p = err_from_is_err_and c.from_residual-in_err-check_imports.result c.from_residual-in_err-check_imports.ensures.1 in
+    rw (p.1, p.2) c.in_err-check_imports.ensures
+
+pub returns-in_err-check_tables : goal.returns-in_err-check_tables
+returns-in_err-check_tables c =
+    let p = err_from_is_err_and c.from_residual-in_err-check_tables.result c.from_residual-in_err-check_tables.ensures.1 in
+    rw (p.1, p.2) c.in_err-check_tables.ensures
+
+pub returns-in_err-check_tags : goal.returns-in_err-check_tags
+returns-in_err-check_tags c =
+    let p = err_from_is_err_and c.from_residual-in_err-check_tags.result c.from_residual-in_err-check_tags.ensures.1 in
+    rw (p.1, p.2) c.in_err-check_tags.ensures
+
+pub returns-in_err-check_globals : goal.returns-in_err-check_globals
+returns-in_err-check_globals c =
+    let p = err_from_is_err_and c.from_residual-in_err-check_globals.result c.from_residual-in_err-check_globals.ensures.1 in
+    rw (p.1, p.2) c.in_err-check_globals.ensures
+
 pub returns : goal.returns
 returns c =
     let parts = c.args.parts in
     let v = parts_view parts in
     let names = export_names parts.exports.now in
     let are : map item_of c.as_slice.result.now ≡ names = ap (λ (ids : List ItemId). map item_of ids) c.as_slice.ensures.value ∙ c.in_ok-push_export_names.ensures ∙ ap (λ (ids : List ItemId). map item_of ids ++ names) c.new-named.ensures.items in
-    functions_checked parts.types.now parts.locals.now parts.funcs.now parts.exports.now parts.producers.now (subst (λ (xs : List Item). AreLive v xs) are c.in_ok-check_all.ensures) c.in_ok-check_types.ensures c.check_functions.result c.check_functions.ensures
+    functions_checked (lent parts) (record {
+      exports = subst (λ (xs : List Item). AreLive v xs) are c.in_ok-check_all.ensures;
+      imports = c.in_ok-check_imports.ensures;
+      types = c.in_ok-check_types.ensures;
+      tables = c.in_ok-check_tables.ensures;
+      tags = c.in_ok-check_tags.ensures;
+      globals = c.in_ok-check_globals.ensures;
+    }) c.check_functions.result c.check_functions.ensures

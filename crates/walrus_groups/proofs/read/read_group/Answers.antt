@@ -6,6 +6,7 @@ use Rattle.walrus_types.specs.Operators.{Types}
 use Rattle.walrus_types.specs.ModuleTypes.{type_slots}
 use Rattle.walrus_code.specs.Indices.{places_in}
 use Rattle.walrus_groups.proofs.GroupLemmas.{counted, ids-behind-types, places-after, group-long, group-read, group-refused, members-refused}
+use Rattle.walrus_groups.proofs.Unnamed.{group_added}
 use Rattle.walrus_groups.proofs.read.read_group.Goals as goal
 
 pub give_indices-requires-clause-in_place : goal.give_indices-requires-clause-in_place
@@ -35,3 +36,6 @@ returns-clause-in_place c =
     let after = places-after (places_in c.args.indices.now Types) (places_in c.give_indices.new.indices Types) (type_slots c.args.types.now) c.as_slice.result.now c.args.raw.now c.requires.in_place (ap (map _) c.as_slice.ensures.value ∙ c.in_ok-ids.ensures) c.in_ok-give_indices.ensures.in_place in
     let read = group-read c.give_indices.new.indices (map sub c.args.raw.now) (type_slots c.args.types.now) (type_slots c.add_group.new.self) c.in_ok-members.members.items after c.in_ok-members.ensures c.in_ok-add_group.ensures.slots in
     after ∙ ap (λ n. range_with_len 0 n) (sym (group-long (map sub c.args.raw.now) (type_slots c.args.types.now) (type_slots c.add_group.new.self) read))
+
+pub returns-clause-unnamed : goal.returns-clause-unnamed
+returns-clause-unnamed c = group_added _ _ _ c.in_ok-add_group.ensures.names

@@ -1,9 +1,10 @@
 use Rattle.std.proofs.Common.{◌+◌, List, map, drop, Ok, Err, sym, ◌∙◌, subst}
 use Rattle.std.proofs.lemmas.Result.{err_from_is_err_and}
 use Rattle.wasm_entries.specs.Record.{Group, sub, group}
-use Rattle.walrus_types.specs.ModuleTypes.{type_slots}
+use Rattle.walrus_types.specs.ModuleTypes.{type_names, type_slots}
 use Rattle.walrus_groups.specs.Groups.{ReadsTypes}
 use Rattle.walrus_groups.proofs.GroupLemmas.{none-read, group-then, group-ends, groups-next, groups-end}
+use Rattle.walrus_groups.proofs.Unnamed.{added_then, none_added}
 use Rattle.walrus_groups.proofs.read.read_types.Goals as goal
 
 pub returns-in_err-read_group-clause-read : goal.returns-in_err-read_group-clause-read
@@ -25,6 +26,7 @@ loop-members-preserved c =
     record {
       in_place = c.in_ok-read_group.ensures.in_place;
       only_types = λ other differs. c.in_ok-read_group.ensures.only_types other differs ∙ c.loop-members.invariant.only_types other differs;
+      unnamed = added_then _ _ _ c.loop-members.invariant.unnamed c.in_ok-read_group.ensures.unnamed;
       told = λ new r rest. c.loop-members.invariant.told new r
           (subst (λ (gs : List Group). ReadsTypes gs (type_slots c.loop-members.types) new r) (sym next)
           (group-then (map sub c.deref.result.now) (map group (drop (c.loop-members.members-index + 1) c.args.groups.now)) (type_slots c.loop-members.types) (type_slots c.read_group.new.types) new r c.in_ok-read_group.ensures.read rest));

@@ -1,8 +1,8 @@
-use Rattle.std.proofs.Common.{ap, refl, sym, ◌∙◌}
-use Rattle.walrus_types.specs.Operators.{Functions}
+use Rattle.std.proofs.Common.{ap, refl, ◌∙◌}
+use Rattle.std.specs.Prelude.{option_map}
 use Rattle.walrus_model.specs.Sections.{space_of}
+use Rattle.walrus_model.proofs.Standing.{some_inj}
 use Rattle.wasm_entries.specs.Record.{export_entry}
-use Rattle.walrus_contents.proofs.Taking.{some_same}
 use Rattle.walrus_reading.proofs.contents.add_export.Goals as goal
 
 pub returns-clause-added : goal.returns-clause-added
@@ -15,9 +15,7 @@ returns-clause-added c =
           value = _;
           is = refl;
           own_id = c.in_ok-add.ensures.0;
-          read =
-              ap (λ i. record { name = e.name; item = (Functions, i) }) (some_same _ _ (c.in-Some.ensures ∙ c.requires.declared))
-              ∙ ap (λ k. record { name = e.name; item = (space_of k, e.index) }) (sym c.requires.function);
+          read = ap (λ x. record { name = e.name; item = x }) (some_inj _ _ (c.in-Some.ensures ∙ ap (option_map (λ i. (space_of e.kind, i))) c.requires.declared));
         },
       ),
     )

@@ -1,9 +1,8 @@
 use Rattle.std.proofs.Common.{◌≡◌, ◌∙◌}
 use Rattle.std.specs.Prelude.{Some}
 use Rattle.walrus_code.specs.Indices.{ids_at}
-use Rattle.walrus_types.specs.Operators.{Functions}
 use Rattle.wasm_entries.specs.Record.{Export, export_entry}
-use Rattle.walrus_model.specs.Supported.{IsOfFunction}
+use Rattle.walrus_model.specs.Sections.{space_of}
 use Rattle.walrus_items.specs.Exports.{exports}
 use Rattle.walrus_contents.proofs.Taking.{mapped_all}
 use Rattle.walrus_reading.proofs.Placed.{no_exports, one_more_export, all_exports}
@@ -11,8 +10,7 @@ use Rattle.walrus_reading.proofs.contents.add_exports.Goals as goal
 
 pub add_export-requires : goal.add_export-requires
 add_export-requires c = record {
-  declared = mapped_all (λ (e : Export). ids_at c.args.indices.now Functions e.index ≡ Some e.index) export_entry c.args.raw.now c.loop-entry.entry-index _ c.requires.declared c.loop-entry-test.true;
-  function = mapped_all IsOfFunction export_entry c.args.raw.now c.loop-entry.entry-index _ c.requires.functions c.loop-entry-test.true;
+  declared = mapped_all (λ (e : Export). ids_at c.args.indices.now (space_of e.kind) e.index ≡ Some e.index) export_entry c.args.raw.now c.loop-entry.entry-index _ c.requires.declared c.loop-entry-test.true;
 }
 
 pub loop-entry-init : goal.loop-entry-init

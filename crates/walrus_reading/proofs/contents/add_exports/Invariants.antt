@@ -1,7 +1,8 @@
 use Rattle.std.proofs.Common.{map, take}
 use Rattle.wasm_entries.specs.Record.{export_entry}
 use Rattle.walrus_items.specs.Exports.{exports}
-use Rattle.walrus_reading.specs.Taken.{AllPlaced, HoldsExport}
+use Rattle.walrus_reading.specs.Placed.{AllPlaced}
+use Rattle.walrus_reading.specs.Taken.{HoldsExport}
 use Rattle.walrus_reading.proofs.contents.add_exports.Given as goal
 
 abbrev pub invariant-loop-entry : goal.invariant-loop-entry

@@ -1,16 +1,23 @@
 use Rattle.walrus_types.specs.ModuleTypes.{type_names, type_slots}
-use Rattle.walrus_types.specs.Operators.{Functions, Types}
+use Rattle.std.proofs.Common.{refl}
+use Rattle.walrus_types.specs.Operators.{Functions, Globals, Memories, Tables, Tags, Types}
+use Rattle.walrus_entities.specs.Globals.{globals}
+use Rattle.walrus_entities.specs.Memories.{memories}
+use Rattle.walrus_entities.specs.Tables.{tables}
+use Rattle.walrus_entities.specs.Tags.{tags}
+use Rattle.walrus_items.specs.Imports.{imports}
 use Rattle.walrus_items.specs.Functions.{functions}
 use Rattle.walrus_model.specs.Kept.{Kept}
 use Rattle.walrus_model.proofs.PipelineCollected.{stays_collected_lem}
-use Rattle.walrus_module.specs.View.{view, view_of}
-use Rattle.walrus.proofs.CollectedLemmas.{is_collected, keeps_only, marks_groups}
+use Rattle.walrus_module.specs.View.{contents_of, view}
+use Rattle.walrus_contents.specs.View.{contents_view}
+use Rattle.walrus.proofs.CollectedLemmas.{imports_left, is_collected, keeps_only, left, marks_groups, marks_of}
 use Rattle.walrus.proofs.passes.gc.run.Goals as goal
 
 pub keep_only-requires-2 : goal.keep_only-requires-2
 keep_only-requires-2 g c =
     let old = c.args.module.now in
-    marks_groups old.types old.locals old.funcs old.exports old.producers c.in_ok-used.used.types (λ t. c.in_ok-used.ensures.kept (Types, t))
+    marks_groups (contents_of old) c.in_ok-used.used.types (λ t. c.in_ok-used.ensures.kept (Types, t))
 
 pub returns-clause-functions : goal.returns-clause-functions
 returns-clause-functions g c =
@@ -27,19 +34,58 @@ returns-clause-type_names g c =
     let old = c.args.module.now in
     keeps_only c.in_ok-used.used.types (λ t. Kept (view old) (Types, t)) (λ t. c.in_ok-used.ensures.kept (Types, t)) (type_names old.types) (type_names c.keep_only-2.new.self) c.keep_only-2.ensures.names
 
+pub returns-clause-tables : goal.returns-clause-tables
+returns-clause-tables g c =
+    let old = c.args.module.now in
+    keeps_only c.in_ok-used.used.tables (λ i. Kept (view old) (Tables, i)) (λ i. c.in_ok-used.ensures.kept (Tables, i)) (tables old.tables) (tables c.keep_only-4.new.self) c.keep_only-4.ensures
+
+pub returns-clause-memories : goal.returns-clause-memories
+returns-clause-memories g c =
+    let old = c.args.module.now in
+    keeps_only c.in_ok-used.used.memories (λ i. Kept (view old) (Memories, i)) (λ i. c.in_ok-used.ensures.kept (Memories, i)) (memories old.memories) (memories c.keep_only-5.new.self) c.keep_only-5.ensures
+
+pub returns-clause-tags : goal.returns-clause-tags
+returns-clause-tags g c =
+    let old = c.args.module.now in
+    keeps_only c.in_ok-used.used.tags (λ i. Kept (view old) (Tags, i)) (λ i. c.in_ok-used.ensures.kept (Tags, i)) (tags old.tags) (tags c.keep_only-6.new.self) c.keep_only-6.ensures
+
+pub returns-clause-globals : goal.returns-clause-globals
+returns-clause-globals g c =
+    let old = c.args.module.now in
+    keeps_only c.in_ok-used.used.globals (λ i. Kept (view old) (Globals, i)) (λ i. c.in_ok-used.ensures.kept (Globals, i)) (globals old.globals) (globals c.keep_only-7.new.self) c.keep_only-7.ensures
+
+pub returns-clause-imports : goal.returns-clause-imports
+returns-clause-imports g c =
+    let old = c.args.module.now in
+    imports_left (contents_of old) c.in_ok-used.used c.in_ok-used.ensures.kept (marks_of c.in_ok-used.used) (imports c.keep_only-3.new.self) c.keep_only-3.ensures
+    (record { funcs = refl; tables = refl; memories = refl; globals = refl; tags = refl })
+
 pub returns-clause-collected : goal.returns-clause-collected
 returns-clause-collected g c =
     let old = c.args.module.now in
-    is_collected old.types c.keep_only-2.new.self old.locals old.funcs c.keep_only.new.self old.exports old.producers (returns-clause-functions g c) (returns-clause-types g c)
+    is_collected (contents_of old) c.keep_only-2.new.self c.keep_only-3.new.self c.keep_only.new.self c.keep_only-4.new.self c.keep_only-5.new.self c.keep_only-6.new.self c.keep_only-7.new.self (record {
+      types = returns-clause-types g c;
+      imports = returns-clause-imports g c;
+      functions = returns-clause-functions g c;
+      tables = returns-clause-tables g c;
+      memories = returns-clause-memories g c;
+      tags = returns-clause-tags g c;
+      globals = returns-clause-globals g c;
+    })
 
 pub returns-clause-settled : goal.returns-clause-settled
 returns-clause-settled g c =
     let old = c.args.module.now in
-    (stays_collected_lem (view old) (view_of c.keep_only-2.new.self old.locals c.keep_only.new.self old.exports old.producers) (returns-clause-collected g c)).items
+    (stays_collected_lem (view old) (contents_view (left (contents_of old) c.keep_only-2.new.self c.keep_only-3.new.self c.keep_only.new.self c.keep_only-4.new.self c.keep_only-5.new.self c.keep_only-6.new.self c.keep_only-7.new.self)) (returns-clause-collected g c)).items
 
 pub returns-clause-own_ids : goal.returns-clause-own_ids
 returns-clause-own_ids g c = λ own. record {
   functions = λ i x here. own.functions i x ((returns-clause-functions g c).left i x here).1;
   exports = own.exports;
   locals = own.locals;
+  imports = λ i x here. own.imports i x ((returns-clause-imports g c).left i x here).1;
+  tables = λ i x here. own.tables i x ((returns-clause-tables g c).left i x here).1;
+  memories = λ i x here. own.memories i x ((returns-clause-memories g c).left i x here).1;
+  tags = λ i x here. own.tags i x ((returns-clause-tags g c).left i x here).1;
+  globals = λ i x here. own.globals i x ((returns-clause-globals g c).left i x here).1;
 }

@@ -5,7 +5,7 @@ use Rattle.walrus_code.specs.Code.{item_of}
 use Rattle.walrus.specs.Used.{NamesDead}
 use Rattle.walrus.specs.Marked.{ReachesUnsound}
 use Rattle.walrus_contents.specs.Named.{all_names, items_in}
-use Rattle.walrus_contents.specs.View.{parts_view}
+use Rattle.walrus_contents.specs.View.{lent, parts_view}
 use Rattle.walrus_contents.specs.There.{IsSound}
 use Rattle.walrus.proofs.Followed.{follows_end, follows_more, item_found, next_item, stays, unsound_by}
 use Rattle.walrus_contents.proofs.NamedLemmas.{refusal_map}
@@ -32,7 +32,7 @@ returns-in_err-follow_item c =
     let x = item_of id in
     let lt : n < length f = omega (arith, c.loop-taken.found.ok.0) in
     rw (p.1, p.2) (refusal_map ((IsSound v x → ⊥) ⊎ NamesDead v (all_names v x)) (ReachesUnsound v)
-    (unsound_by v n c.loop-taken.used (items_in c.loop-taken.found) c.loop-taken.invariant x (next_item f n id lt c.index-item.ensures) (item_found f n id lt c.index-item.ensures) (all_names v x) (names_are parts.types.now parts.locals.now parts.funcs.now parts.exports.now parts.producers.now x))
+    (unsound_by v n c.loop-taken.used (items_in c.loop-taken.found) c.loop-taken.invariant x (next_item f n id lt c.index-item.ensures) (item_found f n id lt c.index-item.ensures) (all_names v x) (names_are (lent parts) x))
     c.in_err-follow_item.field-0.0 c.in_err-follow_item.ensures)
 
 pub loop-taken-preserved : goal.loop-taken-preserved
@@ -47,7 +47,7 @@ loop-taken-preserved c =
     let before = items_in c.loop-taken.found in
     let after = items_in c.follow_item.new.found in
     let entered = c.in_ok-follow_item.ensures in
-    follows_more v n c.loop-taken.used before c.loop-taken.invariant x (next_item f n id lt c.index-item.ensures) (item_found f n id lt c.index-item.ensures) (all_names v x) (names_are parts.types.now parts.locals.now parts.funcs.now parts.exports.now parts.producers.now x)
+    follows_more v n c.loop-taken.used before c.loop-taken.invariant x (next_item f n id lt c.index-item.ensures) (item_found f n id lt c.index-item.ensures) (all_names v x) (names_are (lent parts) x)
     c.follow_item.new.used after
     (stays v (all_names v x) c.loop-taken.used c.follow_item.new.used before after n (omega (arith, lt, length-map f item_of)) entered.1) entered.0 entered.1
 

@@ -5,7 +5,7 @@ use Rattle.walrus_code.specs.declared.items.ItemId.{ItemId}
 use Rattle.walrus_types.specs.Operators.{Item}
 use Rattle.walrus.specs.Marked.{ReachesUnsound}
 use Rattle.walrus_contents.specs.Named.{export_names, items_in}
-use Rattle.walrus_contents.specs.View.{parts_view}
+use Rattle.walrus_contents.specs.View.{lent, parts_view}
 use Rattle.walrus.specs.Used.{Enters, NamesDead}
 use Rattle.walrus.proofs.Entered.{nothing_agrees}
 use Rattle.walrus.proofs.Followed.{follows_init, unsound_root}
@@ -21,7 +21,7 @@ returns-in_err-enter_all c =
     let names = export_names parts.exports.now in
     let roots : map item_of c.as_slice.result.now ≡ names = ap (λ (ids : List ItemId). map item_of ids) c.as_slice.ensures.value ∙ c.in_ok-push_export_names.ensures ∙ ap (λ (ids : List ItemId). map item_of ids ++ names) c.new-roots.ensures.items in
     rw (p.1, p.2) (refusal_map (NamesDead v (map item_of c.as_slice.result.now)) (ReachesUnsound v)
-    (λ dead. unsound_root v names (roots_are parts.types.now parts.locals.now parts.funcs.now parts.exports.now parts.producers.now) (subst (λ (xs : List Item). NamesDead v xs) roots dead))
+    (λ dead. unsound_root v names (roots_are (lent parts)) (subst (λ (xs : List Item). NamesDead v xs) roots dead))
     c.in_err-enter_all.field-0.0 c.in_err-enter_all.ensures)
 
 pub follow-requires : goal.follow-requires
@@ -40,4 +40,4 @@ follow-requires c =
     follows_init v u0 u1 names f1
     (nothing_agrees u0 none.types none.funcs none.tables none.globals none.memories none.tags none.elements none.data_segments)
     (subst (λ (before : List Item). Enters v names u0 u1 before f1) first named)
-    (roots_are parts.types.now parts.locals.now parts.funcs.now parts.exports.now parts.producers.now)
+    (roots_are (lent parts))

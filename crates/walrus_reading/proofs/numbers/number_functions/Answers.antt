@@ -1,8 +1,9 @@
-use Rattle.std.proofs.Common.{length, refl, ap, ◌∙◌, arith}
-use Rattle.std.specs.List.{range_with_len}
+use Rattle.std.proofs.Common.{length, refl, ap, ◌∙◌, arith, subst}
 use Rattle.std.proofs.lemmas.List.FromFn.{length-range_with_len}
+use Rattle.walrus_types.specs.Operators.{Functions}
 use Rattle.walrus_contents.proofs.Taking.{not_in_range, range_grown, reached}
-use Rattle.walrus_reading.proofs.contents.number_functions.Goals as goal
+use Rattle.walrus_reading.specs.Numbers.{NumbersSpace}
+use Rattle.walrus_reading.proofs.numbers.number_functions.Goals as goal
 
 pub loop-place-init : goal.loop-place-init
 loop-place-init c = record { numbered = c.requires.none; others = λ space other. refl }
@@ -19,8 +20,6 @@ loop-place-preserved c = record {
   others = λ space other. c.in_ok-push_func.ensures.others space other ∙ c.loop-place.invariant.others space other;
 }
 
-pub returns-clause-numbered : goal.returns-clause-numbered
-returns-clause-numbered c = c.loop-place.invariant.numbered ∙ ap (range_with_len 0) (reached c.loop-place.place c.args.count c.loop-place.auto.place-end c.loop-place-test.false)
-
-pub returns-clause-others : goal.returns-clause-others
-returns-clause-others c = c.loop-place.invariant.others
+pub returns-clause-numbers : goal.returns-clause-numbers
+returns-clause-numbers c =
+    subst (λ n. NumbersSpace Functions n c.args.indices.now c.loop-place.indices) (reached c.loop-place.place c.args.count c.loop-place.auto.place-end c.loop-place-test.false) c.loop-place.invariant

@@ -1,0 +1,140 @@
+//! What tables, tags and globals name, and the constant expressions that initialise them
+//! (Valid > Instructions > Expressions > Constant Expressions).
+
+ghost use Rattle.std.specs.Prelude.{◌≡◌, map, OnOk};
+ghost use Rattle.std.specs.Option.{option_to_list};
+ghost use Rattle.walrus_code.specs.Code.{item_of};
+ghost use Rattle.walrus_entities.specs.Globals.{global_init, global_value};
+ghost use Rattle.walrus_entities.specs.Tables.{table_value};
+ghost use Rattle.walrus_entities.specs.Tags.{tag_value};
+ghost use Rattle.walrus_model.specs.Refers.{global_names, named_by, table_names, tag_names};
+ghost use Rattle.walrus_types.specs.ConstOps.{const_op, const_ops};
+ghost use Rattle.walrus_types.specs.Operators.{names_of, op_names, type_item};
+ghost use Rattle.walrus_types.specs.Value.{heap_type};
+ghost use Rattle.walrus_base.specs.Types.{heap_names};
+ghost use Rattle.walrus_base.specs.Id.{place};
+ghost use Rattle.walrus_contents.specs.Named.{Puts};
+ghost use Rattle.walrus_contents.specs.View.{global_of, table_of, tag_of};
+
+use crate::names::{push_heap_type, push_value_type};
+use std::alloc::AllocError;
+use std::result;
+use walrus_entities::{Global, GlobalKind, Table, Tag};
+use walrus_items::{HeapType, ItemId, TypeId};
+use walrus_types::{ConstExpr, ConstOp};
+
+// Puts what a table names behind `to`: the concrete type of its elements, and what its initialiser names.
+pub(crate) fn push_table_names(
+    table: &Table,
+    to: &mut Vec<ItemId>,
+) -> result::Result<(), AllocError>
+    ensures { OnOk result (Puts to.old to.new (table_names (table_of (table_value table.now)))) }
+{
+    push_heap_type(table.element_ty.heap_type, to)?;
+    match &table.init {
+        Some(initialiser) => push_const_names(initialiser, to),
+        None => Ok(()),
+    }
+}
+
+// The same for a tag: its type.
+pub(crate) fn push_tag_names(tag: &Tag, to: &mut Vec<ItemId>) -> result::Result<(), AllocError>
+    ensures { OnOk result (Puts to.old to.new (tag_names (tag_of (tag_value tag.now)))) }
+{
+    Ok(to.push(ItemId::Type(tag.ty()))?)
+}
+
+// The same for a global: the concrete type of its value, and what its initialiser names.
+pub(crate) fn push_global_names(
+    global: &Global,
+    to: &mut Vec<ItemId>,
+) -> result::Result<(), AllocError>
+    ensures { OnOk result (Puts to.old to.new (global_names (global_of (global_value global.now)))) }
+{
+    push_value_type(global.ty, to)?;
+    push_kind_names(&global.kind, to)
+}
+
+// The same for where a global comes from: an import, which names nothing, or its initialiser.
+fn push_kind_names(kind: &GlobalKind, to: &mut Vec<ItemId>) -> result::Result<(), AllocError>
+    ensures { OnOk result (Puts to.old to.new (named_by names_of (global_init kind.now))) }
+{
+    match kind {
+        GlobalKind::Import(_) => Ok(()),
+        GlobalKind::Local(initialiser) => push_const_names(initialiser, to),
+    }
+}
+
+// The same for a constant expression.
+#[tactic(auto, using(crate::proofs::ConstNames::null_alone))]
+fn push_const_names(expr: &ConstExpr, to: &mut Vec<ItemId>) -> result::Result<(), AllocError>
+    ensures { OnOk result (Puts to.old to.new (names_of (const_ops expr.now))) }
+{
+    match expr {
+        ConstExpr::Value(_) => Ok(()),
+        ConstExpr::Global(id) => Ok(to.push(ItemId::Global(*id))?),
+        ConstExpr::RefNull(reference) => push_heap_type(reference.heap_type, to),
+        ConstExpr::RefFunc(id) => Ok(to.push(ItemId::Function(*id))?),
+        ConstExpr::Extended(operators) => push_const_ops(operators.as_slice(), to),
+    }
+}
+
+// The same for operators of constant expressions.
+fn push_const_ops(operators: &[ConstOp], to: &mut Vec<ItemId>) -> result::Result<(), AllocError>
+    ensures { OnOk result (Puts to.old to.new (names_of (map const_op operators.now))) }
+{
+    for operator in operators {
+        push_const_op(operator, to)?;
+    }
+    Ok(())
+}
+
+// The same for one.
+fn push_const_op(operator: &ConstOp, to: &mut Vec<ItemId>) -> result::Result<(), AllocError>
+    ensures { OnOk result (Puts to.old to.new (op_names (const_op operator.now))) }
+{
+    match item_of_const(operator) {
+        Some(item) => Ok(to.push(item)?),
+        None => Ok(()),
+    }
+}
+
+// The item that an operator of a constant expression names.
+fn item_of_const(operator: &ConstOp) -> Option<ItemId>
+    ensures { map item_of (option_to_list result) ≡ op_names (const_op operator.now) }
+{
+    match *operator {
+        ConstOp::GlobalGet(id) => Some(ItemId::Global(id)),
+        ConstOp::RefFunc(id) => Some(ItemId::Function(id)),
+        ConstOp::RefNull(heap) => type_of_heap(heap).map(ItemId::Type),
+        ConstOp::StructNew(id)
+        | ConstOp::StructNewDefault(id)
+        | ConstOp::ArrayNew(id)
+        | ConstOp::ArrayNewDefault(id)
+        | ConstOp::ArrayNewFixed(id, _) => Some(ItemId::Type(id)),
+        ConstOp::I32Const(_)
+        | ConstOp::I64Const(_)
+        | ConstOp::F32Const(_)
+        | ConstOp::F64Const(_)
+        | ConstOp::I32Add
+        | ConstOp::I32Sub
+        | ConstOp::I32Mul
+        | ConstOp::I64Add
+        | ConstOp::I64Sub
+        | ConstOp::I64Mul
+        | ConstOp::AnyConvertExtern
+        | ConstOp::ExternConvertAny
+        | ConstOp::RefI31 => None,
+        ConstOp::V128Const(_) => None,
+    }
+}
+
+// The type that a heap type names.
+fn type_of_heap(heap: HeapType) -> Option<TypeId>
+    ensures { map place (option_to_list result) ≡ heap_names (heap_type heap) }
+{
+    match heap {
+        HeapType::Abstract(_) => None,
+        HeapType::Concrete(id) | HeapType::Exact(id) => Some(id),
+    }
+}

@@ -1,0 +1,33 @@
+use Rattle.std.proofs.Common.{◌∙◌, ap, refl}
+use Rattle.wasm_entries.specs.Record.{Import, import_entry}
+use Rattle.walrus_code.specs.Indices.{ids_at}
+use Rattle.walrus_contents.proofs.Taking.{mapped_all}
+use Rattle.walrus_reading.specs.Stays.{DescStays}
+use Rattle.walrus_reading.proofs.Brought.{all_imported, none_imported, one_more_imported}
+use Rattle.walrus_reading.proofs.imports.add_imports.Goals as goal
+
+pub add_import-requires : goal.add_import-requires
+add_import-requires c = record {
+  stays = mapped_all (λ (x : Import). DescStays (ids_at c.args.indices.now) x.desc) import_entry c.args.raw.now c.loop-entry.entry-index _ c.requires.stay c.loop-entry-test.true;
+}
+
+pub loop-entry-init : goal.loop-entry-init
+loop-entry-init c =
+    none_imported c.args.raw.now c.args.contents.now _
+    (record {
+      imports = c.reserve.ensures.same ∙ c.requires.none.imports;
+      tables = c.requires.none.tables;
+      memories = c.requires.none.memories;
+      tags = c.requires.none.tags;
+      globals = c.requires.none.globals;
+    }) c.requires.no_functions (record { types = refl; locals = refl; exports = refl; producers = refl })
+
+pub loop-entry-preserved : goal.loop-entry-preserved
+loop-entry-preserved c =
+    one_more_imported c.args.raw.now c.args.contents.now c.loop-entry.entry-index _ c.loop-entry.contents c.add_import.new.contents c.loop-entry-test.true c.loop-entry.invariant c.in_ok-add_import.ensures.added
+
+pub returns-clause-held : goal.returns-clause-held
+returns-clause-held c = all_imported c.args.raw.now c.args.contents.now c.loop-entry.entry-index c.loop-entry.contents c.loop-entry-test.false c.loop-entry.invariant
+
+pub returns-clause-others : goal.returns-clause-others
+returns-clause-others c = c.loop-entry.invariant.others

@@ -1,0 +1,62 @@
+-- What a slot holds of an item that was read: the item as the sections say it, under the slot's own id, and nothing that they don't say: no
+-- name, and no segment that is kept as long as the item is.
+use Rattle.std.specs.Prelude.{ℕ, Option, Some, None, ◌≡◌}
+use Rattle.walrus_types.specs.declared.locals.ModuleLocals.{ModuleLocals}
+use Rattle.walrus_items.specs.Functions.{FunctionValue}
+use Rattle.walrus_items.specs.Imports.{ImportValue}
+use Rattle.walrus_entities.specs.Added.{no_segments}
+use Rattle.walrus_entities.specs.Globals.{GlobalValue}
+use Rattle.walrus_entities.specs.Memories.{MemoryValue}
+use Rattle.walrus_entities.specs.Tables.{TableValue}
+use Rattle.walrus_entities.specs.Tags.{TagValue}
+use Rattle.walrus_model.specs.Abstract.{Function, Global, Import, Memory, Table, Tag}
+use Rattle.walrus_contents.specs.View as view
+
+-- a slot holds this memory
+pub record HoldsMemory (id : ℕ) (memory : Memory) (slot : Option MemoryValue) : Type 0 where
+  pub value : MemoryValue
+  pub is : slot ≡ Some value
+  pub own_id : value.id ≡ id
+  pub read : view.memory_of value ≡ memory
+  pub segments : value.segments ≡ no_segments
+  pub unnamed : value.name ≡ None
+
+-- a slot holds this table, with the operators of its initialiser
+pub record HoldsTable (id : ℕ) (table : Table) (slot : Option TableValue) : Type 0 where
+  pub value : TableValue
+  pub is : slot ≡ Some value
+  pub own_id : value.id ≡ id
+  pub read : view.table_of value ≡ table
+  pub segments : value.segments ≡ no_segments
+  pub unnamed : value.name ≡ None
+
+-- a slot holds this tag
+pub record HoldsTag (id : ℕ) (tag : Tag) (slot : Option TagValue) : Type 0 where
+  pub value : TagValue
+  pub is : slot ≡ Some value
+  pub own_id : value.id ≡ id
+  pub read : view.tag_of value ≡ tag
+  pub unnamed : value.name ≡ None
+
+-- a slot holds this global, with the operators of its initialiser
+pub record HoldsGlobal (id : ℕ) (global : Global) (slot : Option GlobalValue) : Type 0 where
+  pub value : GlobalValue
+  pub is : slot ≡ Some value
+  pub own_id : value.id ≡ id
+  pub read : view.global_of value ≡ global
+  pub unnamed : value.name ≡ None
+
+-- a slot holds this import, which names the item that it brings
+pub record HoldsImport (id : ℕ) (item : Import) (slot : Option ImportValue) : Type 0 where
+  pub value : ImportValue
+  pub is : slot ≡ Some value
+  pub own_id : value.id ≡ id
+  pub read : view.import_of value ≡ item
+
+-- a slot holds this function, which an import brings, whatever locals there are
+pub record HoldsImportedFunction (id : ℕ) (function : Function) (slot : Option FunctionValue) : Type 0 where
+  pub value : FunctionValue
+  pub is : slot ≡ Some value
+  pub own_id : value.id ≡ id
+  pub read : (all : ModuleLocals) → view.function all value ≡ function
+  pub unnamed : value.name ≡ None

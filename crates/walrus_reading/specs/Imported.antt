@@ -1,0 +1,61 @@
+-- What a module holds of the imports that were read: them, and what each brings to its index space.
+use Rattle.std.specs.Prelude.{ℕ, [], ◌∷◌, List, length, option_to_list, ◌≡◌}
+use Rattle.wasm_entries.specs.declared.record.RawDesc.{RawDesc}
+use Rattle.wasm_entries.specs.declared.record.RawDesc.TheVariants as descs
+use Rattle.wasm_entries.specs.Record as entries
+use Rattle.walrus_types.specs.Operators.{Functions, Tables, Memories, Tags, Globals, Item}
+use Rattle.walrus_items.specs.Functions.{functions}
+use Rattle.walrus_items.specs.Imports.{imports}
+use Rattle.walrus_entities.specs.Globals.{globals}
+use Rattle.walrus_entities.specs.Memories.{memories}
+use Rattle.walrus_entities.specs.Tables.{tables}
+use Rattle.walrus_entities.specs.Tags.{tags}
+use Rattle.walrus_model.specs.Abstract.{Import}
+use Rattle.walrus_model.specs.Sections.{imported, imported_function, imported_global, imported_memory, imported_table, imported_tag, imports_after}
+use Rattle.walrus_contents.specs.declared.parts.Contents.{Contents}
+use Rattle.walrus_reading.specs.Held.{HoldsGlobal, HoldsImport, HoldsImportedFunction, HoldsMemory, HoldsTable, HoldsTag}
+use Rattle.walrus_reading.specs.Placed.{AddsPlaced, AllPlaced}
+
+-- the imports, and in each space what they bring, in their order and without names; nothing else is there
+pub record HoldsImports (raw : List entries.Import) (m : Contents) : Type 0 where
+  pub imports : AllPlaced HoldsImport 0 (imports_after [] raw) (imports m.imports)
+  pub functions : AllPlaced HoldsImportedFunction 0 (imported imported_function 0 raw) (functions m.funcs)
+  pub tables : AllPlaced HoldsTable 0 (imported imported_table 0 raw) (tables m.tables)
+  pub memories : AllPlaced HoldsMemory 0 (imported imported_memory 0 raw) (memories m.memories)
+  pub tags : AllPlaced HoldsTag 0 (imported imported_tag 0 raw) (tags m.tags)
+  pub globals : AllPlaced HoldsGlobal 0 (imported imported_global 0 raw) (globals m.globals)
+
+-- all else stays
+pub record SameOthers (old new : Contents) : Type 0 where
+  pub types : new.types ≡ old.types
+  pub locals : new.locals ≡ old.locals
+  pub exports : new.exports ≡ old.exports
+  pub producers : new.producers ≡ old.producers
+
+-- ---- for the functions inside
+
+-- the item that is next in the space of what is brought
+abbrev pub next_item : Contents → RawDesc → Item
+next_item m (descs.Function ty) = (Functions, length (functions m.funcs))
+next_item m (descs.Table ty) = (Tables, length (tables m.tables))
+next_item m (descs.Memory l) = (Memories, length (memories m.memories))
+next_item m (descs.Global ty) = (Globals, length (globals m.globals))
+next_item m (descs.Tag ty) = (Tags, length (tags m.tags))
+
+-- an import of that item by these names
+abbrev pub next_import : Contents → entries.Import → Import
+next_import m x = record { module_name = x.from; name = x.name; item = next_item m x.desc }
+
+-- what the import of this number brings stands behind the others of its space
+pub record Brings (i : ℕ) (d : RawDesc) (old new : Contents) : Type 0 where
+  pub functions : AddsPlaced HoldsImportedFunction (option_to_list (imported_function i d)) (functions old.funcs) (functions new.funcs)
+  pub tables : AddsPlaced HoldsTable (option_to_list (imported_table i d)) (tables old.tables) (tables new.tables)
+  pub memories : AddsPlaced HoldsMemory (option_to_list (imported_memory i d)) (memories old.memories) (memories new.memories)
+  pub tags : AddsPlaced HoldsTag (option_to_list (imported_tag i d)) (tags old.tags) (tags new.tags)
+  pub globals : AddsPlaced HoldsGlobal (option_to_list (imported_global i d)) (globals old.globals) (globals new.globals)
+  pub others : SameOthers old new
+
+-- so does the import itself, and they name each other
+pub record AddsImport (x : entries.Import) (old new : Contents) : Type 0 where
+  pub brings : Brings (length (imports old.imports)) x.desc old new
+  pub imports : AddsPlaced HoldsImport (next_import old x ∷ []) (imports old.imports) (imports new.imports)

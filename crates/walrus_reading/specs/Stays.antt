@@ -1,0 +1,75 @@
+-- That each index in what was read is declared, and leads to an item whose place has that number: while a module is read no item is deleted.
+use Rattle.std.specs.Prelude.{ℕ, ◌+◌, ◌<◌, length, All, Some, ◌≡◌, ⊤}
+use Rattle.wasm_forms.specs.declared.types.RawRef.{RawRef}
+use Rattle.wasm_forms.specs.declared.types.RawVal.{RawVal}
+use Rattle.wasm_entries.specs.declared.record.RawDesc.{RawDesc}
+use Rattle.wasm_entries.specs.declared.record.RawDesc.TheVariants as descs
+use Rattle.wasm_entries.specs.Record as entries
+use Rattle.wasm_frames.specs.Record as wire
+use Rattle.wasm_wire.specs.Indices.{IndicesHold}
+use Rattle.wasm_wire.specs.declared.rules.counts.Counts.{Counts}
+use Rattle.walrus_types.specs.Operators.{Types, Functions, Tables, Memories, Tags, Globals}
+use Rattle.walrus_code.specs.FromRaw.{val_of}
+use Rattle.walrus_code.specs.Names.{Lookup, named_val}
+use Rattle.walrus_constants.specs.Named.{named_const, named_global, named_ref, named_table}
+use Rattle.walrus_model.specs.Constants.{consts_of}
+use Rattle.walrus_model.specs.Sections.{global_of, ref_of, space_of, table_of}
+
+module _ (names : Lookup) where
+  -- the index of a type
+  abbrev pub TypeStays : ℕ → Type 0
+  TypeStays t = names Types t ≡ Some t
+
+  -- those in a reference type
+  abbrev pub RefStays : RawRef → Type 0
+  RefStays r = named_ref names (ref_of r) ≡ Some (ref_of r)
+
+  -- those in a value type
+  abbrev pub ValStays : RawVal → Type 0
+  ValStays v = named_val names (val_of v) ≡ Some (val_of v)
+
+  -- those in a constant expression
+  abbrev pub ConstStays : entries.Expression → Type 0
+  ConstStays e = named_const names (consts_of e) ≡ Some (consts_of e)
+
+  -- those in a table: in its type and its initialiser
+  abbrev pub TableStays : entries.Table → Type 0
+  TableStays t = named_table names (table_of t) ≡ Some (table_of t)
+
+  -- those in a global: in its type and its initialiser
+  abbrev pub GlobalStays : entries.Global → Type 0
+  GlobalStays g = named_global names (global_of g) ≡ Some (global_of g)
+
+  -- those in what an import brings
+  abbrev pub DescStays : RawDesc → Type 0
+  DescStays (descs.Function t) = TypeStays t
+  DescStays (descs.Table t) = RefStays t.element
+  DescStays (descs.Memory l) = ⊤
+  DescStays (descs.Global g) = ValStays g.value
+  DescStays (descs.Tag t) = TypeStays t
+
+  -- the index of an export, in the space of its kind
+  abbrev pub ExportStays : entries.Export → Type 0
+  ExportStays e = names (space_of e.kind) e.index ≡ Some e.index
+
+  -- so it is for all that sections say of these
+  pub record AllStay (m : wire.Module) : Type 0 where
+    pub imports : All (λ x. DescStays x.desc) m.imports
+    pub functions : All TypeStays m.functions
+    pub tables : All TableStays m.tables
+    pub tags : All TypeStays m.tags
+    pub globals : All GlobalStays m.globals
+    pub exports : All ExportStays m.exports
+
+  -- each of so many items of a space has the place of its index
+  pub record AreNumbered (c : Counts) : Type 0 where
+    pub types : (n : ℕ) → n < c.types → names Types n ≡ Some n
+    pub functions : (n : ℕ) → n < c.functions → names Functions n ≡ Some n
+    pub tables : (n : ℕ) → n < c.tables → names Tables n ≡ Some n
+    pub memories : (n : ℕ) → n < c.memories → names Memories n ≡ Some n
+    pub tags : (n : ℕ) → n < c.tags → names Tags n ≡ Some n
+    pub globals : (n : ℕ) → n < c.globals → names Globals n ≡ Some n
+
+-- the rules on indices say enough for that
+abbrev pub RulesKeepIndices : Type 0
+RulesKeepIndices = (names : Lookup) (c : Counts) (m : wire.Module) → AreNumbered names c → c.imported_globals + length m.globals ≡ c.globals → IndicesHold c m → AllStay names m

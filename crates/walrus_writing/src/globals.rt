@@ -1,0 +1,90 @@
+//! The globals that a module defines, as records ("Binary Format > Modules > Global Section").
+ghost use Rattle.std.specs.Prelude.{◌≡◌, true, None, Some, IsSome, IfOk, IfErr, All, map};
+ghost use Rattle.wasm_entries.specs.Record.{global_entry};
+ghost use Rattle.wasm_entries.specs.Spelling.{ExpressionStands, GlobalStands};
+ghost use Rattle.walrus_base.specs.Arena.{items};
+ghost use Rattle.walrus_code.specs.Indices.{index_of};
+ghost use Rattle.walrus_constants.specs.Named.{named_global};
+ghost use Rattle.walrus_contents.specs.View.{global_of};
+ghost use Rattle.walrus_entities.specs.Globals.{globals, global_import, global_init, global_value};
+ghost use Rattle.walrus_model.specs.Sections as said;
+ghost use Rattle.walrus_writing.specs.Globals.{IndexesGlobal, IndexesInitialiser, IsSpelledGlobal, RefusesGlobals};
+ghost use Rattle.walrus_writing.specs.Local.{globals_own};
+
+use std::alloc::Global;
+use walrus_code::index_value;
+use walrus_constants::raw_const;
+use walrus_entities as entities;
+use walrus_entities::{GlobalKind, ModuleGlobals};
+use walrus_ir::{IdsToIndices, IrError};
+use walrus_parts::Error;
+use wasm_wire::{RawConst, RawGlobal, RawGlobalType};
+
+// The initialiser of a global that the module defines, over indices.
+fn raw_initialiser(
+    alloc: Global,
+    kind: &GlobalKind,
+    indices: &IdsToIndices,
+) -> Result<Vec<RawConst>, IrError>
+    requires own { global_import kind.now ≡ None }
+    ensures indexed { IndexesInitialiser (index_of indices.now) (global_init kind.now) result }
+    ensures spelled { IfOk result (λ raw. ExpressionStands raw.items) }
+{
+    match kind {
+        GlobalKind::Local(expr) => raw_const(alloc, expr, indices),
+        GlobalKind::Import(_) => unreachable!(),
+    }
+}
+
+/// The record of a global that the module defines, which bytes can spell.
+///
+/// # Errors
+///
+/// [`IrError::NoIndex`] where an item in its type or its initialiser has no index, [`IrError::NotWritable`] where no bytes spell its
+/// type or its initialiser, and [`IrError::Memory`].
+pub fn raw_global(
+    alloc: Global,
+    global: &entities::Global,
+    indices: &IdsToIndices,
+) -> Result<RawGlobal, IrError>
+    requires own { global_import global.now.kind ≡ None }
+    ensures { IndexesGlobal (index_of indices.now) (global_of (global_value global.now)) result }
+{
+    let value = index_value(global.ty, indices)?;
+    let initial = raw_initialiser(alloc, &global.kind, indices)?;
+    Ok(RawGlobal {
+        ty: RawGlobalType {
+            value,
+            mutable: global.mutable,
+            shared: global.shared,
+        },
+        initial,
+    })
+}
+
+/// The records of the globals, each of which the module defines, by rising id.
+///
+/// # Errors
+///
+/// `NotWritable` where no bytes spell the type or the initialiser of one, and `Memory`.
+pub fn raw_globals(
+    alloc: Global,
+    all: &ModuleGlobals,
+    indices: &IdsToIndices,
+) -> Result<Vec<RawGlobal>, Error>
+    requires own { globals_own (items (globals all.now)) ≡ true }
+    requires indexed { All (λ o. IsSome o)
+        (map (λ g. named_global (index_of indices.now) (global_of g)) (items (globals all.now))) }
+    ensures value { IfOk result (λ raw. map (λ g. Some (said.global_of (global_entry g))) raw.items
+        ≡ map (λ g. named_global (index_of indices.now) (global_of g)) (items (globals all.now))) }
+    ensures stand { IfOk result (λ raw. All (λ g. GlobalStands (global_entry g)) raw.items) }
+    ensures spelled { IfOk result (λ _. All IsSpelledGlobal (items (globals all.now))) }
+    ensures fails { IfErr result (RefusesGlobals (items (globals all.now))) }
+{
+    let mut raw = Vec::with_capacity(alloc, all.len())?;
+    for global in all.iter() {
+        let one = raw_global(alloc, global, indices)?;
+        raw.push(one)?;
+    }
+    Ok(raw)
+}
