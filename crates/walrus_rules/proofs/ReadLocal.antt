@@ -1,11 +1,11 @@
--- What is read so far has neither imports nor tables, globals and element segments, and no memory or tag that an import brings; nor has what is
--- parsed of it, and what gc leaves.
+-- What is read so far has neither imports nor element segments, and no item that an import brings; nor has what is parsed of it, and what gc
+-- leaves.
 use Rattle.std.proofs.Common.{◌≡◌, ⊎_elim, subst, ℕ, zero, suc, List, [], ◌∷◌, ◌++◌, map, zip, refl, sym, ap, ◌∙◌}
 use Rattle.std.specs.Prelude.{Option, Some, None, IsSome, slice_get}
 use Rattle.wasm_entries.specs.Record as entries
 use Rattle.wasm_frames.specs.Record as wire
 use Rattle.walrus_types.specs.Operators.{Functions}
-use Rattle.walrus_model.specs.Abstract.{Abstract, Origin, ImportedBy, Defined, Memory, Tag, FunctionKind, Import, ImportedFunction, LocalFunction, Uninitialised, Function}
+use Rattle.walrus_model.specs.Abstract.{Abstract, Origin, ImportedBy, Defined, Table, Memory, Tag, Global, FunctionKind, Import, ImportedFunction, LocalFunction, Uninitialised, Function}
 use Rattle.walrus_model.specs.Carried.{Carries}
 use Rattle.walrus_model.specs.Config.{Config}
 use Rattle.walrus_model.specs.Pipeline.{Collected}
@@ -13,7 +13,7 @@ use Rattle.walrus_model.specs.Rules.{Holds}
 use Rattle.walrus_model.specs.Sections.{Said, imported, imported_function, imported_table, imported_memory, imported_tag, imported_global, imports_after, function_with, table_of, memory_of, tag_of, global_of, element_of}
 use Rattle.walrus_model.specs.WellMade.{import_in, import_of, kind_import}
 use Rattle.walrus_rules.specs.Chain.{ParsedAs}
-use Rattle.walrus_rules.specs.SoFar.{ReadsSoFar, HasUnwritten, AnImport, ATable, AGlobal, OfAnImport, AnImportedMemory, AnImportedTag}
+use Rattle.walrus_rules.specs.SoFar.{ReadsSoFar, HasUnwritten, AnImport, OfAnImport, AnImportedTable, AnImportedMemory, AnImportedTag, AnImportedGlobal}
 use Rattle.walrus_rules.proofs.ParsedWell.{import_same}
 use Rattle.walrus_rules.proofs.ReadBodies.{is_read}
 use Rattle.walrus_rules.proofs.StepParsed.{carried_parsed, elements_stay, globals_stay, memories_stay, tables_stay, tags_stay}
@@ -64,11 +64,10 @@ module _ (c : Config) (bytes : List ℕ) (m : Abstract) (read : ReadsSoFar c byt
   no_imports : (i : ℕ) → m.imports i ≡ None
   no_imports i = ap (λ (x : Abstract). x.imports i) read.reads.is ∙ ap (λ (xs : List entries.Import). slice_get (imports_after [] xs) i) read.supported.imports
 
-  no_tables : (i : ℕ) → m.tables i ≡ None
-  no_tables i =
+  tables_are : (i : ℕ) → m.tables i ≡ slice_get (map table_of s.tables) i
+  tables_are i =
       ap (λ (x : Abstract). x.tables i) read.reads.is
       ∙ ap (λ (xs : List entries.Import). slice_get (imported imported_table 0 xs ++ map table_of s.tables) i) read.supported.imports
-      ∙ ap (λ (xs : List entries.Table). slice_get (map table_of xs) i) read.supported.tables
 
   memories_are : (i : ℕ) → m.memories i ≡ slice_get (map memory_of s.memories) i
   memories_are i =
@@ -80,11 +79,10 @@ module _ (c : Config) (bytes : List ℕ) (m : Abstract) (read : ReadsSoFar c byt
       ap (λ (x : Abstract). x.tags i) read.reads.is
       ∙ ap (λ (xs : List entries.Import). slice_get (imported imported_tag 0 xs ++ map tag_of s.tags) i) read.supported.imports
 
-  no_globals : (i : ℕ) → m.globals i ≡ None
-  no_globals i =
+  globals_are : (i : ℕ) → m.globals i ≡ slice_get (map global_of s.globals) i
+  globals_are i =
       ap (λ (x : Abstract). x.globals i) read.reads.is
       ∙ ap (λ (xs : List entries.Import). slice_get (imported imported_global 0 xs ++ map global_of s.globals) i) read.supported.imports
-      ∙ ap (λ (xs : List entries.Global). slice_get (map global_of xs) i) read.supported.globals
 
   read_local : (i : ℕ) (f : Function) (p : ℕ) → m.functions i ≡ Some f → f.kind ≡ ImportedFunction p → ⊥
   read_local i f p at is = all_with_bodies s (zip s.functions read.reads.bodies) i p f (sym (functions_are i) ∙ at) is
@@ -98,25 +96,27 @@ module _ (c : Config) (bytes : List ℕ) (m : Abstract) (read : ReadsSoFar c byt
 
     pub parsed_written : HasUnwritten v → ⊥
     parsed_written (AnImport i x at) = imports_parsed i x at
-    parsed_written (ATable i t at) = gone (v.tables i) t (tables_stay c m v p i ∙ no_tables i) at
-    parsed_written (AGlobal i g at) = gone (v.globals i) g (globals_stay c m v p i ∙ no_globals i) at
     parsed_written (OfAnImport i f k at is) =
         let here : import_of v (Functions, i) ≡ Some k = ap (import_in (λ (g : Function). kind_import g.kind)) at ∙ ap kind_import is in
         let same = import_same c m v p (read_is_plain c bytes m read.reads) holds (is_read c bytes m read.reads) (Functions, i) in
         let found = has_imported m i k (m.functions i) refl (sym same ∙ here) in
         read_local i found.0 k found.1 found.2
+    parsed_written (AnImportedTable i t k at brought) =
+        own table_of (λ (x : Table). x.origin) (λ e. refl) s.tables i t k (sym (tables_are i) ∙ sym (tables_stay c m v p i) ∙ at) brought
     parsed_written (AnImportedMemory i y k at brought) =
         own memory_of (λ (x : Memory). x.origin) (λ l. refl) s.memories i y k (sym (memories_are i) ∙ sym (memories_stay c m v p i) ∙ at) brought
     parsed_written (AnImportedTag i t k at brought) =
         own tag_of (λ (x : Tag). x.origin) (λ ty. refl) s.tags i t k (sym (tags_are i) ∙ sym (tags_stay c m v p i) ∙ at) brought
+    parsed_written (AnImportedGlobal i g k at brought) =
+        own global_of (λ (x : Global). x.origin) (λ e. refl) s.globals i g k (sym (globals_are i) ∙ sym (globals_stay c m v p i) ∙ at) brought
 
     pub parsed_elements : (i : ℕ) → v.elements i ≡ None
     parsed_elements i = elements_stay c m v p i ∙ no_elements i
 
     pub left_written : (w : Abstract) → Collected v w → HasUnwritten w → ⊥
     left_written w k (AnImport i x at) = parsed_written (AnImport i x (k.imports.left i x at).1)
-    left_written w k (ATable i t at) = parsed_written (ATable i t (k.tables.left i t at).1)
-    left_written w k (AGlobal i g at) = parsed_written (AGlobal i g (k.globals.left i g at).1)
     left_written w k (OfAnImport i f q at is) = parsed_written (OfAnImport i f q (k.functions.left i f at).1 is)
+    left_written w k (AnImportedTable i t q at brought) = parsed_written (AnImportedTable i t q (k.tables.left i t at).1 brought)
     left_written w k (AnImportedMemory i y q at brought) = parsed_written (AnImportedMemory i y q (k.memories.left i y at).1 brought)
     left_written w k (AnImportedTag i t q at brought) = parsed_written (AnImportedTag i t q (k.tags.left i t at).1 brought)
+    left_written w k (AnImportedGlobal i g q at brought) = parsed_written (AnImportedGlobal i g q (k.globals.left i g at).1 brought)

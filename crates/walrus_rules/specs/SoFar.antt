@@ -19,14 +19,14 @@ pub record ReadsSoFar (c : Config) (bytes : List ℕ) (m : Abstract) : Type 0 wh
 abbrev pub AcceptsSoFar : Config → List ℕ → Type 0
 AcceptsSoFar c bytes = (m : Abstract) × ReadsSoFar c bytes m × Holds m
 
--- what can't be written so far is there: an import, a table, a global, or a function, a memory or a tag that an import brings
+-- what can't be written so far is there: an import, or an item that an import brings
 pub data HasUnwritten (v : Abstract) : Type 0 where
   AnImport : (i : ℕ) (x : Import) → v.imports i ≡ Some x → HasUnwritten v
-  ATable : (i : ℕ) (t : Table) → v.tables i ≡ Some t → HasUnwritten v
-  AGlobal : (i : ℕ) (g : Global) → v.globals i ≡ Some g → HasUnwritten v
   OfAnImport : (i : ℕ) (f : Function) (p : ℕ) → v.functions i ≡ Some f → f.kind ≡ ImportedFunction p → HasUnwritten v
+  AnImportedTable : (i : ℕ) (t : Table) (p : ℕ) → v.tables i ≡ Some t → t.origin ≡ ImportedBy p → HasUnwritten v
   AnImportedMemory : (i : ℕ) (y : Memory) (p : ℕ) → v.memories i ≡ Some y → y.origin ≡ ImportedBy p → HasUnwritten v
   AnImportedTag : (i : ℕ) (t : Tag) (p : ℕ) → v.tags i ≡ Some t → t.origin ≡ ImportedBy p → HasUnwritten v
+  AnImportedGlobal : (i : ℕ) (g : Global) (p : ℕ) → v.globals i ≡ Some g → g.origin ≡ ImportedBy p → HasUnwritten v
 
 -- ref.func names a function that a segment would have to declare
 abbrev pub HasUndeclared : Abstract → Type 0
