@@ -8,3 +8,5 @@ pub mod Refusals
 pub mod Sizes
 pub mod Places
 pub mod SoFar
+pub mod Reads
+pub mod Tables

@@ -4,6 +4,7 @@ use Rattle.std.specs.List.{list_all}
 use Rattle.walrus_items.specs.Functions.{FunctionValue}
 use Rattle.walrus_entities.specs.Globals.{GlobalValue}
 use Rattle.walrus_entities.specs.Memories.{MemoryValue}
+use Rattle.walrus_entities.specs.Tables.{TableValue}
 use Rattle.walrus_entities.specs.Tags.{TagValue}
 use Rattle.walrus_items.specs.declared.functions.FunctionKind.{FunctionKind}
 use Rattle.walrus_items.specs.declared.functions.FunctionKind.TheVariants as kind
@@ -21,6 +22,9 @@ all_local all = list_all (λ f. is_local f.kind) all
 abbrev pub is_own : Option ℕ → Bool
 is_own None = true
 is_own (Some i) = false
+
+abbrev pub tables_own : List TableValue → Bool
+tables_own all = list_all (λ t. is_own t.imported_by) all
 
 abbrev pub memories_own : List MemoryValue → Bool
 memories_own all = list_all (λ m. is_own m.imported_by) all

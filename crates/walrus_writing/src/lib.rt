@@ -5,7 +5,9 @@ mod bodies;
 mod globals;
 mod others;
 mod plan;
+mod reads;
 mod records;
+mod tables;
 mod write;
 
 pub use plan::Plan;

@@ -5,15 +5,16 @@ ghost use Rattle.std.specs.List.{IsDistinct};
 ghost use Rattle.walrus_base.specs.Id.{place};
 ghost use Rattle.walrus_types.specs.ModuleTypes.{type_slots};
 ghost use Rattle.walrus_code.specs.Indices.{index_of, given};
-ghost use Rattle.walrus_types.specs.Operators.{Space, Types, Functions, Memories, Tags, Globals};
+ghost use Rattle.walrus_types.specs.Operators.{Space, Types, Functions, Tables, Memories, Tags, Globals};
 ghost use Rattle.walrus_items.specs.Functions.{functions};
 ghost use Rattle.walrus_entities.specs.Globals.{globals, global_import};
 ghost use Rattle.walrus_entities.specs.Memories.{memories};
+ghost use Rattle.walrus_entities.specs.Tables.{tables};
 ghost use Rattle.walrus_entities.specs.Tags.{tags, tag_import};
 ghost use Rattle.walrus_model.specs.Plan.{AreNumbered, IsPlan};
 ghost use Rattle.walrus_writing.specs.SoFar.{DefinesItems, plain_view};
 ghost use Rattle.walrus_parts.specs.Errors.{out_of_memory};
-ghost use Rattle.walrus_writing.specs.Local.{all_local, is_local, is_own, memories_own, tags_own, globals_own};
+ghost use Rattle.walrus_writing.specs.Local.{all_local, is_local, is_own, tables_own, memories_own, tags_own, globals_own};
 ghost use Rattle.walrus_writing.specs.Numbered.{NumbersSpace};
 ghost use Rattle.walrus_writing.specs.Places.{places};
 ghost use Rattle.walrus_writing.specs.Refusals.{RefusesCount, RefusesCounts};
@@ -22,9 +23,9 @@ ghost use Rattle.walrus_writing.specs.Sizes.{local_sizes, IsOrder};
 use std::alloc::Global;
 use std::cmp::Reverse;
 use walrus_contents::Parts;
-use walrus_entities::{GlobalKind, ModuleGlobals, ModuleMemories, ModuleTags, TagKind};
+use walrus_entities::{GlobalKind, ModuleGlobals, ModuleMemories, ModuleTables, ModuleTags, TagKind};
 use walrus_ir::{
-    FunctionId, GlobalId, IdsToIndices, ImportId, MemoryId, ModuleTypes, TagId, TypeId,
+    FunctionId, GlobalId, IdsToIndices, ImportId, MemoryId, ModuleTypes, TableId, TagId, TypeId,
 };
 use walrus_items::{FunctionKind, ModuleFunctions};
 use walrus_parts::{Error, Result};
@@ -125,6 +126,18 @@ pub fn are_memories_own(all: &ModuleMemories) -> bool
     true
 }
 
+/// Whether the module defines each table.
+pub fn are_tables_own(all: &ModuleTables) -> bool
+    ensures { result ≡ tables_own (items (tables all.now)) }
+{
+    for table in all.iter() {
+        if !is_own(table.import) {
+            return false;
+        }
+    }
+    true
+}
+
 fn is_kind_own(kind: &TagKind) -> bool
     ensures { result ≡ is_own (tag_import kind.now) }
 {
@@ -218,6 +231,19 @@ fn types_in_order(alloc: Global, types: &ModuleTypes) -> Result<Vec<TypeId>>
     Ok(ids)
 }
 
+// The tables, by rising id.
+fn tables_in_order(alloc: Global, all: &ModuleTables) -> Result<Vec<TableId>>
+    ensures value { IfOk result (λ ids. map place ids.items
+        ≡ map (λ e. e.0) (entries (tables all.now))) }
+    ensures fails { IsOkUnless result out_of_memory }
+{
+    let mut ids = Vec::with_capacity(alloc, all.len())?;
+    for (id, _) in all.iter_entries() {
+        ids.push(id)?;
+    }
+    Ok(ids)
+}
+
 // The memories, by rising id.
 fn memories_in_order(alloc: Global, all: &ModuleMemories) -> Result<Vec<MemoryId>>
     ensures value { IfOk result (λ ids. map place ids.items
@@ -289,6 +315,24 @@ fn number_functions(indices: &mut IdsToIndices, order: &[FunctionId]) -> Result<
     }
     for id in order {
         indices.push_func(*id)?;
+    }
+    Ok(())
+}
+
+// Gives each of these tables its index.
+fn number_tables(indices: &mut IdsToIndices, order: &[TableId]) -> Result<()>
+    requires distinct { IsDistinct nat_eq (map place order.now) }
+    requires none { (number : ℕ) → index_of indices.old Tables number ≡ None }
+    requires count { given indices.old Tables ≡ 0 }
+    ensures value { IfOk result (λ _. NumbersSpace Tables indices.old indices.new (map place order.now)) }
+    ensures few { IfOk result (λ _. length order.now < 2 ^ 32) }
+    ensures fails { IfErr result (RefusesCount (length order.now)) }
+{
+    if order.len() > u32::MAX as usize {
+        return Err(Error::TooLarge);
+    }
+    for id in order {
+        indices.push_table(*id)?;
     }
     Ok(())
 }

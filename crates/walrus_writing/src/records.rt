@@ -86,7 +86,7 @@ pub fn raw_functions(
 }
 
 // How many pages there are at first is a number of 64 bits.
-fn pages_of(initial: u64) -> u64
+pub fn pages_of(initial: u64) -> u64
     ensures same { result ≡ initial }
     ensures stands { result < 2 ^ 64 }
 {
@@ -94,7 +94,7 @@ fn pages_of(initial: u64) -> u64
 }
 
 // A limit is a number of 64 bits.
-fn limit_of(maximum: Option<u64>) -> Option<u64>
+pub fn limit_of(maximum: Option<u64>) -> Option<u64>
     ensures same { result ≡ maximum }
     ensures stands { IsBelow (2 ^ 64) result }
 {

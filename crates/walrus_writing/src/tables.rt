@@ -1,0 +1,104 @@
+//! The tables that a module defines, as records ("Binary Format > Modules > Table Section").
+ghost use Rattle.std.specs.Prelude.{◌≡◌, true, None, Some, IsSome, IfOk, IfErr, All, map, option_map};
+ghost use Rattle.wasm_entries.specs.Record.{table_entry};
+ghost use Rattle.wasm_entries.specs.Spelling.{InitialStands, TableStands};
+ghost use Rattle.wasm_forms.specs.Types.{HeapStands};
+ghost use Rattle.walrus_base.specs.Arena.{items};
+ghost use Rattle.walrus_types.specs.ConstOps.{const_ops};
+ghost use Rattle.walrus_types.specs.Value.{ref_type};
+ghost use Rattle.walrus_code.specs.Indices.{index_of};
+ghost use Rattle.walrus_code.specs.Results.{IndexesIn, heap_is_exact};
+ghost use Rattle.walrus_constants.specs.Named.{named_ref, named_table};
+ghost use Rattle.walrus_contents.specs.View.{table_of};
+ghost use Rattle.walrus_entities.specs.Tables.{tables, table_value};
+ghost use Rattle.walrus_model.specs.Sections as said;
+ghost use Rattle.walrus_writing.specs.Tables.{IndexesInitial, IndexesTable, IsSpelledTable, RefusesTables};
+ghost use Rattle.walrus_writing.specs.Local.{tables_own};
+
+use crate::records::{limit_of, pages_of};
+use std::alloc::Global;
+use walrus_code::index_value;
+use walrus_constants::raw_const;
+use walrus_entities::{ModuleTables, Table};
+use walrus_ir::{ConstExpr, IdsToIndices, IrError, RefType, ValType};
+use walrus_parts::Error;
+use wasm_wire::{RawConst, RawLimits, RawRef, RawTable, RawTableType, RawVal};
+
+// The type of a table's elements.
+fn raw_element(ty: RefType, indices: &IdsToIndices) -> Result<RawRef, IrError>
+    ensures indexed { IndexesIn said.ref_of result (heap_is_exact (ref_type ty).heap)
+        (named_ref (index_of indices.now) (ref_type ty)) }
+    ensures spelled { IfOk result (λ raw. HeapStands raw.heap) }
+{
+    match index_value(ValType::Ref(ty), indices)? {
+        RawVal::Ref(raw) => Ok(raw),
+        _ => unreachable!(),
+    }
+}
+
+// The initialiser of a table, if it has one.
+fn raw_initial(
+    alloc: Global,
+    init: &Option<ConstExpr>,
+    indices: &IdsToIndices,
+) -> Result<Option<Vec<RawConst>>, IrError>
+    ensures indexed { IndexesInitial (index_of indices.now) (option_map const_ops init.now) result }
+    ensures spelled { IfOk result (λ raw. InitialStands (option_map (λ ops. ops.items) raw)) }
+{
+    match init {
+        None => Ok(None),
+        Some(expr) => Ok(Some(raw_const(alloc, expr, indices)?)),
+    }
+}
+
+/// The record of a table that the module defines, which bytes can spell.
+///
+/// # Errors
+///
+/// [`IrError::NoIndex`] where an item in the type of its elements or its initialiser has no index, [`IrError::NotWritable`] where no bytes
+/// spell them, and [`IrError::Memory`].
+pub fn raw_table(alloc: Global, table: &Table, indices: &IdsToIndices) -> Result<RawTable, IrError>
+    requires own { (table_value table.now).imported_by ≡ None }
+    ensures { IndexesTable (index_of indices.now) (table_of (table_value table.now)) result }
+{
+    let element = raw_element(table.element_ty, indices)?;
+    let initial = raw_initial(alloc, &table.init, indices)?;
+    let limits = RawLimits {
+        minimum: pages_of(table.initial),
+        maximum: limit_of(table.maximum),
+        shared: false,
+        wide: table.table64,
+        page: None,
+    };
+    Ok(RawTable {
+        ty: RawTableType { element, limits },
+        initial,
+    })
+}
+
+/// The records of the tables, each of which the module defines, by rising id.
+///
+/// # Errors
+///
+/// `NotWritable` where no bytes spell the type of the elements or the initialiser of one, and `Memory`.
+pub fn raw_tables(
+    alloc: Global,
+    all: &ModuleTables,
+    indices: &IdsToIndices,
+) -> Result<Vec<RawTable>, Error>
+    requires own { tables_own (items (tables all.now)) ≡ true }
+    requires indexed { All (λ o. IsSome o)
+        (map (λ t. named_table (index_of indices.now) (table_of t)) (items (tables all.now))) }
+    ensures value { IfOk result (λ raw. map (λ t. Some (said.table_of (table_entry t))) raw.items
+        ≡ map (λ t. named_table (index_of indices.now) (table_of t)) (items (tables all.now))) }
+    ensures stand { IfOk result (λ raw. All (λ t. TableStands (table_entry t)) raw.items) }
+    ensures spelled { IfOk result (λ _. All IsSpelledTable (items (tables all.now))) }
+    ensures fails { IfErr result (RefusesTables (items (tables all.now))) }
+{
+    let mut raw = Vec::with_capacity(alloc, all.len())?;
+    for table in all.iter() {
+        let one = raw_table(alloc, table, indices)?;
+        raw.push(one)?;
+    }
+    Ok(raw)
+}
