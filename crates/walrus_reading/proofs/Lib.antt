@@ -4,7 +4,9 @@ pub mod Carrying
 pub mod DeclaredLocals
 pub mod Held
 pub mod Locating
+pub mod NarrowRules
 pub mod NoHandlers
+pub mod Numbered
 pub mod Parsing
 pub mod Placed
 pub mod References
@@ -14,7 +16,5 @@ pub mod Rows
 pub mod Stays
 pub mod StaysByRules
 pub mod SupportedOnly
-pub mod SupportedRules
 pub mod TakenBody
 pub mod TakenSections
-pub mod TypesTaken

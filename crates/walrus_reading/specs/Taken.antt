@@ -1,5 +1,5 @@
 -- What the fields of a module hold of the sections that were read.
-use Rattle.std.specs.Prelude.{ℕ, ◌+◌, All, List, [], ◌∷◌, ◌++◌, map, flat_map, zip, Option, Some, None, length, ◌≡◌, ◌<◌, ◌^◌, Result, Ok, Err}
+use Rattle.std.specs.Prelude.{ℕ, ◌+◌, All, List, [], ◌∷◌, ◌++◌, map, flat_map, zip, Option, Some, None, length, ◌≡◌, Result, Ok, Err}
 use Rattle.std.specs.List.{AllZip, range_with_len}
 use Rattle.walrus_base.specs.Arena.{item_at}
 use Rattle.walrus_base.specs.Id.{place}
@@ -99,12 +99,6 @@ pub record IsLocated (body : wire.Body) (slot : Option FunctionValue) : Type 0 w
   pub local : LocalFunction
   pub kind : value.kind ≡ Local local
   pub places : BodyLocated IsPlace body.start body.bytes (locations local.operators.items)
-
--- the functions, memories and tags have room for their indices
-pub record FitsIndices (r : wire.Module) : Type 0 where
-  pub functions : length r.functions < 2 ^ 32
-  pub memories : length r.memories < 2 ^ 32
-  pub tags : length r.tags < 2 ^ 32
 
 -- The module holds these sections, whose bodies say this: the items of each index space and the exports in their order, and the locals of all
 -- functions, function by function; nothing else. No type has a name.

@@ -17,8 +17,9 @@ ghost use Rattle.walrus_items.specs.Functions.{functions};
 ghost use Rattle.walrus_groups.specs.Groups.{types_from, AreDeclared};
 ghost use Rattle.walrus_model.specs.Producers.{produced};
 ghost use Rattle.walrus_producers.specs.Seen.{producers};
+ghost use Rattle.walrus_reading.specs.Numbers.{FitsIndices};
 ghost use Rattle.walrus_reading.specs.Placed.{AllPlaced};
-ghost use Rattle.walrus_reading.specs.Taken.{AddsExport, AddsLocalsOf, AddsLocated, FitsIndices, HoldsExport, IsPlace, IsLocated, TakesFunction, TakesFunctions, TakesSections, context_under, types_under};
+ghost use Rattle.walrus_reading.specs.Taken.{AddsExport, AddsLocalsOf, AddsLocated, HoldsExport, IsPlace, IsLocated, TakesFunction, TakesFunctions, TakesSections, context_under, types_under};
 ghost use Rattle.walrus_model.specs.Sections.{space_of};
 ghost use Rattle.walrus_model.specs.Supported.{IsSupported};
 ghost use Rattle.walrus_reading.specs.Sections.{Rules};
@@ -26,8 +27,8 @@ ghost use Rattle.walrus_parts.specs.Errors.{out_of_memory};
 ghost use Rattle.wasm_entries.specs.Record.{group, export_entry};
 ghost use Rattle.wasm_frames.specs.Record.{body_record, sections};
 
-use crate::entities::{add_memories, add_tags};
-use crate::numbers::{number_functions, number_memories, number_tags};
+use crate::entities::{add_globals, add_memories, add_tables, add_tags};
+use crate::numbers::number_items;
 use std::alloc::{AllocError, Global};
 use std::result;
 use walrus_bodies::{ReadBody, read_body_over};
@@ -61,15 +62,13 @@ pub(crate) fn read_contents(alloc: Global, raw: &Raw<'_>, features: &Features) -
     let mut funcs = ModuleFunctions::new(alloc)?;
     let mut exports = ModuleExports::new(alloc);
     let imports = ModuleImports::new(alloc);
-    let tables = ModuleTables::new(alloc);
+    let mut tables = ModuleTables::new(alloc);
     let mut memories = ModuleMemories::new(alloc);
     let mut tags = ModuleTags::new(alloc)?;
-    let globals = ModuleGlobals::new(alloc);
+    let mut globals = ModuleGlobals::new(alloc);
     let mut indices = IndicesToIds::new(alloc);
     add_types(alloc, &raw.types, &mut indices, &mut types)?;
-    number_functions(raw.functions.len(), &mut indices)?;
-    number_memories(raw.memories.len(), &mut indices)?;
-    number_tags(raw.tags.len(), &mut indices)?;
+    number_items(raw, &mut indices)?;
     let under = Under {
         alloc,
         features,
@@ -77,8 +76,10 @@ pub(crate) fn read_contents(alloc: Global, raw: &Raw<'_>, features: &Features) -
         types: &types,
     };
     add_functions(under, &raw.functions, &raw.bodies, &mut locals, &mut funcs)?;
+    add_tables(alloc, &raw.tables, &indices, &mut tables)?;
     add_memories(&raw.memories, &mut memories)?;
     add_tags(&raw.tags, &indices, &mut tags)?;
+    add_globals(alloc, &raw.globals, &indices, &mut globals)?;
     add_exports(&raw.exports, &indices, &mut exports)?;
     Ok(Contents {
         types,

@@ -1,15 +1,39 @@
 //! The indices of what a module holds ("Structure > Modules > Indices"): while a module is read, each item gets the id of its index.
-ghost use Rattle.std.specs.Prelude.{◌≡◌, ◌<◌, ◌^◌, [], OnOk, IsOkUnless};
-ghost use Rattle.walrus_types.specs.Operators.{Functions, Globals, Memories, Tables, Tags};
-ghost use Rattle.walrus_code.specs.Indices.{places_in};
+ghost use Rattle.std.specs.Prelude.{◌≡◌, ◌≢◌, ◌<◌, ◌^◌, [], length, OnOk, IsOkUnless};
+ghost use Rattle.std.specs.List.{range_with_len};
+ghost use Rattle.wasm_frames.specs.Record.{sections};
+ghost use Rattle.walrus_types.specs.Operators.{Functions, Globals, Memories, Space, Tables, Tags, Types};
+ghost use Rattle.walrus_code.specs.Indices.{ids_at, places_in};
+ghost use Rattle.walrus_groups.specs.Groups.{types_from};
+ghost use Rattle.walrus_model.specs.Reads.{declared};
+ghost use Rattle.walrus_model.specs.Supported.{IsSupported};
 ghost use Rattle.walrus_parts.specs.Errors.{out_of_memory};
-ghost use Rattle.walrus_reading.specs.Numbers.{NumbersSpace};
+ghost use Rattle.walrus_reading.specs.Numbers.{FitsIndices, NumbersSpace};
 
 use walrus_ir::{Id, IndicesToIds};
 use walrus_parts::Result;
+use wasm_wire::Raw;
 
-/// The indices of so many functions.
-pub(crate) fn number_functions(count: usize, indices: &mut IndicesToIds) -> Result<()>
+/// The indices of all that sections declare, where its types have theirs.
+pub(crate) fn number_items(raw: &Raw<'_>, indices: &mut IndicesToIds) -> Result<()>
+    requires supported { IsSupported (sections raw.now) }
+    requires room { FitsIndices (sections raw.now) }
+    requires types { places_in indices.old Types
+        ≡ range_with_len 0 (length (types_from 0 (sections raw.now).types)) }
+    requires none { (space : Space) → space ≢ Types → places_in indices.old space ≡ [] }
+    ensures numbered { OnOk result (ids_at indices.new ≡ declared (sections raw.now)) }
+    ensures fails { IsOkUnless result out_of_memory }
+{
+    number_functions(raw.functions.len(), indices)?;
+    number_tables(raw.tables.len(), indices)?;
+    number_memories(raw.memories.len(), indices)?;
+    number_tags(raw.tags.len(), indices)?;
+    number_globals(raw.globals.len(), indices)?;
+    Ok(())
+}
+
+// The indices of so many functions.
+fn number_functions(count: usize, indices: &mut IndicesToIds) -> Result<()>
     requires none { places_in indices.old Functions ≡ [] }
     requires room { count < 2 ^ 32 }
     ensures numbers { OnOk result (NumbersSpace Functions count indices.old indices.new) }
@@ -21,8 +45,8 @@ pub(crate) fn number_functions(count: usize, indices: &mut IndicesToIds) -> Resu
     Ok(())
 }
 
-/// The indices of so many memories.
-pub(crate) fn number_memories(count: usize, indices: &mut IndicesToIds) -> Result<()>
+// The indices of so many memories.
+fn number_memories(count: usize, indices: &mut IndicesToIds) -> Result<()>
     requires none { places_in indices.old Memories ≡ [] }
     requires room { count < 2 ^ 32 }
     ensures numbers { OnOk result (NumbersSpace Memories count indices.old indices.new) }
@@ -34,8 +58,8 @@ pub(crate) fn number_memories(count: usize, indices: &mut IndicesToIds) -> Resul
     Ok(())
 }
 
-/// The indices of so many tables.
-pub(crate) fn number_tables(count: usize, indices: &mut IndicesToIds) -> Result<()>
+// The indices of so many tables.
+fn number_tables(count: usize, indices: &mut IndicesToIds) -> Result<()>
     requires none { places_in indices.old Tables ≡ [] }
     requires room { count < 2 ^ 32 }
     ensures numbers { OnOk result (NumbersSpace Tables count indices.old indices.new) }
@@ -47,8 +71,8 @@ pub(crate) fn number_tables(count: usize, indices: &mut IndicesToIds) -> Result<
     Ok(())
 }
 
-/// The indices of so many tags.
-pub(crate) fn number_tags(count: usize, indices: &mut IndicesToIds) -> Result<()>
+// The indices of so many tags.
+fn number_tags(count: usize, indices: &mut IndicesToIds) -> Result<()>
     requires none { places_in indices.old Tags ≡ [] }
     requires room { count < 2 ^ 32 }
     ensures numbers { OnOk result (NumbersSpace Tags count indices.old indices.new) }
@@ -60,8 +84,8 @@ pub(crate) fn number_tags(count: usize, indices: &mut IndicesToIds) -> Result<()
     Ok(())
 }
 
-/// The indices of so many globals.
-pub(crate) fn number_globals(count: usize, indices: &mut IndicesToIds) -> Result<()>
+// The indices of so many globals.
+fn number_globals(count: usize, indices: &mut IndicesToIds) -> Result<()>
     requires none { places_in indices.old Globals ≡ [] }
     requires room { count < 2 ^ 32 }
     ensures numbers { OnOk result (NumbersSpace Globals count indices.old indices.new) }

@@ -1,5 +1,5 @@
-//! Whether sections hold only what is supported so far: types, functions with bodies, memories, tags, and exports. This is the one
-//! place that refuses the rest.
+//! Whether sections hold only what is supported so far: types, functions with bodies, tables, memories, tags, globals, and exports.
+//! This is the one place that refuses the rest.
 ghost use Rattle.std.specs.Prelude.{◌≡◌};
 ghost use Rattle.wasm_frames.specs.Record.{sections};
 ghost use Rattle.wasm_wire.specs.Rules.{Checks};
@@ -8,13 +8,11 @@ ghost use Rattle.walrus_reading.specs.SupportedOnly.{holds_supported};
 
 use wasm_wire::{Raw, WireError};
 
-// Whether there are types, functions, memories, tags, exports and bodies alone.
+// Whether there are types, functions, tables, memories, tags, globals, exports and bodies alone.
 fn holds_supported(raw: &Raw<'_>) -> bool
     ensures { result ≡ holds_supported (sections raw.now) }
 {
     raw.imports.is_empty()
-        && raw.tables.is_empty()
-        && raw.globals.is_empty()
         && raw.start.is_none()
         && raw.elements.is_empty()
         && raw.data_count.is_none()

@@ -1,6 +1,6 @@
 use Rattle.walrus_types.specs.ModuleTypes.{type_slots}
 use Rattle.walrus_types.specs.Operators.{Types}
-use Rattle.walrus_reading.proofs.TypesTaken.{none_in_place}
+use Rattle.walrus_reading.proofs.Numbered.{none_in_place}
 use Rattle.walrus_reading.proofs.contents.add_types.Goals as goal
 
 pub read_types-requires : goal.read_types-requires

@@ -5,7 +5,7 @@ use Rattle.walrus_model.specs.Declared.{NothingUndeclared}
 use Rattle.walrus_contents.specs.References.{HasUndeclared}
 use Rattle.walrus_reading.specs.Parsed.{TakenFrom, features_so_far}
 use Rattle.walrus_reading.proofs.Accepting.{is_parsed, references_refused, refused_bytes}
-use Rattle.walrus_reading.proofs.SupportedRules.{narrow_rules}
+use Rattle.walrus_reading.proofs.NarrowRules.{narrow_rules}
 use Rattle.walrus_reading.proofs.Placed.{own_ids}
 use Rattle.walrus_reading.proofs.Refusals.{frames_refused, rules_refused, supported_refused, bodies_refused}
 use Rattle.walrus_reading.proofs.Rooms.{fits_indices}
@@ -27,10 +27,10 @@ returns-in_err-check_supported-clause-refused c = λ config with.
     rw (p.1, p.2) (refused_bytes config (features_so_far c.args.only_stable) with c.args.bytes.now _ (supported_refused (features_so_far c.args.only_stable) c.args.bytes.now (sections c.in_ok-raw.raw) _ c.in_ok-raw.ensures.found c.in_err-check_supported.ensures))
 
 pub read_contents-requires-clause-rules : goal.read_contents-requires-clause-rules
-read_contents-requires-clause-rules c = narrow_rules (sections c.in_ok-raw.raw) c.in_ok-check_supported.ensures c.in_ok-check.ensures
+read_contents-requires-clause-rules c = narrow_rules (sections c.in_ok-raw.raw) c.in_ok-check.ensures
 
 pub read_contents-requires-clause-room : goal.read_contents-requires-clause-room
-read_contents-requires-clause-room c = fits_indices c.args.bytes.now (sections c.in_ok-raw.raw) c.in_ok-raw.ensures.found c.in_ok-check.ensures.in_order
+read_contents-requires-clause-room c = fits_indices c.args.bytes.now (sections c.in_ok-raw.raw) c.in_ok-raw.ensures.found c.in_ok-check.ensures.in_order c.in_ok-check.ensures.as_many_bodies
 
 pub returns-in_err-contents-clause-refused : goal.returns-in_err-contents-clause-refused
 returns-in_err-contents-clause-refused c = λ config with.

@@ -1,27 +1,18 @@
--- What reading needs of the rules on sections that hold only what is supported.
-use Rattle.wasm_entries.specs.declared.record.RawExportKind.TheVariants as kinds
-use Rattle.std.proofs.Common.{◌≡◌, ℕ, ◌<◌, true, List, get_or, length, map, refl, sym, ap, ◌∙◌, arith}
+-- What reading needs of the rules on sections.
+use Rattle.std.proofs.Common.{◌≡◌, ℕ, true, List, get_or, refl, sym, ap, ◌∙◌}
 use Rattle.std.specs.Prelude.{Option, Some, None, slice_get, flat_map, option_map}
-use Rattle.wasm_entries.specs.declared.record.RawExportKind.{RawExportKind}
 use Rattle.wasm_entries.specs.Record as entries
-use Rattle.wasm_wire.specs.Context.{context_of, counts_of}
-use Rattle.wasm_wire.specs.Indices.{count_of}
 use Rattle.wasm_frames.specs.Record as wire
 use Rattle.wasm_wire.specs.Rules as wire_rules
 use Rattle.walrus_base.specs.Types.{SubType}
 use Rattle.walrus_types.specs.TypeDef.{TypeDef}
 use Rattle.walrus_groups.specs.Groups.{comp_of, sub_of, types_from}
 use Rattle.walrus_bodies.specs.FunctionTypes.{is_function_comp, is_function_def}
-use Rattle.walrus_model.specs.Reads.{declared, is_function}
-use Rattle.walrus_model.specs.Sections.{memory_of, space_of, tag_of, types_of}
-use Rattle.walrus_model.specs.Supported.{IsSupported}
-use Rattle.walrus_model.proofs.Supported.{supported, by_supported}
-use Rattle.walrus_reading.specs.Sections.{Rules}
-use Rattle.std.proofs.lemmas.List.{length-map}
+use Rattle.walrus_model.specs.Sections.{types_of}
 use Rattle.walrus_contents.proofs.Lookups.{got_map}
-use Rattle.walrus_contents.proofs.Steps.{own_index}
 use Rattle.walrus_contents.proofs.TypeLists.{types_subs}
 use Rattle.walrus_model.proofs.Standing.{some_inj}
+use Rattle.walrus_reading.specs.Sections.{Rules}
 
 -- ---- types by index
 
@@ -50,22 +41,10 @@ function_by (Some x) (Some s) e h =
 
 -- ---- what reading needs
 
--- what is within its space is declared
-index_declared : (m : wire.Module) (k : RawExportKind) (i : ℕ) → i < count_of (counts_of (context_of (supported m))) k → declared (supported m) (space_of k) i ≡ Some i
-index_declared m kinds.Function i lt = own_index (length m.functions) i lt
-index_declared m kinds.Table i lt = absurd (omega (arith, lt))
-index_declared m kinds.Memory i lt = own_index (length (map memory_of m.memories)) i (omega (arith, lt, length-map m.memories memory_of))
-index_declared m kinds.Global i lt = absurd (omega (arith, lt))
-index_declared m kinds.Tag i lt = own_index (length (map tag_of m.tags)) i (omega (arith, lt, length-map m.tags tag_of))
-
-narrow : (m : wire.Module) → wire_rules.Rules (supported m) → Rules (supported m)
-narrow m h = record {
+pub narrow_rules : (m : wire.Module) → wire_rules.Rules m → Rules m
+narrow_rules m h = record {
   types_refer = h.types;
   function_types = λ i d lt. function_by (types_of m (get_or m.functions i d)) (slice_get (flat m) (get_or m.functions i d)) (same_at m (get_or m.functions i d)) (h.function_types i d lt);
-  tag_types = λ i d lt. function_by (types_of m (get_or m.tags i d)) (slice_get (flat m) (get_or m.tags i d)) (same_at m (get_or m.tags i d)) (h.tag_types i d lt);
-  exports_hold = λ i d lt. index_declared m (get_or m.exports i d).kind (get_or m.exports i d).index (h.indices.exports i d lt);
+  indices = h.indices;
   as_many_bodies = h.as_many_bodies;
 }
-
-pub narrow_rules : (m : wire.Module) → IsSupported m → wire_rules.Rules m → Rules m
-narrow_rules = by_supported (λ m. wire_rules.Rules m → Rules m) narrow

@@ -1,0 +1,141 @@
+-- Each index leads to the item of its number, once each space has as many indices as it has items; and so does all that sections name.
+use Rattle.wasm_frames.specs.Record as wire
+use Rattle.std.proofs.Common.{◌≡◌, ℕ, ◌+◌, ◌<◌, Bool, true, false, List, [], ◌++◌, length, map, refl, sym, ap, subst, ◌∙◌, arith, length-append}
+use Rattle.std.specs.Prelude.{Option, Some, None, ◌≢◌, slice_get, nat_lt, if◌then◌else◌, unwrap_or}
+use Rattle.std.specs.List.{range_with_len}
+use Rattle.std.proofs.lemmas.List.{length-map}
+use mathlib.Core.Path.{fun_ext}
+use borrow.Author.Tests.{ltb-true, ltb-false}
+use Rattle.wasm_entries.specs.declared.record.RawDesc.{RawDesc}
+use Rattle.wasm_entries.specs.Record as entries
+use Rattle.wasm_wire.specs.Context as context
+use Rattle.wasm_wire.specs.Context.{context_of, counts_of, desc_global}
+use Rattle.wasm_wire.specs.Indices.{IndicesHold}
+use Rattle.walrus_types.specs.Operators.{Space, Types, Functions, Tables, Memories, Tags, Globals, Elements, DataSegments}
+use Rattle.walrus_types.specs.TypeDef.{TypeDef}
+use Rattle.walrus_code.specs.Indices.{places_in, ids_at}
+use Rattle.walrus_code.specs.Names.{Lookup}
+use Rattle.walrus_code.specs.declared.indices.IndicesToIds.{IndicesToIds}
+use Rattle.walrus_groups.specs.Groups.{sub_of, types_from}
+use Rattle.walrus_groups.specs.Reading.{TypesInPlace}
+use Rattle.walrus_model.specs.Abstract as abstract
+use Rattle.walrus_model.specs.Reads.{below, declared}
+use Rattle.walrus_model.specs.Sections.{element_of, elements_of, function_types, global_of, globals_of, global_type_of, imported, imported_global, imported_memory, imported_table, imported_tag, imported_type, memory_of, memories_of, memory_type_of, table_of, tables_of, table_type_of, tag_of, tags_of}
+use Rattle.walrus_model.specs.Supported.{IsSupported}
+use Rattle.walrus_contents.proofs.Lookups.{as_long}
+use Rattle.walrus_contents.proofs.Steps.{own_index}
+use Rattle.walrus_contents.proofs.Taking.{get_own, get_past}
+use Rattle.walrus_records.proofs.Images.{function_types_look, globals_look, memories_look, tables_look, tags_look, types_look}
+use Rattle.walrus_reading.specs.Numbers.{NumbersSpace}
+use Rattle.walrus_reading.specs.Stays.{AllStay, AreNumbered}
+use Rattle.walrus_reading.proofs.StaysByRules.{all_stay}
+
+-- ---- the look-up of indices is what sections declare
+
+-- as many indices of each space as items are declared
+record HasIndices (r : wire.Module) (indices : IndicesToIds) : Type 0 where
+  pub types : places_in indices Types ≡ range_with_len 0 (length (types_from 0 r.types))
+  pub functions : places_in indices Functions ≡ range_with_len 0 (length (function_types r))
+  pub tables : places_in indices Tables ≡ range_with_len 0 (length (tables_of r))
+  pub memories : places_in indices Memories ≡ range_with_len 0 (length (memories_of r))
+  pub tags : places_in indices Tags ≡ range_with_len 0 (length (tags_of r))
+  pub globals : places_in indices Globals ≡ range_with_len 0 (length (globals_of r))
+  pub elements : places_in indices Elements ≡ range_with_len 0 (length (elements_of r))
+  pub data_segments : places_in indices DataSegments ≡ range_with_len 0 (unwrap_or r.data_count 0)
+
+below_by : (n i : ℕ) (b : Bool) → nat_lt i n ≡ b → slice_get (range_with_len 0 n) i ≡ (if b then Some i else None)
+below_by n i true e = get_own n i (ltb-true i n e)
+below_by n i false e = get_past 0 n i (ltb-false i n e)
+
+in_place : (indices : IndicesToIds) (space : Space) (n i : ℕ) → places_in indices space ≡ range_with_len 0 n → ids_at indices space i ≡ below n i
+in_place indices space n i numbered = ap (λ l. slice_get l i) numbered ∙ below_by n i (nat_lt i n) refl
+
+module _ (r : wire.Module) (indices : IndicesToIds) (h : HasIndices r indices) where
+  name_at : (space : Space) (i : ℕ) → ids_at indices space i ≡ declared r space i
+  name_at Types i = in_place indices Types (length (types_from 0 r.types)) i h.types
+  name_at Functions i = in_place indices Functions (length (function_types r)) i h.functions
+  name_at Tables i = in_place indices Tables (length (tables_of r)) i h.tables
+  name_at Memories i = in_place indices Memories (length (memories_of r)) i h.memories
+  name_at Tags i = in_place indices Tags (length (tags_of r)) i h.tags
+  name_at Globals i = in_place indices Globals (length (globals_of r)) i h.globals
+  name_at Elements i = in_place indices Elements (length (elements_of r)) i h.elements
+  name_at DataSegments i = in_place indices DataSegments (unwrap_or r.data_count 0) i h.data_segments
+
+  all_named : ids_at indices ≡ declared r
+  all_named = fun_ext (λ space. fun_ext (name_at space))
+
+-- no types, and no indices of types
+pub none_in_place : (indices : IndicesToIds) (slots : List (Option TypeDef)) → places_in indices Types ≡ [] → slots ≡ [] → TypesInPlace indices slots
+none_in_place indices slots none empty = none ∙ ap (λ (l : List (Option TypeDef)). range_with_len 0 (length l)) (sym empty)
+
+-- ---- spaces that are numbered one after another
+
+-- as many as sections define, where nothing is imported
+own_counted : {X Y : Type 0} (get : ℕ → RawDesc → Option X) (is : List entries.Import) (make : Y → X) (ys : List Y) (n : ℕ) → is ≡ [] → n ≡ length ys → n ≡ length (imported get 0 is ++ map make ys)
+own_counted get is make ys n none same = same ∙ sym (ap (λ (l : List entries.Import). length (imported get 0 l ++ map make ys)) none ∙ length-map ys make)
+
+-- what there is room for in all, there is for those that sections define
+pub own_room : {X Y : Type 0} (get : ℕ → RawDesc → Option X) (is : List entries.Import) (make : Y → X) (ys : List Y) (n top : ℕ) → n ≡ length ys → length (imported get 0 is ++ map make ys) < top → n < top
+own_room get is make ys n top same lt = omega (arith, same, length-append (imported get 0 is) (map make ys), length-map ys make, lt)
+
+module _ (r : wire.Module) (only : IsSupported r) (first second third fourth fifth last : IndicesToIds)
+    (types : places_in first Types ≡ range_with_len 0 (length (types_from 0 r.types))) (none : (space : Space) → space ≢ Types → places_in first space ≡ [])
+    (of_functions of_tables of_memories of_tags of_globals : ℕ)
+    (functions_long : of_functions ≡ length r.functions) (tables_long : of_tables ≡ length r.tables) (memories_long : of_memories ≡ length r.memories) (tags_long : of_tags ≡ length r.tags) (globals_long : of_globals ≡ length r.globals)
+    (functions : NumbersSpace Functions of_functions first second) (tables : NumbersSpace Tables of_tables second third) (memories : NumbersSpace Memories of_memories third fourth)
+    (tags : NumbersSpace Tags of_tags fourth fifth) (globals : NumbersSpace Globals of_globals fifth last) where
+  -- a space that none of them is keeps its indices
+  still : (space : Space) → space ≢ Functions → space ≢ Tables → space ≢ Memories → space ≢ Tags → space ≢ Globals → places_in last space ≡ places_in first space
+  still space no_function no_table no_memory no_tag no_global =
+      globals.others space no_global ∙ tags.others space no_tag ∙ memories.others space no_memory ∙ tables.others space no_table ∙ functions.others space no_function
+
+  has_indices : HasIndices r last
+  has_indices = record {
+    types = still Types (λ (e : Types ≡ Functions). cc) (λ (e : Types ≡ Tables). cc) (λ (e : Types ≡ Memories). cc) (λ (e : Types ≡ Tags). cc) (λ (e : Types ≡ Globals). cc) ∙ types;
+    functions =
+        globals.others Functions (λ (e : Functions ≡ Globals). cc) ∙ tags.others Functions (λ (e : Functions ≡ Tags). cc) ∙ memories.others Functions (λ (e : Functions ≡ Memories). cc)
+        ∙ tables.others Functions (λ (e : Functions ≡ Tables). cc) ∙ functions.numbered
+        ∙ ap (range_with_len 0) (functions_long ∙ sym (ap (λ (l : List entries.Import). length (imported imported_type 0 l ++ r.functions)) only.imports));
+    tables =
+        globals.others Tables (λ (e : Tables ≡ Globals). cc) ∙ tags.others Tables (λ (e : Tables ≡ Tags). cc) ∙ memories.others Tables (λ (e : Tables ≡ Memories). cc) ∙ tables.numbered
+        ∙ ap (range_with_len 0) (own_counted imported_table r.imports table_of r.tables of_tables only.imports tables_long);
+    memories =
+        globals.others Memories (λ (e : Memories ≡ Globals). cc) ∙ tags.others Memories (λ (e : Memories ≡ Tags). cc) ∙ memories.numbered
+        ∙ ap (range_with_len 0) (own_counted imported_memory r.imports memory_of r.memories of_memories only.imports memories_long);
+    tags = globals.others Tags (λ (e : Tags ≡ Globals). cc) ∙ tags.numbered ∙ ap (range_with_len 0) (own_counted imported_tag r.imports tag_of r.tags of_tags only.imports tags_long);
+    globals = globals.numbered ∙ ap (range_with_len 0) (own_counted imported_global r.imports global_of r.globals of_globals only.imports globals_long);
+    elements =
+        still Elements (λ (e : Elements ≡ Functions). cc) (λ (e : Elements ≡ Tables). cc) (λ (e : Elements ≡ Memories). cc) (λ (e : Elements ≡ Tags). cc) (λ (e : Elements ≡ Globals). cc)
+        ∙ none Elements (λ (e : Elements ≡ Types). cc) ∙ sym (ap (λ (l : List entries.Element). range_with_len 0 (length (map element_of l))) only.elements);
+    data_segments =
+        still DataSegments (λ (e : DataSegments ≡ Functions). cc) (λ (e : DataSegments ≡ Tables). cc) (λ (e : DataSegments ≡ Memories). cc) (λ (e : DataSegments ≡ Tags). cc) (λ (e : DataSegments ≡ Globals). cc)
+        ∙ none DataSegments (λ (e : DataSegments ≡ Types). cc) ∙ sym (ap (λ (o : Option ℕ). range_with_len 0 (unwrap_or o 0)) only.data_count);
+  }
+
+  pub numbered_items : ids_at last ≡ declared r
+  numbered_items = all_named r last has_indices
+
+-- ---- what sections name
+
+numbered_by : (count n most : ℕ) → count ≡ most → n < most → below count n ≡ Some n
+numbered_by count n most same lt = own_index count n (omega (arith, same, lt))
+
+all_numbered : (m : wire.Module) → AreNumbered (declared m) (counts_of (context_of m))
+all_numbered m =
+    let c = context_of m in
+    record {
+      types = λ n lt. numbered_by (length (types_from 0 m.types)) n (length c.types) (as_long (λ (x : TypeDef). x.sub) sub_of (types_from 0 m.types) c.types (types_look m)) lt;
+      functions = λ n lt. numbered_by (length (function_types m)) n (length c.functions) (as_long (λ (t : ℕ). t) (λ (t : ℕ). t) (function_types m) c.functions (function_types_look m)) lt;
+      tables = λ n lt. numbered_by (length (tables_of m)) n (length c.tables) (as_long (λ (t : abstract.Table). t.ty) table_type_of (tables_of m) c.tables (tables_look m)) lt;
+      memories = λ n lt. numbered_by (length (memories_of m)) n (length c.memories) (as_long (λ (y : abstract.Memory). y.ty) memory_type_of (memories_of m) c.memories (memories_look m)) lt;
+      tags = λ n lt. numbered_by (length (tags_of m)) n (length c.tags) (as_long (λ (t : abstract.Tag). t.ty) (λ (t : ℕ). t) (tags_of m) c.tags (tags_look m)) lt;
+      globals = λ n lt. numbered_by (length (globals_of m)) n (length c.globals) (as_long (λ (g : abstract.Global). g.ty) global_type_of (globals_of m) c.globals (globals_look m)) lt;
+    }
+
+-- where indices lead to what is declared, each leads to an item of its number
+pub stay : (names : Lookup) (m : wire.Module) → names ≡ declared m → IndicesHold (counts_of (context_of m)) m → AllStay names m
+stay names m same h =
+    let brought = context.imported desc_global m.imports in
+    let counted : length brought + length m.globals ≡ length (context_of m).globals =
+    omega (arith, length-append brought (map (λ (g : entries.Global). g.ty) m.globals), length-map m.globals (λ (g : entries.Global). g.ty)) in
+    subst (λ (l : Lookup). AllStay l m) (sym same) (all_stay (declared m) (counts_of (context_of m)) (all_numbered m) m counted h)
