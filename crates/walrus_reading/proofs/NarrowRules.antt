@@ -1,8 +1,10 @@
 -- What reading needs of the rules on sections.
-use Rattle.std.proofs.Common.{◌≡◌, ℕ, true, List, get_or, refl, sym, ap, ◌∙◌}
-use Rattle.std.specs.Prelude.{Option, Some, None, slice_get, flat_map, option_map}
+use Rattle.std.proofs.Common.{◌≡◌, ℕ, ◌+◌, true, List, ◌++◌, length, get_or, refl, sym, ap, subst, ◌∙◌, arith, length-append}
+use Rattle.std.specs.Prelude.{All, Option, Some, None, slice_get, flat_map, option_map}
+use Rattle.std.proofs.lemmas.List.{get_or-append-add}
 use Rattle.wasm_entries.specs.Record as entries
 use Rattle.wasm_frames.specs.Record as wire
+use Rattle.wasm_wire.specs.Context.{desc_function, imported}
 use Rattle.wasm_wire.specs.Rules as wire_rules
 use Rattle.walrus_base.specs.Types.{SubType}
 use Rattle.walrus_types.specs.TypeDef.{TypeDef}
@@ -41,10 +43,16 @@ function_by (Some x) (Some s) e h =
 
 -- ---- what reading needs
 
+-- what holds of all holds of those behind
+behind : {A : Type 0} (P : A → Type 0) (xs ys : List A) → All P (xs ++ ys) → All P ys
+behind P xs ys h = λ i d lt. subst P (get_or-append-add xs ys i d) (h (length xs + i) d (omega (arith, lt, length-append xs ys)))
+
 pub narrow_rules : (m : wire.Module) → wire_rules.Rules m → Rules m
-narrow_rules m h = record {
-  types_refer = h.types;
-  function_types = λ i d lt. function_by (types_of m (get_or m.functions i d)) (slice_get (flat m) (get_or m.functions i d)) (same_at m (get_or m.functions i d)) (h.function_types i d lt);
-  indices = h.indices;
-  as_many_bodies = h.as_many_bodies;
-}
+narrow_rules m h =
+    let own : wire_rules.AreFunctionTypes (flat m) m.functions = behind (λ t. wire_rules.IsFunction (slice_get (flat m) t)) (imported desc_function m.imports) m.functions h.function_types in
+    record {
+      types_refer = h.types;
+      function_types = λ i d lt. function_by (types_of m (get_or m.functions i d)) (slice_get (flat m) (get_or m.functions i d)) (same_at m (get_or m.functions i d)) (own i d lt);
+      indices = h.indices;
+      as_many_bodies = h.as_many_bodies;
+    }

@@ -1,5 +1,5 @@
 -- A module has fewer than 2 ^ 32 items of each kind: each takes two bytes or more of a section of fewer bytes, and a function's body one.
-use Rattle.std.proofs.Common.{◌≡◌, ℕ, suc, ◌+◌, ◌≤◌, ◌<◌, ◌^◌, List, [], ◌∷◌, ◌++◌, length, map, ap, arith, length-append}
+use Rattle.std.proofs.Common.{◌≡◌, ℕ, ◌+◌, ◌≤◌, ◌<◌, ◌^◌, List, [], ◌∷◌, ◌++◌, length, map, ap, arith, length-append}
 use Rattle.std.specs.Prelude.{Option, Some, None, option_to_list}
 use Rattle.std.proofs.lemmas.List.{length-map}
 use Rattle.wasm_entries.specs.declared.record.RawDesc.{RawDesc}

@@ -4,9 +4,8 @@ use Rattle.std.specs.Prelude.{option_map}
 use Rattle.wasm_forms.specs.Reading.{◌>>=◌}
 use Rattle.wasm_forms.specs.declared.types.RawRef.{RawRef}
 use Rattle.wasm_entries.specs.Record as entries
-use Rattle.walrus_base.specs.Types.{HeapType, RefType, ValType, Ref}
+use Rattle.walrus_base.specs.Types.{HeapType, RefType, Ref}
 use Rattle.walrus_types.specs.Operators.{Op}
-use Rattle.walrus_code.specs.FromRaw.{val_of}
 use Rattle.walrus_code.specs.Names.{Lookup, named_heap, named_val}
 use Rattle.walrus_constants.specs.Named.{named_const, named_initialiser, named_ref}
 use Rattle.walrus_model.specs.Abstract.{Global, Table}

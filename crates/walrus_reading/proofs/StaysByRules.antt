@@ -1,5 +1,5 @@
 -- Where each item has the place of its index, what the rules on indices hold of looks up to itself.
-use Rattle.std.proofs.Common.{◌≡◌, ◌∙◌, ℕ, ◌+◌, ◌<◌, ◌≤◌, List, [], ◌∷◌, map, length, get_or, Option, Some, None, refl, sym, ap, ap₂, arith, All}
+use Rattle.std.proofs.Common.{◌≡◌, ℕ, ◌+◌, ◌<◌, ◌≤◌, List, [], ◌∷◌, map, length, get_or, Option, Some, None, refl, ap, ap₂, arith}
 use Rattle.std.specs.Prelude.{option_map}
 use Rattle.std.proofs.lemmas.List.Elements.{All-head, All-tail}
 use Rattle.wasm_forms.specs.Reading.{◌>>=◌}
@@ -19,14 +19,14 @@ use Rattle.wasm_frames.specs.Record as wire
 use Rattle.wasm_wire.specs.Indices.{HeapHolds, ValueHolds, ConstHolds, ExpressionHolds, InitialHolds, TableHolds, GlobalHolds, DescHolds, IndicesHold, count_of, with_globals}
 use Rattle.wasm_wire.specs.declared.rules.counts.Counts.{Counts}
 use Rattle.walrus_base.specs.Types.{HeapType, Concrete, RefType, ValType, Ref}
-use Rattle.walrus_types.specs.Operators.{Space, Types, Functions, Tables, Memories, Tags, Globals, Arg, Index, Number, Byte, Heap, Op}
-use Rattle.walrus_code.specs.FromRaw.{heap_of, val_of}
-use Rattle.walrus_code.specs.Names.{Lookup, named_args, named_heap, named_val}
-use Rattle.walrus_constants.specs.Named.{named_const, named_const_op, named_initialiser, named_ref}
+use Rattle.walrus_types.specs.Operators.{Space, Types, Functions, Globals, Arg, Index, Number, Byte, Heap, Op}
+use Rattle.walrus_code.specs.FromRaw.{heap_of}
+use Rattle.walrus_code.specs.Names.{Lookup, named_args, named_heap}
+use Rattle.walrus_constants.specs.Named.{named_const_op, named_initialiser}
 use Rattle.walrus_model.specs.Abstract.{Global, Table}
 use Rattle.walrus_model.specs.Constants.{const_of, consts_of, plain}
-use Rattle.walrus_model.specs.Sections.{global_of, ref_of, space_of, table_of}
-use Rattle.walrus_reading.specs.Stays.{AllStay, AreNumbered, ConstStays, DescStays, ExportStays, GlobalStays, RefStays, TableStays, ValStays}
+use Rattle.walrus_model.specs.Sections.{global_of, space_of, table_of}
+use Rattle.walrus_reading.specs.Stays.{AllStay, AreNumbered, ConstStays, DescStays, GlobalStays, RefStays, TableStays, ValStays}
 
 module _ (names : Lookup) where
   -- ---- an operator, by what its arguments look up to

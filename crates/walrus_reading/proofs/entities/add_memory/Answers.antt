@@ -1,4 +1,4 @@
-use Rattle.std.proofs.Common.{refl, sym, ◌∙◌}
+use Rattle.std.proofs.Common.{refl}
 use Rattle.walrus_entities.specs.Memories.{memories}
 use Rattle.walrus_reading.specs.Held.{HoldsMemory}
 use Rattle.walrus_reading.proofs.Rows.{adds_one}

@@ -1,4 +1,4 @@
-use Rattle.std.proofs.Common.{◌∙◌, ap, refl}
+use Rattle.std.proofs.Common.{◌∙◌, refl}
 use Rattle.wasm_entries.specs.Record.{Import, import_entry}
 use Rattle.walrus_code.specs.Indices.{ids_at}
 use Rattle.walrus_contents.proofs.Taking.{mapped_all}
