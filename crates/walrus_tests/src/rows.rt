@@ -99,7 +99,7 @@ const ROWS: [(&str, &str); 26] = [
         "00 61 73 6D 01 00 00 00 01 04 01 60 00 00 03 02 01 00 07 05 01 01 66 00 00 0A 08 01 06 01 D0 86 03 7F 0B",
         "00 61 73 6D 01 00 00 00 01 04 01 60 00 00 03 02 01 00 07 05 01 01 66 00 00 0A 04 01 02 00 0B",
     ),
-    // a shared memory of the least pages of one byte, and one of the most pages that 32 bits address
+    // a memory of pages of one byte, and one of as many pages as 32 bits address
     (
         "00 61 73 6D 01 00 00 00 05 04 01 08 01 00 07 05 01 01 6D 02 00",
         "00 61 73 6D 01 00 00 00 05 04 01 08 01 00 07 05 01 01 6D 02 00",
