@@ -1,10 +1,12 @@
-//! Tests that cross crates: worked modules byte for byte, the words of the program, devices that fail, globals and memories.
+//! Tests that cross crates: worked modules byte for byte, the words of the program, devices that fail, globals and memories, modules that can't be written.
 #![tactic(auto)]
 
 #[cfg(test)]
 mod command;
 #[cfg(test)]
 mod devices;
+#[cfg(test)]
+mod edited;
 #[cfg(test)]
 mod failing;
 #[cfg(test)]

@@ -6,7 +6,7 @@ use std::test::Fail;
 use test_support::{add_bytes, demand};
 
 // Inputs and what they come to, in hexadecimal.
-const ROWS: [(&str, &str); 19] = [
+const ROWS: [(&str, &str); 26] = [
     // the header alone
     ("00 61 73 6D 01 00 00 00", "00 61 73 6D 01 00 00 00"),
     // two empty functions, of which the second is exported
@@ -99,10 +99,44 @@ const ROWS: [(&str, &str); 19] = [
         "00 61 73 6D 01 00 00 00 01 04 01 60 00 00 03 02 01 00 07 05 01 01 66 00 00 0A 08 01 06 01 D0 86 03 7F 0B",
         "00 61 73 6D 01 00 00 00 01 04 01 60 00 00 03 02 01 00 07 05 01 01 66 00 00 0A 04 01 02 00 0B",
     ),
+    // a memory of pages of one byte, and one of as many pages as 32 bits address
+    (
+        "00 61 73 6D 01 00 00 00 05 04 01 08 01 00 07 05 01 01 6D 02 00",
+        "00 61 73 6D 01 00 00 00 05 04 01 08 01 00 07 05 01 01 6D 02 00",
+    ),
+    (
+        "00 61 73 6D 01 00 00 00 05 05 01 00 80 80 04 07 05 01 01 6D 02 00",
+        "00 61 73 6D 01 00 00 00 05 05 01 00 80 80 04 07 05 01 01 6D 02 00",
+    ),
+    // a global whose initialiser reads an earlier one
+    (
+        "00 61 73 6D 01 00 00 00 06 0B 02 7F 00 41 00 0B 7F 00 23 00 0B 07 05 01 01 67 03 01",
+        "00 61 73 6D 01 00 00 00 06 0B 02 7F 00 41 00 0B 7F 00 23 00 0B 07 05 01 01 67 03 01",
+    ),
+    // a global of a reference to a structure, which stays with its group
+    (
+        "00 61 73 6D 01 00 00 00 01 09 01 4E 02 5F 00 5F 01 7F 00 06 07 01 63 00 00 D0 00 0B 07 05 01 01 67 03 00",
+        "00 61 73 6D 01 00 00 00 01 09 01 4E 02 5F 00 5F 01 7F 00 06 07 01 63 00 00 D0 00 0B 07 05 01 01 67 03 00",
+    ),
+    // a global that nothing reaches
+    (
+        "00 61 73 6D 01 00 00 00 06 06 01 7F 00 41 00 0B",
+        "00 61 73 6D 01 00 00 00",
+    ),
+    // of two tables the second is exported
+    (
+        "00 61 73 6D 01 00 00 00 04 07 02 70 00 01 6F 00 02 07 05 01 01 74 01 01",
+        "00 61 73 6D 01 00 00 00 04 04 01 6F 00 02 07 05 01 01 74 01 00",
+    ),
+    // a table with a maximum
+    (
+        "00 61 73 6D 01 00 00 00 04 05 01 70 01 01 02 07 05 01 01 74 01 00",
+        "00 61 73 6D 01 00 00 00 04 05 01 70 01 01 02 07 05 01 01 74 01 00",
+    ),
 ];
 
 // Inputs that are refused as invalid.
-const INVALID: [&str; 13] = [
+const INVALID: [&str; 20] = [
     // seven bytes of the header
     "00 61 73 6D 01 00 00",
     // the function section before the type section
@@ -128,6 +162,16 @@ const INVALID: [&str; 13] = [
     // one declared local more than there may be, and 2^33 - 2 of them
     "00 61 73 6D 01 00 00 00 01 04 01 60 00 00 03 02 01 00 07 05 01 01 66 00 00 0A 08 01 06 01 D1 86 03 7F 0B",
     "00 61 73 6D 01 00 00 00 01 04 01 60 00 00 03 02 01 00 07 05 01 01 66 00 00 0A 10 01 0E 02 FF FF FF FF 0F 7F FF FF FF FF 0F 7F 0B",
+    // a memory whose minimum is above its maximum, a shared one without a maximum, a page of two bytes, 65,537 pages
+    "00 61 73 6D 01 00 00 00 05 04 01 01 02 01",
+    "00 61 73 6D 01 00 00 00 05 03 01 02 01",
+    "00 61 73 6D 01 00 00 00 05 04 01 08 01 01",
+    "00 61 73 6D 01 00 00 00 05 05 01 00 81 80 04",
+    // a global whose initialiser reads a later one, one whose initialiser has no operator
+    "00 61 73 6D 01 00 00 00 06 0B 02 7F 00 23 01 0B 7F 00 41 00 0B",
+    "00 61 73 6D 01 00 00 00 06 04 01 7F 00 0B",
+    // a table whose initialiser reads a global of the module
+    "00 61 73 6D 01 00 00 00 04 09 01 40 00 70 00 00 23 00 0B 06 06 01 70 00 D0 70 0B",
 ];
 
 const TEXT_OF_INVALID: &str = "walrus-gc: The input WebAssembly is invalid\n";

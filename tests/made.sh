@@ -1,0 +1,32 @@
+#!/usr/bin/env bash
+# Makes a module of each text NAME.wat of tests/made with wabt's wat2wasm, runs the built program over it, and compares what comes out with
+# the module of NAME.kept.wat, which says what has to be kept, byte for byte; wabt's wasm-validate then has to accept what came out. Prints a
+# line a module and their count. No part of the gate; where wabt (Debian's package of that name) isn't installed, nothing is run.
+set -eu
+top=$(cd "$(dirname "$0")/.." && pwd)
+command -v wat2wasm > /dev/null || { echo "tests/made.sh: there is no wat2wasm, so nothing is run" >&2; exit 0; }
+"$top/tests/build.sh" walrus_gc
+program=$top/crates/walrus_gc/out/walrus_gc
+features=(--enable-multi-memory --enable-memory64 --enable-exceptions --enable-threads --enable-extended-const)
+files=$(mktemp -d)
+trap 'rm -rf "$files"' EXIT
+
+# Whether what comes of a module is what has to be kept of it, and is valid.
+comes_out() {
+  wat2wasm "${features[@]}" "$1.wat" -o "$files/in" && wat2wasm "${features[@]}" "$1.kept.wat" -o "$files/kept" || return 1
+  "$program" --no-producers < "$files/in" > "$files/out" 2> "$files/told" || { echo "status $?: $(cat "$files/told")"; return 1; }
+  cmp -s "$files/kept" "$files/out" || { echo "other bytes: $(od -An -v -tx1 "$files/out" | tr -d '\n')"; return 1; }
+  wasm-validate "${features[@]}" "$files/out" || return 1
+  echo "$(stat -c %s "$files/in") bytes, kept $(stat -c %s "$files/out")"
+}
+
+all=0 passed=0
+for text in "$top"/tests/made/*.kept.wat; do
+  name=${text%.kept.wat} all=$((all + 1)) word=FAILED
+  if told=$(comes_out "$name"); then
+    passed=$((passed + 1)) word=pass
+  fi
+  printf '%-7s %-12s %s\n' "$word" "$(basename "$name")" "$told"
+done
+echo "of $passed of $all made modules what has to be kept comes out"
+[ "$all" -gt 0 ] && [ "$passed" = "$all" ]

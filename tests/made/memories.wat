@@ -1,0 +1,10 @@
+(module
+  (memory $dropped 1)
+  (memory $shared (export "m") 1 2 shared)
+  (memory $wide i64 1 16)
+  (memory $unread 3 4)
+  (func (export "load") (result i64)
+    (i64.load $wide offset=8 (i64.const 16)))
+  (func (export "copy")
+    (memory.copy $shared $shared (i32.const 0) (i32.const 4) (i32.const 8)))
+  (func (export "size") (result i64) (memory.size $wide)))

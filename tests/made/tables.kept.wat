@@ -1,0 +1,11 @@
+(module
+  (type $unary (func (param i32) (result i32)))
+  (type $number (func (result i32)))
+  (table $called 4 8 funcref)
+  (table $kept 2 externref)
+  (func $f (type $unary)
+    (call_indirect $called (type $unary) (local.get 0) (i32.const 0)))
+  (func $n (type $number)
+    (table.grow $kept (ref.null extern) (i32.const 1)))
+  (export "f" (func $f))
+  (export "n" (func $n)))

@@ -1,0 +1,10 @@
+(module
+  (type $unary (func (param i32) (result i32)))
+  (type $none (func))
+  (table $unread 1 funcref)
+  (table $called 4 8 funcref)
+  (table $kept 2 externref)
+  (func (export "f") (param i32) (result i32)
+    (call_indirect $called (type $unary) (local.get 0) (i32.const 0)))
+  (func (export "n") (result i32)
+    (table.grow $kept (ref.null extern) (i32.const 1))))
