@@ -100,18 +100,18 @@ module _ (p : Parts) (features : Features) (X : Type 0) where
 
   pub tables_refused : (e : Error) → RefusesTables (items (tables p.tables.now)) e → RefusesItems {X = X} p features (Err e)
   tables_refused (Parts_error.Memory m) r = tt
-  tables_refused Parts_error.NotWritable r = ATable r.0 r.1.0 r.1.1
+  tables_refused Parts_error.NotWritable r = ATable r.0 r.1 r.2
   tables_refused _ r = absurd r
 
   pub globals_refused : (e : Error) → RefusesGlobals (items (globals p.globals.now)) e → RefusesItems {X = X} p features (Err e)
   globals_refused (Parts_error.Memory m) r = tt
-  globals_refused Parts_error.NotWritable r = AGlobal r.0 r.1.0 r.1.1
+  globals_refused Parts_error.NotWritable r = AGlobal r.0 r.1 r.2
   globals_refused _ r = absurd r
 
 -- ---- the records
 
 -- what is made of records in two steps
-made_twice : {A B C : Type 0} (g : B → C) (f : A → B) (xs : List A) → map (λ (c : C). Some c) (map g (map f xs)) ≡ map (λ x. Some (g (f x))) xs
+pub made_twice : {A B C : Type 0} (g : B → C) (f : A → B) (xs : List A) → map (λ (c : C). Some c) (map g (map f xs)) ≡ map (λ x. Some (g (f x))) xs
 made_twice g f [] = refl
 made_twice g f (x ∷ xs) = ap (λ l. Some (g (f x)) ∷ l) (made_twice g f xs)
 

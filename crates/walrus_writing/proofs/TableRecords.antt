@@ -1,22 +1,16 @@
 -- A table as a record: what a refusal of the type of its elements or its initialiser says of it, and what both parts say together.
 use Rattle.std.proofs.Common.{◌≡◌, ℕ, List, false, refl, sym, ap, ◌∙◌, subst}
-use Rattle.std.specs.Prelude.{Option, Some, None, Ok, Err, Result, IfOk, option_map}
+use Rattle.std.specs.Prelude.{Option, Some, None, Ok, Err, option_map}
 use Rattle.std.specs.Global.{Vec}
 use Rattle.wasm_forms.specs.Reading.{◌>>=◌}
-use Rattle.wasm_forms.specs.Types.{HeapStands, ValueStands}
-use Rattle.wasm_forms.specs.declared.types.RawRef.{RawRef}
-use Rattle.wasm_forms.specs.declared.types.RawVal.{RawVal}
-use Rattle.wasm_forms.specs.declared.types.RawVal.TheVariants as raw_val
 use Rattle.wasm_entries.specs.Record.{table_entry}
-use Rattle.wasm_entries.specs.Spelling.{InitialStands, TableStands}
-use Rattle.wasm_entries.specs.TypeSpelling.{LimitsStand}
+use Rattle.wasm_entries.specs.Spelling.{TableStands}
 use Rattle.wasm_entries.specs.declared.record.RawConst.{RawConst}
 use Rattle.wasm_entries.specs.declared.record.RawTable.{RawTable}
-use Rattle.walrus_base.specs.Types.{HeapType, RefType, ValType, I32, I64, F32, F64, V128, Ref}
+use Rattle.walrus_base.specs.Types.{RefType}
 use Rattle.walrus_types.specs.Operators.{Op}
-use Rattle.walrus_code.specs.FromRaw.{val_of}
-use Rattle.walrus_code.specs.Names.{Lookup, named_heap, named_val}
-use Rattle.walrus_code.specs.Results.{IndexesIn, heap_is_exact, val_is_exact}
+use Rattle.walrus_code.specs.Names.{Lookup}
+use Rattle.walrus_code.specs.Results.{IndexesIn, heap_is_exact}
 use Rattle.walrus_code.specs.declared.error.IrError.{IrError}
 use Rattle.walrus_code.specs.declared.error.IrError.TheVariants as Ir
 use Rattle.walrus_model.specs.Abstract.{Table, Defined}
@@ -27,54 +21,6 @@ use Rattle.walrus_constants.specs.Named.{named_initialiser, named_ref, named_tab
 use Rattle.walrus_constants.specs.Written.{IndexesConst, IsUnspelled}
 use Rattle.walrus_constants.proofs.Causes.{not_found}
 use Rattle.walrus_writing.specs.Tables.{TableIsUnspelled, ExactElement, UnspelledInitialiser, IndexesTable, IndexesInitial}
-
--- ---- a reference type as a value type
-
-same_ref : (a b : RefType ℕ) → Ref a ≡ Ref b → a ≡ b
-same_ref a b e = cc
-
-module _ (names : Lookup) (r : RefType ℕ) where
-  abbrev with_heap : HeapType ℕ → RefType ℕ
-  with_heap heap = record { nullable = r.nullable; heap = heap }
-
-  value_by : (o : Option (HeapType ℕ)) → named_heap names r.heap ≡ o → named_val names (Ref r) ≡ (o >>= λ heap. Some (Ref (with_heap heap)))
-  value_by o e = ap (λ (h : Option (HeapType ℕ)). h >>= λ heap. Some (Ref (with_heap heap))) e
-
-  reference_by : (o : Option (HeapType ℕ)) → named_heap names r.heap ≡ o → named_ref names r ≡ (o >>= λ heap. Some (with_heap heap))
-  reference_by o e = ap (λ (h : Option (HeapType ℕ)). h >>= λ heap. Some (with_heap heap)) e
-
-  found_as : (raw : RawRef) (o : Option (HeapType ℕ)) → (o >>= λ heap. Some (Ref (with_heap heap))) ≡ Some (val_of (raw_val.Ref raw)) → (o >>= λ heap. Some (with_heap heap)) ≡ Some (ref_of raw)
-  found_as raw (Some heap) e = ap Some (same_ref (with_heap heap) (ref_of raw) (some_inj (Ref (with_heap heap)) (Ref (ref_of raw)) e))
-  found_as raw None e = absurd (cc)
-
-  ref_found : (raw : RawRef) → named_val names (Ref r) ≡ Some (val_of (raw_val.Ref raw)) → named_ref names r ≡ Some (ref_of raw)
-  ref_found raw e = reference_by (named_heap names r.heap) refl ∙ found_as raw (named_heap names r.heap) (sym (value_by (named_heap names r.heap) refl) ∙ e)
-
-  none_as : (o : Option (HeapType ℕ)) → (o >>= λ heap. Some (Ref (with_heap heap))) ≡ None → (o >>= λ heap. Some (with_heap heap)) ≡ None
-  none_as (Some heap) e = absurd (cc)
-  none_as None e = refl
-
-  ref_not_found : named_val names (Ref r) ≡ None → named_ref names r ≡ None
-  ref_not_found e = reference_by (named_heap names r.heap) refl ∙ none_as (named_heap names r.heap) (sym (value_by (named_heap names r.heap) refl) ∙ e)
-
-  -- what a reference is written as is a reference
-  pub element_indexed : (raw : RawRef) → IndexesIn val_of (Ok (raw_val.Ref raw)) (val_is_exact (Ref r)) (named_val names (Ref r)) → IndexesIn ref_of (Ok raw) (heap_is_exact r.heap) (named_ref names r)
-  element_indexed raw h = (ref_found raw h.0, h.1)
-
-  pub element_refused : (e : IrError) → IndexesIn val_of (Err e) (val_is_exact (Ref r)) (named_val names (Ref r)) → IndexesIn ref_of (Err e) (heap_is_exact r.heap) (named_ref names r)
-  element_refused Ir.NoIndex none = ref_not_found none
-  element_refused Ir.NotWritable exact = exact
-  element_refused (Ir.Memory m) u = u
-  element_refused Ir.Malformed u = u
-  element_refused Ir.TooLarge u = u
-
-  is_reference : (o : Option (HeapType ℕ)) (v : ValType ℕ) → ((x : RefType ℕ) → v ≡ Ref x → ⊥) → (o >>= λ heap. Some (Ref (with_heap heap))) ≡ Some v → ⊥
-  is_reference (Some heap) v never e = never (with_heap heap) (sym (some_inj (Ref (with_heap heap)) v e))
-  is_reference None v never e = cc
-
-  -- and nothing else
-  pub never_other : (raw : RawVal) → ((x : RefType ℕ) → val_of raw ≡ Ref x → ⊥) → named_val names (Ref r) ≡ Some (val_of raw) → ⊥
-  never_other raw never e = is_reference (named_heap names r.heap) (val_of raw) never (sym (value_by (named_heap names r.heap) refl) ∙ e)
 
 -- ---- both parts
 
