@@ -19,7 +19,7 @@ use Rattle.walrus_model.specs.Refers.{global_names, named_by, table_names, writt
 use Rattle.walrus_model.specs.Roots.{IsImported}
 use Rattle.walrus_model.specs.Rules.{IsImportedGlobal}
 use Rattle.walrus_model.specs.Same.{BothAnd}
-use Rattle.walrus_model.proofs.Lists.{Contains-head, Contains-tail, Contains-uncons, Contains-none, Contains-append_1, Contains-append_2}
+use Rattle.walrus_model.proofs.Lists.{Contains-head, Contains-tail, Contains-uncons, Contains-none, Contains-append_2}
 use Rattle.walrus_model.proofs.Standing.{none_there, some_inj}
 use Rattle.walrus_rules.specs.Refused.{GlobalReads, LacksIndex, LaterGlobalRead, LocalGlobalRead, TableReads}
 use Rattle.walrus_writing.specs.Local.{is_own}

@@ -15,7 +15,7 @@ use Rattle.walrus_code.specs.declared.error.IrError.{IrError}
 use Rattle.walrus_code.specs.declared.error.IrError.TheVariants as Ir
 use Rattle.walrus_model.specs.Abstract.{Table, Defined}
 use Rattle.walrus_model.specs.Constants.{consts_of}
-use Rattle.walrus_model.specs.Sections.{limits_of, ref_of, table_of}
+use Rattle.walrus_model.specs.Sections.{limits_of, ref_of}
 use Rattle.walrus_model.proofs.Standing.{none_there, some_inj}
 use Rattle.walrus_constants.specs.Named.{named_initialiser, named_ref, named_table}
 use Rattle.walrus_constants.specs.Written.{IndexesConst, IsUnspelled}

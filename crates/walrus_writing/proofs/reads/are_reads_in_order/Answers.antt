@@ -1,6 +1,3 @@
-use Rattle.std.proofs.Common.{◌≡◌, Bool, true}
-use Rattle.std.specs.Prelude.{IfOk, Result, Ok, Err}
-use Rattle.walrus_contents.specs.View.{parts_view}
 use Rattle.walrus_writing.proofs.ReadsBefore.{both_in_order}
 use Rattle.walrus_writing.proofs.reads.are_reads_in_order.Goals as goal
 

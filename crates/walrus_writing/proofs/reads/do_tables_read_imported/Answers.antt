@@ -5,7 +5,6 @@ use Rattle.walrus_entities.specs.Tables.{TableValue, tables, table_entries_left,
 use Rattle.walrus_contents.specs.View.{table_of}
 use Rattle.walrus_contents.proofs.LiveLemmas.{seen_there}
 use Rattle.walrus_contents.proofs.Walked.{next_there, walk_begins, walk_goes, walk_ends}
-use Rattle.walrus_writing.proofs.OwnItems.{not_false, not_true}
 use Rattle.walrus_writing.proofs.ReadsBefore.{TablePasses, table_lacks, tables_read}
 use Rattle.walrus_writing.proofs.reads.do_tables_read_imported.Goals as goal
 

@@ -1,9 +1,8 @@
-use Rattle.std.proofs.Common.{◌≡◌, true, ap, subst, sym, ◌∙◌, List}
+use Rattle.std.proofs.Common.{sym, ◌∙◌}
 use Rattle.walrus_code.specs.Code.{item_of}
 use Rattle.walrus_entities.specs.Globals.{globals}
 use Rattle.walrus_contents.proofs.NamedLemmas.{among}
 use Rattle.walrus_writing.specs.Reads.{may_name}
-use Rattle.walrus_writing.proofs.OwnItems.{not_true}
 use Rattle.walrus_writing.proofs.ReadsBefore.{fails_with}
 use Rattle.walrus_writing.proofs.reads.may_be_named.Goals as goal
 
