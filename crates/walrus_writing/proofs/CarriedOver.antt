@@ -22,16 +22,19 @@ use Rattle.walrus_contents.specs.View.{body}
 use Rattle.walrus_writing.specs.SoFar.{plain_view}
 use Rattle.walrus_contents.specs.declared.parts.Parts.{Parts}
 use Rattle.walrus_contents.proofs.Lookups.{heads, mapped_some, then_some}
-use Rattle.walrus_model.specs.Abstract.{Abstract, Body, Export, Function, Memory, Origin, Tag}
+use Rattle.walrus_constants.specs.Laws.{AgreesWith}
+use Rattle.walrus_constants.specs.Named.{named_global, named_table}
+use Rattle.walrus_constants.proofs.Items.{global_renamed, table_renamed}
+use Rattle.walrus_model.specs.Abstract.{Abstract, Body, Export, Function, Global, Memory, Origin, Table, Tag}
 use Rattle.walrus_model.specs.Carried.{Carried}
 use Rattle.walrus_model.specs.Live.{IsLive}
 use Rattle.walrus_model.specs.Names.{body_of, body_of_function}
 use Rattle.walrus_model.specs.Ordered.{StandsFor}
 use Rattle.walrus_model.specs.Out.{IsTheSegment}
 use Rattle.walrus_model.specs.Plan.{IsPlan, IsWrittenAlong, Plan}
-use Rattle.walrus_model.specs.Renaming.{Renaming, renamed_export, renamed_memory, renamed_origin, renamed_tag}
+use Rattle.walrus_model.specs.Renaming.{Renaming, renamed_export, renamed_global, renamed_memory, renamed_origin, renamed_table, renamed_tag}
 use Rattle.walrus_model.specs.Same.{SameType}
-use Rattle.walrus_model.specs.Sections.{export_of, memory_of, space_of, tag_of, types_of, body_with}
+use Rattle.walrus_model.specs.Sections.{export_of, global_of, memory_of, space_of, table_of, tag_of, types_of, body_with}
 use Rattle.walrus_model.specs.Spaces.{SameThing, look}
 use Rattle.walrus_model.proofs.AlongRecords.{stand_along}
 use Rattle.walrus_model.proofs.Indices.{planned_named, planned_stands}
@@ -156,12 +159,29 @@ module _ {p : Parts} {features : Features} (r : Records p features) where
       ap tag_of (number_is r Types x.ty t e)
       ∙ ap (λ (o : Origin). let made : Tag = record { origin = o; ty = renaming.numbers Types x.ty } in made) (sym (ap (renamed_origin renaming) (r.own.tags i x at)))
 
+  -- ---- tables and globals
+
+  agrees : AgreesWith renaming r.names
+  agrees s i j e = sym (number_is r s i j e)
+
+  same_table : (i : ℕ) (x w : Table) → before.tables i ≡ Some x → named_table r.names x ≡ Some w → w ≡ renamed_table renaming x
+  same_table i x w at e = sym (table_renamed renaming r.names agrees x w (r.own.tables i x at) e)
+
+  same_global : (i : ℕ) (x w : Global) → before.globals i ≡ Some x → named_global r.names x ≡ Some w → w ≡ renamed_global renaming x
+  same_global i x w at e = sym (global_renamed renaming r.names agrees x w (r.own.globals i x at) e)
+
   -- ---- all spaces
 
   written_along : (s : Space) → IsWrittenAlong renaming before after r.plan s
   written_along Types = record { written = types_from 0 r.types; reads = λ j. refl; stand = types_stand }
   written_along Functions = record { written = new_functions r; reads = λ j. refl; stand = functions_stand r }
-  written_along Tables = nothing_along renaming before after r.plan Tables r.is_plan (λ i. refl) (λ j. refl)
+  written_along Tables = record {
+    written = map table_of r.tables;
+    reads = λ j. refl;
+    stand =
+        subst (λ (ws : List Table). AllZip (StandsFor (SameThing renaming Tables) before.tables) (r.plan Tables) ws) (map-itself (λ (w : Table). w) (map table_of r.tables) (λ w. refl))
+        (stand_along (SameThing renaming Tables) before.tables (named_table r.names) (λ (w : Table). w) same_table (r.plan Tables) (map table_of r.tables) r.tables_are);
+  }
   written_along Memories = record {
     written = map memory_of r.memories;
     reads = λ j. refl;
@@ -172,7 +192,13 @@ module _ {p : Parts} {features : Features} (r : Records p features) where
     reads = λ j. refl;
     stand = stand_along (SameThing renaming Tags) before.tags (tag_index r.names) tag_of same_tag (r.plan Tags) r.tags r.tags_are;
   }
-  written_along Globals = nothing_along renaming before after r.plan Globals r.is_plan (λ i. refl) (λ j. refl)
+  written_along Globals = record {
+    written = map global_of r.globals;
+    reads = λ j. refl;
+    stand =
+        subst (λ (ws : List Global). AllZip (StandsFor (SameThing renaming Globals) before.globals) (r.plan Globals) ws) (map-itself (λ (w : Global). w) (map global_of r.globals) (λ w. refl))
+        (stand_along (SameThing renaming Globals) before.globals (named_global r.names) (λ (w : Global). w) same_global (r.plan Globals) (map global_of r.globals) r.globals_are);
+  }
   written_along Elements = nothing_along renaming before after r.plan Elements r.is_plan (λ i. refl) (λ j. refl)
   written_along DataSegments = nothing_along renaming before after r.plan DataSegments r.is_plan (λ i. refl) (λ j. refl)
 

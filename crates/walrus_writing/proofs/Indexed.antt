@@ -24,6 +24,9 @@ use Rattle.walrus_items.specs.Exports.{ExportValue, exported, exports}
 use Rattle.walrus_items.specs.Functions.{FunctionValue, functions, kind_type, local_at}
 use Rattle.walrus_items.specs.declared.exports.ExportItem.{ExportItem}
 use Rattle.walrus_items.specs.declared.exports.ExportItem.TheVariants as exports_as
+use Rattle.walrus_constants.specs.Named.{named_global, named_table}
+use Rattle.walrus_entities.specs.Globals.{GlobalValue, globals}
+use Rattle.walrus_entities.specs.Tables.{TableValue, tables}
 use Rattle.walrus_entities.specs.Tags.{TagValue, tags}
 use Rattle.walrus_types.specs.ModuleTypes.{type_slots}
 use Rattle.walrus_types.specs.TypeDef.{TypeDef}
@@ -32,9 +35,9 @@ use Rattle.walrus_model.specs.Abstract.{Abstract}
 use Rattle.walrus_model.specs.Dead.{HasDead}
 use Rattle.walrus_model.specs.Live.{IsLive}
 use Rattle.walrus_model.specs.Names.{body_of_function}
-use Rattle.walrus_model.specs.Refers.{named_by, type_names, function_names, local_names, tag_names}
+use Rattle.walrus_model.specs.Refers.{named_by, type_names, function_names, local_names, table_names, tag_names, global_names}
 use Rattle.walrus_contents.specs.There.{AreLive}
-use Rattle.walrus_contents.specs.View.{body, export_of, function, kind_of, tag_of}
+use Rattle.walrus_contents.specs.View.{body, export_of, function, global_of, kind_of, table_of, tag_of}
 use Rattle.walrus_writing.specs.SoFar.{plain_view}
 use Rattle.walrus_contents.specs.declared.parts.Parts.{Parts}
 use Rattle.walrus_contents.proofs.LiveLemmas.{was_there}
@@ -53,7 +56,7 @@ use Rattle.walrus_writing.specs.Refusals.{RefusesBodies}
 use Rattle.walrus_writing.specs.Parts.{IsIndexed, export_with_index, function_seen, local_in, slots_of, source, source_of, tag_index, type_index, type_index_of}
 use Rattle.walrus_writing.specs.Local.{all_local}
 use Rattle.walrus_writing.proofs.BySize.{got_at}
-use Rattle.walrus_writing.proofs.NamedAll.{val_named, ops_named}
+use Rattle.walrus_writing.proofs.NamedAll.{global_named, val_named, ops_named, table_named}
 use Rattle.walrus_writing.proofs.Planning.{local_there}
 
 -- ---- places
@@ -215,6 +218,21 @@ module _ (p : Parts) (none_dead : HasDead (plain_view p) → ⊥) (local : all_l
       (λ t has.
       let at = item_seen (tags p.tags.now) t has in
       item_named (Types, t.ty) (there.written (Tags, at.0) (Types, t.ty) (subst (λ (o : Option TagValue). Contains (named_by tag_names (option_map tag_of o)) (Types, t.ty)) (sym at.1) (Contains-head (Types, t.ty) []))))
+
+  -- so have all items that a table names, and a global
+  pub tables_indexed : All (λ o. IsSome o) (map (λ t. named_table names (table_of t)) (items (tables p.tables.now)))
+  tables_indexed =
+      each_there (λ t. named_table names (table_of t)) (items (tables p.tables.now))
+      (λ t has.
+      let at = item_seen (tables p.tables.now) t has in
+      table_named names (table_of t) (λ y c. item_named y (there.written (Tables, at.0) y (subst (λ (o : Option TableValue). Contains (named_by table_names (option_map table_of o)) y) (sym at.1) c))))
+
+  pub globals_indexed : All (λ o. IsSome o) (map (λ g. named_global names (global_of g)) (items (globals p.globals.now)))
+  globals_indexed =
+      each_there (λ g. named_global names (global_of g)) (items (globals p.globals.now))
+      (λ g has.
+      let at = item_seen (globals p.globals.now) g has in
+      global_named names (global_of g) (λ y c. item_named y (there.written (Globals, at.0) y (subst (λ (o : Option GlobalValue). Contains (named_by global_names (option_map global_of o)) y) (sym at.1) c))))
 
   export_named : (x : ExportItem) (name : List ℕ) → IsSome (names (exported x).0 (exported x).1) → IsSome (export_with_index names (record { name = name; item = exported x }))
   export_named (exports_as.Function f) name h = still_some (λ index. record { name = name; kind = kinds.Function; index = index }) (names Functions (place f)) h

@@ -1,13 +1,14 @@
 pub mod BodyTypes
 pub mod BySize
 pub mod CarriedOver
+pub mod Counted
 pub mod Emitted
 pub mod Emitting
 pub mod Entries
 pub mod FunctionsWritten
 pub mod GlobalRecords
-pub mod GlobalsLeft
 pub mod Indexed
+pub mod ItemsLeft
 pub mod NamedAll
 pub mod NamedTypes
 pub mod NoCauseAll
@@ -20,6 +21,7 @@ pub mod Placing
 pub mod PlainParts
 pub mod Planning
 pub mod Ranked
+pub mod ReadsBefore
 pub mod RefusesAll
 pub mod RefusesIndex
 pub mod RefusesLarge
@@ -31,10 +33,10 @@ pub mod SameBodies
 pub mod Sections
 pub mod Somes
 pub mod SpellsLemmas
+pub mod TableRecords
 pub mod TextStands
 pub mod Turns
 pub mod TypeRefusals
 pub mod TypesEntered
 pub mod WrittenAs
 pub mod WrittenLemmas
-pub mod Counted

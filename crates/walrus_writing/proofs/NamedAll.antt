@@ -1,9 +1,12 @@
 -- Where all that operators name has an index, they can be put through the indices.
-use Rattle.std.proofs.Common.{ℕ, List, [], ◌∷◌, map, refl}
+use Rattle.std.proofs.Common.{ℕ, List, [], ◌∷◌, map, refl, Some, None}
 use Rattle.std.specs.Prelude.{Option, IsSome, Contains, flat_map}
-use Rattle.walrus_base.specs.Types.{HeapType, OfHeap, Concrete, Exact, ValType, I32, I64, F32, F64, V128, Ref, heap_names, val_names}
+use Rattle.walrus_base.specs.Types.{RefType, HeapType, OfHeap, Concrete, Exact, ValType, I32, I64, F32, F64, V128, Ref, heap_names, val_names}
 use Rattle.walrus_types.specs.Operators.{Item, Types, Memories, type_item, BlockType, NoResult, OneResult, OfType, Arg, Index, Label, Local, Number, Count, Byte, S32, S64, Bits32, Bits64, Value, Heap, Block, Access, Op, block_names, arg_names, arg_locals, op_names, op_locals, names_of, locals_of}
 use Rattle.walrus_code.specs.Names.{Lookup, named_heap, named_val, named_block, named_arg, named_args, named_op, named_ops}
+use Rattle.walrus_constants.specs.Named.{named_const, named_global, named_initialiser, named_ref, named_table}
+use Rattle.walrus_model.specs.Abstract.{Global, Table}
+use Rattle.walrus_model.specs.Refers.{global_names, named_by, table_names}
 use Rattle.walrus_model.proofs.Lists.{Contains-head, Contains-map, Contains-append_1, Contains-append_2}
 use Rattle.walrus_writing.proofs.Somes.{some_then}
 
@@ -75,3 +78,38 @@ module _ (names : Lookup) where
         (λ y. some_then (named_ops names locals rest) _
         (ops_named rest (λ x c. k x (Contains-append_2 x (op_names o) (names_of rest) c)) (λ x c. l x (Contains-append_2 x (op_locals o) (locals_of rest) c)))
         (λ ys. refl))
+
+  -- ---- items with initialisers
+
+  abbrev AllNamed : List Item → Type 0
+  AllNamed items = (x : Item) → Contains items x → IsSome (names x.0 x.1)
+
+  const_named : (ops : List Op) → AllNamed (names_of ops) → IsSome (named_const names ops)
+  const_named [] k = refl
+  const_named (o ∷ rest) k =
+      some_then (named_op names (λ x. Some x) o) _
+      (op_named (λ x. Some x) o (λ x c. k x (Contains-append_1 x (op_names o) (names_of rest) c)) (λ x c. refl))
+      (λ y. some_then (named_const names rest) _ (const_named rest (λ x c. k x (Contains-append_2 x (op_names o) (names_of rest) c))) (λ ys. refl))
+
+  initialiser_named : (i : Option (List Op)) → AllNamed (named_by names_of i) → IsSome (named_initialiser names i)
+  initialiser_named None k = refl
+  initialiser_named (Some ops) k = some_then (named_const names ops) _ (const_named ops k) (λ found. refl)
+
+  ref_named : (r : RefType ℕ) → TypesNamed (heap_names r.heap) → IsSome (named_ref names r)
+  ref_named r k = some_then (named_heap names r.heap) _ (heap_named r.heap k) (λ x. refl)
+
+  pub table_named : (t : Table) → AllNamed (table_names t) → IsSome (named_table names t)
+  table_named t k =
+      let element = map type_item (heap_names t.ty.element.heap) in
+      let initial = named_by names_of t.initialiser in
+      some_then (named_ref names t.ty.element) _
+      (ref_named t.ty.element (λ u c. k (Types, u) (Contains-append_1 (Types, u) element initial (Contains-map type_item u (heap_names t.ty.element.heap) c))))
+      (λ x. some_then (named_initialiser names t.initialiser) _ (initialiser_named t.initialiser (λ y c. k y (Contains-append_2 y element initial c))) (λ i. refl))
+
+  pub global_named : (g : Global) → AllNamed (global_names g) → IsSome (named_global names g)
+  global_named g k =
+      let value = map type_item (val_names g.ty.value) in
+      let initial = named_by names_of g.initialiser in
+      some_then (named_val names g.ty.value) _
+      (val_named g.ty.value (λ u c. k (Types, u) (Contains-append_1 (Types, u) value initial (Contains-map type_item u (val_names g.ty.value) c))))
+      (λ x. some_then (named_initialiser names g.initialiser) _ (initialiser_named g.initialiser (λ y c. k y (Contains-append_2 y value initial c))) (λ i. refl))

@@ -14,7 +14,7 @@ use Rattle.walrus_rules.specs.Refused.{HasUnspelled, ExactType, ExactConstant, E
 use Rattle.walrus_writing.specs.Local.{all_local}
 use Rattle.walrus_writing.specs.Records.{Records}
 use Rattle.walrus_writing.proofs.NoCauseBodies.{formed}
-use Rattle.walrus_writing.proofs.NoCauseHeaps.{not_exact, no_constants}
+use Rattle.walrus_writing.proofs.NoCauseHeaps.{not_exact, const_not_exact, not_empty}
 use Rattle.walrus_writing.proofs.RefusesLarge.{no_two_indices, lacks_none}
 
 module _ (c : Config) (p : Parts) (r : Records p (features_of c)) where
@@ -23,15 +23,15 @@ module _ (c : Config) (p : Parts) (r : Records p (features_of c)) where
 
   pub none_unspelled : HasUnspelled c V → ⊥
   none_unspelled (ExactType x h at not) = not (not_exact c p r x h at)
-  none_unspelled (ExactConstant x ops h at has not) = no_constants c p r x ops at
-  none_unspelled (EmptyConstant x at) = no_constants c p r x _ at
+  none_unspelled (ExactConstant x ops h at has not) = const_not_exact c p r x ops h at has not
+  none_unspelled (EmptyConstant x at) = not_empty c p r x at
   none_unspelled (IllFormed lives i f b at is not) = not (formed c p r i f b at is)
 
   pub no_cause : (HasDead V → ⊥) → all_local (items (functions p.funcs.now)) ≡ true → AreInOrder (type_slots p.types.now) → (PassesLimits c V → ⊥) → HasNoCause c V
   no_cause lives local ordered small = record {
     all_there = lives;
     one_index = no_two_indices c p;
-    indices = lacks_none c p local r.own ordered;
+    indices = lacks_none c p local r.own r.reads ordered;
     spelled = none_unspelled;
     fits = small;
   }

@@ -1,5 +1,5 @@
 -- No exact heap type stands in what is written.
-use Rattle.std.proofs.Common.{◌≡◌, ℕ, List, [], ◌∷◌, ◌++◌, map, refl, sym, ap, ap₂, ◌∙◌, subst, Some, None}
+use Rattle.std.proofs.Common.{◌≡◌, ℕ, true, ⊎_elim, List, [], ◌∷◌, ◌++◌, map, refl, sym, ap, ap₂, ◌∙◌, subst, Some, None}
 use Rattle.std.specs.Prelude.{Option, IsSome, Contains, flat_map, option_map, slice_get}
 use Rattle.std.specs.List.{AllByRecursion}
 use Rattle.wasm_forms.specs.Reading.{◌>>=◌}
@@ -16,18 +16,22 @@ use Rattle.walrus_groups.specs.Named.{each, named_vals, named_storage, named_fie
 use Rattle.walrus_writing.specs.SoFar.{plain_view}
 use Rattle.walrus_contents.specs.declared.parts.Parts.{Parts}
 use Rattle.walrus_contents.proofs.Lookups.{got_map, mapped_some, mapped_append}
-use Rattle.walrus_model.specs.Abstract.{Abstract, Body, Function, FunctionKind, LocalFunction, ImportedFunction, Uninitialised}
+use Rattle.walrus_model.specs.Abstract.{Abstract, Body, Function, Global, Table, FunctionKind, LocalFunction, ImportedFunction, Uninitialised}
 use Rattle.walrus_model.specs.Config.{Config}
 use Rattle.walrus_model.specs.Refers.{used_locals}
-use Rattle.walrus_model.specs.WellMade.{heaps_by, heaps_in, consts_in, op_heaps, body_heaps, kind_heaps}
-use Rattle.walrus_model.proofs.Lists.{Contains-none}
+use Rattle.walrus_model.specs.WellMade.{heaps_by, heaps_in, consts_by, consts_in, option_consts, op_heaps, body_heaps, kind_heaps}
+use Rattle.walrus_model.proofs.Lists.{Contains-none, Contains-uncons}
 use Rattle.walrus_model.proofs.Standing.{got_in, some_inj}
 use Rattle.walrus_rules.specs.Features.{features_of}
 use Rattle.walrus_rules.specs.WellMade.{IsWellFormed}
 use Rattle.walrus_rules.proofs.PlainBodies.{ops_named, types_named}
 use Rattle.walrus_rules.proofs.PlainTypes.{Plain, plain_append, plain_left, plain_right, each_in, types_plain, TypePlain, ValsPlain}
 use Rattle.walrus_rules.proofs.TextShaped.{all_append}
+use Rattle.walrus_constants.specs.Written.{IsUnspelled, ExactHeap, NoOperator}
+use Rattle.walrus_code.specs.Results.{heap_is_exact, val_is_exact}
+use Rattle.walrus_writing.specs.Globals as globals
 use Rattle.walrus_writing.specs.Records.{Records}
+use Rattle.walrus_writing.specs.Tables as tables
 use Rattle.walrus_model.proofs.Indices.{planned_named}
 use Rattle.walrus_writing.proofs.NoCauseBodies.{formed}
 use Rattle.walrus_writing.proofs.TypesEntered.{type_entry}
@@ -174,26 +178,73 @@ module _ (c : Config) (p : Parts) (r : Records p (features_of c)) where
   function_plain i None at = tt
   function_plain i (Some f) at = kind_plain i f f.kind at refl
 
+  heap_plain : (h : HeapType ℕ) → (heap_is_exact h ≡ true → ⊥) → IsNotExact h
+  heap_plain (OfHeap b) not = tt
+  heap_plain (Concrete t) not = tt
+  heap_plain (Exact t) not = absurd (not refl)
+
+  val_plain : (v : ValType ℕ) → (val_is_exact v ≡ true → ⊥) → Plain (val_heaps v)
+  val_plain (Ref ref) not = (heap_plain ref.heap not, tt)
+  val_plain I32 not = tt
+  val_plain I64 not = tt
+  val_plain F32 not = tt
+  val_plain F64 not = tt
+  val_plain V128 not = tt
+
+  table_plain : (i : ℕ) (o : Option Table) → V.tables i ≡ o → Plain (heaps_by (λ (t : Table). t.ty.element.heap ∷ []) o)
+  table_plain i None at = tt
+  table_plain i (Some t) at = (heap_plain t.ty.element.heap (λ exact. r.tables_spelled i t at (tables.ExactElement exact)), tt)
+
+  global_plain : (i : ℕ) (o : Option Global) → V.globals i ≡ o → Plain (heaps_by (λ (g : Global). val_heaps g.ty.value) o)
+  global_plain i None at = tt
+  global_plain i (Some g) at = val_plain g.ty.value (λ exact. r.globals_spelled i g at (globals.ExactValue exact))
+
   item_plain : (x : Item) → Plain (heaps_in V x)
   item_plain (Types, i) = types_are_plain (V.types i) (type_plain i)
   item_plain (Functions, i) = function_plain i (V.functions i) refl
-  item_plain (Tables, i) = tt
+  item_plain (Tables, i) = table_plain i (V.tables i) refl
   item_plain (Memories, i) = tt
   item_plain (Tags, i) = tt
-  item_plain (Globals, i) = tt
+  item_plain (Globals, i) = global_plain i (V.globals i) refl
   item_plain (Elements, i) = tt
   item_plain (DataSegments, i) = tt
 
   pub not_exact : (x : Item) (h : HeapType ℕ) → Contains (heaps_in V x) h → IsNotExact h
   not_exact x h at = each_in (λ (k : HeapType ℕ). IsNotExact k) (heaps_in V x) h (item_plain x) at
 
-  -- there are no constant expressions
-  pub no_constants : (x : Item) (ops : List Op) → Contains (consts_in V x) ops → ⊥
-  no_constants (Types, i) ops at = Contains-none ops at
-  no_constants (Functions, i) ops at = Contains-none ops at
-  no_constants (Tables, i) ops at = Contains-none ops at
-  no_constants (Memories, i) ops at = Contains-none ops at
-  no_constants (Tags, i) ops at = Contains-none ops at
-  no_constants (Globals, i) ops at = Contains-none ops at
-  no_constants (Elements, i) ops at = Contains-none ops at
-  no_constants (DataSegments, i) ops at = Contains-none ops at
+  -- ---- constant expressions
+
+  -- those of an item, of which none is unspelled
+  abbrev Spelled : List (List Op) → Type 0
+  Spelled all = (ops : List Op) → Contains all ops → IsUnspelled ops → ⊥
+
+  none_spelled : Spelled []
+  none_spelled ops at = absurd (Contains-none ops at)
+
+  initialiser_spelled : (i : Option (List Op)) → ((ops : List Op) → i ≡ Some ops → IsUnspelled ops → ⊥) → Spelled (option_consts i)
+  initialiser_spelled None h = none_spelled
+  initialiser_spelled (Some all) h = λ ops at. ⊎_elim (λ (e : all ≡ ops). h ops (ap (λ (l : List Op). Some l) e)) (λ none. absurd (Contains-none ops none)) (Contains-uncons all ops [] at)
+
+  table_spelled : (i : ℕ) (o : Option Table) → V.tables i ≡ o → Spelled (consts_by (λ t. option_consts t.initialiser) o)
+  table_spelled i None at = none_spelled
+  table_spelled i (Some t) at = initialiser_spelled t.initialiser (λ ops is u. r.tables_spelled i t at (tables.UnspelledInitialiser ops is u))
+
+  global_spelled : (i : ℕ) (o : Option Global) → V.globals i ≡ o → Spelled (consts_by (λ g. option_consts g.initialiser) o)
+  global_spelled i None at = none_spelled
+  global_spelled i (Some g) at = initialiser_spelled g.initialiser (λ ops is u. r.globals_spelled i g at (globals.UnspelledInitialiser ops is u))
+
+  const_spelled : (x : Item) → Spelled (consts_in V x)
+  const_spelled (Types, i) = none_spelled
+  const_spelled (Functions, i) = none_spelled
+  const_spelled (Tables, i) = table_spelled i (V.tables i) refl
+  const_spelled (Memories, i) = none_spelled
+  const_spelled (Tags, i) = none_spelled
+  const_spelled (Globals, i) = global_spelled i (V.globals i) refl
+  const_spelled (Elements, i) = none_spelled
+  const_spelled (DataSegments, i) = none_spelled
+
+  pub const_not_exact : (x : Item) (ops : List Op) (h : HeapType ℕ) → Contains (consts_in V x) ops → Contains (flat_map op_heaps ops) h → (IsNotExact h → ⊥) → ⊥
+  const_not_exact x ops h at has not = const_spelled x ops at (ExactHeap h has not)
+
+  pub not_empty : (x : Item) → Contains (consts_in V x) [] → ⊥
+  not_empty x at = const_spelled x [] at (NoOperator refl)

@@ -7,7 +7,9 @@ use Rattle.walrus_base.specs.Id.{place}
 use Rattle.walrus_base.specs.declared.id.Id.{Id}
 use Rattle.walrus_base.specs.declared.keys.TypeKey.{TypeKey}
 use Rattle.walrus_base.specs.declared.keys.FunctionKey.{FunctionKey}
+use Rattle.walrus_base.specs.declared.keys.GlobalKey.{GlobalKey}
 use Rattle.walrus_base.specs.declared.keys.MemoryKey.{MemoryKey}
+use Rattle.walrus_base.specs.declared.keys.TableKey.{TableKey}
 use Rattle.walrus_base.specs.declared.keys.TagKey.{TagKey}
 use Rattle.walrus_code.specs.Code.{op_of}
 use Rattle.walrus_code.specs.declared.function.LocalFunction.{LocalFunction}
@@ -15,10 +17,12 @@ use Rattle.walrus_types.specs.ModuleTypes.{type_slots}
 use Rattle.walrus_types.specs.Operators.{Space, Types, Functions, Tables, Memories, Tags, Globals, Elements, DataSegments}
 use Rattle.walrus_items.specs.Functions.{FunctionValue, functions}
 use Rattle.walrus_items.specs.declared.functions.FunctionKind.{FunctionKind}
+use Rattle.walrus_entities.specs.Globals.{GlobalValue, globals}
 use Rattle.walrus_entities.specs.Memories.{MemoryValue, memories}
+use Rattle.walrus_entities.specs.Tables.{TableValue, tables}
 use Rattle.walrus_entities.specs.Tags.{TagValue, tags}
 use Rattle.walrus_items.specs.declared.functions.FunctionKind.TheVariants as kind
-use Rattle.walrus_contents.specs.View.{body, function, kind_of, memory_of, tag_of}
+use Rattle.walrus_contents.specs.View.{body, function, global_of, kind_of, memory_of, table_of, tag_of}
 use Rattle.walrus_writing.specs.SoFar.{DefinesItems, plain_view}
 use Rattle.walrus_contents.specs.declared.parts.Parts.{Parts}
 use Rattle.walrus_model.specs.Abstract as abstract
@@ -104,22 +108,33 @@ module _ (p : Parts) where
   abbrev tag_slots : List (Option TagValue)
   tag_slots = tags p.tags.now
 
+  abbrev table_slots : List (Option TableValue)
+  table_slots = tables p.tables.now
+
+  abbrev global_slots : List (Option GlobalValue)
+  global_slots = globals p.globals.now
+
   module _ (plan : Plan) (types : map place plan.types.items ≡ map (λ e. e.0) (entries (type_slots p.types.now))) (order : IsOrder (functions p.funcs.now) (map place plan.functions.items))
-      (rising : map place plan.memories.items ≡ map (λ e. e.0) (entries memory_slots)) (tags_rise : map place plan.tags.items ≡ map (λ e. e.0) (entries tag_slots)) (local : all_local (items (functions p.funcs.now)) ≡ true) (own : DefinesItems V) where
+      (tables_rise : map place plan.tables.items ≡ map (λ e. e.0) (entries table_slots)) (rising : map place plan.memories.items ≡ map (λ e. e.0) (entries memory_slots))
+      (tags_rise : map place plan.tags.items ≡ map (λ e. e.0) (entries tag_slots)) (globals_rise : map place plan.globals.items ≡ map (λ e. e.0) (entries global_slots)) (local : all_local (items (functions p.funcs.now)) ≡ true) (own : DefinesItems V) where
     in_order : (s : Space) → IsInOrder s (places plan s)
     in_order Types = subst (IsInOrder Types) (sym types) (ordered_entries (type_slots p.types.now), entries_rise (type_slots p.types.now))
     in_order Functions = (
       ordered_seen (function p.locals.now) (functions p.funcs.now) (map place plan.functions.items) (functions_ordered (functions p.funcs.now) (map place plan.functions.items) order local),
       pairs_by_size (functions p.funcs.now) (map place plan.functions.items) order (ByImport V Functions) comes_first,
     )
-    in_order Tables = (ordered_nothing Table, no_pairs (ByImport V Tables))
+    in_order Tables =
+        subst (IsInOrder Tables) (sym tables_rise)
+        (ordered_seen table_of table_slots _ (ordered_entries table_slots), own_rise table_of (λ (t : Table). t.origin) table_slots own.tables)
     in_order Memories =
         subst (IsInOrder Memories) (sym rising)
         (ordered_seen memory_of memory_slots _ (ordered_entries memory_slots), own_rise memory_of (λ (m : Memory). m.origin) memory_slots own.memories)
     in_order Tags =
         subst (IsInOrder Tags) (sym tags_rise)
         (ordered_seen tag_of tag_slots _ (ordered_entries tag_slots), own_rise tag_of (λ (t : Tag). t.origin) tag_slots own.tags)
-    in_order Globals = (ordered_nothing Global, no_pairs (ByImport V Globals))
+    in_order Globals =
+        subst (IsInOrder Globals) (sym globals_rise)
+        (ordered_seen global_of global_slots _ (ordered_entries global_slots), own_rise global_of (λ (g : Global). g.origin) global_slots own.globals)
     in_order Elements = (ordered_nothing Element, no_pairs (ByImport V Elements))
     in_order DataSegments = (ordered_nothing DataSegment, no_pairs (ByImport V DataSegments))
 
@@ -131,26 +146,32 @@ module _ (p : Parts) where
 abbrev pub no_places : model.Plan
 no_places s = []
 
-module _ (plan : Plan) (types : List (Id TypeKey)) (functions : List (Id FunctionKey)) (own : List (Id MemoryKey)) (tag_ids : List (Id TagKey)) (same_types : types ≡ plan.types.items) (same_functions : functions ≡ plan.functions.items) (same_own : own ≡ plan.memories.items) (same_tags : tag_ids ≡ plan.tags.items) where
-  pub placed_so : (s : Space) → with_places (with_places (with_places (with_places no_places Types (map place types)) Functions (map place functions)) Memories (map place own)) Tags (map place tag_ids) s ≡ places plan s
+-- one space after another
+abbrev pub placed : List ℕ → List ℕ → List ℕ → List ℕ → List ℕ → List ℕ → model.Plan
+placed types functions tables memories tags globals =
+    with_places (with_places (with_places (with_places (with_places (with_places no_places Types types) Functions functions) Tables tables) Memories memories) Tags tags) Globals globals
+
+module _ (plan : Plan) (types : List (Id TypeKey)) (functions : List (Id FunctionKey)) (table_ids : List (Id TableKey)) (own : List (Id MemoryKey)) (tag_ids : List (Id TagKey)) (global_ids : List (Id GlobalKey))
+    (same_types : types ≡ plan.types.items) (same_functions : functions ≡ plan.functions.items) (same_tables : table_ids ≡ plan.tables.items) (same_own : own ≡ plan.memories.items) (same_tags : tag_ids ≡ plan.tags.items) (same_globals : global_ids ≡ plan.globals.items) where
+  pub placed_so : (s : Space) → placed (map place types) (map place functions) (map place table_ids) (map place own) (map place tag_ids) (map place global_ids) s ≡ places plan s
   placed_so Types = ap (map place) same_types
   placed_so Functions = ap (map place) same_functions
-  placed_so Tables = refl
+  placed_so Tables = ap (map place) same_tables
   placed_so Memories = ap (map place) same_own
   placed_so Tags = ap (map place) same_tags
-  placed_so Globals = refl
+  placed_so Globals = ap (map place) same_globals
   placed_so Elements = refl
   placed_so DataSegments = refl
 
   few_of : {K : Type 0} (ids lent : List (Id K)) → lent ≡ ids → length lent < 2 ^ 32 → length (map place ids) < 2 ^ 32
   few_of ids lent same few = omega (arith, few, ap length same, length-map ids place)
 
-  pub few_places : length types < 2 ^ 32 → length functions < 2 ^ 32 → length own < 2 ^ 32 → length tag_ids < 2 ^ 32 → (s : Space) → length (places plan s) < 2 ^ 32
-  few_places few many some more Types = few_of plan.types.items types same_types few
-  few_places few many some more Functions = few_of plan.functions.items functions same_functions many
-  few_places few many some more Tables = omega arith
-  few_places few many some more Memories = few_of plan.memories.items own same_own some
-  few_places few many some more Tags = few_of plan.tags.items tag_ids same_tags more
-  few_places few many some more Globals = omega arith
-  few_places few many some more Elements = omega arith
-  few_places few many some more DataSegments = omega arith
+  pub few_places : length types < 2 ^ 32 → length functions < 2 ^ 32 → length table_ids < 2 ^ 32 → length own < 2 ^ 32 → length tag_ids < 2 ^ 32 → length global_ids < 2 ^ 32 → (s : Space) → length (places plan s) < 2 ^ 32
+  few_places few_types few_functions few_tables few_memories few_tags few_globals Types = few_of plan.types.items types same_types few_types
+  few_places few_types few_functions few_tables few_memories few_tags few_globals Functions = few_of plan.functions.items functions same_functions few_functions
+  few_places few_types few_functions few_tables few_memories few_tags few_globals Tables = few_of plan.tables.items table_ids same_tables few_tables
+  few_places few_types few_functions few_tables few_memories few_tags few_globals Memories = few_of plan.memories.items own same_own few_memories
+  few_places few_types few_functions few_tables few_memories few_tags few_globals Tags = few_of plan.tags.items tag_ids same_tags few_tags
+  few_places few_types few_functions few_tables few_memories few_tags few_globals Globals = few_of plan.globals.items global_ids same_globals few_globals
+  few_places few_types few_functions few_tables few_memories few_tags few_globals Elements = omega arith
+  few_places few_types few_functions few_tables few_memories few_tags few_globals DataSegments = omega arith

@@ -20,6 +20,7 @@ use Rattle.walrus_rules.specs.Refused.{PassesLimits}
 use Rattle.walrus_rules.specs.SoFar.{HasUndeclared, RefusesSoFar}
 use Rattle.walrus_writing.specs.Emitted.{IsPlain, told}
 use Rattle.walrus_writing.specs.Local.{all_local}
+use Rattle.walrus_writing.specs.Reads.{ReadsInOrder}
 use Rattle.walrus_writing.specs.Records.{DoesNotFit, Spells}
 use Rattle.walrus_writing.specs.Refusals.{RefusesItems}
 use Rattle.walrus_writing.proofs.NoCauseAll.{no_cause}
@@ -36,7 +37,7 @@ dead_refused X c v _ r = absurd r
 
 -- ---- items
 
-module _ (c : Config) (p : Parts) (lives : HasDead (plain_view p) → ⊥) (declared : NothingUndeclared (plain_view p)) (local : all_local (items (functions p.funcs.now)) ≡ true) (own : DefinesItems (plain_view p)) (ordered : AreInOrder (type_slots p.types.now)) where
+module _ (c : Config) (p : Parts) (lives : HasDead (plain_view p) → ⊥) (declared : NothingUndeclared (plain_view p)) (local : all_local (items (functions p.funcs.now)) ≡ true) (own : DefinesItems (plain_view p)) (before : ReadsInOrder (plain_view p)) (ordered : AreInOrder (type_slots p.types.now)) where
   abbrev V : Abstract
   V = plain_view p
 
@@ -53,7 +54,7 @@ module _ (c : Config) (p : Parts) (lives : HasDead (plain_view p) → ⊥) (decl
   items_with : {X : Type 0} (view : X → List ℕ) (result : Result X Error) → Refuses view result (features_of c)
   items_with view (Ok x) sizes spells r = (no_cause c p spells.records lives local ordered (sizes.1 (view x) spells), not_imported c p local own, undeclared_none)
   items_with view (Err NotWritable) sizes spells r = inl (unspelled c p lives r)
-  items_with view (Err TooLarge) sizes spells r = ((no_two_indices c p, lacks_none c p local own ordered, λ sayable. passes c p sizes.0 r), not_imported c p local own)
+  items_with view (Err TooLarge) sizes spells r = ((no_two_indices c p, lacks_none c p local own before ordered, λ sayable. passes c p sizes.0 r), not_imported c p local own)
   items_with view (Err (Memory m)) sizes spells r = tt
   items_with view (Err _) sizes spells r = absurd r
 

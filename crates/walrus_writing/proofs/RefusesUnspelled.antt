@@ -1,12 +1,14 @@
--- A body that can't be written isn't well formed, and an exact heap type in a type is one of the module seen.
-use Rattle.std.proofs.Common.{◌≡◌, ◌⊎◌, ℕ, List, refl, sym, subst, Some, inl, inr}
-use Rattle.std.specs.Prelude.{Option, Contains}
+-- A body that can't be written isn't well formed; an exact heap type, and an initialiser that no bytes spell, are those of the module seen.
+use Rattle.std.proofs.Common.{◌≡◌, ℕ, true, List, [], ◌∷◌, refl, sym, subst, Some}
+use Rattle.std.specs.Prelude.{Option, Contains, option_map}
 use Rattle.walrus_base.specs.Arena.{item_at, items}
 use Rattle.walrus_base.specs.Id.{place}
-use Rattle.walrus_base.specs.Types.{CompType, Func, Struct, Array, comp_heaps}
-use Rattle.walrus_types.specs.Operators.{Types}
+use Rattle.walrus_base.specs.Types.{CompType, Func, Struct, Array, HeapType, OfHeap, Concrete, Exact, ValType, I32, I64, F32, F64, V128, Ref, IsNotExact, comp_heaps, val_heaps}
+use Rattle.walrus_types.specs.Operators.{Types, Tables, Globals, Item, Op}
 use Rattle.walrus_types.specs.TypeDef.{TypeDef, type_params}
 use Rattle.walrus_code.specs.Names.{Lookup}
+use Rattle.walrus_code.specs.Results.{heap_is_exact, val_is_exact}
+use Rattle.walrus_constants.specs.Written.{IsUnspelled, ExactHeap, NoOperator}
 use Rattle.walrus_code.specs.declared.function.LocalFunction.{LocalFunction}
 use Rattle.walrus_functions.specs.EmittedBody.{CantBeWritten, comp_takes, takes}
 use Rattle.walrus_types.specs.ModuleTypes.{type_slots}
@@ -14,7 +16,9 @@ use Rattle.walrus_functions.specs.Handlers.{params_of}
 use Rattle.walrus_functions.specs.Laws as laws
 use Rattle.walrus_functions.proofs.LawWritable.{ill_formed}
 use Rattle.walrus_groups.specs.Indexed.{HasExact}
-use Rattle.walrus_contents.specs.View.{body}
+use Rattle.walrus_entities.specs.Globals.{GlobalValue, globals}
+use Rattle.walrus_entities.specs.Tables.{TableValue, tables}
+use Rattle.walrus_contents.specs.View.{body, global_of, table_of}
 use Rattle.walrus_writing.specs.SoFar.{plain_view}
 use Rattle.walrus_contents.specs.declared.parts.Parts.{Parts}
 use Rattle.walrus_contents.proofs.Slots.{item_seen}
@@ -22,12 +26,16 @@ use Rattle.walrus_model.specs.Abstract as abstract
 use Rattle.walrus_model.specs.Config.{Config}
 use Rattle.walrus_model.specs.Dead.{HasDead}
 use Rattle.walrus_model.specs.Rules.{IsFunctionComp}
-use Rattle.walrus_model.specs.WellMade.{heaps_by}
+use Rattle.walrus_model.specs.WellMade.{consts_by, consts_in, heaps_by, option_consts}
+use Rattle.walrus_model.proofs.Lists.{Contains-head}
+use Rattle.walrus_model.proofs.Standing.{none_there}
 use Rattle.walrus_rules.specs.Features.{features_of}
-use Rattle.walrus_rules.specs.Refused.{HasUnspelled, ExactType, IllFormed}
+use Rattle.walrus_rules.specs.Refused.{HasUnspelled, EmptyConstant, ExactConstant, ExactType, IllFormed}
 use Rattle.walrus_rules.specs.WellMade.{IsWellFormed}
 use Rattle.walrus_writing.specs.Parts.{function_seen, source}
-use Rattle.walrus_writing.specs.Refusals.{HasBody}
+use Rattle.walrus_writing.specs.Globals as globals_spelled
+use Rattle.walrus_writing.specs.Refusals.{HasBody, HasUnspellable, ABody, AType, ATable, AGlobal}
+use Rattle.walrus_writing.specs.Tables as tables_spelled
 
 -- ---- function types
 
@@ -71,7 +79,52 @@ module _ (c : Config) (p : Parts) where
       let seen = item_seen types x among in
       ExactType (Types, seen.0) h (subst (λ (o : Option TypeDef). Contains (heaps_by (λ (t : TypeDef). comp_heaps t.sub.comp) o) h) (sym seen.1) at) not
 
+  -- an initialiser that no bytes spell
+  const_unspelled : (x : Item) (ops : List Op) → Contains (consts_in V x) ops → IsUnspelled ops → HasUnspelled c V
+  const_unspelled x ops at (NoOperator none) = EmptyConstant x (subst (λ (l : List Op). Contains (consts_in V x) l) none at)
+  const_unspelled x ops at (ExactHeap h has not) = ExactConstant x ops h at has not
+
+  exact_heap : (h : HeapType ℕ) → heap_is_exact h ≡ true → IsNotExact h → ⊥
+  exact_heap (OfHeap b) e not = none_there e
+  exact_heap (Concrete t) e not = none_there e
+  exact_heap (Exact t) e not = not
+
+  exact_value : (v : ValType ℕ) → val_is_exact v ≡ true → (h : HeapType ℕ) × (Contains (val_heaps v) h × (IsNotExact h → ⊥))
+  exact_value (Ref r) e = (r.heap, (Contains-head r.heap [], exact_heap r.heap e))
+  exact_value I32 e = absurd (none_there e)
+  exact_value I64 e = absurd (none_there e)
+  exact_value F32 e = absurd (none_there e)
+  exact_value F64 e = absurd (none_there e)
+  exact_value V128 e = absurd (none_there e)
+
+  table_unspelled : (t : TableValue) → Contains (items (tables p.tables.now)) t → tables_spelled.TableIsUnspelled (table_of t) → HasUnspelled c V
+  table_unspelled t among (tables_spelled.ExactElement e) =
+      let seen = item_seen (tables p.tables.now) t among in
+      ExactType (Tables, seen.0) t.element.heap
+      (subst (λ (o : Option TableValue). Contains (heaps_by (λ (x : abstract.Table). x.ty.element.heap ∷ []) (option_map table_of o)) t.element.heap) (sym seen.1) (Contains-head t.element.heap []))
+      (exact_heap t.element.heap e)
+  table_unspelled t among (tables_spelled.UnspelledInitialiser ops is unspelled) =
+      let seen = item_seen (tables p.tables.now) t among in
+      const_unspelled (Tables, seen.0) ops
+      (subst (λ (o : Option TableValue). Contains (consts_by (λ (x : abstract.Table). option_consts x.initialiser) (option_map table_of o)) ops) (sym seen.1) (subst (λ (i : Option (List Op)). Contains (option_consts i) ops) (sym is) (Contains-head ops [])))
+      unspelled
+
+  global_unspelled : (g : GlobalValue) → Contains (items (globals p.globals.now)) g → globals_spelled.GlobalIsUnspelled (global_of g) → HasUnspelled c V
+  global_unspelled g among (globals_spelled.ExactValue e) =
+      let seen = item_seen (globals p.globals.now) g among in
+      let h = exact_value g.ty e in
+      ExactType (Globals, seen.0) h.0
+      (subst (λ (o : Option GlobalValue). Contains (heaps_by (λ (x : abstract.Global). val_heaps x.ty.value) (option_map global_of o)) h.0) (sym seen.1) h.1.0)
+      h.1.1
+  global_unspelled g among (globals_spelled.UnspelledInitialiser ops is unspelled) =
+      let seen = item_seen (globals p.globals.now) g among in
+      const_unspelled (Globals, seen.0) ops
+      (subst (λ (o : Option GlobalValue). Contains (consts_by (λ (x : abstract.Global). option_consts x.initialiser) (option_map global_of o)) ops) (sym seen.1) (subst (λ (i : Option (List Op)). Contains (option_consts i) ops) (sym is) (Contains-head ops [])))
+      unspelled
+
   -- what isn't writable
-  pub unspelled : (HasDead V → ⊥) → HasBody p (features_of c) CantBeWritten ⊎ HasExact (items types) → HasUnspelled c V
-  unspelled lives (inl body_cant) = not_formed lives body_cant
-  unspelled lives (inr type_exact) = exact type_exact
+  pub unspelled : (HasDead V → ⊥) → HasUnspellable p (features_of c) → HasUnspelled c V
+  unspelled lives (ABody body_cant) = not_formed lives body_cant
+  unspelled lives (AType type_exact) = exact type_exact
+  unspelled lives (ATable t among is) = table_unspelled t among is
+  unspelled lives (AGlobal g among is) = global_unspelled g among is

@@ -1,20 +1,23 @@
 -- What a refusal of a part says of the items that are written, and the records that are.
 use Rattle.wasm_entries.specs.Record as entries
-use Rattle.std.proofs.Common.{inl, inr, ◌≡◌, ℕ, ◌<◌, ◌^◌, suc, List, [], ◌∷◌, ◌++◌, map, length, sym, ap, ◌∙◌, subst, arith, Some, None}
+use Rattle.std.proofs.Common.{inl, inr, ◌≡◌, ℕ, ◌<◌, ◌^◌, suc, List, [], ◌∷◌, ◌++◌, map, length, refl, sym, ap, ◌∙◌, subst, arith, Some, None}
 use Rattle.std.specs.Prelude.{Option, IsSome, All, Err, option_and_then, option_map}
 use Rattle.std.specs.Global.{Vec}
 use Rattle.std.specs.List.{AllZip}
 use Rattle.std.specs.Str.{IsUtf8}
-use Rattle.std.proofs.lemmas.List.Elements.{All-map, All-nil}
+use Rattle.std.proofs.lemmas.List.Elements.{All-contains, All-map, All-nil}
 use Rattle.wasm_frames.specs.Record as wire
 use Rattle.wasm_frames.specs.Spelling.{body_bytes}
 use Rattle.wasm_forms.specs.Spelling.{number_bytes}
 use Rattle.wasm_forms.specs.Writing.{FitsLength}
-use Rattle.wasm_entries.specs.Record.{export_entry, group}
+use Rattle.wasm_entries.specs.Record.{export_entry, global_entry, group, table_entry}
 use Rattle.wasm_entries.specs.declared.record.RawExport.{RawExport}
+use Rattle.wasm_entries.specs.declared.record.RawGlobal.{RawGlobal}
 use Rattle.wasm_entries.specs.declared.record.RawLimits.{RawLimits}
 use Rattle.wasm_entries.specs.declared.record.RawSub.{RawSub}
+use Rattle.wasm_entries.specs.declared.record.RawTable.{RawTable}
 use Rattle.wasm_entries.specs.Spelling as spelling
+use Rattle.wasm_entries.specs.Spelling.{GlobalStands, TableStands}
 use Rattle.wasm_entries.specs.TypeSpelling.{GroupFits, group_bytes, LimitsFit, LimitsStand, limits_bytes}
 use Rattle.wasm_writer.specs.Spelling.{SectionFits, tag_bytes}
 use Rattle.wasm_writer.proofs.Listed.{fits_none}
@@ -30,17 +33,21 @@ use Rattle.walrus_bodies.specs.declared.features.Features.{Features}
 use Rattle.walrus_groups.specs.Indexed.{AreIndexed}
 use Rattle.walrus_groups.specs.Named.{named_def}
 use Rattle.walrus_items.specs.Exports.{exports}
+use Rattle.walrus_constants.specs.Named.{named_global, named_table}
+use Rattle.walrus_entities.specs.Globals.{globals}
 use Rattle.walrus_entities.specs.Memories.{memories}
+use Rattle.walrus_entities.specs.Tables.{tables}
 use Rattle.walrus_entities.specs.Tags.{tags}
-use Rattle.walrus_contents.specs.View.{export_of, memory_of, tag_of}
+use Rattle.walrus_contents.specs.View.{export_of, global_of, memory_of, table_of, tag_of}
 use Rattle.walrus_writing.specs.SoFar.{DefinesItems, plain_view}
 use Rattle.walrus_contents.specs.declared.parts.Parts.{Parts}
-use Rattle.walrus_contents.proofs.Slots.{stands_at}
+use Rattle.walrus_contents.proofs.Slots.{entry_in, stands_at}
 use Rattle.walrus_model.specs.Abstract.{Memory}
 use Rattle.walrus_model.specs.Plan as model
 use Rattle.walrus_model.specs.Plan.{AreNumbered, IsPlan}
-use Rattle.walrus_model.proofs.Lists.{map-map, map-same_on}
-use Rattle.walrus_model.proofs.Standing.{none_there}
+use Rattle.walrus_model.specs.Sections as said
+use Rattle.walrus_model.proofs.Lists.{Contains-map, map-map, map-same_on}
+use Rattle.walrus_model.proofs.Standing.{none_there, some_inj}
 use Rattle.walrus_parts.specs.Errors.{error_of_wire}
 use Rattle.walrus_parts.specs.declared.error.Error.{Error}
 use Rattle.walrus_parts.specs.declared.error.Error.TheVariants as Parts_error
@@ -49,8 +56,12 @@ use Rattle.walrus_rules.proofs.OneSections.{laid}
 use Rattle.walrus_writing.specs.Parts.{HasBytes, export_with_index, memory_limits, tag_index, type_index, unplaced}
 use Rattle.walrus_writing.specs.Places.{places}
 use Rattle.walrus_writing.specs.Records.{Records, Spells, sections_with, text_of}
-use Rattle.walrus_writing.specs.Refusals.{RefusesBodies, RefusesCounts, RefusesItems, RefusesTypes}
+use Rattle.walrus_writing.specs.Globals.{GlobalIsUnspelled, IsSpelledGlobal, RefusesGlobals}
+use Rattle.walrus_writing.specs.Reads.{ReadsInOrder}
+use Rattle.walrus_writing.specs.Refusals.{ABody, AType, ATable, AGlobal, RefusesBodies, RefusesCounts, RefusesItems, RefusesTypes}
+use Rattle.walrus_writing.specs.Tables.{IsSpelledTable, RefusesTables, TableIsUnspelled}
 use Rattle.walrus_writing.specs.declared.plan.Plan.{Plan}
+use Rattle.walrus_writing.proofs.Entries.{none_some}
 use Rattle.walrus_writing.proofs.Sections.{all_sections, bytes_same, each_section, plain}
 use Rattle.walrus_writing.proofs.SpellsLemmas.{zip_seen}
 use Rattle.walrus_writing.proofs.TextStands.{bodies_same}
@@ -78,16 +89,31 @@ module _ (p : Parts) (features : Features) (X : Type 0) where
 
   pub types_refused : (e : Error) → RefusesTypes (type_slots p.types.now) e → RefusesItems {X = X} p features (Err e)
   types_refused (Parts_error.Memory m) r = tt
-  types_refused Parts_error.NotWritable r = inr r
+  types_refused Parts_error.NotWritable r = AType r
   types_refused _ r = absurd r
 
   pub bodies_refused : (e : Error) → RefusesBodies p features e → RefusesItems {X = X} p features (Err e)
   bodies_refused (Parts_error.Memory m) r = tt
-  bodies_refused Parts_error.NotWritable r = inl r
+  bodies_refused Parts_error.NotWritable r = ABody r
   bodies_refused Parts_error.TooLarge r = inr (inl r)
   bodies_refused _ r = absurd r
 
+  pub tables_refused : (e : Error) → RefusesTables (items (tables p.tables.now)) e → RefusesItems {X = X} p features (Err e)
+  tables_refused (Parts_error.Memory m) r = tt
+  tables_refused Parts_error.NotWritable r = ATable r.0 r.1 r.2
+  tables_refused _ r = absurd r
+
+  pub globals_refused : (e : Error) → RefusesGlobals (items (globals p.globals.now)) e → RefusesItems {X = X} p features (Err e)
+  globals_refused (Parts_error.Memory m) r = tt
+  globals_refused Parts_error.NotWritable r = AGlobal r.0 r.1 r.2
+  globals_refused _ r = absurd r
+
 -- ---- the records
+
+-- what is made of records in two steps
+pub made_twice : {A B C : Type 0} (g : B → C) (f : A → B) (xs : List A) → map (λ (c : C). Some c) (map g (map f xs)) ≡ map (λ x. Some (g (f x))) xs
+made_twice g f [] = refl
+made_twice g f (x ∷ xs) = ap (λ l. Some (g (f x)) ∷ l) (made_twice g f xs)
 
 -- what is made of the items of an arena, by their places
 pub by_places : {T W : Type 0} (f : T → Option W) (slots : List (Option T)) → map (λ i. option_and_then f (item_at slots i)) (map (λ e. e.0) (entries_in slots)) ≡ map f (items slots)
@@ -103,6 +129,14 @@ seen_by_places {T} seen f slots =
     map-map (λ i. option_and_then f (option_map seen (item_at slots i))) (λ (e : ℕ × T). e.0) (entries_in slots)
     ∙ map-same_on (λ (e : ℕ × T). option_and_then f (option_map seen (item_at slots e.0))) (λ (e : ℕ × T). f (seen e.1)) (entries_in slots) (λ e at. ap (λ (o : Option T). option_and_then f (option_map seen o)) (stands_at slots e at))
     ∙ sym (map-map (λ (t : T). f (seen t)) (λ (e : ℕ × T). e.1) (entries_in slots))
+
+-- what holds of each item holds of each that is seen at a place
+pub each_seen : {T X : Type 0} (seen : T → X) (P : X → Type 0) (slots : List (Option T)) → All (λ t. P (seen t)) (items slots) → (i : ℕ) (x : X) → option_map seen (item_at slots i) ≡ Some x → P x
+each_seen {T} {X} seen P slots all i x at = by (item_at slots i) refl at
+  where
+    by : (o : Option T) → item_at slots i ≡ o → option_map seen o ≡ Some x → P x
+    by None is e = absurd (none_some x e)
+    by (Some t) is e = subst P (some_inj (seen t) x e) (All-contains (λ (y : T). P (seen y)) (items slots) t all (Contains-map (λ (e : ℕ × T). e.1) (i, t) (entries_in slots) (entry_in slots i t is)))
 
 -- sections that list nothing fit
 none_fit : EachSection SectionFits (laid (plain empty_text))
@@ -123,17 +157,25 @@ none_fit = record {
   customs = All-nil _;
 }
 
-module _ (p : Parts) (features : Features) (names : Lookup) (plan : Plan) (raws : List (Vec RawSub)) (raw_functions : List ℕ) (raw_memories : List RawLimits) (raw_tags : List ℕ) (exported : List RawExport) (bodies : List (Vec ℕ))
+module _ (p : Parts) (features : Features) (names : Lookup) (plan : Plan) (raws : List (Vec RawSub)) (raw_functions : List ℕ) (raw_tables : List RawTable) (raw_memories : List RawLimits) (raw_tags : List ℕ) (raw_globals : List RawGlobal) (exported : List RawExport) (bodies : List (Vec ℕ))
     (is_plan : IsPlan (plain_view p) (places plan)) (numbered : AreNumbered names (places plan)) (few : (s : Space) → length (places plan s) < 2 ^ 32)
     (types : map place plan.types.items ≡ map (λ e. e.0) (entries_in (type_slots p.types.now)))
     (types_are : AreIndexed names (items (type_slots p.types.now)) (map group raws))
     (functions_are : map Some raw_functions ≡ map (λ id. option_and_then (type_index names) ((plain_view p).functions (place id))) plan.functions.items)
-    (own : DefinesItems (plain_view p))
+    (own : DefinesItems (plain_view p)) (reads : ReadsInOrder (plain_view p))
+    (tables_rise : map place plan.tables.items ≡ map (λ e. e.0) (entries_in (tables p.tables.now)))
+    (tables_are : map (λ t. Some (said.table_of (table_entry t))) raw_tables ≡ map (λ t. named_table names (table_of t)) (items (tables p.tables.now)))
+    (tables_stand : All (λ t. TableStands (table_entry t)) raw_tables)
+    (tables_spelled : All IsSpelledTable (items (tables p.tables.now)))
     (rising : map place plan.memories.items ≡ map (λ e. e.0) (entries_in (memories p.memories.now)))
     (memories_are : map Some raw_memories ≡ map (λ m. Some (memory_limits (memory_of m))) (items (memories p.memories.now)))
     (memories_stand : All LimitsStand raw_memories)
     (tags_rise : map place plan.tags.items ≡ map (λ e. e.0) (entries_in (tags p.tags.now)))
     (tags_are : map Some raw_tags ≡ map (λ t. tag_index names (tag_of t)) (items (tags p.tags.now)))
+    (globals_rise : map place plan.globals.items ≡ map (λ e. e.0) (entries_in (globals p.globals.now)))
+    (globals_are : map (λ g. Some (said.global_of (global_entry g))) raw_globals ≡ map (λ g. named_global names (global_of g)) (items (globals p.globals.now)))
+    (globals_stand : All (λ g. GlobalStands (global_entry g)) raw_globals)
+    (globals_spelled : All IsSpelledGlobal (items (globals p.globals.now)))
     (exports_are : map (λ e. Some (export_entry e)) exported ≡ map (λ v. export_with_index names (export_of v)) (items (exports p.exports.now)))
     (texts : All (λ e. IsUtf8 e.name.now) exported)
     (bodies_are : AllZip (λ id bytes. HasBytes p names features (place id) bytes.items) plan.functions.items bodies) where
@@ -151,6 +193,13 @@ module _ (p : Parts) (features : Features) (names : Lookup) (plan : Plan) (raws 
     types_stand = types_are.stand;
     functions = raw_functions;
     functions_are = functions_are ∙ sym (map-map (λ i. option_and_then (type_index names) ((plain_view p).functions i)) place plan.functions.items);
+    reads = reads;
+    tables = map table_entry raw_tables;
+    tables_are =
+        made_twice said.table_of table_entry raw_tables ∙ tables_are ∙ sym (seen_by_places table_of (named_table names) (tables p.tables.now))
+        ∙ ap (map (λ i. option_and_then (named_table names) ((plain_view p).tables i))) (sym tables_rise);
+    tables_stand = All-map TableStands table_entry raw_tables tables_stand;
+    tables_spelled = each_seen table_of (λ t. TableIsUnspelled t → ⊥) (tables p.tables.now) tables_spelled;
     memories = raw_memories;
     memories_are =
         memories_are ∙ sym (seen_by_places memory_of (λ (m : Memory). Some (memory_limits m)) (memories p.memories.now))
@@ -158,6 +207,12 @@ module _ (p : Parts) (features : Features) (names : Lookup) (plan : Plan) (raws 
     memories_stand = memories_stand;
     tags = raw_tags;
     tags_are = tags_are ∙ sym (seen_by_places tag_of (tag_index names) (tags p.tags.now)) ∙ ap (map (λ i. option_and_then (tag_index names) ((plain_view p).tags i))) (sym tags_rise);
+    globals = map global_entry raw_globals;
+    globals_are =
+        made_twice said.global_of global_entry raw_globals ∙ globals_are ∙ sym (seen_by_places global_of (named_global names) (globals p.globals.now))
+        ∙ ap (map (λ i. option_and_then (named_global names) ((plain_view p).globals i))) (sym globals_rise);
+    globals_stand = All-map GlobalStands global_entry raw_globals globals_stand;
+    globals_spelled = each_seen global_of (λ g. GlobalIsUnspelled g → ⊥) (globals p.globals.now) globals_spelled;
     bodies = map (λ (v : Vec ℕ). v.items) bodies;
     bodies_are = zip_seen place (λ (v : Vec ℕ). v.items) (HasBytes p names features) plan.functions.items bodies bodies_are;
     exports = map export_entry exported;
@@ -166,11 +221,11 @@ module _ (p : Parts) (features : Features) (names : Lookup) (plan : Plan) (raws 
   }
 
   -- the module of these sections
-  module _ (m : wire.Module) (code : List wire.Body) (sections : m ≡ sections_with (map group raws) raw_functions raw_memories raw_tags (map export_entry exported) code) (codes : code ≡ map (λ (v : Vec ℕ). unplaced v.items) bodies) where
+  module _ (m : wire.Module) (code : List wire.Body) (sections : m ≡ sections_with (map group raws) raw_functions (map table_entry raw_tables) raw_memories raw_tags (map global_entry raw_globals) (map export_entry exported) code) (codes : code ≡ map (λ (v : Vec ℕ). unplaced v.items) bodies) where
     module_is : m ≡ laid (text_of records_of)
     module_is =
         sections
-        ∙ ap (sections_with (map group raws) raw_functions raw_memories raw_tags (map export_entry exported))
+        ∙ ap (sections_with (map group raws) raw_functions (map table_entry raw_tables) raw_memories raw_tags (map global_entry raw_globals) (map export_entry exported))
         (codes ∙ sym (map-map unplaced (λ (v : Vec ℕ). v.items) bodies) ∙ sym (bodies_same p names features (map place plan.functions.items) (map (λ (v : Vec ℕ). v.items) bodies) records_of.bodies_are))
 
     pub records_written : (bytes : List ℕ) → bytes ≡ module_bytes m → ModuleFits m → Spells p features bytes

@@ -100,10 +100,10 @@ module _ {p : Parts} {features : Features} (r : Records p features) where
     types = r.types_stand;
     imports = All-nil _;
     functions = All-from_recursion IsIndex r.functions (functions_stand r.functions (r.plan Functions) r.functions_are);
-    tables = All-nil _;
+    tables = r.tables_stand;
     memories = r.memories_stand;
     tags = All-from_recursion IsIndex r.tags (tags_stand r.tags (r.plan Tags) r.tags_are);
-    globals = All-nil _;
+    globals = r.globals_stand;
     exports = All-from_recursion ExportStands r.exports (exports_stand r.exports V.exports r.exports_are (recursion_from_All (λ (e : entries.Export). IsUtf8 e.name) r.exports r.texts));
     start = tt;
     elements = All-nil _;

@@ -6,22 +6,28 @@ use Rattle.std.specs.Prelude.{ℕ, List, [], ◌∷◌, Option, Some, All, lengt
 use Rattle.std.specs.List.{AllZip}
 use Rattle.std.specs.Str.{IsUtf8}
 use Rattle.wasm_entries.specs.Record.{Group}
+use Rattle.wasm_entries.specs.Spelling.{GlobalStands, TableStands}
 use Rattle.wasm_entries.specs.TypeSpelling.{GroupStands, LimitsStand}
 use Rattle.wasm_writer.specs.Spelling.{SectionFits}
-use Rattle.walrus_types.specs.Operators.{Space, Types, Functions, Memories, Tags}
+use Rattle.walrus_types.specs.Operators.{Space, Types, Functions, Tables, Memories, Tags, Globals}
 use Rattle.walrus_code.specs.Names.{Lookup}
 use Rattle.walrus_bodies.specs.declared.features.Features.{Features}
 use Rattle.walrus_groups.specs.Groups.{types_from}
 use Rattle.walrus_groups.specs.Named.{named_def}
+use Rattle.walrus_constants.specs.Named.{named_global, named_table}
 use Rattle.walrus_writing.specs.SoFar.{DefinesItems, plain_view}
 use Rattle.walrus_contents.specs.declared.parts.Parts.{Parts}
-use Rattle.walrus_model.specs.Abstract.{Abstract}
+use Rattle.walrus_model.specs.Abstract.{Abstract, Global, Table}
 use Rattle.walrus_model.specs.Plan.{AreNumbered, IsPlan, Plan}
+use Rattle.walrus_model.specs.Sections.{global_of, table_of}
 use Rattle.walrus_model.specs.Spaces.{Thing, look}
 use Rattle.walrus_rules.specs.Examples.{empty_text}
 use Rattle.walrus_rules.specs.Spelling.{written_as}
 use Rattle.walrus_rules.specs.Text.{BodyText, Text, sections_of}
+use Rattle.walrus_writing.specs.Globals.{GlobalIsUnspelled}
 use Rattle.walrus_writing.specs.Parts.{type_index, memory_limits, tag_index, export_with_index, HasBytes}
+use Rattle.walrus_writing.specs.Reads.{ReadsInOrder}
+use Rattle.walrus_writing.specs.Tables.{TableIsUnspelled}
 
 -- the things of a space, in the order of the plan, have these records
 abbrev pub AreRecords : {W : Type 0} → Abstract → Plan → (s : Space) → (Thing s → Option W) → List W → Type 0
@@ -43,11 +49,20 @@ pub record Records (p : Parts) (features : Features) : Type 0 where
   pub functions_are : AreRecords (plain_view p) plan Functions (type_index names) functions
   pub bodies : List (List ℕ)
   pub bodies_are : AllZip (HasBytes p names features) (plan Functions) bodies
+  pub reads : ReadsInOrder (plain_view p)
+  pub tables : List entries.Table
+  pub tables_are : AreRecords (plain_view p) plan Tables (named_table names) (map table_of tables)
+  pub tables_stand : All TableStands tables
+  pub tables_spelled : (i : ℕ) (t : Table) → (plain_view p).tables i ≡ Some t → TableIsUnspelled t → ⊥
   pub memories : List RawLimits
   pub memories_are : AreRecords (plain_view p) plan Memories (λ m. Some (memory_limits m)) memories
   pub memories_stand : All LimitsStand memories
   pub tags : List ℕ
   pub tags_are : AreRecords (plain_view p) plan Tags (tag_index names) tags
+  pub globals : List entries.Global
+  pub globals_are : AreRecords (plain_view p) plan Globals (named_global names) (map global_of globals)
+  pub globals_stand : All GlobalStands globals
+  pub globals_spelled : (i : ℕ) (g : Global) → (plain_view p).globals i ≡ Some g → GlobalIsUnspelled g → ⊥
   pub exports : List entries.Export
   pub exports_are : map Some exports ≡ map (export_with_index names) (plain_view p).exports
   pub texts : All (λ e. IsUtf8 e.name) exports
@@ -64,15 +79,17 @@ abbrev pub text_of : {p : Parts} {features : Features} → Records p features �
 text_of {p} {features} r = record empty_text {
   types = r.types;
   functions = r.functions;
+  tables = r.tables;
   memories = r.memories;
   tags = r.tags;
+  globals = r.globals;
   exports = r.exports;
   bodies = texts_in p r.names features (r.plan Functions) r.bodies r.bodies_are;
 }
 
 -- a module of these sections
-abbrev pub sections_with : List Group → List ℕ → List RawLimits → List ℕ → List entries.Export → List wire.Body → wire.Module
-sections_with types functions memories tags exports bodies = record wire.no_sections { types = types; functions = functions; memories = memories; tags = tags; exports = exports; bodies = bodies }
+abbrev pub sections_with : List Group → List ℕ → List entries.Table → List RawLimits → List ℕ → List entries.Global → List entries.Export → List wire.Body → wire.Module
+sections_with types functions tables memories tags globals exports bodies = record wire.no_sections { types = types; functions = functions; tables = tables; memories = memories; tags = tags; globals = globals; exports = exports; bodies = bodies }
 
 -- the bytes are those of the text, which fits
 pub record Spells (p : Parts) (features : Features) (bytes : List ℕ) : Type 0 where

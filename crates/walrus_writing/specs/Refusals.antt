@@ -1,5 +1,5 @@
 -- Why items that name nothing dead, and that all have an index, can't be written.
-use Rattle.std.specs.Prelude.{ℕ, List, Option, Some, length, ◌≡◌, ◌≤◌, ◌^◌, ◌⊎◌, ⊤, Result, Ok, Err}
+use Rattle.std.specs.Prelude.{ℕ, List, Option, Some, Contains, length, ◌≡◌, ◌≤◌, ◌^◌, ◌⊎◌, ⊤, Result, Ok, Err}
 use Rattle.walrus_base.specs.Arena.{items}
 use Rattle.walrus_types.specs.ModuleTypes.{type_slots}
 use Rattle.walrus_types.specs.Operators.{Space}
@@ -9,7 +9,12 @@ use Rattle.walrus_code.specs.declared.function.LocalFunction.{LocalFunction}
 use Rattle.walrus_bodies.specs.declared.features.Features.{Features}
 use Rattle.walrus_functions.specs.EmittedBody.{Source, CantBeWritten, HasTooManyLocals}
 use Rattle.walrus_groups.specs.Indexed.{HasExact}
+use Rattle.walrus_entities.specs.Globals.{GlobalValue, globals}
+use Rattle.walrus_entities.specs.Tables.{TableValue, tables}
+use Rattle.walrus_contents.specs.View.{global_of, table_of}
+use Rattle.walrus_writing.specs.Globals.{GlobalIsUnspelled}
 use Rattle.walrus_writing.specs.SoFar.{plain_view}
+use Rattle.walrus_writing.specs.Tables.{TableIsUnspelled}
 use Rattle.walrus_contents.specs.declared.parts.Parts.{Parts}
 use Rattle.walrus_model.specs.Plan.{IsPlan, Plan}
 use Rattle.walrus_writing.specs.Parts.{function_seen, source}
@@ -33,10 +38,17 @@ HasTooManyItems p = (plan : Plan) × (IsPlan (plain_view p) plan × HasTooMany p
 abbrev pub PassesLimits : Parts → Features → Type 0
 PassesLimits p features = HasTooManyItems p ⊎ (HasBody p features HasTooManyLocals ⊎ DoesNotFit p features)
 
+-- what no bytes spell: a body, an exact heap type in a type, a table, or a global
+pub data HasUnspellable (p : Parts) (features : Features) : Type 0 where
+  ABody : HasBody p features CantBeWritten → HasUnspellable p features
+  AType : HasExact (items (type_slots p.types.now)) → HasUnspellable p features
+  ATable : (t : TableValue) → Contains (items (tables p.tables.now)) t → TableIsUnspelled (table_of t) → HasUnspellable p features
+  AGlobal : (g : GlobalValue) → Contains (items (globals p.globals.now)) g → GlobalIsUnspelled (global_of g) → HasUnspellable p features
+
 -- items that name nothing dead and all have an index: each refusal comes with its cause
 abbrev pub RefusesItems : {X : Type 0} → Parts → Features → Result X Error → Type 0
 RefusesItems p features (Ok x) = ⊤
-RefusesItems p features (Err NotWritable) = HasBody p features CantBeWritten ⊎ HasExact (items (type_slots p.types.now))
+RefusesItems p features (Err NotWritable) = HasUnspellable p features
 RefusesItems p features (Err TooLarge) = PassesLimits p features
 RefusesItems p features (Err (Memory e)) = ⊤
 RefusesItems p features (Err _) = ⊥

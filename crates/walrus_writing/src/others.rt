@@ -1,26 +1,22 @@
-//! What a module can hold beside types, functions and exports, and what can't be written so far.
-ghost use Rattle.std.specs.Prelude.{◌≡◌, ℕ, None, true, false};
-ghost use Rattle.walrus_base.specs.Arena.{item_at};
+//! What can't be written so far: imports, and what they bring.
+ghost use Rattle.std.specs.Prelude.{◌≡◌, true, false};
 ghost use Rattle.walrus_contents.specs.View.{parts_view};
-ghost use Rattle.walrus_writing.specs.SoFar.{DefinesItems, DefinesMemories, DefinesTags, HasNoOthers, plain_view};
-ghost use Rattle.walrus_items.specs.Imports.{imports};
-ghost use Rattle.walrus_entities.specs.Tables.{tables};
-ghost use Rattle.walrus_entities.specs.Globals.{globals};
+ghost use Rattle.walrus_writing.specs.SoFar.{DefinesGlobals, DefinesItems, DefinesMemories, DefinesTables, DefinesTags, HasNoImports, plain_view};
 ghost use Rattle.walrus_rules.specs.SoFar.{HasUnwritten};
 
-use crate::plan::{are_memories_own, are_tags_own};
+use crate::plan::{are_globals_own, are_memories_own, are_tables_own, are_tags_own};
 use walrus_contents::Parts;
 
-/// Whether an import, a table, a global, or a memory or a tag that an import brings is there: none of these can be written so far.
+/// Whether an import, or a table, a memory, a tag or a global that an import brings is there: none of these can be written so far.
 pub fn has_others(parts: Parts<'_>) -> bool
     ensures there { result ≡ true → HasUnwritten (parts_view parts.entry) }
-    ensures none { result ≡ false → HasNoOthers parts.entry }
+    ensures none { result ≡ false → HasNoImports parts.entry }
     ensures own { result ≡ false → DefinesItems (plain_view parts.entry) }
 {
     if has_imports(parts) {
         return true;
     }
-    if has_tables(parts) {
+    if has_imported_tables(parts) {
         return true;
     }
     if has_imported_memories(parts) {
@@ -29,23 +25,23 @@ pub fn has_others(parts: Parts<'_>) -> bool
     if has_imported_tags(parts) {
         return true;
     }
-    has_globals(parts)
+    has_imported_globals(parts)
 }
 
 // An import is there.
 fn has_imports(parts: Parts<'_>) -> bool
     ensures there { result ≡ true → HasUnwritten (parts_view parts.entry) }
-    ensures none { result ≡ false → (i : ℕ) → item_at (imports parts.entry.imports.now) i ≡ None }
+    ensures none { result ≡ false → HasNoImports parts.entry }
 {
     !parts.imports.is_empty()
 }
 
-// A table is there.
-fn has_tables(parts: Parts<'_>) -> bool
+// A table is there that an import brings.
+fn has_imported_tables(parts: Parts<'_>) -> bool
     ensures there { result ≡ true → HasUnwritten (parts_view parts.entry) }
-    ensures none { result ≡ false → (i : ℕ) → item_at (tables parts.entry.tables.now) i ≡ None }
+    ensures own { result ≡ false → DefinesTables (plain_view parts.entry) }
 {
-    !parts.tables.is_empty()
+    !are_tables_own(parts.tables)
 }
 
 // A memory is there that an import brings.
@@ -64,10 +60,10 @@ fn has_imported_tags(parts: Parts<'_>) -> bool
     !are_tags_own(parts.tags)
 }
 
-// A global is there.
-fn has_globals(parts: Parts<'_>) -> bool
+// A global is there that an import brings.
+fn has_imported_globals(parts: Parts<'_>) -> bool
     ensures there { result ≡ true → HasUnwritten (parts_view parts.entry) }
-    ensures none { result ≡ false → (i : ℕ) → item_at (globals parts.entry.globals.now) i ≡ None }
+    ensures own { result ≡ false → DefinesGlobals (plain_view parts.entry) }
 {
-    !parts.globals.is_empty()
+    !are_globals_own(parts.globals)
 }

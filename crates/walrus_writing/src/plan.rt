@@ -37,10 +37,14 @@ pub struct Plan {
     pub types: Vec<TypeId>,
     /// The functions: those with a body, the larger ones first, and of two as large the one of the smaller id.
     pub functions: Vec<FunctionId>,
+    /// The tables, by rising id.
+    pub tables: Vec<TableId>,
     /// The memories, by rising id.
     pub memories: Vec<MemoryId>,
     /// The tags, by rising id.
     pub tags: Vec<TagId>,
+    /// The globals, by rising id.
+    pub globals: Vec<GlobalId>,
 }
 
 impl Plan {
@@ -50,10 +54,14 @@ impl Plan {
             ≡ map (λ e. e.0) (entries (type_slots parts.entry.types.now))) }
         ensures functions { IfOk result (λ plan. IsOrder (functions parts.entry.funcs.now)
             (map place plan.functions.items)) }
+        ensures tables { IfOk result (λ plan. map place plan.tables.items
+            ≡ map (λ e. e.0) (entries (tables parts.entry.tables.now))) }
         ensures memories { IfOk result (λ plan. map place plan.memories.items
             ≡ map (λ e. e.0) (entries (memories parts.entry.memories.now))) }
         ensures tags { IfOk result (λ plan. map place plan.tags.items
             ≡ map (λ e. e.0) (entries (tags parts.entry.tags.now))) }
+        ensures globals { IfOk result (λ plan. map place plan.globals.items
+            ≡ map (λ e. e.0) (entries (globals parts.entry.globals.now))) }
         ensures plan { IfOk result (λ plan. all_local (items (functions parts.entry.funcs.now)) ≡ true
             → DefinesItems (plain_view parts.entry)
             → IsPlan (plain_view parts.entry) (places plan)) }
@@ -62,8 +70,10 @@ impl Plan {
         Ok(Plan {
             types: types_in_order(alloc, parts.types)?,
             functions: functions_by_size(alloc, parts.funcs)?,
+            tables: tables_in_order(alloc, parts.tables)?,
             memories: memories_in_order(alloc, parts.memories)?,
             tags: tags_in_order(alloc, parts.tags)?,
+            globals: globals_in_order(alloc, parts.globals)?,
         })
     }
 
@@ -78,8 +88,10 @@ impl Plan {
         let mut indices = IdsToIndices::new(alloc);
         number_types(&mut indices, self.types.as_slice())?;
         number_functions(&mut indices, self.functions.as_slice())?;
+        number_tables(&mut indices, self.tables.as_slice())?;
         number_memories(&mut indices, self.memories.as_slice())?;
         number_tags(&mut indices, self.tags.as_slice())?;
+        number_globals(&mut indices, self.globals.as_slice())?;
         Ok(indices)
     }
 }
@@ -159,7 +171,7 @@ pub fn are_tags_own(all: &ModuleTags) -> bool
     true
 }
 
-fn is_global_own(kind: &GlobalKind) -> bool
+pub fn is_global_own(kind: &GlobalKind) -> bool
     ensures { result ≡ is_own (global_import kind.now) }
 {
     match kind {
@@ -271,7 +283,7 @@ fn tags_in_order(alloc: Global, all: &ModuleTags) -> Result<Vec<TagId>>
 }
 
 // The globals, by rising id.
-pub fn globals_in_order(alloc: Global, all: &ModuleGlobals) -> Result<Vec<GlobalId>>
+fn globals_in_order(alloc: Global, all: &ModuleGlobals) -> Result<Vec<GlobalId>>
     ensures value { IfOk result (λ ids. map place ids.items
         ≡ map (λ e. e.0) (entries (globals all.now))) }
     ensures fails { IsOkUnless result out_of_memory }
@@ -374,7 +386,7 @@ fn number_tags(indices: &mut IdsToIndices, order: &[TagId]) -> Result<()>
 }
 
 // Gives each of these globals its index.
-pub fn number_globals(indices: &mut IdsToIndices, order: &[GlobalId]) -> Result<()>
+fn number_globals(indices: &mut IdsToIndices, order: &[GlobalId]) -> Result<()>
     requires distinct { IsDistinct nat_eq (map place order.now) }
     requires none { (number : ℕ) → index_of indices.old Globals number ≡ None }
     requires count { given indices.old Globals ≡ 0 }

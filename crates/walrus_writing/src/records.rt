@@ -13,7 +13,7 @@ ghost use Rattle.walrus_entities.specs.Tags.{tags, tag_value};
 ghost use Rattle.walrus_contents.specs.View.{export_of, memory_of, tag_of};
 ghost use Rattle.walrus_writing.specs.SoFar.{plain_view};
 ghost use Rattle.walrus_parts.specs.Errors.{out_of_memory};
-ghost use Rattle.wasm_entries.specs.Record.{group, export_entry};
+ghost use Rattle.wasm_entries.specs.Record.{group, export_entry, global_entry, table_entry};
 ghost use Rattle.wasm_entries.specs.TypeSpelling.{IsBelow, LimitsStand};
 ghost use Rattle.wasm_frames.specs.Record.{body_record, sections};
 ghost use Rattle.walrus_writing.specs.Parts.{index_at, kind_in, type_index, memory_limits, tag_index, export_with_index, unplaced};
@@ -28,7 +28,9 @@ use walrus_groups::index_types;
 use walrus_ir::{FunctionId, IdsToIndices, ModuleTypes};
 use walrus_items::{Export, ExportItem, ModuleExports, ModuleFunctions};
 use walrus_parts::{Error, Result};
-use wasm_wire::{Raw, RawBody, RawExport, RawExportKind, RawGroup, RawLimits};
+use wasm_wire::{
+    Raw, RawBody, RawExport, RawExportKind, RawGlobal, RawGroup, RawLimits, RawTable,
+};
 
 // The groups of the type section.
 pub fn raw_types(
@@ -248,23 +250,26 @@ pub fn raw_module<'a>(
     alloc: Global,
     types: Vec<RawGroup>,
     functions: Vec<u32>,
+    tables: Vec<RawTable>,
     memories: Vec<RawLimits>,
     tags: Vec<u32>,
+    globals: Vec<RawGlobal>,
     exports: Vec<RawExport<'a>>,
     bodies: Vec<RawBody<'a>>,
 ) -> Raw<'a>
-    ensures { sections result ≡ sections_with (map group types.items) functions.items memories.items
-        tags.items (map export_entry exports.entry.items) (map body_record bodies.entry.items) }
+    ensures { sections result ≡ sections_with (map group types.items) functions.items
+        (map table_entry tables.items) memories.items tags.items (map global_entry globals.items)
+        (map export_entry exports.entry.items) (map body_record bodies.entry.items) }
 {
     Raw {
         order: Vec::new(alloc),
         types,
         imports: Vec::new(alloc),
         functions,
-        tables: Vec::new(alloc),
+        tables,
         memories,
         tags,
-        globals: Vec::new(alloc),
+        globals,
         exports,
         start: None,
         elements: Vec::new(alloc),

@@ -11,15 +11,19 @@ ghost use Rattle.walrus_rules.specs.SoFar.{RefusesSoFar};
 ghost use Rattle.walrus_contents.specs.View.{parts_view};
 ghost use Rattle.walrus_writing.specs.SoFar.{DefinesItems, plain_view};
 ghost use Rattle.walrus_writing.specs.Emitted.{IsEmitted, IsPlain, told};
+ghost use Rattle.walrus_writing.specs.Reads.{ReadsInOrder};
 ghost use Rattle.walrus_writing.specs.Records.{Spells};
 ghost use Rattle.walrus_writing.specs.Refusals.{RefusesItems};
 
 use crate::bodies::{Indexed, body_bytes};
+use crate::globals::raw_globals;
 use crate::others::has_others;
 use crate::plan::{Plan, are_all_local};
+use crate::reads::are_reads_in_order;
 use crate::records::{
     raw_bodies, raw_exports, raw_functions, raw_memories, raw_module, raw_tags, raw_types,
 };
+use crate::tables::raw_tables;
 use std::alloc::Global;
 use walrus_contents::{Parts, are_references_declared, check_live};
 use walrus_groups::are_in_order;
@@ -32,10 +36,10 @@ use wasm_wire::written_module;
 /// # Errors
 ///
 /// `DeadItem` exactly where something that isn't there is named, or a function has neither an import nor a body. Behind that, each with
-/// a cause of its own: `NoIndex` where an import, a table, a global, or a function, a memory or a tag that an import brings is there,
-/// which can't be written so far, or a type names one of a later group or a later supertype; `NotWritable` where a body isn't well
-/// formed, an exact heap type is written, or `ref.func` names a function that isn't exported; `TooLarge` where a count or a size passes
-/// 32 bits; and `Memory`.
+/// a cause of its own: `NoIndex` where an import, or an item that an import brings is there, which can't be written so far, the initialiser
+/// of a table reads a global of the module, that of a global itself or a later one, or a type names one of a later group or a later
+/// supertype; `NotWritable` where a body isn't well formed, an exact heap type is written, an initialiser has no operator, or `ref.func`
+/// names a function that isn't exported; `TooLarge` where a count or a size passes 32 bits; and `Memory`.
 pub fn write_parts(alloc: Global, parts: Parts<'_>, features: &Features) -> Result<Vec<u8>>
     ensures written { (c : Config) → IsPlain c features.now
         → IfOk result (λ bytes. IsEmitted c (parts_view parts.entry) bytes.items) }
@@ -52,6 +56,9 @@ pub fn write_parts(alloc: Global, parts: Parts<'_>, features: &Features) -> Resu
     if !are_all_local(parts.funcs) {
         return Err(Error::NoIndex);
     }
+    if !are_reads_in_order(alloc, parts)? {
+        return Err(Error::NoIndex);
+    }
     if !are_in_order(parts.types) {
         return Err(Error::NoIndex);
     }
@@ -63,6 +70,7 @@ fn write_items(alloc: Global, parts: Parts<'_>, features: &Features) -> Result<V
     requires there { HasDead (plain_view parts) → ⊥ }
     requires local { all_local (items (functions parts.funcs.now)) ≡ true }
     requires own { DefinesItems (plain_view parts) }
+    requires reads { ReadsInOrder (plain_view parts) }
     requires in_order { AreInOrder (type_slots parts.types.now) }
     ensures spells { IfOk result (λ bytes. Spells parts.entry features.now bytes.items) }
     ensures refused { RefusesItems parts.entry features.now result }
@@ -79,10 +87,14 @@ fn write_items(alloc: Global, parts: Parts<'_>, features: &Features) -> Result<V
     };
     let bodies = body_bytes(alloc, under, order)?;
     let code = raw_bodies(alloc, bodies.as_slice())?;
+    let tables = raw_tables(alloc, parts.tables, &indices)?;
     let memories = raw_memories(alloc, parts.memories)?;
     let tags = raw_tags(alloc, parts.tags, &indices)?;
+    let globals = raw_globals(alloc, parts.globals, &indices)?;
     let exports = raw_exports(alloc, parts.exports, &indices)?;
-    let raw = raw_module(alloc, types, functions, memories, tags, exports, code);
+    let raw = raw_module(
+        alloc, types, functions, tables, memories, tags, globals, exports, code,
+    );
     let bytes = written_module(alloc, &raw)?;
     Ok(bytes)
 }

@@ -13,19 +13,19 @@ use Rattle.walrus_entities.specs.Globals.{GlobalValue, globals, globals_left}
 use Rattle.walrus_model.specs.Sections as said
 use Rattle.walrus_writing.specs.Globals.{IsSpelledGlobal}
 use Rattle.walrus_writing.specs.Local.{globals_own}
-use Rattle.walrus_writing.proofs.GlobalsLeft.{all_left, among_behind, first_among, first_own, one_refused, own_import, spelled_behind}
+use Rattle.walrus_writing.proofs.ItemsLeft.{all_left, among_behind, first_among, first_own, global_refused, own_import, spelled_behind}
 use Rattle.walrus_writing.proofs.Refusing.{next_has}
 use Rattle.walrus_writing.proofs.Turns.{list_turn}
 use Rattle.walrus_writing.proofs.globals.raw_globals.Goals as goal
 
 pub raw_global-requires : goal.raw_global-requires
-raw_global-requires c = record { own = own_import _ (first_own _ _ _ (items (globals c.args.all.now)) c.in-Some.ensures.steps c.loop-global.invariant.2).0 }
+raw_global-requires c = record { own = own_import _ (first_own _ _ _ (items (globals c.args.all.now)) c.in-Some.ensures.steps (λ g. g.imported_by) c.loop-global.invariant.2).0 }
 
 pub returns-in_err-one-clause-fails : goal.returns-in_err-one-clause-fails
 returns-in_err-one-clause-fails c =
     let all = map (λ g. named_global (index_of c.args.indices.now) (global_of g)) (items (globals c.args.all.now)) in
     let p = err_from_is_err_and c.from_residual-in_err-one.result c.from_residual-in_err-one.ensures.1 in
-    rw (p.1, p.2) (one_refused (index_of c.args.indices.now) _ (items (globals c.args.all.now)) _ (first_among _ _ _ _ c.in-Some.ensures.steps c.loop-global.invariant.5)
+    rw (p.1, p.2) (global_refused (index_of c.args.indices.now) _ (items (globals c.args.all.now)) _ (first_among _ _ _ _ c.in-Some.ensures.steps c.loop-global.invariant.5)
     (next_has (map (λ g. Some (said.global_of (global_entry g))) c.loop-global.raw.items) (λ g. named_global (index_of c.args.indices.now) (global_of g)) _ _ _ all c.loop-global.invariant.6 c.in-Some.ensures.steps c.requires.indexed)
     c.in_err-one.ensures)
 
@@ -35,9 +35,9 @@ loop-global-preserved c =
     let all = map (λ g. named_global (index_of c.args.indices.now) (global_of g)) every in (
       tt,
       tt,
-      (first_own _ _ _ every c.in-Some.ensures.steps c.loop-global.invariant.2).1,
+      (first_own _ _ _ every c.in-Some.ensures.steps (λ g. g.imported_by) c.loop-global.invariant.2).1,
       rw (c.in_ok-push.ensures.items) (All-push (λ (g : RawGlobal). GlobalStands (global_entry g)) c.loop-global.raw.items c.in_ok-one.one c.loop-global.invariant.3 c.in_ok-one.ensures.1),
-      spelled_behind _ _ _ every c.in-Some.ensures.steps c.in_ok-one.ensures.2 c.loop-global.invariant.4,
+      spelled_behind _ _ _ every c.in-Some.ensures.steps IsSpelledGlobal c.in_ok-one.ensures.2 c.loop-global.invariant.4,
       among_behind _ _ _ every c.in-Some.ensures.steps c.loop-global.invariant.5,
       ap (λ (raw : List RawGlobal). map (λ g. Some (said.global_of (global_entry g))) raw ++ map (λ g. named_global (index_of c.args.indices.now) (global_of g)) (globals_left c.next.new.self)) c.in_ok-push.ensures.items
           ∙ list_turn (λ (g : RawGlobal). Some (said.global_of (global_entry g))) (λ g. named_global (index_of c.args.indices.now) (global_of g)) c.loop-global.raw.items c.in_ok-one.one _ _ _ all c.loop-global.invariant.6 c.in-Some.ensures.steps (sym c.in_ok-one.ensures.0),
@@ -57,4 +57,4 @@ loop-global-init c =
     )
 
 pub returns-clause-spelled : goal.returns-clause-spelled
-returns-clause-spelled c = all_left (globals_left c.loop-global.global-iterator) (items (globals c.args.all.now)) c.in-None.ensures.steps.0 c.loop-global.invariant.4
+returns-clause-spelled c = all_left IsSpelledGlobal (globals_left c.loop-global.global-iterator) (items (globals c.args.all.now)) c.in-None.ensures.steps.0 c.loop-global.invariant.4

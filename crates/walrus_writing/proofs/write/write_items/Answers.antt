@@ -10,8 +10,9 @@ use Rattle.walrus_code.specs.Indices.{index_of}
 use Rattle.walrus_writing.specs.SoFar.{plain_view}
 use Rattle.walrus_writing.specs.Parts.{type_index, HasBytes, unplaced}
 use Rattle.walrus_writing.specs.Places.{places}
-use Rattle.walrus_writing.proofs.Indexed.{ids_indexed, ids_typed, no_type_lacks, exports_indexed, tags_indexed}
-use Rattle.walrus_writing.proofs.Refusing.{counts_refused, types_refused, bodies_refused, records_written, records_refused}
+use Rattle.walrus_writing.proofs.Indexed.{ids_indexed, ids_typed, no_type_lacks, exports_indexed, globals_indexed, tables_indexed, tags_indexed}
+use Rattle.walrus_writing.proofs.OwnItems.{globals_all_own, tables_all_own}
+use Rattle.walrus_writing.proofs.Refusing.{counts_refused, types_refused, bodies_refused, globals_refused, tables_refused, records_written, records_refused}
 use Rattle.walrus_writing.proofs.write.write_items.Goals as goal
 
 pub indices-requires : goal.indices-requires
@@ -38,6 +39,30 @@ raw_functions-requires c = record {
   indexed = ids_typed c.args.parts (index_of c.in_ok-indices.indices) (places c.in_ok-plan.plan) c.in_ok-plan.plan.functions.items _ c.requires.there c.requires.local (c.in_ok-plan.ensures.plan c.requires.local c.requires.own) c.in_ok-indices.ensures.value refl c.as_slice-order.ensures.value;
 }
 
+pub raw_tables-requires-clause-own : goal.raw_tables-requires-clause-own
+raw_tables-requires-clause-own c = tables_all_own c.args.parts c.requires.own.tables
+
+pub raw_tables-requires-clause-indexed : goal.raw_tables-requires-clause-indexed
+raw_tables-requires-clause-indexed c =
+    tables_indexed c.args.parts c.requires.there c.requires.local (index_of c.in_ok-indices.indices) (places c.in_ok-plan.plan) (c.in_ok-plan.ensures.plan c.requires.local c.requires.own) c.in_ok-indices.ensures.value
+
+pub returns-in_err-tables-clause-refused : goal.returns-in_err-tables-clause-refused
+returns-in_err-tables-clause-refused c =
+    let p = err_from_is_err_and c.from_residual-in_err-tables.result c.from_residual-in_err-tables.ensures.1 in
+    rw (p.1, p.2) (tables_refused c.args.parts c.args.features.now (Vec ℕ) _ c.in_err-tables.ensures.fails)
+
+pub raw_globals-requires-clause-own : goal.raw_globals-requires-clause-own
+raw_globals-requires-clause-own c = globals_all_own c.args.parts c.requires.own.globals
+
+pub raw_globals-requires-clause-indexed : goal.raw_globals-requires-clause-indexed
+raw_globals-requires-clause-indexed c =
+    globals_indexed c.args.parts c.requires.there c.requires.local (index_of c.in_ok-indices.indices) (places c.in_ok-plan.plan) (c.in_ok-plan.ensures.plan c.requires.local c.requires.own) c.in_ok-indices.ensures.value
+
+pub returns-in_err-globals-clause-refused : goal.returns-in_err-globals-clause-refused
+returns-in_err-globals-clause-refused c =
+    let p = err_from_is_err_and c.from_residual-in_err-globals.result c.from_residual-in_err-globals.ensures.1 in
+    rw (p.1, p.2) (globals_refused c.args.parts c.args.features.now (Vec ℕ) _ c.in_err-globals.ensures.fails)
+
 pub raw_tags-requires : goal.raw_tags-requires
 raw_tags-requires c = record {
   indexed = tags_indexed c.args.parts c.requires.there c.requires.local (index_of c.in_ok-indices.indices) (places c.in_ok-plan.plan) (c.in_ok-plan.ensures.plan c.requires.local c.requires.own) c.in_ok-indices.ensures.value;
@@ -62,10 +87,12 @@ pub returns-in_err-bytes-clause-refused : goal.returns-in_err-bytes-clause-refus
 returns-in_err-bytes-clause-refused c =
     let names = index_of c.in_ok-indices.indices in
     let p = err_from_is_err_and c.from_residual-in_err-bytes.result c.from_residual-in_err-bytes.ensures.1 in
-    rw (p.1, p.2) (records_refused c.args.parts c.args.features.now names c.in_ok-plan.plan c.in_ok-types.types.items c.in_ok-functions.functions.items c.in_ok-memories.memories.items c.in_ok-tags.tags.items c.in_ok-exports.exports.items c.in_ok-bodies.bodies.items
+    rw (p.1, p.2) (records_refused c.args.parts c.args.features.now names c.in_ok-plan.plan c.in_ok-types.types.items c.in_ok-functions.functions.items c.in_ok-tables.tables.items c.in_ok-memories.memories.items c.in_ok-tags.tags.items c.in_ok-globals.globals.items c.in_ok-exports.exports.items c.in_ok-bodies.bodies.items
     (c.in_ok-plan.ensures.plan c.requires.local c.requires.own) c.in_ok-indices.ensures.value c.in_ok-indices.ensures.few c.in_ok-plan.ensures.types c.in_ok-types.ensures.value
     (c.in_ok-functions.ensures.value ∙ ap (map (λ id. option_and_then (type_index names) ((plain_view c.args.parts).functions (place id)))) c.as_slice-order.ensures.value)
-    c.requires.own c.in_ok-plan.ensures.memories c.in_ok-memories.ensures.value c.in_ok-memories.ensures.stand c.in_ok-plan.ensures.tags c.in_ok-tags.ensures.value
+    c.requires.own c.requires.reads c.in_ok-plan.ensures.tables c.in_ok-tables.ensures.value c.in_ok-tables.ensures.stand c.in_ok-tables.ensures.spelled
+    c.in_ok-plan.ensures.memories c.in_ok-memories.ensures.value c.in_ok-memories.ensures.stand c.in_ok-plan.ensures.tags c.in_ok-tags.ensures.value
+    c.in_ok-plan.ensures.globals c.in_ok-globals.ensures.value c.in_ok-globals.ensures.stand c.in_ok-globals.ensures.spelled
     c.in_ok-exports.ensures.value c.in_ok-exports.ensures.text
     (subst (λ ids. AllZip (λ id bytes. HasBytes c.args.parts names c.args.features.now (place id) bytes.items) ids c.in_ok-bodies.bodies.items) c.as_slice-order.ensures.value c.in_ok-bodies.ensures.value)
     _ _ c.raw_module-raw.ensures (c.in_ok-code.ensures.value ∙ ap (map (λ (v : Vec ℕ). unplaced v.items)) c.as_slice.ensures.value) (Vec ℕ) _ c.in_err-bytes.ensures)
@@ -73,10 +100,12 @@ returns-in_err-bytes-clause-refused c =
 pub returns-clause-spells : goal.returns-clause-spells
 returns-clause-spells c =
     let names = index_of c.in_ok-indices.indices in
-    records_written c.args.parts c.args.features.now names c.in_ok-plan.plan c.in_ok-types.types.items c.in_ok-functions.functions.items c.in_ok-memories.memories.items c.in_ok-tags.tags.items c.in_ok-exports.exports.items c.in_ok-bodies.bodies.items
+    records_written c.args.parts c.args.features.now names c.in_ok-plan.plan c.in_ok-types.types.items c.in_ok-functions.functions.items c.in_ok-tables.tables.items c.in_ok-memories.memories.items c.in_ok-tags.tags.items c.in_ok-globals.globals.items c.in_ok-exports.exports.items c.in_ok-bodies.bodies.items
     (c.in_ok-plan.ensures.plan c.requires.local c.requires.own) c.in_ok-indices.ensures.value c.in_ok-indices.ensures.few c.in_ok-plan.ensures.types c.in_ok-types.ensures.value
     (c.in_ok-functions.ensures.value ∙ ap (map (λ id. option_and_then (type_index names) ((plain_view c.args.parts).functions (place id)))) c.as_slice-order.ensures.value)
-    c.requires.own c.in_ok-plan.ensures.memories c.in_ok-memories.ensures.value c.in_ok-memories.ensures.stand c.in_ok-plan.ensures.tags c.in_ok-tags.ensures.value
+    c.requires.own c.requires.reads c.in_ok-plan.ensures.tables c.in_ok-tables.ensures.value c.in_ok-tables.ensures.stand c.in_ok-tables.ensures.spelled
+    c.in_ok-plan.ensures.memories c.in_ok-memories.ensures.value c.in_ok-memories.ensures.stand c.in_ok-plan.ensures.tags c.in_ok-tags.ensures.value
+    c.in_ok-plan.ensures.globals c.in_ok-globals.ensures.value c.in_ok-globals.ensures.stand c.in_ok-globals.ensures.spelled
     c.in_ok-exports.ensures.value c.in_ok-exports.ensures.text
     (subst (λ ids. AllZip (λ id bytes. HasBytes c.args.parts names c.args.features.now (place id) bytes.items) ids c.in_ok-bodies.bodies.items) c.as_slice-order.ensures.value c.in_ok-bodies.ensures.value)
     _ _ c.raw_module-raw.ensures (c.in_ok-code.ensures.value ∙ ap (map (λ (v : Vec ℕ). unplaced v.items)) c.as_slice.ensures.value) c.in_ok-bytes.bytes.items c.in_ok-bytes.ensures.0 c.in_ok-bytes.ensures.1

@@ -13,6 +13,7 @@ use Rattle.walrus_model.specs.Declared.{NothingUndeclared}
 use Rattle.walrus_rules.specs.Refused.{LacksIndex}
 use Rattle.walrus_rules.specs.SoFar.{HasUnwritten, RefusesSoFar}
 use Rattle.walrus_writing.specs.Emitted.{IsEmitted, told}
+use Rattle.walrus_writing.specs.Reads.{ReadsInOrder}
 use Rattle.walrus_writing.proofs.Emitting.{emitted_ok, unfit, small}
 use Rattle.walrus_writing.proofs.PlainParts.{plainly}
 use Rattle.walrus_writing.proofs.RefusesAll.{dead_refused, items_refused}
@@ -34,6 +35,9 @@ returns-then-not-are_all_local-clause-refused c =
     let same : parts_view p ≡ plain_view p = plainly p (c.has_others.ensures.none c.if-has_others.false) in
     inr (subst HasUnwritten (sym same) (imported p (subst (λ (v : Abstract). HasDead v → ⊥) same c.in_ok-check_live.ensures) (sym c.are_all_local.ensures ∙ c.if-not-are_all_local.true)))
 
+pub returns-then-not-branch-2-clause-refused : goal.returns-then-not-branch-2-clause-refused
+returns-then-not-branch-2-clause-refused c = λ config plain. inl (c.in_ok-are_reads_in_order.ensures.lacks c.if-not-branch-2.true)
+
 pub returns-then-not-are_in_order-clause-refused : goal.returns-then-not-are_in_order-clause-refused
 returns-then-not-are_in_order-clause-refused c =
     λ config plain.
@@ -48,6 +52,10 @@ write_items-requires-clause-there c =
 
 pub write_items-requires-clause-own : goal.write_items-requires-clause-own
 write_items-requires-clause-own c = c.has_others.ensures.own c.if-has_others.false
+
+pub write_items-requires-clause-reads : goal.write_items-requires-clause-reads
+write_items-requires-clause-reads c =
+    subst ReadsInOrder (plainly c.args.parts (c.has_others.ensures.none c.if-has_others.false)) (c.in_ok-are_reads_in_order.ensures.in_order c.if-not-branch-2.false)
 
 pub returns-clause-written : goal.returns-clause-written
 returns-clause-written c =
@@ -67,7 +75,8 @@ returns-clause-refused c =
     let lives = subst (λ (v : Abstract). HasDead v → ⊥) same c.in_ok-check_live.ensures in
     let declared = subst NothingUndeclared same (c.in_ok-are_references_declared.ensures.declared c.if-not-branch.false) in
     subst (λ (v : Abstract). RefusesSoFar config v (told c.write_items.result)) (sym same)
-    (items_refused config p lives declared (sym c.are_all_local.ensures ∙ c.if-not-are_all_local.false) (c.has_others.ensures.own c.if-has_others.false) (c.are_in_order.ensures.in_order.0 c.if-not-are_in_order.false) c.args.features.now plain
+    (items_refused config p lives declared (sym c.are_all_local.ensures ∙ c.if-not-are_all_local.false) (c.has_others.ensures.own c.if-has_others.false)
+    (subst ReadsInOrder same (c.in_ok-are_reads_in_order.ensures.in_order c.if-not-branch-2.false)) (c.are_in_order.ensures.in_order.0 c.if-not-are_in_order.false) c.args.features.now plain
     (λ (bytes : Vec ℕ). bytes.items) c.write_items.result
     (unfit config c.args.features.now plain p lives declared, small config c.args.features.now plain p lives declared)
     c.write_items.ensures.spells c.write_items.ensures.refused)
