@@ -10,4 +10,3 @@ pub mod TypeLists
 pub mod Named
 pub mod NamedFound
 pub mod ConstNames
-pub mod Plain

@@ -175,41 +175,6 @@ pub record HoldsNoOthers (c : Contents) : Type 0 where
   pub tags : tags c.tags ≡ []
   pub globals : globals c.globals ≡ []
 
--- no import, table, memory, tag or global is there
-pub record HasNoOthers (c : Contents) : Type 0 where
-  pub imports : (i : ℕ) → item_at (imports c.imports) i ≡ None
-  pub tables : (i : ℕ) → item_at (tables c.tables) i ≡ None
-  pub memories : (i : ℕ) → item_at (memories c.memories) i ≡ None
-  pub tags : (i : ℕ) → item_at (tags c.tags) i ≡ None
-  pub globals : (i : ℕ) → item_at (globals c.globals) i ≡ None
-
--- the module of these types, locals, functions, exports and producers alone
-abbrev pub view_of : ModuleTypes → ModuleLocals → ModuleFunctions → ModuleExports → ModuleProducers → abstract.Abstract
-view_of types all funcs es made = record {
-  types = types_of types;
-  imports = λ i. None;
-  functions = functions_of all funcs;
-  tables = λ i. None;
-  memories = λ i. None;
-  tags = λ i. None;
-  globals = λ i. None;
-  elements = λ i. None;
-  data_segments = λ i. None;
-  exports = exports_of es;
-  start = None;
-  customs = [];
-  producers = producers made;
-  named = λ x. [];
-  table_segments = λ t e. false;
-  memory_segments = λ y d. false;
-  handler_types = λ f. handlers_at (item_at (functions funcs) f);
-  section_roots = [];
-}
-
--- what the parts are beside imports, tables, memories, tags and globals
-abbrev pub plain_view : Parts → abstract.Abstract
-plain_view p = view_of p.types.now p.locals.now p.funcs.now p.exports.now p.producers.now
-
 -- they hold nothing, dropped items included
 pub record HoldsNothing (c : Contents) : Type 0 where
   pub types : type_slots c.types ≡ []

@@ -1,5 +1,5 @@
 -- Types put through a look-up: what they name is put through it, and nothing else changes.
-use Rattle.std.proofs.Common.{inl, inr, ◌≡◌, ◌⊎◌, ℕ, suc, Bool, true, false, List, [], ◌∷◌, ◌++◌, length, map, refl, sym, ap, ap₂, subst, ◌∙◌, Some, None}
+use Rattle.std.proofs.Common.{inl, inr, ◌≡◌, ◌⊎◌, ℕ, suc, Bool, true, false, List, [], ◌∷◌, ◌++◌, map, refl, sym, ap, ap₂, subst, ◌∙◌, Some, None}
 use Rattle.std.specs.Prelude.{◌≢◌, Option, Contains, flat_map, nat_eq, option_map, if◌then◌else◌}
 use Rattle.std.proofs.lemmas.Bool.{ne_eqb}
 use Rattle.std.proofs.lemmas.Bool.Decides.{eqb_tells}
@@ -40,9 +40,6 @@ each_holds find P none more (x ∷ xs) ys e =
 pub each_map : {X Y Z : Type 0} (find : X → Option Y) (p : Y → Z) (q : X → Z) → ((x : X) (y : Y) → find x ≡ Some y → p y ≡ q x) → (xs : List X) (ys : List Y) → each find xs ≡ Some ys → map p ys ≡ map q xs
 each_map find p q h xs ys e =
     each_holds find (λ xs ys. map p ys ≡ map q xs) refl (λ x y xs ys at rest before. ap₂ (λ z zs. z ∷ zs) (h x y at) before) xs ys e
-
-pub each_long : {X Y : Type 0} (find : X → Option Y) (xs : List X) (ys : List Y) → each find xs ≡ Some ys → length ys ≡ length xs
-each_long find xs ys e = each_holds find (λ xs ys. length ys ≡ length xs) refl (λ x y xs ys at rest before. ap suc before) xs ys e
 
 -- what was found was found for one of them
 abbrev pub FoundFor : {X Y : Type 0} → (X → Option Y) → List X → Y → Type 0

@@ -1,5 +1,5 @@
 -- Items get their indices one after another, and one space after another.
-use Rattle.std.proofs.Common.{inl, inr, ◌≡◌, ℕ, ◌+◌, Bool, true, false, List, [], ◌∷◌, ◌++◌, length, map, take, ◌<◌, refl, sym, ap, ◌∙◌, subst, arith, Some, None, length-append}
+use Rattle.std.proofs.Common.{inl, inr, ◌≡◌, ℕ, ◌+◌, Bool, true, false, List, [], ◌∷◌, ◌++◌, length, map, take, ◌<◌, sym, ap, ◌∙◌, subst, arith, Some, None, length-append}
 use Rattle.std.specs.Prelude.{slice_index_or, ◌≢◌, ◌⊎◌, ◌==◌, nat_eq, if◌then◌else◌}
 use Rattle.std.proofs.lemmas.Bool.Decides.{eqb_tells}
 use Rattle.std.specs.List.{IsDistinct}
@@ -37,9 +37,6 @@ numbers_next space old now new done p h none g = record {
   };
   others = λ other apart. same_then old now new other (h.others other apart) (g.others other apart);
 }
-
-pub numbers_begin : (space : Space) (now : IdsToIndices) → ((n : ℕ) → index_of now space n ≡ None) → given now space ≡ 0 → NumbersSpace space now now []
-numbers_begin space now none count = record { numbered = record { count = count; are = none }; others = λ other apart. (refl, λ n. refl) }
 
 -- ---- space by space
 

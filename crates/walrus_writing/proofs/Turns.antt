@@ -1,5 +1,5 @@
 -- One turn of a loop that puts things behind others.
-use Rattle.std.proofs.Common.{◌≡◌, ℕ, zero, suc, ◌+◌, ◌<◌, ◌≤◌, Bool, List, [], ◌∷◌, ◌++◌, map, take, length, length-append, append_assoc, refl, sym, ap, ◌∙◌, subst, arith}
+use Rattle.std.proofs.Common.{◌≡◌, ℕ, zero, suc, ◌+◌, ◌<◌, Bool, List, [], ◌∷◌, ◌++◌, map, take, length, append_assoc, refl, sym, ap, ◌∙◌, subst, arith}
 use Rattle.std.specs.Prelude.{slice_index_or}
 use Rattle.std.specs.List.{AllZip}
 use Rattle.std.specs.List.Sorted.{IsSortedBy}
@@ -45,17 +45,6 @@ zip_snoc R (a ∷ xs) (b ∷ ys) x y h r = (h.0, zip_snoc R xs ys x y h.1 r)
 
 pub zip_turn : {A B : Type 0} (R : A → B → Type 0) (xs : List A) (i : ℕ) (d : A) (ys : List B) (y : B) → i < length xs → AllZip R (take i xs) ys → R (slice_index_or xs i d) y → AllZip R (take (i + 1) xs) (ys ++ y ∷ [])
 zip_turn R xs i d ys y h zip r = subst (λ l. AllZip R l (ys ++ y ∷ [])) (sym (one_more xs i d h)) (zip_snoc R (take i xs) ys (slice_index_or xs i d) y zip r)
-
--- places that are done, one, and those to come
-pub places_turn : {A : Type 0} (done : List ℕ) (left after : List (ℕ × A)) (e : ℕ × A) (all : List ℕ) (p : ℕ)
-    → done ++ map (λ e. e.0) left ≡ all → left ≡ e ∷ after → p ≡ e.0 → done ++ p ∷ map (λ e. e.0) after ≡ all
-places_turn {A} done left after e all p h step same =
-    ap (λ (q : ℕ). done ++ q ∷ map (λ (e : ℕ × A). e.0) after) same ∙ ap (λ (l : List (ℕ × A)). done ++ map (λ (e : ℕ × A). e.0) l) (sym step) ∙ h
-
-pub room_left : (done : List ℕ) (p : ℕ) (rest all : List ℕ) (n : ℕ) → done ++ p ∷ rest ≡ all → length all ≡ n → n ≤ 4294967295 → length done < 4294967296
-room_left done p rest all n h count most =
-    let long : length done + suc (length rest) ≡ n = sym (length-append done (p ∷ rest)) ∙ ap (λ (l : List ℕ). length l) h ∙ count in
-    omega (arith, long)
 
 -- sorted, and seen by f
 seen_at : {A B : Type 0} (f : A → B) (xs : List A) (k : ℕ) (d : A) (e : B) → k < length xs → slice_index_or (map f xs) k e ≡ f (slice_index_or xs k d)
