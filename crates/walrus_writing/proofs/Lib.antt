@@ -7,6 +7,10 @@ pub mod Entries
 pub mod FunctionsWritten
 pub mod GlobalRecords
 pub mod GlobalsLeft
+pub mod ImportedAlong
+pub mod ImportedEntries
+pub mod ImportedThings
+pub mod ImportsStand
 pub mod Indexed
 pub mod NamedAll
 pub mod NamedTypes
@@ -14,6 +18,8 @@ pub mod NoCauseAll
 pub mod NoCauseBodies
 pub mod NoCauseHeaps
 pub mod Numbering
+pub mod OrderByImport
+pub mod OrdersSpaces
 pub mod OwnItems
 pub mod OwnRise
 pub mod Placing
@@ -29,6 +35,7 @@ pub mod Renamed
 pub mod Rows
 pub mod SameBodies
 pub mod Sections
+pub mod Sole
 pub mod Somes
 pub mod SpellsLemmas
 pub mod TextStands
