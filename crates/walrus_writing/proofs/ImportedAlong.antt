@@ -138,8 +138,11 @@ module _ (names : Lookup) (r : Renaming) (agrees : AgreesWith r names) (v : Abst
         is = e.is;
         thing = b.thing;
         brings = b.brings;
-        stands = (e.entry.thing, e.entry.is,
-          thing_same names r agrees k p index e.value.item.0 e.value.item.1 e.entry.thing b.thing (says_import v e.value.item.0 e.value.item.1 e.entry.thing p e.entry.is (are.says p e.value e.is)) (are.bare p e.value e.entry.thing e.is e.entry.is) b.named);
+        stands = (
+          e.entry.thing,
+          e.entry.is,
+          thing_same names r agrees k p index e.value.item.0 e.value.item.1 e.entry.thing b.thing (says_import v e.value.item.0 e.value.item.1 e.entry.thing p e.entry.is (are.says p e.value e.is)) (are.bare p e.value e.entry.thing e.is e.entry.is) b.named,
+        );
       }
 
   all_brought : (n : ℕ) (order : List ℕ) (ws : List wire.Import) → ((j p : ℕ) → slice_get order j ≡ Some p → r.imports p ≡ n + j) → AllZip (IsEntryAt names v) order ws → AllZip (λ p e. IsBrought r v p e.0 e.1) order (numbered_from n ws)

@@ -36,9 +36,7 @@ use walrus_entities::{Memory, Table, Tag};
 use walrus_ir::{IdsToIndices, IrError, RefType, TypeId, ValType};
 use walrus_items::{Function, Import, ImportKind};
 use walrus_parts::Error;
-use wasm_wire::{
-    RawDesc, RawGlobalType, RawImport, RawLimits, RawRef, RawTableType, RawVal,
-};
+use wasm_wire::{RawDesc, RawGlobalType, RawImport, RawLimits, RawRef, RawTableType, RawVal};
 
 // The index of a type is a number of 32 bits.
 fn index_of_type(id: TypeId, indices: &IdsToIndices) -> Option<u32>
