@@ -7,7 +7,6 @@ pub mod Emitting
 pub mod Entries
 pub mod FunctionsWritten
 pub mod GlobalRecords
-pub mod GlobalsLeft
 pub mod ImportedAlong
 pub mod ImportedEntries
 pub mod ImportedThings
