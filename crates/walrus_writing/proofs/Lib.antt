@@ -13,6 +13,7 @@ pub mod ImportedThings
 pub mod ImportsStand
 pub mod Indexed
 pub mod ItemsLeft
+pub mod Matching
 pub mod NamedAll
 pub mod NamedTypes
 pub mod NoCauseAll

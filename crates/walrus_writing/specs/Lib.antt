@@ -3,6 +3,7 @@ pub mod Emitted
 pub mod Globals
 pub mod Imported
 pub mod Local
+pub mod Matched
 pub mod Numbered
 pub mod Parts
 pub mod Records

@@ -18,8 +18,8 @@ use walrus_entities::{GlobalKind, TagKind};
 use walrus_ir::ImportId;
 use walrus_items::{FunctionKind, ImportKind};
 
-// The import that brings a function of this kind.
-fn function_import(kind: &FunctionKind) -> Option<ImportId>
+/// The import that brings a function of this kind.
+pub fn function_import(kind: &FunctionKind) -> Option<ImportId>
     ensures { option_map place result ≡ function_import kind.now }
 {
     match kind {
@@ -48,8 +48,8 @@ pub fn tag_import(kind: &TagKind) -> Option<ImportId>
     }
 }
 
-// The import that an item says to be brought by.
-fn import_of(parts: Parts<'_>, kind: ImportKind) -> Option<ImportId>
+/// The import that an item says to be brought by.
+pub fn import_of(parts: Parts<'_>, kind: ImportKind) -> Option<ImportId>
     requires live { IsLive (parts_view parts) (imported kind) }
     ensures { option_map place result ≡ import_of (parts_view parts.entry) (imported kind) }
 {

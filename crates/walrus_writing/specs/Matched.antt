@@ -1,0 +1,29 @@
+-- Whether imports and items name each other, one by one.
+use Rattle.std.specs.Prelude.{ℕ, Option, Some, ◌≡◌}
+use Rattle.walrus_types.specs.Operators.{Space, Functions, Tables, Memories, Tags, Globals, Item}
+use Rattle.walrus_model.specs.Abstract.{Abstract, Import}
+use Rattle.walrus_model.specs.WellMade.{import_of}
+
+-- the import of this number is there, and names the item
+abbrev pub IsNamedBy : Abstract → Item → ℕ → Type 0
+IsNamedBy v x i = (y : Import) × (v.imports i ≡ Some y) × (y.item ≡ x)
+
+-- the import that brings an item, if one is said to, is there and names it
+abbrev pub IsAnswered : Abstract → (brought_by : Option ℕ) → Item → Type 0
+IsAnswered v brought_by x = (i : ℕ) → brought_by ≡ Some i → IsNamedBy v x i
+
+-- so it is with each item of an index space
+abbrev pub AreAnswered : Abstract → Space → Type 0
+AreAnswered v space = (i : ℕ) → IsAnswered v (import_of v (space, i)) (space, i)
+
+-- and of all index spaces that imports bring items to
+pub record AreItemsAnswered (v : Abstract) : Type 0 where
+  pub functions : AreAnswered v Functions
+  pub tables : AreAnswered v Tables
+  pub memories : AreAnswered v Memories
+  pub tags : AreAnswered v Tags
+  pub globals : AreAnswered v Globals
+
+-- what each import names says to be brought by it
+abbrev pub AreImportsAnswered : Abstract → Type 0
+AreImportsAnswered v = (i : ℕ) (y : Import) → v.imports i ≡ Some y → import_of v y.item ≡ Some i
