@@ -41,7 +41,7 @@ use Rattle.walrus_types.specs.Shape.{Seen, Own, Other, in_its_group, others_thro
 use Rattle.walrus_model.proofs.Lists.{map-itself, map-same}
 use Rattle.walrus_model.proofs.TypeMaps.{sub-itself, val-itself, heap-itself}
 use Rattle.walrus_reading.specs.Taken.{HasTaken}
-use Rattle.walrus_reading.proofs.Held.{HeldBody, HeldFunction, held, exported}
+use Rattle.walrus_reading.proofs.Held.{HeldBody, HeldFunction, all_own, exported, held, no_imports}
 use Rattle.walrus_contents.specs.View.{body, kind_of, kind_handlers, handlers_at, function, contents_view, global_of, import_of, memory_of, table_of, tag_of}
 use Rattle.walrus_model.proofs.PipelineSame.{global_stays, memory_stays, table_stays, tag_stays}
 use Rattle.walrus_reading.specs.Held.{HoldsGlobal, HoldsMemory, HoldsTable, HoldsTag}
@@ -295,7 +295,7 @@ module _ (c : Features) (r : wire.Module) (x : Contents) (many : length r.bodies
   types = types_from 0 r.types
 
   abbrev functions_held : AllZip (HeldFunction (types_of r) (local_types (locals all))) pairs slots
-  functions_held = held c (supported r) x h
+  functions_held = subst (λ (l : List (Option FunctionValue)). AllZip (HeldFunction (types_of r) (local_types (locals all))) pairs l) (sym (all_own c r x h)) (held c (supported r) x h)
 
   -- a function's locals begin where its first one stands
   abbrev moved : ℕ → ℕ → ℕ
@@ -401,7 +401,7 @@ module _ (c : Features) (r : wire.Module) (x : Contents) (many : length r.bodies
         same = λ i live. subst (λ o. BothAnd (SameType (λ k. k) i) (types_of r i) o) (sym (type_at i)) (both_types i (types_of r i) live);
         onto = λ j live. inl (j, subst (λ o. IsSome o) (type_at j) live, refl);
       };
-      imports = record { same = λ i x. (let e = x.1 in cc); onto = λ j live. absurd (none_there (subst (λ (l : List (Option ImportValue)). IsSome (option_map import_of (item_at l j))) h.imports live)) };
+      imports = record { same = λ i x. (let e = x.1 in cc); onto = λ j live. absurd (none_there (subst (λ (l : List (Option ImportValue)). IsSome (option_map import_of (item_at l j))) (no_imports c r x h) live)) };
       functions = record { same = function_carried; onto = λ j live. inl (j, function_there j live, refl) };
       tables = carried_there _ _ M.tables v.tables (seen_there table_of HoldsTable (λ n t s k. (k.value, (k.is, k.read))) 0 (tables_of (supported r)) (tables x.tables) h.tables) (λ i t. sym (table_stays (moving moved) (λ s n. refl) (λ n. refl) t));
       memories = carried_there _ _ M.memories v.memories (seen_there memory_of HoldsMemory (λ n y s k. (k.value, (k.is, k.read))) 0 (memories_of (supported r)) (memories x.memories) h.memories) (λ i y. sym (memory_stays (moving moved) (λ s n. refl) (λ n. refl) y));
