@@ -91,8 +91,13 @@ one_type i (descs.Tag ty) = refl
 types_many : (i : ℕ) (xs : List entries.Import) → length (imported imported_type i xs) ≡ length (imported imported_function i xs)
 types_many i [] = refl
 types_many i (x ∷ xs) =
-    omega (arith, length-append (option_to_list (imported_type i x.desc)) (imported imported_type (i + 1) xs), length-append (option_to_list (imported_function i x.desc)) (imported imported_function (i + 1) xs),
-    one_type i x.desc, types_many (i + 1) xs)
+    omega (
+      arith,
+      length-append (option_to_list (imported_type i x.desc)) (imported imported_type (i + 1) xs),
+      length-append (option_to_list (imported_function i x.desc)) (imported imported_function (i + 1) xs),
+      one_type i x.desc,
+      types_many (i + 1) xs,
+    )
 
 counted : {X Y T : Type 0} (R : ℕ → X → T → Type 0) (brought : List X) (slots : List T) (make : Y → X) (ys : List Y) (first own : ℕ) → AllPlaced R 0 brought slots → first ≡ length slots → own ≡ length ys → first + own ≡ length (brought ++ map make ys)
 counted R brought slots make ys first own held at same = omega (arith, at, placed_length R 0 brought slots held, same, length-append brought (map make ys), length-map ys make)

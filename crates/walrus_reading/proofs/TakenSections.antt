@@ -1,6 +1,6 @@
 -- The fields of a module that took in all sections.
-use Rattle.std.proofs.Common.{◌≡◌, ℕ, true, List, [], ◌++◌, length, map, get_or, sym, ap, subst, ◌∙◌}
-use Rattle.std.specs.Prelude.{Option, Some, None, Result, Ok, Err, All, flat_map, zip}
+use Rattle.std.proofs.Common.{◌≡◌, ℕ, true, List, [], length, map, get_or, sym, ap, subst, ◌∙◌}
+use Rattle.std.specs.Prelude.{Option, Some, None, Result, Err, All, flat_map, zip}
 use Rattle.walrus_base.specs.Arena.{item_at}
 use Rattle.walrus_types.specs.ModuleTypes.{type_names, type_slots}
 use Rattle.walrus_types.specs.declared.locals.ModuleLocals.{ModuleLocals}

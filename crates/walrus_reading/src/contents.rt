@@ -68,7 +68,13 @@ pub(crate) fn read_contents(alloc: Global, raw: &Raw<'_>, features: &Features) -
         indices: &indices,
         types: &contents.types,
     };
-    add_functions(under, &raw.functions, &raw.bodies, &mut contents.locals, &mut contents.funcs)?;
+    add_functions(
+        under,
+        &raw.functions,
+        &raw.bodies,
+        &mut contents.locals,
+        &mut contents.funcs,
+    )?;
     add_tables(alloc, &raw.tables, &indices, &mut contents.tables)?;
     add_memories(&raw.memories, &mut contents.memories)?;
     add_tags(&raw.tags, &indices, &mut contents.tags)?;

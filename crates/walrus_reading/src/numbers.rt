@@ -50,11 +50,26 @@ pub(crate) fn number_items(
     ensures numbered { OnOk result (ids_at indices.new ≡ declared (sections raw.now)) }
     ensures fails { IsOkUnless result out_of_memory }
 {
-    number_functions(total(contents.funcs.next_id().index(), raw.functions.len()), indices)?;
-    number_tables(total(contents.tables.next_id().index(), raw.tables.len()), indices)?;
-    number_memories(total(contents.memories.next_id().index(), raw.memories.len()), indices)?;
-    number_tags(total(contents.tags.next_id().index(), raw.tags.len()), indices)?;
-    number_globals(total(contents.globals.next_id().index(), raw.globals.len()), indices)?;
+    number_functions(
+        total(contents.funcs.next_id().index(), raw.functions.len()),
+        indices,
+    )?;
+    number_tables(
+        total(contents.tables.next_id().index(), raw.tables.len()),
+        indices,
+    )?;
+    number_memories(
+        total(contents.memories.next_id().index(), raw.memories.len()),
+        indices,
+    )?;
+    number_tags(
+        total(contents.tags.next_id().index(), raw.tags.len()),
+        indices,
+    )?;
+    number_globals(
+        total(contents.globals.next_id().index(), raw.globals.len()),
+        indices,
+    )?;
     Ok(())
 }
 
