@@ -23,9 +23,6 @@ use Rattle.walrus_model.specs.Abstract.{Export}
 use Rattle.walrus_model.specs.Sections.{Said, types_of, export_of}
 use Rattle.walrus_contents.specs.View as view
 use Rattle.walrus_contents.specs.declared.parts.Contents.{Contents}
-use Rattle.walrus_items.specs.Imports.{imports}
-use Rattle.walrus_model.proofs.Supported.{supported}
-use Rattle.walrus_reading.specs.Held.{HoldsImport, HoldsImportedFunction}
 use Rattle.walrus_reading.specs.Placed.{AllPlaced}
 use Rattle.walrus_reading.specs.Taken.{HasTaken, HoldsExport, HoldsLocal, HoldFunctions, locals_said}
 use Rattle.wasm_entries.specs.Record as entries
@@ -125,14 +122,3 @@ module _ (c : Features) (r : wire.Module) (m : Contents) (t : HasTaken c r m) wh
 
   pub exported : view.exports_of m.exports ≡ map export_of r.exports
   exported = exports_seen 0 0 r.exports (exports m.exports) t.exports
-
--- where nothing is imported, these are all
-none_placed : {A B : Type 0} (R : ℕ → A → B → Type 0) (slots : List B) → AllPlaced R 0 [] slots → slots ≡ []
-none_placed R [] h = refl
-none_placed R (s ∷ slots) h = absurd h
-
-pub all_own : (c : Features) (r : wire.Module) (m : Contents) (t : HasTaken c (supported r) m) → functions m.funcs ≡ t.functions.own.added
-all_own c r m t = t.functions.own.behind ∙ ap (λ (l : List (Option FunctionValue)). l ++ t.functions.own.added) (none_placed HoldsImportedFunction t.functions.front t.functions.brings)
-
-pub no_imports : (c : Features) (r : wire.Module) (m : Contents) (t : HasTaken c (supported r) m) → imports m.imports ≡ []
-no_imports c r m t = none_placed HoldsImport (imports m.imports) t.imports

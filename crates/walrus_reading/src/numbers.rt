@@ -18,8 +18,8 @@ use walrus_ir::{Id, IndicesToIds};
 use walrus_parts::Result;
 use wasm_wire::{Raw, WireError};
 
-/// Whether there are indices for all functions that a module imports and defines. Of all else there are fewer, since what takes two bytes
-/// or more stands fewer than 2^31 times in a section.
+/// Whether there are indices for all functions that a module imports and defines. There are for all else: of what takes two bytes or more a
+/// section has fewer than 2^31.
 ///
 /// # Errors
 ///
