@@ -1,7 +1,7 @@
 -- A module in memory that took in the sections is made of the module that was read.
 use Rattle.std.proofs.Common.{◌≡◌, ℕ, zero, suc, ◌+◌, ◌<◌, Bool, true, false, List, [], ◌∷◌, ◌++◌, length, length-append, map, refl, sym, ap, ap₂, subst, ◌∙◌, arith, inl, inr, eqb-true}
 use Rattle.std.proofs.lemmas.Bool.{eqb-false}
-use Rattle.std.specs.Prelude.{Option, Some, None, IsSome, Contains, slice_get, zip, option_map, ◌==◌, if◌then◌else◌}
+use Rattle.std.specs.Prelude.{Option, Some, None, IsSome, Contains, slice_get, option_map, ◌==◌, if◌then◌else◌}
 use Rattle.std.specs.List.{AllZip, range_with_len}
 use Rattle.walrus_base.specs.Arena.{item_at}
 use Rattle.walrus_base.specs.Id.{place}
@@ -60,8 +60,8 @@ use Rattle.walrus_entities.specs.Memories.{memories}
 use Rattle.walrus_entities.specs.Tables.{tables}
 use Rattle.walrus_entities.specs.Tags.{tags}
 use Rattle.walrus_contents.specs.declared.parts.Contents.{Contents}
-use Rattle.walrus_contents.proofs.Lookups.{got_map, there, there_mapped}
-use Rattle.walrus_reading.proofs.Parsing.{read_at, used_below}
+use Rattle.walrus_contents.proofs.Lookups.{there}
+use Rattle.walrus_reading.proofs.Parsing.{used_below}
 use Rattle.walrus_contents.proofs.Steps.{type_there, zip_length}
 use Rattle.wasm_frames.specs.Record as wire
 use Rattle.walrus_model.proofs.Standing.{none_there, some_inj, some_of, got_in}

@@ -1,5 +1,5 @@
 -- Sections that hold imports beside what is supported: what they come to in memory is said of them all.
-use Rattle.std.proofs.Common.{◌≡◌, sym, ap, ◌∙◌, subst}
+use Rattle.std.proofs.Common.{sym, ap, ◌∙◌, subst}
 use Rattle.wasm_frames.specs.Record as wire
 use Rattle.walrus_model.specs.Supported.{IsSupported}
 use Rattle.walrus_model.proofs.Supported.{supported, all_supported}
