@@ -7,6 +7,10 @@ pub mod Emitting
 pub mod Entries
 pub mod FunctionsWritten
 pub mod GlobalRecords
+pub mod ImportedAlong
+pub mod ImportedEntries
+pub mod ImportedThings
+pub mod ImportsStand
 pub mod Indexed
 pub mod ItemsLeft
 pub mod NamedAll
@@ -15,6 +19,8 @@ pub mod NoCauseAll
 pub mod NoCauseBodies
 pub mod NoCauseHeaps
 pub mod Numbering
+pub mod OrderByImport
+pub mod OrdersSpaces
 pub mod OwnItems
 pub mod OwnRise
 pub mod Placing
@@ -31,6 +37,7 @@ pub mod Renamed
 pub mod Rows
 pub mod SameBodies
 pub mod Sections
+pub mod Sole
 pub mod Somes
 pub mod SpellsLemmas
 pub mod TableRecords

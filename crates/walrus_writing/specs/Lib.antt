@@ -1,5 +1,7 @@
+pub mod Brought
 pub mod Emitted
 pub mod Globals
+pub mod Imported
 pub mod Local
 pub mod Numbered
 pub mod Parts
@@ -10,3 +12,4 @@ pub mod Places
 pub mod SoFar
 pub mod Reads
 pub mod Tables
+pub mod Twice

@@ -2,12 +2,15 @@
 #![tactic(auto)]
 
 mod bodies;
+mod by_import;
 mod globals;
+mod imported;
 mod others;
 mod plan;
 mod reads;
 mod records;
 mod tables;
+mod twice;
 mod write;
 
 pub use plan::Plan;

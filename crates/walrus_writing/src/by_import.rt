@@ -1,0 +1,245 @@
+//! The order of the items of each index space: what imports bring, by rising import, and then what the module defines ("Structure > Modules >
+//! Indices").
+ghost use Rattle.std.specs.Prelude.{◌≡◌, ◌++◌, map, IfOk, IsOkUnless, option_map};
+ghost use Rattle.walrus_base.specs.Arena.{entries, items};
+ghost use Rattle.walrus_base.specs.Id.{place};
+ghost use Rattle.walrus_types.specs.Operators.{Functions, Globals, Memories, Tables, Tags};
+ghost use Rattle.walrus_entities.specs.Globals.{globals};
+ghost use Rattle.walrus_entities.specs.Memories.{memories};
+ghost use Rattle.walrus_entities.specs.Tables.{tables};
+ghost use Rattle.walrus_entities.specs.Tags.{tags};
+ghost use Rattle.walrus_items.specs.Functions.{functions};
+ghost use Rattle.walrus_items.specs.Imports.{imported, imports};
+ghost use Rattle.walrus_model.specs.Imported.{number_in};
+ghost use Rattle.walrus_parts.specs.Errors.{out_of_memory};
+ghost use Rattle.walrus_writing.specs.Brought.{OrdersFunctions, own_places, places_brought};
+
+use crate::plan::functions_by_size;
+use crate::twice::{global_import, tag_import};
+use std::alloc::Global;
+use walrus_entities::{ModuleGlobals, ModuleMemories, ModuleTables, ModuleTags};
+use walrus_ir::{FunctionId, GlobalId, MemoryId, TableId, TagId};
+use walrus_items::{ImportKind, ModuleFunctions, ModuleImports};
+use walrus_parts::Result;
+
+// The function that is imported, if it is one.
+fn function_of(kind: ImportKind) -> Option<FunctionId>
+    ensures { option_map place result ≡ number_in Functions (imported kind) }
+{
+    match kind {
+        ImportKind::Function(id) => Some(id),
+        _ => None,
+    }
+}
+
+/// The functions that imports bring, by rising import. Want of memory is the only refusal.
+pub fn imported_functions(alloc: Global, all: &ModuleImports) -> Result<Vec<FunctionId>>
+    ensures value { IfOk result (λ ids. map place ids.items
+        ≡ places_brought Functions (items (imports all.now))) }
+    ensures fails { IsOkUnless result out_of_memory }
+{
+    let mut ids = Vec::new(alloc);
+    for import in all.iter() {
+        if let Some(id) = function_of(import.kind) {
+            ids.push(id)?;
+        }
+    }
+    Ok(ids)
+}
+
+// The table that is imported, if it is one.
+fn table_of(kind: ImportKind) -> Option<TableId>
+    ensures { option_map place result ≡ number_in Tables (imported kind) }
+{
+    match kind {
+        ImportKind::Table(id) => Some(id),
+        _ => None,
+    }
+}
+
+/// The tables that imports bring, by rising import. Want of memory is the only refusal.
+pub fn imported_tables(alloc: Global, all: &ModuleImports) -> Result<Vec<TableId>>
+    ensures value { IfOk result (λ ids. map place ids.items
+        ≡ places_brought Tables (items (imports all.now))) }
+    ensures fails { IsOkUnless result out_of_memory }
+{
+    let mut ids = Vec::new(alloc);
+    for import in all.iter() {
+        if let Some(id) = table_of(import.kind) {
+            ids.push(id)?;
+        }
+    }
+    Ok(ids)
+}
+
+// The memory that is imported, if it is one.
+fn memory_of(kind: ImportKind) -> Option<MemoryId>
+    ensures { option_map place result ≡ number_in Memories (imported kind) }
+{
+    match kind {
+        ImportKind::Memory(id) => Some(id),
+        _ => None,
+    }
+}
+
+/// The memories that imports bring, by rising import. Want of memory is the only refusal.
+pub fn imported_memories(alloc: Global, all: &ModuleImports) -> Result<Vec<MemoryId>>
+    ensures value { IfOk result (λ ids. map place ids.items
+        ≡ places_brought Memories (items (imports all.now))) }
+    ensures fails { IsOkUnless result out_of_memory }
+{
+    let mut ids = Vec::new(alloc);
+    for import in all.iter() {
+        if let Some(id) = memory_of(import.kind) {
+            ids.push(id)?;
+        }
+    }
+    Ok(ids)
+}
+
+// The global that is imported, if it is one.
+fn global_of(kind: ImportKind) -> Option<GlobalId>
+    ensures { option_map place result ≡ number_in Globals (imported kind) }
+{
+    match kind {
+        ImportKind::Global(id) => Some(id),
+        _ => None,
+    }
+}
+
+/// The globals that imports bring, by rising import. Want of memory is the only refusal.
+pub fn imported_globals(alloc: Global, all: &ModuleImports) -> Result<Vec<GlobalId>>
+    ensures value { IfOk result (λ ids. map place ids.items
+        ≡ places_brought Globals (items (imports all.now))) }
+    ensures fails { IsOkUnless result out_of_memory }
+{
+    let mut ids = Vec::new(alloc);
+    for import in all.iter() {
+        if let Some(id) = global_of(import.kind) {
+            ids.push(id)?;
+        }
+    }
+    Ok(ids)
+}
+
+// The tag that is imported, if it is one.
+fn tag_of(kind: ImportKind) -> Option<TagId>
+    ensures { option_map place result ≡ number_in Tags (imported kind) }
+{
+    match kind {
+        ImportKind::Tag(id) => Some(id),
+        _ => None,
+    }
+}
+
+/// The tags that imports bring, by rising import. Want of memory is the only refusal.
+pub fn imported_tags(alloc: Global, all: &ModuleImports) -> Result<Vec<TagId>>
+    ensures value { IfOk result (λ ids. map place ids.items
+        ≡ places_brought Tags (items (imports all.now))) }
+    ensures fails { IsOkUnless result out_of_memory }
+{
+    let mut ids = Vec::new(alloc);
+    for import in all.iter() {
+        if let Some(id) = tag_of(import.kind) {
+            ids.push(id)?;
+        }
+    }
+    Ok(ids)
+}
+
+/// The functions: what imports bring, by rising import, and then those with a body, the larger ones first, and of two as large the one of
+/// the smaller id. Want of memory is the only refusal.
+pub fn functions_by_import(
+    alloc: Global,
+    all_imports: &ModuleImports,
+    all: &ModuleFunctions,
+) -> Result<Vec<FunctionId>>
+    ensures value { IfOk result (λ ids.
+        OrdersFunctions (imports all_imports.now) (functions all.now) (map place ids.items)) }
+    ensures fails { IsOkUnless result out_of_memory }
+{
+    let mut ids = imported_functions(alloc, all_imports)?;
+    let mut own = functions_by_size(alloc, all)?;
+    ids.append(&mut own)?;
+    Ok(ids)
+}
+
+/// The tables: what imports bring, by rising import, and then what the module defines, by rising id. Want of memory is the only refusal.
+pub fn tables_by_import(
+    alloc: Global,
+    all_imports: &ModuleImports,
+    all: &ModuleTables,
+) -> Result<Vec<TableId>>
+    ensures value { IfOk result (λ ids. map place ids.items
+        ≡ places_brought Tables (items (imports all_imports.now))
+        ++ own_places (λ x. x.imported_by) (entries (tables all.now))) }
+    ensures fails { IsOkUnless result out_of_memory }
+{
+    let mut ids = imported_tables(alloc, all_imports)?;
+    for (id, table) in all.iter_entries() {
+        if table.import.is_none() {
+            ids.push(id)?;
+        }
+    }
+    Ok(ids)
+}
+
+/// The memories: what imports bring, by rising import, and then what the module defines, by rising id. Want of memory is the only refusal.
+pub fn memories_by_import(
+    alloc: Global,
+    all_imports: &ModuleImports,
+    all: &ModuleMemories,
+) -> Result<Vec<MemoryId>>
+    ensures value { IfOk result (λ ids. map place ids.items
+        ≡ places_brought Memories (items (imports all_imports.now))
+        ++ own_places (λ x. x.imported_by) (entries (memories all.now))) }
+    ensures fails { IsOkUnless result out_of_memory }
+{
+    let mut ids = imported_memories(alloc, all_imports)?;
+    for (id, memory) in all.iter_entries() {
+        if memory.import.is_none() {
+            ids.push(id)?;
+        }
+    }
+    Ok(ids)
+}
+
+/// The globals: what imports bring, by rising import, and then what the module defines, by rising id. Want of memory is the only refusal.
+pub fn globals_by_import(
+    alloc: Global,
+    all_imports: &ModuleImports,
+    all: &ModuleGlobals,
+) -> Result<Vec<GlobalId>>
+    ensures value { IfOk result (λ ids. map place ids.items
+        ≡ places_brought Globals (items (imports all_imports.now))
+        ++ own_places (λ x. x.imported_by) (entries (globals all.now))) }
+    ensures fails { IsOkUnless result out_of_memory }
+{
+    let mut ids = imported_globals(alloc, all_imports)?;
+    for (id, global) in all.iter_entries() {
+        if global_import(&global.kind).is_none() {
+            ids.push(id)?;
+        }
+    }
+    Ok(ids)
+}
+
+/// The tags: what imports bring, by rising import, and then what the module defines, by rising id. Want of memory is the only refusal.
+pub fn tags_by_import(
+    alloc: Global,
+    all_imports: &ModuleImports,
+    all: &ModuleTags,
+) -> Result<Vec<TagId>>
+    ensures value { IfOk result (λ ids. map place ids.items
+        ≡ places_brought Tags (items (imports all_imports.now))
+        ++ own_places (λ x. x.imported_by) (entries (tags all.now))) }
+    ensures fails { IsOkUnless result out_of_memory }
+{
+    let mut ids = imported_tags(alloc, all_imports)?;
+    for (id, tag) in all.iter_entries() {
+        if tag_import(&tag.kind).is_none() {
+            ids.push(id)?;
+        }
+    }
+    Ok(ids)
+}
