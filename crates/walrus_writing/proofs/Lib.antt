@@ -10,6 +10,7 @@ pub mod GlobalsLeft
 pub mod ImportedAlong
 pub mod ImportedEntries
 pub mod ImportedThings
+pub mod ImportsIndexed
 pub mod ImportsStand
 pub mod Indexed
 pub mod NamedAll
@@ -20,10 +21,12 @@ pub mod NoCauseHeaps
 pub mod Numbering
 pub mod OrderByImport
 pub mod OrdersSpaces
+pub mod OwnFunctions
 pub mod OwnItems
 pub mod OwnRise
 pub mod Placing
 pub mod PlainParts
+pub mod PlannedByImport
 pub mod Planning
 pub mod Ranked
 pub mod RefusesAll
