@@ -27,7 +27,7 @@ seam_at : {A : Type 0} (xs ys : List A) (y : A) → slice_get (xs ++ y ∷ ys) (
 seam_at [] ys y = refl
 seam_at (x ∷ xs) ys y = seam_at xs ys y
 
-in_front : {A : Type 0} (xs ys : List A) (j : ℕ) (x : A) → slice_get xs j ≡ Some x → slice_get (xs ++ ys) j ≡ Some x
+pub in_front : {A : Type 0} (xs ys : List A) (j : ℕ) (x : A) → slice_get xs j ≡ Some x → slice_get (xs ++ ys) j ≡ Some x
 in_front [] ys j x at = absurd (cc)
 in_front (y ∷ xs) ys zero x at = at
 in_front (y ∷ xs) ys (suc j) x at = in_front xs ys j x at

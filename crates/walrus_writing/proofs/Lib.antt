@@ -10,6 +10,7 @@ pub mod GlobalRecords
 pub mod ImportedAlong
 pub mod ImportedEntries
 pub mod ImportedThings
+pub mod ImportsCarried
 pub mod ImportsIndexed
 pub mod ImportsStand
 pub mod Indexed
