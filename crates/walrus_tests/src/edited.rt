@@ -6,8 +6,8 @@ use std::test::Fail;
 use test_support::{add_bytes, are, demand};
 use walrus::passes::gc;
 use walrus::{
-    AbstractHeapType, ConstExpr, Error, ExportItem, FunctionId, GlobalId, GlobalKind, HeapType, Module,
-    ModuleConfig, RefType, ValType, Value,
+    AbstractHeapType, ConstExpr, Error, ExportItem, FunctionId, GlobalId, GlobalKind, HeapType,
+    Module, ModuleConfig, RefType, ValType, Value,
 };
 
 fn empty_module(alloc: Global) -> Result<Module, Error> {
@@ -56,9 +56,7 @@ fn table_reads_own(alloc: Global) -> Result<Module, Error> {
     let ty = funcref();
     let global = add_global(&mut module, ValType::Ref(ty), ConstExpr::RefNull(ty))?;
     let init = Some(ConstExpr::Global(global));
-    let table = module
-        .tables
-        .add_local_with_init(false, 1, None, ty, init)?;
+    let table = module.tables.add_local_with_init(false, 1, None, ty, init)?;
     module.exports.add("t", ExportItem::Table(table))?;
     Ok(module)
 }
@@ -142,9 +140,11 @@ fn a_limit_past_its_bits(rt: HostRuntime) -> Result<(), Fail> {
 }
 
 // Two functions, of which the first is exported, and what is kept where the second stands in its place.
-const TWO_FUNCTIONS: &str = "00 61 73 6D 01 00 00 00 01 04 01 60 00 00 03 03 02 00 00 07 05 01 01 61 00 00 0A 0A 02 02 00 0B 05 00 41 00 1A 0B";
+const TWO_FUNCTIONS: &str =
+    "00 61 73 6D 01 00 00 00 01 04 01 60 00 00 03 03 02 00 00 07 05 01 01 61 00 00 0A 0A 02 02 00 0B 05 00 41 00 1A 0B";
 
-const THE_OTHER: &str = "00 61 73 6D 01 00 00 00 01 04 01 60 00 00 03 02 01 00 07 05 01 01 61 00 00 0A 07 01 05 00 41 00 1A 0B";
+const THE_OTHER: &str =
+    "00 61 73 6D 01 00 00 00 01 04 01 60 00 00 03 02 01 00 07 05 01 01 61 00 00 0A 07 01 05 00 41 00 1A 0B";
 
 // The exported function, and one that isn't.
 fn two_functions(module: &Module) -> Option<(FunctionId, FunctionId)> {
@@ -162,7 +162,12 @@ fn two_functions(module: &Module) -> Option<(FunctionId, FunctionId)> {
     }
 }
 
-fn exchange(module: &mut Module, first: FunctionId, other: &mut Module, second: FunctionId) -> bool {
+fn exchange(
+    module: &mut Module,
+    first: FunctionId,
+    other: &mut Module,
+    second: FunctionId,
+) -> bool {
     if !module.funcs.contains(first) || !other.funcs.contains(second) {
         return false;
     }

@@ -27,7 +27,7 @@ use Rattle.walrus_model.proofs.Indices.{planned_index}
 use Rattle.walrus_model.proofs.Orders.{apart_in_order, carries_in_order, ordered_entries}
 use Rattle.walrus_model.proofs.Standing.{some_of, stands_at}
 use Rattle.walrus_writing.specs.Imported.{IsEntryAt}
-use Rattle.walrus_writing.proofs.ImportedAlong.{AreBare}
+use Rattle.walrus_writing.specs.ImportLaws.{AreBare}
 use Rattle.walrus_writing.proofs.ImportsStand.{imports_stand, in_front}
 
 -- what is found is the number that the look-up gives
