@@ -1,9 +1,9 @@
 -- The imports of the parts, by rising id, each with its number in that order: what the model's `plans_carry` asks of imports.
-use Rattle.std.proofs.Common.{inl, ◌⊎◌, ⊎_elim, ◌≡◌, ℕ, List, [], ◌++◌, map, refl, sym, ap, ◌∙◌, subst, Some}
+use Rattle.std.proofs.Common.{inl, ⊎_elim, ◌≡◌, ℕ, List, [], ◌++◌, map, refl, sym, ap, ◌∙◌, subst, Some}
 use Rattle.std.specs.Prelude.{Option, IsSome, filter_map, slice_get, unwrap_or}
 use Rattle.std.specs.List.{AllZip}
 use Rattle.wasm_entries.specs.Record as wire
-use Rattle.walrus_base.specs.Arena.{entries, item_at}
+use Rattle.walrus_base.specs.Arena.{entries}
 use Rattle.walrus_types.specs.Operators.{Space}
 use Rattle.walrus_types.specs.Shape.{place_in}
 use Rattle.walrus_code.specs.Names.{Lookup}

@@ -1,9 +1,9 @@
 -- What holds of imports that are written, and of the order of items behind them: the laws that writing them stands on.
-use Rattle.std.specs.Prelude.{ℕ, List, [], Contains, IsSome, AllPairs, filter_map, map, Some, slice_get, unwrap_or, ◌++◌, ◌≡◌}
+use Rattle.std.specs.Prelude.{ℕ, List, [], AllPairs, filter_map, map, Some, slice_get, unwrap_or, ◌++◌, ◌≡◌}
 use Rattle.std.specs.List.{AllZip}
 use Rattle.wasm_entries.specs.Record as entries
 use Rattle.walrus_base.specs.Arena.{entries as entries_in, items}
-use Rattle.walrus_types.specs.Operators.{Space, Functions, Tables, Memories, Tags, Globals, Item}
+use Rattle.walrus_types.specs.Operators.{Space, Functions, Tables, Memories, Tags, Globals}
 use Rattle.walrus_types.specs.Shape.{place_in}
 use Rattle.walrus_code.specs.Names.{Lookup}
 use Rattle.walrus_constants.specs.Laws.{AgreesWith}
