@@ -1,7 +1,9 @@
 #!/usr/bin/env bash
 # Makes a module of each text NAME.wat of tests/made with wabt's wat2wasm, runs the built program over it, and compares what comes out with
-# the module of NAME.kept.wat, which says what has to be kept, byte for byte; wabt's wasm-validate then has to accept what came out. Prints a
-# line a module and their count. No part of the gate; where wabt (Debian's package of that name) isn't installed, nothing is run.
+# the module of NAME.kept.wat, which says what has to be kept, byte for byte; wabt's wasm-validate has to accept it too. Then takes the
+# custom sections off each module of tests/samples, and of ../shared/samples where it is there, with wabt's wasm-strip, runs the program over
+# it, and has what comes out validated; c14-simd.wasm has to come out, others may hold what isn't supported. Prints a line a module and
+# the counts. No part of the gate; where wabt (Debian's package of that name) isn't installed, nothing is run.
 set -eu
 top=$(cd "$(dirname "$0")/.." && pwd)
 command -v wat2wasm > /dev/null || { echo "tests/made.sh: there is no wat2wasm, so nothing is run" >&2; exit 0; }
@@ -26,7 +28,23 @@ for text in "$top"/tests/made/*.kept.wat; do
   if told=$(comes_out "$name"); then
     passed=$((passed + 1)) word=pass
   fi
-  printf '%-7s %-12s %s\n' "$word" "$(basename "$name")" "$told"
+  printf '%-7s %-20s %s\n' "$word" "$(basename "$name")" "$told"
 done
 echo "of $passed of $all made modules what has to be kept comes out"
-[ "$all" -gt 0 ] && [ "$passed" = "$all" ]
+
+# What becomes of a module without its custom sections: valid, refused, or FAILED where what comes out isn't valid.
+is_valid() {
+  cp "$1" "$files/in" && wasm-strip "$files/in" || return 1
+  "$program" < "$files/in" > "$files/out" 2> "$files/told" || { echo "refused  $(cat "$files/told")"; return 0; }
+  wasm-validate "${features[@]}" "$files/out" || { echo "FAILED"; return 1; }
+  echo "valid    $(stat -c %s "$files/in") bytes, kept $(stat -c %s "$files/out")"
+}
+
+valid=0 wrong=0
+for module in "$top"/tests/samples/*.wasm "$top"/../shared/samples/*.wasm; do
+  [ -e "$module" ] || continue
+  told=$(is_valid "$module") || wrong=$((wrong + 1))
+  printf '%-28s %s\n' "$(basename "$module")" "$told"
+  case $(basename "$module")$told in c14-simd.wasmvalid*) valid=1 ;; esac
+done
+[ "$all" -gt 0 ] && [ "$passed" = "$all" ] && [ "$valid" = 1 ] && [ "$wrong" = 0 ]

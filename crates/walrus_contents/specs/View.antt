@@ -6,7 +6,7 @@ use Rattle.walrus_base.specs.Arena.{item_at, items}
 use Rattle.walrus_base.specs.Id.{place}
 use Rattle.walrus_types.specs.Locals.{locals}
 use Rattle.walrus_types.specs.ModuleTypes.{type_names, type_slots}
-use Rattle.walrus_types.specs.Operators.{locals_of}
+use Rattle.walrus_types.specs.Operators.{Op, locals_of}
 use Rattle.walrus_types.specs.PlaceList.{has}
 use Rattle.walrus_types.specs.declared.locals.ModuleLocals.{ModuleLocals}
 use Rattle.walrus_types.specs.declared.module_types.ModuleTypes.{ModuleTypes}
@@ -92,11 +92,16 @@ import_of i = record { module_name = i.module_name; name = i.name; item = import
 abbrev pub imports_of : ModuleImports → ℕ → Option abstract.Import
 imports_of all i = option_map import_of (item_at (imports all) i)
 
+-- what initialises an item that no import brings; of one that an import brings none is written
+abbrev pub own_initialiser : Option ℕ → Option (List Op) → Option (List Op)
+own_initialiser None initialiser = initialiser
+own_initialiser (Some i) initialiser = None
+
 abbrev pub table_of : TableValue → abstract.Table
 table_of t = record {
   origin = origin_of t.imported_by;
   ty = record { limits = record { wide = t.table64; minimum = t.initial; maximum = t.maximum }; element = t.element };
-  initialiser = t.initialiser;
+  initialiser = own_initialiser t.imported_by t.initialiser;
 }
 
 abbrev pub tables_of : ModuleTables → ℕ → Option abstract.Table

@@ -1,7 +1,7 @@
 //! What tables, tags and globals name, and the constant expressions that initialise them
 //! (Valid > Instructions > Expressions > Constant Expressions).
 
-ghost use Rattle.std.specs.Prelude.{◌≡◌, map, OnOk};
+ghost use Rattle.std.specs.Prelude.{◌≡◌, map, option_map, OnOk};
 ghost use Rattle.std.specs.Option.{option_to_list};
 ghost use Rattle.walrus_code.specs.Code.{item_of};
 ghost use Rattle.walrus_entities.specs.Globals.{global_init, global_value};
@@ -23,7 +23,7 @@ use walrus_entities::{Global, GlobalKind, Table, Tag};
 use walrus_items::{HeapType, ItemId, TypeId};
 use walrus_types::{ConstExpr, ConstOp};
 
-// Puts what a table names behind `to`: the concrete type of its elements, and what its initialiser names.
+// Puts what a table names behind `to`: the concrete type of its elements, and what its initialiser names, if no import brings it.
 pub(crate) fn push_table_names(
     table: &Table,
     to: &mut Vec<ItemId>,
@@ -31,7 +31,20 @@ pub(crate) fn push_table_names(
     ensures { OnOk result (Puts to.old to.new (table_names (table_of (table_value table.now)))) }
 {
     push_heap_type(table.element_ty.heap_type, to)?;
-    match &table.init {
+    match table.import {
+        Some(_) => Ok(()),
+        None => push_initialiser_names(&table.init, to),
+    }
+}
+
+// The same for the initialiser of a table that no import brings, if it has one.
+fn push_initialiser_names(
+    init: &Option<ConstExpr>,
+    to: &mut Vec<ItemId>,
+) -> result::Result<(), AllocError>
+    ensures { OnOk result (Puts to.old to.new (named_by names_of (option_map const_ops init.now))) }
+{
+    match init {
         Some(initialiser) => push_const_names(initialiser, to),
         None => Ok(()),
     }

@@ -1,7 +1,7 @@
 -- A module in memory that took in the sections is made of the module that was read.
-use Rattle.std.proofs.Common.{◌≡◌, ℕ, zero, suc, ◌+◌, ◌<◌, Bool, true, false, List, [], ◌∷◌, ◌++◌, length, length-append, map, refl, sym, ap, ap₂, subst, ◌∙◌, arith, inl, eqb-true}
+use Rattle.std.proofs.Common.{◌≡◌, ℕ, zero, suc, ◌+◌, ◌<◌, Bool, true, false, List, [], ◌∷◌, ◌++◌, length, length-append, map, refl, sym, ap, ap₂, subst, ◌∙◌, arith, inl, inr, eqb-true}
 use Rattle.std.proofs.lemmas.Bool.{eqb-false}
-use Rattle.std.specs.Prelude.{Option, Some, None, IsSome, Contains, slice_get, zip, option_map, ◌==◌, if◌then◌else◌}
+use Rattle.std.specs.Prelude.{Option, Some, None, IsSome, Contains, slice_get, option_map, ◌==◌, if◌then◌else◌}
 use Rattle.std.specs.List.{AllZip, range_with_len}
 use Rattle.walrus_base.specs.Arena.{item_at}
 use Rattle.walrus_base.specs.Id.{place}
@@ -11,7 +11,7 @@ use Rattle.walrus_types.specs.Value.{val_type}
 use Rattle.walrus_code.specs.Function.{body_of as body_of_local}
 use Rattle.walrus_groups.specs.Groups.{types_from}
 use Rattle.std.proofs.lemmas.List.{length-map}
-use Rattle.walrus_types.specs.Operators.{NoResult, OneResult, OfType, Arg, Index, Label, Local as LocalArg, Number, Count, Byte, S32, S64, Bits32, Bits64, Value, Heap, Block, Access, Op, locals_of}
+use Rattle.walrus_types.specs.Operators.{Types, Functions, Tables, Memories, Tags, Globals, Elements, DataSegments, Item, NoResult, OneResult, OfType, Arg, Index, Label, Local as LocalArg, Number, Count, Byte, S32, S64, Bits32, Bits64, Value, Heap, Block, Access, Op, locals_of}
 use Rattle.walrus_types.specs.declared.locals.ModuleLocals.{ModuleLocals}
 use Rattle.walrus_code.specs.declared.function.LocalFunction.{LocalFunction}
 use Rattle.walrus_functions.specs.EmittedBody.{types_of as local_types}
@@ -19,8 +19,10 @@ use Rattle.walrus_functions.specs.Handlers.{params_of}
 use Rattle.walrus_functions.specs.Laws.{moved_arg, moved_op}
 use Rattle.walrus_items.specs.Functions.{FunctionValue, functions, kind_type}
 use Rattle.walrus_items.specs.declared.functions.FunctionKind.{FunctionKind}
+use Rattle.walrus_items.specs.declared.functions.FunctionKind.TheVariants as variants
 use Rattle.walrus_items.specs.declared.functions.FunctionKind.TheVariants.{Local}
-use Rattle.walrus_model.specs.Abstract.{Abstract, Name, TypeDef, Function, Body, Subject, TheModule, AnItem, ALocal}
+use Rattle.walrus_model.specs.Abstract as abstract
+use Rattle.walrus_model.specs.Abstract.{Abstract, Name, TypeDef, Function, ImportedFunction, Import, Body, Subject, TheModule, AnItem, ALocal}
 use Rattle.walrus_model.specs.Carried.{Carries}
 use Rattle.walrus_bodies.specs.declared.features.Features.{Features}
 use Rattle.walrus_rules.specs.Chain.{AreFoundOrAdded, NoMore, handlers_by, AddsHandlers, NoFunction, AndThose, IsWholeBody, ParsedAs}
@@ -28,36 +30,41 @@ use Rattle.walrus_rules.specs.Namings.{is_in_range}
 use Rattle.walrus_rules.specs.Sections.{items_of, module_of}
 use Rattle.walrus_reading.proofs.DeclaredLocals.{counts}
 use Rattle.walrus_model.specs.Reads.{arity, ReadsBodyWith}
-use Rattle.walrus_model.specs.Sections.{Said, function_with, body_with, types_of, globals_of, memories_of, tables_of, tags_of}
+use Rattle.walrus_model.specs.Sections.{Said, function_with, functions_of, body_with, imports_after, types_of, globals_of, memories_of, tables_of, tags_of}
+use Rattle.walrus_model.specs.Kept.{IsImportOf}
+use Rattle.walrus_model.specs.Live.{IsLive}
+use Rattle.walrus_model.specs.WellMade.{import_in, import_of, kind_import, origin_import}
+use Rattle.walrus_rules.proofs.TextImports.{imports_match}
 use Rattle.walrus_model.specs.Config.{Config}
 use Rattle.walrus_model.specs.Handlers.{handlers_of}
-use Rattle.walrus_model.specs.Names.{body_of, body_of_function, name_of, names_that_count, synthetic_name, last_name, or_else}
+use Rattle.walrus_model.specs.Names.{body_of, body_of_function, body_of_kind, name_of, names_that_count, synthetic_name, last_name, or_else}
 use Rattle.walrus_model.specs.Producers.{produced}
 use Rattle.walrus_model.proofs.Follow.{used_follow}
 use Rattle.walrus_model.proofs.Reach.{Contains-unmap}
-use Rattle.walrus_model.specs.Renaming.{Renaming, renamed_arg, renamed_op, renamed_ops, renamed_export}
-use Rattle.walrus_model.specs.Same.{SameType, SameBody, SameFunction, BothAnd}
+use Rattle.walrus_model.specs.Renaming.{Renaming, renamed_arg, renamed_import, renamed_op, renamed_ops, renamed_export}
+use Rattle.walrus_model.specs.Same.{SameType, SameBody, SameFunction, SameKind, BothAnd}
 use Rattle.walrus_types.specs.Shape.{Seen, Own, Other, in_its_group, others_through, place_in}
 use Rattle.walrus_model.proofs.Lists.{map-itself, map-same}
 use Rattle.walrus_model.proofs.TypeMaps.{sub-itself, val-itself, heap-itself}
 use Rattle.walrus_reading.specs.Taken.{HasTaken}
-use Rattle.walrus_reading.proofs.Held.{HeldBody, HeldFunction, held, exported}
-use Rattle.walrus_contents.specs.View.{body, kind_of, kind_handlers, handlers_at, function, contents_view, global_of, import_of, memory_of, table_of, tag_of}
-use Rattle.walrus_model.proofs.PipelineSame.{global_stays, memory_stays, table_stays, tag_stays}
-use Rattle.walrus_reading.specs.Held.{HoldsGlobal, HoldsMemory, HoldsTable, HoldsTag}
+use Rattle.walrus_reading.proofs.AllHeld.{Fits, all_fit}
+use Rattle.walrus_reading.proofs.Held.{HeldBody, HeldFunction, exported}
+use Rattle.walrus_reading.proofs.Kept.{kept}
+use Rattle.walrus_contents.specs.View.{body, kind_of, kind_handlers, handlers_at, function, contents_view, global_of, import_of as import_of_value, memory_of, table_of, tag_of}
+use Rattle.walrus_model.proofs.PipelineSame.{global_stays, import_stays, memory_stays, table_stays, tag_stays}
+use Rattle.walrus_reading.specs.Held.{HoldsGlobal, HoldsImport, HoldsMemory, HoldsTable, HoldsTag}
 use Rattle.walrus_reading.specs.Placed.{AllPlaced}
-use Rattle.walrus_items.specs.Imports.{ImportValue}
+use Rattle.walrus_items.specs.Imports.{imports}
 use Rattle.walrus_entities.specs.Globals.{globals}
 use Rattle.walrus_entities.specs.Memories.{memories}
 use Rattle.walrus_entities.specs.Tables.{tables}
 use Rattle.walrus_entities.specs.Tags.{tags}
 use Rattle.walrus_contents.specs.declared.parts.Contents.{Contents}
-use Rattle.walrus_contents.proofs.Lookups.{got_map, there, there_mapped}
-use Rattle.walrus_reading.proofs.Parsing.{read_at, used_below}
+use Rattle.walrus_contents.proofs.Lookups.{there}
+use Rattle.walrus_reading.proofs.Parsing.{used_below}
 use Rattle.walrus_contents.proofs.Steps.{type_there, zip_length}
 use Rattle.wasm_frames.specs.Record as wire
-use Rattle.walrus_model.proofs.Supported.{supported}
-use Rattle.walrus_model.proofs.Standing.{none_there, some_inj, got_in}
+use Rattle.walrus_model.proofs.Standing.{none_there, some_inj, some_of, got_in}
 
 -- ---- types
 
@@ -164,45 +171,64 @@ module _ (moved : ℕ → ℕ → ℕ) where
 
 -- ---- slot by slot
 
-module _ (types : ℕ → Option TypeDef) (slots : List (Option (ValType ℕ))) where
-  abbrev Holds : ℕ × Said → Option FunctionValue → Type 0
-  Holds p slot = HeldFunction types slots p slot
+-- an imported function has no handlers
+import_none : (all : ModuleLocals) (k : FunctionKind) (p : ℕ) → kind_of all k ≡ ImportedFunction p → kind_handlers k ≡ []
+import_none all (variants.Import i) p e = refl
+import_none all (variants.Local f) p e = absurd (cc)
+import_none all (variants.Uninitialized ty) p e = absurd (cc)
 
-  -- the first local of each function
-  first_at : (ps : List (ℕ × Said)) (fs : List (Option FunctionValue)) → AllZip Holds ps fs → ℕ → ℕ
+module _ (c : Features) (r : wire.Module) (all : ModuleLocals) where
+  abbrev Fit : Function → Option FunctionValue → Type 0
+  Fit g slot = Fits c r all g slot
+
+  -- the first local of a function: of one that an import brings it doesn't matter
+  abbrev first_of : (g : Function) (slot : Option FunctionValue) → Fit g slot → ℕ
+  first_of g slot (inl b) = 0
+  first_of g slot (inr o) = o.holds.body.first
+
+  first_at : (gs : List Function) (slots : List (Option FunctionValue)) → AllZip Fit gs slots → ℕ → ℕ
   first_at [] [] h i = 0
-  first_at [] (f ∷ fs) h i = absurd h
-  first_at (p ∷ ps) [] h i = absurd h
-  first_at (p ∷ ps) (f ∷ fs) h zero = h.0.body.first
-  first_at (p ∷ ps) (f ∷ fs) h (suc i) = first_at ps fs h.1 i
+  first_at [] (s ∷ slots) h i = absurd h
+  first_at (g ∷ gs) [] h i = absurd h
+  first_at (g ∷ gs) (s ∷ slots) h zero = first_of g s h.0
+  first_at (g ∷ gs) (s ∷ slots) h (suc i) = first_at gs slots h.1 i
 
   -- function i is held
-  record HeldAt (ps : List (ℕ × Said)) (fs : List (Option FunctionValue)) (first : ℕ) (i : ℕ) : Type 0 where
-    pub pair : ℕ × Said
-    pub got : slice_get ps i ≡ Some pair
+  record HeldAt (gs : List Function) (slots : List (Option FunctionValue)) (first : ℕ) (i : ℕ) : Type 0 where
+    pub said : Function
+    pub got : slice_get gs i ≡ Some said
     pub slot : Option FunctionValue
-    pub at : item_at fs i ≡ slot
-    pub holds : Holds pair slot
-    pub same : first ≡ holds.body.first
+    pub at : item_at slots i ≡ slot
+    pub fits : Fit said slot
+    pub same : first ≡ first_of said slot fits
 
-  held_at : (ps : List (ℕ × Said)) (fs : List (Option FunctionValue)) (h : AllZip Holds ps fs) (i : ℕ) → i < length ps → HeldAt ps fs (first_at ps fs h i) i
+  held_at : (gs : List Function) (slots : List (Option FunctionValue)) (h : AllZip Fit gs slots) (i : ℕ) → i < length gs → HeldAt gs slots (first_at gs slots h i) i
   unfolding first_at
-  held_at [] fs h i lt = absurd (omega arith)
-  held_at (p ∷ ps) [] h i lt = absurd h
-  held_at (p ∷ ps) (f ∷ fs) h zero lt = record { pair = p; got = refl; slot = f; at = refl; holds = h.0; same = refl }
-  held_at (p ∷ ps) (f ∷ fs) h (suc i) lt =
-      let r = held_at ps fs h.1 i (omega arith) in
-      record { pair = r.pair; got = r.got; slot = r.slot; at = r.at; holds = r.holds; same = r.same }
+  held_at [] slots h i lt = absurd (omega arith)
+  held_at (g ∷ gs) [] h i lt = absurd h
+  held_at (g ∷ gs) (s ∷ slots) h zero lt = record { said = g; got = refl; slot = s; at = refl; fits = h.0; same = refl }
+  held_at (g ∷ gs) (s ∷ slots) h (suc i) lt =
+      let found = held_at gs slots h.1 i (omega arith) in
+      record { said = found.said; got = found.got; slot = found.slot; at = found.at; fits = found.fits; same = found.same }
 
-  no_handlers : (p : ℕ × Said) (slot : Option FunctionValue) → Holds p slot → handlers_at slot ≡ []
-  no_handlers p slot h = ap handlers_at h.is ∙ ap kind_handlers h.kind ∙ ap (map place) h.body.handlers
+  no_handlers : (g : Function) (slot : Option FunctionValue) → Fit g slot → handlers_at slot ≡ []
+  no_handlers g slot (inl b) = ap handlers_at b.is ∙ import_none all b.value.kind b.by.0 (ap (λ (f : Function). f.kind) b.read ∙ b.by.1)
+  no_handlers g slot (inr o) = ap handlers_at o.holds.is ∙ ap kind_handlers o.holds.kind ∙ ap (map place) o.holds.body.handlers
 
-  none_handled : (ps : List (ℕ × Said)) (fs : List (Option FunctionValue)) (i : ℕ) → AllZip Holds ps fs → handlers_at (item_at fs i) ≡ []
+  none_handled : (gs : List Function) (slots : List (Option FunctionValue)) (i : ℕ) → AllZip Fit gs slots → handlers_at (item_at slots i) ≡ []
   none_handled [] [] i h = refl
-  none_handled [] (f ∷ fs) i h = absurd h
-  none_handled (p ∷ ps) [] i h = absurd h
-  none_handled (p ∷ ps) (f ∷ fs) zero h = no_handlers p f h.0
-  none_handled (p ∷ ps) (f ∷ fs) (suc i) h = none_handled ps fs i h.1
+  none_handled [] (s ∷ slots) i h = absurd h
+  none_handled (g ∷ gs) [] i h = absurd h
+  none_handled (g ∷ gs) (s ∷ slots) zero h = no_handlers g s h.0
+  none_handled (g ∷ gs) (s ∷ slots) (suc i) h = none_handled gs slots i h.1
+
+  carried : (moved : ℕ → ℕ → ℕ) (i : ℕ) (g : Function) (slot : Option FunctionValue) (fits : Fit g slot) → moved i ≡ (λ n. first_of g slot fits + n) → BothAnd (SameFunction (moving moved) i) (Some g) (option_map (function all) slot)
+  carried moved i g slot (inl b) at =
+      let known : option_map (function all) slot ≡ Some g = ap (option_map (function all)) b.is ∙ ap Some b.read in
+      let same : SameFunction (moving moved) i g g = record { ty = refl; kind = subst (λ (k : abstract.FunctionKind). SameKind (moving moved) i k k) (sym b.by.1) refl } in
+      subst (λ (o : Option Function). BothAnd (SameFunction (moving moved) i) (Some g) o) (sym known) same
+  carried moved i g slot (inr o) at =
+      subst (λ (f : Function). BothAnd (SameFunction (moving moved) i) (Some f) (option_map (function all) slot)) (sym o.says) (same_held moved all c r i o.pair o.text slot o.holds o.read at)
 
 pub item_within : {A : Type 0} (xs : List (Option A)) (i : ℕ) → IsSome (item_at xs i) → i < length xs
 item_within [] i h = absurd (none_there h)
@@ -273,9 +299,45 @@ module _ (moved : ℕ → ℕ → ℕ) (all : ModuleLocals) (c : Features) (r : 
     rise = λ x y is too lt. omega (arith, at_place x, at_place y, lt);
   }
 
+-- ---- the body of each function
+
+held_body : (all : ModuleLocals) (r : wire.Module) (slot : Option FunctionValue) (p : ℕ × Said) (k : HeldFunction (types_of r) (local_types (locals all)) p slot) → body_of_function (option_map (function all) slot) ≡ Some (body all k.local)
+held_body all r slot p k = ap body_of_function (ap (option_map (function all)) k.is ∙ ap (λ (o : FunctionKind). Some (of_kind all o)) k.kind)
+
+module _ (c : Features) (r : wire.Module) (all : ModuleLocals) (moved : ℕ → ℕ → ℕ) (f : ℕ) (a b : Body) where
+  whole_at : (g : Function) (slot : Option FunctionValue) (fits : Fits c r all g slot) → moved f ≡ (λ n. first_of c r all g slot fits + n) → body_of_kind g.kind ≡ Some a → body_of_function (option_map (function all) slot) ≡ Some b → IsWholeBody (moving moved) f a b
+  whole_at g slot (inl q) at was is = absurd (let no : ◌≡◌ {A = Option Body} None (Some a) = sym (ap body_of_kind q.by.1) ∙ was in cc)
+  whole_at g slot (inr o) at was is =
+      let params = params_of (types_of r o.pair.0) in
+      let old : body_with params o.pair.1 ≡ a = some_inj (body_with params o.pair.1) a (sym (ap (λ (y : Function). body_of_kind y.kind) o.says) ∙ was) in
+      let new : body all o.holds.local ≡ b = some_inj (body all o.holds.local) b (sym (held_body all r slot o.pair o.holds) ∙ is) in
+      subst (λ (y : Body). IsWholeBody (moving moved) f a y) new
+      (subst (λ (y : Body). IsWholeBody (moving moved) f y (body all o.holds.local)) old
+      (whole moved all c r f o.pair o.text o.holds.local o.holds.body o.read at))
+
+function_by : (o : Option Function) (a : Body) → body_of_function o ≡ Some a → (g : Function) × (o ≡ Some g) × (body_of_kind g.kind ≡ Some a)
+function_by (Some g) a e = (g, refl, e)
+function_by None a e = absurd (let no : ◌≡◌ {A = Option Body} None (Some a) = e in cc)
+
+-- ---- what imports name is there
+
+in_some : {X : Type 0} (get : X → Option ℕ) (o : Option X) (p : ℕ) → import_in get o ≡ Some p → IsSome o
+in_some get None p e = absurd (let no : ◌≡◌ {A = Option ℕ} None (Some p) = e in cc)
+in_some get (Some x) p e = refl
+
+named_live : (m : Abstract) (y : Item) (p : ℕ) → import_of m y ≡ Some p → IsLive m y
+named_live m (Functions, k) p e = in_some (λ f. kind_import f.kind) (m.functions k) p e
+named_live m (Tables, k) p e = in_some (λ t. origin_import t.origin) (m.tables k) p e
+named_live m (Memories, k) p e = in_some (λ t. origin_import t.origin) (m.memories k) p e
+named_live m (Tags, k) p e = in_some (λ t. origin_import t.origin) (m.tags k) p e
+named_live m (Globals, k) p e = in_some (λ t. origin_import t.origin) (m.globals k) p e
+named_live m (Types, k) p e = absurd (cc)
+named_live m (Elements, k) p e = absurd (cc)
+named_live m (DataSegments, k) p e = absurd (cc)
+
 -- ---- the whole
 
-module _ (c : Features) (r : wire.Module) (x : Contents) (many : length r.bodies ≡ length r.functions) (h : HasTaken c (supported r) x) where
+module _ (c : Features) (r : wire.Module) (x : Contents) (many : length r.bodies ≡ length r.functions) (h : HasTaken c (kept r) x) where
   abbrev all : ModuleLocals
   all = x.locals
 
@@ -283,56 +345,57 @@ module _ (c : Features) (r : wire.Module) (x : Contents) (many : length r.bodies
   slots = functions x.funcs
 
   abbrev M : Abstract
-  M = module_of (supported r) h.bodies [] []
+  M = module_of (kept r) h.bodies [] []
 
   abbrev v : Abstract
   v = contents_view x
 
-  abbrev pairs : List (ℕ × Said)
-  pairs = zip r.functions h.bodies
+  abbrev said : List Function
+  said = functions_of (kept r) h.bodies
 
   abbrev types : List TypeDef
   types = types_from 0 r.types
 
-  abbrev functions_held : AllZip (HeldFunction (types_of r) (local_types (locals all))) pairs slots
-  functions_held = held c (supported r) x h
+  abbrev fit : AllZip (Fits c (kept r) all) said slots
+  fit = all_fit c (kept r) x h many
 
   -- a function's locals begin where its first one stands
   abbrev moved : ℕ → ℕ → ℕ
-  moved i n = first_at (types_of r) (local_types (locals all)) pairs slots functions_held i + n
+  moved i n = first_at c (kept r) all said slots fit i + n
 
   abbrev further : ℕ → ℕ → ℕ
   further k n = k + n
 
   function_carried : (i : ℕ) → IsSome (M.functions i) → BothAnd (SameFunction (moving moved) i) (M.functions i) (v.functions i)
   function_carried i live =
-      let e = got_map (function_with r) pairs i in
-      let some : IsSome (slice_get pairs i) = was_some (function_with r) (slice_get pairs i) (subst (λ o. IsSome o) e live) in
-      let a = held_at (types_of r) (local_types (locals all)) pairs slots functions_held i (got_within pairs i some) in
-      let b = read_at (ReadsBodyWith c (supported r)) r.functions r.bodies h.bodies i a.pair many h.read a.got in
-      let at : moved i ≡ (λ n. a.holds.body.first + n) = ap further a.same in
-      let was : Some (function_with r a.pair) ≡ M.functions i = sym (e ∙ ap (option_map (function_with r)) a.got) in
-      subst (λ (o : Option Function). BothAnd (SameFunction (moving moved) i) o (v.functions i)) was
-      (subst (λ (s : Option FunctionValue). BothAnd (SameFunction (moving moved) i) (Some (function_with r a.pair)) (option_map (function all) s)) (sym a.at)
-      (same_held moved all c (supported r) i a.pair b.0 a.slot a.holds b.1 at))
-
-  function_within : (i : ℕ) → IsSome (M.functions i) → i < length pairs
-  function_within i live = got_within pairs i (was_some (function_with r) (slice_get pairs i) (subst (λ o. IsSome o) (got_map (function_with r) pairs i) live))
+      let a = held_at c (kept r) all said slots fit i (got_within said i live) in
+      subst (λ (o : Option Function). BothAnd (SameFunction (moving moved) i) o (v.functions i)) (sym a.got)
+      (subst (λ (s : Option FunctionValue). BothAnd (SameFunction (moving moved) i) (Some a.said) (option_map (function all) s)) (sym a.at)
+      (carried c (kept r) all moved i a.said a.slot a.fits (ap further a.same)))
 
   function_there : (i : ℕ) → IsSome (v.functions i) → IsSome (M.functions i)
   function_there i live =
       let lt : i < length slots = item_within slots i (was_some (function all) (item_at slots i) live) in
-      let as_many : length pairs ≡ length slots = zip_length (HeldFunction (types_of r) (local_types (locals all))) pairs slots functions_held in
-      let within : i < length pairs = omega (arith, lt, as_many) in
-      there_mapped (function_with r) pairs i within
+      let as_many : length said ≡ length slots = zip_length (Fits c (kept r) all) said slots fit in
+      there said i (omega (arith, lt, as_many))
 
   type_at : (i : ℕ) → v.types i ≡ types_of r i
   type_at i = type_there r x.types h.types i
 
+  -- ---- imports
+
+  import_seen : (i : ℕ) → v.imports i ≡ M.imports i
+  import_seen = seen_there import_of_value HoldsImport (λ n y s k. (k.value, (k.is, k.read))) 0 (imports_after [] r.imports) (imports x.imports) h.imports
+
+  import_live : (i : ℕ) → IsSome (M.imports i) → IsImportOf (IsLive M) M i
+  import_live i some =
+      let y = some_of (M.imports i) some in
+      (y.0, y.1, named_live M y.0.item i ((imports_match (kept r) h.bodies [] []).imports i y.0 y.1))
+
   -- ---- no handlers
 
   handled : (f : ℕ) → v.handler_types f ≡ []
-  handled f = none_handled (types_of r) (local_types (locals all)) pairs slots f functions_held
+  handled f = none_handled c (kept r) all said slots f fit
 
   module _ (none : (f : ℕ) (b : Body) → body_of M f ≡ Some b → handlers_of M b ≡ []) where
     no_handler : (f : ℕ) (o : Option Body) → body_of M f ≡ o → handlers_by M o ≡ []
@@ -349,25 +412,13 @@ module _ (c : Features) (r : wire.Module) (x : Contents) (many : length r.bodies
 
   -- ---- bodies
 
-  said_by : (o : Option (ℕ × Said)) (a : Body) → body_of_function (option_map (function_with r) o) ≡ Some a → (p : ℕ × Said) × (o ≡ Some p) × (body_with (params_of (types_of r p.0)) p.1 ≡ a)
-  said_by (Some p) a e = (p, refl, some_inj (body_with (params_of (types_of r p.0)) p.1) a e)
-  said_by None a e = absurd (let no : ◌≡◌ {A = Option Body} None (Some a) = e in cc)
-
-  held_body : (slot : Option FunctionValue) (p : ℕ × Said) (k : HeldFunction (types_of r) (local_types (locals all)) p slot) → body_of_function (option_map (function all) slot) ≡ Some (body all k.local)
-  held_body slot p k = ap body_of_function (ap (option_map (function all)) k.is ∙ ap (λ (o : FunctionKind). Some (of_kind all o)) k.kind)
-
   whole_bodies : (f : ℕ) (a b : Body) → body_of M f ≡ Some a → body_of v f ≡ Some b → IsWholeBody (moving moved) f a b
   whole_bodies f a b was is =
-      let s = said_by (slice_get pairs f) a (sym (ap body_of_function (got_map (function_with r) pairs f)) ∙ was) in
-      let k = held_at (types_of r) (local_types (locals all)) pairs slots functions_held f (got_in pairs f s.0 s.1).0 in
-      let one : k.pair ≡ s.0 = some_inj k.pair s.0 (sym k.got ∙ s.1) in
-      let t = read_at (ReadsBodyWith c (supported r)) r.functions r.bodies h.bodies f k.pair many h.read k.got in
-      let at : moved f ≡ (λ n. k.holds.body.first + n) = ap further k.same in
-      let old : body_with (params_of (types_of r k.pair.0)) k.pair.1 ≡ a = ap (λ (q : ℕ × Said). body_with (params_of (types_of r q.0)) q.1) one ∙ s.2 in
-      let new : body all k.holds.local ≡ b = some_inj (body all k.holds.local) b (sym (ap (λ (o : Option FunctionValue). body_of_function (option_map (function all) o)) k.at ∙ held_body k.slot k.pair k.holds) ∙ is) in
-      subst (λ (y : Body). IsWholeBody (moving moved) f a y) new
-      (subst (λ (y : Body). IsWholeBody (moving moved) f y (body all k.holds.local)) old
-      (whole moved all c (supported r) f k.pair t.0 k.holds.local k.holds.body t.1 at))
+      let s = function_by (slice_get said f) a was in
+      let k = held_at c (kept r) all said slots fit f (got_in said f s.0 s.1).0 in
+      let one : k.said ≡ s.0 = some_inj k.said s.0 (sym k.got ∙ s.1) in
+      whole_at c (kept r) all moved f a b k.said k.slot k.fits (ap further k.same) (ap (λ (g : Function). body_of_kind g.kind) one ∙ s.2)
+      (sym (ap (λ (o : Option FunctionValue). body_of_function (option_map (function all) o)) k.at) ∙ is)
 
   -- ---- nothing is named
 
@@ -376,7 +427,7 @@ module _ (c : Features) (r : wire.Module) (x : Contents) (many : length r.bodies
   either_none false = refl
 
   unnamed : (y : Subject) → M.named y ≡ []
-  unnamed y = either_none (is_in_range (items_of (supported r) h.bodies []) y)
+  unnamed y = either_none (is_in_range (items_of (kept r) h.bodies []) y)
 
   module _ (config : Config) (own_names : config.synthetic_names ≡ false) where
     nameless : (y : Subject) → None ≡ name_of config M y
@@ -388,11 +439,11 @@ module _ (c : Features) (r : wire.Module) (x : Contents) (many : length r.bodies
   pub parsed : (config : Config) → config.synthetic_names ≡ false → ((f : ℕ) (b : Body) → body_of M f ≡ Some b → handlers_of M b ≡ []) → v.producers ≡ produced [] → ParsedAs config M v
   parsed config own_names none put_in = record {
     types = types;
-    functions = length pairs;
+    functions = length said;
     all_types = types;
     types_read = λ i. refl;
-    functions_read = λ f. (function_within f, there_mapped (function_with r) pairs f);
-    handlers = adds none (range_with_len 0 (length pairs));
+    functions_read = λ f. (got_within said f, there said f);
+    handlers = adds none (range_with_len 0 (length said));
     types_made = type_at;
     no_handlers = λ f past. handled f;
     renaming = moving moved;
@@ -401,17 +452,21 @@ module _ (c : Features) (r : wire.Module) (x : Contents) (many : length r.bodies
         same = λ i live. subst (λ o. BothAnd (SameType (λ k. k) i) (types_of r i) o) (sym (type_at i)) (both_types i (types_of r i) live);
         onto = λ j live. inl (j, subst (λ o. IsSome o) (type_at j) live, refl);
       };
-      imports = record { same = λ i x. (let e = x.1 in cc); onto = λ j live. absurd (none_there (subst (λ (l : List (Option ImportValue)). IsSome (option_map import_of (item_at l j))) h.imports live)) };
+      imports = record {
+        same = λ i live. subst (λ (o : Option Import). BothAnd (λ y z. z ≡ renamed_import (moving moved) y) (M.imports i) o) (sym (import_seen i))
+            (both_same (λ y z. z ≡ renamed_import (moving moved) y) (M.imports i) (subst (λ (o : Option Import). IsSome o) (sym live.1) refl) (λ y. sym (import_stays (moving moved) (λ s n. refl) (λ n. refl) y)));
+        onto = λ j live. inl (j, import_live j (subst (λ (o : Option Import). IsSome o) (import_seen j) live), refl);
+      };
       functions = record { same = function_carried; onto = λ j live. inl (j, function_there j live, refl) };
-      tables = carried_there _ _ M.tables v.tables (seen_there table_of HoldsTable (λ n t s k. (k.value, (k.is, k.read))) 0 (tables_of (supported r)) (tables x.tables) h.tables) (λ i t. sym (table_stays (moving moved) (λ s n. refl) (λ n. refl) t));
-      memories = carried_there _ _ M.memories v.memories (seen_there memory_of HoldsMemory (λ n y s k. (k.value, (k.is, k.read))) 0 (memories_of (supported r)) (memories x.memories) h.memories) (λ i y. sym (memory_stays (moving moved) (λ s n. refl) (λ n. refl) y));
-      tags = carried_there _ _ M.tags v.tags (seen_there tag_of HoldsTag (λ n t s k. (k.value, (k.is, k.read))) 0 (tags_of (supported r)) (tags x.tags) h.tags) (λ i t. sym (tag_stays (moving moved) (λ s n. refl) (λ n. refl) t));
-      globals = carried_there _ _ M.globals v.globals (seen_there global_of HoldsGlobal (λ n g s k. (k.value, (k.is, k.read))) 0 (globals_of (supported r)) (globals x.globals) h.globals) (λ i g. sym (global_stays (moving moved) (λ s n. refl) (λ n. refl) g));
+      tables = carried_there _ _ M.tables v.tables (seen_there table_of HoldsTable (λ n t s k. (k.value, (k.is, k.read))) 0 (tables_of (kept r)) (tables x.tables) h.tables) (λ i t. sym (table_stays (moving moved) (λ s n. refl) (λ n. refl) t));
+      memories = carried_there _ _ M.memories v.memories (seen_there memory_of HoldsMemory (λ n y s k. (k.value, (k.is, k.read))) 0 (memories_of (kept r)) (memories x.memories) h.memories) (λ i y. sym (memory_stays (moving moved) (λ s n. refl) (λ n. refl) y));
+      tags = carried_there _ _ M.tags v.tags (seen_there tag_of HoldsTag (λ n t s k. (k.value, (k.is, k.read))) 0 (tags_of (kept r)) (tags x.tags) h.tags) (λ i t. sym (tag_stays (moving moved) (λ s n. refl) (λ n. refl) t));
+      globals = carried_there _ _ M.globals v.globals (seen_there global_of HoldsGlobal (λ n g s k. (k.value, (k.is, k.read))) 0 (globals_of (kept r)) (globals x.globals) h.globals) (λ i g. sym (global_stays (moving moved) (λ s n. refl) (λ n. refl) g));
       elements = no_items _ _;
       data_segments = no_items _ _;
       imports_apart = λ i j k l e. e;
       apart = λ space no i j k l e. e;
-      exports = exported c (supported r) x h ∙ sym (map-itself (renamed_export (moving moved)) _ (λ e. refl));
+      exports = exported c (kept r) x h ∙ sym (map-itself (renamed_export (moving moved)) _ (λ e. refl));
       start = refl;
     };
     bodies = whole_bodies;

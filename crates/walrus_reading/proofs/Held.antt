@@ -17,7 +17,7 @@ use Rattle.walrus_functions.specs.EmittedBody.{types_of as local_types}
 use Rattle.walrus_functions.specs.Handlers.{params_of}
 use Rattle.walrus_functions.specs.Laws.{moved_op}
 use Rattle.walrus_items.specs.Exports.{ExportValue, exports}
-use Rattle.walrus_items.specs.Functions.{FunctionValue, functions}
+use Rattle.walrus_items.specs.Functions.{FunctionValue}
 use Rattle.walrus_items.specs.declared.functions.FunctionKind.TheVariants as variants
 use Rattle.walrus_model.specs.Abstract.{Export}
 use Rattle.walrus_model.specs.Sections.{Said, types_of, export_of}
@@ -115,10 +115,10 @@ exports_seen k n (e ∷ es) (s ∷ slots) h =
 -- ---- all
 
 module _ (c : Features) (r : wire.Module) (m : Contents) (t : HasTaken c r m) where
-  pub held : AllZip (HeldFunction (types_of r) (local_types (locals m.locals))) (zip r.functions t.bodies) (functions m.funcs)
+  pub held : AllZip (HeldFunction (types_of r) (local_types (locals m.locals))) (zip r.functions t.bodies) t.functions.own.added
   held =
       let all : List (ℕ × Said) = zip r.functions t.bodies in
-      each_held (types_of r) (local_types (locals m.locals)) [] 0 0 all (functions m.funcs) (locals_typed 0 (flat_map (locals_said (types_of r)) all) (locals m.locals) t.locals) refl t.functions
+      each_held (types_of r) (local_types (locals m.locals)) [] (length t.functions.front) 0 all t.functions.own.added (locals_typed 0 (flat_map (locals_said (types_of r)) all) (locals m.locals) t.locals) refl t.functions.own.held
 
   pub exported : view.exports_of m.exports ≡ map export_of r.exports
   exported = exports_seen 0 0 r.exports (exports m.exports) t.exports

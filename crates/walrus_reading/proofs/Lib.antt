@@ -1,8 +1,10 @@
 pub mod Accepting
+pub mod AllHeld
 pub mod Brought
 pub mod Carrying
 pub mod DeclaredLocals
 pub mod Held
+pub mod Kept
 pub mod Locating
 pub mod NarrowRules
 pub mod NoHandlers

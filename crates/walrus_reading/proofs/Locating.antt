@@ -1,13 +1,17 @@
 -- The locations of operators that were read.
-use Rattle.std.proofs.Common.{◌≡◌, ℕ, ◌+◌, ◌<◌, ◌≤◌, List, [], ◌∷◌, ◌++◌, length, map, take, get_or, refl, sym, ap, subst, ◌∙◌, arith}
-use Rattle.std.specs.Prelude.{Option, Result, Ok, Err, IfOk}
+use Rattle.std.proofs.Common.{◌≡◌, ℕ, zero, suc, ◌+◌, ◌<◌, ◌≤◌, List, [], ◌∷◌, ◌++◌, length, map, take, get_or, refl, sym, ap, subst, ◌∙◌, arith, append_assoc, append-nil}
+use Rattle.std.specs.Prelude.{drop, Option, Result, Ok, Err, IfOk}
 use Rattle.std.specs.List.{AllZip}
 use Rattle.std.proofs.lemmas.List.{take_more, take_all, length-map, get_or-map}
 use Rattle.walrus_code.specs.declared.location.InstrLocId.{InstrLocId}
 use Rattle.walrus_bodies.specs.Body.{Located}
 use Rattle.walrus_bodies.specs.BodyRead.{BodyLocated}
 use Rattle.walrus_items.specs.Functions.{FunctionValue}
-use Rattle.walrus_reading.specs.Taken.{IsLocated}
+use Rattle.walrus_model.specs.Sections.{imported, imported_function}
+use Rattle.walrus_reading.specs.Held.{HoldsImportedFunction}
+use Rattle.walrus_reading.specs.Placed.{AllPlaced}
+use Rattle.walrus_reading.specs.Taken.{AddLocated, AreLocatedIn, IsLocated}
+use Rattle.walrus_reading.proofs.Rows.{placed_length}
 use Rattle.walrus_contents.proofs.Steps.{zip_push}
 use Rattle.wasm_frames.specs.declared.record.RawBody.{RawBody}
 use Rattle.wasm_frames.specs.Record as wire
@@ -31,19 +35,36 @@ if_located R S through place bytes locs (Err e) h = h
 -- ---- function by function
 
 module _ (fs : List ℕ) (raw : List RawBody) (many : length raw ≡ length fs) where
-  pub none_located : (slots : List (Option FunctionValue)) → slots ≡ [] → AllZip IsLocated (take 0 (map wire.body_record raw)) slots
-  none_located slots none = subst (λ (l : List (Option FunctionValue)). AllZip IsLocated [] l) (sym none) tt
+  pub none_located : (old slots : List (Option FunctionValue)) → slots ≡ old → AddLocated (take 0 (map wire.body_record raw)) old slots
+  none_located old slots same = ([], (same ∙ sym (append-nil old), tt))
 
-  pub more_located : (i : ℕ) (d : RawBody) (before after : List (Option FunctionValue)) → i < length fs → AllZip IsLocated (take i (map wire.body_record raw)) before
-      → (slot : Option FunctionValue) → after ≡ before ++ slot ∷ [] → IsLocated (wire.body_record (get_or raw i d)) slot → AllZip IsLocated (take (i + 1) (map wire.body_record raw)) after
-  more_located i d before after lt done slot push is =
+  pub more_located : (i : ℕ) (d : RawBody) (old before after : List (Option FunctionValue)) → i < length fs → AddLocated (take i (map wire.body_record raw)) old before
+      → (slot : Option FunctionValue) → after ≡ before ++ slot ∷ [] → IsLocated (wire.body_record (get_or raw i d)) slot → AddLocated (take (i + 1) (map wire.body_record raw)) old after
+  more_located i d old before after lt (added, (behind, done)) slot push is =
       let within : i < length (map wire.body_record raw) = omega (arith, lt, many, length-map raw wire.body_record) in
       let more : take (i + 1) (map wire.body_record raw) ≡ take i (map wire.body_record raw) ++ wire.body_record (get_or raw i d) ∷ [] =
-      take_more (map wire.body_record raw) i (wire.body_record d) within ∙ ap (λ (b : wire.Body). take i (map wire.body_record raw) ++ b ∷ []) (get_or-map wire.body_record raw i d (wire.body_record d) (omega (arith, lt, many))) in
-      subst (λ (l : List wire.Body). AllZip IsLocated l after) (sym more)
-      (subst (λ (l : List (Option FunctionValue)). AllZip IsLocated (take i (map wire.body_record raw) ++ wire.body_record (get_or raw i d) ∷ []) l) (sym push)
-      (zip_push IsLocated (take i (map wire.body_record raw)) before (wire.body_record (get_or raw i d)) slot done is))
+      take_more (map wire.body_record raw) i (wire.body_record d) within ∙ ap (λ (b : wire.Body). take i (map wire.body_record raw) ++ b ∷ []) (get_or-map wire.body_record raw i d (wire.body_record d) (omega (arith, lt, many))) in (
+        added ++ slot ∷ [],
+        (
+          push ∙ ap (λ (l : List (Option FunctionValue)). l ++ slot ∷ []) behind ∙ append_assoc old added (slot ∷ []),
+          subst (λ (l : List wire.Body). AllZip IsLocated l (added ++ slot ∷ [])) (sym more) (zip_push IsLocated (take i (map wire.body_record raw)) added (wire.body_record (get_or raw i d)) slot done is),
+        ),
+      )
 
-  pub all_located : (i : ℕ) (after : List (Option FunctionValue)) → length fs ≤ i → AllZip IsLocated (take i (map wire.body_record raw)) after → AllZip IsLocated (map wire.body_record raw) after
-  all_located i after le done =
-      subst (λ (l : List wire.Body). AllZip IsLocated l after) (take_all i (map wire.body_record raw) (omega (arith, le, many, length-map raw wire.body_record))) done
+  pub all_located : (i : ℕ) (old after : List (Option FunctionValue)) → length fs ≤ i → AddLocated (take i (map wire.body_record raw)) old after → AddLocated (map wire.body_record raw) old after
+  all_located i old after le done =
+      subst (λ (l : List wire.Body). AddLocated l old after) (take_all i (map wire.body_record raw) (omega (arith, le, many, length-map raw wire.body_record))) done
+
+-- ---- behind those that imports bring
+
+past : {A : Type 0} (n : ℕ) (front back : List A) → n ≡ length front → drop n (front ++ back) ≡ back
+past zero [] back e = refl
+past zero (x ∷ front) back e = absurd (omega (arith, e))
+past (suc n) [] back e = absurd (omega (arith, e))
+past (suc n) (x ∷ front) back e = past n front back (omega (arith, e))
+
+pub located_in : (r : wire.Module) (raw : List RawBody) (old new : List (Option FunctionValue)) → map wire.body_record raw ≡ r.bodies → AllPlaced HoldsImportedFunction 0 (imported imported_function 0 r.imports) old → AddLocated (map wire.body_record raw) old new → AreLocatedIn r new
+located_in r raw old new same brings (added, (behind, located)) =
+    let many : length (imported imported_function 0 r.imports) ≡ length old = placed_length HoldsImportedFunction 0 (imported imported_function 0 r.imports) old brings in
+    let rest : drop (length (imported imported_function 0 r.imports)) new ≡ added = ap (λ (l : List (Option FunctionValue)). drop (length (imported imported_function 0 r.imports)) l) behind ∙ past (length (imported imported_function 0 r.imports)) old added many in
+    subst (λ (l : List (Option FunctionValue)). AllZip IsLocated r.bodies l) (sym rest) (subst (λ (l : List wire.Body). AllZip IsLocated l added) same located)

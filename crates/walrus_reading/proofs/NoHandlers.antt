@@ -1,7 +1,7 @@
 -- A body that was read without legacy exceptions has no legacy handlers.
-use Rattle.std.proofs.Common.{◌≡◌, ℕ, zero, suc, Bool, true, false, List, [], ◌∷◌, ◌++◌, map, zip, refl, sym, ap, ap₂, subst, eqb-true}
-use Rattle.std.specs.Prelude.{Option, Some, ◌&&◌, ◌||◌, slice_get, ◌==◌, if◌then◌else◌}
-use Rattle.std.specs.List.{AllZip}
+use Rattle.std.proofs.Common.{◌≡◌, ℕ, zero, suc, Bool, true, false, List, [], ◌∷◌, ◌++◌, map, zip, refl, sym, ap, ap₂, subst, ◌∙◌, eqb-true}
+use Rattle.std.specs.Prelude.{Option, Some, None, ◌&&◌, ◌||◌, slice_get, ◌==◌, if◌then◌else◌}
+use Rattle.std.specs.List.{AllZip, AllByRecursion}
 use Rattle.wasm_frames.specs.Record as wire
 use Rattle.walrus_base.specs.Types.{ValType}
 use Rattle.walrus_types.specs.Operators.{Op}
@@ -9,12 +9,12 @@ use Rattle.walrus_types.specs.Composite.{function_comp}
 use Rattle.walrus_bodies.specs.declared.features.Features.{Features}
 use Rattle.walrus_bodies.specs.Features.{is_allowed, are_allowed}
 use Rattle.walrus_functions.specs.Handlers.{params_of, OpenBlock, Try, OtherBlock, opens_other, closes, without_innermost, opened_results, blocks_after, handler_at, handlers_from}
-use Rattle.walrus_model.specs.Abstract.{TypeDef, Body}
-use Rattle.walrus_model.specs.Names.{body_of, body_of_function}
+use Rattle.walrus_model.specs.Abstract.{TypeDef, Body, Function}
+use Rattle.walrus_model.specs.Names.{body_of, body_of_function, body_of_kind}
 use Rattle.walrus_model.specs.Handlers.{tag_type, handlers_of}
 use Rattle.walrus_model.specs.Reads.{ReadsBodyWith}
-use Rattle.walrus_model.specs.Sections.{Said, types_of, body_with, function_with, module_of}
-use Rattle.walrus_model.proofs.Supported.{supported}
+use Rattle.walrus_model.specs.Sections.{Said, types_of, body_with, function_with, imported, imported_function, module_of}
+use Rattle.walrus_reading.proofs.AllHeld.{IsImported, all_imported}
 
 -- ---- a body that was read has no try (06)
 
@@ -93,8 +93,15 @@ function_has_none r (ty ∷ tys) [] none i b at = absurd (cc)
 function_has_none r (ty ∷ tys) (body ∷ bodies) none zero b at = let is : body_with (params_of (types_of r ty)) body ≡ b = cc in subst (λ (x : Body). NoTries x.operators) is none.0
 function_has_none r (ty ∷ tys) (body ∷ bodies) none (suc i) b at = function_has_none r tys bodies none.1 i b at
 
-pub no_handlers : (c : Features) (r : wire.Module) (bodies : List Said) → c.legacy_exceptions ≡ false → AllZip (ReadsBodyWith c (supported r)) (zip r.functions r.bodies) bodies → (f : ℕ) (b : Body) → body_of (module_of (supported r) bodies) f ≡ Some b
-    → handlers_of (module_of (supported r) bodies) b ≡ []
+-- a function with a body isn't one that an import brings
+past_imported : (gs : List Function) → AllByRecursion IsImported gs → (own : List Function) (i : ℕ) (b : Body) → body_of_function (slice_get (gs ++ own) i) ≡ Some b → (j : ℕ) × (body_of_function (slice_get own j) ≡ Some b)
+past_imported [] by own i b at = (i, at)
+past_imported (g ∷ gs) by own zero b at = absurd (let no : ◌≡◌ {A = Option Body} None (Some b) = sym (ap body_of_kind by.0.1) ∙ at in cc)
+past_imported (g ∷ gs) by own (suc i) b at = past_imported gs by.1 own i b at
+
+pub no_handlers : (c : Features) (r : wire.Module) (bodies : List Said) → c.legacy_exceptions ≡ false → AllZip (ReadsBodyWith c r) (zip r.functions r.bodies) bodies → (f : ℕ) (b : Body) → body_of (module_of r bodies) f ≡ Some b
+    → handlers_of (module_of r bodies) b ≡ []
 no_handlers c r bodies off read f b at =
-    let none = function_has_none r r.functions bodies (bodies_have_none c (supported r) off (zip r.functions r.bodies) bodies read) f b at in
-    ap (map function_comp) (no_handlers_from (types_of r) (tag_type (module_of (supported r) bodies)) (OtherBlock ∷ []) b.operators tt none)
+    let own = past_imported (imported imported_function 0 r.imports) (all_imported 0 r.imports) (map (function_with r) (zip r.functions bodies)) f b at in
+    let none = function_has_none r r.functions bodies (bodies_have_none c r off (zip r.functions r.bodies) bodies read) own.0 b own.1 in
+    ap (map function_comp) (no_handlers_from (types_of r) (tag_type (module_of r bodies)) (OtherBlock ∷ []) b.operators tt none)

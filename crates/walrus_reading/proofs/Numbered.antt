@@ -1,12 +1,13 @@
 -- Each index leads to the item of its number, once each space has as many indices as it has items; and so does all that sections name.
 use Rattle.wasm_frames.specs.Record as wire
-use Rattle.std.proofs.Common.{◌≡◌, ℕ, ◌+◌, ◌<◌, Bool, true, false, List, [], ◌++◌, length, map, refl, sym, ap, subst, ◌∙◌, arith, length-append}
-use Rattle.std.specs.Prelude.{Option, Some, None, ◌≢◌, slice_get, nat_lt, if◌then◌else◌, unwrap_or}
+use Rattle.std.proofs.Common.{◌≡◌, ℕ, ◌+◌, ◌<◌, Bool, true, false, List, [], ◌∷◌, ◌++◌, length, map, get_or, refl, sym, ap, subst, ◌∙◌, arith, length-append}
+use Rattle.std.specs.Prelude.{All, Option, Some, None, ◌≢◌, option_to_list, slice_get, nat_lt, if◌then◌else◌, unwrap_or}
 use Rattle.std.specs.List.{range_with_len}
 use Rattle.std.proofs.lemmas.List.{length-map}
 use mathlib.Core.Path.{fun_ext}
 use borrow.Author.Tests.{ltb-true, ltb-false}
 use Rattle.wasm_entries.specs.declared.record.RawDesc.{RawDesc}
+use Rattle.wasm_entries.specs.declared.record.RawDesc.TheVariants as descs
 use Rattle.wasm_entries.specs.Record as entries
 use Rattle.wasm_wire.specs.Context as context
 use Rattle.wasm_wire.specs.Context.{context_of, counts_of, desc_global}
@@ -20,15 +21,25 @@ use Rattle.walrus_groups.specs.Groups.{sub_of, types_from}
 use Rattle.walrus_groups.specs.Reading.{TypesInPlace}
 use Rattle.walrus_model.specs.Abstract as abstract
 use Rattle.walrus_model.specs.Reads.{below, declared}
-use Rattle.walrus_model.specs.Sections.{element_of, elements_of, function_types, global_of, globals_of, global_type_of, imported, imported_global, imported_memory, imported_table, imported_tag, imported_type, memory_of, memories_of, memory_type_of, table_of, tables_of, table_type_of, tag_of, tags_of}
+use Rattle.walrus_model.specs.Sections.{element_of, elements_of, function_types, global_of, globals_of, global_type_of, imported, imported_function, imported_global, imported_memory, imported_table, imported_tag, imported_type, memory_of, memories_of, memory_type_of, table_of, tables_of, table_type_of, tag_of, tags_of}
 use Rattle.walrus_model.specs.Supported.{IsSupported}
 use Rattle.walrus_contents.proofs.Lookups.{as_long}
 use Rattle.walrus_contents.proofs.Steps.{own_index}
 use Rattle.walrus_contents.proofs.Taking.{get_own, get_past}
 use Rattle.walrus_records.proofs.Images.{function_types_look, globals_look, memories_look, tables_look, tags_look, types_look}
+use Rattle.walrus_items.specs.Functions.{functions}
+use Rattle.walrus_entities.specs.Globals.{globals}
+use Rattle.walrus_entities.specs.Memories.{memories}
+use Rattle.walrus_entities.specs.Tables.{tables}
+use Rattle.walrus_entities.specs.Tags.{tags}
+use Rattle.walrus_contents.specs.declared.parts.Contents.{Contents}
+use Rattle.walrus_reading.specs.Held.{HoldsGlobal, HoldsImportedFunction, HoldsMemory, HoldsTable, HoldsTag}
+use Rattle.walrus_reading.specs.Imported.{HoldsImports}
 use Rattle.walrus_reading.specs.Numbers.{NumbersSpace}
-use Rattle.walrus_reading.specs.Stays.{AllStay, AreNumbered}
-use Rattle.walrus_reading.proofs.StaysByRules.{all_stay}
+use Rattle.walrus_reading.specs.Placed.{AllPlaced}
+use Rattle.walrus_reading.specs.Stays.{AllStay, AreNumbered, DescStays}
+use Rattle.walrus_reading.proofs.Rows.{placed_length}
+use Rattle.walrus_reading.proofs.StaysByRules.{all_stay, desc_stays}
 
 -- ---- the look-up of indices is what sections declare
 
@@ -68,20 +79,53 @@ module _ (r : wire.Module) (indices : IndicesToIds) (h : HasIndices r indices) w
 pub none_in_place : (indices : IndicesToIds) (slots : List (Option TypeDef)) → places_in indices Types ≡ [] → slots ≡ [] → TypesInPlace indices slots
 none_in_place indices slots none empty = none ∙ ap (λ (l : List (Option TypeDef)). range_with_len 0 (length l)) (sym empty)
 
+-- ---- how many items are declared: those that imports brought, and those that sections define
+
+one_type : (i : ℕ) (d : RawDesc) → length (option_to_list (imported_type i d)) ≡ length (option_to_list (imported_function i d))
+one_type i (descs.Function ty) = refl
+one_type i (descs.Table t) = refl
+one_type i (descs.Memory l) = refl
+one_type i (descs.Global g) = refl
+one_type i (descs.Tag ty) = refl
+
+types_many : (i : ℕ) (xs : List entries.Import) → length (imported imported_type i xs) ≡ length (imported imported_function i xs)
+types_many i [] = refl
+types_many i (x ∷ xs) =
+    omega (
+      arith,
+      length-append (option_to_list (imported_type i x.desc)) (imported imported_type (i + 1) xs),
+      length-append (option_to_list (imported_function i x.desc)) (imported imported_function (i + 1) xs),
+      one_type i x.desc,
+      types_many (i + 1) xs,
+    )
+
+counted : {X Y T : Type 0} (R : ℕ → X → T → Type 0) (brought : List X) (slots : List T) (make : Y → X) (ys : List Y) (first own : ℕ) → AllPlaced R 0 brought slots → first ≡ length slots → own ≡ length ys → first + own ≡ length (brought ++ map make ys)
+counted R brought slots make ys first own held at same = omega (arith, at, placed_length R 0 brought slots held, same, length-append brought (map make ys), length-map ys make)
+
+module _ (r : wire.Module) (m : Contents) (h : HoldsImports r.imports m) (first own : ℕ) where
+  pub functions_counted : first ≡ length (functions m.funcs) → own ≡ length r.functions → first + own ≡ length (function_types r)
+  functions_counted at same =
+      let brought = imported imported_function 0 r.imports in
+      omega (arith, at, placed_length HoldsImportedFunction 0 brought (functions m.funcs) h.functions, same, length-append (imported imported_type 0 r.imports) r.functions, types_many 0 r.imports)
+
+  pub tables_counted : first ≡ length (tables m.tables) → own ≡ length r.tables → first + own ≡ length (tables_of r)
+  tables_counted at same = counted HoldsTable (imported imported_table 0 r.imports) (tables m.tables) table_of r.tables first own h.tables at same
+
+  pub memories_counted : first ≡ length (memories m.memories) → own ≡ length r.memories → first + own ≡ length (memories_of r)
+  memories_counted at same = counted HoldsMemory (imported imported_memory 0 r.imports) (memories m.memories) memory_of r.memories first own h.memories at same
+
+  pub tags_counted : first ≡ length (tags m.tags) → own ≡ length r.tags → first + own ≡ length (tags_of r)
+  tags_counted at same = counted HoldsTag (imported imported_tag 0 r.imports) (tags m.tags) tag_of r.tags first own h.tags at same
+
+  pub globals_counted : first ≡ length (globals m.globals) → own ≡ length r.globals → first + own ≡ length (globals_of r)
+  globals_counted at same = counted HoldsGlobal (imported imported_global 0 r.imports) (globals m.globals) global_of r.globals first own h.globals at same
+
 -- ---- spaces that are numbered one after another
-
--- as many as sections define, where nothing is imported
-own_counted : {X Y : Type 0} (get : ℕ → RawDesc → Option X) (is : List entries.Import) (make : Y → X) (ys : List Y) (n : ℕ) → is ≡ [] → n ≡ length ys → n ≡ length (imported get 0 is ++ map make ys)
-own_counted get is make ys n none same = same ∙ sym (ap (λ (l : List entries.Import). length (imported get 0 l ++ map make ys)) none ∙ length-map ys make)
-
--- what there is room for in all, there is for those that sections define
-pub own_room : {X Y : Type 0} (get : ℕ → RawDesc → Option X) (is : List entries.Import) (make : Y → X) (ys : List Y) (n top : ℕ) → n ≡ length ys → length (imported get 0 is ++ map make ys) < top → n < top
-own_room get is make ys n top same lt = omega (arith, same, length-append (imported get 0 is) (map make ys), length-map ys make, lt)
 
 module _ (r : wire.Module) (only : IsSupported r) (first second third fourth fifth last : IndicesToIds)
     (types : places_in first Types ≡ range_with_len 0 (length (types_from 0 r.types))) (none : (space : Space) → space ≢ Types → places_in first space ≡ [])
     (of_functions of_tables of_memories of_tags of_globals : ℕ)
-    (functions_long : of_functions ≡ length r.functions) (tables_long : of_tables ≡ length r.tables) (memories_long : of_memories ≡ length r.memories) (tags_long : of_tags ≡ length r.tags) (globals_long : of_globals ≡ length r.globals)
+    (functions_long : of_functions ≡ length (function_types r)) (tables_long : of_tables ≡ length (tables_of r)) (memories_long : of_memories ≡ length (memories_of r)) (tags_long : of_tags ≡ length (tags_of r)) (globals_long : of_globals ≡ length (globals_of r))
     (functions : NumbersSpace Functions of_functions first second) (tables : NumbersSpace Tables of_tables second third) (memories : NumbersSpace Memories of_memories third fourth)
     (tags : NumbersSpace Tags of_tags fourth fifth) (globals : NumbersSpace Globals of_globals fifth last) where
   -- a space that none of them is keeps its indices
@@ -94,16 +138,15 @@ module _ (r : wire.Module) (only : IsSupported r) (first second third fourth fif
     types = still Types (λ (e : Types ≡ Functions). cc) (λ (e : Types ≡ Tables). cc) (λ (e : Types ≡ Memories). cc) (λ (e : Types ≡ Tags). cc) (λ (e : Types ≡ Globals). cc) ∙ types;
     functions =
         globals.others Functions (λ (e : Functions ≡ Globals). cc) ∙ tags.others Functions (λ (e : Functions ≡ Tags). cc) ∙ memories.others Functions (λ (e : Functions ≡ Memories). cc)
-        ∙ tables.others Functions (λ (e : Functions ≡ Tables). cc) ∙ functions.numbered
-        ∙ ap (range_with_len 0) (functions_long ∙ sym (ap (λ (l : List entries.Import). length (imported imported_type 0 l ++ r.functions)) only.imports));
+        ∙ tables.others Functions (λ (e : Functions ≡ Tables). cc) ∙ functions.numbered ∙ ap (range_with_len 0) functions_long;
     tables =
         globals.others Tables (λ (e : Tables ≡ Globals). cc) ∙ tags.others Tables (λ (e : Tables ≡ Tags). cc) ∙ memories.others Tables (λ (e : Tables ≡ Memories). cc) ∙ tables.numbered
-        ∙ ap (range_with_len 0) (own_counted imported_table r.imports table_of r.tables of_tables only.imports tables_long);
+        ∙ ap (range_with_len 0) tables_long;
     memories =
         globals.others Memories (λ (e : Memories ≡ Globals). cc) ∙ tags.others Memories (λ (e : Memories ≡ Tags). cc) ∙ memories.numbered
-        ∙ ap (range_with_len 0) (own_counted imported_memory r.imports memory_of r.memories of_memories only.imports memories_long);
-    tags = globals.others Tags (λ (e : Tags ≡ Globals). cc) ∙ tags.numbered ∙ ap (range_with_len 0) (own_counted imported_tag r.imports tag_of r.tags of_tags only.imports tags_long);
-    globals = globals.numbered ∙ ap (range_with_len 0) (own_counted imported_global r.imports global_of r.globals of_globals only.imports globals_long);
+        ∙ ap (range_with_len 0) memories_long;
+    tags = globals.others Tags (λ (e : Tags ≡ Globals). cc) ∙ tags.numbered ∙ ap (range_with_len 0) tags_long;
+    globals = globals.numbered ∙ ap (range_with_len 0) globals_long;
     elements =
         still Elements (λ (e : Elements ≡ Functions). cc) (λ (e : Elements ≡ Tables). cc) (λ (e : Elements ≡ Memories). cc) (λ (e : Elements ≡ Tags). cc) (λ (e : Elements ≡ Globals). cc)
         ∙ none Elements (λ (e : Elements ≡ Types). cc) ∙ sym (ap (λ (l : List entries.Element). range_with_len 0 (length (map element_of l))) only.elements);
@@ -131,6 +174,14 @@ all_numbered m =
       tags = λ n lt. numbered_by (length (tags_of m)) n (length c.tags) (as_long (λ (t : abstract.Tag). t.ty) (λ (t : ℕ). t) (tags_of m) c.tags (tags_look m)) lt;
       globals = λ n lt. numbered_by (length (globals_of m)) n (length c.globals) (as_long (λ (g : abstract.Global). g.ty) global_type_of (globals_of m) c.globals (globals_look m)) lt;
     }
+
+-- where types have their indices, those that imports name lead to the types of their numbers
+pub imports_stay : (m : wire.Module) (indices : IndicesToIds) → places_in indices Types ≡ range_with_len 0 (length (types_from 0 m.types)) → IndicesHold (counts_of (context_of m)) m → All (λ x. DescStays (ids_at indices) x.desc) m.imports
+imports_stay m indices numbered h =
+    let many : length (types_from 0 m.types) ≡ length (context_of m).types = as_long (λ (x : TypeDef). x.sub) sub_of (types_from 0 m.types) (context_of m).types (types_look m) in
+    let at : (n : ℕ) → n < length (context_of m).types → ids_at indices Types n ≡ Some n =
+    λ n lt. in_place indices Types (length (types_from 0 m.types)) n numbered ∙ numbered_by (length (types_from 0 m.types)) n (length (context_of m).types) many lt in
+    λ i d lt. desc_stays (ids_at indices) (length (context_of m).types) at (get_or m.imports i d).desc (h.imports i d lt)
 
 -- where indices lead to what is declared, each leads to an item of its number
 pub stay : (names : Lookup) (m : wire.Module) → names ≡ declared m → IndicesHold (counts_of (context_of m)) m → AllStay names m

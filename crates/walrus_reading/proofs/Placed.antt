@@ -23,16 +23,16 @@ use Rattle.walrus_entities.specs.Globals.{GlobalValue, globals}
 use Rattle.walrus_entities.specs.Memories.{MemoryValue, memories}
 use Rattle.walrus_entities.specs.Tables.{TableValue, tables}
 use Rattle.walrus_entities.specs.Tags.{TagValue, tags}
-use Rattle.walrus_model.specs.Abstract.{Global, Memory, Table, Tag}
-use Rattle.walrus_model.specs.Sections.{Said, types_of, globals_of, memories_of, tables_of, tags_of}
-use Rattle.walrus_reading.specs.Held.{HoldsGlobal, HoldsMemory, HoldsTable, HoldsTag}
+use Rattle.walrus_model.specs.Abstract.{Function, Global, Import, Memory, Table, Tag}
+use Rattle.walrus_model.specs.Sections.{Said, imported, imported_function, imports_after, types_of, globals_of, memories_of, tables_of, tags_of}
+use Rattle.walrus_reading.specs.Held.{HoldsGlobal, HoldsImport, HoldsImportedFunction, HoldsMemory, HoldsTable, HoldsTag}
 use Rattle.walrus_model.proofs.Standing.{some_inj}
 use Rattle.walrus_contents.specs.declared.parts.Contents.{Contents}
 use Rattle.walrus_contents.proofs.Lookups.{heads}
 use Rattle.walrus_reading.proofs.Rows.{adds_both, nothing_more, one_later, placed_own, placed_push}
 use Rattle.walrus_reading.specs.Parsed.{ItemsAtOwnIds}
 use Rattle.walrus_reading.specs.Placed.{AllPlaced}
-use Rattle.walrus_reading.specs.Taken.{AddsExport, AddsLocalsOf, HasTaken, HoldsExport, HoldsFunction, HoldsLocal, HoldFunctions, locals_said}
+use Rattle.walrus_reading.specs.Taken.{AddsExport, AddsLocalsOf, HasTaken, HoldsExport, HoldsFunction, HoldsFunctions, HoldsLocal, HoldFunctions, locals_said}
 use Rattle.wasm_entries.specs.Record as entries
 use Rattle.wasm_entries.specs.declared.record.RawExport.{RawExport}
 use Rattle.wasm_frames.specs.Record as wire
@@ -129,18 +129,36 @@ own_tag n a x h = ap (λ (v : TagValue). v.id) (some_inj x h.value h.is) ∙ h.o
 own_global : (n : ℕ) (a : Global) (x : GlobalValue) → HoldsGlobal n a (Some x) → x.id ≡ n
 own_global n a x h = ap (λ (v : GlobalValue). v.id) (some_inj x h.value h.is) ∙ h.own_id
 
-no_import : (slots : List (Option ImportValue)) → slots ≡ [] → (i : ℕ) (x : ImportValue) → item_at slots i ≡ Some x → x.id ≡ i
-no_import slots none i x e = let no : ◌≡◌ {A = Option ImportValue} None (Some x) = sym (ap (λ (l : List (Option ImportValue)). item_at l i) none) ∙ e in absurd (cc)
+own_import : (n : ℕ) (a : Import) (x : ImportValue) → HoldsImport n a (Some x) → x.id ≡ n
+own_import n a x h = ap (λ (v : ImportValue). v.id) (some_inj x h.value h.is) ∙ h.own_id
+
+own_imported : (n : ℕ) (a : Function) (x : FunctionValue) → HoldsImportedFunction n a (Some x) → x.id ≡ n
+own_imported n a x h = ap (λ (v : FunctionValue). v.id) (some_inj x h.value h.is) ∙ h.own_id
 
 from_zero : (n i : ℕ) → n ≡ 0 + i → n ≡ i
 from_zero n i e = omega (arith, e)
 
+-- what stands behind others sits at its own id where they do
+own_behind : (k : ℕ) (front back : List (Option FunctionValue)) → ((i : ℕ) (x : FunctionValue) → item_at front i ≡ Some x → x.id ≡ k + i) → ((i : ℕ) (x : FunctionValue) → item_at back i ≡ Some x → x.id ≡ k + length front + i)
+    → (i : ℕ) (x : FunctionValue) → item_at (front ++ back) i ≡ Some x → x.id ≡ k + i
+own_behind k [] back first behind i x e = let same : k + 0 + i ≡ k + i = omega arith in behind i x e ∙ same
+own_behind k (s ∷ front) back first behind zero x e = first zero x e
+own_behind k (s ∷ front) back first behind (suc i) x e =
+    own_behind (k + 1) front back (λ j y at. first (suc j) y at ∙ sym (one_later k j))
+    (λ j y at. let next : k + suc (length front) + j ≡ k + 1 + length front + j = omega arith in behind j y at ∙ next) i x e ∙ one_later k i
+
+all_functions_own : (types : ℕ → Option TypeDef) (brought : List Function) (said : List (ℕ × Said)) (slots : List (Option FunctionValue)) → HoldsFunctions types brought said slots → (i : ℕ) (x : FunctionValue) → item_at slots i ≡ Some x → x.id ≡ i
+all_functions_own types brought said slots h i x e =
+    from_zero x.id i (own_behind 0 h.front h.own.added (placed_own (λ (v : FunctionValue). v.id) HoldsImportedFunction own_imported 0 brought h.front h.brings)
+    (λ j y at. let start : length h.front + j ≡ 0 + length h.front + j = omega arith in functions_own types (length h.front) 0 said h.own.added h.own.held j y at ∙ start)
+    i x (sym (ap (λ (l : List (Option FunctionValue)). item_at l i) h.own.behind) ∙ e))
+
 pub own_ids : (c : Features) (r : wire.Module) (m : Contents) → HasTaken c r m → ItemsAtOwnIds m
 own_ids c r m t = record {
-  functions = λ i x e. from_zero x.id i (functions_own (types_of r) 0 0 (zip r.functions t.bodies) (functions m.funcs) t.functions i x e);
+  functions = all_functions_own (types_of r) (imported imported_function 0 r.imports) (zip r.functions t.bodies) (functions m.funcs) t.functions;
   exports = λ i x e. from_zero x.id i (placed_own (λ (v : ExportValue). v.id) HoldsExport own_export 0 r.exports (exports m.exports) t.exports i x e);
   locals = λ i x e. from_zero (local_place x) i (placed_own local_place HoldsLocal own_local 0 (flat_map (locals_said (types_of r)) (zip r.functions t.bodies)) (locals m.locals) t.locals i x e);
-  imports = no_import (imports m.imports) t.imports;
+  imports = λ i x e. from_zero x.id i (placed_own (λ (v : ImportValue). v.id) HoldsImport own_import 0 (imports_after [] r.imports) (imports m.imports) t.imports i x e);
   tables = λ i x e. from_zero x.id i (placed_own (λ (v : TableValue). v.id) HoldsTable own_table 0 (tables_of r) (tables m.tables) t.tables i x e);
   memories = λ i x e. from_zero x.id i (placed_own (λ (v : MemoryValue). v.id) HoldsMemory own_memory 0 (memories_of r) (memories m.memories) t.memories i x e);
   tags = λ i x e. from_zero x.id i (placed_own (λ (v : TagValue). v.id) HoldsTag own_tag 0 (tags_of r) (tags m.tags) t.tags i x e);

@@ -11,7 +11,9 @@ use Rattle.wasm_wire.specs.Rules.{Rules, Checks}
 use Rattle.wasm_frames.proofs.Modules.{one_record_lem}
 use Rattle.walrus_bodies.specs.declared.features.Features.{Features}
 use Rattle.walrus_model.specs.Reads.{ReadsBodyWith}
+use Rattle.walrus_reading.specs.Numbers.{HasRoomFor}
 use Rattle.walrus_reading.specs.Parsed.{RefusesModule}
+use Rattle.walrus_reading.proofs.Rooms.{has_room}
 use Rattle.walrus_model.specs.Supported.{IsSupported}
 use Rattle.walrus_reading.specs.Taken.{TakesSections}
 use Rattle.walrus_parts.specs.Errors.{error_of_wire}
@@ -32,6 +34,12 @@ pub supported_refused : (c : Features) (bytes : List ℕ) (w : wire.Module) (e :
 supported_refused c bytes w Wire.Malformed f h = λ a. h (subst IsSupported (one_record_lem bytes a.sections w a.framed f) a.supported)
 supported_refused c bytes w (Wire.Memory m) f h = tt
 supported_refused c bytes w Wire.TooLarge f h = absurd h
+
+-- what can be read has room
+pub room_refused : (c : Features) (bytes : List ℕ) (w : wire.Module) (e : WireError) → Frames bytes w → Checks (Err e) (HasRoomFor w) → RefusesModule c bytes (error_of_wire e)
+room_refused c bytes w Wire.Malformed f h = λ a. h (subst HasRoomFor (one_record_lem bytes a.sections w a.framed f) (has_room c bytes a.sections a.bodies a.framed a.rules.in_order a.rules.as_many_bodies a.read))
+room_refused c bytes w (Wire.Memory m) f h = tt
+room_refused c bytes w Wire.TooLarge f h = absurd h
 
 pub bodies_refused : (c : Features) (bytes : List ℕ) (r : wire.Module) (e : Error) → Frames bytes r → TakesSections c r (Err e) → RefusesModule c bytes e
 bodies_refused c bytes r (Parts.Memory m) f h = tt

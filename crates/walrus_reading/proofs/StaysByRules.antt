@@ -60,6 +60,14 @@ module _ (names : Lookup) where
     val_stays vals.F64 h = refl
     val_stays vals.V128 h = refl
 
+    -- what an import brings
+    pub desc_stays : (d : RawDesc) → DescHolds types d → DescStays names d
+    desc_stays (descs.Function t) h = numbered t h
+    desc_stays (descs.Table t) h = ref_stays t.element h
+    desc_stays (descs.Memory l) h = tt
+    desc_stays (descs.Global g) h = val_stays g.value h
+    desc_stays (descs.Tag t) h = numbered t h
+
   -- ---- constant expressions
 
   module _ (c : Counts) (numbered : AreNumbered names c) where
@@ -115,13 +123,6 @@ module _ (names : Lookup) where
         ap₂ (λ (o : Option (ValType ℕ)) (i : Option (List Op)). o >>= λ value. (i >>= λ found. Some (Some found)) >>= λ initialiser. Some (let found : Global = record { origin = x.origin; ty = record { value = value; mutable = x.ty.mutable; shared = x.ty.shared }; initialiser = initialiser } in found))
         (val_stays c.types a.types g.ty.value h.0) (expression_stays (with_globals c n) (fewer c n le a) g.initial h.1)
 
-    desc_stays : (d : RawDesc) → DescHolds c.types d → DescStays names d
-    desc_stays (descs.Function t) h = a.types t h
-    desc_stays (descs.Table t) h = ref_stays c.types a.types t.element h
-    desc_stays (descs.Memory l) h = tt
-    desc_stays (descs.Global g) h = val_stays c.types a.types g.value h
-    desc_stays (descs.Tag t) h = a.types t h
-
     kind_stays : (k : RawExportKind) (n : ℕ) → n < count_of c k → names (space_of k) n ≡ Some n
     kind_stays kinds.Function n lt = a.functions n lt
     kind_stays kinds.Table n lt = a.tables n lt
@@ -131,7 +132,7 @@ module _ (names : Lookup) where
 
     pub all_stay : (m : wire.Module) → c.imported_globals + length m.globals ≡ c.globals → IndicesHold c m → AllStay names m
     all_stay m count h = record {
-      imports = λ i d lt. desc_stays (get_or m.imports i d).desc (h.imports i d lt);
+      imports = λ i d lt. desc_stays c.types a.types (get_or m.imports i d).desc (h.imports i d lt);
       functions = λ i d lt. a.types (get_or m.functions i d) (h.functions i d lt);
       tables = λ i d lt. table_stays (get_or m.tables i d) (omega (arith, count)) (h.tables i d lt);
       tags = λ i d lt. a.types (get_or m.tags i d) (h.tags i d lt);

@@ -1,5 +1,5 @@
 -- A function whose body was read, among the functions and locals of a module.
-use Rattle.std.proofs.Common.{◌≡◌, ℕ, zero, suc, ◌+◌, ◌<◌, ◌≤◌, List, [], ◌∷◌, ◌++◌, length, map, flat_map, take, get_or, refl, sym, ap, ap₂, subst, ◌∙◌, arith, append-nil, length-append}
+use Rattle.std.proofs.Common.{◌≡◌, ℕ, zero, suc, ◌+◌, ◌<◌, ◌≤◌, List, [], ◌∷◌, ◌++◌, length, map, flat_map, take, get_or, refl, sym, ap, ap₂, subst, ◌∙◌, arith, append_assoc, append-nil, length-append}
 use Rattle.std.specs.Prelude.{Option, Some, None, Err, slice_get, zip}
 use Rattle.std.specs.List.{AllZip, range_with_len}
 use Rattle.std.proofs.lemmas.Grind.{flat_map-append}
@@ -25,7 +25,6 @@ use Rattle.walrus_functions.specs.ReadFunction.{locals_from}
 use Rattle.walrus_functions.proofs.LawMoves.{there, back}
 use Rattle.walrus_items.specs.Functions.{FunctionValue}
 use Rattle.walrus_items.specs.declared.functions.FunctionKind.TheVariants as kind
-use Rattle.walrus_items.specs.declared.functions.ModuleFunctions.{ModuleFunctions}
 use Rattle.walrus_model.specs.Sections.{Said}
 use Rattle.walrus_reading.specs.Placed.{AllPlaced}
 use Rattle.walrus_reading.specs.Taken.{AddsLocalsOf, AreTaken, HoldsLocal, IsSaid, IsTaken, SaysUnder, TakesFunction, TakesFunctions, locals_said}
@@ -114,23 +113,28 @@ module _ (c : Context) (types : ℕ → Option TypeDef) (f : ℕ × wire.Body) (
 -- ---- one function after another
 
 -- one more function behind those that are taken
-more_taken : (c : Context) (types : ℕ → Option TypeDef) (fs : List (ℕ × wire.Body)) (all new : List (Option Local)) (slots after : List (Option FunctionValue)) (f : ℕ × wire.Body) (slot : Option FunctionValue)
-    → AreTaken c types fs all slots → after ≡ slots ++ slot ∷ [] → IsTaken c types (length slots) all new f slot → AreTaken c types (fs ++ f ∷ []) new after
-more_taken c types fs all new slots after f slot done push t =
+more_taken : (c : Context) (types : ℕ → Option TypeDef) (fs : List (ℕ × wire.Body)) (all new : List (Option Local)) (old slots after : List (Option FunctionValue)) (f : ℕ × wire.Body) (slot : Option FunctionValue)
+    → AreTaken c types fs all old slots → after ≡ slots ++ slot ∷ [] → IsTaken c types (length slots) all new f slot → AreTaken c types (fs ++ f ∷ []) new old after
+more_taken c types fs all new old slots after f slot done push t =
     let p : ℕ × Said = (f.0, t.said) in
     let own : List (ValType ℕ) = locals_said types p in
+    let added : List (Option FunctionValue) = done.functions.added in
     let row : flat_map (locals_said types) (done.said ++ p ∷ []) ≡ flat_map (locals_said types) done.said ++ own =
     flat_map-append (locals_said types) done.said (p ∷ []) ∙ ap (λ (l : List (ValType ℕ)). flat_map (locals_said types) done.said ++ l) (append-nil own) in
     let here : length all ≡ length (flat_map (locals_said types) done.said) = sym (placed_length HoldsLocal 0 (flat_map (locals_said types) done.said) all done.locals) in
     let placed : AllPlaced HoldsLocal 0 (flat_map (locals_said types) done.said ++ own) (all ++ t.added.0) =
     placed_append HoldsLocal 0 (length all) (flat_map (locals_said types) done.said) all own t.added.0 (omega arith) done.locals t.added.1.1 in
-    subst (λ (l : List (Option FunctionValue)). AreTaken c types (fs ++ f ∷ []) new l) (sym push) (record {
+    record {
       said = done.said ++ p ∷ [];
       read = zip_push (IsSaid c types) fs done.said f p done.read (refl, t.read);
-      held = held_push types 0 0 done.said slots p slot (length slots) (length all) (omega arith) (omega (arith, here)) done.held t.held;
+      functions = record {
+        added = added ++ slot ∷ [];
+        behind = push ∙ ap (λ (l : List (Option FunctionValue)). l ++ slot ∷ []) done.functions.behind ∙ append_assoc old added (slot ∷ []);
+        held = held_push types (length old) 0 done.said added p slot (length slots) (length all) (ap length done.functions.behind ∙ length-append old added) (omega (arith, here)) done.functions.held t.held;
+      };
       locals = subst (λ (l : List (Option Local)). AllPlaced HoldsLocal 0 (flat_map (locals_said types) (done.said ++ p ∷ [])) l) (sym t.added.1.0)
           (subst (λ (ts : List (ValType ℕ)). AllPlaced HoldsLocal 0 ts (all ++ t.added.0)) (sym row) placed);
-    })
+    }
 
 module _ (c : Context) (types : ℕ → Option TypeDef) (fs : List ℕ) (raw : List RawBody) (many : length raw ≡ length fs) where
   abbrev pairs : List (ℕ × wire.Body)
@@ -142,37 +146,37 @@ module _ (c : Context) (types : ℕ → Option TypeDef) (fs : List ℕ) (raw : L
   body_at : (i : ℕ) (e : RawBody) → i < length fs → get_or (map wire.body_record raw) i (wire.body_record e) ≡ wire.body_record (get_or raw i e)
   body_at i e lt = get_or-map wire.body_record raw i e (wire.body_record e) (omega (arith, lt, many))
 
-  pub none_taken : (all : List (Option Local)) (slots : List (Option FunctionValue)) → all ≡ [] → slots ≡ [] → AreTaken c types (take 0 (zip fs (map wire.body_record raw))) all slots
-  none_taken all slots no_locals no_slots =
-      subst (λ (l : List (Option Local)). AreTaken c types [] l slots) (sym no_locals)
-      (subst (λ (l : List (Option FunctionValue)). AreTaken c types [] [] l) (sym no_slots) (record { said = []; read = tt; held = tt; locals = tt }))
+  pub none_taken : (all : List (Option Local)) (old slots : List (Option FunctionValue)) → all ≡ [] → slots ≡ old → AreTaken c types (take 0 (zip fs (map wire.body_record raw))) all old slots
+  none_taken all old slots no_locals same =
+      subst (λ (l : List (Option Local)). AreTaken c types [] l old slots) (sym no_locals)
+      (record { said = []; read = tt; functions = record { added = []; behind = same ∙ sym (append-nil old); held = tt }; locals = tt })
 
   -- one more function is taken
-  pub one_more : (i : ℕ) (d : ℕ) (e : RawBody) (all new : List (Option Local)) (before after : List (Option FunctionValue)) → i < length fs
-      → AreTaken c types (take i (zip fs (map wire.body_record raw))) all before
+  pub one_more : (i : ℕ) (d : ℕ) (e : RawBody) (all new : List (Option Local)) (old before after : List (Option FunctionValue)) → i < length fs
+      → AreTaken c types (take i (zip fs (map wire.body_record raw))) all old before
       → (slot : Option FunctionValue) → after ≡ before ++ slot ∷ [] → IsTaken c types (length before) all new (get_or fs i d, wire.body_record (get_or raw i e)) slot
-      → AreTaken c types (take (i + 1) (zip fs (map wire.body_record raw))) new after
-  one_more i d e all new before after lt done slot push is =
+      → AreTaken c types (take (i + 1) (zip fs (map wire.body_record raw))) new old after
+  one_more i d e all new old before after lt done slot push is =
       let more : take (i + 1) pairs ≡ take i pairs ++ (get_or fs i d, wire.body_record (get_or raw i e)) ∷ [] =
       pairs_more fs (map wire.body_record raw) i d (wire.body_record e) as_many lt ∙ ap (λ (b : wire.Body). take i pairs ++ (get_or fs i d, b) ∷ []) (body_at i e lt) in
-      subst (λ (l : List (ℕ × wire.Body)). AreTaken c types l new after) (sym more)
-      (more_taken c types (take i pairs) all new before after (get_or fs i d, wire.body_record (get_or raw i e)) slot done push is)
+      subst (λ (l : List (ℕ × wire.Body)). AreTaken c types l new old after) (sym more)
+      (more_taken c types (take i pairs) all new old before after (get_or fs i d, wire.body_record (get_or raw i e)) slot done push is)
 
   -- all are
-  pub all_taken : (i : ℕ) (all : List (Option Local)) (after : List (Option FunctionValue)) → length fs ≤ i → AreTaken c types (take i (zip fs (map wire.body_record raw))) all after → AreTaken c types (zip fs (map wire.body_record raw)) all after
-  all_taken i all after le done = subst (λ (l : List (ℕ × wire.Body)). AreTaken c types l all after) (pairs_all fs (map wire.body_record raw) i as_many le) done
+  pub all_taken : (i : ℕ) (all : List (Option Local)) (old after : List (Option FunctionValue)) → length fs ≤ i → AreTaken c types (take i (zip fs (map wire.body_record raw))) all old after → AreTaken c types (zip fs (map wire.body_record raw)) all old after
+  all_taken i all old after le done = subst (λ (l : List (ℕ × wire.Body)). AreTaken c types l all old after) (pairs_all fs (map wire.body_record raw) i as_many le) done
 
   -- one isn't
-  pub one_refused : (i : ℕ) (d : ℕ) (e : RawBody) (old new : List (Option Local)) (others : ModuleLocals) (before after : List (Option FunctionValue)) (funcs : ModuleFunctions) (error : Error) → i < length fs
-      → TakesFunction c types (get_or fs i d, wire.body_record (get_or raw i e)) old new before after (Err error) → TakesFunctions c types (zip fs (map wire.body_record raw)) others funcs (Err error)
-  one_refused i d e old new others before after funcs (Parts.Memory m) lt h = tt
-  one_refused i d e old new others before after funcs (Parts.InvalidWasm kind) lt h = λ saids are.
+  pub one_refused : (i : ℕ) (d : ℕ) (e : RawBody) (old new : List (Option Local)) (others : ModuleLocals) (before after first last : List (Option FunctionValue)) (error : Error) → i < length fs
+      → TakesFunction c types (get_or fs i d, wire.body_record (get_or raw i e)) old new before after (Err error) → TakesFunctions c types (zip fs (map wire.body_record raw)) others first last (Err error)
+  one_refused i d e old new others before after first last (Parts.Memory m) lt h = tt
+  one_refused i d e old new others before after first last (Parts.InvalidWasm kind) lt h = λ saids are.
       let long : length pairs ≡ length fs = pairs_long fs (map wire.body_record raw) as_many in
       let at = zip_at (SaysUnder c types) pairs saids i (d, wire.body_record e) are (omega (arith, lt, long)) in
       let here : get_or pairs i (d, wire.body_record e) ≡ (get_or fs i d, wire.body_record (get_or raw i e)) =
       pair_at fs (map wire.body_record raw) i d (wire.body_record e) as_many lt ∙ ap (λ (b : wire.Body). (get_or fs i d, b)) (body_at i e lt) in
       h at.0 (subst (λ (f : ℕ × wire.Body). SaysUnder c types f at.0) here at.1)
-  one_refused i d e old new others before after funcs _ lt h = absurd h
+  one_refused i d e old new others before after first last _ lt h = absurd h
 
 -- ---- what they say
 

@@ -22,7 +22,7 @@ use Rattle.walrus_entities.specs.Tables.{tables}
 use Rattle.walrus_entities.specs.Tags.{tags}
 use Rattle.walrus_items.specs.OwnIds.{AtOwnIds, FunctionsAtOwnIds, ExportsAtOwnIds, LocalsAtOwnIds}
 use Rattle.walrus_contents.specs.declared.parts.Contents.{Contents}
-use Rattle.walrus_reading.specs.Taken.{HasTaken, IsLocated}
+use Rattle.walrus_reading.specs.Taken.{AreLocatedIn, HasTaken}
 use Rattle.wasm_frames.specs.Frames.{Frames}
 use Rattle.wasm_wire.specs.Rules.{Rules}
 use Rattle.walrus_parts.specs.declared.error.Error.{Error}
@@ -51,11 +51,11 @@ RefusesBytes c bytes (Memory e) = ⊤
 RefusesBytes c bytes (InvalidWasm kind) = AcceptsSoFar c bytes → ⊥
 RefusesBytes c bytes _ = ⊥
 
--- the bytes frame sections, and each operator of the functions is located where it stands in the bytes
+-- the bytes frame sections, and each operator of the functions that they define is located where it stands in the bytes
 pub record AreLocated (bytes : List ℕ) (funcs : ModuleFunctions) : Type 0 where
   pub sections : wire.Module
   pub framed : Frames bytes sections
-  pub located : AllZip IsLocated sections.bodies (functions funcs)
+  pub located : AreLocatedIn sections (functions funcs)
 
 -- The bytes frame sections that keep the rules, and the module holds exactly them: beside its view, where each item sits, that nothing is deleted or
 -- named, and which locals there are.

@@ -1,5 +1,5 @@
 -- What the fields of a module hold of the sections that were read.
-use Rattle.std.specs.Prelude.{ℕ, ◌+◌, All, List, [], ◌∷◌, ◌++◌, map, flat_map, zip, Option, Some, None, length, ◌≡◌, Result, Ok, Err}
+use Rattle.std.specs.Prelude.{ℕ, ◌+◌, All, List, [], ◌∷◌, ◌++◌, map, flat_map, zip, Option, Some, None, length, drop, ◌≡◌, Result, Ok, Err}
 use Rattle.std.specs.List.{AllZip, range_with_len}
 use Rattle.walrus_base.specs.Arena.{item_at}
 use Rattle.walrus_base.specs.Id.{place}
@@ -26,7 +26,6 @@ use Rattle.walrus_code.specs.Indices.{ids_at}
 use Rattle.walrus_items.specs.Exports.{ExportValue, exports}
 use Rattle.walrus_items.specs.Functions.{FunctionValue, functions}
 use Rattle.walrus_items.specs.declared.functions.FunctionKind.TheVariants.{Local}
-use Rattle.walrus_items.specs.declared.functions.ModuleFunctions.{ModuleFunctions}
 use Rattle.walrus_groups.specs.Groups.{types_from}
 use Rattle.walrus_model.specs.Reads.{ReadsBodyWith}
 use Rattle.walrus_items.specs.Imports.{imports}
@@ -34,8 +33,9 @@ use Rattle.walrus_entities.specs.Globals.{globals}
 use Rattle.walrus_entities.specs.Memories.{memories}
 use Rattle.walrus_entities.specs.Tables.{tables}
 use Rattle.walrus_entities.specs.Tags.{tags}
-use Rattle.walrus_model.specs.Sections.{Said, types_of, export_of, tables_of, memories_of, tags_of, globals_of}
-use Rattle.walrus_reading.specs.Held.{HoldsGlobal, HoldsMemory, HoldsTable, HoldsTag}
+use Rattle.walrus_model.specs.Abstract.{Function}
+use Rattle.walrus_model.specs.Sections.{Said, imported, imported_function, imports_after, types_of, export_of, tables_of, memories_of, tags_of, globals_of}
+use Rattle.walrus_reading.specs.Held.{HoldsGlobal, HoldsImport, HoldsImportedFunction, HoldsMemory, HoldsTable, HoldsTag}
 use Rattle.walrus_contents.specs.View as view
 use Rattle.walrus_contents.specs.declared.parts.Contents.{Contents}
 use Rattle.walrus_reading.specs.Placed.{AddsPlaced, AllPlaced}
@@ -100,17 +100,33 @@ pub record IsLocated (body : wire.Body) (slot : Option FunctionValue) : Type 0 w
   pub kind : value.kind ≡ Local local
   pub places : BodyLocated IsPlace body.start body.bytes (locations local.operators.items)
 
--- The module holds these sections, whose bodies say this: the items of each index space and the exports in their order, and the locals of all
--- functions, function by function; nothing else. No type has a name.
+-- functions with bodies stand behind the others
+pub record AddsFunctions (types : ℕ → Option TypeDef) (said : List (ℕ × Said)) (old new : List (Option FunctionValue)) : Type 0 where
+  pub added : List (Option FunctionValue)
+  pub behind : new ≡ old ++ added
+  pub held : HoldFunctions types (length old) 0 said added
+
+-- the functions that imports bring, and behind them those with bodies
+pub record HoldsFunctions (types : ℕ → Option TypeDef) (brought : List Function) (said : List (ℕ × Said)) (slots : List (Option FunctionValue)) : Type 0 where
+  pub front : List (Option FunctionValue)
+  pub brings : AllPlaced HoldsImportedFunction 0 brought front
+  pub own : AddsFunctions types said front slots
+
+-- the functions with bodies are located in them: they stand behind those that imports bring
+abbrev pub AreLocatedIn : wire.Module → List (Option FunctionValue) → Type 0
+AreLocatedIn r slots = AllZip IsLocated r.bodies (drop (length (imported imported_function 0 r.imports)) slots)
+
+-- The module holds these sections, whose bodies say this: the imports, the items of each index space and the exports in their order, and the
+-- locals of all functions, function by function; nothing else. No type has a name.
 pub record HasTaken (features : Features) (r : wire.Module) (m : Contents) : Type 0 where
   pub bodies : List Said
   pub read : AllZip (ReadsBodyWith features r) (zip r.functions r.bodies) bodies
   pub types : type_slots m.types ≡ map Some (types_from 0 r.types)
   pub type_names : All (λ name. name ≡ Some None) (type_names m.types)
-  pub functions : HoldFunctions (types_of r) 0 0 (zip r.functions bodies) (functions m.funcs)
+  pub functions : HoldsFunctions (types_of r) (imported imported_function 0 r.imports) (zip r.functions bodies) (functions m.funcs)
   pub locals : AllPlaced HoldsLocal 0 (flat_map (locals_said (types_of r)) (zip r.functions bodies)) (locals m.locals)
   pub exports : AllPlaced HoldsExport 0 r.exports (exports m.exports)
-  pub imports : imports m.imports ≡ []
+  pub imports : AllPlaced HoldsImport 0 (imports_after [] r.imports) (imports m.imports)
   pub tables : AllPlaced HoldsTable 0 (tables_of r) (tables m.tables)
   pub memories : AllPlaced HoldsMemory 0 (memories_of r) (memories m.memories)
   pub tags : AllPlaced HoldsTag 0 (tags_of r) (tags m.tags)
@@ -155,16 +171,20 @@ pub record IsTaken (c : Context) (types : ℕ → Option TypeDef) (id : ℕ) (ol
 abbrev pub IsSaid : Context → (ℕ → Option TypeDef) → ℕ × wire.Body → ℕ × Said → Type 0
 IsSaid c types f said = (said.0 ≡ f.0) × SaysUnder c types f said.1
 
--- the bodies are read, and the slots hold the functions and their locals, and nothing else
-pub record AreTaken (c : Context) (types : ℕ → Option TypeDef) (fs : List (ℕ × wire.Body)) (all : List (Option LocalItem)) (slots : List (Option FunctionValue)) : Type 0 where
+-- the bodies are read, and the functions stand behind the others; their locals are all that there are
+pub record AreTaken (c : Context) (types : ℕ → Option TypeDef) (fs : List (ℕ × wire.Body)) (all : List (Option LocalItem)) (old new : List (Option FunctionValue)) : Type 0 where
   pub said : List (ℕ × Said)
   pub read : AllZip (IsSaid c types) fs said
-  pub held : HoldFunctions types 0 0 said slots
+  pub functions : AddsFunctions types said old new
   pub locals : AllPlaced HoldsLocal 0 (flat_map (locals_said types) said) all
 
 -- one more slot holds a function that is located in the body
 abbrev pub AddsLocated : wire.Body → (old new : List (Option FunctionValue)) → Type 0
 AddsLocated body old new = (slot : Option FunctionValue) × ((new ≡ old ++ slot ∷ []) × IsLocated body slot)
+
+-- behind the others, slots hold functions that are located in these bodies
+abbrev pub AddLocated : List wire.Body → (old new : List (Option FunctionValue)) → Type 0
+AddLocated bodies old new = (added : List (Option FunctionValue)) × ((new ≡ old ++ added) × AllZip IsLocated bodies added)
 
 -- one more slot holds the function; refused: its body isn't read, or memory ran out
 abbrev pub TakesFunction : Context → (ℕ → Option TypeDef) → ℕ × wire.Body → (old_locals new_locals : List (Option LocalItem)) → (old new : List (Option FunctionValue)) → Result Unit Error → Type 0
@@ -173,9 +193,9 @@ TakesFunction c types f old_locals new_locals old new (Err (Memory e)) = Unit {0
 TakesFunction c types f old_locals new_locals old new (Err (InvalidWasm kind)) = (said : Said) → SaysUnder c types f said → ⊥
 TakesFunction c types f old_locals new_locals old new (Err _) = ⊥
 
--- the slots hold these functions and their locals; refused: not all bodies are read, or memory ran out
-abbrev pub TakesFunctions : Context → (ℕ → Option TypeDef) → List (ℕ × wire.Body) → ModuleLocals → ModuleFunctions → Result Unit Error → Type 0
-TakesFunctions c types fs all funcs (Ok u) = AreTaken c types fs (locals all) (functions funcs)
-TakesFunctions c types fs all funcs (Err (Memory e)) = Unit {0}
-TakesFunctions c types fs all funcs (Err (InvalidWasm kind)) = (bodies : List Said) → AllZip (SaysUnder c types) fs bodies → ⊥
-TakesFunctions c types fs all funcs (Err _) = ⊥
+-- the functions and their locals are added; refused: not all bodies are read, or memory ran out
+abbrev pub TakesFunctions : Context → (ℕ → Option TypeDef) → List (ℕ × wire.Body) → ModuleLocals → (old new : List (Option FunctionValue)) → Result Unit Error → Type 0
+TakesFunctions c types fs all old new (Ok u) = AreTaken c types fs (locals all) old new
+TakesFunctions c types fs all old new (Err (Memory e)) = Unit {0}
+TakesFunctions c types fs all old new (Err (InvalidWasm kind)) = (bodies : List Said) → AllZip (SaysUnder c types) fs bodies → ⊥
+TakesFunctions c types fs all old new (Err _) = ⊥

@@ -1,7 +1,7 @@
 //! From the records of a module's sections to what a module in memory holds.
 ghost use Rattle.std.specs.Prelude.{true, ◌≡◌, ◌≢◌, ◌++◌, ◌∷◌, ◌<◌, ◌^◌, ℕ, [], length, map, zip, All, IfOk, OnOk, IsOkUnless, Some, None, option_map};
 ghost use Rattle.std.specs.Fn.{FnReturnsAt};
-ghost use Rattle.std.specs.List.{range_with_len, AllZip};
+ghost use Rattle.std.specs.List.{range_with_len};
 ghost use Rattle.walrus_base.specs.Id.{place};
 ghost use Rattle.walrus_types.specs.Locals.{locals};
 ghost use Rattle.walrus_types.specs.ModuleTypes.{type_names, type_slots};
@@ -19,7 +19,7 @@ ghost use Rattle.walrus_model.specs.Producers.{produced};
 ghost use Rattle.walrus_producers.specs.Seen.{producers};
 ghost use Rattle.walrus_reading.specs.Numbers.{FitsIndices};
 ghost use Rattle.walrus_reading.specs.Placed.{AllPlaced};
-ghost use Rattle.walrus_reading.specs.Taken.{AddsExport, AddsLocalsOf, AddsLocated, HoldsExport, IsPlace, IsLocated, TakesFunction, TakesFunctions, TakesSections, context_under, types_under};
+ghost use Rattle.walrus_reading.specs.Taken.{AddLocated, AddsExport, AddsLocalsOf, AddsLocated, AreLocatedIn, HoldsExport, IsPlace, TakesFunction, TakesFunctions, TakesSections, context_under, types_under};
 ghost use Rattle.walrus_model.specs.Sections.{space_of};
 ghost use Rattle.walrus_model.specs.Supported.{IsSupported};
 ghost use Rattle.walrus_reading.specs.Sections.{Rules};
@@ -28,18 +28,18 @@ ghost use Rattle.wasm_entries.specs.Record.{group, export_entry};
 ghost use Rattle.wasm_frames.specs.Record.{body_record, sections};
 
 use crate::entities::{add_globals, add_memories, add_tables, add_tags};
+use crate::imports::add_imports;
 use crate::numbers::number_items;
 use std::alloc::{AllocError, Global};
 use std::result;
 use walrus_bodies::{ReadBody, read_body_over};
 use walrus_contents::Contents;
-use walrus_entities::{ModuleGlobals, ModuleMemories, ModuleTables, ModuleTags};
 use walrus_groups::read_types;
 use walrus_ir::{
     Features, IndicesToIds, InstrLocId, IrError, LocalFunction, LocalId, ModuleLocals, ModuleTypes,
     ValType,
 };
-use walrus_items::{ExportItem, ModuleExports, ModuleFunctions, ModuleImports};
+use walrus_items::{ExportItem, ModuleExports, ModuleFunctions};
 use walrus_parts::{Error, Result};
 use walrus_producers::ModuleProducers;
 use wasm_wire::{Raw, RawBody, RawExport, RawExportKind, RawGroup};
@@ -54,55 +54,43 @@ pub(crate) fn read_contents(alloc: Global, raw: &Raw<'_>, features: &Features) -
     requires supported { IsSupported (sections raw.now) }
     requires room { FitsIndices (sections raw.now) }
     ensures taken { TakesSections features.now (sections raw.now) result }
-    ensures located { IfOk result (λ m. AllZip IsLocated (sections raw.now).bodies (functions m.funcs)) }
+    ensures located { IfOk result (λ m. AreLocatedIn (sections raw.now) (functions m.funcs)) }
     ensures produced { IfOk result (λ m. producers m.producers ≡ produced []) }
 {
-    let mut types = ModuleTypes::new(alloc);
-    let mut locals = ModuleLocals::new(alloc);
-    let mut funcs = ModuleFunctions::new(alloc)?;
-    let mut exports = ModuleExports::new(alloc);
-    let imports = ModuleImports::new(alloc);
-    let mut tables = ModuleTables::new(alloc);
-    let mut memories = ModuleMemories::new(alloc);
-    let mut tags = ModuleTags::new(alloc)?;
-    let mut globals = ModuleGlobals::new(alloc);
+    let mut contents = Contents::new(alloc)?;
     let mut indices = IndicesToIds::new(alloc);
-    add_types(alloc, &raw.types, &mut indices, &mut types)?;
-    number_items(raw, &mut indices)?;
+    add_types(alloc, &raw.types, &mut indices, &mut contents.types)?;
+    add_imports(&raw.imports, &indices, &mut contents)?;
+    number_items(raw, &contents, &mut indices)?;
     let under = Under {
         alloc,
         features,
         indices: &indices,
-        types: &types,
+        types: &contents.types,
     };
-    add_functions(under, &raw.functions, &raw.bodies, &mut locals, &mut funcs)?;
-    add_tables(alloc, &raw.tables, &indices, &mut tables)?;
-    add_memories(&raw.memories, &mut memories)?;
-    add_tags(&raw.tags, &indices, &mut tags)?;
-    add_globals(alloc, &raw.globals, &indices, &mut globals)?;
-    add_exports(&raw.exports, &indices, &mut exports)?;
-    Ok(Contents {
-        types,
-        locals,
-        imports,
-        funcs,
-        tables,
-        memories,
-        tags,
-        globals,
-        exports,
-        producers: own_producers(alloc)?,
-    })
+    add_functions(
+        under,
+        &raw.functions,
+        &raw.bodies,
+        &mut contents.locals,
+        &mut contents.funcs,
+    )?;
+    add_tables(alloc, &raw.tables, &indices, &mut contents.tables)?;
+    add_memories(&raw.memories, &mut contents.memories)?;
+    add_tags(&raw.tags, &indices, &mut contents.tags)?;
+    add_globals(alloc, &raw.globals, &indices, &mut contents.globals)?;
+    add_exports(&raw.exports, &indices, &mut contents.exports)?;
+    add_own_producer(&mut contents.producers)?;
+    Ok(contents)
 }
 
-// The producers of what this program read: itself, since what the bytes say of producers isn't read so far.
-fn own_producers(alloc: Global) -> Result<ModuleProducers>
-    ensures value { IfOk result (λ made. producers made ≡ produced []) }
+// Puts this program into the producers, since what the bytes say of these isn't read so far.
+fn add_own_producer(made: &mut ModuleProducers) -> Result<()>
+    ensures value { OnOk result (producers made.new ≡ produced (producers made.old)) }
     ensures fails { IsOkUnless result out_of_memory }
 {
-    let mut made = ModuleProducers::new(alloc);
     made.add_processed_by("walrus", "0.28.0")?;
-    Ok(made)
+    Ok(())
 }
 
 // What bodies are read under: the proposals that they may use, what indices name, and the types.
@@ -213,7 +201,7 @@ fn read_located<L: Fn(&usize) -> InstrLocId>(
     )
 }
 
-// Reads the bodies of the functions of these types, which get the next ids.
+// Reads the bodies of the functions of these types, which get the next ids. The module has no other locals.
 fn add_functions(
     under: Under<'_>,
     of_types: &[u32],
@@ -221,14 +209,15 @@ fn add_functions(
     all: &mut ModuleLocals,
     funcs: &mut ModuleFunctions,
 ) -> Result<()>
-    requires none { functions funcs.old ≡ [] }
     requires no_locals { locals all.old ≡ [] }
     requires as_many { length bodies.now ≡ length of_types.now }
     requires declared { All (λ t. ids_at under.indices.now Types t ≡ Some t) of_types.now }
     requires typed { All (λ t. is_function_at under.types.now t ≡ true) of_types.now }
     ensures taken { TakesFunctions (context_under under.entry) (types_under under.entry)
-        (zip of_types.now (map body_record bodies.now)) all.new funcs.new result }
-    ensures located { OnOk result (AllZip IsLocated (map body_record bodies.now) (functions funcs.new)) }
+        (zip of_types.now (map body_record bodies.now)) all.new
+        (functions funcs.old) (functions funcs.new) result }
+    ensures located { OnOk result (AddLocated (map body_record bodies.now) (functions funcs.old)
+        (functions funcs.new)) }
 {
     funcs.reserve(of_types.len())?;
     for place in 0..of_types.len() {

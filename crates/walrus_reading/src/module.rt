@@ -5,6 +5,7 @@ ghost use Rattle.walrus_contents.specs.View.{contents_view};
 ghost use Rattle.walrus_reading.specs.Parsed.{AreLocated, IsParsed, IsReadWith, ItemsAtOwnIds, RefusesBytes, TakenFrom, features_so_far};
 
 use crate::contents::read_contents;
+use crate::numbers::check_room;
 use crate::supported::check_supported;
 use std::alloc::Global;
 use walrus_contents::{Contents, are_references_declared};
@@ -35,6 +36,7 @@ pub fn read(alloc: Global, bytes: &[u8], only_stable: bool) -> Result<Contents>
     let raw = read_module(alloc, bytes)?;
     check(alloc, &raw)?;
     check_supported(&raw)?;
+    check_room(&raw)?;
     let contents = read_contents(alloc, &raw, &features)?;
     if are_references_declared(alloc, contents.parts())? {
         Ok(contents)

@@ -92,7 +92,8 @@ fn tables_are_written(rt: HostRuntime) -> Result<(), Fail> {
 }
 
 // A mutable global of 64 bits that is -5 at first, one of 32 bits that is 7, and an export of the second.
-const TWO_GLOBALS: &str = "00 61 73 6D 01 00 00 00 06 0B 02 7E 01 42 7B 0B 7F 00 41 07 0B 07 05 01 01 67 03 01";
+const TWO_GLOBALS: &str =
+    "00 61 73 6D 01 00 00 00 06 0B 02 7E 01 42 7B 0B 7F 00 41 07 0B 07 05 01 01 67 03 01";
 
 fn add_globals(module: &mut Module) -> Result<(), Error> {
     let five = ConstExpr::Value(Value::I64(-5));

@@ -19,7 +19,7 @@ use Rattle.walrus_contents.specs.declared.parts.Parts.{Parts}
 use Rattle.walrus_contents.proofs.Lookups.{mapped_some}
 use Rattle.walrus_contents.proofs.Slots.{stands_at}
 use Rattle.walrus_items.specs.Imports.{ImportValue, imported, imports}
-use Rattle.walrus_model.specs.Abstract.{Abstract, Function, FunctionKind, Global, Import, ImportedBy, ImportedFunction, LocalFunction, Uninitialised, Origin, Defined, Table, Tag}
+use Rattle.walrus_model.specs.Abstract.{Abstract, Function, FunctionKind, Global, ImportedBy, ImportedFunction, LocalFunction, Uninitialised, Origin, Defined, Table, Tag}
 use Rattle.walrus_model.specs.Imported.{IsBrought, import_number, import_number_by, number_in, numbered_from}
 use Rattle.walrus_model.specs.Renaming.{Renaming, renamed_global, renamed_table}
 use Rattle.walrus_model.specs.Same.{SameFunction, SameKind}
@@ -28,6 +28,7 @@ use Rattle.walrus_model.specs.WellMade.{import_in, import_of, kind_import, origi
 use Rattle.walrus_model.proofs.Lists.{Contains-head, Contains-tail}
 use Rattle.walrus_model.proofs.Standing.{some_inj}
 use Rattle.walrus_writing.specs.Brought.{places_brought}
+use Rattle.walrus_writing.specs.ImportLaws.{AreBare}
 use Rattle.walrus_writing.specs.Imported.{IsBare, IsEntryAt, as_brought, named_function, named_thing}
 
 -- ---- the places of what imports bring
@@ -124,11 +125,6 @@ module _ (names : Lookup) (r : Renaming) (agrees : AgreesWith r names) (k p : �
   thing_same DataSegments i x y says bare e = absurd says
 
 -- ---- import by import
-
--- what each import brings says so, and has no initialiser
-pub record AreBare (v : Abstract) : Type 0 where
-  pub says : (p : ℕ) (x : Import) → v.imports p ≡ Some x → import_of v x.item ≡ Some p
-  pub bare : (p : ℕ) (x : Import) (thing : Thing x.item.0) → v.imports p ≡ Some x → look v x.item.0 x.item.1 ≡ Some thing → IsBare x.item.0 thing
 
 module _ (names : Lookup) (r : Renaming) (agrees : AgreesWith r names) (v : Abstract) (are : AreBare v) where
   one_brought : (p k : ℕ) (w : wire.Import) → r.imports p ≡ k → IsEntryAt names v p w → IsBrought r v p k w

@@ -1,7 +1,7 @@
 -- An import's entry, from the description of its item; and the entries of all imports, one behind another.
-use Rattle.std.proofs.Common.{◌≡◌, ℕ, List, [], ◌∷◌, ◌++◌, map, append_assoc, refl, sym, ap, ◌∙◌, subst, Some}
+use Rattle.std.proofs.Common.{◌≡◌, ℕ, List, [], ◌∷◌, ◌++◌, map, append_assoc, sym, ap, ◌∙◌, subst, Some}
 use Rattle.std.proofs.lemmas.List.{append-nil}
-use Rattle.std.specs.Prelude.{Option, Ok, Err, Result, option_map}
+use Rattle.std.specs.Prelude.{Ok, Err, Result, option_map}
 use Rattle.std.specs.List.{AllZip}
 use Rattle.std.specs.Str.{IsUtf8}
 use Rattle.wasm_entries.specs.Record as entries
@@ -24,7 +24,6 @@ use Rattle.walrus_items.specs.Functions.{FunctionValue, functions}
 use Rattle.walrus_items.specs.Imports.{ImportValue}
 use Rattle.walrus_model.specs.Abstract.{Abstract, Import}
 use Rattle.walrus_parts.specs.Errors.{error_of_ir}
-use Rattle.walrus_parts.specs.declared.error.Error.{Error}
 use Rattle.walrus_writing.specs.Imported.{ImportsIndexed, IndexesDesc, IndexesImport, IndexesItem, IsEntryAt, IsEntryOf, RefusesImports}
 use Rattle.walrus_writing.proofs.Turns.{map_snoc}
 

@@ -1,8 +1,8 @@
 -- The description of an item: what it says where its type has been put through a look-up, and what a refusal of the type says of it.
-use Rattle.std.proofs.Common.{◌≡◌, ℕ, ◌<◌, ◌^◌, Bool, false, true, refl, sym, ap, ◌∙◌, subst}
+use Rattle.std.proofs.Common.{◌≡◌, ℕ, ◌<◌, ◌^◌, false, refl, sym, ap, ◌∙◌}
 use Rattle.std.specs.Prelude.{Option, Some, None, option_map, Ok, Err}
 use Rattle.wasm_forms.specs.Reading.{◌>>=◌}
-use Rattle.wasm_forms.specs.Types.{HeapStands, ValueStands}
+use Rattle.wasm_forms.specs.Types.{ValueStands}
 use Rattle.wasm_entries.specs.TypeSpelling.{LimitsStand, TableTypeStands}
 use Rattle.wasm_entries.specs.declared.record.RawDesc.TheVariants as descs
 use Rattle.wasm_entries.specs.declared.record.RawGlobalType.{RawGlobalType}

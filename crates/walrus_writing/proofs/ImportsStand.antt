@@ -17,7 +17,8 @@ use Rattle.walrus_model.specs.Sections.{imports_after, item_after}
 use Rattle.walrus_model.specs.Spaces.{Thing, look, SameThing}
 use Rattle.walrus_model.proofs.ImportedZip.{imported_zip}
 use Rattle.walrus_writing.specs.Imported.{IsEntryAt}
-use Rattle.walrus_writing.proofs.ImportedAlong.{AreBare, entries_brought}
+use Rattle.walrus_writing.specs.ImportLaws.{AreBare}
+use Rattle.walrus_writing.proofs.ImportedAlong.{entries_brought}
 use Rattle.walrus_writing.proofs.OrderByImport.{own_number}
 use Rattle.walrus_writing.proofs.Turns.{zip_snoc}
 
@@ -27,7 +28,7 @@ seam_at : {A : Type 0} (xs ys : List A) (y : A) → slice_get (xs ++ y ∷ ys) (
 seam_at [] ys y = refl
 seam_at (x ∷ xs) ys y = seam_at xs ys y
 
-in_front : {A : Type 0} (xs ys : List A) (j : ℕ) (x : A) → slice_get xs j ≡ Some x → slice_get (xs ++ ys) j ≡ Some x
+pub in_front : {A : Type 0} (xs ys : List A) (j : ℕ) (x : A) → slice_get xs j ≡ Some x → slice_get (xs ++ ys) j ≡ Some x
 in_front [] ys j x at = absurd (cc)
 in_front (y ∷ xs) ys zero x at = at
 in_front (y ∷ xs) ys (suc j) x at = in_front xs ys j x at

@@ -10,6 +10,8 @@ pub mod GlobalRecords
 pub mod ImportedAlong
 pub mod ImportedEntries
 pub mod ImportedThings
+pub mod ImportsCarried
+pub mod ImportsIndexed
 pub mod ImportsStand
 pub mod Indexed
 pub mod ItemsLeft
@@ -22,10 +24,12 @@ pub mod NoCauseHeaps
 pub mod Numbering
 pub mod OrderByImport
 pub mod OrdersSpaces
+pub mod OwnFunctions
 pub mod OwnItems
 pub mod OwnRise
 pub mod Placing
 pub mod PlainParts
+pub mod PlannedByImport
 pub mod Planning
 pub mod Ranked
 pub mod ReadsBefore

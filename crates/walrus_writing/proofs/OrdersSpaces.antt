@@ -1,5 +1,5 @@
 -- Each space is ordered by what brings its items; and the items of a collection that no import brings, by rising place, are those of its space.
-use Rattle.std.proofs.Common.{◌≡◌, ◌⊎◌, inl, inr, ⊎_elim, ℕ, ◌<◌, Bool, true, false, List, [], ◌∷◌, map, refl, sym, ap, ◌∙◌, subst, cond, Some, None, arith}
+use Rattle.std.proofs.Common.{◌≡◌, inl, inr, ⊎_elim, ℕ, ◌<◌, Bool, true, false, List, [], ◌∷◌, map, refl, sym, ap, ◌∙◌, subst, cond, Some, None, arith}
 use Rattle.std.specs.Prelude.{Option, IsSome, AllPairs, Contains, filter, option_map}
 use Rattle.std.specs.List.{AllByRecursion}
 use Rattle.walrus_base.specs.Arena.{entries, item_at}
@@ -14,10 +14,10 @@ use Rattle.walrus_contents.specs.View as seen
 use Rattle.walrus_contents.specs.View.{origin_of, parts_view}
 use Rattle.walrus_contents.specs.declared.parts.Parts.{Parts}
 use Rattle.walrus_contents.proofs.Slots.{entry_in, stands_at}
-use Rattle.walrus_model.specs.Abstract.{Abstract, Body, Function, FunctionKind, Global, Import, ImportedFunction, LocalFunction, Uninitialised, Memory, Origin, ImportedBy, Defined, Table, Tag}
-use Rattle.walrus_model.specs.Order.{ByImport, FunctionsByImport, OriginsInOrder}
+use Rattle.walrus_model.specs.Abstract.{Abstract, Function, FunctionKind, Global, Import, ImportedFunction, LocalFunction, Uninitialised, Memory, Origin, ImportedBy, Defined, Table, Tag}
+use Rattle.walrus_model.specs.Order.{FunctionsByImport, OriginsInOrder}
 use Rattle.walrus_model.specs.Same.{BothAnd}
-use Rattle.walrus_model.specs.WellMade.{import_in, import_of, kind_import, origin_import}
+use Rattle.walrus_model.specs.WellMade.{import_in, kind_import, origin_import}
 use Rattle.walrus_model.proofs.Arenas.{entries_rise}
 use Rattle.walrus_model.proofs.Lists.{Contains-head, Contains-map, Contains-none, Contains-tail, Contains-uncons}
 use Rattle.walrus_model.proofs.OrderOfPlaces.{pairs_weaker}

@@ -10,7 +10,7 @@ use Rattle.walrus_entities.specs.Globals.{GlobalValue, globals, global_import, g
 use Rattle.walrus_entities.specs.Tables.{TableValue, tables}
 use Rattle.walrus_entities.specs.declared.globals.GlobalKind.{GlobalKind}
 use Rattle.walrus_entities.specs.declared.globals.GlobalKind.TheVariants as kinds
-use Rattle.walrus_contents.specs.View.{global_of, origin_of, parts_view, table_of}
+use Rattle.walrus_contents.specs.View.{global_of, origin_of, own_initialiser, parts_view, table_of}
 use Rattle.walrus_contents.specs.declared.parts.Parts.{Parts}
 use Rattle.walrus_model.specs.Abstract.{Abstract, Origin, ImportedBy, Defined, Global, Table}
 use Rattle.walrus_model.specs.Live.{IsLive}
@@ -158,7 +158,7 @@ module _ (p : Parts) where
       let w = seen_unread 0 x.0 (item_at slots x.0) x.1.1 in
       let view : V.tables i ≡ Some (table_of t) = ap (option_map table_of) at in
       let named : Contains (table_names (table_of t)) (Globals, x.0) = subst (λ (o : Option Table). Contains (named_by table_names o) (Globals, x.0)) view (subst (λ (y : Item). Contains (written_in V (Tables, i)) y) x.1.0 f.1.0) in
-      let read = initialiser_reads (heap_names t.element.heap) t.initialiser x.0 named in
+      let read = initialiser_reads (heap_names t.element.heap) (own_initialiser t.imported_by t.initialiser) x.0 named in
       LocalGlobalRead i x.0 (table_of t, (read.0, (view, read.1.0, read.1.1))) (subst (λ (o : Option GlobalValue). IsSome (option_map global_of o)) (sym w.1.0) refl) (not_imported x.0 w.0 w.1.0 w.1.1.0)
 
   -- ---- globals

@@ -21,7 +21,7 @@ some_stable : {X : Type 0} (o : Option X) → ((IsSome o → ⊥) → ⊥) → I
 some_stable (Some x) h = refl
 some_stable None h = absurd (h (λ s. none_there s))
 
-live_stable : (v : Abstract) (x : Item) → ((IsLive v x → ⊥) → ⊥) → IsLive v x
+pub live_stable : (v : Abstract) (x : Item) → ((IsLive v x → ⊥) → ⊥) → IsLive v x
 live_stable v (Types, i) h = some_stable (v.types i) h
 live_stable v (Functions, i) h = some_stable (v.functions i) h
 live_stable v (Tables, i) h = some_stable (v.tables i) h

@@ -1,6 +1,7 @@
 pub mod Brought
 pub mod Emitted
 pub mod Globals
+pub mod ImportLaws
 pub mod Imported
 pub mod Local
 pub mod Matched

@@ -5,6 +5,7 @@ mod bodies;
 mod by_import;
 mod globals;
 mod imported;
+mod law;
 mod matched;
 mod others;
 mod plan;

@@ -23,7 +23,9 @@ ghost use Rattle.walrus_writing.specs.Sizes.{local_sizes, IsOrder};
 use std::alloc::Global;
 use std::cmp::Reverse;
 use walrus_contents::Parts;
-use walrus_entities::{GlobalKind, ModuleGlobals, ModuleMemories, ModuleTables, ModuleTags, TagKind};
+use walrus_entities::{
+    GlobalKind, ModuleGlobals, ModuleMemories, ModuleTables, ModuleTags, TagKind,
+};
 use walrus_ir::{
     FunctionId, GlobalId, IdsToIndices, ImportId, MemoryId, ModuleTypes, TableId, TagId, TypeId,
 };

@@ -29,11 +29,7 @@ pub fn are_reads_in_order(alloc: Global, parts: Parts<'_>) -> Result<bool>
 }
 
 // Whether each table's initialiser reads imported globals alone. What was in `named` is let go.
-fn do_tables_read_imported(
-    alloc: Global,
-    parts: Parts<'_>,
-    named: &mut Vec<ItemId>,
-) -> Result<bool>
+fn do_tables_read_imported(alloc: Global, parts: Parts<'_>, named: &mut Vec<ItemId>) -> Result<bool>
     ensures in_order { IfOk result (λ b. b ≡ true → AreReadImported (parts_view parts.entry)) }
     ensures lacks { IfOk result (λ b. b ≡ false → LacksIndex (parts_view parts.entry)) }
     ensures fails { IsOkUnless result out_of_memory }
@@ -47,11 +43,7 @@ fn do_tables_read_imported(
 }
 
 // Whether each global's initialiser reads imported globals and those of smaller ids alone. What was in `named` is let go.
-fn do_globals_read_earlier(
-    alloc: Global,
-    parts: Parts<'_>,
-    named: &mut Vec<ItemId>,
-) -> Result<bool>
+fn do_globals_read_earlier(alloc: Global, parts: Parts<'_>, named: &mut Vec<ItemId>) -> Result<bool>
     ensures in_order { IfOk result (λ b. b ≡ true → AreReadEarlier (parts_view parts.entry)) }
     ensures lacks { IfOk result (λ b. b ≡ false → LacksIndex (parts_view parts.entry)) }
     ensures fails { IsOkUnless result out_of_memory }

@@ -28,9 +28,7 @@ use walrus_groups::index_types;
 use walrus_ir::{FunctionId, IdsToIndices, ModuleTypes};
 use walrus_items::{Export, ExportItem, ModuleExports, ModuleFunctions};
 use walrus_parts::{Error, Result};
-use wasm_wire::{
-    Raw, RawBody, RawExport, RawExportKind, RawGlobal, RawGroup, RawLimits, RawTable,
-};
+use wasm_wire::{Raw, RawBody, RawExport, RawExportKind, RawGlobal, RawGroup, RawLimits, RawTable};
 
 // The groups of the type section.
 pub fn raw_types(

@@ -7,7 +7,7 @@ use Rattle.walrus_reading.specs.Parsed.{TakenFrom, features_so_far}
 use Rattle.walrus_reading.proofs.Accepting.{is_parsed, references_refused, refused_bytes}
 use Rattle.walrus_reading.proofs.NarrowRules.{narrow_rules}
 use Rattle.walrus_reading.proofs.Placed.{own_ids}
-use Rattle.walrus_reading.proofs.Refusals.{frames_refused, rules_refused, supported_refused, bodies_refused}
+use Rattle.walrus_reading.proofs.Refusals.{frames_refused, rules_refused, supported_refused, room_refused, bodies_refused}
 use Rattle.walrus_reading.proofs.Rooms.{fits_indices}
 use Rattle.walrus_reading.proofs.module.read.Goals as goal
 
@@ -26,11 +26,16 @@ returns-in_err-check_supported-clause-refused c = λ config with.
     let p = err_from_is_err_and c.from_residual-in_err-check_supported.result c.from_residual-in_err-check_supported.ensures.1 in
     rw (p.1, p.2) (refused_bytes config (features_so_far c.args.only_stable) with c.args.bytes.now _ (supported_refused (features_so_far c.args.only_stable) c.args.bytes.now (sections c.in_ok-raw.raw) _ c.in_ok-raw.ensures.found c.in_err-check_supported.ensures))
 
+pub returns-in_err-check_room-clause-refused : goal.returns-in_err-check_room-clause-refused
+returns-in_err-check_room-clause-refused c = λ config with.
+    let p = err_from_is_err_and c.from_residual-in_err-check_room.result c.from_residual-in_err-check_room.ensures.1 in
+    rw (p.1, p.2) (refused_bytes config (features_so_far c.args.only_stable) with c.args.bytes.now _ (room_refused (features_so_far c.args.only_stable) c.args.bytes.now (sections c.in_ok-raw.raw) _ c.in_ok-raw.ensures.found c.in_err-check_room.ensures))
+
 pub read_contents-requires-clause-rules : goal.read_contents-requires-clause-rules
 read_contents-requires-clause-rules c = narrow_rules (sections c.in_ok-raw.raw) c.in_ok-check.ensures
 
 pub read_contents-requires-clause-room : goal.read_contents-requires-clause-room
-read_contents-requires-clause-room c = fits_indices c.args.bytes.now (sections c.in_ok-raw.raw) c.in_ok-raw.ensures.found c.in_ok-check.ensures.in_order c.in_ok-check.ensures.as_many_bodies
+read_contents-requires-clause-room c = fits_indices c.args.bytes.now (sections c.in_ok-raw.raw) c.in_ok-raw.ensures.found c.in_ok-check.ensures.in_order c.in_ok-check_room.ensures
 
 pub returns-in_err-contents-clause-refused : goal.returns-in_err-contents-clause-refused
 returns-in_err-contents-clause-refused c = λ config with.
