@@ -1,4 +1,4 @@
-use Rattle.std.proofs.Common.{ap, sym, ◌∙◌, refl}
+use Rattle.std.proofs.Common.{ap, ◌∙◌, refl}
 use Rattle.walrus_types.specs.Operators.{Memories}
 use Rattle.walrus_entities.specs.Memories.{memories, memory_entries_left, memory_value}
 use Rattle.walrus_model.specs.WellMade.{origin_import}

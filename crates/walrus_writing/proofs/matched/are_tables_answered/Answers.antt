@@ -1,4 +1,4 @@
-use Rattle.std.proofs.Common.{ap, sym, ◌∙◌, refl}
+use Rattle.std.proofs.Common.{ap, ◌∙◌, refl}
 use Rattle.walrus_types.specs.Operators.{Tables}
 use Rattle.walrus_entities.specs.Tables.{tables, table_entries_left, table_value}
 use Rattle.walrus_model.specs.WellMade.{origin_import}
