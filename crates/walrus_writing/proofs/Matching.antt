@@ -126,7 +126,6 @@ item_answered v all (DataSegments, n) i is = absurd (cc)
 pub match_both : (v : Abstract) → AreImportsAnswered v → AreItemsAnswered v → ImportsMatch v
 match_both v imports items = record { items = item_answered v items; imports = imports }
 
-
 pub match_items : (v : Abstract) → ImportsMatch v → AreItemsAnswered v
 match_items v all = record {
   functions = λ n i is. all.items (Functions, n) i is;

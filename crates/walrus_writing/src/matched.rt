@@ -50,7 +50,11 @@ fn are_functions_answered(parts: Parts<'_>) -> bool
     ensures not { result ≡ false → AreAnswered (parts_view parts.entry) Functions → ⊥ }
 {
     for (id, function) in parts.funcs.iter_entries() {
-        if !is_answered(parts, function_import(&function.kind), ImportKind::Function(id)) {
+        if !is_answered(
+            parts,
+            function_import(&function.kind),
+            ImportKind::Function(id),
+        ) {
             return false;
         }
     }
