@@ -39,9 +39,6 @@ there [] i lt = absurd (omega arith)
 there (x ∷ xs) zero lt = refl
 there (x ∷ xs) (suc i) lt = there xs i (omega arith)
 
-pub there_mapped : {A B : Type 0} (f : A → B) (xs : List A) (i : ℕ) → i < length xs → IsSome (slice_get (map f xs) i)
-there_mapped f xs i lt = there (map f xs) i (omega (arith, length-map xs f))
-
 pub zip_long : {A B : Type 0} (xs : List A) (ys : List B) → length ys ≡ length xs → length (zip xs ys) ≡ length xs
 zip_long [] [] e = refl
 zip_long [] (y ∷ ys) e = refl

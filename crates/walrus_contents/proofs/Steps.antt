@@ -1,24 +1,20 @@
--- Lists place by place, the look-ups of indices, and the types that are added.
+-- Lists place by place, indices that lead to their own place, and the types that are added.
 use Rattle.wasm_frames.specs.Record as wire
 use Rattle.std.proofs.Common.{◌≡◌, ℕ, zero, suc, ◌+◌, ◌<◌, ◌≤◌, Bool, true, false, List, [], ◌∷◌, ◌++◌, length, map, take, get_or, refl, sym, ap, ◌∙◌, arith}
 use Rattle.std.specs.Prelude.{Option, Some, None, slice_get, zip, nat_lt, if◌then◌else◌}
 use Rattle.std.specs.List.{AllZip, range_with_len}
-use Rattle.std.proofs.lemmas.List.{take_more, take_all, length-map}
+use Rattle.std.proofs.lemmas.List.{take_more, take_all}
 use mathlib.Core.Path.{fun_ext}
 use borrow.Author.Tests.{ltb-true, ltb-false}
 use Rattle.walrus_base.specs.Arena.{item_at}
-use Rattle.walrus_types.specs.Operators.{Space, Types, Functions, Tables, Memories, Tags, Globals, Elements, DataSegments}
 use Rattle.walrus_types.specs.ModuleTypes.{type_slots}
 use Rattle.walrus_types.specs.TypeDef.{TypeDef}
 use Rattle.walrus_types.specs.declared.module_types.ModuleTypes.{ModuleTypes}
-use Rattle.walrus_code.specs.Indices.{places_in, ids_at}
-use Rattle.walrus_code.specs.declared.indices.IndicesToIds.{IndicesToIds}
 use Rattle.walrus_bodies.specs.FunctionTypes.{is_function_def, is_function_at}
 use Rattle.walrus_groups.specs.Groups.{types_from}
-use Rattle.walrus_model.specs.Reads.{declared, is_function}
-use Rattle.walrus_model.specs.Sections.{global_of, memory_of, table_of, tag_of, types_of}
+use Rattle.walrus_model.specs.Reads.{is_function}
+use Rattle.walrus_model.specs.Sections.{types_of}
 use Rattle.walrus_contents.proofs.Taking.{get_own, get_past}
-use Rattle.walrus_model.proofs.Supported.{supported}
 
 -- ---- place by place
 
@@ -71,30 +67,6 @@ below_by : (n i : ℕ) (b : Bool) → nat_lt i n ≡ b → slice_get (range_with
 below_by n i true e = get_own n i (ltb-true i n e)
 below_by n i false e = get_past 0 n i (ltb-false i n e)
 
-nothing_at : (xs : List ℕ) (i : ℕ) → xs ≡ [] → slice_get xs i ≡ (if nat_lt i 0 then Some i else None)
-nothing_at xs i none = ap (λ (l : List ℕ). slice_get l i) none ∙ below_by 0 i (nat_lt i 0) refl
-
--- so many items of a space, each at the place of its index
-in_place : (indices : IndicesToIds) (space : Space) (n m i : ℕ) → places_in indices space ≡ range_with_len 0 n → m ≡ n → ids_at indices space i ≡ (if nat_lt i m then Some i else None)
-in_place indices space n m i numbered same =
-    ap (λ l. slice_get l i) numbered ∙ below_by n i (nat_lt i n) refl ∙ ap (λ (k : ℕ). if nat_lt i k then Some i else None) (sym same)
-
-module _ (r : wire.Module) (indices : IndicesToIds) (types : places_in indices Types ≡ range_with_len 0 (length (types_from 0 r.types))) (functions : places_in indices Functions ≡ range_with_len 0 (length r.functions))
-    (tables : places_in indices Tables ≡ range_with_len 0 (length r.tables)) (memories : places_in indices Memories ≡ range_with_len 0 (length r.memories)) (tags : places_in indices Tags ≡ range_with_len 0 (length r.tags))
-    (globals : places_in indices Globals ≡ range_with_len 0 (length r.globals)) (elements : places_in indices Elements ≡ []) (data_segments : places_in indices DataSegments ≡ []) where
-  names_at : (space : Space) (i : ℕ) → ids_at indices space i ≡ declared (supported r) space i
-  names_at Types i = in_place indices Types (length (types_from 0 r.types)) (length (types_from 0 r.types)) i types refl
-  names_at Functions i = in_place indices Functions (length r.functions) (length r.functions) i functions refl
-  names_at Tables i = in_place indices Tables (length r.tables) (length (map table_of r.tables)) i tables (length-map r.tables table_of)
-  names_at Memories i = in_place indices Memories (length r.memories) (length (map memory_of r.memories)) i memories (length-map r.memories memory_of)
-  names_at Tags i = in_place indices Tags (length r.tags) (length (map tag_of r.tags)) i tags (length-map r.tags tag_of)
-  names_at Globals i = in_place indices Globals (length r.globals) (length (map global_of r.globals)) i globals (length-map r.globals global_of)
-  names_at Elements i = nothing_at (places_in indices Elements) i elements
-  names_at DataSegments i = nothing_at (places_in indices DataSegments) i data_segments
-
-  pub same_names : ids_at indices ≡ declared (supported r)
-  same_names = fun_ext (λ space. fun_ext (names_at space))
-
 -- an index that is declared leads to its own place
 pub own_index : (n i : ℕ) → i < n → (if nat_lt i n then Some i else None) ≡ Some i
 own_index n i lt = sym (below_by n i (nat_lt i n) refl) ∙ get_own n i lt
@@ -116,12 +88,3 @@ module _ (r : wire.Module) (ts : ModuleTypes) (typed : type_slots ts ≡ map Som
 
   pub same_functions : is_function_at ts ≡ is_function r
   same_functions = fun_ext (λ i. ap is_function_def (type_there i))
-
-function_within : (xs : List TypeDef) (i : ℕ) → is_function_def (slice_get xs i) ≡ true → i < length xs
-function_within [] i h = absurd cc
-function_within (x ∷ xs) zero h = omega arith
-function_within (x ∷ xs) (suc i) h = let lt : i < length xs = function_within xs i h in omega (arith, lt)
-
--- each type that is a function type is declared
-pub function_declared : (r : wire.Module) (i : ℕ) → is_function r i ≡ true → i < length (types_from 0 r.types)
-function_declared r i h = function_within (types_from 0 r.types) i h

@@ -31,7 +31,6 @@ use Rattle.walrus_entities.specs.declared.tables.ModuleTables.{ModuleTables}
 use Rattle.walrus_entities.specs.declared.tags.ModuleTags.{ModuleTags}
 use Rattle.walrus_model.specs.Abstract as abstract
 use Rattle.walrus_producers.specs.Seen.{producers}
-use Rattle.walrus_producers.specs.declared.producers.ModuleProducers.{ModuleProducers}
 use Rattle.walrus_contents.specs.declared.parts.Contents.{Contents}
 use Rattle.walrus_contents.specs.declared.parts.Parts.{Parts}
 

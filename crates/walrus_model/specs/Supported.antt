@@ -1,10 +1,9 @@
--- What is supported so far of a module's sections: types, functions with bodies, tables, memories, tags, globals, and exports. This is the one place that says so;
+-- What is supported so far of a module's sections: types, imports, functions with bodies, tables, memories, tags, globals, and exports. This is the one place that says so;
 -- `Reads` cites it.
 use Rattle.std.specs.Prelude.{[], None, ◌≡◌}
 use Rattle.wasm_frames.specs.Record as wire
 
 pub record IsSupported (s : wire.Module) : Type 0 where
-  pub imports : s.imports ≡ []
   pub start : s.start ≡ None
   pub elements : s.elements ≡ []
   pub data_count : s.data_count ≡ None

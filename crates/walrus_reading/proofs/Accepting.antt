@@ -14,7 +14,7 @@ use Rattle.walrus_model.specs.Reads.{ReadsBodyWith}
 use Rattle.walrus_model.specs.Sections as sections
 use Rattle.walrus_model.specs.Supported.{IsSupported}
 use Rattle.walrus_model.proofs.ReadOnce.{bodies_once}
-use Rattle.walrus_model.proofs.Supported.{by_supported}
+use Rattle.walrus_model.proofs.Supported.{by_supported, supported}
 use Rattle.walrus_rules.specs.Chain.{ParsedAs}
 use Rattle.walrus_rules.specs.Headline.{Reads, field_of, has_function, payloads}
 use Rattle.walrus_rules.specs.Sections.{module_of}
@@ -30,7 +30,6 @@ use Rattle.walrus_parts.specs.declared.error.Error.TheVariants as Parts
 use Rattle.walrus_reading.specs.Parsed.{IsReadWith, IsParsed, TakenFrom, AreModule, RefusesModule, RefusesBytes}
 use Rattle.walrus_reading.specs.Taken.{HasTaken}
 use Rattle.walrus_reading.proofs.Carrying.{parsed}
-use Rattle.walrus_reading.proofs.Kept.{by_kept, kept}
 use Rattle.walrus_reading.proofs.NoHandlers.{no_handlers}
 use Rattle.walrus_reading.proofs.References.{references_read, references_seen}
 
@@ -46,8 +45,8 @@ module _ (config : Config) (c : Features) (with : IsReadWith config c) (bytes : 
 
   module _ (m : Contents) (put_in : (contents_view m).producers ≡ produced []) where
     in_memory : (s : wire.Module) → IsSupported s → length s.bodies ≡ length s.functions → (taken : HasTaken c s m) → ParsedAs config (module_of s taken.bodies [] []) (contents_view m)
-    in_memory = by_kept (λ s. length s.bodies ≡ length s.functions → (taken : HasTaken c s m) → ParsedAs config (module_of s taken.bodies [] []) (contents_view m))
-        (λ s many taken. parsed c s m many taken config with.no_names (no_handlers c (kept s) taken.bodies (ap (λ (f : Features). f.legacy_exceptions) with.features_are ∙ with.no_handlers) taken.read) put_in)
+    in_memory = by_supported (λ s. length s.bodies ≡ length s.functions → (taken : HasTaken c s m) → ParsedAs config (module_of s taken.bodies [] []) (contents_view m))
+        (λ s many taken. parsed c s m many taken config with.no_names (no_handlers c (supported s) taken.bodies (ap (λ (f : Features). f.legacy_exceptions) with.features_are ∙ with.no_handlers) taken.read) put_in)
 
     pub is_parsed : NothingUndeclared (contents_view m) → TakenFrom c bytes m → IsParsed config bytes (contents_view m)
     is_parsed declared t =

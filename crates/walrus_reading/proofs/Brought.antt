@@ -72,26 +72,6 @@ next_here xs m (descs.Memory l) h = ap (λ (n : ℕ). (Memories, n)) (sym (place
 next_here xs m (descs.Global ty) h = ap (λ (n : ℕ). (Globals, n)) (sym (placed_length HoldsGlobal 0 (imported imported_global 0 xs) (globals m.globals) h.globals))
 next_here xs m (descs.Tag ty) h = ap (λ (n : ℕ). (Tags, n)) (sym (placed_length HoldsTag 0 (imported imported_tag 0 xs) (tags m.tags) h.tags))
 
-pub import_added : (x : entries.Import) (item : Item) (kind : ImportKind) (id : ℕ) (old middle new : List (Option ImportValue)) → imported_item kind ≡ item → middle ≡ old → id ≡ length middle
-    → new ≡ middle ++ Some (record { id = id; module_name = x.from; name = x.name; kind = kind }) ∷ [] → AddsPlaced HoldsImport (import_with x item ∷ []) old new
-import_added x item kind id old middle new is stays at push =
-    let v : ImportValue = record { id = id; module_name = x.from; name = x.name; kind = kind } in
-    adds_one HoldsImport (import_with x item) (Some v) old new (push ∙ ap (λ (l : List (Option ImportValue)). l ++ Some v ∷ []) stays)
-    (record { value = v; is = refl; own_id = at ∙ ap length stays; read = ap (import_with x) is })
-
--- what is brought stays where the imports change
-pub brings_still : (i n : ℕ) (d : RawDesc) (old middle : Contents) (all : ModuleImports) → i ≡ n → Brings i d old middle → Brings n d old (record middle { imports = all })
-brings_still i n d old middle all same b =
-    let c : Brings n d old middle = subst (λ (k : ℕ). Brings k d old middle) same b in
-    record {
-      functions = c.functions;
-      tables = c.tables;
-      memories = c.memories;
-      tags = c.tags;
-      globals = c.globals;
-      others = record { types = c.others.types; locals = c.others.locals; exports = c.others.exports; producers = c.others.producers };
-    }
-
 -- one more import behind those that are held
 held_next : (xs : List entries.Import) (x : entries.Import) (old new : Contents) → HoldsImports xs old → AddsImport x old new → HoldsImports (xs ++ x ∷ []) new
 held_next xs x old new h a =
@@ -117,9 +97,6 @@ held_next xs x old new h a =
 
 same_then : (first old new : Contents) → SameOthers first old → SameOthers old new → SameOthers first new
 same_then first old new a b = record { types = b.types ∙ a.types; locals = b.locals ∙ a.locals; exports = b.exports ∙ a.exports; producers = b.producers ∙ a.producers }
-
-pub same_first : (m : Contents) → SameOthers m m
-same_first m = record { types = refl; locals = refl; exports = refl; producers = refl }
 
 -- those so far, and all else as it was
 pub record ImportedSoFar (raw : List RawImport) (i : ℕ) (first m : Contents) : Type 0 where

@@ -49,7 +49,7 @@ use Rattle.walrus_model.proofs.TypeMaps.{sub-itself, val-itself, heap-itself}
 use Rattle.walrus_reading.specs.Taken.{HasTaken}
 use Rattle.walrus_reading.proofs.AllHeld.{Fits, all_fit}
 use Rattle.walrus_reading.proofs.Held.{HeldBody, HeldFunction, exported}
-use Rattle.walrus_reading.proofs.Kept.{kept}
+use Rattle.walrus_model.proofs.Supported.{supported}
 use Rattle.walrus_contents.specs.View.{body, kind_of, kind_handlers, handlers_at, function, contents_view, global_of, import_of as import_of_value, memory_of, table_of, tag_of}
 use Rattle.walrus_model.proofs.PipelineSame.{global_stays, import_stays, memory_stays, table_stays, tag_stays}
 use Rattle.walrus_reading.specs.Held.{HoldsGlobal, HoldsImport, HoldsMemory, HoldsTable, HoldsTag}
@@ -337,7 +337,7 @@ named_live m (DataSegments, k) p e = absurd (cc)
 
 -- ---- the whole
 
-module _ (c : Features) (r : wire.Module) (x : Contents) (many : length r.bodies ≡ length r.functions) (h : HasTaken c (kept r) x) where
+module _ (c : Features) (r : wire.Module) (x : Contents) (many : length r.bodies ≡ length r.functions) (h : HasTaken c (supported r) x) where
   abbrev all : ModuleLocals
   all = x.locals
 
@@ -345,38 +345,38 @@ module _ (c : Features) (r : wire.Module) (x : Contents) (many : length r.bodies
   slots = functions x.funcs
 
   abbrev M : Abstract
-  M = module_of (kept r) h.bodies [] []
+  M = module_of (supported r) h.bodies [] []
 
   abbrev v : Abstract
   v = contents_view x
 
   abbrev said : List Function
-  said = functions_of (kept r) h.bodies
+  said = functions_of (supported r) h.bodies
 
   abbrev types : List TypeDef
   types = types_from 0 r.types
 
-  abbrev fit : AllZip (Fits c (kept r) all) said slots
-  fit = all_fit c (kept r) x h many
+  abbrev fit : AllZip (Fits c (supported r) all) said slots
+  fit = all_fit c (supported r) x h many
 
   -- a function's locals begin where its first one stands
   abbrev moved : ℕ → ℕ → ℕ
-  moved i n = first_at c (kept r) all said slots fit i + n
+  moved i n = first_at c (supported r) all said slots fit i + n
 
   abbrev further : ℕ → ℕ → ℕ
   further k n = k + n
 
   function_carried : (i : ℕ) → IsSome (M.functions i) → BothAnd (SameFunction (moving moved) i) (M.functions i) (v.functions i)
   function_carried i live =
-      let a = held_at c (kept r) all said slots fit i (got_within said i live) in
+      let a = held_at c (supported r) all said slots fit i (got_within said i live) in
       subst (λ (o : Option Function). BothAnd (SameFunction (moving moved) i) o (v.functions i)) (sym a.got)
       (subst (λ (s : Option FunctionValue). BothAnd (SameFunction (moving moved) i) (Some a.said) (option_map (function all) s)) (sym a.at)
-      (carried c (kept r) all moved i a.said a.slot a.fits (ap further a.same)))
+      (carried c (supported r) all moved i a.said a.slot a.fits (ap further a.same)))
 
   function_there : (i : ℕ) → IsSome (v.functions i) → IsSome (M.functions i)
   function_there i live =
       let lt : i < length slots = item_within slots i (was_some (function all) (item_at slots i) live) in
-      let as_many : length said ≡ length slots = zip_length (Fits c (kept r) all) said slots fit in
+      let as_many : length said ≡ length slots = zip_length (Fits c (supported r) all) said slots fit in
       there said i (omega (arith, lt, as_many))
 
   type_at : (i : ℕ) → v.types i ≡ types_of r i
@@ -390,12 +390,12 @@ module _ (c : Features) (r : wire.Module) (x : Contents) (many : length r.bodies
   import_live : (i : ℕ) → IsSome (M.imports i) → IsImportOf (IsLive M) M i
   import_live i some =
       let y = some_of (M.imports i) some in
-      (y.0, y.1, named_live M y.0.item i ((imports_match (kept r) h.bodies [] []).imports i y.0 y.1))
+      (y.0, y.1, named_live M y.0.item i ((imports_match (supported r) h.bodies [] []).imports i y.0 y.1))
 
   -- ---- no handlers
 
   handled : (f : ℕ) → v.handler_types f ≡ []
-  handled f = none_handled c (kept r) all said slots f fit
+  handled f = none_handled c (supported r) all said slots f fit
 
   module _ (none : (f : ℕ) (b : Body) → body_of M f ≡ Some b → handlers_of M b ≡ []) where
     no_handler : (f : ℕ) (o : Option Body) → body_of M f ≡ o → handlers_by M o ≡ []
@@ -415,9 +415,9 @@ module _ (c : Features) (r : wire.Module) (x : Contents) (many : length r.bodies
   whole_bodies : (f : ℕ) (a b : Body) → body_of M f ≡ Some a → body_of v f ≡ Some b → IsWholeBody (moving moved) f a b
   whole_bodies f a b was is =
       let s = function_by (slice_get said f) a was in
-      let k = held_at c (kept r) all said slots fit f (got_in said f s.0 s.1).0 in
+      let k = held_at c (supported r) all said slots fit f (got_in said f s.0 s.1).0 in
       let one : k.said ≡ s.0 = some_inj k.said s.0 (sym k.got ∙ s.1) in
-      whole_at c (kept r) all moved f a b k.said k.slot k.fits (ap further k.same) (ap (λ (g : Function). body_of_kind g.kind) one ∙ s.2)
+      whole_at c (supported r) all moved f a b k.said k.slot k.fits (ap further k.same) (ap (λ (g : Function). body_of_kind g.kind) one ∙ s.2)
       (sym (ap (λ (o : Option FunctionValue). body_of_function (option_map (function all) o)) k.at) ∙ is)
 
   -- ---- nothing is named
@@ -427,7 +427,7 @@ module _ (c : Features) (r : wire.Module) (x : Contents) (many : length r.bodies
   either_none false = refl
 
   unnamed : (y : Subject) → M.named y ≡ []
-  unnamed y = either_none (is_in_range (items_of (kept r) h.bodies []) y)
+  unnamed y = either_none (is_in_range (items_of (supported r) h.bodies []) y)
 
   module _ (config : Config) (own_names : config.synthetic_names ≡ false) where
     nameless : (y : Subject) → None ≡ name_of config M y
@@ -458,15 +458,15 @@ module _ (c : Features) (r : wire.Module) (x : Contents) (many : length r.bodies
         onto = λ j live. inl (j, import_live j (subst (λ (o : Option Import). IsSome o) (import_seen j) live), refl);
       };
       functions = record { same = function_carried; onto = λ j live. inl (j, function_there j live, refl) };
-      tables = carried_there _ _ M.tables v.tables (seen_there table_of HoldsTable (λ n t s k. (k.value, (k.is, k.read))) 0 (tables_of (kept r)) (tables x.tables) h.tables) (λ i t. sym (table_stays (moving moved) (λ s n. refl) (λ n. refl) t));
-      memories = carried_there _ _ M.memories v.memories (seen_there memory_of HoldsMemory (λ n y s k. (k.value, (k.is, k.read))) 0 (memories_of (kept r)) (memories x.memories) h.memories) (λ i y. sym (memory_stays (moving moved) (λ s n. refl) (λ n. refl) y));
-      tags = carried_there _ _ M.tags v.tags (seen_there tag_of HoldsTag (λ n t s k. (k.value, (k.is, k.read))) 0 (tags_of (kept r)) (tags x.tags) h.tags) (λ i t. sym (tag_stays (moving moved) (λ s n. refl) (λ n. refl) t));
-      globals = carried_there _ _ M.globals v.globals (seen_there global_of HoldsGlobal (λ n g s k. (k.value, (k.is, k.read))) 0 (globals_of (kept r)) (globals x.globals) h.globals) (λ i g. sym (global_stays (moving moved) (λ s n. refl) (λ n. refl) g));
+      tables = carried_there _ _ M.tables v.tables (seen_there table_of HoldsTable (λ n t s k. (k.value, (k.is, k.read))) 0 (tables_of (supported r)) (tables x.tables) h.tables) (λ i t. sym (table_stays (moving moved) (λ s n. refl) (λ n. refl) t));
+      memories = carried_there _ _ M.memories v.memories (seen_there memory_of HoldsMemory (λ n y s k. (k.value, (k.is, k.read))) 0 (memories_of (supported r)) (memories x.memories) h.memories) (λ i y. sym (memory_stays (moving moved) (λ s n. refl) (λ n. refl) y));
+      tags = carried_there _ _ M.tags v.tags (seen_there tag_of HoldsTag (λ n t s k. (k.value, (k.is, k.read))) 0 (tags_of (supported r)) (tags x.tags) h.tags) (λ i t. sym (tag_stays (moving moved) (λ s n. refl) (λ n. refl) t));
+      globals = carried_there _ _ M.globals v.globals (seen_there global_of HoldsGlobal (λ n g s k. (k.value, (k.is, k.read))) 0 (globals_of (supported r)) (globals x.globals) h.globals) (λ i g. sym (global_stays (moving moved) (λ s n. refl) (λ n. refl) g));
       elements = no_items _ _;
       data_segments = no_items _ _;
       imports_apart = λ i j k l e. e;
       apart = λ space no i j k l e. e;
-      exports = exported c (kept r) x h ∙ sym (map-itself (renamed_export (moving moved)) _ (λ e. refl));
+      exports = exported c (supported r) x h ∙ sym (map-itself (renamed_export (moving moved)) _ (λ e. refl));
       start = refl;
     };
     bodies = whole_bodies;

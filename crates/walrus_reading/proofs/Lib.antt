@@ -4,7 +4,6 @@ pub mod Brought
 pub mod Carrying
 pub mod DeclaredLocals
 pub mod Held
-pub mod Kept
 pub mod Locating
 pub mod NarrowRules
 pub mod NoHandlers

@@ -23,15 +23,6 @@ each_in P (x ∷ xs) y all c = ⊎_elim (λ (e : x ≡ y). subst P e all.0) (λ 
 
 -- ---- bodies that were read
 
--- the body behind what is said at a place
-pub read_at : (R : ℕ × wire.Body → Said → Type 0) (fs : List ℕ) (bs : List wire.Body) (saids : List Said) (i : ℕ) (p : ℕ × Said) → length bs ≡ length fs → AllZip R (zip fs bs) saids → slice_get (zip fs saids) i ≡ Some p → (b : wire.Body) × R (p.0, b) p.1
-read_at R [] [] saids i p same h e = cc
-read_at R [] (b ∷ bs) saids i p same h e = absurd (omega arith)
-read_at R (f ∷ fs) [] saids i p same h e = absurd (omega arith)
-read_at R (f ∷ fs) (b ∷ bs) [] i p same h e = cc
-read_at R (f ∷ fs) (b ∷ bs) (s ∷ saids) zero p same h e = let q : (f, s) ≡ p = some_same (f, s) p e in subst (λ (x : ℕ × Said). (c : wire.Body) × R (x.0, c) x.1) q (b, h.0)
-read_at R (f ∷ fs) (b ∷ bs) (s ∷ saids) (suc i) p same h e = read_at R fs bs saids i p (omega arith) h.1 e
-
 -- a local of so many, from the first on, is below their number
 index_below : (count n x : ℕ) (t : Bool) → nat_lt n count ≡ t → locals_from 0 count n ≡ Some x → x < count
 index_below count n x true lt e =

@@ -103,7 +103,7 @@ pub mod FitsTold
 pub mod TextFits
 pub mod FitsLimits
 pub mod DeclaredStays
-pub mod ReadLocal
+pub mod ReadSegments
 pub mod ReadSoFar
 pub mod Runs
 pub mod ReadExample

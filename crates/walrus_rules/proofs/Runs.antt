@@ -13,7 +13,7 @@ use Rattle.walrus_rules.specs.Headline.{Reads, ComesTo, ComesOutTooLarge}
 use Rattle.walrus_rules.specs.Pinned.{IsWrittenAs}
 use Rattle.walrus_rules.specs.Refused.{Refusal, Memory, DeadItem, NoIndex, TwoIndices, TooLarge, NotWritable, Caller, Another, PassesLimits, IsSayable}
 use Rattle.walrus_rules.specs.RunLaws.{IsFineSoFar, FineSoFar, OutputSoFar, OkSoFar, TooLargeSoFar, IsFewSoFar}
-use Rattle.walrus_rules.specs.SoFar.{ReadsSoFar, HasUnwritten, RefusesSoFar}
+use Rattle.walrus_rules.specs.SoFar.{ReadsSoFar, RefusesSoFar}
 use Rattle.walrus_rules.specs.Spelling.{IsSpelledAs}
 use Rattle.walrus_rules.specs.Text.{sections_of}
 use Rattle.walrus_rules.specs.WellMade.{IsWellMade}
@@ -22,7 +22,7 @@ use Rattle.walrus_rules.proofs.DeclaredStays.{parsed_declared, left_declared}
 use Rattle.walrus_rules.proofs.FitsTold.{ok_fits}
 use Rattle.walrus_rules.proofs.NoCause.{well_no_cause}
 pub use Rattle.walrus_rules.proofs.ReadSoFar.{reads_so_far, so_far_says}
-use Rattle.walrus_rules.proofs.ReadLocal.{parsed_written, parsed_elements, left_written}
+use Rattle.walrus_rules.proofs.ReadSegments.{parsed_elements}
 use Rattle.walrus_rules.proofs.StepParsed.{live_v}
 use Rattle.walrus_rules.proofs.StepRead.{read_is_plain, steps_come_out_lem}
 use Rattle.walrus_rules.proofs.Straight.{not_there}
@@ -75,7 +75,7 @@ module _ (c : Config) (bytes : List ℕ) (m v w : Abstract) (read : ReadsSoFar c
   declared_parsed = parsed_declared c m v parsed (read_is_plain c bytes m read.reads) holds read.declared
 
   pub declared_left : NothingUndeclared w
-  declared_left = left_declared v w collected (λ i live. not_there (v.elements i) (parsed_elements c bytes m read holds v parsed i) live) declared_parsed
+  declared_left = left_declared v w collected (λ i live. not_there (v.elements i) (parsed_elements c bytes m read v parsed i) live) declared_parsed
 
   pub reached_live : ReachedIsLive v
   reached_live = live_v c m v parsed (read_is_plain c bytes m read.reads) holds
@@ -89,14 +89,14 @@ module _ (c : Config) (bytes : List ℕ) (m v w : Abstract) (read : ReadsSoFar c
   pub brought : BringsTo c m w
   brought = brings_itself c m v w parsed collected declared_left
 
-fine : (c : Config) (v : Abstract) → IsWellMade c v → NothingUndeclared v → (HasUnwritten v → ⊥) → IsFineSoFar c v
-fine c v made nothing all_written = record { made = made; declared = nothing; all_written = all_written; no_cause = well_no_cause c v made; sayable = well_sayable c v made }
+fine : (c : Config) (v : Abstract) → IsWellMade c v → NothingUndeclared v → IsFineSoFar c v
+fine c v made nothing = record { made = made; declared = nothing; no_cause = well_no_cause c v made; sayable = well_sayable c v made }
 
 pub fine_so_far : FineSoFar
 fine_so_far c bytes m v w read holds parsed collected = record {
-  parsed = fine c v (made_parsed c bytes m v w read holds parsed collected) (declared_parsed c bytes m v w read holds parsed collected) (parsed_written c bytes m read holds v parsed);
+  parsed = fine c v (made_parsed c bytes m v w read holds parsed collected) (declared_parsed c bytes m v w read holds parsed collected);
   reached = reached_live c bytes m v w read holds parsed collected;
-  left = fine c w (made_left c bytes m v w read holds parsed collected) (declared_left c bytes m v w read holds parsed collected) (left_written c bytes m read holds v parsed w collected);
+  left = fine c w (made_left c bytes m v w read holds parsed collected) (declared_left c bytes m v w read holds parsed collected);
   brings = brought c bytes m v w read holds parsed collected;
 }
 
@@ -111,7 +111,7 @@ ok_so_far c bytes output m v w n read holds parsed collected ok written spelled 
 
 pub too_large_so_far : TooLargeSoFar
 too_large_so_far c bytes m v w read holds parsed collected large =
-    comes_out_too_large c bytes m w read.reads holds (brought c bytes m v w read holds parsed collected) (large.0.2 (well_sayable c w (made_left c bytes m v w read holds parsed collected)))
+    comes_out_too_large c bytes m w read.reads holds (brought c bytes m v w read holds parsed collected) (large.2 (well_sayable c w (made_left c bytes m v w read holds parsed collected)))
 
 pub few_so_far : {X : Type 0} (c : Config) (w : Abstract) (result : Result X Refusal) → IsFineSoFar c w → RefusesSoFar c w result → IsFewSoFar result
 few_so_far c w (Ok x) are h = tt
@@ -120,6 +120,6 @@ few_so_far c w (Err TooLarge) are h = tt
 few_so_far c w (Err Caller) are h = let no : false ≡ true = h.1.2 in cc
 few_so_far c w (Err DeadItem) are h = are.no_cause.all_there h
 few_so_far c w (Err TwoIndices) are h = are.no_cause.one_index h
-few_so_far c w (Err NoIndex) are h = ⊎_elim (λ lacks. are.no_cause.indices lacks) (λ unwritten. are.all_written unwritten) h
+few_so_far c w (Err NoIndex) are h = are.no_cause.indices h
 few_so_far c w (Err NotWritable) are h = ⊎_elim (λ bad. are.no_cause.spelled bad) (λ undeclared. are.declared undeclared.0 undeclared.1) h
 few_so_far c w (Err Another) are h = h

@@ -11,7 +11,7 @@ use Rattle.walrus_rules.specs.Chain.{BringsTo, ParsedAs}
 use Rattle.walrus_rules.specs.Headline.{ComesTo, ComesOutTooLarge}
 use Rattle.walrus_rules.specs.Pinned.{IsWrittenAs}
 use Rattle.walrus_rules.specs.Refused.{Refusal, Memory, DeadItem, NoIndex, TwoIndices, TooLarge, NotWritable, Caller, Another, IsSayable}
-use Rattle.walrus_rules.specs.SoFar.{ReadsSoFar, HasUnwritten, RefusesSoFar}
+use Rattle.walrus_rules.specs.SoFar.{ReadsSoFar, RefusesSoFar}
 use Rattle.walrus_rules.specs.Spelling.{IsSpelledAs}
 use Rattle.walrus_rules.specs.Text.{sections_of}
 use Rattle.walrus_rules.specs.WellMade.{IsWellMade}
@@ -21,7 +21,6 @@ use Rattle.walrus_rules.specs.WellMadeLaws.{HasNoOther}
 pub record IsFineSoFar (c : Config) (v : Abstract) : Type 0 where
   pub made : IsWellMade c v
   pub declared : NothingUndeclared v
-  pub all_written : HasUnwritten v → ⊥
   pub no_cause : HasNoOther c v
   pub sayable : IsSayable v
 

@@ -6,8 +6,8 @@ use std::test::Fail;
 use test_support::{add_bytes, are, demand};
 use walrus::passes::gc;
 use walrus::{
-    AbstractHeapType, ConstExpr, Error, ExportItem, FunctionId, GlobalId, GlobalKind, HeapType,
-    Module, ModuleConfig, RefType, ValType, Value,
+    AbstractHeapType, ConstExpr, Error, ExportItem, FunctionBuilder, FunctionId, GlobalId,
+    GlobalKind, HeapType, ImportKind, Module, ModuleConfig, RefType, ValType, Value,
 };
 
 fn empty_module(alloc: Global) -> Result<Module, Error> {
@@ -109,6 +109,78 @@ fn large_memory(alloc: Global) -> Result<Module, Error> {
         .add_local(false, false, 4_294_967_296, None, None)?;
     module.exports.add("m", ExportItem::Memory(memory))?;
     Ok(module)
+}
+
+// The same, since an item would have two indices.
+fn has_two_indices(alloc: Global, edited: Result<Module, Error>) -> bool {
+    let Ok(mut module) = edited else {
+        return false;
+    };
+    gc::run(alloc, &mut module).is_ok() && matches!(module.emit_wasm(alloc), Err(Error::TwoIndices))
+}
+
+// An imported function that is exported, and that a second import names.
+fn two_imports_name_one(alloc: Global) -> Result<Module, Error> {
+    let mut module = empty_module(alloc)?;
+    let ty = module.types.add(&[], &[])?;
+    let (function, _) = module.add_import_func("m", "f", ty)?;
+    module
+        .imports
+        .add("m", "again", ImportKind::Function(function))?;
+    module.exports.add("f", ExportItem::Function(function))?;
+    Ok(module)
+}
+
+// An imported function that is exported, and whose import is deleted.
+fn import_is_deleted(alloc: Global) -> Result<Module, Error> {
+    let mut module = empty_module(alloc)?;
+    let ty = module.types.add(&[], &[])?;
+    let (function, import) = module.add_import_func("m", "f", ty)?;
+    module.exports.add("f", ExportItem::Function(function))?;
+    if module.imports.contains(import) {
+        module.imports.delete(import);
+    }
+    Ok(module)
+}
+
+// A function of the module.
+fn add_function(alloc: Global, module: &mut Module) -> Result<FunctionId, Error> {
+    let mut builder = FunctionBuilder::new(alloc, &mut module.types, &[], &[])?;
+    builder.func_body().i32_const(1234)?.drop_()?;
+    let local = builder.local_func(Vec::new(alloc))?;
+    module.funcs.add_local(local)
+}
+
+// Whether a function of the module that an import names is found under the names of the import, and isn't written.
+fn local_function_is_imported(alloc: Global) -> Result<bool, Error> {
+    let mut module = empty_module(alloc)?;
+    let function = add_function(alloc, &mut module)?;
+    let import = module
+        .imports
+        .add("mod", "dummy", ImportKind::Function(function))?;
+    let found = match module.imports.get_imported_func(function) {
+        Some(by) => by.id() == import,
+        None => false,
+    };
+    let named = matches!(module.imports.get_func("mod", "dummy"), Ok(id) if id == function);
+    Ok(found && named && matches!(module.emit_wasm(alloc), Err(Error::TwoIndices)))
+}
+
+#[test]
+fn imports_and_items_that_do_not_match(rt: HostRuntime) -> Result<(), Fail> {
+    let alloc = rt.alloc();
+    demand(
+        has_two_indices(alloc, two_imports_name_one(alloc)),
+        "two imports of one function",
+    )?;
+    demand(
+        lacks_an_index(alloc, import_is_deleted(alloc)),
+        "a function whose import is deleted",
+    )?;
+    demand(
+        matches!(local_function_is_imported(alloc), Ok(true)),
+        "a function of the module that an import names",
+    )
 }
 
 #[test]

@@ -1,10 +1,9 @@
 //! Items that are added with the imports that bring them: both name each other, and nothing else changes.
 
-use std::alloc::Global;
 use std::test::Fail;
 use test_support::demand;
 use walrus::{
-    AbstractHeapType, Error, FunctionId, FunctionKind, GlobalId, GlobalKind, HeapType, ImportId,
+    AbstractHeapType, FunctionId, FunctionKind, GlobalId, GlobalKind, HeapType, ImportId,
     ImportKind, MemoryId, Module, ModuleConfig, RefType, TableId, TagId, TagKind, TypeId, ValType,
 };
 
@@ -117,7 +116,7 @@ fn adds_tag(module: &mut Module, ty: TypeId) -> bool {
     is_import(module, import, ImportKind::Tag(id), "e") && is_tag(module, id, import, ty)
 }
 
-fn adds_each(alloc: Global, module: &mut Module) -> bool {
+fn adds_each(module: &mut Module) -> bool {
     let Ok(ty) = module.types.add(&[], &[]) else {
         return false;
     };
@@ -127,18 +126,12 @@ fn adds_each(alloc: Global, module: &mut Module) -> bool {
         && adds_global(module)
         && adds_tag(module, ty)
         && module.imports.len() == 5
-        && is_not_written(alloc, module)
-}
-
-// So far a module with imports isn't written.
-fn is_not_written(alloc: Global, module: &mut Module) -> bool {
-    matches!(module.emit_wasm(alloc), Err(Error::NoIndex))
 }
 
 #[test]
 fn each_kind_of_import(rt: HostRuntime) -> Result<(), Fail> {
     let added = match Module::with_config(rt.alloc(), ModuleConfig::new()) {
-        Ok(mut module) => adds_each(rt.alloc(), &mut module),
+        Ok(mut module) => adds_each(&mut module),
         Err(_) => false,
     };
     demand(added, "items that are imported")

@@ -6,7 +6,7 @@ use std::test::Fail;
 use test_support::{add_bytes, demand};
 
 // Inputs and what they come to, in hexadecimal.
-const ROWS: [(&str, &str); 26] = [
+const ROWS: [(&str, &str); 27] = [
     // the header alone
     ("00 61 73 6D 01 00 00 00", "00 61 73 6D 01 00 00 00"),
     // two empty functions, of which the second is exported
@@ -43,6 +43,11 @@ const ROWS: [(&str, &str); 26] = [
     (
         "00 61 73 6D 01 00 00 00 01 04 01 60 00 00 03 02 01 00 07 05 01 01 66 00 00 0A 07 01 05 00 D2 00 1A 0B",
         "00 61 73 6D 01 00 00 00 01 04 01 60 00 00 03 02 01 00 07 05 01 01 66 00 00 0A 07 01 05 00 D2 00 1A 0B",
+    ),
+    // of two imported functions the second is exported
+    (
+        "00 61 73 6D 01 00 00 00 01 04 01 60 00 00 02 0D 02 01 6D 01 61 00 00 01 6D 01 62 00 00 07 05 01 01 66 00 01",
+        "00 61 73 6D 01 00 00 00 01 04 01 60 00 00 02 07 01 01 6D 01 62 00 00 07 05 01 01 66 00 00",
     ),
     // a memory that nothing reaches
     (

@@ -4,7 +4,7 @@ use Rattle.wasm_entries.specs.declared.record.RawExportKind.{RawExportKind}
 use Rattle.wasm_entries.specs.declared.record.RawLimits.{RawLimits}
 use Rattle.wasm_entries.specs.declared.record.RawExportKind.TheVariants as kinds
 use Rattle.std.proofs.Common.{◌≡◌, ℕ, List, [], ◌∷◌, map, refl, sym, ap, ap₂, subst, ◌∙◌, inl, inr, ⊎_elim, ◌<◌, Bool, true}
-use Rattle.std.specs.Prelude.{Option, Some, None, IsSome, Contains, option_map}
+use Rattle.std.specs.Prelude.{Option, Some, None, IsSome, Contains, filter_map, option_map, slice_get, ◌++◌}
 use Rattle.std.specs.List.{AllZip}
 use Rattle.walrus_base.specs.Id.{place}
 use Rattle.walrus_base.specs.Types.{ValType}
@@ -18,8 +18,8 @@ use Rattle.walrus_functions.specs.Handlers.{params_of}
 use Rattle.walrus_bodies.specs.declared.features.Features.{Features}
 use Rattle.walrus_groups.specs.Groups.{types_from}
 use Rattle.walrus_groups.specs.Named.{named_def}
-use Rattle.walrus_contents.specs.View.{body}
-use Rattle.walrus_writing.specs.SoFar.{plain_view}
+use Rattle.walrus_contents.specs.There.{ImportsAreLive}
+use Rattle.walrus_contents.specs.View.{body, parts_view}
 use Rattle.walrus_contents.specs.declared.parts.Parts.{Parts}
 use Rattle.walrus_contents.proofs.Lookups.{heads, mapped_some, then_some}
 use Rattle.walrus_constants.specs.Laws.{AgreesWith}
@@ -27,6 +27,7 @@ use Rattle.walrus_constants.specs.Named.{named_global, named_table}
 use Rattle.walrus_constants.proofs.Items.{global_renamed, table_renamed}
 use Rattle.walrus_model.specs.Abstract.{Abstract, Body, Export, Function, Global, Memory, Origin, Table, Tag}
 use Rattle.walrus_model.specs.Carried.{Carried}
+use Rattle.walrus_model.specs.Imported.{brought, import_number}
 use Rattle.walrus_model.specs.Live.{IsLive}
 use Rattle.walrus_model.specs.Names.{body_of, body_of_function}
 use Rattle.walrus_model.specs.Ordered.{StandsFor}
@@ -35,20 +36,27 @@ use Rattle.walrus_model.specs.Plan.{IsPlan, IsWrittenAlong, Plan}
 use Rattle.walrus_model.specs.Renaming.{Renaming, renamed_export, renamed_global, renamed_memory, renamed_origin, renamed_table, renamed_tag}
 use Rattle.walrus_model.specs.Same.{SameType}
 use Rattle.walrus_model.specs.Sections.{export_of, global_of, memory_of, space_of, table_of, tag_of, types_of, body_with}
-use Rattle.walrus_model.specs.Spaces.{SameThing, look}
+use Rattle.walrus_model.specs.Spaces.{SameThing, Thing, look}
 use Rattle.walrus_model.proofs.AlongRecords.{stand_along}
-use Rattle.walrus_model.proofs.Indices.{planned_named, planned_stands}
+use Rattle.walrus_model.proofs.ImportedZip.{written_both}
+use Rattle.walrus_model.proofs.Indices.{planned_named}
 use Rattle.walrus_model.proofs.Lists.{Contains-head, map-itself}
 use Rattle.walrus_model.proofs.Planned.{planned_apart, planned_carries}
 use Rattle.walrus_model.proofs.Spaces.{carried_from}
-use Rattle.walrus_model.proofs.Standing.{none_there, some_inj, zip_left, zip_right}
+use Rattle.walrus_model.proofs.Standing.{got_where, none_there, some_inj, zip_left, zip_right}
 use Rattle.walrus_rules.specs.Pinned.{HasType, IsDeclared, BeginsBefore, GoesBefore}
 use Rattle.walrus_rules.specs.Spelling.{UsesAll}
 use Rattle.walrus_rules.specs.Text.{said}
+use Rattle.walrus_writing.specs.Brought.{import_numbers}
+use Rattle.walrus_writing.specs.Imported.{AreBare}
 use Rattle.walrus_writing.specs.Parts.{export_with_index, kind_in, memory_limits, slots_of, tag_index}
 use Rattle.walrus_writing.specs.Records.{Records}
+use Rattle.walrus_writing.proofs.Bare.{are_bare}
 use Rattle.walrus_writing.proofs.FunctionsWritten.{IsRow, all_rows, functions_stand, new_functions, text_in}
+use Rattle.walrus_writing.proofs.ImportedAlong.{entries_brought, entries_live}
+use Rattle.walrus_writing.proofs.ImportsCarried.{brought_numbered, import_index, imports_apart, imports_carried, imports_ordered, index_is}
 use Rattle.walrus_writing.proofs.NamedTypes.{def_parts, each_place, same_in_group, group_renamed}
+use Rattle.walrus_writing.proofs.Parted.{body_among, body_behind, functions_brought, stand_among}
 use Rattle.walrus_writing.proofs.SameBodies.{uses_all, names_no_data, locals_rise}
 use Rattle.walrus_writing.proofs.TypesEntered.{types_apart}
 use Rattle.walrus_writing.proofs.WrittenAs.{laid_of, module_said, number_is, renaming_of}
@@ -119,7 +127,7 @@ live_by o x e = subst (λ p. IsSome p) (sym e) (refl {A = Bool} {a = true})
 
 module _ {p : Parts} {features : Features} (r : Records p features) where
   abbrev before : Abstract
-  before = plain_view p
+  before = parts_view p
 
   abbrev after : Abstract
   after = module_said r
@@ -147,58 +155,67 @@ module _ {p : Parts} {features : Features} (r : Records p features) where
 
   -- ---- memories
 
-  same_memory : (i : ℕ) (x : Memory) (w : RawLimits) → before.memories i ≡ Some x → Some (memory_limits x) ≡ Some w → memory_of w ≡ renamed_memory renaming x
-  same_memory i x w at e =
+  same_memory : (i : ℕ) (x : Memory) (w : RawLimits) → Contains (r.own Memories) i → before.memories i ≡ Some x → Some (memory_limits x) ≡ Some w → memory_of w ≡ renamed_memory renaming x
+  same_memory i x w within at e =
       ap memory_of (sym (some_inj (memory_limits x) w e))
-      ∙ ap (λ (o : Origin). let made : Memory = record { origin = o; ty = x.ty } in made) (sym (ap (renamed_origin renaming) (r.own.memories i x at)))
+      ∙ ap (λ (o : Origin). let made : Memory = record { origin = o; ty = x.ty } in made) (sym (ap (renamed_origin renaming) (r.defined.memories i x within at)))
 
   -- ---- tags
 
-  same_tag : (i : ℕ) (x : Tag) (t : ℕ) → before.tags i ≡ Some x → tag_index r.names x ≡ Some t → tag_of t ≡ renamed_tag renaming x
-  same_tag i x t at e =
+  same_tag : (i : ℕ) (x : Tag) (t : ℕ) → Contains (r.own Tags) i → before.tags i ≡ Some x → tag_index r.names x ≡ Some t → tag_of t ≡ renamed_tag renaming x
+  same_tag i x t within at e =
       ap tag_of (number_is r Types x.ty t e)
-      ∙ ap (λ (o : Origin). let made : Tag = record { origin = o; ty = renaming.numbers Types x.ty } in made) (sym (ap (renamed_origin renaming) (r.own.tags i x at)))
+      ∙ ap (λ (o : Origin). let made : Tag = record { origin = o; ty = renaming.numbers Types x.ty } in made) (sym (ap (renamed_origin renaming) (r.defined.tags i x within at)))
 
   -- ---- tables and globals
 
   agrees : AgreesWith renaming r.names
   agrees s i j e = sym (number_is r s i j e)
 
-  same_table : (i : ℕ) (x w : Table) → before.tables i ≡ Some x → named_table r.names x ≡ Some w → w ≡ renamed_table renaming x
-  same_table i x w at e = sym (table_renamed renaming r.names agrees x w (r.own.tables i x at) e)
+  same_table : (i : ℕ) (x w : Table) → Contains (r.own Tables) i → before.tables i ≡ Some x → named_table r.names x ≡ Some w → w ≡ renamed_table renaming x
+  same_table i x w within at e = sym (table_renamed renaming r.names agrees x w (r.defined.tables i x within at) e)
 
-  same_global : (i : ℕ) (x w : Global) → before.globals i ≡ Some x → named_global r.names x ≡ Some w → w ≡ renamed_global renaming x
-  same_global i x w at e = sym (global_renamed renaming r.names agrees x w (r.own.globals i x at) e)
+  same_global : (i : ℕ) (x w : Global) → Contains (r.own Globals) i → before.globals i ≡ Some x → named_global r.names x ≡ Some w → w ≡ renamed_global renaming x
+  same_global i x w within at e = sym (global_renamed renaming r.names agrees x w (r.defined.globals i x within at) e)
+
+  -- ---- imports
+
+  abbrev order : List ℕ
+  order = import_numbers p
+
+  bare : AreBare before
+  bare = are_bare p r.matched
+
+  index : (q : ℕ) → renaming.imports q ≡ import_index p q
+  index q = refl
+
+  numbered : (s : Space) (k i : ℕ) → slice_get (filter_map (import_number before s) order) k ≡ Some i → renaming.numbers s i ≡ k
+  numbered s = brought_numbered r.names r.plan before r.numbered r.is_plan s order (r.own s) (r.parted s)
+
+  behind_imports : (s : Space) (things : List (Thing s)) → ((j : ℕ) → look after s j ≡ slice_get (brought s r.imports ++ things) j)
+      → AllZip (StandsFor (SameThing renaming s) (look before s)) (r.own s) things → IsWrittenAlong renaming before after r.plan s
+  behind_imports s things = λ reads stand.
+      written_both renaming before after r.plan s order (r.own s) r.imports things (r.parted s) reads
+      (entries_brought r.names renaming agrees before bare order r.imports (index_is p) r.imports_are) stand
+
+  live : ImportsAreLive before
+  live i x at = entries_live r.names before order r.imports r.imports_are i x at ((imports_ordered p).all i (live_by (before.imports i) x at))
 
   -- ---- all spaces
 
   written_along : (s : Space) → IsWrittenAlong renaming before after r.plan s
   written_along Types = record { written = types_from 0 r.types; reads = λ j. refl; stand = types_stand }
-  written_along Functions = record { written = new_functions r; reads = λ j. refl; stand = functions_stand r }
-  written_along Tables = record {
-    written = map table_of r.tables;
-    reads = λ j. refl;
-    stand =
-        subst (λ (ws : List Table). AllZip (StandsFor (SameThing renaming Tables) before.tables) (r.plan Tables) ws) (map-itself (λ (w : Table). w) (map table_of r.tables) (λ w. refl))
-        (stand_along (SameThing renaming Tables) before.tables (named_table r.names) (λ (w : Table). w) same_table (r.plan Tables) (map table_of r.tables) r.tables_are);
-  }
-  written_along Memories = record {
-    written = map memory_of r.memories;
-    reads = λ j. refl;
-    stand = stand_along (SameThing renaming Memories) before.memories (λ (m : Memory). Some (memory_limits m)) memory_of same_memory (r.plan Memories) r.memories r.memories_are;
-  }
-  written_along Tags = record {
-    written = map tag_of r.tags;
-    reads = λ j. refl;
-    stand = stand_along (SameThing renaming Tags) before.tags (tag_index r.names) tag_of same_tag (r.plan Tags) r.tags r.tags_are;
-  }
-  written_along Globals = record {
-    written = map global_of r.globals;
-    reads = λ j. refl;
-    stand =
-        subst (λ (ws : List Global). AllZip (StandsFor (SameThing renaming Globals) before.globals) (r.plan Globals) ws) (map-itself (λ (w : Global). w) (map global_of r.globals) (λ w. refl))
-        (stand_along (SameThing renaming Globals) before.globals (named_global r.names) (λ (w : Global). w) same_global (r.plan Globals) (map global_of r.globals) r.globals_are);
-  }
+  written_along Functions = behind_imports Functions (new_functions r) (λ j. refl) (functions_stand r)
+  written_along Tables = behind_imports Tables (map table_of r.tables) (λ j. refl)
+      (subst (λ (ws : List Table). AllZip (StandsFor (SameThing renaming Tables) before.tables) (r.own Tables) ws) (map-itself (λ (w : Table). w) (map table_of r.tables) (λ w. refl))
+      (stand_among (SameThing renaming Tables) before.tables (named_table r.names) (λ (w : Table). w) (r.own Tables) same_table (map table_of r.tables) r.tables_are))
+  written_along Memories = behind_imports Memories (map memory_of r.memories) (λ j. refl)
+      (stand_among (SameThing renaming Memories) before.memories (λ (m : Memory). Some (memory_limits m)) memory_of (r.own Memories) same_memory r.memories r.memories_are)
+  written_along Tags = behind_imports Tags (map tag_of r.tags) (λ j. refl)
+      (stand_among (SameThing renaming Tags) before.tags (tag_index r.names) tag_of (r.own Tags) same_tag r.tags r.tags_are)
+  written_along Globals = behind_imports Globals (map global_of r.globals) (λ j. refl)
+      (subst (λ (ws : List Global). AllZip (StandsFor (SameThing renaming Globals) before.globals) (r.own Globals) ws) (map-itself (λ (w : Global). w) (map global_of r.globals) (λ w. refl))
+      (stand_among (SameThing renaming Globals) before.globals (named_global r.names) (λ (w : Global). w) (r.own Globals) same_global (map global_of r.globals) r.globals_are))
   written_along Elements = nothing_along renaming before after r.plan Elements r.is_plan (λ i. refl) (λ j. refl)
   written_along DataSegments = nothing_along renaming before after r.plan DataSegments r.is_plan (λ i. refl) (λ j. refl)
 
@@ -206,8 +223,8 @@ module _ {p : Parts} {features : Features} (r : Records p features) where
   carried_over =
       carried_from (IsLive before) (IsTheSegment None) renaming before after
       (λ s. planned_carries r.names r.plan r.numbered before after r.is_plan renaming (λ t i. refl) (IsTheSegment None) s (written_along s))
-      (record { same = λ i x. (let e = x.1 in cc); onto = λ j live. absurd (none_there live) })
-      (λ i j k l e. e)
+      (imports_carried p r.names renaming agrees bare live index numbered r.imports r.imports_are)
+      (imports_apart p r.names renaming agrees bare live index numbered r.imports r.imports_are)
       (λ s no_type. planned_apart r.names r.plan r.numbered before after r.is_plan renaming (λ t i. refl) s)
       (same_exports r.names renaming (number_is r) r.exports before.exports r.exports_are)
       refl
@@ -222,9 +239,11 @@ module _ {p : Parts} {features : Features} (r : Records p features) where
 
   came_from : (f : ℕ) (b : Body) → body_of after f ≡ Some b → Came b
   came_from f b e =
-      let g = some_function (after.functions f) b e in
-      let z = zip_left (IsRow r) (r.plan Functions) (new_functions r) f g.0 (all_rows r) g.1 in
-      record { i = z.0; new = g.0; row = z.2; is = some_inj b _ (sym e ∙ ap body_of_function (g.1 ∙ ap (λ (h : Function). Some h) z.2.new_is)) }
+      let behind = body_behind (brought Functions r.imports) (new_functions r) (functions_brought r.imports) f b e in
+      let at : body_of_function (slice_get (new_functions r) behind.0) ≡ Some b = ap body_of_function behind.1 ∙ e in
+      let g = some_function (slice_get (new_functions r) behind.0) b at in
+      let z = zip_left (IsRow r) (r.own Functions) (new_functions r) behind.0 g.0 (all_rows r) g.1 in
+      record { i = z.0; new = g.0; row = z.2; is = some_inj b _ (sym at ∙ ap body_of_function (g.1 ∙ ap (λ (h : Function). Some h) z.2.new_is)) }
 
   -- each declared local is used, and no data segment is named
   pub used : (f : ℕ) (b : Body) → body_of after f ≡ Some b → UsesAll b
@@ -243,9 +262,7 @@ module _ {p : Parts} {features : Features} (r : Records p features) where
 
   held_at : (f : ℕ) (b : Body) → body_of before f ≡ Some b → Held f b
   held_at f b e =
-      let g = some_function (before.functions f) b e in
-      let at = planned_stands r.numbered r.is_plan Functions f (live_by (before.functions f) g.0 g.1) in
-      let z = zip_right (IsRow r) (r.plan Functions) (new_functions r) _ f (all_rows r) at in
+      let z = zip_right (IsRow r) (r.own Functions) (new_functions r) _ f (all_rows r) (got_where (r.own Functions) f (body_among r f b e)) in
       record { new = z.0; row = z.2; is = some_inj b (body p.locals.now z.2.has.local) (sym e ∙ ap body_of_function z.2.has.is) }
 
   -- declared locals get rising numbers in their order

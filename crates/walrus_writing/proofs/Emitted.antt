@@ -3,7 +3,7 @@ use Rattle.std.proofs.Common.{◌≡◌, ℕ, List, refl, sym, ◌∙◌, inl, i
 use Rattle.std.specs.Prelude.{Option, Some, None}
 use Rattle.std.proofs.lemmas.List.Elements.{All-nil}
 use Rattle.walrus_bodies.specs.declared.features.Features.{Features}
-use Rattle.walrus_writing.specs.SoFar.{plain_view}
+use Rattle.walrus_contents.specs.View.{parts_view}
 use Rattle.walrus_contents.specs.declared.parts.Parts.{Parts}
 use Rattle.walrus_model.specs.Abstract.{Abstract, Body}
 use Rattle.walrus_model.specs.Config.{Config}
@@ -58,12 +58,12 @@ module _ {p : Parts} {features : Features} (r : Records p features) where
 
 -- ---- what emission promises, where ref.func names only what is declared: a segment that declares it can't be written so far
 
-module _ (c : Config) (p : Parts) (features : Features) (plain : IsPlain c features) (declared : NothingUndeclared (plain_view p)) where
-  written : (r : Records p features) → IsWrittenAs c (plain_view p) (module_said r)
+module _ (c : Config) (p : Parts) (features : Features) (plain : IsPlain c features) (declared : NothingUndeclared (parts_view p)) where
+  written : (r : Records p features) → IsWrittenAs c (parts_view p) (module_said r)
   written r = written_as_said c features plain p declared r
 
   -- what is spelled is what the module is written as
-  pub emitted : (bytes : List ℕ) → Spells p features bytes → IsEmitted c (plain_view p) bytes
+  pub emitted : (bytes : List ℕ) → Spells p features bytes → IsEmitted c (parts_view p) bytes
   emitted bytes s =
       let n : Abstract = module_said s.records in
       let spelled : IsSpelledAs n bytes = record { text = text_of s.records; spells = spelling s.records; written = s.are } in
@@ -71,12 +71,12 @@ module _ (c : Config) (p : Parts) (features : Features) (plain : IsPlain c featu
         module_written = n;
         written = written s.records;
         spelled = spelled;
-        reads = λ made nothing. (written_reads c (plain_view p) n bytes made nothing (written s.records) spelled s.fit).0;
-        holds = λ made nothing. (written_reads c (plain_view p) n bytes made nothing (written s.records) spelled s.fit).1;
+        reads = λ made nothing. (written_reads c (parts_view p) n bytes made nothing (written s.records) spelled s.fit).0;
+        holds = λ made nothing. (written_reads c (parts_view p) n bytes made nothing (written s.records) spelled s.fit).1;
       }
 
   -- what doesn't fit is written as what doesn't
-  pub unfit_of : DoesNotFit p features → WritesUnfit c (plain_view p)
+  pub unfit_of : DoesNotFit p features → WritesUnfit c (parts_view p)
   unfit_of d = record {
     module_out = module_said d.records;
     written = written d.records;

@@ -1,4 +1,4 @@
--- Along the order of the functions: what each is written as.
+-- Along the order of the module's own functions: what each is written as.
 use Rattle.std.proofs.Common.{◌≡◌, ℕ, Bool, false, List, [], ◌∷◌, ◌++◌, map, refl, sym, ap, ◌∙◌, subst, Some}
 use Rattle.std.specs.Prelude.{Contains, nat_eq, option_and_then, unwrap_or, zip, if◌then◌else◌}
 use Rattle.std.specs.List.{AllZip, AllByRecursion, IsDistinct}
@@ -8,8 +8,7 @@ use Rattle.walrus_types.specs.Operators.{Types, Functions}
 use Rattle.walrus_types.specs.Shape.{place_in}
 use Rattle.walrus_code.specs.Function.{function_type}
 use Rattle.walrus_bodies.specs.declared.features.Features.{Features}
-use Rattle.walrus_contents.specs.View.{body}
-use Rattle.walrus_writing.specs.SoFar.{plain_view}
+use Rattle.walrus_contents.specs.View.{body, parts_view}
 use Rattle.walrus_contents.specs.declared.parts.Parts.{Parts}
 use Rattle.walrus_contents.proofs.Lookups.{heads}
 use Rattle.walrus_model.specs.Abstract.{Abstract, Function}
@@ -22,6 +21,7 @@ use Rattle.walrus_model.proofs.Standing.{self_eq}
 use Rattle.walrus_rules.specs.Text.{BodyText, said}
 use Rattle.walrus_writing.specs.Parts.{HasBytes, function_seen, type_index}
 use Rattle.walrus_writing.specs.Records.{Records, texts_in}
+use Rattle.walrus_writing.proofs.Parted.{own_distinct}
 use Rattle.walrus_writing.proofs.SameBodies.{same_body}
 use Rattle.walrus_writing.proofs.WrittenAs.{laid_of, local_in_order, number_is, renaming_of, texts_of}
 
@@ -36,7 +36,7 @@ other_than i f is differ at = subst (λ (y : ℕ). nat_eq i y ≡ false) at.2 (A
 
 module _ {p : Parts} {features : Features} (r : Records p features) where
   abbrev V : Abstract
-  V = plain_view p
+  V = parts_view p
 
   abbrev R : Renaming
   R = renaming_of r
@@ -96,8 +96,8 @@ module _ {p : Parts} {features : Features} (r : Records p features) where
   abbrev pub new_functions : List Function
   new_functions = map (function_with (laid_of r)) (zip r.functions (map said (texts_of r)))
 
-  pub all_rows : AllZip IsRow (r.plan Functions) new_functions
-  all_rows = rows (r.plan Functions) r.functions r.bodies r.bodies_are r.functions_are (follow R.locals (r.plan Functions) r.bodies r.bodies_are (r.is_plan.holds Functions).differ (λ f at x. refl))
+  pub all_rows : AllZip IsRow (r.own Functions) new_functions
+  all_rows = rows (r.own Functions) r.functions r.bodies r.bodies_are r.functions_are (follow R.locals (r.own Functions) r.bodies r.bodies_are (own_distinct r Functions) (λ f at x. refl))
 
   -- it is the same function
   row_stands : (i : ℕ) (new : Function) → IsRow i new → StandsFor (SameFunction R) V.functions i new
@@ -110,5 +110,5 @@ module _ {p : Parts} {features : Features} (r : Records p features) where
     }),
   )
 
-  pub functions_stand : AllZip (StandsFor (SameFunction R) V.functions) (r.plan Functions) new_functions
-  functions_stand = zip_weaker IsRow (StandsFor (SameFunction R) V.functions) row_stands (r.plan Functions) new_functions all_rows
+  pub functions_stand : AllZip (StandsFor (SameFunction R) V.functions) (r.own Functions) new_functions
+  functions_stand = zip_weaker IsRow (StandsFor (SameFunction R) V.functions) row_stands (r.own Functions) new_functions all_rows

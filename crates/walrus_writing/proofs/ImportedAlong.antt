@@ -1,6 +1,6 @@
 -- The entries of imports, by rising id, stand for what these bring: for each space what `written_both` of the model asks.
 use Rattle.std.proofs.Common.{◌≡◌, ℕ, suc, ◌+◌, List, [], ◌∷◌, map, refl, sym, ap, ◌∙◌, subst, Some, None, arith}
-use Rattle.std.specs.Prelude.{Option, All, Contains, filter_map, option_map, slice_get}
+use Rattle.std.specs.Prelude.{Option, All, Contains, IsSome, filter_map, option_map, slice_get}
 use Rattle.std.specs.List.{cons_option}
 use Rattle.std.specs.List.{AllZip}
 use Rattle.std.proofs.lemmas.List.Elements.{All-cons, All-nil}
@@ -19,17 +19,18 @@ use Rattle.walrus_contents.specs.declared.parts.Parts.{Parts}
 use Rattle.walrus_contents.proofs.Lookups.{mapped_some}
 use Rattle.walrus_contents.proofs.Slots.{stands_at}
 use Rattle.walrus_items.specs.Imports.{ImportValue, imported, imports}
-use Rattle.walrus_model.specs.Abstract.{Abstract, Function, FunctionKind, Global, ImportedBy, ImportedFunction, LocalFunction, Uninitialised, Origin, Defined, Table, Tag}
+use Rattle.walrus_model.specs.Abstract.{Abstract, Function, FunctionKind, Global, Import, ImportedBy, ImportedFunction, LocalFunction, Uninitialised, Origin, Defined, Table, Tag}
 use Rattle.walrus_model.specs.Imported.{IsBrought, import_number, import_number_by, number_in, numbered_from}
+use Rattle.walrus_model.specs.Live.{IsLive}
 use Rattle.walrus_model.specs.Renaming.{Renaming, renamed_global, renamed_table}
 use Rattle.walrus_model.specs.Same.{SameFunction, SameKind}
 use Rattle.walrus_model.specs.Spaces.{SameThing, Thing, look}
 use Rattle.walrus_model.specs.WellMade.{import_in, import_of, kind_import, origin_import}
 use Rattle.walrus_model.proofs.Lists.{Contains-head, Contains-tail}
-use Rattle.walrus_model.proofs.Standing.{some_inj}
+use Rattle.walrus_model.proofs.Spaces.{live_from}
+use Rattle.walrus_model.proofs.Standing.{got_where, some_inj, zip_right}
 use Rattle.walrus_writing.specs.Brought.{places_brought}
-use Rattle.walrus_writing.specs.ImportLaws.{AreBare}
-use Rattle.walrus_writing.specs.Imported.{IsBare, IsEntryAt, as_brought, named_function, named_thing}
+use Rattle.walrus_writing.specs.Imported.{AreBare, IsBare, IsEntryAt, as_brought, named_function, named_thing}
 
 -- ---- the places of what imports bring
 
@@ -161,3 +162,10 @@ entries_stand names v [] [] h = All-nil ImportStands
 entries_stand names v [] (w ∷ ws) h = elim h [ ]
 entries_stand names v (p ∷ order) [] h = elim h [ ]
 entries_stand names v (p ∷ order) (w ∷ ws) h = All-cons ImportStands w ws h.0.entry.stands (entries_stand names v order ws h.1)
+
+-- the item of each of them is there
+pub entries_live : (names : Lookup) (v : Abstract) (order : List ℕ) (ws : List wire.Import) → AllZip (IsEntryAt names v) order ws → (i : ℕ) (x : Import) → v.imports i ≡ Some x → Contains order i → IsLive v x.item
+entries_live names v order ws h i x at among =
+    let z = zip_right (IsEntryAt names v) order ws among.0 i h (got_where order i among) in
+    let same : z.2.value ≡ x = some_inj z.2.value x (sym z.2.is ∙ at) in
+    subst (λ (y : Import). IsLive v y.item) same (live_from v z.2.value.item.0 z.2.value.item.1 (subst (λ (o : Option (Thing z.2.value.item.0)). IsSome o) (sym z.2.entry.is) refl))

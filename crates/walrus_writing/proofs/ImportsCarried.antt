@@ -1,4 +1,4 @@
--- The imports of the parts, by rising id, each with its number in that order: what the model's `plans_carry` asks of imports.
+-- The imports of the parts, by rising id, each with its number in that order, are carried over.
 use Rattle.std.proofs.Common.{inl, ⊎_elim, ◌≡◌, ℕ, List, [], ◌++◌, map, refl, sym, ap, ◌∙◌, subst, Some}
 use Rattle.std.specs.Prelude.{Option, IsSome, filter_map, slice_get, unwrap_or}
 use Rattle.std.specs.List.{AllZip}
@@ -26,13 +26,8 @@ use Rattle.walrus_model.proofs.Arenas.{ordered_seen}
 use Rattle.walrus_model.proofs.Indices.{planned_index}
 use Rattle.walrus_model.proofs.Orders.{apart_in_order, carries_in_order, ordered_entries}
 use Rattle.walrus_model.proofs.Standing.{some_of, stands_at}
-use Rattle.walrus_writing.specs.Imported.{IsEntryAt}
-use Rattle.walrus_writing.specs.ImportLaws.{AreBare}
+use Rattle.walrus_writing.specs.Imported.{AreBare, IsEntryAt}
 use Rattle.walrus_writing.proofs.ImportsStand.{imports_stand, in_front}
-
--- what is found is the number that the look-up gives
-pub numbers_agree : (names : Lookup) (r : Renaming) → ((s : Space) (i : ℕ) → r.numbers s i ≡ numbers_by names s i) → AgreesWith r names
-numbers_agree names r same s i k e = same s i ∙ ap (λ (o : Option ℕ). unwrap_or o 0) e
 
 -- what imports bring to a space has the first numbers of its plan
 pub brought_numbered : (names : Lookup) (plan : Plan) (v : Abstract) → AreNumbered names plan → IsPlan v plan → (s : Space) (order own : List ℕ) → plan s ≡ filter_map (import_number v s) order ++ own
@@ -47,7 +42,7 @@ module _ (p : Parts) where
   abbrev pub by_import : List ℕ
   by_import = map (λ e. e.0) (entries (imports p.imports.now))
 
-  imports_ordered : Ordered V.imports by_import
+  pub imports_ordered : Ordered V.imports by_import
   imports_ordered = ordered_seen seen.import_of (imports p.imports.now) by_import (ordered_entries (imports p.imports.now))
 
   -- the number of an import in their order

@@ -16,8 +16,7 @@ use Rattle.walrus_model.specs.Renaming.{Renaming, renamed_import}
 use Rattle.walrus_model.specs.Sections.{imports_after, item_after}
 use Rattle.walrus_model.specs.Spaces.{Thing, look, SameThing}
 use Rattle.walrus_model.proofs.ImportedZip.{imported_zip}
-use Rattle.walrus_writing.specs.Imported.{IsEntryAt}
-use Rattle.walrus_writing.specs.ImportLaws.{AreBare}
+use Rattle.walrus_writing.specs.Imported.{AreBare, IsEntryAt}
 use Rattle.walrus_writing.proofs.ImportedAlong.{entries_brought}
 use Rattle.walrus_writing.proofs.OrderByImport.{own_number}
 use Rattle.walrus_writing.proofs.Turns.{zip_snoc}

@@ -4,7 +4,7 @@ use Rattle.wasm_entries.specs.declared.record.RawExportKind.TheVariants as kinds
 use Rattle.std.proofs.Common.{inl, inr, ◌≡◌, ℕ, suc, ◌<◌, Bool, true, false, ⊎_elim, List, [], ◌∷◌, ◌++◌, map, length, get_or, refl, sym, ap, ◌∙◌, subst, arith, Some, None}
 use Rattle.std.specs.Prelude.{Option, IsSome, All, Err, Contains, flat_map, option_map, option_and_then, ◌==◌, if◌then◌else◌}
 use Rattle.std.proofs.lemmas.List.{get_or-map, length-map}
-use Rattle.std.proofs.lemmas.List.Elements.{All-cons}
+use Rattle.std.proofs.lemmas.List.Elements.{All-cons, All-contains_itself}
 use Rattle.walrus_base.specs.Arena.{item_at, items}
 use Rattle.walrus_base.specs.Id.{place}
 use Rattle.walrus_base.specs.Types.{ValType, val_names, sub_names}
@@ -37,27 +37,24 @@ use Rattle.walrus_model.specs.Live.{IsLive}
 use Rattle.walrus_model.specs.Names.{body_of_function}
 use Rattle.walrus_model.specs.Refers.{named_by, type_names, function_names, local_names, table_names, tag_names, global_names}
 use Rattle.walrus_contents.specs.There.{AreLive}
-use Rattle.walrus_contents.specs.View.{body, export_of, function, global_of, kind_of, table_of, tag_of}
-use Rattle.walrus_writing.specs.SoFar.{plain_view}
+use Rattle.walrus_contents.specs.View.{body, export_of, function, global_of, kind_of, parts_view, table_of, tag_of}
 use Rattle.walrus_contents.specs.declared.parts.Parts.{Parts}
-use Rattle.walrus_contents.proofs.LiveLemmas.{was_there}
 use Rattle.walrus_contents.proofs.Lookups.{still_some}
 use Rattle.walrus_contents.proofs.Slots.{item_seen}
 use Rattle.walrus_items.specs.declared.functions.FunctionKind.{FunctionKind}
 use Rattle.walrus_items.specs.declared.functions.FunctionKind.TheVariants as kind
 use Rattle.walrus_groups.specs.Indexed.{LacksAnIndex as TypesLackAnIndex}
 use Rattle.walrus_parts.specs.Errors.{error_of_ir}
-use Rattle.walrus_model.proofs.Indices.{planned_index, planned_live, planned_named}
+use Rattle.walrus_model.proofs.Indices.{planned_named}
 use Rattle.walrus_model.proofs.Living.{AllLive, all_live}
 use Rattle.walrus_model.proofs.Lists.{Contains-head, Contains-tail, Contains-map, Contains-uncons, Contains-none, Contains-append_1, Contains-append_2}
 use Rattle.walrus_model.proofs.Standing.{none_there, some_inj, some_of, self_eq}
 use Rattle.walrus_model.specs.Plan.{AreNumbered, IsPlan, Plan}
 use Rattle.walrus_writing.specs.Refusals.{RefusesBodies}
 use Rattle.walrus_writing.specs.Parts.{IsIndexed, export_with_index, function_seen, local_in, slots_of, source, source_of, tag_index, type_index, type_index_of}
-use Rattle.walrus_writing.specs.Local.{all_local}
-use Rattle.walrus_writing.proofs.BySize.{got_at}
+use Rattle.walrus_writing.specs.Sizes.{IsOrder}
+use Rattle.walrus_writing.proofs.BySize.{body_at, body_there, ordered_by_size, own_body}
 use Rattle.walrus_writing.proofs.NamedAll.{global_named, val_named, ops_named, table_named}
-use Rattle.walrus_writing.proofs.Planning.{local_there}
 
 -- ---- places
 
@@ -106,12 +103,34 @@ each_there : {X Y : Type 0} (f : X → Option Y) (xs : List X) → ((x : X) → 
 each_there f [] h = λ k d low. absurd (omega (arith, low))
 each_there {X} {Y} f (x ∷ xs) h = All-cons (λ (o : Option Y). IsSome o) (f x) (map f xs) (h x (Contains-head x xs)) (each_there f xs (λ y at. h y (Contains-tail x y xs at)))
 
+-- ---- the functions with a body, in the order of their sizes
+
+kind_seen : (p : Parts) (k : FunctionKind) (f : LocalFunction) → own_body k ≡ Some f → (let g : abstract.Function = record { ty = place (kind_type k); kind = kind_of p.locals.now k } in g) ≡ function_seen p f
+kind_seen p (kind.Local g) f e = ap (function_seen p) (some_inj g f e)
+kind_seen p (kind.Import i) f e = absurd (cc)
+kind_seen p (kind.Uninitialized ty) f e = absurd (cc)
+
+value_seen : (p : Parts) (o : Option FunctionValue) (f : LocalFunction) → body_at o ≡ Some f → option_map (function p.locals.now) o ≡ Some (function_seen p f)
+value_seen p None f e = absurd (cc)
+value_seen p (Some v) f e = ap (λ (g : abstract.Function). Some g) (kind_seen p v.kind f e)
+
+-- a function with a body, as it is seen
+pub record HasOwn (p : Parts) (n : ℕ) : Type 0 where
+  pub own : LocalFunction
+  pub is : (parts_view p).functions n ≡ Some (function_seen p own)
+
+own_at : (p : Parts) (order : List ℕ) → IsOrder (functions p.funcs.now) order → (n : ℕ) → Contains order n → HasOwn p n
+own_at p order h n c =
+    let funcs = functions p.funcs.now in
+    let there : IsSome (body_at (item_at funcs n)) = subst (λ (o : Option LocalFunction). IsSome o) (body_there funcs n) ((ordered_by_size funcs order h).chosen n c) in
+    let f = some_of (body_at (item_at funcs n)) there in
+    record { own = f.0; is = value_seen p (item_at funcs n) f.0 f.1 }
+
 -- ---- what is there, and numbered
 
-module _ (p : Parts) (none_dead : HasDead (plain_view p) → ⊥) (local : all_local (items (functions p.funcs.now)) ≡ true)
-    (names : Lookup) (plan : Plan) (is_plan : IsPlan (plain_view p) plan) (numbered : AreNumbered names plan) where
+module _ (p : Parts) (none_dead : HasDead (parts_view p) → ⊥) (names : Lookup) (plan : Plan) (is_plan : IsPlan (parts_view p) plan) (numbered : AreNumbered names plan) where
   abbrev V : Abstract
-  V = plain_view p
+  V = parts_view p
 
   there : AllLive V
   there = all_live V none_dead
@@ -125,20 +144,6 @@ module _ (p : Parts) (none_dead : HasDead (plain_view p) → ⊥) (local : all_l
   -- an item that is there has an index
   item_named : (x : Item) → IsLive V x → IsSome (names x.0 x.1)
   item_named x live = subst (λ (o : Option ℕ). IsSome o) (sym (planned_named numbered is_plan x.0 x.1 live)) refl
-
-  -- a function that is there has a body
-  pub record HasOwn (n : ℕ) : Type 0 where
-    pub own : LocalFunction
-    pub is : V.functions n ≡ Some (function_seen p own)
-
-  own_at : (n : ℕ) → IsLive V (Functions, n) → HasOwn n
-  own_at n live =
-      let v = some_of (item_at (functions p.funcs.now) n) (was_there (function p.locals.now) (item_at (functions p.funcs.now) n) live) in
-      let f = local_there (functions p.funcs.now) n local v.0 v.1 in
-      record {
-        own = f.0;
-        is = ap (option_map (function p.locals.now)) v.1 ∙ ap (λ (k : FunctionKind). Some (let g : abstract.Function = record { ty = place (kind_type k); kind = kind_of p.locals.now k } in g)) f.1;
-      }
 
   -- each type that a type names has an index
   pub no_type_lacks : TypesLackAnIndex names (items types) → ⊥
@@ -155,7 +160,7 @@ module _ (p : Parts) (none_dead : HasDead (plain_view p) → ⊥) (local : all_l
     used : (x : ℕ) → Contains (locals_of (body_of f)) x → IsSome (item_at slots x)
     local_types : AreLive V (flat_map (local_names (body p.locals.now f)) (locals_of (body_of f)))
 
-  whole_is : (n : ℕ) (a : HasOwn n) → IsWhole a.own
+  whole_is : (n : ℕ) (a : HasOwn p n) → IsWhole a.own
   whole_is n a =
       let first = type_item (place (function_type a.own)) in
       let inner = names_of (body_of a.own) in
@@ -197,19 +202,20 @@ module _ (p : Parts) (none_dead : HasDead (plain_view p) → ⊥) (local : all_l
     none_lacks (inl l) = none_there (subst (λ (o : Option (List Op)). IsSome o) l.1.1 (operators_indexed l.0 l.1.0))
     none_lacks (inr l) = none_there (subst (λ (o : Option (ValType ℕ)). IsSome o) l.1.1.2 (type_indexed l.0 l.1.0 l.1.1.0.is_used l.1.1.1))
 
-  live_at : (k d : ℕ) → k < length (plan Functions) → IsLive V (Functions, get_or (plan Functions) k d)
-  live_at k d low = let at = got_at (plan Functions) k d low in planned_live numbered is_plan Functions (get_or (plan Functions) k d) k (planned_index numbered is_plan Functions (get_or (plan Functions) k d) k at)
-
   -- each function in the order
-  order_indexed : (features : Features) → All (IsIndexed p names features) (plan Functions)
-  order_indexed features = λ k d lt. (let a = own_at (get_or (plan Functions) k d) (live_at k d lt) in record { local = a.own; is = a.is; indexed = none_lacks features a.own (whole_is (get_or (plan Functions) k d) a) })
+  module _ (order : List ℕ) (h : IsOrder (functions p.funcs.now) order) where
+    here : (k d : ℕ) → k < length order → HasOwn p (get_or order k d)
+    here k d low = own_at p order h (get_or order k d) (All-contains_itself order k d low)
 
-  -- so has its type
-  order_typed : All (λ n. IsSome (option_and_then (type_index names) (V.functions n))) (plan Functions)
-  order_typed = λ k d lt. (
-      let a = own_at (get_or (plan Functions) k d) (live_at k d lt) in
-      subst (λ (o : Option abstract.Function). IsSome (option_and_then (type_index names) o)) (sym a.is) (item_named (Types, place (function_type a.own)) (whole_is (get_or (plan Functions) k d) a).typed)
-      )
+    order_indexed : (features : Features) → All (IsIndexed p names features) order
+    order_indexed features = λ k d lt. (let a = here k d lt in record { local = a.own; is = a.is; indexed = none_lacks features a.own (whole_is (get_or order k d) a) })
+
+    -- so has its type
+    order_typed : All (λ n. IsSome (option_and_then (type_index names) (V.functions n))) order
+    order_typed = λ k d lt. (
+        let a = here k d lt in
+        subst (λ (o : Option abstract.Function). IsSome (option_and_then (type_index names) o)) (sym a.is) (item_named (Types, place (function_type a.own)) (whole_is (get_or order k d) a).typed)
+        )
 
   -- the type of each tag has an index
   pub tags_indexed : All (λ o. IsSome o) (map (λ t. tag_index names (tag_of t)) (items (tags p.tags.now)))
@@ -259,29 +265,30 @@ lent_all P ids lent h same =
     subst (λ (l : List (Id FunctionKey)). All (λ id. P (place id)) l) (sym same)
     (λ k d lt. subst P (get_or-map place ids k d (place d) lt) (h k (place d) (omega (arith, lt, length-map ids place))))
 
-module _ (p : Parts) (names : Lookup) (plan : Plan) (ids lent : List (Id FunctionKey)) (none_dead : HasDead (plain_view p) → ⊥) (local : all_local (items (functions p.funcs.now)) ≡ true)
-    (is_plan : IsPlan (plain_view p) plan) (numbered : AreNumbered names plan) (are : plan Functions ≡ map place ids) (same : lent ≡ ids) where
+-- those of the functions with a body
+module _ (p : Parts) (none_dead : HasDead (parts_view p) → ⊥) (names : Lookup) (plan : Plan) (is_plan : IsPlan (parts_view p) plan) (numbered : AreNumbered names plan)
+    (ids lent : List (Id FunctionKey)) (sized : IsOrder (functions p.funcs.now) (map place ids)) (same : lent ≡ ids) where
   pub ids_indexed : (features : Features) → All (λ id. IsIndexed p names features (place id)) lent
-  ids_indexed features = lent_all (IsIndexed p names features) ids lent (subst (λ (l : List ℕ). All (IsIndexed p names features) l) are (order_indexed p none_dead local names plan is_plan numbered features)) same
+  ids_indexed features = lent_all (IsIndexed p names features) ids lent (order_indexed p none_dead names plan is_plan numbered (map place ids) sized features) same
 
-  pub ids_typed : All (λ id. IsSome (option_and_then (type_index names) ((plain_view p).functions (place id)))) lent
+  pub ids_typed : All (λ id. IsSome (option_and_then (type_index names) ((parts_view p).functions (place id)))) lent
   ids_typed =
-      lent_all (λ n. IsSome (option_and_then (type_index names) ((plain_view p).functions n))) ids lent
-      (subst (λ (l : List ℕ). All (λ n. IsSome (option_and_then (type_index names) ((plain_view p).functions n))) l) are (order_typed p none_dead local names plan is_plan numbered)) same
+      lent_all (λ n. IsSome (option_and_then (type_index names) ((parts_view p).functions n))) ids lent
+      (order_typed p none_dead names plan is_plan numbered (map place ids) sized) same
 
--- ---- a function with a body, as it is seen
+-- ---- a function with a body, as it is looked up
 
-kind_seen : (p : Parts) (n : ℕ) (k : FunctionKind) (f : LocalFunction) → local_at n k ≡ Some (n, f) → (let g : abstract.Function = record { ty = place (kind_type k); kind = kind_of p.locals.now k } in g) ≡ function_seen p f
-kind_seen p n (kind.Local g) f e = ap (λ (x : ℕ × LocalFunction). function_seen p x.1) (some_inj (n, g) (n, f) e)
-kind_seen p n (kind.Import i) f e = absurd (cc)
-kind_seen p n (kind.Uninitialized ty) f e = absurd (cc)
+kind_owned : (n : ℕ) (k : FunctionKind) (f : LocalFunction) → local_at n k ≡ Some (n, f) → own_body k ≡ Some f
+kind_owned n (kind.Local g) f e = ap (λ (x : ℕ × LocalFunction). Some x.1) (some_inj (n, g) (n, f) e)
+kind_owned n (kind.Import i) f e = absurd (cc)
+kind_owned n (kind.Uninitialized ty) f e = absurd (cc)
 
-value_seen : (p : Parts) (n : ℕ) (o : Option FunctionValue) (f : LocalFunction) → option_and_then (λ (v : FunctionValue). local_at n v.kind) o ≡ Some (n, f) → option_map (function p.locals.now) o ≡ Some (function_seen p f)
-value_seen p n None f e = absurd (cc)
-value_seen p n (Some v) f e = ap (λ (g : abstract.Function). Some g) (kind_seen p n v.kind f e)
+value_owned : (n : ℕ) (o : Option FunctionValue) (f : LocalFunction) → option_and_then (λ (v : FunctionValue). local_at n v.kind) o ≡ Some (n, f) → body_at o ≡ Some f
+value_owned n None f e = absurd (cc)
+value_owned n (Some v) f e = kind_owned n v.kind f e
 
-pub local_seen : (p : Parts) (n : ℕ) (f : LocalFunction) → local_in (functions p.funcs.now) n ≡ Some (n, f) → (plain_view p).functions n ≡ Some (function_seen p f)
-local_seen p n f e = value_seen p n (item_at (functions p.funcs.now) n) f e
+pub local_seen : (p : Parts) (n : ℕ) (f : LocalFunction) → local_in (functions p.funcs.now) n ≡ Some (n, f) → (parts_view p).functions n ≡ Some (function_seen p f)
+local_seen p n f e = value_seen p (item_at (functions p.funcs.now) n) f (value_owned n (item_at (functions p.funcs.now) n) f e)
 
 -- the index of its type
 kind_index : (p : Parts) (names : Lookup) (n : ℕ) (k : FunctionKind) → option_and_then (λ (f : ℕ × LocalFunction). names Types (place (function_type f.1))) (local_at n k) ≡ type_index_of names (place (kind_type k)) (kind_of p.locals.now k)
@@ -293,7 +300,7 @@ value_index : (p : Parts) (names : Lookup) (n : ℕ) (o : Option FunctionValue) 
 value_index p names n None = refl
 value_index p names n (Some v) = kind_index p names n v.kind
 
-pub index_seen : (p : Parts) (names : Lookup) (n : ℕ) → option_and_then (λ (f : ℕ × LocalFunction). names Types (place (function_type f.1))) (local_in (functions p.funcs.now) n) ≡ option_and_then (type_index names) ((plain_view p).functions n)
+pub index_seen : (p : Parts) (names : Lookup) (n : ℕ) → option_and_then (λ (f : ℕ × LocalFunction). names Types (place (function_type f.1))) (local_in (functions p.funcs.now) n) ≡ option_and_then (type_index names) ((parts_view p).functions n)
 index_seen p names n = value_index p names n (item_at (functions p.funcs.now) n)
 
 -- ---- why a body is refused

@@ -1,3 +1,4 @@
+pub mod Bare
 pub mod BodyTypes
 pub mod BySize
 pub mod CarriedOver
@@ -18,6 +19,7 @@ pub mod ItemsLeft
 pub mod Matching
 pub mod NamedAll
 pub mod NamedTypes
+pub mod NeededNames
 pub mod NoCauseAll
 pub mod NoCauseBodies
 pub mod NoCauseHeaps
@@ -25,10 +27,9 @@ pub mod Numbering
 pub mod OrderByImport
 pub mod OrdersSpaces
 pub mod OwnFunctions
-pub mod OwnItems
-pub mod OwnRise
+pub mod OwnPlaces
+pub mod Parted
 pub mod Placing
-pub mod PlainParts
 pub mod PlannedByImport
 pub mod Planning
 pub mod Ranked
@@ -44,6 +45,7 @@ pub mod SameBodies
 pub mod Sections
 pub mod Sole
 pub mod Somes
+pub mod Spelled
 pub mod SpellsLemmas
 pub mod TableRecords
 pub mod TextStands

@@ -1,25 +1,21 @@
--- Where all is there and the records of the sections are, there is no cause to refuse but the size.
-use Rattle.std.proofs.Common.{◌≡◌, true}
-use Rattle.walrus_base.specs.Arena.{items}
+-- Where all is there, each item has one index, and the records of the sections are, there is no cause to refuse but the size.
 use Rattle.walrus_types.specs.ModuleTypes.{type_slots}
 use Rattle.walrus_groups.specs.Indexed.{AreInOrder}
-use Rattle.walrus_items.specs.Functions.{functions}
-use Rattle.walrus_writing.specs.SoFar.{plain_view}
+use Rattle.walrus_contents.specs.View.{parts_view}
 use Rattle.walrus_contents.specs.declared.parts.Parts.{Parts}
 use Rattle.walrus_model.specs.Abstract.{Abstract}
 use Rattle.walrus_model.specs.Config.{Config}
 use Rattle.walrus_model.specs.Dead.{HasDead}
 use Rattle.walrus_rules.specs.Features.{features_of}
-use Rattle.walrus_rules.specs.Refused.{HasUnspelled, ExactType, ExactConstant, EmptyConstant, IllFormed, PassesLimits, HasNoCause}
-use Rattle.walrus_writing.specs.Local.{all_local}
+use Rattle.walrus_rules.specs.Refused.{HasTwoIndices, HasUnspelled, ExactType, ExactConstant, EmptyConstant, IllFormed, PassesLimits, HasNoCause}
 use Rattle.walrus_writing.specs.Records.{Records}
 use Rattle.walrus_writing.proofs.NoCauseBodies.{formed}
 use Rattle.walrus_writing.proofs.NoCauseHeaps.{not_exact, const_not_exact, not_empty}
-use Rattle.walrus_writing.proofs.RefusesLarge.{no_two_indices, lacks_none}
+use Rattle.walrus_writing.proofs.RefusesLarge.{lacks_none, matched_brought}
 
 module _ (c : Config) (p : Parts) (r : Records p (features_of c)) where
   abbrev V : Abstract
-  V = plain_view p
+  V = parts_view p
 
   pub none_unspelled : HasUnspelled c V → ⊥
   none_unspelled (ExactType x h at not) = not (not_exact c p r x h at)
@@ -27,11 +23,11 @@ module _ (c : Config) (p : Parts) (r : Records p (features_of c)) where
   none_unspelled (EmptyConstant x at) = not_empty c p r x at
   none_unspelled (IllFormed lives i f b at is not) = not (formed c p r i f b at is)
 
-  pub no_cause : (HasDead V → ⊥) → all_local (items (functions p.funcs.now)) ≡ true → AreInOrder (type_slots p.types.now) → (PassesLimits c V → ⊥) → HasNoCause c V
-  no_cause lives local ordered small = record {
+  pub no_cause : (HasDead V → ⊥) → (HasTwoIndices V → ⊥) → AreInOrder (type_slots p.types.now) → (PassesLimits c V → ⊥) → HasNoCause c V
+  no_cause lives one ordered small = record {
     all_there = lives;
-    one_index = no_two_indices c p;
-    indices = lacks_none c p local r.own r.reads ordered;
+    one_index = one;
+    indices = lacks_none c p (matched_brought c p r.matched) r.reads ordered;
     spelled = none_unspelled;
     fits = small;
   }

@@ -1,6 +1,6 @@
 -- Each body that is written is well formed.
-use Rattle.std.proofs.Common.{◌≡◌, ℕ, Bool, true, List, ◌++◌, map, refl, sym, ap, ◌∙◌, subst, Some, None}
-use Rattle.std.specs.Prelude.{Option, IsSome, replicate, flat_map, slice_get}
+use Rattle.std.proofs.Common.{◌≡◌, ℕ, List, ◌++◌, map, refl, sym, ap, ◌∙◌, subst, Some, None}
+use Rattle.std.specs.Prelude.{Option, replicate, flat_map, slice_get}
 use Rattle.walrus_base.specs.Id.{place}
 use Rattle.walrus_base.specs.Types.{ValType, CompType, Func, Struct, Array}
 use Rattle.walrus_types.specs.TypeDef.{TypeDef, type_params}
@@ -8,19 +8,20 @@ use Rattle.walrus_code.specs.Names.{Lookup, LeadsBack, LocalsLeadBack}
 use Rattle.walrus_bodies.specs.Body.{context}
 use Rattle.walrus_functions.specs.EmittedBody.{Source, comp_takes, takes, index_in}
 use Rattle.walrus_functions.specs.Handlers.{params_of}
-use Rattle.walrus_contents.specs.View.{body}
-use Rattle.walrus_writing.specs.SoFar.{plain_view}
+use Rattle.walrus_contents.specs.View.{body, parts_view}
 use Rattle.walrus_contents.specs.declared.parts.Parts.{Parts}
 use Rattle.walrus_model.specs.Abstract.{Abstract, Body, Function, LocalFunction as OfBody}
 use Rattle.walrus_model.specs.Config.{Config}
 use Rattle.walrus_types.specs.Operators.{Functions}
-use Rattle.walrus_model.proofs.Indices.{found_at, planned_at, planned_stands}
+use Rattle.walrus_model.proofs.Indices.{found_at, planned_at}
+use Rattle.walrus_model.specs.Names.{body_of_function, body_of_kind}
 use Rattle.walrus_model.specs.Rules.{IsFunctionComp}
-use Rattle.walrus_model.proofs.Standing.{some_inj, zip_right}
+use Rattle.walrus_model.proofs.Standing.{got_where, some_inj, zip_right}
 use Rattle.walrus_rules.specs.Features.{features_of}
 use Rattle.walrus_rules.specs.WellMade.{IsWellFormed}
 use Rattle.walrus_writing.specs.Parts.{HasBytes, function_seen, source}
 use Rattle.walrus_writing.specs.Records.{Records}
+use Rattle.walrus_writing.proofs.Parted.{body_among}
 
 -- ---- what a function's type takes are its parameters
 
@@ -38,7 +39,7 @@ same_body b d e = cc
 
 module _ (c : Config) (p : Parts) (r : Records p (features_of c)) where
   abbrev V : Abstract
-  V = plain_view p
+  V = parts_view p
 
   -- ---- a body that is seen has bytes
 
@@ -48,13 +49,10 @@ module _ (c : Config) (p : Parts) (r : Records p (features_of c)) where
     pub type_is : place has.local.ty ≡ f.ty
     pub body_is : body p.locals.now has.local ≡ b
 
-  live_by : (o : Option Function) (f : Function) → o ≡ Some f → IsSome o
-  live_by o f e = subst (λ (q : Option Function). IsSome q) (sym e) (refl {A = Bool} {a = true})
-
   pub written : (i : ℕ) (f : Function) (b : Body) → V.functions i ≡ Some f → f.kind ≡ OfBody b → IsWritten i f b
   written i f b at is =
-      let stands = planned_stands r.numbered r.is_plan Functions i (live_by (V.functions i) f at) in
-      let z = zip_right (HasBytes p r.names (features_of c)) (r.plan Functions) r.bodies _ i r.bodies_are stands in
+      let among = body_among r i b (ap body_of_function at ∙ ap body_of_kind is) in
+      let z = zip_right (HasBytes p r.names (features_of c)) (r.own Functions) r.bodies _ i r.bodies_are (got_where (r.own Functions) i among) in
       let seen : function_seen p z.2.local ≡ f = some_inj (function_seen p z.2.local) f (sym z.2.is ∙ at) in
       record {
         bytes = z.0;

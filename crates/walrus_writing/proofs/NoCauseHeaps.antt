@@ -13,7 +13,7 @@ use Rattle.walrus_functions.specs.Handlers.{params_of}
 use Rattle.walrus_functions.proofs.LawNamed.{HasIndex, ops_found}
 use Rattle.walrus_groups.specs.Groups.{types_from}
 use Rattle.walrus_groups.specs.Named.{each, named_vals, named_storage, named_field, named_fields, named_comp}
-use Rattle.walrus_writing.specs.SoFar.{plain_view}
+use Rattle.walrus_contents.specs.View.{parts_view}
 use Rattle.walrus_contents.specs.declared.parts.Parts.{Parts}
 use Rattle.walrus_contents.proofs.Lookups.{got_map, mapped_some, mapped_append}
 use Rattle.walrus_model.specs.Abstract.{Abstract, Body, Function, Global, Table, FunctionKind, LocalFunction, ImportedFunction, Uninitialised}
@@ -156,7 +156,7 @@ module _ (c : Config) (v : Abstract) (types : (i : ℕ) (x : TypeDef) → v.type
 
 module _ (c : Config) (p : Parts) (r : Records p (features_of c)) where
   abbrev V : Abstract
-  V = plain_view p
+  V = parts_view p
 
   type_plain : (i : ℕ) (x : TypeDef) → V.types i ≡ Some x → TypePlain x
   type_plain i x at =

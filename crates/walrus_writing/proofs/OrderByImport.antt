@@ -106,26 +106,35 @@ pub record ListsOwn (v : Abstract) (s : Space) (own : List ℕ) : Type 0 where
   pub sorted : AllPairs (ByImport v s) own
   pub behind : (i j p : ℕ) → import_of v (s, i) ≡ Some p → Contains own j → ByImport v s i j
 
-module _ (v : Abstract) (paired : ImportsMatch v) (s : Space) (orders : OrdersSpace v s) (order own : List ℕ) (imports : ListsImports v order) (owned : ListsOwn v s own) where
-  abbrev brought : List ℕ
-  brought = filter_map (import_number v s) order
-
-  brought_of : (p i : ℕ) → import_number v s p ≡ Some i → import_of v (s, i) ≡ Some p
+module _ (v : Abstract) (paired : ImportsMatch v) (s : Space) where
+  pub brought_of : (p i : ℕ) → import_number v s p ≡ Some i → import_of v (s, i) ≡ Some p
   brought_of p i e =
       let x = by_number v s i (v.imports p) e in
       sym (ap (import_of v) x.2) ∙ paired.imports p x.0 x.1
 
-  brought_in : (i : ℕ) → Contains brought i → (p : ℕ) × (import_of v (s, i) ≡ Some p)
-  brought_in i at = let p = chosen_from (import_number v s) order i at in (p.0, brought_of p.0 i p.2)
+  -- what imports bring to the space says so
+  pub brought_in : (order : List ℕ) (i : ℕ) → Contains (filter_map (import_number v s) order) i → (p : ℕ) × (import_of v (s, i) ≡ Some p)
+  brought_in order i at = let p = chosen_from (import_number v s) order i at in (p.0, brought_of p.0 i p.2)
+
+pub in_either : {A : Type 0} (xs ys : List A) (x : A) → Contains (xs ++ ys) x → Contains xs x ⊎ Contains ys x
+in_either [] ys x at = inr at
+in_either {A} (y ∷ xs) ys x at = ⊎_elim
+    (λ (same : y ≡ x). inl (subst (λ (z : A). Contains (y ∷ xs) z) same (Contains-head y xs)))
+    (λ later. ⊎_elim (λ first. inl (Contains-tail y x xs first)) (λ second. inr second) (in_either xs ys x later))
+    (Contains-uncons y x (xs ++ ys) at)
+
+module _ (v : Abstract) (paired : ImportsMatch v) (s : Space) (orders : OrdersSpace v s) (order own : List ℕ) (imports : ListsImports v order) (owned : ListsOwn v s own) where
+  abbrev brought : List ℕ
+  brought = filter_map (import_number v s) order
 
   pub whole_pairs : AllPairs (ByImport v s) (brought ++ own)
   whole_pairs = pairs_both (ByImport v s) brought own
-      (pairs_chosen (λ p q. p < q) (ByImport v s) (import_number v s) (λ p q i j lt first second. orders.brought i j p q (brought_of p i first) (brought_of q j second) lt) order imports.rises)
+      (pairs_chosen (λ p q. p < q) (ByImport v s) (import_number v s) (λ p q i j lt first second. orders.brought i j p q (brought_of v paired s p i first) (brought_of v paired s q j second) lt) order imports.rises)
       owned.sorted
-      (λ i j first second. let p = brought_in i first in owned.behind i j p.0 p.1 second)
+      (λ i j first second. let p = brought_in v paired s order i first in owned.behind i j p.0 p.1 second)
 
   whole_chosen : (i : ℕ) → Contains brought i ⊎ Contains own i → IsSome (look v s i)
-  whole_chosen i (inl at) = let p = brought_in i at in orders.live i p.0 p.1
+  whole_chosen i (inl at) = let p = brought_in v paired s order i at in orders.live i p.0 p.1
   whole_chosen i (inr at) = owned.there i at
 
   whole_all : (i : ℕ) → IsSome (look v s i) → (o : Option ℕ) → import_of v (s, i) ≡ o → Contains (brought ++ own) i
@@ -135,16 +144,9 @@ module _ (v : Abstract) (paired : ImportsMatch v) (s : Space) (orders : OrdersSp
       let number : import_number v s p ≡ Some i = ap (import_number_by s) y.1 ∙ ap (number_in s) y.2 ∙ own_number s i in
       Contains-append_1 i brought own (chosen_there (import_number v s) order p i (imports.all p y.0 y.1) number)
 
-  in_either : (i : ℕ) (xs : List ℕ) → Contains (xs ++ own) i → Contains xs i ⊎ Contains own i
-  in_either i [] at = inr at
-  in_either i (x ∷ xs) at = ⊎_elim
-      (λ (same : x ≡ i). inl (subst (λ (z : ℕ). Contains (x ∷ xs) z) same (Contains-head x xs)))
-      (λ later. ⊎_elim (λ first. inl (Contains-tail x i xs first)) (λ second. inr second) (in_either i xs later))
-      (Contains-uncons x i (xs ++ own) at)
-
   pub whole_ordered : Ordered (look v s) (brought ++ own)
   whole_ordered = record {
     differ = sorted_differ (ByImport v s) orders.apart (brought ++ own) (sorted_of (ByImport v s) (brought ++ own) whole_pairs);
-    chosen = λ i at. whole_chosen i (in_either i brought at);
+    chosen = λ i at. whole_chosen i (in_either brought own i at);
     all = λ i live. whole_all i live (import_of v (s, i)) refl;
   }

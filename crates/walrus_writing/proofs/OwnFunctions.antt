@@ -12,7 +12,7 @@ use Rattle.walrus_items.specs.declared.functions.FunctionKind.TheVariants as kin
 use Rattle.walrus_contents.specs.View.{body, function, kind_of, parts_view}
 use Rattle.walrus_contents.specs.declared.parts.Parts.{Parts}
 use Rattle.walrus_model.specs.Abstract as abstract
-use Rattle.walrus_model.specs.Abstract.{Abstract, Function, ImportedFunction, Uninitialised, LocalFunction as OfBody}
+use Rattle.walrus_model.specs.Abstract.{Abstract, Function, Uninitialised, LocalFunction as OfBody}
 use Rattle.walrus_model.specs.Dead.{HasDead, NoKind}
 use Rattle.walrus_model.specs.Order.{ByImport, FunctionsByImport}
 use Rattle.walrus_model.specs.Same.{BothAnd}

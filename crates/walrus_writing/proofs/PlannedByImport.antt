@@ -1,6 +1,6 @@
 -- Where imports and items name each other, what imports bring, by rising import, and then what the module defines, is the order of the plan, space
 -- by space.
-use Rattle.std.proofs.Common.{ℕ, List, ◌++◌, map, sym, subst}
+use Rattle.std.proofs.Common.{ℕ, List, ◌++◌, map, subst}
 use Rattle.std.specs.Prelude.{AllPairs}
 use Rattle.walrus_base.specs.Arena.{entries, items}
 use Rattle.walrus_types.specs.Operators.{Space, Functions, Tables, Memories, Tags, Globals}
@@ -18,7 +18,8 @@ use Rattle.walrus_model.specs.Order.{ByImport}
 use Rattle.walrus_model.specs.Ordered.{Ordered}
 use Rattle.walrus_model.specs.Spaces.{look}
 use Rattle.walrus_model.specs.WellMade.{ImportsMatch}
-use Rattle.walrus_writing.specs.Brought.{OrdersFunctions, own_places, places_brought}
+use Rattle.walrus_writing.specs.Brought.{own_places, places_brought}
+use Rattle.walrus_writing.specs.Sizes.{IsOrder}
 use Rattle.walrus_writing.proofs.ImportedAlong.{brought_numbers}
 use Rattle.walrus_writing.proofs.OrderByImport.{ListsOwn, OrdersSpace, whole_ordered, whole_pairs}
 use Rattle.walrus_writing.proofs.OrdersSpaces.{functions_order, globals_listed, globals_order, imports_listed, memories_listed, memories_order, tables_listed, tables_order, tags_listed, tags_order}
@@ -51,5 +52,6 @@ module _ (p : Parts) (paired : ImportsMatch (parts_view p)) where
   pub globals_planned : IsInOrder Globals (places_brought Globals (items (imports p.imports.now)) ++ own_places (λ (g : GlobalValue). g.imported_by) (entries (globals p.globals.now)))
   globals_planned = behind_brought Globals _ (globals_order V) (globals_listed p)
 
-  pub functions_planned : (HasDead V → ⊥) → (order : List ℕ) → OrdersFunctions (imports p.imports.now) (functions p.funcs.now) order → IsInOrder Functions order
-  functions_planned there order h = subst (IsInOrder Functions) (sym h.is) (behind_brought Functions h.own (functions_order V) (functions_listed p h.own h.sorted there))
+  -- of functions those with a body, in the order of their sizes
+  pub functions_planned : (HasDead V → ⊥) → (own : List ℕ) → IsOrder (functions p.funcs.now) own → IsInOrder Functions (places_brought Functions (items (imports p.imports.now)) ++ own)
+  functions_planned there own sorted = behind_brought Functions own (functions_order V) (functions_listed p own sorted there)

@@ -1,30 +1,29 @@
 -- Each refusal to write comes with its cause, and where all is written, there is none.
-use Rattle.std.proofs.Common.{◌≡◌, ℕ, true, List, sym, subst, inl}
+use Rattle.std.proofs.Common.{ℕ, List, sym, subst, inl}
 use Rattle.std.specs.Prelude.{IfOk, Result, Ok, Err}
-use Rattle.walrus_base.specs.Arena.{items}
 use Rattle.walrus_bodies.specs.declared.features.Features.{Features}
 use Rattle.walrus_groups.specs.Indexed.{AreInOrder}
 use Rattle.walrus_types.specs.ModuleTypes.{type_slots}
-use Rattle.walrus_items.specs.Functions.{functions}
 use Rattle.walrus_contents.specs.There.{IsRefusal}
-use Rattle.walrus_writing.specs.SoFar.{DefinesItems, plain_view}
+use Rattle.walrus_contents.specs.View.{parts_view}
 use Rattle.walrus_contents.specs.declared.parts.Parts.{Parts}
 use Rattle.walrus_model.specs.Abstract.{Abstract}
 use Rattle.walrus_model.specs.Config.{Config}
 use Rattle.walrus_model.specs.Dead.{HasDead}
 use Rattle.walrus_model.specs.Declared.{NothingUndeclared}
+use Rattle.walrus_model.specs.WellMade.{ImportsMatch}
 use Rattle.walrus_parts.specs.declared.error.Error.{Error}
-use Rattle.walrus_parts.specs.declared.error.Error.TheVariants.{Memory, DeadItem, NotWritable, TooLarge}
+use Rattle.walrus_parts.specs.declared.error.Error.TheVariants.{Memory, DeadItem, NotWritable, TooLarge, TwoIndices}
 use Rattle.walrus_rules.specs.Features.{features_of}
-use Rattle.walrus_rules.specs.Refused.{PassesLimits}
+use Rattle.walrus_rules.specs.Refused.{HasTwoIndices, PassesLimits}
 use Rattle.walrus_rules.specs.SoFar.{HasUndeclared, RefusesSoFar}
 use Rattle.walrus_writing.specs.Emitted.{IsPlain, told}
-use Rattle.walrus_writing.specs.Local.{all_local}
+use Rattle.walrus_writing.specs.Needed.{AreNeededBrought}
 use Rattle.walrus_writing.specs.Reads.{ReadsInOrder}
 use Rattle.walrus_writing.specs.Records.{DoesNotFit, Spells}
 use Rattle.walrus_writing.specs.Refusals.{RefusesItems}
 use Rattle.walrus_writing.proofs.NoCauseAll.{no_cause}
-use Rattle.walrus_writing.proofs.RefusesLarge.{passes, no_two_indices, not_imported, lacks_none}
+use Rattle.walrus_writing.proofs.RefusesLarge.{lacks_none, matched_brought, passes}
 use Rattle.walrus_writing.proofs.RefusesUnspelled.{unspelled}
 
 -- ---- before items are written
@@ -35,11 +34,21 @@ dead_refused X c v (Memory m) r = tt
 dead_refused X c v DeadItem r = r
 dead_refused X c v _ r = absurd r
 
+-- imports and items don't name each other, and each item that is needed is brought all the same: no module of indices says the same
+pub unmatched_refused : (X : Type 0) (c : Config) (p : Parts) → (HasTwoIndices (parts_view p) → ⊥) → AreNeededBrought (parts_view p) → ReadsInOrder (parts_view p) → AreInOrder (type_slots p.types.now)
+    → (ImportsMatch (parts_view p) → ⊥) → RefusesSoFar {X = X} c (parts_view p) (told {X = X} (Err TooLarge))
+unmatched_refused X c p one brought before ordered unmatched = (one, lacks_none c p brought before ordered, λ sayable. absurd (unmatched sayable.imports))
+
+-- what is always refused is emitted as nothing
+pub never_ok : {X : Type 0} (P : X → Type 0) (result : Result X Error) → IfOk result (λ x. ⊥) → IfOk result P
+never_ok P (Ok x) none = absurd none
+never_ok P (Err e) none = tt
+
 -- ---- items
 
-module _ (c : Config) (p : Parts) (lives : HasDead (plain_view p) → ⊥) (declared : NothingUndeclared (plain_view p)) (local : all_local (items (functions p.funcs.now)) ≡ true) (own : DefinesItems (plain_view p)) (before : ReadsInOrder (plain_view p)) (ordered : AreInOrder (type_slots p.types.now)) where
+module _ (c : Config) (p : Parts) (lives : HasDead (parts_view p) → ⊥) (declared : NothingUndeclared (parts_view p)) (one : HasTwoIndices (parts_view p) → ⊥) (matched : ImportsMatch (parts_view p)) (before : ReadsInOrder (parts_view p)) (ordered : AreInOrder (type_slots p.types.now)) where
   abbrev V : Abstract
-  V = plain_view p
+  V = parts_view p
 
   -- what a size too large comes from, and what is written passes no limit, with these features
   abbrev Sizes : Features → Type 0
@@ -52,12 +61,12 @@ module _ (c : Config) (p : Parts) (lives : HasDead (plain_view p) → ⊥) (decl
   undeclared_none (f, undeclared) = declared f undeclared
 
   items_with : {X : Type 0} (view : X → List ℕ) (result : Result X Error) → Refuses view result (features_of c)
-  items_with view (Ok x) sizes spells r = (no_cause c p spells.records lives local ordered (sizes.1 (view x) spells), not_imported c p local own, undeclared_none)
+  items_with view (Ok x) sizes spells r = (no_cause c p spells.records lives one ordered (sizes.1 (view x) spells), undeclared_none)
   items_with view (Err NotWritable) sizes spells r = inl (unspelled c p lives r)
-  items_with view (Err TooLarge) sizes spells r = ((no_two_indices c p, lacks_none c p local own before ordered, λ sayable. passes c p sizes.0 r), not_imported c p local own)
+  items_with view (Err TooLarge) sizes spells r = (one, lacks_none c p (matched_brought c p matched) before ordered, λ sayable. passes c p sizes.0 r)
   items_with view (Err (Memory m)) sizes spells r = tt
   items_with view (Err _) sizes spells r = absurd r
 
-  -- what is said of items that name nothing dead and that all have an index is so of the module seen
+  -- what is said of items that name nothing dead, and of which each has one index, is so of the module seen
   pub items_refused : (features : Features) → IsPlain c features → {X : Type 0} (view : X → List ℕ) (result : Result X Error) → Refuses view result features
   items_refused features plain view result = subst (Refuses view result) (sym plain.features_are) (items_with view result)

@@ -1,15 +1,17 @@
--- A body that can't be written isn't well formed; an exact heap type, and an initialiser that no bytes spell, are those of the module seen.
+-- A body that can't be written isn't well formed; an exact heap type, one of an imported item among them, and an initialiser that no bytes
+-- spell are those of the module seen.
 use Rattle.std.proofs.Common.{◌≡◌, ℕ, true, List, [], ◌∷◌, refl, sym, subst, Some}
-use Rattle.std.specs.Prelude.{Option, Contains, option_map}
+use Rattle.std.specs.Prelude.{Option, Contains, option_map, Err}
 use Rattle.walrus_base.specs.Arena.{item_at, items}
 use Rattle.walrus_base.specs.Id.{place}
 use Rattle.walrus_base.specs.Types.{CompType, Func, Struct, Array, HeapType, OfHeap, Concrete, Exact, ValType, I32, I64, F32, F64, V128, Ref, IsNotExact, comp_heaps, val_heaps}
-use Rattle.walrus_types.specs.Operators.{Types, Tables, Globals, Item, Op}
+use Rattle.walrus_types.specs.Operators.{Space, Types, Functions, Tables, Memories, Tags, Globals, Elements, DataSegments, Item, Op}
 use Rattle.walrus_types.specs.TypeDef.{TypeDef, type_params}
 use Rattle.walrus_code.specs.Names.{Lookup}
 use Rattle.walrus_code.specs.Results.{heap_is_exact, val_is_exact}
 use Rattle.walrus_constants.specs.Written.{IsUnspelled, ExactHeap, NoOperator}
 use Rattle.walrus_code.specs.declared.function.LocalFunction.{LocalFunction}
+use Rattle.walrus_bodies.specs.declared.features.Features.{Features}
 use Rattle.walrus_functions.specs.EmittedBody.{CantBeWritten, comp_takes, takes}
 use Rattle.walrus_types.specs.ModuleTypes.{type_slots}
 use Rattle.walrus_functions.specs.Handlers.{params_of}
@@ -18,23 +20,26 @@ use Rattle.walrus_functions.proofs.LawWritable.{ill_formed}
 use Rattle.walrus_groups.specs.Indexed.{HasExact}
 use Rattle.walrus_entities.specs.Globals.{GlobalValue, globals}
 use Rattle.walrus_entities.specs.Tables.{TableValue, tables}
-use Rattle.walrus_contents.specs.View.{body, global_of, table_of}
-use Rattle.walrus_writing.specs.SoFar.{plain_view}
+use Rattle.walrus_contents.specs.View.{body, global_of, parts_view, table_of}
 use Rattle.walrus_contents.specs.declared.parts.Parts.{Parts}
 use Rattle.walrus_contents.proofs.Slots.{item_seen}
 use Rattle.walrus_model.specs.Abstract as abstract
 use Rattle.walrus_model.specs.Config.{Config}
 use Rattle.walrus_model.specs.Dead.{HasDead}
 use Rattle.walrus_model.specs.Rules.{IsFunctionComp}
+use Rattle.walrus_model.specs.Spaces.{Thing, look}
 use Rattle.walrus_model.specs.WellMade.{consts_by, consts_in, heaps_by, option_consts}
 use Rattle.walrus_model.proofs.Lists.{Contains-head}
 use Rattle.walrus_model.proofs.Standing.{none_there}
+use Rattle.walrus_parts.specs.declared.error.Error.{Error}
+use Rattle.walrus_parts.specs.declared.error.Error.TheVariants as errors
 use Rattle.walrus_rules.specs.Features.{features_of}
 use Rattle.walrus_rules.specs.Refused.{HasUnspelled, EmptyConstant, ExactConstant, ExactType, IllFormed}
 use Rattle.walrus_rules.specs.WellMade.{IsWellFormed}
 use Rattle.walrus_writing.specs.Parts.{function_seen, source}
 use Rattle.walrus_writing.specs.Globals as globals_spelled
-use Rattle.walrus_writing.specs.Refusals.{HasBody, HasUnspellable, ABody, AType, ATable, AGlobal}
+use Rattle.walrus_writing.specs.Imported.{ImportIsExact, RefusesImports, is_exact_thing}
+use Rattle.walrus_writing.specs.Refusals.{HasBody, HasUnspellable, AnImport, ABody, AType, ATable, AGlobal, RefusesItems}
 use Rattle.walrus_writing.specs.Tables as tables_spelled
 
 -- ---- function types
@@ -49,7 +54,7 @@ def_taken def x e is = subst (λ (o : Option TypeDef). takes o ≡ Some (params_
 
 module _ (c : Config) (p : Parts) where
   abbrev V : abstract.Abstract
-  V = plain_view p
+  V = parts_view p
 
   abbrev types : List (Option TypeDef)
   types = type_slots p.types.now
@@ -122,9 +127,37 @@ module _ (c : Config) (p : Parts) where
       (subst (λ (o : Option GlobalValue). Contains (consts_by (λ (x : abstract.Global). option_consts x.initialiser) (option_map global_of o)) ops) (sym seen.1) (subst (λ (i : Option (List Op)). Contains (option_consts i) ops) (sym is) (Contains-head ops [])))
       unspelled
 
+  -- the type of an imported item
+  thing_exact : (s : Space) (n : ℕ) (thing : Thing s) → look V s n ≡ Some thing → is_exact_thing s thing ≡ true → HasUnspelled c V
+  thing_exact Tables n t at e =
+      ExactType (Tables, n) t.ty.element.heap
+      (subst (λ (o : Option abstract.Table). Contains (heaps_by (λ (x : abstract.Table). x.ty.element.heap ∷ []) o) t.ty.element.heap) (sym at) (Contains-head t.ty.element.heap []))
+      (exact_heap t.ty.element.heap e)
+  thing_exact Globals n g at e =
+      let h = exact_value g.ty.value e in
+      ExactType (Globals, n) h.0 (subst (λ (o : Option abstract.Global). Contains (heaps_by (λ (x : abstract.Global). val_heaps x.ty.value) o) h.0) (sym at) h.1.0) h.1.1
+  thing_exact Functions n f at e = absurd (none_there e)
+  thing_exact Memories n m at e = absurd (none_there e)
+  thing_exact Tags n t at e = absurd (none_there e)
+  thing_exact Types n t at e = absurd (none_there e)
+  thing_exact Elements n x at e = absurd (none_there e)
+  thing_exact DataSegments n d at e = absurd (none_there e)
+
+  import_exact : (x : abstract.Import) → ImportIsExact V x → HasUnspelled c V
+  import_exact x (thing, at, e) = thing_exact x.item.0 x.item.1 thing at e
+
   -- what isn't writable
   pub unspelled : (HasDead V → ⊥) → HasUnspellable p (features_of c) → HasUnspelled c V
+  unspelled lives (AnImport i x at is_exact) = import_exact x is_exact
   unspelled lives (ABody body_cant) = not_formed lives body_cant
   unspelled lives (AType type_exact) = exact type_exact
   unspelled lives (ATable t among is) = table_unspelled t among is
   unspelled lives (AGlobal g among is) = global_unspelled g among is
+
+-- ---- imports that aren't written
+
+-- the type of an imported item is one that no bytes spell
+pub imports_refused : (p : Parts) (features : Features) (X : Type 0) (e : Error) → RefusesImports (parts_view p) e → RefusesItems {X = X} p features (Err e)
+imports_refused p features X (errors.Memory m) r = tt
+imports_refused p features X errors.NotWritable (i, (x, (at, is_exact))) = AnImport i x at is_exact
+imports_refused p features X _ r = absurd r

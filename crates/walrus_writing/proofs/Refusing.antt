@@ -1,18 +1,19 @@
 -- What a refusal of a part says of the items that are written, and the records that are.
 use Rattle.wasm_entries.specs.Record as entries
-use Rattle.std.proofs.Common.{inl, inr, ◌≡◌, ℕ, ◌<◌, ◌^◌, suc, List, [], ◌∷◌, ◌++◌, map, length, refl, sym, ap, ◌∙◌, subst, arith, Some, None}
-use Rattle.std.specs.Prelude.{Option, IsSome, All, Err, option_and_then, option_map}
+use Rattle.std.proofs.Common.{inl, inr, ◌≡◌, ℕ, ◌<◌, ◌^◌, List, [], ◌∷◌, ◌++◌, map, length, refl, sym, ap, ◌∙◌, subst, Some}
+use Rattle.std.specs.Prelude.{Option, All, Err, option_and_then}
 use Rattle.std.specs.Global.{Vec}
 use Rattle.std.specs.List.{AllZip}
 use Rattle.std.specs.Str.{IsUtf8}
-use Rattle.std.proofs.lemmas.List.Elements.{All-contains, All-map, All-nil}
+use Rattle.std.proofs.lemmas.List.Elements.{All-map, All-nil}
 use Rattle.wasm_frames.specs.Record as wire
 use Rattle.wasm_frames.specs.Spelling.{body_bytes}
 use Rattle.wasm_forms.specs.Spelling.{number_bytes}
 use Rattle.wasm_forms.specs.Writing.{FitsLength}
-use Rattle.wasm_entries.specs.Record.{export_entry, global_entry, group, table_entry}
+use Rattle.wasm_entries.specs.Record.{export_entry, global_entry, group, import_entry, table_entry}
 use Rattle.wasm_entries.specs.declared.record.RawExport.{RawExport}
 use Rattle.wasm_entries.specs.declared.record.RawGlobal.{RawGlobal}
+use Rattle.wasm_entries.specs.declared.record.RawImport.{RawImport}
 use Rattle.wasm_entries.specs.declared.record.RawLimits.{RawLimits}
 use Rattle.wasm_entries.specs.declared.record.RawSub.{RawSub}
 use Rattle.wasm_entries.specs.declared.record.RawTable.{RawTable}
@@ -27,62 +28,52 @@ use Rattle.wasm_forms.specs.declared.error.WireError.TheVariants as Wire
 use Rattle.walrus_base.specs.Arena.{entries as entries_in, item_at, items}
 use Rattle.walrus_base.specs.Id.{place}
 use Rattle.walrus_types.specs.ModuleTypes.{type_slots}
-use Rattle.walrus_types.specs.Operators.{Space}
+use Rattle.walrus_types.specs.Operators.{Space, Functions, Tables, Memories, Tags, Globals}
 use Rattle.walrus_code.specs.Names.{Lookup}
 use Rattle.walrus_bodies.specs.declared.features.Features.{Features}
 use Rattle.walrus_groups.specs.Indexed.{AreIndexed}
 use Rattle.walrus_groups.specs.Named.{named_def}
 use Rattle.walrus_items.specs.Exports.{exports}
+use Rattle.walrus_items.specs.Imports.{imports}
 use Rattle.walrus_constants.specs.Named.{named_global, named_table}
-use Rattle.walrus_entities.specs.Globals.{globals}
-use Rattle.walrus_entities.specs.Memories.{memories}
-use Rattle.walrus_entities.specs.Tables.{tables}
-use Rattle.walrus_entities.specs.Tags.{tags}
-use Rattle.walrus_contents.specs.View.{export_of, global_of, memory_of, table_of, tag_of}
-use Rattle.walrus_writing.specs.SoFar.{DefinesItems, plain_view}
+use Rattle.walrus_entities.specs.Globals.{GlobalValue, globals}
+use Rattle.walrus_entities.specs.Memories.{MemoryValue, memories}
+use Rattle.walrus_entities.specs.Tables.{TableValue, tables}
+use Rattle.walrus_entities.specs.Tags.{TagValue, tags}
+use Rattle.walrus_contents.specs.View.{export_of, global_of, memory_of, parts_view, table_of, tag_of}
 use Rattle.walrus_contents.specs.declared.parts.Parts.{Parts}
-use Rattle.walrus_contents.proofs.Slots.{entry_in, stands_at}
+use Rattle.walrus_contents.proofs.Slots.{stands_at}
 use Rattle.walrus_model.specs.Abstract.{Memory}
 use Rattle.walrus_model.specs.Plan as model
 use Rattle.walrus_model.specs.Plan.{AreNumbered, IsPlan}
+use Rattle.walrus_model.specs.WellMade.{ImportsMatch}
 use Rattle.walrus_model.specs.Sections as said
-use Rattle.walrus_model.proofs.Lists.{Contains-map, map-map, map-same_on}
-use Rattle.walrus_model.proofs.Standing.{none_there, some_inj}
+use Rattle.walrus_model.proofs.Lists.{map-map, map-same_on}
 use Rattle.walrus_parts.specs.Errors.{error_of_wire}
 use Rattle.walrus_parts.specs.declared.error.Error.{Error}
 use Rattle.walrus_parts.specs.declared.error.Error.TheVariants as Parts_error
 use Rattle.walrus_rules.specs.Examples.{empty_text}
 use Rattle.walrus_rules.proofs.OneSections.{laid}
 use Rattle.walrus_writing.specs.Parts.{HasBytes, export_with_index, memory_limits, tag_index, type_index, unplaced}
-use Rattle.walrus_writing.specs.Places.{places}
+use Rattle.walrus_writing.specs.Brought.{import_numbers, own_of, own_places, places_brought}
+use Rattle.walrus_writing.specs.Imported.{IsEntryAt}
+use Rattle.walrus_writing.specs.Places.{places, places_own}
 use Rattle.walrus_writing.specs.Records.{Records, Spells, sections_with, text_of}
-use Rattle.walrus_writing.specs.Globals.{GlobalIsUnspelled, IsSpelledGlobal, RefusesGlobals}
+use Rattle.walrus_writing.specs.Globals.{IsSpelledGlobal, RefusesGlobals}
 use Rattle.walrus_writing.specs.Reads.{ReadsInOrder}
 use Rattle.walrus_writing.specs.Refusals.{ABody, AType, ATable, AGlobal, RefusesBodies, RefusesCounts, RefusesItems, RefusesTypes}
-use Rattle.walrus_writing.specs.Tables.{IsSpelledTable, RefusesTables, TableIsUnspelled}
+use Rattle.walrus_writing.specs.Tables.{IsSpelledTable, RefusesTables}
 use Rattle.walrus_writing.specs.declared.plan.Plan.{Plan}
-use Rattle.walrus_writing.proofs.Entries.{none_some}
+use Rattle.walrus_writing.proofs.OwnPlaces.{defined_own, parted_own, seen_by_own}
 use Rattle.walrus_writing.proofs.Sections.{all_sections, bytes_same, each_section, plain}
+use Rattle.walrus_writing.proofs.Spelled.{globals_all_spelled, tables_all_spelled}
 use Rattle.walrus_writing.proofs.SpellsLemmas.{zip_seen}
 use Rattle.walrus_writing.proofs.TextStands.{bodies_same}
-
--- ---- what is still to come
-
-at_seam : {A : Type 0} (P : A → Type 0) (xs : List A) (y : A) (rest : List A) → All P (xs ++ y ∷ rest) → P y
-at_seam P [] y rest h = h 0 y (omega arith)
-at_seam P (x ∷ xs) y rest h = at_seam P xs y rest (λ k d lt. h (suc k) d (omega (arith, lt)))
-
--- where each has something, so has the next one
-pub next_has : {B C : Type 0} (done : List (Option C)) (g : B → Option C) (left after : List B) (e : B) (all : List (Option C)) → done ++ map g left ≡ all → left ≡ e ∷ after → All (λ o. IsSome o) all → None ≡ g e → ⊥
-next_has {B} {C} done g left after e all is step h none =
-    let parts : all ≡ done ++ g e ∷ map g after = sym is ∙ ap (λ (l : List B). done ++ map g l) step in
-    let some : IsSome (g e) = at_seam (λ (o : Option C). IsSome o) done (g e) (map g after) (subst (λ (l : List (Option C)). All (λ o. IsSome o) l) parts h) in
-    none_there (subst (λ (o : Option C). IsSome o) (sym none) some)
 
 -- ---- refusals
 
 module _ (p : Parts) (features : Features) (X : Type 0) where
-  pub counts_refused : (plan : model.Plan) (e : Error) → IsPlan (plain_view p) plan → RefusesCounts plan e → RefusesItems {X = X} p features (Err e)
+  pub counts_refused : (plan : model.Plan) (e : Error) → IsPlan (parts_view p) plan → RefusesCounts plan e → RefusesItems {X = X} p features (Err e)
   counts_refused plan (Parts_error.Memory m) is_plan r = tt
   counts_refused plan Parts_error.TooLarge is_plan r = inl (plan, (is_plan, r))
   counts_refused plan _ is_plan r = absurd r
@@ -122,22 +113,6 @@ by_places {T} f slots =
     ∙ map-same_on (λ (e : ℕ × T). option_and_then f (item_at slots e.0)) (λ (e : ℕ × T). f e.1) (entries_in slots) (λ e at. ap (option_and_then f) (stands_at slots e at))
     ∙ sym (map-map f (λ (e : ℕ × T). e.1) (entries_in slots))
 
--- the same, of what is seen of them
-pub seen_by_places : {T X W : Type 0} (seen : T → X) (f : X → Option W) (slots : List (Option T))
-    → map (λ i. option_and_then f (option_map seen (item_at slots i))) (map (λ e. e.0) (entries_in slots)) ≡ map (λ t. f (seen t)) (items slots)
-seen_by_places {T} seen f slots =
-    map-map (λ i. option_and_then f (option_map seen (item_at slots i))) (λ (e : ℕ × T). e.0) (entries_in slots)
-    ∙ map-same_on (λ (e : ℕ × T). option_and_then f (option_map seen (item_at slots e.0))) (λ (e : ℕ × T). f (seen e.1)) (entries_in slots) (λ e at. ap (λ (o : Option T). option_and_then f (option_map seen o)) (stands_at slots e at))
-    ∙ sym (map-map (λ (t : T). f (seen t)) (λ (e : ℕ × T). e.1) (entries_in slots))
-
--- what holds of each item holds of each that is seen at a place
-pub each_seen : {T X : Type 0} (seen : T → X) (P : X → Type 0) (slots : List (Option T)) → All (λ t. P (seen t)) (items slots) → (i : ℕ) (x : X) → option_map seen (item_at slots i) ≡ Some x → P x
-each_seen {T} {X} seen P slots all i x at = by (item_at slots i) refl at
-  where
-    by : (o : Option T) → item_at slots i ≡ o → option_map seen o ≡ Some x → P x
-    by None is e = absurd (none_some x e)
-    by (Some t) is e = subst P (some_inj (seen t) x e) (All-contains (λ (y : T). P (seen y)) (items slots) t all (Contains-map (λ (e : ℕ × T). e.1) (i, t) (entries_in slots) (entry_in slots i t is)))
-
 -- sections that list nothing fit
 none_fit : EachSection SectionFits (laid (plain empty_text))
 none_fit = record {
@@ -157,76 +132,79 @@ none_fit = record {
   customs = All-nil _;
 }
 
-module _ (p : Parts) (features : Features) (names : Lookup) (plan : Plan) (raws : List (Vec RawSub)) (raw_functions : List ℕ) (raw_tables : List RawTable) (raw_memories : List RawLimits) (raw_tags : List ℕ) (raw_globals : List RawGlobal) (exported : List RawExport) (bodies : List (Vec ℕ))
-    (is_plan : IsPlan (plain_view p) (places plan)) (numbered : AreNumbered names (places plan)) (few : (s : Space) → length (places plan s) < 2 ^ 32)
+module _ (p : Parts) (features : Features) (names : Lookup) (plan : Plan) (raws : List (Vec RawSub)) (raw_imports : List RawImport) (raw_functions : List ℕ) (raw_tables : List RawTable) (raw_memories : List RawLimits) (raw_tags : List ℕ) (raw_globals : List RawGlobal) (exported : List RawExport) (bodies : List (Vec ℕ))
+    (matched : ImportsMatch (parts_view p)) (reads : ReadsInOrder (parts_view p))
+    (is_plan : IsPlan (parts_view p) (places plan)) (numbered : AreNumbered names (places plan)) (few : (s : Space) → length (places plan s) < 2 ^ 32)
     (types : map place plan.types.items ≡ map (λ e. e.0) (entries_in (type_slots p.types.now)))
+    (functions : map place plan.functions.items ≡ places_brought Functions (items (imports p.imports.now)) ++ map place plan.own_functions.items)
+    (tables_rise : map place plan.tables.items ≡ places_brought Tables (items (imports p.imports.now)) ++ own_places (λ t. t.imported_by) (entries_in (tables p.tables.now)))
+    (memories_rise : map place plan.memories.items ≡ places_brought Memories (items (imports p.imports.now)) ++ own_places (λ m. m.imported_by) (entries_in (memories p.memories.now)))
+    (tags_rise : map place plan.tags.items ≡ places_brought Tags (items (imports p.imports.now)) ++ own_places (λ t. t.imported_by) (entries_in (tags p.tags.now)))
+    (globals_rise : map place plan.globals.items ≡ places_brought Globals (items (imports p.imports.now)) ++ own_places (λ g. g.imported_by) (entries_in (globals p.globals.now)))
     (types_are : AreIndexed names (items (type_slots p.types.now)) (map group raws))
-    (functions_are : map Some raw_functions ≡ map (λ id. option_and_then (type_index names) ((plain_view p).functions (place id))) plan.functions.items)
-    (own : DefinesItems (plain_view p)) (reads : ReadsInOrder (plain_view p))
-    (tables_rise : map place plan.tables.items ≡ map (λ e. e.0) (entries_in (tables p.tables.now)))
-    (tables_are : map (λ t. Some (said.table_of (table_entry t))) raw_tables ≡ map (λ t. named_table names (table_of t)) (items (tables p.tables.now)))
+    (imports_are : AllZip (IsEntryAt names (parts_view p)) (import_numbers p) (map import_entry raw_imports))
+    (functions_are : map Some raw_functions ≡ map (λ id. option_and_then (type_index names) ((parts_view p).functions (place id))) plan.own_functions.items)
+    (tables_are : map (λ t. Some (said.table_of (table_entry t))) raw_tables ≡ map (λ t. named_table names (table_of t)) (own_of (λ x. x.imported_by) (items (tables p.tables.now))))
     (tables_stand : All (λ t. TableStands (table_entry t)) raw_tables)
-    (tables_spelled : All IsSpelledTable (items (tables p.tables.now)))
-    (rising : map place plan.memories.items ≡ map (λ e. e.0) (entries_in (memories p.memories.now)))
-    (memories_are : map Some raw_memories ≡ map (λ m. Some (memory_limits (memory_of m))) (items (memories p.memories.now)))
+    (tables_spelled : All IsSpelledTable (own_of (λ x. x.imported_by) (items (tables p.tables.now))))
+    (memories_are : map Some raw_memories ≡ map (λ m. Some (memory_limits (memory_of m))) (own_of (λ x. x.imported_by) (items (memories p.memories.now))))
     (memories_stand : All LimitsStand raw_memories)
-    (tags_rise : map place plan.tags.items ≡ map (λ e. e.0) (entries_in (tags p.tags.now)))
-    (tags_are : map Some raw_tags ≡ map (λ t. tag_index names (tag_of t)) (items (tags p.tags.now)))
-    (globals_rise : map place plan.globals.items ≡ map (λ e. e.0) (entries_in (globals p.globals.now)))
-    (globals_are : map (λ g. Some (said.global_of (global_entry g))) raw_globals ≡ map (λ g. named_global names (global_of g)) (items (globals p.globals.now)))
+    (tags_are : map Some raw_tags ≡ map (λ t. tag_index names (tag_of t)) (own_of (λ x. x.imported_by) (items (tags p.tags.now))))
+    (globals_are : map (λ g. Some (said.global_of (global_entry g))) raw_globals ≡ map (λ g. named_global names (global_of g)) (own_of (λ x. x.imported_by) (items (globals p.globals.now))))
     (globals_stand : All (λ g. GlobalStands (global_entry g)) raw_globals)
-    (globals_spelled : All IsSpelledGlobal (items (globals p.globals.now)))
+    (globals_spelled : All IsSpelledGlobal (own_of (λ x. x.imported_by) (items (globals p.globals.now))))
     (exports_are : map (λ e. Some (export_entry e)) exported ≡ map (λ v. export_with_index names (export_of v)) (items (exports p.exports.now)))
     (texts : All (λ e. IsUtf8 e.name.now) exported)
-    (bodies_are : AllZip (λ id bytes. HasBytes p names features (place id) bytes.items) plan.functions.items bodies) where
+    (bodies_are : AllZip (λ id bytes. HasBytes p names features (place id) bytes.items) plan.own_functions.items bodies) where
   abbrev pub records_of : Records p features
   records_of = record {
     names = names;
     plan = places plan;
-    own = own;
     is_plan = is_plan;
     numbered = numbered;
     few = few;
+    matched = matched;
+    own = places_own p plan;
+    defined = defined_own p plan;
+    parted = parted_own p plan functions tables_rise memories_rise tags_rise globals_rise;
+    imports = map import_entry raw_imports;
+    imports_are = imports_are;
     types = map group raws;
-    types_are = types_are.read ∙ sym (by_places (named_def names) (type_slots p.types.now)) ∙ ap (map (λ i. option_and_then (named_def names) ((plain_view p).types i))) (sym types);
+    types_are = types_are.read ∙ sym (by_places (named_def names) (type_slots p.types.now)) ∙ ap (map (λ i. option_and_then (named_def names) ((parts_view p).types i))) (sym types);
     none_empty = types_are.none_empty;
     types_stand = types_are.stand;
     functions = raw_functions;
-    functions_are = functions_are ∙ sym (map-map (λ i. option_and_then (type_index names) ((plain_view p).functions i)) place plan.functions.items);
+    functions_are = functions_are ∙ sym (map-map (λ i. option_and_then (type_index names) ((parts_view p).functions i)) place plan.own_functions.items);
     reads = reads;
     tables = map table_entry raw_tables;
     tables_are =
-        made_twice said.table_of table_entry raw_tables ∙ tables_are ∙ sym (seen_by_places table_of (named_table names) (tables p.tables.now))
-        ∙ ap (map (λ i. option_and_then (named_table names) ((plain_view p).tables i))) (sym tables_rise);
+        made_twice said.table_of table_entry raw_tables ∙ tables_are ∙ sym (seen_by_own (λ (t : TableValue). t.imported_by) table_of (named_table names) (tables p.tables.now));
     tables_stand = All-map TableStands table_entry raw_tables tables_stand;
-    tables_spelled = each_seen table_of (λ t. TableIsUnspelled t → ⊥) (tables p.tables.now) tables_spelled;
+    tables_spelled = tables_all_spelled p matched names (map import_entry raw_imports) imports_are tables_spelled;
     memories = raw_memories;
-    memories_are =
-        memories_are ∙ sym (seen_by_places memory_of (λ (m : Memory). Some (memory_limits m)) (memories p.memories.now))
-        ∙ ap (map (λ i. option_and_then (λ (m : Memory). Some (memory_limits m)) ((plain_view p).memories i))) (sym rising);
+    memories_are = memories_are ∙ sym (seen_by_own (λ (m : MemoryValue). m.imported_by) memory_of (λ (m : Memory). Some (memory_limits m)) (memories p.memories.now));
     memories_stand = memories_stand;
     tags = raw_tags;
-    tags_are = tags_are ∙ sym (seen_by_places tag_of (tag_index names) (tags p.tags.now)) ∙ ap (map (λ i. option_and_then (tag_index names) ((plain_view p).tags i))) (sym tags_rise);
+    tags_are = tags_are ∙ sym (seen_by_own (λ (t : TagValue). t.imported_by) tag_of (tag_index names) (tags p.tags.now));
     globals = map global_entry raw_globals;
     globals_are =
-        made_twice said.global_of global_entry raw_globals ∙ globals_are ∙ sym (seen_by_places global_of (named_global names) (globals p.globals.now))
-        ∙ ap (map (λ i. option_and_then (named_global names) ((plain_view p).globals i))) (sym globals_rise);
+        made_twice said.global_of global_entry raw_globals ∙ globals_are ∙ sym (seen_by_own (λ (g : GlobalValue). g.imported_by) global_of (named_global names) (globals p.globals.now));
     globals_stand = All-map GlobalStands global_entry raw_globals globals_stand;
-    globals_spelled = each_seen global_of (λ g. GlobalIsUnspelled g → ⊥) (globals p.globals.now) globals_spelled;
+    globals_spelled = globals_all_spelled p matched names (map import_entry raw_imports) imports_are globals_spelled;
     bodies = map (λ (v : Vec ℕ). v.items) bodies;
-    bodies_are = zip_seen place (λ (v : Vec ℕ). v.items) (HasBytes p names features) plan.functions.items bodies bodies_are;
+    bodies_are = zip_seen place (λ (v : Vec ℕ). v.items) (HasBytes p names features) plan.own_functions.items bodies bodies_are;
     exports = map export_entry exported;
     exports_are = map-map (λ (e : entries.Export). Some e) export_entry exported ∙ exports_are ∙ sym (map-map (export_with_index names) export_of (items (exports p.exports.now)));
     texts = All-map (λ (e : entries.Export). IsUtf8 e.name) export_entry exported texts;
   }
 
   -- the module of these sections
-  module _ (m : wire.Module) (code : List wire.Body) (sections : m ≡ sections_with (map group raws) raw_functions (map table_entry raw_tables) raw_memories raw_tags (map global_entry raw_globals) (map export_entry exported) code) (codes : code ≡ map (λ (v : Vec ℕ). unplaced v.items) bodies) where
+  module _ (m : wire.Module) (code : List wire.Body) (sections : m ≡ sections_with (map group raws) (map import_entry raw_imports) raw_functions (map table_entry raw_tables) raw_memories raw_tags (map global_entry raw_globals) (map export_entry exported) code) (codes : code ≡ map (λ (v : Vec ℕ). unplaced v.items) bodies) where
     module_is : m ≡ laid (text_of records_of)
     module_is =
         sections
-        ∙ ap (sections_with (map group raws) raw_functions (map table_entry raw_tables) raw_memories raw_tags (map global_entry raw_globals) (map export_entry exported))
-        (codes ∙ sym (map-map unplaced (λ (v : Vec ℕ). v.items) bodies) ∙ sym (bodies_same p names features (map place plan.functions.items) (map (λ (v : Vec ℕ). v.items) bodies) records_of.bodies_are))
+        ∙ ap (sections_with (map group raws) (map import_entry raw_imports) raw_functions (map table_entry raw_tables) raw_memories raw_tags (map global_entry raw_globals) (map export_entry exported))
+        (codes ∙ sym (map-map unplaced (λ (v : Vec ℕ). v.items) bodies) ∙ sym (bodies_same p names features (map place plan.own_functions.items) (map (λ (v : Vec ℕ). v.items) bodies) records_of.bodies_are))
 
     pub records_written : (bytes : List ℕ) → bytes ≡ module_bytes m → ModuleFits m → Spells p features bytes
     records_written bytes are fit = record {

@@ -15,7 +15,7 @@ use Rattle.walrus_code.specs.Names.{named_val}
 use Rattle.walrus_bodies.specs.declared.features.Features.{Features}
 use Rattle.walrus_functions.specs.EmittedBody.{Source, index_in}
 use Rattle.walrus_functions.specs.Handlers.{params_of}
-use Rattle.walrus_writing.specs.SoFar.{plain_view}
+use Rattle.walrus_contents.specs.View.{parts_view}
 use Rattle.walrus_contents.specs.declared.parts.Parts.{Parts}
 use Rattle.walrus_model.specs.Abstract.{Body}
 use Rattle.walrus_model.specs.Sections.{types_of, body_with}
@@ -244,4 +244,4 @@ module _ {p : Parts} {features : Features} (r : Records p features) (i t : ℕ) 
       let there = names_found r.names (index_in S b.written.order) S.ops (ops_of b.written.texts) b.written.named x.0 x.1 in
       let space : x.0.0 ≡ DataSegments = ap (λ (z : Item). z.0) x.2 in
       let named = some_of (r.names DataSegments x.0.1) (subst (λ (s : Space). IsSome (r.names s x.0.1)) space there) in
-      none_there (live_to (plain_view p) DataSegments x.0.1 (planned_live r.numbered r.is_plan DataSegments x.0.1 named.0 named.1))
+      none_there (live_to (parts_view p) DataSegments x.0.1 (planned_live r.numbered r.is_plan DataSegments x.0.1 named.0 named.1))

@@ -10,7 +10,7 @@ use Rattle.wasm_writer.specs.Spelling.{SectionStands}
 use Rattle.walrus_types.specs.Operators.{Space, Types, Functions, Tags}
 use Rattle.walrus_bodies.specs.declared.features.Features.{Features}
 use Rattle.walrus_code.specs.Names.{Lookup}
-use Rattle.walrus_writing.specs.SoFar.{plain_view}
+use Rattle.walrus_contents.specs.View.{parts_view}
 use Rattle.walrus_contents.specs.declared.parts.Parts.{Parts}
 use Rattle.walrus_contents.proofs.Lookups.{heads, then_some}
 use Rattle.walrus_model.specs.Abstract.{Abstract, Export, FunctionKind, ImportedFunction, LocalFunction, Uninitialised}
@@ -18,9 +18,11 @@ use Rattle.walrus_model.proofs.Indices.{planned_below}
 use Rattle.walrus_rules.specs.Spelling.{BodyStands}
 use Rattle.walrus_rules.specs.Text.{sections_of}
 use Rattle.walrus_rules.specs.Text as text
+use Rattle.walrus_writing.specs.Brought.{import_numbers}
 use Rattle.walrus_writing.specs.Parts.{HasBytes, source, tag_index, type_index, type_index_of, export_with_index, unplaced}
 use Rattle.walrus_writing.specs.Records.{Records, text_of, texts_in}
 use Rattle.walrus_writing.proofs.CarriedOver.{export_parts}
+use Rattle.walrus_writing.proofs.ImportedAlong.{entries_stand}
 use Rattle.walrus_writing.proofs.Ranked.{body_stands}
 use Rattle.walrus_writing.proofs.Sections.{all_sections}
 use Rattle.walrus_writing.proofs.TypesEntered.{types_apart}
@@ -40,7 +42,7 @@ kind_named names ty t Uninitialised e = absurd (cc)
 
 module _ {p : Parts} {features : Features} (r : Records p features) where
   abbrev V : Abstract
-  V = plain_view p
+  V = parts_view p
 
   -- ---- bodies
 
@@ -54,7 +56,7 @@ module _ {p : Parts} {features : Features} (r : Records p features) where
   texts_stand (i ∷ is) [] a = elim a [ ]
 
   pub all_bodies_stand : All BodyStands (texts_of r)
-  all_bodies_stand = All-from_recursion BodyStands (texts_of r) (texts_stand (r.plan Functions) r.bodies r.bodies_are)
+  all_bodies_stand = All-from_recursion BodyStands (texts_of r) (texts_stand (r.own Functions) r.bodies r.bodies_are)
 
   texts_count : (order : List ℕ) (bodies : List (List ℕ)) (a : Bodies order bodies) → length (texts_in p r.names features order bodies a) ≡ length order
   texts_count [] [] a = refl
@@ -62,8 +64,8 @@ module _ {p : Parts} {features : Features} (r : Records p features) where
   texts_count [] (b ∷ bs) a = elim a [ ]
   texts_count (i ∷ is) [] a = elim a [ ]
 
-  pub as_many_texts : length (texts_of r) ≡ length (r.plan Functions)
-  as_many_texts = texts_count (r.plan Functions) r.bodies r.bodies_are
+  pub as_many_texts : length (texts_of r) ≡ length (r.own Functions)
+  as_many_texts = texts_count (r.own Functions) r.bodies r.bodies_are
 
   -- ---- sections
 
@@ -98,11 +100,11 @@ module _ {p : Parts} {features : Features} (r : Records p features) where
   pub sections_stand : All SectionStands (sections_of (text_of r))
   sections_stand = all_sections (text_of r) SectionStands (record {
     types = r.types_stand;
-    imports = All-nil _;
-    functions = All-from_recursion IsIndex r.functions (functions_stand r.functions (r.plan Functions) r.functions_are);
+    imports = entries_stand r.names V (import_numbers p) r.imports r.imports_are;
+    functions = All-from_recursion IsIndex r.functions (functions_stand r.functions (r.own Functions) r.functions_are);
     tables = r.tables_stand;
     memories = r.memories_stand;
-    tags = All-from_recursion IsIndex r.tags (tags_stand r.tags (r.plan Tags) r.tags_are);
+    tags = All-from_recursion IsIndex r.tags (tags_stand r.tags (r.own Tags) r.tags_are);
     globals = r.globals_stand;
     exports = All-from_recursion ExportStands r.exports (exports_stand r.exports V.exports r.exports_are (recursion_from_All (λ (e : entries.Export). IsUtf8 e.name) r.exports r.texts));
     start = tt;

@@ -13,7 +13,7 @@ use Rattle.walrus_functions.specs.EmittedBody.{takes, comp_takes}
 use Rattle.walrus_functions.specs.Handlers.{params_of}
 use Rattle.walrus_groups.specs.Groups.{types_from}
 use Rattle.walrus_groups.specs.Named.{named_def}
-use Rattle.walrus_writing.specs.SoFar.{plain_view}
+use Rattle.walrus_contents.specs.View.{parts_view}
 use Rattle.walrus_contents.specs.declared.parts.Parts.{Parts}
 use Rattle.walrus_model.specs.Abstract.{Abstract}
 use Rattle.walrus_model.specs.Sections.{types_of}
@@ -27,14 +27,14 @@ use Rattle.walrus_writing.proofs.WrittenAs.{laid_of}
 
 module _ {p : Parts} {features : Features} (r : Records p features) where
   abbrev V : Abstract
-  V = plain_view p
+  V = parts_view p
 
   -- the types over indices
   abbrev pub new_types : List TypeDef
   new_types = types_from 0 r.types
 
-  pub as_many_functions : length r.functions ≡ length (r.plan Functions)
-  as_many_functions = as_long (λ t. Some t) (λ i. option_and_then (type_index r.names) (V.functions i)) r.functions (r.plan Functions) r.functions_are
+  pub as_many_functions : length r.functions ≡ length (r.own Functions)
+  as_many_functions = as_long (λ t. Some t) (λ i. option_and_then (type_index r.names) (V.functions i)) r.functions (r.own Functions) r.functions_are
 
   -- a type, and what it is over indices
   pub record Entered (i t : ℕ) : Type 0 where

@@ -14,6 +14,7 @@ use Rattle.walrus_model.specs.Renaming.{Renaming}
 use Rattle.walrus_rules.specs.Text.{BodyText}
 use Rattle.walrus_rules.proofs.OneSections.{laid}
 use Rattle.walrus_rules.proofs.OneSpelling.{told}
+use Rattle.walrus_writing.specs.Brought.{import_numbers}
 use Rattle.walrus_writing.specs.Parts.{HasBytes}
 use Rattle.walrus_writing.specs.Records.{Records, text_of, texts_in}
 
@@ -26,7 +27,7 @@ local_in_order p names features (i ∷ is) [] a f x = elim a [ ]
 
 module _ {p : Parts} {features : Features} (r : Records p features) where
   abbrev pub texts_of : List BodyText
-  texts_of = texts_in p r.names features (r.plan Functions) r.bodies r.bodies_are
+  texts_of = texts_in p r.names features (r.own Functions) r.bodies r.bodies_are
 
   -- the entries of the sections
   abbrev pub laid_of : wire.Module
@@ -36,12 +37,12 @@ module _ {p : Parts} {features : Features} (r : Records p features) where
   abbrev pub module_said : Abstract
   module_said = told (text_of r)
 
-  -- each item gets its index, each local of a function its own there
+  -- each item gets its index, each import its number in their order, each local of a function its own there
   abbrev pub renaming_of : Renaming
   renaming_of = record {
     numbers = λ space i. unwrap_or (r.names space i) 0;
-    imports = λ i. i;
-    locals = local_in_order p r.names features (r.plan Functions) r.bodies r.bodies_are;
+    imports = λ i. unwrap_or (place_in (import_numbers p) i) 0;
+    locals = local_in_order p r.names features (r.own Functions) r.bodies r.bodies_are;
   }
 
   pub number_is : (space : Space) (i j : ℕ) → r.names space i ≡ Some j → j ≡ unwrap_or (r.names space i) 0

@@ -1,12 +1,13 @@
 -- The module of indices that records make is what a module in memory is written as: all in order, no function that is left to be declared,
 -- and an index for each item that is live.
 use Rattle.std.proofs.Common.{◌≡◌, ℕ, map, Bool, true, false, List, [], refl, sym, ap, ◌∙◌, subst, arith}
-use Rattle.std.specs.Prelude.{if◌then◌else◌, None, Contains}
+use Rattle.std.specs.Prelude.{if◌then◌else◌, None, Contains, IsSome, Option, unwrap_or, ◌<◌}
 use Rattle.walrus_types.specs.Operators.{Types}
 use Rattle.walrus_bodies.specs.declared.features.Features.{Features}
-use Rattle.walrus_writing.specs.SoFar.{plain_view}
+use Rattle.walrus_contents.specs.View.{parts_view}
 use Rattle.walrus_contents.specs.declared.parts.Parts.{Parts}
-use Rattle.walrus_model.specs.Abstract.{Abstract, Name}
+use Rattle.walrus_items.specs.Imports.{imports}
+use Rattle.walrus_model.specs.Abstract.{Abstract, Import, Name}
 use Rattle.walrus_model.specs.Config.{Config}
 use Rattle.walrus_model.specs.Declared.{IsUndeclared, Declares, NothingUndeclared}
 use Rattle.walrus_model.specs.Kept.{IsImportOf}
@@ -16,17 +17,21 @@ use Rattle.walrus_model.specs.Order.{Rises, ByImport}
 use Rattle.walrus_model.specs.Out.{Written}
 use Rattle.walrus_model.specs.Producers.{if_written}
 use Rattle.walrus_model.specs.Renaming.{Renaming}
+use Rattle.walrus_model.proofs.Arenas.{entries_rise}
 use Rattle.walrus_model.proofs.Indices.{planned_indices}
 use Rattle.walrus_model.proofs.Lists.{Contains-none}
+use Rattle.walrus_model.proofs.Orders.{rises_in_order}
 use Rattle.walrus_model.proofs.Planned.{planned_rises}
 use Rattle.walrus_model.proofs.Standing.{none_there}
 use Rattle.walrus_rules.specs.Namings.{is_in_range}
 use Rattle.walrus_rules.specs.Pinned.{IsWrittenAs}
 use Rattle.walrus_rules.specs.Sections.{items_of}
 use Rattle.walrus_rules.specs.Text.{said}
+use Rattle.walrus_writing.specs.Brought.{import_numbers}
 use Rattle.walrus_writing.specs.Emitted.{IsPlain}
 use Rattle.walrus_writing.specs.Records.{Records}
 use Rattle.walrus_writing.proofs.CarriedOver.{carried_over, pinned_locals}
+use Rattle.walrus_writing.proofs.ImportsCarried.{imports_ordered}
 use Rattle.walrus_writing.proofs.WrittenAs.{laid_of, module_said, renaming_of, texts_of}
 
 abbrev nothing : List Name
@@ -38,20 +43,23 @@ none_given false = refl
 
 -- A module in memory is written as this, where each function that ref.func names is declared: nothing is written so far that would
 -- declare it.
-module _ (c : Config) (features : Features) (plain : IsPlain c features) (p : Parts) (declared : NothingUndeclared (plain_view p)) (r : Records p features) where
+module _ (c : Config) (features : Features) (plain : IsPlain c features) (p : Parts) (declared : NothingUndeclared (parts_view p)) (r : Records p features) where
   abbrev V : Abstract
-  V = plain_view p
+  V = parts_view p
 
   abbrev R : Renaming
   R = renaming_of r
 
-  no_import : (i : ℕ) → IsImportOf (IsLive V) V i → ⊥
-  no_import i (x, is, k) = cc
+  there : (i : ℕ) → IsImportOf (IsLive V) V i → IsSome (V.imports i)
+  there i k = subst (λ (o : Option Import). IsSome o) (sym k.1) refl
+
+  one_way : (i j : ℕ) → i < j → j < i → ⊥
+  one_way i j first second = omega (arith, first, second)
 
   rises : Rises (IsLive V) (ByImport V) R (IsImportOf (IsLive V) V)
   rises = record {
     items = λ space no_type i j. planned_rises r.names r.plan r.numbered V (module_said r) r.is_plan R (λ s n. refl) space i j;
-    imports = λ i j k l less. absurd (no_import i k);
+    imports = λ i j k l less. rises_in_order V.imports (import_numbers p) (imports_ordered p) R.imports (λ q n at. ap (λ (o : Option ℕ). unwrap_or o 0) at) (λ a b. a < b) one_way (entries_rise (imports p.imports.now)) i j (there i k) (there j l) less;
   }
 
   -- nothing is left to be declared

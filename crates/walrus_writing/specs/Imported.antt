@@ -14,6 +14,7 @@ use Rattle.walrus_constants.specs.Named.{named_global, named_table}
 use Rattle.walrus_model.specs.Abstract.{Abstract, Function, Import, ImportedBy, ImportedFunction, Tag}
 use Rattle.walrus_model.specs.Imported.{brought_by}
 use Rattle.walrus_model.specs.Spaces.{Thing, look}
+use Rattle.walrus_model.specs.WellMade.{import_of}
 use Rattle.walrus_parts.specs.declared.error.Error.{Error}
 use Rattle.walrus_parts.specs.declared.error.Error.TheVariants as errors
 
@@ -69,6 +70,11 @@ is_exact_thing Tags t = false
 is_exact_thing Types t = false
 is_exact_thing Elements e = false
 is_exact_thing DataSegments d = false
+
+-- what each import brings says so, and has no initialiser
+pub record AreBare (v : Abstract) : Type 0 where
+  pub says : (p : ℕ) (x : Import) → v.imports p ≡ Some x → import_of v x.item ≡ Some p
+  pub bare : (p : ℕ) (x : Import) (thing : Thing x.item.0) → v.imports p ≡ Some x → look v x.item.0 x.item.1 ≡ Some thing → IsBare x.item.0 thing
 
 -- ---- descriptions
 

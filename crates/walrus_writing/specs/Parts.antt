@@ -17,8 +17,7 @@ use Rattle.walrus_bodies.specs.FunctionTypes.{is_function_def}
 use Rattle.walrus_bodies.specs.declared.features.Features.{Features}
 use Rattle.walrus_functions.specs.EmittedBody.{Source, BodyWritten, LacksAnIndex, types_of as local_types}
 use Rattle.walrus_items.specs.Functions.{FunctionValue, local_at}
-use Rattle.walrus_contents.specs.View.{body}
-use Rattle.walrus_writing.specs.SoFar.{plain_view}
+use Rattle.walrus_contents.specs.View.{body, parts_view}
 use Rattle.walrus_contents.specs.declared.parts.Parts.{Parts}
 use Rattle.walrus_model.specs.Abstract as abstract
 use Rattle.walrus_model.specs.Abstract.{Body, Function}
@@ -86,8 +85,8 @@ abbrev pub source_of : Parts → Lookup → Features → ℕ → Body → Source
 source_of p names features ty b = record {
   names = names;
   slots = slots_of p;
-  def = (plain_view p).types ty;
-  is_function_type = λ t. is_function_def ((plain_view p).types t);
+  def = (parts_view p).types ty;
+  is_function_type = λ t. is_function_def ((parts_view p).types t);
   features = features;
   parameters = b.parameters;
   ops = b.operators;
@@ -99,7 +98,7 @@ source p names features local = source_of p names features (place (function_type
 -- the bytes are the body of the function at a place, under these indices
 pub record HasBytes (p : Parts) (names : Lookup) (features : Features) (number : ℕ) (bytes : List ℕ) : Type 0 where
   pub local : LocalFunction
-  pub is : (plain_view p).functions number ≡ Some (function_seen p local)
+  pub is : (parts_view p).functions number ≡ Some (function_seen p local)
   pub places : List ℕ
   pub numbers : ℕ → Option ℕ
   pub written : BodyWritten (source p names features local) bytes places numbers
@@ -107,7 +106,7 @@ pub record HasBytes (p : Parts) (names : Lookup) (features : Features) (number :
 -- the function at a place has a body, and all that this names has an index
 pub record IsIndexed (p : Parts) (names : Lookup) (features : Features) (number : ℕ) : Type 0 where
   pub local : LocalFunction
-  pub is : (plain_view p).functions number ≡ Some (function_seen p local)
+  pub is : (parts_view p).functions number ≡ Some (function_seen p local)
   pub indexed : LacksAnIndex (source p names features local) → ⊥
 
 -- a body's bytes, wherever they lie

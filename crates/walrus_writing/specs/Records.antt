@@ -2,7 +2,7 @@
 use Rattle.wasm_entries.specs.Record as entries
 use Rattle.wasm_entries.specs.declared.record.RawLimits.{RawLimits}
 use Rattle.wasm_frames.specs.Record as wire
-use Rattle.std.specs.Prelude.{ℕ, List, [], ◌∷◌, Option, Some, All, length, map, option_and_then, ◌≡◌, ◌≢◌, ◌<◌, ◌^◌}
+use Rattle.std.specs.Prelude.{ℕ, List, [], ◌∷◌, ◌++◌, Option, Some, All, Contains, filter_map, length, map, option_and_then, ◌≡◌, ◌≢◌, ◌<◌, ◌^◌}
 use Rattle.std.specs.List.{AllZip}
 use Rattle.std.specs.Str.{IsUtf8}
 use Rattle.wasm_entries.specs.Record.{Group}
@@ -15,16 +15,20 @@ use Rattle.walrus_bodies.specs.declared.features.Features.{Features}
 use Rattle.walrus_groups.specs.Groups.{types_from}
 use Rattle.walrus_groups.specs.Named.{named_def}
 use Rattle.walrus_constants.specs.Named.{named_global, named_table}
-use Rattle.walrus_writing.specs.SoFar.{DefinesItems, plain_view}
+use Rattle.walrus_contents.specs.View.{parts_view}
 use Rattle.walrus_contents.specs.declared.parts.Parts.{Parts}
-use Rattle.walrus_model.specs.Abstract.{Abstract, Global, Table}
+use Rattle.walrus_model.specs.Abstract.{Abstract, Defined, Global, Memory, Table, Tag}
+use Rattle.walrus_model.specs.Imported.{import_number}
 use Rattle.walrus_model.specs.Plan.{AreNumbered, IsPlan, Plan}
 use Rattle.walrus_model.specs.Sections.{global_of, table_of}
 use Rattle.walrus_model.specs.Spaces.{Thing, look}
+use Rattle.walrus_model.specs.WellMade.{ImportsMatch}
 use Rattle.walrus_rules.specs.Examples.{empty_text}
 use Rattle.walrus_rules.specs.Spelling.{written_as}
 use Rattle.walrus_rules.specs.Text.{BodyText, Text, sections_of}
 use Rattle.walrus_writing.specs.Globals.{GlobalIsUnspelled}
+use Rattle.walrus_writing.specs.Brought.{import_numbers}
+use Rattle.walrus_writing.specs.Imported.{IsEntryAt}
 use Rattle.walrus_writing.specs.Parts.{type_index, memory_limits, tag_index, export_with_index, HasBytes}
 use Rattle.walrus_writing.specs.Reads.{ReadsInOrder}
 use Rattle.walrus_writing.specs.Tables.{TableIsUnspelled}
@@ -33,38 +37,51 @@ use Rattle.walrus_writing.specs.Tables.{TableIsUnspelled}
 abbrev pub AreRecords : {W : Type 0} → Abstract → Plan → (s : Space) → (Thing s → Option W) → List W → Type 0
 AreRecords v plan s raw ws = map Some ws ≡ map (λ i. option_and_then raw (look v s i)) (plan s)
 
--- the records, entry by entry, of what a module holds, under the indices that a plan of it gives
+-- no import brings the items of these places
+pub record AreDefined (v : Abstract) (own : Plan) : Type 0 where
+  pub tables : (i : ℕ) (t : Table) → Contains (own Tables) i → v.tables i ≡ Some t → t.origin ≡ Defined
+  pub memories : (i : ℕ) (m : Memory) → Contains (own Memories) i → v.memories i ≡ Some m → m.origin ≡ Defined
+  pub tags : (i : ℕ) (t : Tag) → Contains (own Tags) i → v.tags i ≡ Some t → t.origin ≡ Defined
+  pub globals : (i : ℕ) (g : Global) → Contains (own Globals) i → v.globals i ≡ Some g → g.origin ≡ Defined
+
+-- The records, entry by entry, of what a module holds, under the indices that a plan of it gives: in each space first what imports bring, in
+-- their order, and then the module's own.
 pub record Records (p : Parts) (features : Features) : Type 0 where
   pub names : Lookup
   pub plan : Plan
-  pub own : DefinesItems (plain_view p)
-  pub is_plan : IsPlan (plain_view p) plan
+  pub is_plan : IsPlan (parts_view p) plan
   pub numbered : AreNumbered names plan
   pub few : (s : Space) → length (plan s) < 2 ^ 32
+  pub matched : ImportsMatch (parts_view p)
+  pub own : Plan
+  pub defined : AreDefined (parts_view p) own
+  pub parted : (s : Space) → plan s ≡ filter_map (import_number (parts_view p) s) (import_numbers p) ++ own s
+  pub imports : List entries.Import
+  pub imports_are : AllZip (IsEntryAt names (parts_view p)) (import_numbers p) imports
   pub types : List Group
-  pub types_are : AreRecords (plain_view p) plan Types (named_def names) (types_from 0 types)
+  pub types_are : AreRecords (parts_view p) plan Types (named_def names) (types_from 0 types)
   pub none_empty : All (λ g. g ≢ []) types
   pub types_stand : All GroupStands types
   pub functions : List ℕ
-  pub functions_are : AreRecords (plain_view p) plan Functions (type_index names) functions
+  pub functions_are : AreRecords (parts_view p) own Functions (type_index names) functions
   pub bodies : List (List ℕ)
-  pub bodies_are : AllZip (HasBytes p names features) (plan Functions) bodies
-  pub reads : ReadsInOrder (plain_view p)
+  pub bodies_are : AllZip (HasBytes p names features) (own Functions) bodies
+  pub reads : ReadsInOrder (parts_view p)
   pub tables : List entries.Table
-  pub tables_are : AreRecords (plain_view p) plan Tables (named_table names) (map table_of tables)
+  pub tables_are : AreRecords (parts_view p) own Tables (named_table names) (map table_of tables)
   pub tables_stand : All TableStands tables
-  pub tables_spelled : (i : ℕ) (t : Table) → (plain_view p).tables i ≡ Some t → TableIsUnspelled t → ⊥
+  pub tables_spelled : (i : ℕ) (t : Table) → (parts_view p).tables i ≡ Some t → TableIsUnspelled t → ⊥
   pub memories : List RawLimits
-  pub memories_are : AreRecords (plain_view p) plan Memories (λ m. Some (memory_limits m)) memories
+  pub memories_are : AreRecords (parts_view p) own Memories (λ m. Some (memory_limits m)) memories
   pub memories_stand : All LimitsStand memories
   pub tags : List ℕ
-  pub tags_are : AreRecords (plain_view p) plan Tags (tag_index names) tags
+  pub tags_are : AreRecords (parts_view p) own Tags (tag_index names) tags
   pub globals : List entries.Global
-  pub globals_are : AreRecords (plain_view p) plan Globals (named_global names) (map global_of globals)
+  pub globals_are : AreRecords (parts_view p) own Globals (named_global names) (map global_of globals)
   pub globals_stand : All GlobalStands globals
-  pub globals_spelled : (i : ℕ) (g : Global) → (plain_view p).globals i ≡ Some g → GlobalIsUnspelled g → ⊥
+  pub globals_spelled : (i : ℕ) (g : Global) → (parts_view p).globals i ≡ Some g → GlobalIsUnspelled g → ⊥
   pub exports : List entries.Export
-  pub exports_are : map Some exports ≡ map (export_with_index names) (plain_view p).exports
+  pub exports_are : map Some exports ≡ map (export_with_index names) (parts_view p).exports
   pub texts : All (λ e. IsUtf8 e.name) exports
 
 -- the text of each body
@@ -78,18 +95,19 @@ texts_in p names features (i ∷ is) [] a = elim a [ ]
 abbrev pub text_of : {p : Parts} {features : Features} → Records p features → Text
 text_of {p} {features} r = record empty_text {
   types = r.types;
+  imports = r.imports;
   functions = r.functions;
   tables = r.tables;
   memories = r.memories;
   tags = r.tags;
   globals = r.globals;
   exports = r.exports;
-  bodies = texts_in p r.names features (r.plan Functions) r.bodies r.bodies_are;
+  bodies = texts_in p r.names features (r.own Functions) r.bodies r.bodies_are;
 }
 
 -- a module of these sections
-abbrev pub sections_with : List Group → List ℕ → List entries.Table → List RawLimits → List ℕ → List entries.Global → List entries.Export → List wire.Body → wire.Module
-sections_with types functions tables memories tags globals exports bodies = record wire.no_sections { types = types; functions = functions; tables = tables; memories = memories; tags = tags; globals = globals; exports = exports; bodies = bodies }
+abbrev pub sections_with : List Group → List entries.Import → List ℕ → List entries.Table → List RawLimits → List ℕ → List entries.Global → List entries.Export → List wire.Body → wire.Module
+sections_with types imports functions tables memories tags globals exports bodies = record wire.no_sections { types = types; imports = imports; functions = functions; tables = tables; memories = memories; tags = tags; globals = globals; exports = exports; bodies = bodies }
 
 -- the bytes are those of the text, which fits
 pub record Spells (p : Parts) (features : Features) (bytes : List ℕ) : Type 0 where

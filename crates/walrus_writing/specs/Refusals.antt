@@ -11,11 +11,12 @@ use Rattle.walrus_functions.specs.EmittedBody.{Source, CantBeWritten, HasTooMany
 use Rattle.walrus_groups.specs.Indexed.{HasExact}
 use Rattle.walrus_entities.specs.Globals.{GlobalValue, globals}
 use Rattle.walrus_entities.specs.Tables.{TableValue, tables}
-use Rattle.walrus_contents.specs.View.{global_of, table_of}
+use Rattle.walrus_contents.specs.View.{global_of, parts_view, table_of}
 use Rattle.walrus_writing.specs.Globals.{GlobalIsUnspelled}
-use Rattle.walrus_writing.specs.SoFar.{plain_view}
+use Rattle.walrus_writing.specs.Imported.{ImportIsExact}
 use Rattle.walrus_writing.specs.Tables.{TableIsUnspelled}
 use Rattle.walrus_contents.specs.declared.parts.Parts.{Parts}
+use Rattle.walrus_model.specs.Abstract.{Import}
 use Rattle.walrus_model.specs.Plan.{IsPlan, Plan}
 use Rattle.walrus_writing.specs.Parts.{function_seen, source}
 use Rattle.walrus_writing.specs.Records.{DoesNotFit}
@@ -24,7 +25,7 @@ use Rattle.walrus_parts.specs.declared.error.Error.TheVariants.{Memory, NotWrita
 
 -- a function has such a body, under some indices
 abbrev pub HasBody : Parts → Features → (Source → Type 0) → Type 0
-HasBody p features P = (names : Lookup) × ((number : ℕ) × ((local : LocalFunction) × (((plain_view p).functions number ≡ Some (function_seen p local)) × P (source p names features local))))
+HasBody p features P = (names : Lookup) × ((number : ℕ) × ((local : LocalFunction) × (((parts_view p).functions number ≡ Some (function_seen p local)) × P (source p names features local))))
 
 -- a space of the plan has too many items
 abbrev pub HasTooMany : Plan → Type 0
@@ -32,14 +33,15 @@ HasTooMany plan = (space : Space) × (2 ^ 32 ≤ length (plan space))
 
 -- so has one of a plan of the module
 abbrev pub HasTooManyItems : Parts → Type 0
-HasTooManyItems p = (plan : Plan) × (IsPlan (plain_view p) plan × HasTooMany plan)
+HasTooManyItems p = (plan : Plan) × (IsPlan (parts_view p) plan × HasTooMany plan)
 
 -- a count or a size passes 32 bits: the items of a space, the locals of a function, or what is written
 abbrev pub PassesLimits : Parts → Features → Type 0
 PassesLimits p features = HasTooManyItems p ⊎ (HasBody p features HasTooManyLocals ⊎ DoesNotFit p features)
 
--- what no bytes spell: a body, an exact heap type in a type, a table, or a global
+-- what no bytes spell: a body, an exact heap type in a type, the type of an imported item, a table, or a global
 pub data HasUnspellable (p : Parts) (features : Features) : Type 0 where
+  AnImport : (i : ℕ) (x : Import) → (parts_view p).imports i ≡ Some x → ImportIsExact (parts_view p) x → HasUnspellable p features
   ABody : HasBody p features CantBeWritten → HasUnspellable p features
   AType : HasExact (items (type_slots p.types.now)) → HasUnspellable p features
   ATable : (t : TableValue) → Contains (items (tables p.tables.now)) t → TableIsUnspelled (table_of t) → HasUnspellable p features

@@ -8,18 +8,16 @@ ghost use Rattle.walrus_entities.specs.Globals.{globals};
 ghost use Rattle.walrus_entities.specs.Memories.{memories};
 ghost use Rattle.walrus_entities.specs.Tables.{tables};
 ghost use Rattle.walrus_entities.specs.Tags.{tags};
-ghost use Rattle.walrus_items.specs.Functions.{functions};
 ghost use Rattle.walrus_items.specs.Imports.{imported, imports};
 ghost use Rattle.walrus_model.specs.Imported.{number_in};
 ghost use Rattle.walrus_parts.specs.Errors.{out_of_memory};
-ghost use Rattle.walrus_writing.specs.Brought.{OrdersFunctions, own_places, places_brought};
+ghost use Rattle.walrus_writing.specs.Brought.{own_places, places_brought};
 
-use crate::plan::functions_by_size;
 use crate::twice::{global_import, tag_import};
 use std::alloc::Global;
 use walrus_entities::{ModuleGlobals, ModuleMemories, ModuleTables, ModuleTags};
 use walrus_ir::{FunctionId, GlobalId, MemoryId, TableId, TagId};
-use walrus_items::{ImportKind, ModuleFunctions, ModuleImports};
+use walrus_items::{ImportKind, ModuleImports};
 use walrus_parts::Result;
 
 // The function that is imported, if it is one.
@@ -147,20 +145,20 @@ pub fn imported_tags(alloc: Global, all: &ModuleImports) -> Result<Vec<TagId>>
     Ok(ids)
 }
 
-/// The functions: what imports bring, by rising import, and then those with a body, the larger ones first, and of two as large the one of
-/// the smaller id. Want of memory is the only refusal.
+/// The functions: what imports bring, by rising import, and then the module's own, in their order. Want of memory is the only refusal.
 pub fn functions_by_import(
     alloc: Global,
     all_imports: &ModuleImports,
-    all: &ModuleFunctions,
+    own: &[FunctionId],
 ) -> Result<Vec<FunctionId>>
-    ensures value { IfOk result (λ ids.
-        OrdersFunctions (imports all_imports.now) (functions all.now) (map place ids.items)) }
+    ensures value { IfOk result (λ ids. map place ids.items
+        ≡ places_brought Functions (items (imports all_imports.now)) ++ map place own.now) }
     ensures fails { IsOkUnless result out_of_memory }
 {
     let mut ids = imported_functions(alloc, all_imports)?;
-    let mut own = functions_by_size(alloc, all)?;
-    ids.append(&mut own)?;
+    for id in own {
+        ids.push(*id)?;
+    }
     Ok(ids)
 }
 

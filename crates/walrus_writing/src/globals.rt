@@ -1,5 +1,5 @@
 //! The globals that a module defines, as records ("Binary Format > Modules > Global Section").
-ghost use Rattle.std.specs.Prelude.{◌≡◌, true, None, Some, IsSome, IfOk, IfErr, All, map};
+ghost use Rattle.std.specs.Prelude.{◌≡◌, None, Some, IsSome, IfOk, IfErr, All, map};
 ghost use Rattle.wasm_entries.specs.Record.{global_entry};
 ghost use Rattle.wasm_entries.specs.Spelling.{ExpressionStands, GlobalStands};
 ghost use Rattle.walrus_base.specs.Arena.{items};
@@ -8,9 +8,10 @@ ghost use Rattle.walrus_constants.specs.Named.{named_global};
 ghost use Rattle.walrus_contents.specs.View.{global_of};
 ghost use Rattle.walrus_entities.specs.Globals.{globals, global_import, global_init, global_value};
 ghost use Rattle.walrus_model.specs.Sections as said;
+ghost use Rattle.walrus_writing.specs.Brought.{own_of};
 ghost use Rattle.walrus_writing.specs.Globals.{IndexesGlobal, IndexesInitialiser, IsSpelledGlobal, RefusesGlobals};
-ghost use Rattle.walrus_writing.specs.Local.{globals_own};
 
+use crate::twice::global_import;
 use std::alloc::Global;
 use walrus_code::index_value;
 use walrus_constants::raw_const;
@@ -62,7 +63,7 @@ pub fn raw_global(
     })
 }
 
-/// The records of the globals, each of which the module defines, by rising id.
+/// The records of the globals that the module defines, by rising id.
 ///
 /// # Errors
 ///
@@ -72,19 +73,23 @@ pub fn raw_globals(
     all: &ModuleGlobals,
     indices: &IdsToIndices,
 ) -> Result<Vec<RawGlobal>, Error>
-    requires own { globals_own (items (globals all.now)) ≡ true }
     requires indexed { All (λ o. IsSome o)
-        (map (λ g. named_global (index_of indices.now) (global_of g)) (items (globals all.now))) }
+        (map (λ g. named_global (index_of indices.now) (global_of g))
+        (own_of (λ x. x.imported_by) (items (globals all.now)))) }
     ensures value { IfOk result (λ raw. map (λ g. Some (said.global_of (global_entry g))) raw.items
-        ≡ map (λ g. named_global (index_of indices.now) (global_of g)) (items (globals all.now))) }
+        ≡ map (λ g. named_global (index_of indices.now) (global_of g))
+        (own_of (λ x. x.imported_by) (items (globals all.now)))) }
     ensures stand { IfOk result (λ raw. All (λ g. GlobalStands (global_entry g)) raw.items) }
-    ensures spelled { IfOk result (λ _. All IsSpelledGlobal (items (globals all.now))) }
+    ensures spelled { IfOk result (λ _. All IsSpelledGlobal
+        (own_of (λ x. x.imported_by) (items (globals all.now)))) }
     ensures fails { IfErr result (RefusesGlobals (items (globals all.now))) }
 {
-    let mut raw = Vec::with_capacity(alloc, all.len())?;
+    let mut raw = Vec::new(alloc);
     for global in all.iter() {
-        let one = raw_global(alloc, global, indices)?;
-        raw.push(one)?;
+        if global_import(&global.kind).is_none() {
+            let one = raw_global(alloc, global, indices)?;
+            raw.push(one)?;
+        }
     }
     Ok(raw)
 }

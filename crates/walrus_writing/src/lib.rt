@@ -2,12 +2,11 @@
 #![tactic(auto)]
 
 mod bodies;
+mod brought;
 mod by_import;
 mod globals;
 mod imported;
-mod law;
 mod matched;
-mod others;
 mod plan;
 mod reads;
 mod records;

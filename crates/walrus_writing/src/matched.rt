@@ -14,16 +14,16 @@ use walrus_contents::Parts;
 use walrus_ir::ImportId;
 use walrus_items::ImportKind;
 
-// Whether these import the same.
-fn is_same(kind: ImportKind, other: ImportKind) -> bool
+/// Whether these import the same.
+pub fn is_same(kind: ImportKind, other: ImportKind) -> bool
     ensures same { result ≡ true → imported kind ≡ imported other }
     ensures not { result ≡ false → imported kind ≡ imported other → ⊥ }
 {
     kind == other
 }
 
-// Whether this import is there and names the item.
-fn is_named_by(parts: Parts<'_>, import: ImportId, kind: ImportKind) -> bool
+/// Whether this import is there and names the item.
+pub fn is_named_by(parts: Parts<'_>, import: ImportId, kind: ImportKind) -> bool
     ensures named { result ≡ true → IsNamedBy (parts_view parts.entry) (imported kind) (place «import») }
     ensures not { result ≡ false
         → IsNamedBy (parts_view parts.entry) (imported kind) (place «import») → ⊥ }

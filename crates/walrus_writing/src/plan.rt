@@ -1,5 +1,5 @@
 //! The order in which items are written, and their indices ("Structure > Modules > Indices").
-ghost use Rattle.std.specs.Prelude.{◌≡◌, ◌<◌, ◌^◌, ℕ, map, length, IfOk, IfErr, IsOkUnless, None, nat_eq, option_map, true};
+ghost use Rattle.std.specs.Prelude.{◌≡◌, ◌<◌, ◌^◌, ◌++◌, ℕ, map, length, IfOk, IfErr, IsOkUnless, None, nat_eq, option_map};
 ghost use Rattle.walrus_base.specs.Arena.{entries, items};
 ghost use Rattle.std.specs.List.{IsDistinct};
 ghost use Rattle.walrus_base.specs.Id.{place};
@@ -7,45 +7,53 @@ ghost use Rattle.walrus_types.specs.ModuleTypes.{type_slots};
 ghost use Rattle.walrus_code.specs.Indices.{index_of, given};
 ghost use Rattle.walrus_types.specs.Operators.{Space, Types, Functions, Tables, Memories, Tags, Globals};
 ghost use Rattle.walrus_items.specs.Functions.{functions};
+ghost use Rattle.walrus_items.specs.Imports.{imports};
+ghost use Rattle.walrus_contents.specs.View.{parts_view};
 ghost use Rattle.walrus_entities.specs.Globals.{globals, global_import};
 ghost use Rattle.walrus_entities.specs.Memories.{memories};
 ghost use Rattle.walrus_entities.specs.Tables.{tables};
-ghost use Rattle.walrus_entities.specs.Tags.{tags, tag_import};
+ghost use Rattle.walrus_entities.specs.Tags.{tags};
+ghost use Rattle.walrus_model.specs.Dead.{HasDead};
 ghost use Rattle.walrus_model.specs.Plan.{AreNumbered, IsPlan};
-ghost use Rattle.walrus_writing.specs.SoFar.{DefinesItems, plain_view};
+ghost use Rattle.walrus_model.specs.WellMade.{ImportsMatch};
 ghost use Rattle.walrus_parts.specs.Errors.{out_of_memory};
-ghost use Rattle.walrus_writing.specs.Local.{all_local, is_local, is_own, tables_own, memories_own, tags_own, globals_own};
+ghost use Rattle.walrus_writing.specs.Brought.{own_places, places_brought};
+ghost use Rattle.walrus_writing.specs.Local.{is_own};
 ghost use Rattle.walrus_writing.specs.Numbered.{NumbersSpace};
 ghost use Rattle.walrus_writing.specs.Places.{places};
 ghost use Rattle.walrus_writing.specs.Refusals.{RefusesCount, RefusesCounts};
 ghost use Rattle.walrus_writing.specs.Sizes.{local_sizes, IsOrder};
 
+use crate::by_import::{
+    functions_by_import, globals_by_import, memories_by_import, tables_by_import, tags_by_import,
+};
 use std::alloc::Global;
 use std::cmp::Reverse;
 use walrus_contents::Parts;
-use walrus_entities::{
-    GlobalKind, ModuleGlobals, ModuleMemories, ModuleTables, ModuleTags, TagKind,
-};
+use walrus_entities::GlobalKind;
 use walrus_ir::{
-    FunctionId, GlobalId, IdsToIndices, ImportId, MemoryId, ModuleTypes, TableId, TagId, TypeId,
+    FunctionId, GlobalId, IdsToIndices, MemoryId, ModuleTypes, TableId, TagId, TypeId,
 };
-use walrus_items::{FunctionKind, ModuleFunctions};
+use walrus_items::ModuleFunctions;
 use walrus_parts::{Error, Result};
 
-/// For each index space the ids of the items in the order in which they are written, so that each one's place in it is its index.
+/// For each index space the ids of the items in the order in which they are written, so that each one's place in it is its index: what
+/// imports bring, by rising import, and then what the module defines.
 #[derive(Drop)]
 pub struct Plan {
     /// The types, by rising id.
     pub types: Vec<TypeId>,
-    /// The functions: those with a body, the larger ones first, and of two as large the one of the smaller id.
+    /// The functions that the module defines: the larger ones first, and of two as large the one of the smaller id.
+    pub own_functions: Vec<FunctionId>,
+    /// The functions: those that imports bring, and then the module's own.
     pub functions: Vec<FunctionId>,
-    /// The tables, by rising id.
+    /// The tables, the module's own by rising id.
     pub tables: Vec<TableId>,
-    /// The memories, by rising id.
+    /// The memories, the module's own by rising id.
     pub memories: Vec<MemoryId>,
-    /// The tags, by rising id.
+    /// The tags, the module's own by rising id.
     pub tags: Vec<TagId>,
-    /// The globals, by rising id.
+    /// The globals, the module's own by rising id.
     pub globals: Vec<GlobalId>,
 }
 
@@ -54,28 +62,38 @@ impl Plan {
     pub fn new(alloc: Global, parts: Parts<'_>) -> Result<Plan>
         ensures types { IfOk result (λ plan. map place plan.types.items
             ≡ map (λ e. e.0) (entries (type_slots parts.entry.types.now))) }
-        ensures functions { IfOk result (λ plan. IsOrder (functions parts.entry.funcs.now)
-            (map place plan.functions.items)) }
+        ensures own { IfOk result (λ plan. IsOrder (functions parts.entry.funcs.now)
+            (map place plan.own_functions.items)) }
+        ensures functions { IfOk result (λ plan. map place plan.functions.items
+            ≡ places_brought Functions (items (imports parts.entry.imports.now))
+            ++ map place plan.own_functions.items) }
         ensures tables { IfOk result (λ plan. map place plan.tables.items
-            ≡ map (λ e. e.0) (entries (tables parts.entry.tables.now))) }
+            ≡ places_brought Tables (items (imports parts.entry.imports.now))
+            ++ own_places (λ x. x.imported_by) (entries (tables parts.entry.tables.now))) }
         ensures memories { IfOk result (λ plan. map place plan.memories.items
-            ≡ map (λ e. e.0) (entries (memories parts.entry.memories.now))) }
+            ≡ places_brought Memories (items (imports parts.entry.imports.now))
+            ++ own_places (λ x. x.imported_by) (entries (memories parts.entry.memories.now))) }
         ensures tags { IfOk result (λ plan. map place plan.tags.items
-            ≡ map (λ e. e.0) (entries (tags parts.entry.tags.now))) }
+            ≡ places_brought Tags (items (imports parts.entry.imports.now))
+            ++ own_places (λ x. x.imported_by) (entries (tags parts.entry.tags.now))) }
         ensures globals { IfOk result (λ plan. map place plan.globals.items
-            ≡ map (λ e. e.0) (entries (globals parts.entry.globals.now))) }
-        ensures plan { IfOk result (λ plan. all_local (items (functions parts.entry.funcs.now)) ≡ true
-            → DefinesItems (plain_view parts.entry)
-            → IsPlan (plain_view parts.entry) (places plan)) }
+            ≡ places_brought Globals (items (imports parts.entry.imports.now))
+            ++ own_places (λ x. x.imported_by) (entries (globals parts.entry.globals.now))) }
+        ensures plan { IfOk result (λ plan. (HasDead (parts_view parts.entry) → ⊥)
+            → ImportsMatch (parts_view parts.entry)
+            → IsPlan (parts_view parts.entry) (places plan)) }
         ensures fails { IsOkUnless result out_of_memory }
     {
+        let own_functions = functions_by_size(alloc, parts.funcs)?;
+        let functions = functions_by_import(alloc, parts.imports, own_functions.as_slice())?;
         Ok(Plan {
             types: types_in_order(alloc, parts.types)?,
-            functions: functions_by_size(alloc, parts.funcs)?,
-            tables: tables_in_order(alloc, parts.tables)?,
-            memories: memories_in_order(alloc, parts.memories)?,
-            tags: tags_in_order(alloc, parts.tags)?,
-            globals: globals_in_order(alloc, parts.globals)?,
+            own_functions,
+            functions,
+            tables: tables_by_import(alloc, parts.imports, parts.tables)?,
+            memories: memories_by_import(alloc, parts.imports, parts.memories)?,
+            tags: tags_by_import(alloc, parts.imports, parts.tags)?,
+            globals: globals_by_import(alloc, parts.imports, parts.globals)?,
         })
     }
 
@@ -98,81 +116,7 @@ impl Plan {
     }
 }
 
-fn is_kind_local(kind: &FunctionKind) -> bool
-    ensures { result ≡ is_local kind.now }
-{
-    match kind {
-        FunctionKind::Local(_) => true,
-        FunctionKind::Import(_) | FunctionKind::Uninitialized(_) => false,
-    }
-}
-
-/// Whether each function has a body.
-pub fn are_all_local(funcs: &ModuleFunctions) -> bool
-    ensures { result ≡ all_local (items (functions funcs.now)) }
-{
-    for function in funcs.iter() {
-        if !is_kind_local(&function.kind) {
-            return false;
-        }
-    }
-    true
-}
-
-fn is_own(brought_by: Option<ImportId>) -> bool
-    ensures { result ≡ is_own (option_map place brought_by) }
-{
-    match brought_by {
-        None => true,
-        Some(_) => false,
-    }
-}
-
-/// Whether the module defines each memory.
-pub fn are_memories_own(all: &ModuleMemories) -> bool
-    ensures { result ≡ memories_own (items (memories all.now)) }
-{
-    for memory in all.iter() {
-        if !is_own(memory.import) {
-            return false;
-        }
-    }
-    true
-}
-
-/// Whether the module defines each table.
-pub fn are_tables_own(all: &ModuleTables) -> bool
-    ensures { result ≡ tables_own (items (tables all.now)) }
-{
-    for table in all.iter() {
-        if !is_own(table.import) {
-            return false;
-        }
-    }
-    true
-}
-
-fn is_kind_own(kind: &TagKind) -> bool
-    ensures { result ≡ is_own (tag_import kind.now) }
-{
-    match kind {
-        TagKind::Local => true,
-        TagKind::Import(_) => false,
-    }
-}
-
-/// Whether the module defines each tag.
-pub fn are_tags_own(all: &ModuleTags) -> bool
-    ensures { result ≡ tags_own (items (tags all.now)) }
-{
-    for tag in all.iter() {
-        if !is_kind_own(&tag.kind) {
-            return false;
-        }
-    }
-    true
-}
-
+/// Whether the module defines a global of this kind.
 pub fn is_global_own(kind: &GlobalKind) -> bool
     ensures { result ≡ is_own (global_import kind.now) }
 {
@@ -180,18 +124,6 @@ pub fn is_global_own(kind: &GlobalKind) -> bool
         GlobalKind::Local(_) => true,
         GlobalKind::Import(_) => false,
     }
-}
-
-/// Whether the module defines each global.
-pub fn are_globals_own(all: &ModuleGlobals) -> bool
-    ensures { result ≡ globals_own (items (globals all.now)) }
-{
-    for global in all.iter() {
-        if !is_global_own(&global.kind) {
-            return false;
-        }
-    }
-    true
 }
 
 // The functions with a body, with their sizes.
@@ -241,58 +173,6 @@ fn types_in_order(alloc: Global, types: &ModuleTypes) -> Result<Vec<TypeId>>
     let mut ids = Vec::with_capacity(alloc, types.len())?;
     for ty in types.iter() {
         ids.push(ty.id())?;
-    }
-    Ok(ids)
-}
-
-// The tables, by rising id.
-fn tables_in_order(alloc: Global, all: &ModuleTables) -> Result<Vec<TableId>>
-    ensures value { IfOk result (λ ids. map place ids.items
-        ≡ map (λ e. e.0) (entries (tables all.now))) }
-    ensures fails { IsOkUnless result out_of_memory }
-{
-    let mut ids = Vec::with_capacity(alloc, all.len())?;
-    for (id, _) in all.iter_entries() {
-        ids.push(id)?;
-    }
-    Ok(ids)
-}
-
-// The memories, by rising id.
-fn memories_in_order(alloc: Global, all: &ModuleMemories) -> Result<Vec<MemoryId>>
-    ensures value { IfOk result (λ ids. map place ids.items
-        ≡ map (λ e. e.0) (entries (memories all.now))) }
-    ensures fails { IsOkUnless result out_of_memory }
-{
-    let mut ids = Vec::with_capacity(alloc, all.len())?;
-    for (id, _) in all.iter_entries() {
-        ids.push(id)?;
-    }
-    Ok(ids)
-}
-
-// The tags, by rising id.
-fn tags_in_order(alloc: Global, all: &ModuleTags) -> Result<Vec<TagId>>
-    ensures value { IfOk result (λ ids. map place ids.items
-        ≡ map (λ e. e.0) (entries (tags all.now))) }
-    ensures fails { IsOkUnless result out_of_memory }
-{
-    let mut ids = Vec::with_capacity(alloc, all.len())?;
-    for (id, _) in all.iter_entries() {
-        ids.push(id)?;
-    }
-    Ok(ids)
-}
-
-// The globals, by rising id.
-fn globals_in_order(alloc: Global, all: &ModuleGlobals) -> Result<Vec<GlobalId>>
-    ensures value { IfOk result (λ ids. map place ids.items
-        ≡ map (λ e. e.0) (entries (globals all.now))) }
-    ensures fails { IsOkUnless result out_of_memory }
-{
-    let mut ids = Vec::with_capacity(alloc, all.len())?;
-    for (id, _) in all.iter_entries() {
-        ids.push(id)?;
     }
     Ok(ids)
 }

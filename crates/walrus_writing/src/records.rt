@@ -10,17 +10,18 @@ ghost use Rattle.walrus_items.specs.Exports.{exports, export_value, exported};
 ghost use Rattle.walrus_items.specs.Functions.{functions};
 ghost use Rattle.walrus_entities.specs.Memories.{memories, memory_value};
 ghost use Rattle.walrus_entities.specs.Tags.{tags, tag_value};
-ghost use Rattle.walrus_contents.specs.View.{export_of, memory_of, tag_of};
-ghost use Rattle.walrus_writing.specs.SoFar.{plain_view};
+ghost use Rattle.walrus_contents.specs.View.{export_of, memory_of, parts_view, tag_of};
 ghost use Rattle.walrus_parts.specs.Errors.{out_of_memory};
-ghost use Rattle.wasm_entries.specs.Record.{group, export_entry, global_entry, table_entry};
+ghost use Rattle.wasm_entries.specs.Record.{group, export_entry, global_entry, import_entry, table_entry};
 ghost use Rattle.wasm_entries.specs.TypeSpelling.{IsBelow, LimitsStand};
 ghost use Rattle.wasm_frames.specs.Record.{body_record, sections};
+ghost use Rattle.walrus_writing.specs.Brought.{own_of};
 ghost use Rattle.walrus_writing.specs.Parts.{index_at, kind_in, type_index, memory_limits, tag_index, export_with_index, unplaced};
 ghost use Rattle.walrus_writing.specs.Records.{sections_with};
 ghost use Rattle.walrus_writing.specs.Refusals.{RefusesTypes};
 
 use crate::bodies::local_of;
+use crate::twice::tag_import;
 use std::alloc::Global;
 use walrus_contents::Parts;
 use walrus_entities::{Memory, ModuleMemories, ModuleTags, Tag};
@@ -28,7 +29,9 @@ use walrus_groups::index_types;
 use walrus_ir::{FunctionId, IdsToIndices, ModuleTypes};
 use walrus_items::{Export, ExportItem, ModuleExports, ModuleFunctions};
 use walrus_parts::{Error, Result};
-use wasm_wire::{Raw, RawBody, RawExport, RawExportKind, RawGlobal, RawGroup, RawLimits, RawTable};
+use wasm_wire::{
+    Raw, RawBody, RawExport, RawExportKind, RawGlobal, RawGroup, RawImport, RawLimits, RawTable,
+};
 
 // The groups of the type section.
 pub fn raw_types(
@@ -56,7 +59,7 @@ fn index_of_type(funcs: &ModuleFunctions, id: FunctionId, indices: &IdsToIndices
 
 fn raw_function(parts: Parts<'_>, id: FunctionId, indices: &IdsToIndices) -> Option<u32>
     ensures { result ≡ option_and_then (type_index (index_of indices.now))
-        ((plain_view parts.entry).functions (place id)) }
+        ((parts_view parts.entry).functions (place id)) }
 {
     index_of_type(parts.funcs, id, indices)
 }
@@ -69,10 +72,10 @@ pub fn raw_functions(
     indices: &IdsToIndices,
 ) -> Result<Vec<u32>>
     requires indexed { All (λ id. IsSome (option_and_then (type_index (index_of indices.now))
-        ((plain_view parts).functions (place id)))) order.now }
+        ((parts_view parts).functions (place id)))) order.now }
     ensures value { IfOk result (λ raw. map Some raw.items
         ≡ map (λ id. option_and_then (type_index (index_of indices.now))
-        ((plain_view parts.entry).functions (place id))) order.now) }
+        ((parts_view parts.entry).functions (place id))) order.now) }
     ensures fails { IsOkUnless result out_of_memory }
 {
     let mut raw = Vec::with_capacity(alloc, order.len())?;
@@ -128,16 +131,19 @@ fn raw_memory(memory: &Memory) -> RawLimits
     }
 }
 
-// The limits of each memory, by rising id.
+// The limits of each memory that the module defines, by rising id.
 pub fn raw_memories(alloc: Global, all: &ModuleMemories) -> Result<Vec<RawLimits>>
     ensures value { IfOk result (λ raw. map Some raw.items
-        ≡ map (λ m. Some (memory_limits (memory_of m))) (items (memories all.now))) }
+        ≡ map (λ m. Some (memory_limits (memory_of m)))
+        (own_of (λ x. x.imported_by) (items (memories all.now)))) }
     ensures stand { IfOk result (λ raw. All LimitsStand raw.items) }
     ensures fails { IsOkUnless result out_of_memory }
 {
-    let mut raw = Vec::with_capacity(alloc, all.len())?;
+    let mut raw = Vec::new(alloc);
     for memory in all.iter() {
-        raw.push(raw_memory(memory))?;
+        if memory.import.is_none() {
+            raw.push(raw_memory(memory))?;
+        }
     }
     Ok(raw)
 }
@@ -148,20 +154,23 @@ fn raw_tag(tag: &Tag, indices: &IdsToIndices) -> Option<u32>
     indices.get_type_index(tag.ty)
 }
 
-// The index of each tag's type, by rising id.
+// The index of the type of each tag that the module defines, by rising id.
 pub fn raw_tags(alloc: Global, all: &ModuleTags, indices: &IdsToIndices) -> Result<Vec<u32>>
     requires indexed { All (λ o. IsSome o) (map (λ t. tag_index (index_of indices.now) (tag_of t))
-        (items (tags all.now))) }
+        (own_of (λ x. x.imported_by) (items (tags all.now)))) }
     ensures value { IfOk result (λ raw. map Some raw.items
-        ≡ map (λ t. tag_index (index_of indices.now) (tag_of t)) (items (tags all.now))) }
+        ≡ map (λ t. tag_index (index_of indices.now) (tag_of t))
+        (own_of (λ x. x.imported_by) (items (tags all.now)))) }
     ensures fails { IsOkUnless result out_of_memory }
 {
-    let mut raw = Vec::with_capacity(alloc, all.len())?;
+    let mut raw = Vec::new(alloc);
     for tag in all.iter() {
-        let Some(index) = raw_tag(tag, indices) else {
-            return Err(Error::NoIndex);
-        };
-        raw.push(index)?;
+        if tag_import(&tag.kind).is_none() {
+            let Some(index) = raw_tag(tag, indices) else {
+                return Err(Error::NoIndex);
+            };
+            raw.push(index)?;
+        }
     }
     Ok(raw)
 }
@@ -247,6 +256,7 @@ pub fn raw_bodies<'a>(alloc: Global, bodies: &'a [Vec<u8>]) -> Result<Vec<RawBod
 pub fn raw_module<'a>(
     alloc: Global,
     types: Vec<RawGroup>,
+    imports: Vec<RawImport<'a>>,
     functions: Vec<u32>,
     tables: Vec<RawTable>,
     memories: Vec<RawLimits>,
@@ -255,14 +265,15 @@ pub fn raw_module<'a>(
     exports: Vec<RawExport<'a>>,
     bodies: Vec<RawBody<'a>>,
 ) -> Raw<'a>
-    ensures { sections result ≡ sections_with (map group types.items) functions.items
+    ensures { sections result ≡ sections_with (map group types.items)
+        (map import_entry imports.entry.items) functions.items
         (map table_entry tables.items) memories.items tags.items (map global_entry globals.items)
         (map export_entry exports.entry.items) (map body_record bodies.entry.items) }
 {
     Raw {
         order: Vec::new(alloc),
         types,
-        imports: Vec::new(alloc),
+        imports,
         functions,
         tables,
         memories,

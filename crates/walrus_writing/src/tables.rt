@@ -1,5 +1,5 @@
 //! The tables that a module defines, as records ("Binary Format > Modules > Table Section").
-ghost use Rattle.std.specs.Prelude.{◌≡◌, true, None, Some, IsSome, IfOk, IfErr, All, map, option_map};
+ghost use Rattle.std.specs.Prelude.{◌≡◌, None, Some, IsSome, IfOk, IfErr, All, map, option_map};
 ghost use Rattle.wasm_entries.specs.Record.{table_entry};
 ghost use Rattle.wasm_entries.specs.Spelling.{InitialStands, TableStands};
 ghost use Rattle.wasm_forms.specs.Types.{HeapStands};
@@ -12,8 +12,8 @@ ghost use Rattle.walrus_constants.specs.Named.{named_ref, named_table};
 ghost use Rattle.walrus_contents.specs.View.{table_of};
 ghost use Rattle.walrus_entities.specs.Tables.{tables, table_value};
 ghost use Rattle.walrus_model.specs.Sections as said;
+ghost use Rattle.walrus_writing.specs.Brought.{own_of};
 ghost use Rattle.walrus_writing.specs.Tables.{IndexesInitial, IndexesTable, IsSpelledTable, RefusesTables};
-ghost use Rattle.walrus_writing.specs.Local.{tables_own};
 
 use crate::records::{limit_of, pages_of};
 use std::alloc::Global;
@@ -76,7 +76,7 @@ pub fn raw_table(alloc: Global, table: &Table, indices: &IdsToIndices) -> Result
     })
 }
 
-/// The records of the tables, each of which the module defines, by rising id.
+/// The records of the tables that the module defines, by rising id.
 ///
 /// # Errors
 ///
@@ -86,19 +86,23 @@ pub fn raw_tables(
     all: &ModuleTables,
     indices: &IdsToIndices,
 ) -> Result<Vec<RawTable>, Error>
-    requires own { tables_own (items (tables all.now)) ≡ true }
     requires indexed { All (λ o. IsSome o)
-        (map (λ t. named_table (index_of indices.now) (table_of t)) (items (tables all.now))) }
+        (map (λ t. named_table (index_of indices.now) (table_of t))
+        (own_of (λ x. x.imported_by) (items (tables all.now)))) }
     ensures value { IfOk result (λ raw. map (λ t. Some (said.table_of (table_entry t))) raw.items
-        ≡ map (λ t. named_table (index_of indices.now) (table_of t)) (items (tables all.now))) }
+        ≡ map (λ t. named_table (index_of indices.now) (table_of t))
+        (own_of (λ x. x.imported_by) (items (tables all.now)))) }
     ensures stand { IfOk result (λ raw. All (λ t. TableStands (table_entry t)) raw.items) }
-    ensures spelled { IfOk result (λ _. All IsSpelledTable (items (tables all.now))) }
+    ensures spelled { IfOk result (λ _. All IsSpelledTable
+        (own_of (λ x. x.imported_by) (items (tables all.now)))) }
     ensures fails { IfErr result (RefusesTables (items (tables all.now))) }
 {
-    let mut raw = Vec::with_capacity(alloc, all.len())?;
+    let mut raw = Vec::new(alloc);
     for table in all.iter() {
-        let one = raw_table(alloc, table, indices)?;
-        raw.push(one)?;
+        if table.import.is_none() {
+            let one = raw_table(alloc, table, indices)?;
+            raw.push(one)?;
+        }
     }
     Ok(raw)
 }

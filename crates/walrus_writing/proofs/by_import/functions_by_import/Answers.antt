@@ -1,11 +1,14 @@
-use Rattle.std.proofs.Common.{◌∙◌, ◌++◌, ap, map}
-use Rattle.std.proofs.lemmas.List.{map-append}
+use Rattle.std.proofs.Common.{ap, refl, map, ◌++◌}
 use Rattle.walrus_base.specs.Id.{place}
+use Rattle.walrus_writing.proofs.Rows.{left_turn, left_end}
 use Rattle.walrus_writing.proofs.by_import.functions_by_import.Goals as goal
 
+pub loop-id-init : goal.loop-id-init
+loop-id-init c = ap (λ l. l ++ map place c.args.own.now) c.in_ok-ids.ensures.value
+
+pub loop-id-preserved : goal.loop-id-preserved
+loop-id-preserved c =
+    rw (c.in_ok-push.ensures.items) (left_turn place place c.loop-id.ids.items _ c.args.own.now c.loop-id.id-index _ _ c.loop-id-test.true c.loop-id.invariant refl)
+
 pub returns-clause-value : goal.returns-clause-value
-returns-clause-value c = record {
-  own = map place c.in_ok-own.own.items;
-  sorted = c.in_ok-own.ensures.value;
-  is = ap (map place) c.in_ok-append.ensures.items ∙ map-append place c.in_ok-ids.ids.items c.in_ok-own.own.items ∙ ap (λ l. l ++ map place c.in_ok-own.own.items) c.in_ok-ids.ensures.value;
-}
+returns-clause-value c = left_end place _ c.args.own.now c.loop-id.id-index _ c.loop-id-test.false c.loop-id.invariant
