@@ -16,4 +16,4 @@ few_refusals may c u (Err NotWritable) made h = (well_no_cause c u made).spelled
 few_refusals may c u (Err Another) made h = h
 
 pub ok_or_too_large : OkOrTooLarge
-ok_or_too_large may c u bytes made ok large = ok.fits (large.2 (record { imports = made.imports; customs = made.customs }))
+ok_or_too_large may c u bytes made ok large = ok.fits (large.2 made.customs)

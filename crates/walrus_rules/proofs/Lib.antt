@@ -21,6 +21,7 @@ pub mod SameVal
 pub mod Places
 pub mod UsedLocals
 pub mod Shaped
+pub mod Matches
 pub mod Numbers
 pub mod Things
 pub mod NamesOnce

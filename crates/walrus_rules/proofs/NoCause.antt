@@ -11,7 +11,6 @@ use Rattle.walrus_rules.specs.Refused.{HasTwoIndices, LocalImported, ImportedTwi
 use Rattle.walrus_rules.specs.WellMade.{IsWellMade}
 use Rattle.walrus_rules.specs.WellMadeLaws.{WellNoCause}
 use Rattle.walrus_rules.proofs.BroughtLives.{Lives, lives_no_dead}
-use Rattle.walrus_model.proofs.PipelineCollected.{some_of}
 
 import_there : {X : Type 0} (get : X → Option ℕ) (o : Option X) (i : ℕ) → import_in get o ≡ Some i → IsSome o
 import_there get (Some x) i e = refl
@@ -35,15 +34,13 @@ well_lives c u made = record {
   made = λ i f at un. made.writable.initialised i f at un;
 }
 
-two : (u : Abstract) → ImportsMatch u → HasTwoIndices u → ⊥
+-- where imports and items name each other, none has two indices
+pub two : (u : Abstract) → ImportsMatch u → HasTwoIndices u → ⊥
 two u match (LocalImported i x at live kind none) = let no : Some i ≡ None = sym (match.imports i x at) ∙ none in cc
 two u match (ImportedTwice i j x y at too live apart same) = apart (same_Some i j (sym (match.imports i x at) ∙ ap (import_of u) same ∙ match.imports j y too))
 
 lacks : (c : Config) (u : Abstract) → IsWellMade c u → LacksIndex u → ⊥
-lacks c u made (NotBrought y needed has none) =
-    let at = some_of (import_of u y) has in
-    let found = made.imports.items y at.0 at.1 in
-    none at.0 found.0 found.1 found.2
+lacks c u made (NotBrought y i says none) = let found = made.imports.items y i says in none found.0 found.1 found.2
 lacks c u made (LocalGlobalRead i g reads live not) = not (made.rules.indices.tables i g reads.0 reads.1.0 reads.1.1.0 reads.1.1.1 reads.1.1.2)
 lacks c u made (LaterGlobalRead i g reads live not) = not (made.rules.indices.globals i g reads.0 reads.1.0 reads.1.1.0 reads.1.1.1 reads.1.1.2)
 lacks c u made (LaterSupertype t s x at named live not) = not (made.rules.types.supertypes t s x at named)

@@ -44,7 +44,7 @@ pub brings_itself : (c : Config) (m v w : Abstract) → ParsedAs c m v → Colle
 brings_itself c m v w parsed collected nothing = record { module_parsed = v; module_kept = w; parsed = parsed; collected = collected; leaves = leaves_itself w nothing }
 
 pub well_sayable : (c : Config) (w : Abstract) → IsWellMade c w → IsSayable w
-well_sayable c w made = record { imports = made.imports; customs = made.customs }
+well_sayable c w made = made.customs
 
 -- the output that is the one spelling of what the steps bring a module to, all of whose sections fit
 pub comes_to : (c : Config) (bytes output : List ℕ) (m u n : Abstract) → Reads c bytes m → Holds m → BringsTo c m u → IsWrittenAs c u n → (spelled : IsSpelledAs n output) → All SectionFits (sections_of spelled.text) → ComesTo c bytes output

@@ -1,8 +1,8 @@
 -- Why a module in memory can't be written: each refusal with its causes, and what is said where there is none.
-use Rattle.std.specs.Prelude.{ℕ, Bool, true, false, List, [], length, flat_map, Some, None, IsSome, All, AllPairs, Contains, ◌++◌, ◌≡◌, ◌≢◌, ◌<◌, ◌≤◌, ◌^◌, ◌⊎◌, ⊤, codes, Result, Ok, Err}
+use Rattle.std.specs.Prelude.{ℕ, Bool, true, false, List, [], length, flat_map, Some, None, All, AllPairs, Contains, ◌++◌, ◌≡◌, ◌≢◌, ◌<◌, ◌≤◌, ◌^◌, ◌⊎◌, ⊤, codes, Result, Ok, Err}
 use Rattle.walrus_base.specs.Types.{HeapType, IsNotExact, comp_names}
 use Rattle.walrus_types.specs.Operators.{Space, Types, Functions, Globals, Item, Op, names_of}
-use Rattle.walrus_model.specs.Abstract.{Abstract, TypeDef, Limits, Table, Global, Body, LocalFunction, Uninitialised, Function, Import, Export, Custom}
+use Rattle.walrus_model.specs.Abstract.{Abstract, TypeDef, Limits, Table, Global, Body, LocalFunction, Uninitialised, Function, Import, Custom}
 use Rattle.walrus_model.specs.Abstract as model
 use Rattle.walrus_model.specs.Config.{Config}
 use Rattle.walrus_model.specs.Customs.{is_debug_name}
@@ -10,9 +10,9 @@ pub use Rattle.walrus_model.specs.Dead.{HasDead, DeadName, DeadLocal, DeadExport
 use Rattle.walrus_model.specs.Live.{Has, IsLive}
 use Rattle.walrus_model.specs.Names.{body_of}
 use Rattle.walrus_model.specs.Order.{ByImport}
-use Rattle.walrus_model.specs.Refers.{IsUsed, written_in}
+use Rattle.walrus_model.specs.Refers.{IsUsed}
 use Rattle.walrus_model.specs.Rules.{IsEarlier, IsImportedGlobal}
-use Rattle.walrus_model.specs.WellMade.{ImportsMatch, import_of, heaps_in, consts_in, op_heaps}
+use Rattle.walrus_model.specs.WellMade.{import_of, heaps_in, consts_in, op_heaps}
 use Rattle.walrus_rules.specs.Pinned.{IsWrittenAs}
 use Rattle.walrus_rules.specs.Spelling.{HasUnfit}
 use Rattle.walrus_rules.specs.WellMade.{IsWellFormed}
@@ -28,11 +28,7 @@ pub data HasTwoIndices (v : Abstract) : Type 0 where
   LocalImported : (i : ℕ) (x : Import) → v.imports i ≡ Some x → IsLive v x.item → HasKind v x.item → import_of v x.item ≡ None → HasTwoIndices v
   ImportedTwice : (i j : ℕ) (x y : Import) → v.imports i ≡ Some x → v.imports j ≡ Some y → IsLive v x.item → i ≢ j → x.item ≡ y.item → HasTwoIndices v
 
--- ---- NoIndex: an item has none where one is needed
-
--- something written, an export or the start function names it
-abbrev pub IsNeeded : Abstract → Item → Type 0
-IsNeeded v y = ((x : Item) × Contains (written_in v x) y) ⊎ (((e : Export) × (Contains v.exports e × (e.item ≡ y))) ⊎ ((f : ℕ) × ((v.start ≡ Some f) × (y ≡ (Functions, f)))))
+-- ---- NoIndex: an item has none. All that is live is written, so each item needs one.
 
 -- an initialiser reads the global
 abbrev pub TableReads : Abstract → (table global : ℕ) → Type 0
@@ -42,7 +38,7 @@ abbrev pub GlobalReads : Abstract → (reader global : ℕ) → Type 0
 GlobalReads v i g = (x : Global) × ((ops : List Op) × ((v.globals i ≡ Some x) × (x.initialiser ≡ Some ops) × Contains (names_of ops) (Globals, g)))
 
 pub data LacksIndex (v : Abstract) : Type 0 where
-  NotBrought : (y : Item) → IsNeeded v y → IsSome (import_of v y) → ((i : ℕ) (x : Import) → v.imports i ≡ Some x → x.item ≡ y → ⊥) → LacksIndex v
+  NotBrought : (y : Item) (i : ℕ) → import_of v y ≡ Some i → ((x : Import) → v.imports i ≡ Some x → x.item ≡ y → ⊥) → LacksIndex v
   LocalGlobalRead : (i g : ℕ) → TableReads v i g → IsLive v (Globals, g) → (IsImportedGlobal v g → ⊥) → LacksIndex v
   LaterGlobalRead : (i g : ℕ) → GlobalReads v i g → IsLive v (Globals, g) → (IsImportedGlobal v g ⊎ ByImport v Globals g i → ⊥) → LacksIndex v
   LaterSupertype : (t u : ℕ) (x : TypeDef) → v.types t ≡ Some x → Contains x.sub.supertypes u → IsLive v (Types, u) → (ByImport v Types u t → ⊥) → LacksIndex v
@@ -58,11 +54,10 @@ pub data HasUnspelled (c : Config) (v : Abstract) : Type 0 where
 
 -- ---- TooLarge: a count, a size or a limit past 32 bits
 
--- There is a module of indices that says the same: imports and items name each other, and no section of its own is called as the name and
--- the producers section are. Of other modules it isn't said how large they come out.
-pub record IsSayable (v : Abstract) : Type 0 where
-  pub imports : ImportsMatch v
-  pub customs : (s : Custom) → Contains v.customs s → (s.name ≢ codes "name") × (s.name ≢ codes "producers")
+-- There is a module of indices that says the same: no section of its own is called as the name and the producers section are. Of other
+-- modules it isn't said how large they come out.
+abbrev pub IsSayable : Abstract → Type 0
+IsSayable v = (s : Custom) → Contains v.customs s → (s.name ≢ codes "name") × (s.name ≢ codes "producers")
 
 -- All that is live, numbered as emission does, has a section that doesn't fit. Where something that isn't there is named, its number is open,
 -- and so is how large what names it comes out.

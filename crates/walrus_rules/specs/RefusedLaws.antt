@@ -3,6 +3,7 @@ use Rattle.std.specs.Prelude.{ℕ, Bool, List, All, Result, Ok, Err, ⊤}
 use Rattle.wasm_writer.specs.Spelling.{SectionFits}
 use Rattle.walrus_model.specs.Abstract.{Abstract, Custom}
 use Rattle.walrus_model.specs.Config.{Config}
+use Rattle.walrus_model.specs.WellMade.{ImportsMatch}
 use Rattle.walrus_rules.specs.Pinned.{IsWrittenAs}
 use Rattle.walrus_rules.specs.Refused.{HasDead, HasUnspelled, PassesLimits, HasNoCause, Refusal, Memory, DeadItem, NoIndex, TwoIndices, TooLarge, NotWritable, Caller, Another, RefusesToWrite}
 use Rattle.walrus_rules.specs.Spelling.{IsSpelling}
@@ -28,6 +29,10 @@ FewRefusals = (may_refuse : Custom → Bool) (c : Config) (u : Abstract) (result
 abbrev pub OkOrTooLarge : Type 0
 OkOrTooLarge = (may_refuse : Custom → Bool) (c : Config) (u : Abstract) (bytes : List ℕ) → IsWellMade c u
     → RefusesToWrite may_refuse c u (Ok bytes) → RefusesToWrite {X = List ℕ} may_refuse c u (Err TooLarge) → ⊥
+
+-- in what may be written imports and items name each other
+abbrev pub OkMatches : Type 0
+OkMatches = (c : Config) (v : Abstract) → HasNoCause c v → ImportsMatch v
 
 -- of what may be written all sections fit
 abbrev pub OkFits : Type 0

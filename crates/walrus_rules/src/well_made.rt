@@ -1,6 +1,6 @@
 //! Well-made modules in memory, and why they are refused.
 
-ghost use Rattle.walrus_rules.specs.RefusedLaws.{FewRefusals, FitsNoLimit, OkFits, OkOrTooLarge};
+ghost use Rattle.walrus_rules.specs.RefusedLaws.{FewRefusals, FitsNoLimit, OkFits, OkMatches, OkOrTooLarge};
 ghost use Rattle.walrus_rules.specs.WellMadeLaws.{BroughtWell, CollectedWell, LeavesWell, ParsedWell, WellNoCause};
 
 /// Gc and the declared segment keep a module well made, behind the segment nothing is undeclared, and what is well made
@@ -18,11 +18,12 @@ pub fn parsed_well()
 {}
 
 /// To write a well-made module is refused only for lack of memory, for its size, or where one of its own sections
-/// refuses; and what may be written isn't too large. Of any module that may be written all sections
-/// fit, and where they do, no limit is passed.
+/// refuses; and what may be written isn't too large. In any module that may be written imports and items
+/// name each other, all its sections fit, and where they do, no limit is passed.
 pub fn few_refusals()
     ensures refused { FewRefusals }
     ensures size { OkOrTooLarge }
+    ensures matches { OkMatches }
     ensures fits { OkFits }
     ensures no_limit { FitsNoLimit }
 {}

@@ -143,6 +143,39 @@ fn import_is_deleted(alloc: Global) -> Result<Module, Error> {
     Ok(module)
 }
 
+// An imported function that nothing needs, and whose import is deleted.
+fn unneeded_import_is_deleted(alloc: Global) -> Result<Module, Error> {
+    let mut module = empty_module(alloc)?;
+    let ty = module.types.add(&[], &[])?;
+    let (_, import) = module.add_import_func("m", "f", ty)?;
+    if module.imports.contains(import) {
+        module.imports.delete(import);
+    }
+    Ok(module)
+}
+
+// Whether a module isn't written before gc, as an item has no index, and is the empty one behind it.
+fn is_written_behind_gc(alloc: Global, edited: Result<Module, Error>) -> bool {
+    let Ok(mut module) = edited else {
+        return false;
+    };
+    let before = matches!(module.emit_wasm(alloc), Err(Error::NoIndex));
+    let kept = gc::run(alloc, &mut module).is_ok();
+    before && kept && matches!(module.emit_wasm(alloc), Ok(bytes) if bytes.as_slice() == b"\0asm\x01\0\0\0")
+}
+
+// An imported function that is exported, and which another import names than the one that it says.
+fn another_import_names_it(alloc: Global) -> Result<Module, Error> {
+    let mut module = import_is_deleted(alloc)?;
+    let Some(function) = module.funcs.iter().next().map(|function| function.id()) else {
+        return Err(Error::NotFound);
+    };
+    module
+        .imports
+        .add("m", "f", ImportKind::Function(function))?;
+    Ok(module)
+}
+
 // A function of the module.
 fn add_function(alloc: Global, module: &mut Module) -> Result<FunctionId, Error> {
     let mut builder = FunctionBuilder::new(alloc, &mut module.types, &[], &[])?;
@@ -176,6 +209,14 @@ fn imports_and_items_that_do_not_match(rt: HostRuntime) -> Result<(), Fail> {
     demand(
         lacks_an_index(alloc, import_is_deleted(alloc)),
         "a function whose import is deleted",
+    )?;
+    demand(
+        is_written_behind_gc(alloc, unneeded_import_is_deleted(alloc)),
+        "a function that nothing needs, and whose import is deleted",
+    )?;
+    demand(
+        lacks_an_index(alloc, another_import_names_it(alloc)),
+        "a function that another import names",
     )?;
     demand(
         matches!(local_function_is_imported(alloc), Ok(true)),

@@ -9,18 +9,15 @@ use Rattle.walrus_entities.specs.Tables.{tables}
 use Rattle.walrus_entities.specs.declared.globals.Global as entities
 use Rattle.walrus_entities.specs.declared.globals.GlobalKind.{GlobalKind}
 use Rattle.walrus_entities.specs.declared.globals.GlobalKind.TheVariants as kind
-use Rattle.walrus_contents.specs.There.{ImportsAreLive}
 use Rattle.walrus_contents.specs.View.{global_of, origin_of, own_initialiser, parts_view, table_of}
 use Rattle.walrus_contents.specs.declared.parts.Parts.{Parts}
 use Rattle.walrus_contents.proofs.Lookups.{mapped_some}
 use Rattle.walrus_model.specs.Abstract.{Abstract, Global, Table}
-use Rattle.walrus_model.specs.Dead.{HasDead}
 use Rattle.walrus_model.specs.Spaces.{Thing, look}
 use Rattle.walrus_model.specs.WellMade.{ImportsMatch, import_in, import_of, origin_import}
 use Rattle.walrus_model.proofs.Standing.{some_inj}
 use Rattle.walrus_writing.specs.Imported.{AreBare, IsBare}
-use Rattle.walrus_writing.proofs.Entries.{none_some}
-use Rattle.walrus_writing.proofs.Sole as sole
+use Rattle.walrus_writing.proofs.Somes.{none_some}
 
 -- ---- the kind of a global says both
 
@@ -81,7 +78,3 @@ module _ (p : Parts) where
     says = matched.imports;
     bare = λ i x thing at is. brought_bare x.item.0 x.item.1 i thing (matched.imports i x at) is;
   }
-
-  -- what each import names is there
-  pub imports_live : (HasDead V → ⊥) → ImportsAreLive V
-  imports_live none_dead = sole.imports_live V none_dead

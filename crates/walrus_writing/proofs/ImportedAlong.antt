@@ -31,6 +31,7 @@ use Rattle.walrus_model.proofs.Spaces.{live_from}
 use Rattle.walrus_model.proofs.Standing.{got_where, some_inj, zip_right}
 use Rattle.walrus_writing.specs.Brought.{places_brought}
 use Rattle.walrus_writing.specs.Imported.{AreBare, IsBare, IsEntryAt, as_brought, named_function, named_thing}
+use Rattle.walrus_writing.proofs.Somes.{none_some}
 
 -- ---- the places of what imports bring
 
@@ -55,9 +56,6 @@ kind_origin Uninitialised p e = absurd (cc)
 pub origin_is : (o : Origin) (p : ℕ) → origin_import o ≡ Some p → o ≡ ImportedBy p
 origin_is (ImportedBy q) p e = ap (λ (n : ℕ). ImportedBy n) (some_inj q p e)
 origin_is Defined p e = absurd (cc)
-
-none_some : (p : ℕ) → None ≡ Some p → ⊥
-none_some p e = cc
 
 -- a thing says that this import brings it
 abbrev SaysImport : (s : Space) → Thing s → ℕ → Type 0

@@ -24,7 +24,7 @@ use Rattle.walrus_contents.specs.View.{import_of, parts_view}
 use Rattle.walrus_contents.specs.declared.parts.Parts.{Parts}
 use Rattle.walrus_contents.proofs.NamedLemmas.{some_none}
 use Rattle.walrus_writing.specs.Imported.{ImportsIndexed, as_brought, named_thing}
-use Rattle.walrus_writing.proofs.Sole.{live_stable}
+use Rattle.walrus_rules.proofs.Matches.{live_stable}
 
 then_there : {A B : Type 0} (o : Option A) (f : A → B) → IsSome o → IsSome (o >>= λ y. Some (f y))
 then_there (Some y) f h = refl

@@ -5,7 +5,6 @@ pub mod CarriedOver
 pub mod Counted
 pub mod Emitted
 pub mod Emitting
-pub mod Entries
 pub mod FunctionsWritten
 pub mod GlobalRecords
 pub mod ImportedAlong
@@ -19,7 +18,6 @@ pub mod ItemsLeft
 pub mod Matching
 pub mod NamedAll
 pub mod NamedTypes
-pub mod NeededNames
 pub mod NoCauseAll
 pub mod NoCauseBodies
 pub mod NoCauseHeaps
@@ -43,7 +41,6 @@ pub mod Renamed
 pub mod Rows
 pub mod SameBodies
 pub mod Sections
-pub mod Sole
 pub mod Somes
 pub mod Spelled
 pub mod SpellsLemmas

@@ -15,10 +15,11 @@ use Rattle.walrus_entities.specs.Tags.{TagValue}
 use Rattle.walrus_model.specs.Abstract.{Abstract, Import}
 use Rattle.walrus_model.specs.WellMade.{ImportsMatch, import_in, import_of, kind_import, origin_import}
 use Rattle.walrus_model.proofs.Standing.{some_inj}
+use Rattle.walrus_rules.specs.Refused.{LacksIndex, NotBrought}
 use Rattle.walrus_contents.specs.View as seen
 use Rattle.walrus_contents.proofs.Walked.{Walked, next_there, walk_goes, walk_ends}
-use Rattle.walrus_writing.specs.Matched.{AreAnswered, AreImportsAnswered, AreItemsAnswered, IsAnswered, IsNamedBy}
-use Rattle.walrus_writing.specs.Twice.{function_import}
+use Rattle.walrus_writing.specs.Matched.{AreAnswered, AreImportsAnswered, AreItemsAnswered, IsAnswered, IsNamedBy, IsUnanswered}
+use Rattle.walrus_writing.specs.Origins.{function_import}
 
 seen_at : {A B : Type 0} (f : A → B) (o : Option A) (x : B) → option_map f o ≡ Some x → IsSome o
 seen_at f (Some e) x at = refl
@@ -79,8 +80,8 @@ module _ {A B : Type 0} (f : A → B) (get : B → Option ℕ) (v : Abstract) (s
     pub answers_go : IsAnswered v o (space, e.0) → Walked (AnsweredAt v space) slots after
     answers_go answered = walk_goes (AnsweredAt v space) slots left after e steps (subst (λ (x : Option ℕ). IsAnswered v x (space, e.0)) (sym says_here) answered) w
 
-    pub not_answered : (IsAnswered v o (space, e.0) → ⊥) → AreAnswered v space → ⊥
-    not_answered not all = not (subst (λ (x : Option ℕ). IsAnswered v x (space, e.0)) says_here (all e.0))
+    pub lacks_here : IsUnanswered v o (space, e.0) → LacksIndex v
+    lacks_here un = NotBrought (space, e.0) un.0 (says_here ∙ un.1.0) (λ y at same. un.1.1 (y, at, same))
 
   pub all_answered : (left : List (ℕ × A)) → left ≡ [] → Walked (AnsweredAt v space) slots left → AreAnswered v space
   all_answered left none w i j says = walk_ends (AnsweredAt v space) slots left none w i (has_item f get (item_at slots i) j (sym (same i) ∙ says)) j says
@@ -103,9 +104,6 @@ module _ (v : Abstract) (slots : List (Option ImportValue)) (same : (i : ℕ) �
         (λ x at. subst (λ (y : Import). import_of v y.item ≡ Some e.0) (some_inj (seen.import_of e.1) x (sym here ∙ at)) is)
         w
 
-    pub import_unanswered : (import_of v (imported e.1.kind) ≡ Some e.0 → ⊥) → AreImportsAnswered v → ⊥
-    import_unanswered not all = not (all e.0 (seen.import_of e.1) import_there)
-
   pub imports_all : (left : List (ℕ × ImportValue)) → left ≡ [] → Walked (MatchedAt v slots) slots left → AreImportsAnswered v
   imports_all left none w i x at =
       let at_here : option_map seen.import_of (item_at slots i) ≡ Some x = sym (same i) ∙ at in
@@ -125,12 +123,3 @@ item_answered v all (DataSegments, n) i is = absurd (cc)
 
 pub match_both : (v : Abstract) → AreImportsAnswered v → AreItemsAnswered v → ImportsMatch v
 match_both v imports items = record { items = item_answered v items; imports = imports }
-
-pub match_items : (v : Abstract) → ImportsMatch v → AreItemsAnswered v
-match_items v all = record {
-  functions = λ n i is. all.items (Functions, n) i is;
-  tables = λ n i is. all.items (Tables, n) i is;
-  memories = λ n i is. all.items (Memories, n) i is;
-  tags = λ n i is. all.items (Tags, n) i is;
-  globals = λ n i is. all.items (Globals, n) i is;
-}

@@ -1,4 +1,4 @@
--- Where all is there, each item has one index, and the records of the sections are, there is no cause to refuse but the size.
+-- Where all is there, and the records of the sections are, there is no cause to refuse but the size.
 use Rattle.walrus_types.specs.ModuleTypes.{type_slots}
 use Rattle.walrus_groups.specs.Indexed.{AreInOrder}
 use Rattle.walrus_contents.specs.View.{parts_view}
@@ -7,11 +7,12 @@ use Rattle.walrus_model.specs.Abstract.{Abstract}
 use Rattle.walrus_model.specs.Config.{Config}
 use Rattle.walrus_model.specs.Dead.{HasDead}
 use Rattle.walrus_rules.specs.Features.{features_of}
-use Rattle.walrus_rules.specs.Refused.{HasTwoIndices, HasUnspelled, ExactType, ExactConstant, EmptyConstant, IllFormed, PassesLimits, HasNoCause}
+use Rattle.walrus_rules.specs.Refused.{HasUnspelled, ExactType, ExactConstant, EmptyConstant, IllFormed, PassesLimits, HasNoCause}
+use Rattle.walrus_rules.proofs.NoCause.{two}
 use Rattle.walrus_writing.specs.Records.{Records}
 use Rattle.walrus_writing.proofs.NoCauseBodies.{formed}
 use Rattle.walrus_writing.proofs.NoCauseHeaps.{not_exact, const_not_exact, not_empty}
-use Rattle.walrus_writing.proofs.RefusesLarge.{lacks_none, matched_brought}
+use Rattle.walrus_writing.proofs.RefusesLarge.{lacks_none}
 
 module _ (c : Config) (p : Parts) (r : Records p (features_of c)) where
   abbrev V : Abstract
@@ -23,11 +24,11 @@ module _ (c : Config) (p : Parts) (r : Records p (features_of c)) where
   none_unspelled (EmptyConstant x at) = not_empty c p r x at
   none_unspelled (IllFormed lives i f b at is not) = not (formed c p r i f b at is)
 
-  pub no_cause : (HasDead V → ⊥) → (HasTwoIndices V → ⊥) → AreInOrder (type_slots p.types.now) → (PassesLimits c V → ⊥) → HasNoCause c V
-  no_cause lives one ordered small = record {
+  pub no_cause : (HasDead V → ⊥) → AreInOrder (type_slots p.types.now) → (PassesLimits c V → ⊥) → HasNoCause c V
+  no_cause lives ordered small = record {
     all_there = lives;
-    one_index = one;
-    indices = lacks_none c p (matched_brought c p r.matched) r.reads ordered;
+    one_index = two V r.matched;
+    indices = lacks_none c p r.matched r.reads ordered;
     spelled = none_unspelled;
     fits = small;
   }

@@ -15,6 +15,7 @@ use Rattle.walrus_model.proofs.ImportedZip.{one_code}
 use Rattle.walrus_model.proofs.Lists.{Contains-append_1, Contains-append_2, Contains-head, Contains-tail, Contains-uncons, Contains-none}
 use Rattle.walrus_model.proofs.OrderOfPlaces.{pairs_both, pairs_chosen}
 use Rattle.walrus_model.proofs.Standing.{self_eq, some_inj}
+use Rattle.walrus_writing.proofs.Somes.{none_some}
 
 -- ---- what is chosen of a list
 
@@ -68,9 +69,6 @@ in_space x s same = rw same refl
 
 out_of_space : (x : Item) (s : Space) → nat_eq (code x.0) (code s) ≡ false → number_in s x ≡ None
 out_of_space x s other = rw other refl
-
-none_some : (i : ℕ) → None ≡ Some i → ⊥
-none_some i e = cc
 
 number_is : (s : Space) (x : Item) (i : ℕ) (b : Bool) → nat_eq (code x.0) (code s) ≡ b → number_in s x ≡ Some i → x ≡ (s, i)
 number_is s x i true same e =

@@ -19,6 +19,7 @@ use Rattle.walrus_model.proofs.Lists.{Contains-head, Contains-tail}
 use Rattle.walrus_writing.specs.Brought.{import_numbers}
 use Rattle.walrus_writing.specs.Records.{Records}
 use Rattle.walrus_writing.proofs.OrderByImport.{brought_in, in_either}
+use Rattle.walrus_writing.proofs.Somes.{none_some}
 
 -- ---- lists
 
@@ -66,9 +67,6 @@ no_body k (descs.Table t) g e = absurd (cc)
 no_body k (descs.Memory t) g e = absurd (cc)
 no_body k (descs.Global t) g e = absurd (cc)
 no_body k (descs.Tag t) g e = absurd (cc)
-
-none_some : {A : Type 0} (x : A) → None ≡ Some x → ⊥
-none_some x e = cc
 
 -- a function with a body stands behind those without one
 pub body_behind : (xs ys : List Function) → AllByRecursion HasNoBody xs → (f : ℕ) (b : Body) → body_of_function (slice_get (xs ++ ys) f) ≡ Some b → (j : ℕ) × (slice_get ys j ≡ slice_get (xs ++ ys) f)

@@ -25,17 +25,13 @@ use Rattle.walrus_rules.specs.Refused.{GlobalReads, LacksIndex, LaterGlobalRead,
 use Rattle.walrus_writing.specs.Local.{is_own}
 use Rattle.walrus_parts.specs.declared.error.Error.{Error}
 use Rattle.walrus_writing.specs.Reads.{AreReadEarlier, AreReadImported, ReadsInOrder, may_name, may_name_all, may_read}
-use Rattle.walrus_writing.proofs.Entries.{both_pass, none_some}
+use Rattle.walrus_writing.proofs.Somes.{both_pass, neither, none_some}
 
 -- ---- tests
 
 either : (a b : Bool) → (a || b) ≡ true → (a ≡ true) ⊎ (b ≡ true)
 either true b e = inl refl
 either false b e = inr e
-
-neither : (a b : Bool) → (a || b) ≡ false → (a ≡ false) × (b ≡ false)
-neither true b e = absurd (none_there (sym e))
-neither false b e = (refl, e)
 
 -- ---- lists
 

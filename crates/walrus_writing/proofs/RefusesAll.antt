@@ -13,17 +13,18 @@ use Rattle.walrus_model.specs.Dead.{HasDead}
 use Rattle.walrus_model.specs.Declared.{NothingUndeclared}
 use Rattle.walrus_model.specs.WellMade.{ImportsMatch}
 use Rattle.walrus_parts.specs.declared.error.Error.{Error}
-use Rattle.walrus_parts.specs.declared.error.Error.TheVariants.{Memory, DeadItem, NotWritable, TooLarge, TwoIndices}
+use Rattle.walrus_parts.specs.declared.error.Error.TheVariants.{Memory, DeadItem, NoIndex, NotWritable, TooLarge, TwoIndices}
 use Rattle.walrus_rules.specs.Features.{features_of}
-use Rattle.walrus_rules.specs.Refused.{HasTwoIndices, PassesLimits}
+use Rattle.walrus_rules.specs.Refused.{PassesLimits}
 use Rattle.walrus_rules.specs.SoFar.{HasUndeclared, RefusesSoFar}
+use Rattle.walrus_rules.proofs.NoCause.{two}
 use Rattle.walrus_writing.specs.Emitted.{IsPlain, told}
-use Rattle.walrus_writing.specs.Needed.{AreNeededBrought}
+use Rattle.walrus_writing.specs.Matched.{RefusesUnmatched}
 use Rattle.walrus_writing.specs.Reads.{ReadsInOrder}
 use Rattle.walrus_writing.specs.Records.{DoesNotFit, Spells}
 use Rattle.walrus_writing.specs.Refusals.{RefusesItems}
 use Rattle.walrus_writing.proofs.NoCauseAll.{no_cause}
-use Rattle.walrus_writing.proofs.RefusesLarge.{lacks_none, matched_brought, passes}
+use Rattle.walrus_writing.proofs.RefusesLarge.{lacks_none, passes}
 use Rattle.walrus_writing.proofs.RefusesUnspelled.{unspelled}
 
 -- ---- before items are written
@@ -34,19 +35,15 @@ dead_refused X c v (Memory m) r = tt
 dead_refused X c v DeadItem r = r
 dead_refused X c v _ r = absurd r
 
--- imports and items don't name each other, and each item that is needed is brought all the same: no module of indices says the same
-pub unmatched_refused : (X : Type 0) (c : Config) (p : Parts) → (HasTwoIndices (parts_view p) → ⊥) → AreNeededBrought (parts_view p) → ReadsInOrder (parts_view p) → AreInOrder (type_slots p.types.now)
-    → (ImportsMatch (parts_view p) → ⊥) → RefusesSoFar {X = X} c (parts_view p) (told {X = X} (Err TooLarge))
-unmatched_refused X c p one brought before ordered unmatched = (one, lacks_none c p brought before ordered, λ sayable. absurd (unmatched sayable.imports))
-
--- what is always refused is emitted as nothing
-pub never_ok : {X : Type 0} (P : X → Type 0) (result : Result X Error) → IfOk result (λ x. ⊥) → IfOk result P
-never_ok P (Ok x) none = absurd none
-never_ok P (Err e) none = tt
+-- imports and items don't name each other
+pub unmatched_refused : (X : Type 0) (c : Config) (v : Abstract) (e : Error) → RefusesUnmatched v e → RefusesSoFar {X = X} c v (told {X = X} (Err e))
+unmatched_refused X c v TwoIndices r = r
+unmatched_refused X c v NoIndex r = r
+unmatched_refused X c v _ r = absurd r
 
 -- ---- items
 
-module _ (c : Config) (p : Parts) (lives : HasDead (parts_view p) → ⊥) (declared : NothingUndeclared (parts_view p)) (one : HasTwoIndices (parts_view p) → ⊥) (matched : ImportsMatch (parts_view p)) (before : ReadsInOrder (parts_view p)) (ordered : AreInOrder (type_slots p.types.now)) where
+module _ (c : Config) (p : Parts) (lives : HasDead (parts_view p) → ⊥) (declared : NothingUndeclared (parts_view p)) (matched : ImportsMatch (parts_view p)) (before : ReadsInOrder (parts_view p)) (ordered : AreInOrder (type_slots p.types.now)) where
   abbrev V : Abstract
   V = parts_view p
 
@@ -61,9 +58,9 @@ module _ (c : Config) (p : Parts) (lives : HasDead (parts_view p) → ⊥) (decl
   undeclared_none (f, undeclared) = declared f undeclared
 
   items_with : {X : Type 0} (view : X → List ℕ) (result : Result X Error) → Refuses view result (features_of c)
-  items_with view (Ok x) sizes spells r = (no_cause c p spells.records lives one ordered (sizes.1 (view x) spells), undeclared_none)
+  items_with view (Ok x) sizes spells r = (no_cause c p spells.records lives ordered (sizes.1 (view x) spells), undeclared_none)
   items_with view (Err NotWritable) sizes spells r = inl (unspelled c p lives r)
-  items_with view (Err TooLarge) sizes spells r = (one, lacks_none c p (matched_brought c p matched) before ordered, λ sayable. passes c p sizes.0 r)
+  items_with view (Err TooLarge) sizes spells r = (two V matched, lacks_none c p matched before ordered, λ sayable. passes c p sizes.0 r)
   items_with view (Err (Memory m)) sizes spells r = tt
   items_with view (Err _) sizes spells r = absurd r
 

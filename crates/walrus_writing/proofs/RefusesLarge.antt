@@ -15,12 +15,10 @@ use Rattle.walrus_contents.specs.declared.parts.Parts.{Parts}
 use Rattle.walrus_model.specs.Abstract.{Abstract}
 use Rattle.walrus_model.specs.Config.{Config}
 use Rattle.walrus_model.specs.Names.{body_of_function}
-use Rattle.walrus_model.specs.WellMade.{ImportsMatch, import_of}
-use Rattle.walrus_model.proofs.Standing.{some_of}
+use Rattle.walrus_model.specs.WellMade.{ImportsMatch}
 use Rattle.walrus_rules.specs.Features.{features_of}
 use Rattle.walrus_rules.specs.Refused.{LacksIndex, NotBrought, LocalGlobalRead, LaterGlobalRead, LaterSupertype, LaterType, PassesLimits, ManyItems, ManyLocals}
 use Rattle.walrus_model.proofs.Indices.{planned_rising}
-use Rattle.walrus_writing.specs.Needed.{AreNeededBrought}
 use Rattle.walrus_writing.specs.Parts.{slots_of}
 use Rattle.walrus_writing.specs.Reads.{ReadsInOrder}
 use Rattle.walrus_writing.specs.Records.{DoesNotFit}
@@ -72,18 +70,11 @@ module _ (c : Config) (p : Parts) where
   passes unfit (inr (inl h)) = many_locals h
   passes unfit (inr (inr h)) = unfit h
 
-  -- ---- where imports bring what is needed, and types and what initialisers read stand in order, nothing lacks an index
+  -- ---- where imports and items name each other, and types and what initialisers read stand in order, nothing lacks an index
 
-  -- so they do where imports and items name each other
-  pub matched_brought : ImportsMatch V → AreNeededBrought V
-  matched_brought matched y needed has =
-      let i = some_of (import_of V y) has in
-      let m = matched.items y i.0 i.1 in
-      (i.0, (m.0, (m.1, m.2)))
-
-  pub lacks_none : AreNeededBrought V → ReadsInOrder V → AreInOrder (type_slots p.types.now) → LacksIndex V → ⊥
-  lacks_none brought before ordered (NotBrought y needed has none) = let b = brought y needed has in none b.0 b.1.0 b.1.1.0 b.1.1.1
-  lacks_none brought before ordered (LocalGlobalRead i g reads live not) = not (before.tables i g reads live)
-  lacks_none brought before ordered (LaterGlobalRead i g reads live not) = not (before.globals i g reads live)
-  lacks_none brought before ordered (LaterSupertype t u x at named live not) = not (ordered.supertypes t u x at named)
-  lacks_none brought before ordered (LaterType t u x at named live not) = not (ordered.others t u x at named)
+  pub lacks_none : ImportsMatch V → ReadsInOrder V → AreInOrder (type_slots p.types.now) → LacksIndex V → ⊥
+  lacks_none matched before ordered (NotBrought y i says none) = let named = matched.items y i says in none named.0 named.1 named.2
+  lacks_none matched before ordered (LocalGlobalRead i g reads live not) = not (before.tables i g reads live)
+  lacks_none matched before ordered (LaterGlobalRead i g reads live not) = not (before.globals i g reads live)
+  lacks_none matched before ordered (LaterSupertype t u x at named live not) = not (ordered.supertypes t u x at named)
+  lacks_none matched before ordered (LaterType t u x at named live not) = not (ordered.others t u x at named)

@@ -28,7 +28,7 @@ use Rattle.walrus_writing.specs.Local.{is_own}
 use Rattle.walrus_writing.specs.Tables.{IsSpelledTable, TableIsUnspelled}
 use Rattle.walrus_writing.specs.Tables as table_causes
 use Rattle.walrus_writing.proofs.Bare.{brought_bare}
-use Rattle.walrus_writing.proofs.Entries.{none_some}
+use Rattle.walrus_writing.proofs.Somes.{none_some}
 
 -- ---- what passes a test is among those that do
 

@@ -20,6 +20,7 @@ use Rattle.walrus_model.proofs.Standing.{none_there, some_inj}
 use Rattle.walrus_constants.specs.Named.{named_initialiser, named_ref, named_table}
 use Rattle.walrus_constants.specs.Written.{IndexesConst, IsUnspelled}
 use Rattle.walrus_constants.proofs.Causes.{not_found}
+use Rattle.walrus_writing.proofs.Somes.{none_some}
 use Rattle.walrus_writing.specs.Tables.{TableIsUnspelled, ExactElement, UnspelledInitialiser, IndexesTable, IndexesInitial}
 
 -- ---- both parts
@@ -68,10 +69,7 @@ module _ (names : Lookup) (t : Table) where
 
   initial_found : (raw : Option (Vec RawConst)) (o : Option (List Op)) → t.initialiser ≡ o → IndexesInitial names o (Ok raw)
       → (named_initialiser names t.initialiser ≡ Some (initial_of raw)) × ((ops : List Op) → t.initialiser ≡ Some ops → IsUnspelled ops → ⊥)
-  initial_found None None is h = (ap (named_initialiser names) is, λ ops at u. none_some_list ops (sym is ∙ at))
-    where
-      none_some_list : (ops : List Op) → None ≡ Some ops → ⊥
-      none_some_list ops e = cc
+  initial_found None None is h = (ap (named_initialiser names) is, λ ops at u. none_some ops (sym is ∙ at))
   initial_found (Some raw) None is h = absurd (cc)
   initial_found None (Some ops) is h = absurd h
   initial_found (Some raw) (Some ops) is h = (

@@ -4,7 +4,6 @@ pub mod Globals
 pub mod Imported
 pub mod Local
 pub mod Matched
-pub mod Needed
 pub mod Numbered
 pub mod Parts
 pub mod Records
@@ -13,4 +12,4 @@ pub mod Sizes
 pub mod Places
 pub mod Reads
 pub mod Tables
-pub mod Twice
+pub mod Origins

@@ -3,14 +3,21 @@ use Rattle.std.specs.Prelude.{ℕ, Option, Some, ◌≡◌}
 use Rattle.walrus_types.specs.Operators.{Space, Functions, Tables, Memories, Tags, Globals, Item}
 use Rattle.walrus_model.specs.Abstract.{Abstract, Import}
 use Rattle.walrus_model.specs.WellMade.{import_of}
+use Rattle.walrus_parts.specs.declared.error.Error.{Error}
+use Rattle.walrus_parts.specs.declared.error.Error.TheVariants.{NoIndex, TwoIndices}
+use Rattle.walrus_rules.specs.Refused.{HasTwoIndices, LacksIndex}
 
 -- the import of this number is there, and names the item
 abbrev pub IsNamedBy : Abstract → Item → ℕ → Type 0
 IsNamedBy v x i = (y : Import) × (v.imports i ≡ Some y) × (y.item ≡ x)
 
--- the import that brings an item, if one is said to, is there and names it
+-- the import that is said to bring an item, if one is, is there and names it
 abbrev pub IsAnswered : Abstract → (brought_by : Option ℕ) → Item → Type 0
 IsAnswered v brought_by x = (i : ℕ) → brought_by ≡ Some i → IsNamedBy v x i
+
+-- the import that is said to bring it isn't there, or names another item
+abbrev pub IsUnanswered : Abstract → (brought_by : Option ℕ) → Item → Type 0
+IsUnanswered v brought_by x = (i : ℕ) × ((brought_by ≡ Some i) × (IsNamedBy v x i → ⊥))
 
 -- so it is with each item of an index space
 abbrev pub AreAnswered : Abstract → Space → Type 0
@@ -27,3 +34,10 @@ pub record AreItemsAnswered (v : Abstract) : Type 0 where
 -- what each import names says to be brought by it
 abbrev pub AreImportsAnswered : Abstract → Type 0
 AreImportsAnswered v = (i : ℕ) (y : Import) → v.imports i ≡ Some y → import_of v y.item ≡ Some i
+
+-- ---- where they don't, each refusal comes with its cause
+
+abbrev pub RefusesUnmatched : Abstract → Error → Type 0
+RefusesUnmatched v TwoIndices = HasTwoIndices v
+RefusesUnmatched v NoIndex = LacksIndex v
+RefusesUnmatched v _ = ⊥

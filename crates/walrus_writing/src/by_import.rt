@@ -13,7 +13,7 @@ ghost use Rattle.walrus_model.specs.Imported.{number_in};
 ghost use Rattle.walrus_parts.specs.Errors.{out_of_memory};
 ghost use Rattle.walrus_writing.specs.Brought.{own_places, places_brought};
 
-use crate::twice::{global_import, tag_import};
+use crate::origins::{global_import, tag_import};
 use std::alloc::Global;
 use walrus_entities::{ModuleGlobals, ModuleMemories, ModuleTables, ModuleTags};
 use walrus_ir::{FunctionId, GlobalId, MemoryId, TableId, TagId};

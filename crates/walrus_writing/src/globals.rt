@@ -11,7 +11,7 @@ ghost use Rattle.walrus_model.specs.Sections as said;
 ghost use Rattle.walrus_writing.specs.Brought.{own_of};
 ghost use Rattle.walrus_writing.specs.Globals.{IndexesGlobal, IndexesInitialiser, IsSpelledGlobal, RefusesGlobals};
 
-use crate::twice::global_import;
+use crate::origins::global_import;
 use std::alloc::Global;
 use walrus_code::index_value;
 use walrus_constants::raw_const;

@@ -2,17 +2,13 @@
 ghost use Rattle.std.specs.Prelude.{◌≡◌, ◌^◌, IfOk, IfErr, map};
 ghost use Rattle.std.specs.List.{AllZip};
 ghost use Rattle.wasm_entries.specs.Record.{import_entry};
-ghost use Rattle.wasm_entries.specs.TypeSpelling.{IsBelow, LimitsStand};
-ghost use Rattle.wasm_forms.specs.Types.{HeapStands};
+ghost use Rattle.wasm_entries.specs.TypeSpelling.{IsBelow};
 ghost use Rattle.walrus_base.specs.Arena.{entries};
 ghost use Rattle.walrus_base.specs.Id.{place};
 ghost use Rattle.walrus_types.specs.Operators.{Functions, Globals, Memories, Tables, Tags, Types};
-ghost use Rattle.walrus_types.specs.Value.{ref_type};
 ghost use Rattle.walrus_types.specs.declared.locals.ModuleLocals.{ModuleLocals};
 ghost use Rattle.walrus_code.specs.Indices.{index_of};
 ghost use Rattle.walrus_code.specs.Names.{Lookup};
-ghost use Rattle.walrus_code.specs.Results.{IndexesIn, NeedsNoMemory, heap_is_exact};
-ghost use Rattle.walrus_constants.specs.Named.{named_ref};
 ghost use Rattle.walrus_contents.specs.There.{ImportsAreLive};
 ghost use Rattle.walrus_contents.specs.View as seen;
 ghost use Rattle.walrus_contents.specs.View.{global_of, import_of, memory_of, parts_view, table_of, tag_of};
@@ -25,18 +21,18 @@ ghost use Rattle.walrus_items.specs.Imports.{import_value, imported, imports};
 ghost use Rattle.walrus_model.specs.Live.{IsLive};
 ghost use Rattle.walrus_model.specs.Sections as said;
 ghost use Rattle.walrus_writing.specs.Imported.{Describes, ImportsIndexed, IndexesDesc, IndexesImport, IndexesItem, IsEntryAt, RefusesImports};
-ghost use Rattle.walrus_writing.specs.Parts.{memory_limits};
 
-use crate::records::{limit_of, pages_of};
+use crate::records::raw_memory;
+use crate::tables::raw_table_type;
 use std::alloc::Global;
 use walrus_code::index_value;
 use walrus_contents::Parts;
 use walrus_entities as entities;
 use walrus_entities::{Memory, Table, Tag};
-use walrus_ir::{IdsToIndices, IrError, RefType, TypeId, ValType};
+use walrus_ir::{IdsToIndices, IrError, TypeId};
 use walrus_items::{Function, Import, ImportKind};
 use walrus_parts::Error;
-use wasm_wire::{RawDesc, RawGlobalType, RawImport, RawLimits, RawRef, RawTableType, RawVal};
+use wasm_wire::{RawDesc, RawGlobalType, RawImport};
 
 // The index of a type is a number of 32 bits.
 fn index_of_type(id: TypeId, indices: &IdsToIndices) -> Option<u32>
@@ -60,64 +56,19 @@ fn function_desc(function: &Function, indices: &IdsToIndices) -> Result<RawDesc,
     Ok(RawDesc::Function(index))
 }
 
-// The type of a table's elements.
-fn raw_reference(ty: RefType, indices: &IdsToIndices) -> Result<RawRef, IrError>
-    ensures indexed { IndexesIn said.ref_of result (heap_is_exact (ref_type ty).heap)
-        (named_ref (index_of indices.now) (ref_type ty)) }
-    ensures spelled { IfOk result (λ raw. HeapStands raw.heap) }
-    ensures memory { NeedsNoMemory result }
-{
-    match index_value(ValType::Ref(ty), indices)? {
-        RawVal::Ref(raw) => Ok(raw),
-        _ => unreachable!(),
-    }
-}
-
 // A table: its limits, and the type of its elements.
 fn table_desc(table: &Table, indices: &IdsToIndices) -> Result<RawDesc, IrError>
     ensures { IndexesDesc (index_of indices.now) Tables (table_of (table_value table.now)) result }
 {
-    let element = raw_reference(table.element_ty, indices)?;
-    let limits = RawLimits {
-        minimum: pages_of(table.initial),
-        maximum: limit_of(table.maximum),
-        shared: false,
-        wide: table.table64,
-        page: None,
-    };
-    Ok(RawDesc::Table(RawTableType { element, limits }))
-}
-
-// The exponent of a page's size is a number of 32 bits.
-fn page_of(exponent: Option<u32>) -> Option<u32>
-    ensures same { result ≡ exponent }
-    ensures stands { IsBelow (2 ^ 32) result }
-{
-    match exponent {
-        Some(number) => Some(number),
-        None => None,
-    }
-}
-
-// The limits of a memory.
-fn limits_of(memory: &Memory) -> RawLimits
-    ensures value { result ≡ memory_limits (memory_of (memory_value memory.now)) }
-    ensures stands { LimitsStand result }
-{
-    RawLimits {
-        minimum: pages_of(memory.initial),
-        maximum: limit_of(memory.maximum),
-        shared: memory.shared,
-        wide: memory.memory64,
-        page: page_of(memory.page_size_log2),
-    }
+    let ty = raw_table_type(table, indices)?;
+    Ok(RawDesc::Table(ty))
 }
 
 // A memory: its limits.
 fn memory_desc(memory: &Memory) -> RawDesc
     ensures { (names : Lookup) → Describes names Memories (memory_of (memory_value memory.now)) result }
 {
-    RawDesc::Memory(limits_of(memory))
+    RawDesc::Memory(raw_memory(memory))
 }
 
 // A global: its type.

@@ -2,16 +2,15 @@
 #![tactic(auto)]
 
 mod bodies;
-mod brought;
 mod by_import;
 mod globals;
 mod imported;
 mod matched;
+mod origins;
 mod plan;
 mod reads;
 mod records;
 mod tables;
-mod twice;
 mod write;
 
 pub use plan::Plan;

@@ -21,7 +21,7 @@ ghost use Rattle.walrus_writing.specs.Records.{sections_with};
 ghost use Rattle.walrus_writing.specs.Refusals.{RefusesTypes};
 
 use crate::bodies::local_of;
-use crate::twice::tag_import;
+use crate::origins::tag_import;
 use std::alloc::Global;
 use walrus_contents::Parts;
 use walrus_entities::{Memory, ModuleMemories, ModuleTags, Tag};
@@ -118,7 +118,8 @@ fn exponent_of(page: Option<u32>) -> Option<u32>
     }
 }
 
-fn raw_memory(memory: &Memory) -> RawLimits
+/// The limits of a memory.
+pub fn raw_memory(memory: &Memory) -> RawLimits
     ensures value { result ≡ memory_limits (memory_of (memory_value memory.now)) }
     ensures stands { LimitsStand result }
 {

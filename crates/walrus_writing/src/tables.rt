@@ -2,12 +2,13 @@
 ghost use Rattle.std.specs.Prelude.{◌≡◌, None, Some, IsSome, IfOk, IfErr, All, map, option_map};
 ghost use Rattle.wasm_entries.specs.Record.{table_entry};
 ghost use Rattle.wasm_entries.specs.Spelling.{InitialStands, TableStands};
+ghost use Rattle.wasm_entries.specs.TypeSpelling.{TableTypeStands};
 ghost use Rattle.wasm_forms.specs.Types.{HeapStands};
 ghost use Rattle.walrus_base.specs.Arena.{items};
 ghost use Rattle.walrus_types.specs.ConstOps.{const_ops};
 ghost use Rattle.walrus_types.specs.Value.{ref_type};
 ghost use Rattle.walrus_code.specs.Indices.{index_of};
-ghost use Rattle.walrus_code.specs.Results.{IndexesIn, heap_is_exact};
+ghost use Rattle.walrus_code.specs.Results.{IndexesIn, NeedsNoMemory, heap_is_exact};
 ghost use Rattle.walrus_constants.specs.Named.{named_ref, named_table};
 ghost use Rattle.walrus_contents.specs.View.{table_of};
 ghost use Rattle.walrus_entities.specs.Tables.{tables, table_value};
@@ -29,11 +30,37 @@ fn raw_element(ty: RefType, indices: &IdsToIndices) -> Result<RawRef, IrError>
     ensures indexed { IndexesIn said.ref_of result (heap_is_exact (ref_type ty).heap)
         (named_ref (index_of indices.now) (ref_type ty)) }
     ensures spelled { IfOk result (λ raw. HeapStands raw.heap) }
+    ensures memory { NeedsNoMemory result }
 {
     match index_value(ValType::Ref(ty), indices)? {
         RawVal::Ref(raw) => Ok(raw),
         _ => unreachable!(),
     }
+}
+
+/// The type of a table: its limits, and the type of its elements.
+///
+/// # Errors
+///
+/// [`IrError::NoIndex`] where a type in that of its elements has no index, and [`IrError::NotWritable`] where no bytes spell it.
+pub fn raw_table_type(table: &Table, indices: &IdsToIndices) -> Result<RawTableType, IrError>
+    ensures limits { IfOk result (λ raw.
+        said.limits_of raw.limits ≡ (table_of (table_value table.now)).ty.limits) }
+    ensures indexed { IndexesIn (λ raw. said.ref_of raw.element) result
+        (heap_is_exact (ref_type table.now.element_ty).heap)
+        (named_ref (index_of indices.now) (ref_type table.now.element_ty)) }
+    ensures spelled { IfOk result (λ raw. TableTypeStands raw) }
+    ensures memory { NeedsNoMemory result }
+{
+    let element = raw_element(table.element_ty, indices)?;
+    let limits = RawLimits {
+        minimum: pages_of(table.initial),
+        maximum: limit_of(table.maximum),
+        shared: false,
+        wide: table.table64,
+        page: None,
+    };
+    Ok(RawTableType { element, limits })
 }
 
 // The initialiser of a table, if it has one.
@@ -61,19 +88,9 @@ pub fn raw_table(alloc: Global, table: &Table, indices: &IdsToIndices) -> Result
     requires own { (table_value table.now).imported_by ≡ None }
     ensures { IndexesTable (index_of indices.now) (table_of (table_value table.now)) result }
 {
-    let element = raw_element(table.element_ty, indices)?;
+    let ty = raw_table_type(table, indices)?;
     let initial = raw_initial(alloc, &table.init, indices)?;
-    let limits = RawLimits {
-        minimum: pages_of(table.initial),
-        maximum: limit_of(table.maximum),
-        shared: false,
-        wide: table.table64,
-        page: None,
-    };
-    Ok(RawTable {
-        ty: RawTableType { element, limits },
-        initial,
-    })
+    Ok(RawTable { ty, initial })
 }
 
 /// The records of the tables that the module defines, by rising id.

@@ -1,11 +1,10 @@
 //! Writing a module's parts as bytes.
-ghost use Rattle.std.specs.Prelude.{◌≡◌, IfOk};
+ghost use Rattle.std.specs.Prelude.{IfOk};
 ghost use Rattle.walrus_types.specs.ModuleTypes.{type_slots};
 ghost use Rattle.walrus_groups.specs.Indexed.{AreInOrder};
 ghost use Rattle.walrus_model.specs.Config.{Config};
 ghost use Rattle.walrus_model.specs.Dead.{HasDead};
 ghost use Rattle.walrus_model.specs.WellMade.{ImportsMatch};
-ghost use Rattle.walrus_rules.specs.Refused.{HasTwoIndices};
 ghost use Rattle.walrus_rules.specs.SoFar.{RefusesSoFar};
 ghost use Rattle.walrus_contents.specs.View.{parts_view};
 ghost use Rattle.walrus_writing.specs.Emitted.{IsEmitted, IsPlain, told};
@@ -14,17 +13,15 @@ ghost use Rattle.walrus_writing.specs.Records.{Spells};
 ghost use Rattle.walrus_writing.specs.Refusals.{RefusesItems};
 
 use crate::bodies::{Indexed, body_bytes};
-use crate::brought::are_needed_brought;
 use crate::globals::raw_globals;
 use crate::imported::raw_imports;
-use crate::matched::are_imports_matched;
+use crate::matched::check_matched;
 use crate::plan::Plan;
 use crate::reads::are_reads_in_order;
 use crate::records::{
     raw_bodies, raw_exports, raw_functions, raw_memories, raw_module, raw_tags, raw_types,
 };
 use crate::tables::raw_tables;
-use crate::twice::has_two_indices;
 use std::alloc::Global;
 use walrus_contents::{Parts, are_references_declared, check_live};
 use walrus_groups::are_in_order;
@@ -37,11 +34,11 @@ use wasm_wire::written_module;
 /// # Errors
 ///
 /// `DeadItem` exactly where something that isn't there is named, or a function has neither an import nor a body. Behind that, each with
-/// a cause of its own: `TwoIndices` where an import names an item that the module defines, or two imports name one; `NoIndex` where the
-/// initialiser of a table reads a global of the module, that of a global itself or a later one, a type names one of a later group or a
-/// later supertype, or no import names a needed item that says to be imported; `NotWritable` where a body isn't well formed, an exact heap
-/// type is written, an initialiser has no operator, or `ref.func` names a function that isn't exported; `TooLarge` where a count or a size
-/// passes 32 bits, or an item says to be brought by an import that names another; and `Memory`.
+/// a cause of its own: `TwoIndices` where an import names an item that the module defines, or two imports name one; `NoIndex` where an item
+/// says to be brought by an import that isn't there or names another item, the initialiser of a table reads a global of the module, that of a
+/// global itself or a later one, or a type names one of a later group or a later supertype; `NotWritable` where a body isn't well formed, an
+/// exact heap type is written, an initialiser has no operator, or `ref.func` names a function that isn't exported; `TooLarge` where a count
+/// or a size passes 32 bits; and `Memory`.
 pub fn write_parts(alloc: Global, parts: Parts<'_>, features: &Features) -> Result<Vec<u8>>
     ensures written { (c : Config) → IsPlain c features.now
         → IfOk result (λ bytes. IsEmitted c (parts_view parts.entry) bytes.items) }
@@ -49,11 +46,9 @@ pub fn write_parts(alloc: Global, parts: Parts<'_>, features: &Features) -> Resu
         (told result) }
 {
     check_live(alloc, parts)?;
+    check_matched(parts)?;
     if !are_references_declared(alloc, parts)? {
         return Err(Error::NotWritable);
-    }
-    if has_two_indices(parts) {
-        return Err(Error::TwoIndices);
     }
     if !are_reads_in_order(alloc, parts)? {
         return Err(Error::NoIndex);
@@ -61,27 +56,7 @@ pub fn write_parts(alloc: Global, parts: Parts<'_>, features: &Features) -> Resu
     if !are_in_order(parts.types) {
         return Err(Error::NoIndex);
     }
-    if !are_imports_matched(parts) {
-        return unmatched(alloc, parts);
-    }
     write_items(alloc, parts, features)
-}
-
-// The refusal of parts whose imports and items don't name each other, though nothing else is amiss.
-fn unmatched(alloc: Global, parts: Parts<'_>) -> Result<Vec<u8>>
-    requires there { HasDead (parts_view parts) → ⊥ }
-    requires one { HasTwoIndices (parts_view parts) → ⊥ }
-    requires reads { ReadsInOrder (parts_view parts) }
-    requires in_order { AreInOrder (type_slots parts.types.now) }
-    requires unmatched { ImportsMatch (parts_view parts) → ⊥ }
-    ensures refused { (c : Config) → RefusesSoFar c (parts_view parts.entry) (told result) }
-    ensures none { IfOk result (λ bytes. ⊥) }
-{
-    if are_needed_brought(alloc, parts)? {
-        Err(Error::TooLarge)
-    } else {
-        Err(Error::NoIndex)
-    }
 }
 
 // The bytes of items that name nothing dead, and that all have an index.

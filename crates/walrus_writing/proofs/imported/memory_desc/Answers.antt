@@ -6,4 +6,4 @@ use Rattle.walrus_writing.proofs.ImportedThings.{memory_described}
 use Rattle.walrus_writing.proofs.imported.memory_desc.Goals as goal
 
 pub returns : goal.returns
-returns c = λ names. memory_described names (memory_of (memory_value c.args.memory.now)) c.limits_of.result (ap said.memory_type_of c.limits_of.ensures.value) c.limits_of.ensures.stands
+returns c = λ names. memory_described names (memory_of (memory_value c.args.memory.now)) c.raw_memory.result (ap said.memory_type_of c.raw_memory.ensures.value) c.raw_memory.ensures.stands

@@ -1,4 +1,4 @@
-use Rattle.std.proofs.Common.{ap, refl}
+use Rattle.std.proofs.Common.{ap}
 use Rattle.std.specs.Prelude.{option_map}
 use Rattle.std.proofs.lemmas.Result.{err_from_is_err_and}
 use Rattle.walrus_code.specs.Indices.{index_of}
@@ -15,10 +15,6 @@ returns-in_err-initial c =
 
 pub returns : goal.returns
 returns c =
-    table_written (index_of c.args.indices.now) (table_of (table_value c.args.table.now)) _ (option_map const_ops c.args.table.now.init) (ap (λ o. own_initialiser o (option_map const_ops c.args.table.now.init)) c.requires.own) (ap origin_of c.requires.own) (rw (c.pages_of.ensures.same, c.limit_of.ensures.same) refl)
-    c.in_ok-element.ensures.indexed
-    (record {
-      ty = record { element = c.in_ok-element.ensures.spelled; limits = record { minimum = c.pages_of.ensures.stands; maximum = c.limit_of.ensures.stands; page = tt }; not_shared = refl; no_page = refl };
-      initial = c.in_ok-initial.ensures.spelled;
-    })
+    table_written (index_of c.args.indices.now) (table_of (table_value c.args.table.now)) _ (option_map const_ops c.args.table.now.init) (ap (λ o. own_initialiser o (option_map const_ops c.args.table.now.init)) c.requires.own) (ap origin_of c.requires.own) c.in_ok-ty.ensures.limits c.in_ok-ty.ensures.indexed
+    (record { ty = c.in_ok-ty.ensures.spelled; initial = c.in_ok-initial.ensures.spelled })
     c.in_ok-initial.ensures.indexed

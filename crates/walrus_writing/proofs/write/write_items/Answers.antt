@@ -15,7 +15,7 @@ use Rattle.walrus_entities.specs.Tables.{TableValue, tables}
 use Rattle.walrus_entities.specs.Tags.{TagValue, tags}
 use Rattle.walrus_writing.specs.Parts.{type_index, HasBytes, tag_index, unplaced}
 use Rattle.walrus_writing.specs.Places.{places}
-use Rattle.walrus_writing.proofs.Bare.{imports_live}
+use Rattle.walrus_rules.proofs.Matches.{imports_live}
 use Rattle.walrus_writing.proofs.ImportsIndexed.{imports_indexed, written_indexed}
 use Rattle.walrus_writing.proofs.Indexed.{ids_indexed, ids_typed, no_type_lacks, exports_indexed, globals_indexed, tables_indexed, tags_indexed}
 use Rattle.walrus_writing.proofs.OwnPlaces.{own_indexed}
@@ -44,7 +44,7 @@ returns-in_err-types-clause-refused c =
 
 pub raw_imports-requires : goal.raw_imports-requires
 raw_imports-requires c = record {
-  live = imports_live c.args.parts c.requires.there;
+  live = imports_live (parts_view c.args.parts) c.requires.there;
   indexed = imports_indexed (index_of c.in_ok-indices.indices) c.args.parts (written_indexed (index_of c.in_ok-indices.indices) (places c.in_ok-plan.plan) (parts_view c.args.parts) c.in_ok-indices.ensures.value (c.in_ok-plan.ensures.plan c.requires.there c.requires.matched) c.requires.there);
 }
 

@@ -5,19 +5,20 @@ use Rattle.std.proofs.lemmas.Result.{err_from_is_err_and}
 use Rattle.walrus_types.specs.ModuleTypes.{type_slots}
 use Rattle.walrus_groups.specs.Indexed.{IsOutOfOrder}
 use Rattle.walrus_contents.specs.View.{parts_view}
-use Rattle.walrus_writing.specs.Emitted.{IsEmitted}
 use Rattle.walrus_writing.proofs.Emitting.{emitted_ok, unfit, small}
-use Rattle.walrus_writing.proofs.RefusesAll.{dead_refused, items_refused, never_ok}
+use Rattle.walrus_writing.proofs.RefusesAll.{dead_refused, items_refused, unmatched_refused}
 use Rattle.walrus_writing.proofs.RefusesIndex.{out_of_order}
 use Rattle.walrus_writing.proofs.write.write_parts.Goals as goal
 
 pub returns-in_err-check_live-clause-refused : goal.returns-in_err-check_live-clause-refused
 returns-in_err-check_live-clause-refused c =
-    λ config plain. let p = err_from_is_err_and c.from_residual.result c.from_residual.ensures.1 in
+    λ config plain. let p = err_from_is_err_and c.from_residual-in_err-check_live.result c.from_residual-in_err-check_live.ensures.1 in
     rw (p.1, p.2) (dead_refused (Vec ℕ) config (parts_view c.args.parts) _ c.in_err-check_live.ensures)
 
-pub returns-then-has_two_indices-clause-refused : goal.returns-then-has_two_indices-clause-refused
-returns-then-has_two_indices-clause-refused c = λ config plain. c.has_two_indices.ensures.two c.if-has_two_indices.true
+pub returns-in_err-check_matched-clause-refused : goal.returns-in_err-check_matched-clause-refused
+returns-in_err-check_matched-clause-refused c =
+    λ config plain. let p = err_from_is_err_and c.from_residual-in_err-check_matched.result c.from_residual-in_err-check_matched.ensures.1 in
+    rw (p.1, p.2) (unmatched_refused (Vec ℕ) config (parts_view c.args.parts) _ c.in_err-check_matched.ensures)
 
 pub returns-then-not-branch-2-clause-refused : goal.returns-then-not-branch-2-clause-refused
 returns-then-not-branch-2-clause-refused c = λ config plain. c.in_ok-are_reads_in_order.ensures.lacks c.if-not-branch-2.true
@@ -25,13 +26,6 @@ returns-then-not-branch-2-clause-refused c = λ config plain. c.in_ok-are_reads_
 pub returns-then-not-are_in_order-clause-refused : goal.returns-then-not-are_in_order-clause-refused
 returns-then-not-are_in_order-clause-refused c =
     λ config plain. out_of_order c.args.parts c.in_ok-check_live.ensures (subst (λ b. OnFalse b (IsOutOfOrder (type_slots c.args.parts.types.now))) c.if-not-are_in_order.true c.are_in_order.ensures.cause)
-
-pub returns-then-not-are_imports_matched-clause-written : goal.returns-then-not-are_imports_matched-clause-written
-returns-then-not-are_imports_matched-clause-written c =
-    λ config plain. never_ok (λ (bytes : Vec ℕ). IsEmitted config (parts_view c.args.parts) bytes.items) c.unmatched.result c.unmatched.ensures.none
-
-pub returns-then-not-are_imports_matched-clause-refused : goal.returns-then-not-are_imports_matched-clause-refused
-returns-then-not-are_imports_matched-clause-refused c = λ config plain. c.unmatched.ensures.refused config
 
 pub returns-clause-written : goal.returns-clause-written
 returns-clause-written c =
@@ -43,7 +37,7 @@ returns-clause-refused c =
     let p = c.args.parts in
     let lives = c.in_ok-check_live.ensures in
     let declared = c.in_ok-are_references_declared.ensures.declared c.if-not-branch.false in
-    items_refused config p lives declared (c.has_two_indices.ensures.one c.if-has_two_indices.false) (c.are_imports_matched.ensures.matched c.if-not-are_imports_matched.false)
+    items_refused config p lives declared c.in_ok-check_matched.ensures
     (c.in_ok-are_reads_in_order.ensures.in_order c.if-not-branch-2.false) (c.are_in_order.ensures.in_order.0 c.if-not-are_in_order.false) c.args.features.now plain
     (λ (bytes : Vec ℕ). bytes.items) c.write_items.result
     (unfit config c.args.features.now plain p lives declared, small config c.args.features.now plain p lives declared)

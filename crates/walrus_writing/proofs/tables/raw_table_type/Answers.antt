@@ -1,0 +1,19 @@
+use Rattle.std.proofs.Common.{refl}
+use Rattle.std.proofs.lemmas.Result.{err_from_is_err_and}
+use Rattle.walrus_writing.proofs.tables.raw_table_type.Goals as goal
+
+pub returns-in_err-element-clause-indexed : goal.returns-in_err-element-clause-indexed
+returns-in_err-element-clause-indexed c =
+    let p = err_from_is_err_and c.from_residual.result c.from_residual.ensures.1 in
+    rw (p.1, p.2) c.in_err-element.ensures.indexed
+
+pub returns-in_err-element-clause-memory : goal.returns-in_err-element-clause-memory
+returns-in_err-element-clause-memory c =
+    let p = err_from_is_err_and c.from_residual.result c.from_residual.ensures.1 in
+    rw (p.1, p.2) c.in_err-element.ensures.memory
+
+pub returns-clause-limits : goal.returns-clause-limits
+returns-clause-limits c = rw (c.pages_of.ensures.same, c.limit_of.ensures.same) refl
+
+pub returns-clause-spelled : goal.returns-clause-spelled
+returns-clause-spelled c = record { element = c.in_ok-element.ensures.spelled; limits = record { minimum = c.pages_of.ensures.stands; maximum = c.limit_of.ensures.stands; page = tt }; not_shared = refl; no_page = refl }
