@@ -1,6 +1,6 @@
 -- In a module that nothing keeps from being written, imports and items name each other.
 use Rattle.std.proofs.Common.{◌≡◌, inl, inr, ℕ, Some, None, refl, sym, ap, ◌∙◌, subst}
-use Rattle.std.specs.Prelude.{◌≢◌, Bool, true, false, Option, IsSome, nat_eq, ◌⊎◌}
+use Rattle.std.specs.Prelude.{◌≢◌, true, false, Option, IsSome, nat_eq, ◌⊎◌}
 use Rattle.std.proofs.lemmas.Bool.Decides.{eqb_tells}
 use Rattle.walrus_types.specs.Operators.{Types, Functions, Tables, Memories, Tags, Globals, Elements, DataSegments, Item}
 use Rattle.walrus_model.specs.Abstract.{Abstract, Import}

@@ -1,6 +1,6 @@
 -- What the bytes of the two worked modules read as, under any configuration.
 use Rattle.std.proofs.Common.{◌≡◌, true, drop, ℕ, zero, suc, ◌+◌, ◌<◌, List, [], ◌∷◌, length, refl, sym, ap, ◌∙◌, subst, arith, append-nil, ⊎_elim}
-use Rattle.std.specs.Prelude.{All, AllPairs, slice_get, Option, Some, Contains}
+use Rattle.std.specs.Prelude.{AllPairs, slice_get, Option, Some, Contains}
 use Rattle.wasm_forms.specs.Number.{IsU32, number_at, leb_at}
 use Rattle.wasm_forms.specs.Grammar.{Form, Is, at, Vector, U32, row_at, block_at}
 use Rattle.std.specs.Str.{is_utf8}

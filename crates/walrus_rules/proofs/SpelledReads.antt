@@ -1,5 +1,5 @@
 -- The one spelling of a module reads as the module.
-use Rattle.std.proofs.Common.{◌≡◌, ℕ, ◌+◌, ◌≤◌, ◌<◌, ◌^◌, Bool, true, false, List, [], ◌∷◌, ◌++◌, length, map, zip, refl, sym, ap, ap₂, subst, ◌∙◌, arith, length-append, ◌⊎◌, inl, lt-ltb, ltb, ltb-true, ltb-false, ⊎_elim}
+use Rattle.std.proofs.Common.{◌≡◌, ℕ, ◌+◌, ◌≤◌, ◌<◌, ◌^◌, Bool, true, false, List, [], ◌∷◌, ◌++◌, length, map, zip, refl, sym, ap, ap₂, subst, ◌∙◌, arith, length-append, inl, lt-ltb, ltb, ltb-true, ltb-false, ⊎_elim}
 use Rattle.std.specs.Prelude.{Option, Some, None, IsSome, All, codes, bytes_eq, cond, filter, flat_map, not, ◌||◌}
 use Rattle.std.specs.List.{AllByRecursion, AllZip}
 use Rattle.std.proofs.lemmas.List.{append-nil}

@@ -161,7 +161,10 @@ fn is_written_behind_gc(alloc: Global, edited: Result<Module, Error>) -> bool {
     };
     let before = matches!(module.emit_wasm(alloc), Err(Error::NoIndex));
     let kept = gc::run(alloc, &mut module).is_ok();
-    before && kept && matches!(module.emit_wasm(alloc), Ok(bytes) if bytes.as_slice() == b"\0asm\x01\0\0\0")
+    match module.emit_wasm(alloc) {
+        Ok(bytes) => before && kept && are(alloc, bytes.as_slice(), "00 61 73 6D 01 00 00 00"),
+        Err(_) => false,
+    }
 }
 
 // An imported function that is exported, and which another import names than the one that it says.

@@ -12,7 +12,7 @@ use Rattle.walrus_writing.proofs.write.write_parts.Goals as goal
 
 pub returns-in_err-check_live-clause-refused : goal.returns-in_err-check_live-clause-refused
 returns-in_err-check_live-clause-refused c =
-    λ config plain. let p = err_from_is_err_and c.from_residual-in_err-check_live.result c.from_residual-in_err-check_live.ensures.1 in
+    λ config plain. let p = err_from_is_err_and c.from_residual.result c.from_residual.ensures.1 in
     rw (p.1, p.2) (dead_refused (Vec ℕ) config (parts_view c.args.parts) _ c.in_err-check_live.ensures)
 
 pub returns-in_err-check_matched-clause-refused : goal.returns-in_err-check_matched-clause-refused
