@@ -18,6 +18,7 @@ use Rattle.walrus_model.proofs.Lists.{Contains-head, Contains-tail, Contains-unc
 use Rattle.walrus_model.proofs.Standing.{none_there}
 use Rattle.walrus_rules.specs.Pinned.{IsDeclared}
 use Rattle.walrus_rules.specs.WellMade.{IsCounted}
+use Rattle.walrus_reading.proofs.BothTests.{both_pass, pass_both}
 
 -- ---- places in a row
 
@@ -28,14 +29,6 @@ range_apart a n = λ i j d less within same.
     omega (arith, less, same, get_or-range_with_len a n i d first, get_or-range_with_len a n j d last)
 
 -- ---- tests
-
-both_pass : (a b : Bool) → (a && b) ≡ true → (a ≡ true) × (b ≡ true)
-both_pass true b e = (refl, e)
-both_pass false b e = absurd (none_there e)
-
-pass_both : (a b : Bool) → a ≡ true → b ≡ true → (a && b) ≡ true
-pass_both true b p q = q
-pass_both false b p q = absurd (none_there p)
 
 not_true : (b : Bool) → not b ≡ true → b ≡ true → ⊥
 not_true true h e = none_there h

@@ -1,5 +1,6 @@
 pub mod Accepting
 pub mod AllHeld
+pub mod BothTests
 pub mod Brought
 pub mod Carrying
 pub mod DeclaredLocals

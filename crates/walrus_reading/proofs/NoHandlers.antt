@@ -15,17 +15,13 @@ use Rattle.walrus_model.specs.Handlers.{tag_type, handlers_of}
 use Rattle.walrus_model.specs.Reads.{ReadsBodyWith}
 use Rattle.walrus_model.specs.Sections.{Said, types_of, body_with, function_with, imported, imported_function, module_of}
 use Rattle.walrus_reading.proofs.AllHeld.{IsImported, all_imported}
+use Rattle.walrus_reading.proofs.BothTests.{both_pass}
 
 -- ---- a body that was read has no try (06)
 
 abbrev NoTries : List Op → Type 0
 NoTries [] = Unit {0}
 NoTries (o ∷ ops) = (o.op ≡ 0x06 → ⊥) × NoTries ops
-
-both_true : (a b : Bool) → (a && b) ≡ true → (a ≡ true) × (b ≡ true)
-both_true true true e = (refl, refl)
-both_true true false e = absurd (cc)
-both_true false b e = absurd (cc)
 
 -- without legacy exceptions no try is allowed
 no_try : (features : Features) (op : ℕ) → features.legacy_exceptions ≡ false → is_allowed features op ≡ true → op ≡ 0x06 → ⊥
@@ -37,7 +33,7 @@ no_try features op off allowed six =
 allowed_has_none : (features : Features) (ops : List Op) → features.legacy_exceptions ≡ false → are_allowed features ops ≡ true → NoTries ops
 allowed_has_none features [] off allowed = tt
 allowed_has_none features (o ∷ ops) off allowed =
-    let both = both_true (is_allowed features o.op) (are_allowed features ops) allowed in
+    let both = both_pass (is_allowed features o.op) (are_allowed features ops) allowed in
     (no_try features o.op off both.0, allowed_has_none features ops off both.1)
 
 body_has_none : (c : Features) (r : wire.Module) (f : ℕ × wire.Body) (body : Said) → c.legacy_exceptions ≡ false → ReadsBodyWith c r f body → NoTries body.1

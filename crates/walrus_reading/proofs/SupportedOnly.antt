@@ -4,23 +4,16 @@ use Rattle.std.specs.Prelude.{Option, Some, None, is_none}
 use Rattle.wasm_frames.specs.Record as wire
 use Rattle.walrus_model.specs.Supported.{IsSupported}
 use Rattle.walrus_reading.specs.SupportedOnly.{is_empty, holds_supported}
+use Rattle.walrus_reading.proofs.BothTests.{both_pass, pass_both}
 
 -- ---- tests
 
 failed : false ≡ true → ⊥
 failed e = cc
 
-both : (a b : Bool) → (a && b) ≡ true → (a ≡ true) × (b ≡ true)
-both true b e = (refl, e)
-both false b e = absurd (failed e)
-
 pub not_both : (b : Bool) → b ≡ true → b ≡ false → ⊥
 not_both true p q = failed (sym q)
 not_both false p q = failed p
-
-each : (a b : Bool) → a ≡ true → b ≡ true → (a && b) ≡ true
-each true b p q = q
-each false b p q = absurd (failed p)
 
 nothing : {A : Type 0} (xs : List A) → is_empty xs ≡ true → xs ≡ []
 nothing [] e = refl
@@ -42,10 +35,10 @@ none (Some x) e = cc
 
 pub supported_from_test : (m : wire.Module) → holds_supported m ≡ true → IsSupported m
 supported_from_test m e =
-    let customs_none = both (is_none m.start && is_empty m.elements && is_none m.data_count && is_empty m.data_segments) (is_empty m.customs) e in
-    let data_segments_none = both (is_none m.start && is_empty m.elements && is_none m.data_count) (is_empty m.data_segments) customs_none.0 in
-    let data_count_none = both (is_none m.start && is_empty m.elements) (is_none m.data_count) data_segments_none.0 in
-    let elements_none = both (is_none m.start) (is_empty m.elements) data_count_none.0 in
+    let customs_none = both_pass (is_none m.start && is_empty m.elements && is_none m.data_count && is_empty m.data_segments) (is_empty m.customs) e in
+    let data_segments_none = both_pass (is_none m.start && is_empty m.elements && is_none m.data_count) (is_empty m.data_segments) customs_none.0 in
+    let data_count_none = both_pass (is_none m.start && is_empty m.elements) (is_none m.data_count) data_segments_none.0 in
+    let elements_none = both_pass (is_none m.start) (is_empty m.elements) data_count_none.0 in
     record {
       start = absent m.start elements_none.0;
       elements = nothing m.elements elements_none.1;
@@ -56,4 +49,4 @@ supported_from_test m e =
 
 pub test_from_supported : (m : wire.Module) → IsSupported m → holds_supported m ≡ true
 test_from_supported m h =
-    each _ _ (each _ _ (each _ _ (each _ _ (none m.start h.start) (empty m.elements h.elements)) (none m.data_count h.data_count)) (empty m.data_segments h.data_segments)) (empty m.customs h.customs)
+    pass_both _ _ (pass_both _ _ (pass_both _ _ (pass_both _ _ (none m.start h.start) (empty m.elements h.elements)) (none m.data_count h.data_count)) (empty m.data_segments h.data_segments)) (empty m.customs h.customs)

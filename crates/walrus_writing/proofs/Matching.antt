@@ -39,7 +39,7 @@ module _ (v : Abstract) (o : Option ImportValue) (i : ℕ) (at : v.imports i ≡
 
 -- ---- what an item says
 
-origin_back : (o : Option ℕ) → origin_import (seen.origin_of o) ≡ o
+pub origin_back : (o : Option ℕ) → origin_import (seen.origin_of o) ≡ o
 origin_back None = refl
 origin_back (Some i) = refl
 

@@ -27,9 +27,7 @@ use Rattle.walrus_writing.specs.Local.{is_own}
 use Rattle.walrus_writing.proofs.ImportedAlong.{kind_origin, origin_is}
 use Rattle.walrus_writing.proofs.OrderByImport.{ListsImports, ListsOwn, OrdersSpace}
 use Rattle.walrus_writing.proofs.Ranked.{pairs_of}
-
-untrue : {A : Type 0} (x : A) → None ≡ Some x → ⊥
-untrue x e = cc
+use Rattle.walrus_writing.proofs.Somes.{none_some}
 
 is_false : false ≡ true → ⊥
 is_false e = cc
@@ -49,12 +47,12 @@ module _ {Y : Type 0} (origin : Y → Origin) where
 
   brought_live : (o : Option Y) (p : ℕ) → brought_by o ≡ Some p → IsSome o
   brought_live (Some y) p e = refl
-  brought_live None p e = absurd (untrue p e)
+  brought_live None p e = absurd (none_some p e)
 
   brought_before : (i j p q : ℕ) (o u : Option Y) → brought_by o ≡ Some p → brought_by u ≡ Some q → p < q → Before i j o u
   brought_before i j p q (Some y) (Some z) first second less = rw (origin_is (origin y) p first, origin_is (origin z) q second) less
-  brought_before i j p q None u first second less = absurd (untrue p first)
-  brought_before i j p q (Some y) None first second less = absurd (untrue q second)
+  brought_before i j p q None u first second less = absurd (none_some p first)
+  brought_before i j p q (Some y) None first second less = absurd (none_some q second)
 
   not_before : (i : ℕ) (o : Option Y) → Before i i o o → ⊥
   not_before i (Some y) less = same_place i (origin y) less
@@ -62,7 +60,7 @@ module _ {Y : Type 0} (origin : Y → Origin) where
 
   own_behind : (i j p : ℕ) (o u : Option Y) → brought_by o ≡ Some p → option_map origin u ≡ Some Defined → Before i j o u
   own_behind i j p (Some y) u first own = rw (origin_is (origin y) p first, own) tt
-  own_behind i j p None u first own = absurd (untrue p first)
+  own_behind i j p None u first own = absurd (none_some p first)
 
   own_before : (i j : ℕ) (o u : Option Y) → option_map origin o ≡ Some Defined → option_map origin u ≡ Some Defined → i < j → Before i j o u
   own_before i j o u first second less = rw (first, second) less
@@ -100,13 +98,13 @@ module _ (v : Abstract) where
 
   function_live : (o : Option Function) (p : ℕ) → import_in (λ (f : Function). kind_import f.kind) o ≡ Some p → IsSome o
   function_live (Some f) p e = refl
-  function_live None p e = absurd (untrue p e)
+  function_live None p e = absurd (none_some p e)
 
   functions_before : (i j p q : ℕ) (o u : Option Function) → import_in (λ (f : Function). kind_import f.kind) o ≡ Some p → import_in (λ (f : Function). kind_import f.kind) u ≡ Some q → p < q
       → BothAnd (FunctionsByImport i j) (option_map (λ (f : Function). f.kind) o) (option_map (λ (f : Function). f.kind) u)
   functions_before i j p q (Some f) (Some g) first second less = rw (kind_origin f.kind p first, kind_origin g.kind q second) less
-  functions_before i j p q None u first second less = absurd (untrue p first)
-  functions_before i j p q (Some f) None first second less = absurd (untrue q second)
+  functions_before i j p q None u first second less = absurd (none_some p first)
+  functions_before i j p q (Some f) None first second less = absurd (none_some q second)
 
   same_kind : (i : ℕ) (k : FunctionKind) → FunctionsByImport i i k k → ⊥
   same_kind i (ImportedFunction p) less = omega (arith, less)
@@ -129,7 +127,7 @@ module _ (v : Abstract) where
 
 there_at : (o : Option ImportValue) (x : Import) → option_map seen.import_of o ≡ Some x → (e : ImportValue) × (o ≡ Some e)
 there_at (Some e) x at = (e, refl)
-there_at None x at = absurd (untrue x at)
+there_at None x at = absurd (none_some x at)
 
 pub imports_listed : (p : Parts) → ListsImports (parts_view p) (map (λ e. e.0) (entries (imports p.imports.now)))
 imports_listed p = record {
@@ -205,7 +203,7 @@ module _ {X : Type 0} (by : X → Option ℕ) where
 
     none_own : (o : Option ℕ) → origin_import (origin_of o) ≡ None → is_own o ≡ true
     none_own None e = refl
-    none_own (Some k) e = absurd (untrue k (sym e))
+    none_own (Some k) e = absurd (none_some k (sym e))
 
     own_all : (i : ℕ) (o : Option X) → item_at slots i ≡ o → IsSome (option_map view o) → import_in (λ y. origin_import (origin y)) (option_map view o) ≡ None → Contains (own_places by (entries slots)) i
     own_all i (Some x) at live none =
@@ -215,7 +213,7 @@ module _ {X : Type 0} (by : X → Option ℕ) where
 
     some_live : (o : Option Y) → option_map origin o ≡ Some Defined → IsSome o
     some_live (Some y) e = refl
-    some_live None e = absurd (untrue Defined e)
+    some_live None e = absurd (none_some Defined e)
 
     pub own_there : (i : ℕ) → Contains (own_places by (entries slots)) i → IsSome (option_map view (item_at slots i))
     own_there i at = some_live (option_map view (item_at slots i)) (own_defined i at)

@@ -22,9 +22,7 @@ use Rattle.walrus_writing.specs.Sizes.{IsOrder}
 use Rattle.walrus_writing.proofs.BySize.{bodies_in, body_at, body_there, ordered_by_size, own_body, pairs_by_size}
 use Rattle.walrus_writing.proofs.ImportedAlong.{kind_origin}
 use Rattle.walrus_writing.proofs.OrderByImport.{ListsOwn}
-
-untrue : {A : Type 0} (x : A) → None ≡ Some x → ⊥
-untrue x e = cc
+use Rattle.walrus_writing.proofs.Somes.{none_some}
 
 module _ (p : Parts) where
   abbrev V : Abstract
@@ -39,17 +37,17 @@ module _ (p : Parts) where
 
   kind_by : (k : FunctionKind) (f : LocalFunction) → own_body k ≡ Some f → kind_of p.locals.now k ≡ OfBody (body p.locals.now f)
   kind_by (kind.Local g) f e = ap (λ (h : LocalFunction). OfBody (body p.locals.now h)) (some_inj g f e)
-  kind_by (kind.Import i) f e = absurd (untrue f e)
-  kind_by (kind.Uninitialized ty) f e = absurd (untrue f e)
+  kind_by (kind.Import i) f e = absurd (none_some f e)
+  kind_by (kind.Uninitialized ty) f e = absurd (none_some f e)
 
   body_kind : (o : Option FunctionValue) (f : LocalFunction) → body_at o ≡ Some f → kind_at o ≡ Some (OfBody (body p.locals.now f))
   body_kind (Some v) f e = ap (λ (k : abstract.FunctionKind). Some k) (kind_by v.kind f e)
-  body_kind None f e = absurd (untrue f e)
+  body_kind None f e = absurd (none_some f e)
 
   -- a function that no import brings has a body, where each has one or an import
   own_kind : (k : FunctionKind) → (kind_of p.locals.now k ≡ Uninitialised → ⊥) → kind_import (kind_of p.locals.now k) ≡ None → IsSome (own_body k)
   own_kind (kind.Local g) there none = refl
-  own_kind (kind.Import i) there none = absurd (untrue _ (sym none))
+  own_kind (kind.Import i) there none = absurd (none_some _ (sym none))
   own_kind (kind.Uninitialized ty) there none = absurd (there refl)
 
   body_lives : (HasDead V → ⊥) → (i : ℕ) (o : Option FunctionValue) → item_at slots i ≡ o → IsSome (option_map (function p.locals.now) o) → import_in (λ (f : Function). kind_import f.kind) (option_map (function p.locals.now) o) ≡ None → IsSome (body_at o)
@@ -63,7 +61,7 @@ module _ (p : Parts) where
   -- an imported one comes first
   imports_first : (i j q : ℕ) (o : Option Function) (u : Option abstract.FunctionKind) (b : abstract.Body) → import_in (λ (f : Function). kind_import f.kind) o ≡ Some q → u ≡ Some (OfBody b) → BothAnd (FunctionsByImport i j) (option_map (λ (f : Function). f.kind) o) u
   imports_first i j q (Some f) u b first own = rw (own, kind_origin f.kind q first) tt
-  imports_first i j q None u b first own = absurd (untrue q first)
+  imports_first i j q None u b first own = absurd (none_some q first)
 
   module _ (order : List ℕ) (h : IsOrder slots order) where
     -- of two with a body the larger one does

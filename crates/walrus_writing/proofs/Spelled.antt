@@ -28,6 +28,7 @@ use Rattle.walrus_writing.specs.Local.{is_own}
 use Rattle.walrus_writing.specs.Tables.{IsSpelledTable, TableIsUnspelled}
 use Rattle.walrus_writing.specs.Tables as table_causes
 use Rattle.walrus_writing.proofs.Bare.{brought_bare}
+use Rattle.walrus_writing.proofs.Matching.{origin_back}
 use Rattle.walrus_writing.proofs.Somes.{none_some}
 
 -- ---- what passes a test is among those that do
@@ -55,10 +56,6 @@ module _ {X : Type 0} (test : X → Bool) where
       (among_passing (items slots) x e (Contains-map (λ (d : ℕ × X). d.1) (i, x) (entries slots) (entry_in slots i x at)))
 
 -- ---- what imports bring
-
-same_back : (o : Option ℕ) → origin_import (seen.origin_of o) ≡ o
-same_back None = refl
-same_back (Some i) = refl
 
 module _ (p : Parts) (matched : ImportsMatch (parts_view p)) (names : Lookup) (ws : List wire.Import) (written : AllZip (IsEntryAt names (parts_view p)) (import_numbers p) ws) where
   abbrev V : Abstract
@@ -96,7 +93,7 @@ module _ (p : Parts) (matched : ImportsMatch (parts_view p)) (names : Lookup) (w
   table_spelled n v at None by own = each_passing (λ (t : TableValue). is_own t.imported_by) IsSpelledTable (tables p.tables.now) own n v at (ap is_own by)
   table_spelled n v at (Some i) by own =
       let there : V.tables n ≡ Some (seen.table_of v) = ap (λ (o : Option TableValue). option_map seen.table_of o) at in
-      brought_table n i (seen.table_of v) there (ap (import_in (λ (t : Table). origin_import t.origin)) there ∙ same_back v.imported_by ∙ by)
+      brought_table n i (seen.table_of v) there (ap (import_in (λ (t : Table). origin_import t.origin)) there ∙ origin_back v.imported_by ∙ by)
 
   pub tables_all_spelled : All IsSpelledTable (own_of (λ t. t.imported_by) (items (tables p.tables.now))) → (i : ℕ) (t : Table) → V.tables i ≡ Some t → TableIsUnspelled t → ⊥
   tables_all_spelled own n t at =
@@ -114,7 +111,7 @@ module _ (p : Parts) (matched : ImportsMatch (parts_view p)) (names : Lookup) (w
   global_spelled n v at None by own = each_passing (λ (g : GlobalValue). is_own g.imported_by) IsSpelledGlobal (globals p.globals.now) own n v at (ap is_own by)
   global_spelled n v at (Some i) by own =
       let there : V.globals n ≡ Some (seen.global_of v) = ap (λ (o : Option GlobalValue). option_map seen.global_of o) at in
-      brought_global n i (seen.global_of v) there (ap (import_in (λ (g : Global). origin_import g.origin)) there ∙ same_back v.imported_by ∙ by)
+      brought_global n i (seen.global_of v) there (ap (import_in (λ (g : Global). origin_import g.origin)) there ∙ origin_back v.imported_by ∙ by)
 
   pub globals_all_spelled : All IsSpelledGlobal (own_of (λ g. g.imported_by) (items (globals p.globals.now))) → (i : ℕ) (g : Global) → V.globals i ≡ Some g → GlobalIsUnspelled g → ⊥
   globals_all_spelled own n g at =
