@@ -1,10 +1,10 @@
 //! The exports of a module ("Structure > Modules > Exports").
-ghost use Rattle.std.specs.Prelude.{◌≡◌, ◌++◌, ◌∷◌, [], length, Some, None, IsTrue, ◌↔◌, MatchResult, IfOk, IsOkUnless, count_by, is_some, slice_set, option_map};
+ghost use Rattle.std.specs.Prelude.{◌≡◌, ◌++◌, ◌∷◌, [], length, Some, None, IsTrue, ◌↔◌, MatchResult, IfOk, IsOkUnless, count_by, is_some, slice_set, option_map, OnOk};
 ghost use Rattle.std.specs.Option.{ok_or};
 ghost use Rattle.std.specs.Borrow.{sem};
 ghost use Rattle.std.specs.Iterator.{YieldsFirstBy, item_count};
 ghost use Rattle.walrus_base.specs.Id.{place};
-ghost use Rattle.walrus_base.specs.Arena.{item_at, IsLive, items, entries};
+ghost use Rattle.walrus_base.specs.Arena.{HasRoom, item_at, IsLive, items, entries};
 ghost use Rattle.walrus_code.specs.Code.{item_of};
 ghost use Rattle.walrus_types.specs.Operators.{Tables, Memories, Globals, function_item};
 ghost use Rattle.walrus_parts.specs.Errors.{out_of_memory};
@@ -158,9 +158,10 @@ impl ModuleExports {
         }
     }
 
-    /// Makes room for `additional` more exports. `Memory` is the only error.
+    /// Makes room for `additional` more exports, but for their names. `Memory` is the only error.
     pub fn reserve(&mut self, additional: usize) -> Result<()>
         ensures same { exports self.new ≡ exports self.old }
+        ensures room { OnOk result (HasRoom self.new.arena additional) }
         ensures fails { IsOkUnless result out_of_memory }
     {
         self.arena.reserve(additional)?;

@@ -1,10 +1,10 @@
 //! The imports of a module ("Structure > Modules > Imports").
-ghost use Rattle.std.specs.Prelude.{◌≡◌, ◌++◌, ◌∷◌, [], length, Some, None, IsTrue, ◌↔◌, MatchResult, IfOk, IsOkUnless, count_by, is_some, slice_set, option_map};
+ghost use Rattle.std.specs.Prelude.{◌≡◌, ◌++◌, ◌∷◌, [], length, Some, None, IsTrue, ◌↔◌, MatchResult, IfOk, IsOkUnless, count_by, is_some, slice_set, option_map, OnOk};
 ghost use Rattle.std.specs.Borrow.{sem};
 ghost use Rattle.std.specs.Iterator.{YieldsFirstBy, item_count};
 ghost use Rattle.std.specs.Option.{ok_or};
 ghost use Rattle.walrus_base.specs.Id.{place};
-ghost use Rattle.walrus_base.specs.Arena.{item_at, IsLive, items, entries};
+ghost use Rattle.walrus_base.specs.Arena.{HasRoom, item_at, IsLive, items, entries};
 ghost use Rattle.walrus_types.specs.Operators.{function_item};
 ghost use Rattle.walrus_parts.specs.Errors.{out_of_memory};
 ghost use Rattle.walrus_items.specs.Keeping.{kept_slot, kept_where};
@@ -130,9 +130,10 @@ impl ModuleImports {
         }
     }
 
-    /// Makes room for `additional` more imports. `Memory` is the only error.
+    /// Makes room for `additional` more imports, but for their names. `Memory` is the only error.
     pub fn reserve(&mut self, additional: usize) -> Result<()>
         ensures same { imports self.new ≡ imports self.old }
+        ensures room { OnOk result (HasRoom self.new.arena additional) }
         ensures fails { IsOkUnless result out_of_memory }
     {
         self.arena.reserve(additional)?;
