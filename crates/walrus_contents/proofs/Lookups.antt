@@ -39,18 +39,6 @@ there [] i lt = absurd (omega arith)
 there (x ∷ xs) zero lt = refl
 there (x ∷ xs) (suc i) lt = there xs i (omega arith)
 
-pub zip_long : {A B : Type 0} (xs : List A) (ys : List B) → length ys ≡ length xs → length (zip xs ys) ≡ length xs
-zip_long [] [] e = refl
-zip_long [] (y ∷ ys) e = refl
-zip_long (x ∷ xs) [] e = absurd (omega arith)
-zip_long (x ∷ xs) (y ∷ ys) e = ap suc (zip_long xs ys (omega arith))
-
-pub zip_length : {A B : Type 0} (R : A → B → Type 0) (xs : List A) (ys : List B) → AllZip R xs ys → length xs ≡ length ys
-zip_length R [] [] h = refl
-zip_length R [] (b ∷ ys) h = absurd h
-zip_length R (a ∷ xs) [] h = absurd h
-zip_length R (a ∷ xs) (b ∷ ys) h = ap suc (zip_length R xs ys h.1)
-
 pub pairs_map : {A B : Type 0} (R : B → B → Type 0) (f : A → B) (xs : List A) → AllPairs (λ a b. R (f a) (f b)) xs → AllPairs R (map f xs)
 pairs_map R f [] h = λ i j d less within. let w : j < 0 = within in absurd (omega (arith, w))
 pairs_map R f (x ∷ xs) h = λ i j d less within.

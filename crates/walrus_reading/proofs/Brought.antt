@@ -11,9 +11,7 @@ use Rattle.walrus_base.specs.declared.id.Id.{Id}
 use Rattle.walrus_types.specs.Operators.{Functions, Tables, Memories, Tags, Globals, Item}
 use Rattle.walrus_parts.specs.declared.error.Error.{Error}
 use Rattle.walrus_items.specs.Functions.{functions}
-use Rattle.walrus_items.specs.Imports.{ImportValue, imports, imported as imported_item}
-use Rattle.walrus_items.specs.declared.imports.ImportKind.{ImportKind}
-use Rattle.walrus_items.specs.declared.imports.ModuleImports.{ModuleImports}
+use Rattle.walrus_items.specs.Imports.{imports, imported as imported_item}
 use Rattle.walrus_entities.specs.Added.{IsAdded}
 use Rattle.walrus_entities.specs.Globals.{globals}
 use Rattle.walrus_entities.specs.Memories.{memories}

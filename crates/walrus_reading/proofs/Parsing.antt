@@ -1,7 +1,7 @@
 -- The bodies that were read, and the locals that these use.
-use Rattle.std.proofs.Common.{◌≡◌, ℕ, zero, suc, ◌+◌, ◌<◌, ⊎_elim, Bool, true, false, List, [], ◌∷◌, length, refl, sym, subst, ◌∙◌, arith}
-use Rattle.std.specs.Prelude.{Option, Some, None, Contains, slice_get, zip, nat_lt}
-use Rattle.std.specs.List.{AllZip, AllByRecursion}
+use Rattle.std.proofs.Common.{◌≡◌, ℕ, ◌+◌, ◌<◌, ⊎_elim, Bool, true, false, List, [], ◌∷◌, length, refl, sym, subst, ◌∙◌, arith}
+use Rattle.std.specs.Prelude.{Option, Some, None, Contains, nat_lt}
+use Rattle.std.specs.List.{AllByRecursion}
 use borrow.Author.Tests.{ltb-true, ltb-false}
 use Rattle.wasm_forms.proofs.Bind.{some_same}
 use Rattle.wasm_frames.specs.Record as wire

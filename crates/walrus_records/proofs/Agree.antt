@@ -13,7 +13,8 @@ use Rattle.walrus_model.specs.Rules.{Holds, FunctionTypesHold, IsFunctionType}
 use Rattle.walrus_model.specs.Sections as sections
 use Rattle.walrus_model.specs.Sections.{Said, export_of, functions_of}
 use Rattle.walrus_model.proofs.Standing.{some_of}
-use Rattle.walrus_contents.proofs.Lookups.{pairs_map, zip_length, zip_long}
+use Rattle.walrus_contents.proofs.Lookups.{pairs_map}
+use Rattle.walrus_contents.proofs.Steps.{pairs_long, zip_length}
 use Rattle.walrus_rules.specs.Features.{features_of}
 use Rattle.walrus_rules.specs.Headline.{field_of}
 use Rattle.walrus_rules.specs.Sections.{module_of}
@@ -52,7 +53,7 @@ module _ (features : Features) (s : wire.Module) (bodies : List Said) (read : Al
 
   -- as many bodies are read as there are functions
   many_by : length s.bodies ≡ length s.functions → length bodies ≡ length s.functions
-  many_by as_many = sym (zip_length (ReadsBodyWith features s) (zip s.functions s.bodies) bodies read) ∙ zip_long s.functions s.bodies as_many
+  many_by as_many = sym (zip_length (ReadsBodyWith features s) (zip s.functions s.bodies) bodies read) ∙ pairs_long s.functions s.bodies as_many
 
   -- ---- from records to the module
 

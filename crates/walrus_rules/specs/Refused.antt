@@ -37,6 +37,8 @@ TableReads v i g = (t : Table) × ((ops : List Op) × ((v.tables i ≡ Some t) �
 abbrev pub GlobalReads : Abstract → (reader global : ℕ) → Type 0
 GlobalReads v i g = (x : Global) × ((ops : List Op) × ((v.globals i ≡ Some x) × (x.initialiser ≡ Some ops) × Contains (names_of ops) (Globals, g)))
 
+-- The import that an item says to be brought by isn't there, or names another item; what an initialiser reads is not imported, or not written
+-- before it; a type names one that is written later.
 pub data LacksIndex (v : Abstract) : Type 0 where
   NotBrought : (y : Item) (i : ℕ) → import_of v y ≡ Some i → ((x : Import) → v.imports i ≡ Some x → x.item ≡ y → ⊥) → LacksIndex v
   LocalGlobalRead : (i g : ℕ) → TableReads v i g → IsLive v (Globals, g) → (IsImportedGlobal v g → ⊥) → LacksIndex v

@@ -19,7 +19,7 @@ IsAnswered v brought_by x = (i : ℕ) → brought_by ≡ Some i → IsNamedBy v 
 abbrev pub IsUnanswered : Abstract → (brought_by : Option ℕ) → Item → Type 0
 IsUnanswered v brought_by x = (i : ℕ) × ((brought_by ≡ Some i) × (IsNamedBy v x i → ⊥))
 
--- so it is with each item of an index space
+-- each item of an index space is answered
 abbrev pub AreAnswered : Abstract → Space → Type 0
 AreAnswered v space = (i : ℕ) → IsAnswered v (import_of v (space, i)) (space, i)
 
