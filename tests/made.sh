@@ -32,9 +32,11 @@ for text in "$top"/tests/made/*.kept.wat; do
 done
 echo "of $passed of $all made modules what has to be kept comes out"
 
-# What becomes of a module without its custom sections: valid, refused, or FAILED where what comes out isn't valid.
+# What becomes of a module without its custom sections: valid, refused, skipped where this wabt doesn't read it, or FAILED where what comes
+# out isn't valid.
 is_valid() {
-  cp "$1" "$files/in" && wasm-strip "$files/in" || return 1
+  cp "$1" "$files/in" || return 1
+  wasm-strip "$files/in" 2> "$files/told" || { echo "skipped  wasm-strip: $(head -n 1 "$files/told")"; return 0; }
   "$program" < "$files/in" > "$files/out" 2> "$files/told" || { echo "refused  $(cat "$files/told")"; return 0; }
   wasm-validate "${features[@]}" "$files/out" || { echo "FAILED"; return 1; }
   echo "valid    $(stat -c %s "$files/in") bytes, kept $(stat -c %s "$files/out")"
