@@ -18,7 +18,11 @@ impl Module {
     ///
     /// # Errors
     ///
-    /// Those of [`write_parts`]: `DeadItem`, `NoIndex`, `NotWritable`, `TooLarge`, each with a cause of its own, and `Memory`.
+    /// Those of [`write_parts`], each with a cause of its own: `DeadItem` where an item or a local is named that isn't there, or a function has
+    /// neither an import nor a body; `TwoIndices` where an import names an item that the module defines, or two imports name one; `NoIndex`
+    /// where an item says to be brought by an import that isn't there or names another item, or an initialiser or a type names what gets its
+    /// index later; `NotWritable` where no bytes spell a body, a type or an initialiser; `TooLarge` where a count or a size passes 32 bits;
+    /// and `Memory`.
     pub fn emit_wasm(&mut self, alloc: Global) -> Result<Vec<u8>>
         ensures unchanged { self.new ≡ self.old }
         ensures emitted { IfOk result (λ bytes. IsEmitted (config_of (settings self.old))
