@@ -5,8 +5,9 @@
 
 Refused are: a file of src that doesn't begin with `//!`, or has more than 800 lines; a line of a clause of more than 110 columns;
 a body of a function of more than 40 lines; a bare hexadecimal number in src or specs outside the files that name such numbers; a
-README.md of more than 100 lines, or with one of more than 100 columns; more wrong edits in the gate than its time allows; and a
-wrong edit, of the gate or of tests/edits, whose old text doesn't stand exactly once in its file.
+README.md of more than 100 lines, or with one of more than 100 columns; a crate of the repository that crates.txt lists for another one
+whose files don't name it; more wrong edits in the gate than its time allows; and a wrong edit, of the gate or of tests/edits, whose old
+text doesn't stand exactly once in its file.
 """
 import collections
 import pathlib
@@ -126,6 +127,22 @@ def wrong_in_readme():
             yield f"README.md:{number}: {len(line)} columns, more than {MOST_COLUMNS_OF_THE_README}"
 
 
+def words_of(crate):
+    """All words of a crate's sources, definitions and proofs outside comments."""
+    files = [path for part in ("src", "specs", "proofs") for path in (CRATES / crate / part).rglob("*") if path.is_file()]
+    return {word for path in files for word in re.findall(r"\w+", re.sub(r"(//|--).*", "", path.read_text(encoding="utf-8")))}
+
+
+def wrong_in_crates():
+    rows = [line.partition("#")[0].partition(":") for line in lines_of(TOP / "crates.txt")]
+    listed = {name.strip(): below.split() for name, _, below in rows if name.strip()}
+    for crate, below in listed.items():
+        words = words_of(crate)
+        for other in below:
+            if other in listed and other not in words:
+                yield f"crates.txt: {crate} lists {other}, which its files don't name (rt sums up all below once for each way down)"
+
+
 def wrong_in_gate():
     edits = collections.Counter(path.parts[-3] for path in CRATES.glob("*/must-fail/*.edit"))
     upper = sum(edits[crate] for crate in UPPER_CRATES)
@@ -174,7 +191,8 @@ def wrong_in_edits():
 
 def main():
     checks = (
-        wrong_in_sources, wrong_in_clauses, wrong_in_bodies, wrong_in_numbers, wrong_in_readme, wrong_in_gate, wrong_in_edits)
+        wrong_in_sources, wrong_in_clauses, wrong_in_bodies, wrong_in_numbers, wrong_in_readme, wrong_in_crates, wrong_in_gate,
+        wrong_in_edits)
     wrong = [line for check in checks for line in check()]
     for line in wrong:
         print(line)

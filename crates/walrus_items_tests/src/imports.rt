@@ -1,6 +1,7 @@
 //! Imports.
 
 use std::alloc::Global;
+use std::hash::{DefaultHasher, Hash, Hasher};
 use std::test::Fail;
 use test_support::{demand, first_id, is_text};
 use walrus_base::{
@@ -29,13 +30,23 @@ fn is_dummy(import: &Import) -> bool {
     is_text(&import.module, "mod") && is_text(&import.name, "dummy")
 }
 
+fn hash_of(import: &Import) -> u64 {
+    let mut state = DefaultHasher::new();
+    import.hash(&mut state);
+    state.finish()
+}
+
+fn is_equal(copy: &Import, import: &Import) -> bool {
+    *copy == *import && copy.id() == import.id() && hash_of(copy) == hash_of(import)
+}
+
 // Whether the function's first import is `mod` `dummy`, and is cloned as it is.
 fn finds_dummy(imports: &ModuleImports, function: FunctionId) -> bool {
     let Some(import) = imports.get_imported_func(function) else {
         return false;
     };
     match import.try_clone() {
-        Ok(copy) => is_dummy(&copy) && copy == *import && copy.id() == import.id(),
+        Ok(copy) => is_dummy(&copy) && is_equal(&copy, import),
         Err(_) => false,
     }
 }
