@@ -14,29 +14,45 @@ fn empty_module(alloc: Global) -> Result<Module, Error> {
     Module::with_config(alloc, ModuleConfig::new())
 }
 
-// Whether gc passes, and emission refuses since something has no index where one is needed.
+// What emission refuses with before gc and behind it, where gc passes.
+fn refusals(alloc: Global, edited: Result<Module, Error>) -> Option<(Error, Error)> {
+    let mut module = edited.ok()?;
+    let before = module.emit_wasm(alloc).err()?;
+    gc::run(alloc, &mut module).ok()?;
+    let behind = module.emit_wasm(alloc).err()?;
+    Some((before, behind))
+}
+
+// Whether a module isn't written, since something has no index where one is needed.
 fn lacks_an_index(alloc: Global, edited: Result<Module, Error>) -> bool {
-    let Ok(mut module) = edited else {
-        return false;
-    };
-    gc::run(alloc, &mut module).is_ok() && matches!(module.emit_wasm(alloc), Err(Error::NoIndex))
+    matches!(
+        refusals(alloc, edited),
+        Some((Error::NoIndex, Error::NoIndex))
+    )
 }
 
 // The same, since no bytes spell something.
 fn is_not_writable(alloc: Global, edited: Result<Module, Error>) -> bool {
-    let Ok(mut module) = edited else {
-        return false;
-    };
-    gc::run(alloc, &mut module).is_ok()
-        && matches!(module.emit_wasm(alloc), Err(Error::NotWritable))
+    matches!(
+        refusals(alloc, edited),
+        Some((Error::NotWritable, Error::NotWritable))
+    )
 }
 
 // The same, since a number is too large.
 fn is_too_large(alloc: Global, edited: Result<Module, Error>) -> bool {
-    let Ok(mut module) = edited else {
-        return false;
-    };
-    gc::run(alloc, &mut module).is_ok() && matches!(module.emit_wasm(alloc), Err(Error::TooLarge))
+    matches!(
+        refusals(alloc, edited),
+        Some((Error::TooLarge, Error::TooLarge))
+    )
+}
+
+// The same, since an item would have two indices.
+fn has_two_indices(alloc: Global, edited: Result<Module, Error>) -> bool {
+    matches!(
+        refusals(alloc, edited),
+        Some((Error::TwoIndices, Error::TwoIndices))
+    )
 }
 
 fn funcref() -> RefType {
@@ -109,14 +125,6 @@ fn large_memory(alloc: Global) -> Result<Module, Error> {
         .add_local(false, false, 4_294_967_296, None, None)?;
     module.exports.add("m", ExportItem::Memory(memory))?;
     Ok(module)
-}
-
-// The same, since an item would have two indices.
-fn has_two_indices(alloc: Global, edited: Result<Module, Error>) -> bool {
-    let Ok(mut module) = edited else {
-        return false;
-    };
-    gc::run(alloc, &mut module).is_ok() && matches!(module.emit_wasm(alloc), Err(Error::TwoIndices))
 }
 
 // An imported function that is exported, and that a second import names.

@@ -62,10 +62,10 @@ fn has_several_memories(module: &Module) -> bool {
     matches!(module.get_memory_id(), Err(Error::SeveralMemories))
 }
 
-// Whether a memory that is added is the module's only one.
+// Whether a memory that is added, and that nothing exports, is the module's only one.
 fn finds_the_only_memory(module: &mut Module) -> bool {
-    match module.memories.add_local(false, false, 1, None, None) {
-        Ok(id) => module.get_memory_id().ok() == Some(id),
+    match module.memories.add_local(false, false, 0, Some(1024), None) {
+        Ok(id) => module.memories.len() == 1 && module.get_memory_id().ok() == Some(id),
         Err(_) => false,
     }
 }
@@ -73,15 +73,17 @@ fn finds_the_only_memory(module: &mut Module) -> bool {
 fn adds_memory(module: &mut Module) -> bool {
     module
         .memories
-        .add_local(false, false, 2, Some(3), None)
+        .add_local(true, true, 1024, Some(2048), Some(16))
         .is_ok()
+        && module.memories.len() == 2
 }
 
 fn counts_memories(alloc: Global) -> bool {
     let Ok(mut module) = Module::with_config(alloc, ModuleConfig::new()) else {
         return false;
     };
-    has_no_memory(&module)
+    module.memories.len() == 0
+        && has_no_memory(&module)
         && finds_the_only_memory(&mut module)
         && adds_memory(&mut module)
         && has_several_memories(&module)
