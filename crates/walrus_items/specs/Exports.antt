@@ -2,19 +2,19 @@
 use Rattle.std.specs.Prelude.{ℕ, Bool, true, false, ◌&&◌, List, Option, Some, None, map, option_and_then, bytes_eq}
 use Rattle.std.specs.String.{string_bytes}
 use Rattle.walrus_base.specs.Id.{place}
-use Rattle.walrus_base.specs.Arena.{slots, entries_left, with_item}
+use Rattle.walrus_base.specs.declared.keys.ExportKey.{ExportKey}
 use Rattle.walrus_base.specs.declared.id.Id.{Id}
 use Rattle.walrus_base.specs.declared.keys.FunctionKey.{FunctionKey}
 use Rattle.walrus_types.specs.Operators.{Tables, Memories, Globals, Tags, Item, function_item}
 use Rattle.walrus_items.specs.Items.{is_item}
-use Rattle.walrus_items.specs.Seen.{seen}
 use Rattle.walrus_items.specs.Searches.{first}
+use Rattle.walrus_items.specs.Held.{held, held_left, held_entries_left}
+use Rattle.walrus_items.specs.declared.items.Items.{Items}
+use Rattle.walrus_items.specs.declared.items.ItemIter.{ItemIter}
+use Rattle.walrus_items.specs.declared.items.ItemEntries.{ItemEntries}
 use Rattle.walrus_items.specs.declared.exports.Export.{Export}
 use Rattle.walrus_items.specs.declared.exports.ExportItem.{ExportItem}
 use Rattle.walrus_items.specs.declared.exports.ExportItem.TheVariants.{Function, Table, Memory, Global, Tag}
-use Rattle.walrus_items.specs.declared.exports.ModuleExports.{ModuleExports}
-use Rattle.walrus_items.specs.declared.exports.ExportIter.{ExportIter}
-use Rattle.walrus_items.specs.declared.exports.ExportEntries.{ExportEntries}
 
 -- the place of an export's own id, its name, and what it exports
 pub record ExportValue : Type 0 where
@@ -41,21 +41,20 @@ exported_function (Memory m) = None
 exported_function (Global g) = None
 exported_function (Tag t) = None
 
+abbrev pub ModuleExports : Type 0
+ModuleExports = Items ExportKey Export
+
 -- the export or nothing at each place from 0 on
 abbrev pub exports : ModuleExports → List (Option ExportValue)
-exports all = seen export_value (slots all.arena)
-
--- the exports with this one at a place
-abbrev pub with_export : ModuleExports → ℕ → Export → ModuleExports
-with_export all place e = record all { arena = with_item all.arena place e }
+exports all = held export_value all
 
 -- the exports that are still to come
-abbrev pub exports_left : ExportIter → List ExportValue
-exports_left left = map (λ e. export_value e.1) (entries_left left.rest)
+abbrev pub exports_left : ItemIter ExportKey Export → List ExportValue
+exports_left left = held_left export_value left
 
 -- the exports that are still to come, with their places
-abbrev pub export_entries_left : ExportEntries → List (ℕ × ExportValue)
-export_entries_left left = map (λ e. (e.0, export_value e.1)) (entries_left left.rest)
+abbrev pub export_entries_left : ItemEntries ExportKey Export → List (ℕ × ExportValue)
+export_entries_left left = held_entries_left export_value left
 
 -- the export has this name
 abbrev pub is_named : List ℕ → ExportValue → Bool

@@ -2,18 +2,20 @@
 use Rattle.std.specs.Prelude.{ℕ, Bool, List, [], ◌∷◌, ◌++◌, Option, Some, None, map, ⊤}
 use Rattle.std.specs.Option.{option_to_list}
 use Rattle.walrus_base.specs.Id.{place}
-use Rattle.walrus_base.specs.Arena.{slots, entries_left, with_item}
+use Rattle.walrus_base.specs.declared.keys.FunctionKey.{FunctionKey}
+use Rattle.walrus_base.specs.Arena.{slots, entries_left}
 use Rattle.walrus_base.specs.declared.id.Id.{Id}
 use Rattle.walrus_base.specs.declared.keys.TypeKey.{TypeKey}
 use Rattle.walrus_code.specs.Function.{function_type}
 use Rattle.walrus_code.specs.declared.function.LocalFunction.{LocalFunction}
-use Rattle.walrus_items.specs.Seen.{seen, text_of, text_is}
+use Rattle.walrus_items.specs.Seen.{text_of, text_is}
+use Rattle.walrus_items.specs.Held.{held, held_left, held_entries_left}
+use Rattle.walrus_items.specs.declared.items.Items.{Items}
+use Rattle.walrus_items.specs.declared.items.ItemIter.{ItemIter}
+use Rattle.walrus_items.specs.declared.items.ItemEntries.{ItemEntries}
 use Rattle.walrus_items.specs.declared.functions.Function.{Function}
 use Rattle.walrus_items.specs.declared.functions.FunctionKind.{FunctionKind}
 use Rattle.walrus_items.specs.declared.functions.FunctionKind.TheVariants.{Import, Local, Uninitialized}
-use Rattle.walrus_items.specs.declared.functions.ModuleFunctions.{ModuleFunctions}
-use Rattle.walrus_items.specs.declared.functions.FunctionIter.{FunctionIter}
-use Rattle.walrus_items.specs.declared.functions.FunctionEntries.{FunctionEntries}
 use Rattle.walrus_items.specs.declared.functions.LocalFunctionIter.{LocalFunctionIter}
 
 -- the place of a function's own id, its kind, and the bytes of its name
@@ -43,21 +45,20 @@ IsLocal (Local f) = ⊤
 IsLocal (Import i) = ⊥
 IsLocal (Uninitialized ty) = ⊥
 
+abbrev pub ModuleFunctions : Type 0
+ModuleFunctions = Items FunctionKey Function
+
 -- the function or nothing at each place from 0 on
 abbrev pub functions : ModuleFunctions → List (Option FunctionValue)
-functions all = seen function_value (slots all.arena)
-
--- the functions with this one at a place
-abbrev pub with_function : ModuleFunctions → ℕ → Function → ModuleFunctions
-with_function all place f = record all { arena = with_item all.arena place f }
+functions all = held function_value all
 
 -- the functions that are still to come
-abbrev pub functions_left : FunctionIter → List FunctionValue
-functions_left left = map (λ e. function_value e.1) (entries_left left.rest)
+abbrev pub functions_left : ItemIter FunctionKey Function → List FunctionValue
+functions_left left = held_left function_value left
 
 -- the functions that are still to come, with their places
-abbrev pub function_entries_left : FunctionEntries → List (ℕ × FunctionValue)
-function_entries_left left = map (λ e. (e.0, function_value e.1)) (entries_left left.rest)
+abbrev pub function_entries_left : ItemEntries FunctionKey Function → List (ℕ × FunctionValue)
+function_entries_left left = held_entries_left function_value left
 
 -- the function's body with its place, if it has one
 abbrev pub local_at : ℕ → FunctionKind → Option (ℕ × LocalFunction)

@@ -2,21 +2,21 @@
 use Rattle.std.specs.Prelude.{ℕ, Bool, true, false, ◌&&◌, List, Option, Some, None, map, option_and_then, bytes_eq}
 use Rattle.std.specs.String.{string_bytes}
 use Rattle.walrus_base.specs.Id.{place}
-use Rattle.walrus_base.specs.Arena.{slots, entries_left, with_item}
+use Rattle.walrus_base.specs.declared.keys.ImportKey.{ImportKey}
 use Rattle.walrus_base.specs.declared.id.Id.{Id}
 use Rattle.walrus_base.specs.declared.keys.FunctionKey.{FunctionKey}
 use Rattle.walrus_types.specs.Operators.{Tables, Memories, Globals, Tags, Item, function_item}
 use Rattle.walrus_items.specs.Items.{is_item}
 use Rattle.walrus_items.specs.Marks.{has_item}
-use Rattle.walrus_items.specs.Seen.{seen}
 use Rattle.walrus_items.specs.Searches.{first}
+use Rattle.walrus_items.specs.Held.{held, held_left, held_entries_left}
+use Rattle.walrus_items.specs.declared.items.Items.{Items}
+use Rattle.walrus_items.specs.declared.items.ItemIter.{ItemIter}
+use Rattle.walrus_items.specs.declared.items.ItemEntries.{ItemEntries}
 use Rattle.walrus_items.specs.declared.imports.Import.{Import}
 use Rattle.walrus_items.specs.declared.imports.ImportKind.{ImportKind}
 use Rattle.walrus_items.specs.declared.imports.ImportKind.TheVariants.{Function, Table, Memory, Global, Tag}
 use Rattle.walrus_items.specs.declared.marks.ItemMarks.{ItemMarks}
-use Rattle.walrus_items.specs.declared.imports.ModuleImports.{ModuleImports}
-use Rattle.walrus_items.specs.declared.imports.ImportIter.{ImportIter}
-use Rattle.walrus_items.specs.declared.imports.ImportEntries.{ImportEntries}
 
 -- the place of an import's own id, its two names, and what it imports
 pub record ImportValue : Type 0 where
@@ -44,21 +44,20 @@ imported_function (Memory m) = None
 imported_function (Global g) = None
 imported_function (Tag t) = None
 
+abbrev pub ModuleImports : Type 0
+ModuleImports = Items ImportKey Import
+
 -- the import or nothing at each place from 0 on
 abbrev pub imports : ModuleImports → List (Option ImportValue)
-imports all = seen import_value (slots all.arena)
-
--- the imports with this one at a place
-abbrev pub with_import : ModuleImports → ℕ → Import → ModuleImports
-with_import all place i = record all { arena = with_item all.arena place i }
+imports all = held import_value all
 
 -- the imports that are still to come
-abbrev pub imports_left : ImportIter → List ImportValue
-imports_left left = map (λ e. import_value e.1) (entries_left left.rest)
+abbrev pub imports_left : ItemIter ImportKey Import → List ImportValue
+imports_left left = held_left import_value left
 
 -- the imports that are still to come, with their places
-abbrev pub import_entries_left : ImportEntries → List (ℕ × ImportValue)
-import_entries_left left = map (λ e. (e.0, import_value e.1)) (entries_left left.rest)
+abbrev pub import_entries_left : ItemEntries ImportKey Import → List (ℕ × ImportValue)
+import_entries_left left = held_entries_left import_value left
 
 -- the import has these two names
 abbrev pub is_import_of : (module_name name : List ℕ) → ImportValue → Bool

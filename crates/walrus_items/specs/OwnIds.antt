@@ -3,10 +3,8 @@ use Rattle.std.specs.Prelude.{ℕ, ◌≡◌, List, Option, Some}
 use Rattle.walrus_base.specs.Arena.{item_at}
 use Rattle.walrus_types.specs.Locals.{locals, local_place}
 use Rattle.walrus_types.specs.declared.locals.ModuleLocals.{ModuleLocals}
-use Rattle.walrus_items.specs.Exports.{exports}
-use Rattle.walrus_items.specs.Functions.{functions}
-use Rattle.walrus_items.specs.declared.exports.ModuleExports.{ModuleExports}
-use Rattle.walrus_items.specs.declared.functions.ModuleFunctions.{ModuleFunctions}
+use Rattle.walrus_items.specs.Exports.{ModuleExports, exports}
+use Rattle.walrus_items.specs.Functions.{ModuleFunctions, functions}
 
 -- the own id of each live item is its place
 abbrev pub AtOwnIds : {T : Type 0} → (own : T → ℕ) → List (Option T) → Type 0

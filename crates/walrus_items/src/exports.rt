@@ -12,9 +12,10 @@ ghost use Rattle.walrus_items.specs.Items.{is_item};
 ghost use Rattle.walrus_items.specs.Searches.{first, RemovesFound};
 ghost use Rattle.walrus_items.specs.declared.exports.ExportItem.TheVariants.{Function, Table, Memory, Global, Tag};
 
+use crate::items::{Item, ItemEntries, ItemIter, Items};
 use std::alloc::Global;
 use walrus_base::{
-    ArenaIter, ExportId, ExportKey, FunctionId, GlobalId, MemoryId, TableId, TagId, TombstoneArena,
+    ExportId, ExportKey, FunctionId, GlobalId, MemoryId, TableId, TagId,
 };
 use walrus_parts::{Error, ItemId, Result};
 
@@ -137,35 +138,25 @@ impl Export {
     }
 }
 
-/// The exports of a module, by their ids. Deleted ids are never used again.
-#[derive(Drop)]
-pub struct ModuleExports {
-    arena: TombstoneArena<ExportKey, Export>,
-    alloc: Global,
+impl Item for Export {
+    ghost use Rattle.walrus_items.specs.Exports.{ExportValue, export_value};
+
+    ghost Seen = { ExportValue };
+
+    ghost value = { export_value };
 }
 
-impl ModuleExports {
+/// The exports of a module, by their ids. Deleted ids are never used again.
+pub type ModuleExports = Items<ExportKey, Export>;
+
+impl Items<ExportKey, Export> {
     ghost use Rattle.walrus_items.specs.Exports.{ExportValue, export_value, exports, exports_left, export_entries_left, exported, is_named, exports_item, function_named};
-    ghost use Rattle.walrus_items.specs.LendsExport.{LendsExport};
 
     /// No exports. Takes no memory until the first one comes.
     pub fn new(alloc: Global) -> ModuleExports
         ensures { exports result ≡ [] }
     {
-        ModuleExports {
-            arena: TombstoneArena::new(alloc),
-            alloc,
-        }
-    }
-
-    /// Makes room for `additional` more exports, but for their names. `Memory` is the only error.
-    pub fn reserve(&mut self, additional: usize) -> Result<()>
-        ensures same { exports self.new ≡ exports self.old }
-        ensures room { OnOk result (HasRoom self.new.arena additional) }
-        ensures fails { IsOkUnless result out_of_memory }
-    {
-        self.arena.reserve(additional)?;
-        Ok(())
+        Items::empty(alloc)
     }
 
     /// Exports an item under a name. `Memory` is the only error; then nothing changes.
@@ -181,76 +172,12 @@ impl ModuleExports {
         Ok(self.arena.alloc(Export { id, name, item })?)
     }
 
-    /// The export of a live id.
-    pub fn get(&self, id: ExportId) -> &Export
-        requires { IsLive (exports self.now) (place id) }
-        ensures { item_at (exports self.now) (place id) ≡ Some (export_value result.now) }
-    {
-        self.arena.get(id)
-    }
-
-    /// The export of a live id, for writing.
-    pub fn get_mut(&mut self, id: ExportId) -> &mut Export
-        requires { IsLive (exports self.old) (place id) }
-        ensures* writes_back { sem 𝓛 (LendsExport self.entry (place id) result) }
-        ensures value { item_at (exports self.old) (place id) ≡ Some (export_value result.now) }
-    {
-        self.arena.get_mut(id)
-    }
-
-    /// Whether the export of the id is there.
-    pub fn contains(&self, id: ExportId) -> bool
-        ensures { IsTrue result ↔ IsLive (exports self.now) (place id) }
-    {
-        self.arena.contains(id)
-    }
-
-    /// Takes the export of a live id away.
-    pub fn delete(&mut self, id: ExportId)
-        requires { IsLive (exports self.old) (place id) }
-        ensures { exports self.new ≡ slice_set (exports self.old) (place id) None }
-    {
-        let _ = self.arena.delete(id);
-    }
-
     /// Takes the export of a live id away: another name of `delete`.
     pub fn remove_root(&mut self, id: ExportId)
         requires { IsLive (exports self.old) (place id) }
         ensures { exports self.new ≡ slice_set (exports self.old) (place id) None }
     {
         self.delete(id);
-    }
-
-    /// How many exports there are.
-    pub fn len(&self) -> usize
-        ensures { result ≡ count_by is_some (exports self.now) }
-    {
-        self.arena.len()
-    }
-
-    /// Whether there is no export.
-    pub fn is_empty(&self) -> bool
-        ensures { IsTrue result ↔ (count_by is_some (exports self.now) ≡ 0) }
-    {
-        self.len() == 0
-    }
-
-    /// The exports, by rising id.
-    pub fn iter(&self) -> ExportIter<'_>
-        ensures { exports_left result ≡ items (exports self.now) }
-    {
-        ExportIter {
-            rest: self.arena.iter(),
-        }
-    }
-
-    /// The exports with their ids, by rising id.
-    pub fn iter_entries(&self) -> ExportEntries<'_>
-        ensures { export_entries_left result ≡ entries (exports self.now) }
-    {
-        ExportEntries {
-            rest: self.arena.iter(),
-        }
     }
 
     /// The first function exported under this name, or `NotFound` where there is none.
@@ -341,44 +268,7 @@ impl ModuleExports {
 }
 
 /// The exports of a module, by rising id.
-#[derive(Drop)]
-pub struct ExportIter<'a> {
-    rest: ArenaIter<'a, ExportKey, Export>,
-}
-
-impl<'a> Iterator for ExportIter<'a> {
-    type Item = &'a Export;
-
-    ghost use Rattle.walrus_items.specs.Exports.{export_value, exports_left};
-
-    ghost next_gives = { YieldsFirstBy (λ e. export_value e.now) exports_left };
-
-    ghost remaining = { item_count exports_left };
-
-    fn next(&mut self) -> Option<&'a Export> {
-        match self.rest.next() {
-            Some((_, export)) => Some(export),
-            None => None,
-        }
-    }
-}
+pub type ExportIter<'a> = ItemIter<'a, ExportKey, Export>;
 
 /// The exports of a module with their ids, by rising id.
-#[derive(Drop)]
-pub struct ExportEntries<'a> {
-    rest: ArenaIter<'a, ExportKey, Export>,
-}
-
-impl<'a> Iterator for ExportEntries<'a> {
-    type Item = (ExportId, &'a Export);
-
-    ghost use Rattle.walrus_items.specs.Exports.{export_value, export_entries_left};
-
-    ghost next_gives = { YieldsFirstBy (λ e. (place e.0, export_value e.1.now)) export_entries_left };
-
-    ghost remaining = { item_count export_entries_left };
-
-    fn next(&mut self) -> Option<(ExportId, &'a Export)> {
-        self.rest.next()
-    }
-}
+pub type ExportEntries<'a> = ItemEntries<'a, ExportKey, Export>;

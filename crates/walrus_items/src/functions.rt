@@ -4,16 +4,16 @@ ghost use Rattle.std.specs.Borrow.{sem};
 ghost use Rattle.std.specs.Iterator.{YieldsFirstBy, item_count};
 ghost use Rattle.walrus_base.specs.Id.{place};
 ghost use Rattle.walrus_base.specs.Arena.{HasRoom, item_at, IsLive, items, entries, kept_by};
-ghost use Rattle.walrus_base.specs.IdSet.{has_id};
 ghost use Rattle.walrus_parts.specs.Errors.{out_of_memory};
 ghost use Rattle.walrus_items.specs.Seen.{text_of, text_is};
 ghost use Rattle.walrus_items.specs.Searches.{first};
 ghost use Rattle.walrus_items.specs.declared.functions.FunctionKind.TheVariants.{Import, Local};
 
+use crate::items::{Item, ItemEntries, ItemIter, Items, Marked};
 use std::alloc::{AllocError, Global};
 use std::result;
 use walrus_base::{
-    ArenaIter, FunctionId, FunctionKey, IdHashSet, ImportId, TombstoneArena, TypeId,
+    FunctionId, FunctionKey, ImportId, TypeId,
 };
 use walrus_ir::LocalFunction;
 use walrus_parts::Result;
@@ -141,41 +141,28 @@ fn is_text(text: &Option<String>, name: &str) -> bool
     }
 }
 
-/// The functions of a module, by their ids. Deleted ids are never used again.
-#[derive(Drop)]
-pub struct ModuleFunctions {
-    arena: TombstoneArena<FunctionKey, Function>,
+impl Item for Function {
+    ghost use Rattle.walrus_items.specs.Functions.{FunctionValue, function_value};
+
+    ghost Seen = { FunctionValue };
+
+    ghost value = { function_value };
 }
 
-impl ModuleFunctions {
+impl Marked for Function {}
+
+/// The functions of a module, by their ids. Deleted ids are never used again.
+pub type ModuleFunctions = Items<FunctionKey, Function>;
+
+impl Items<FunctionKey, Function> {
     ghost use Rattle.walrus_items.specs.Functions.{FunctionValue, function_value, functions, functions_left, function_entries_left, locals_left, local_functions, is_called};
-    ghost use Rattle.walrus_items.specs.LendsFunction.{LendsFunction};
 
     /// No functions. `Memory` is the only error.
     pub fn new(alloc: Global) -> Result<ModuleFunctions>
         ensures value { IfOk result (λ all. functions all ≡ []) }
         ensures fails { IsOkUnless result out_of_memory }
     {
-        Ok(ModuleFunctions {
-            arena: TombstoneArena::new(alloc),
-        })
-    }
-
-    /// Makes room for `additional` more functions. `Memory` is the only error.
-    pub fn reserve(&mut self, additional: usize) -> Result<()>
-        ensures same { functions self.new ≡ functions self.old }
-        ensures room { OnOk result (HasRoom self.new.arena additional) }
-        ensures fails { IsOkUnless result out_of_memory }
-    {
-        self.arena.reserve(additional)?;
-        Ok(())
-    }
-
-    /// The id that the next function gets.
-    pub fn next_id(&self) -> FunctionId
-        ensures { place result ≡ length (functions self.now) }
-    {
-        self.arena.next_id()
+        Ok(Items::empty(alloc))
     }
 
     /// Adds a function that this import brings in, without a name. `Memory` is the only error; then nothing changes.
@@ -223,77 +210,6 @@ impl ModuleFunctions {
         )
     }
 
-    /// The function of a live id.
-    pub fn get(&self, id: FunctionId) -> &Function
-        requires { IsLive (functions self.now) (place id) }
-        ensures { item_at (functions self.now) (place id) ≡ Some (function_value result.now) }
-    {
-        self.arena.get(id)
-    }
-
-    /// The function of a live id, for writing.
-    pub fn get_mut(&mut self, id: FunctionId) -> &mut Function
-        requires { IsLive (functions self.old) (place id) }
-        ensures* writes_back { sem 𝓛 (LendsFunction self.entry (place id) result) }
-        ensures value { item_at (functions self.old) (place id) ≡ Some (function_value result.now) }
-    {
-        self.arena.get_mut(id)
-    }
-
-    /// Whether the function of the id is there.
-    pub fn contains(&self, id: FunctionId) -> bool
-        ensures { IsTrue result ↔ IsLive (functions self.now) (place id) }
-    {
-        self.arena.contains(id)
-    }
-
-    /// Takes the function of a live id away.
-    pub fn delete(&mut self, id: FunctionId)
-        requires { IsLive (functions self.old) (place id) }
-        ensures { functions self.new ≡ slice_set (functions self.old) (place id) None }
-    {
-        let _ = self.arena.delete(id);
-    }
-
-    /// Deletes every function whose id isn't in the set. The others stay, and so do all places. Takes no memory.
-    pub fn keep_only(&mut self, marks: &IdHashSet<FunctionKey>)
-        ensures { functions self.new ≡ kept_by (has_id marks.now) (functions self.old) }
-    {
-        self.arena.keep_only(marks);
-    }
-
-    /// How many functions there are.
-    pub fn len(&self) -> usize
-        ensures { result ≡ count_by is_some (functions self.now) }
-    {
-        self.arena.len()
-    }
-
-    /// Whether there is no function.
-    pub fn is_empty(&self) -> bool
-        ensures { IsTrue result ↔ (count_by is_some (functions self.now) ≡ 0) }
-    {
-        self.len() == 0
-    }
-
-    /// The functions, by rising id.
-    pub fn iter(&self) -> FunctionIter<'_>
-        ensures { functions_left result ≡ items (functions self.now) }
-    {
-        FunctionIter {
-            rest: self.arena.iter(),
-        }
-    }
-
-    /// The functions with their ids, by rising id.
-    pub fn iter_entries(&self) -> FunctionEntries<'_>
-        ensures { function_entries_left result ≡ entries (functions self.now) }
-    {
-        FunctionEntries {
-            rest: self.arena.iter(),
-        }
-    }
-
     /// The functions with a body, with their ids, by rising id.
     pub fn iter_local(&self) -> LocalFunctionIter<'_>
         ensures { locals_left result ≡ local_functions (entries (functions self.now)) }
@@ -318,47 +234,10 @@ impl ModuleFunctions {
 }
 
 /// The functions of a module, by rising id.
-#[derive(Drop)]
-pub struct FunctionIter<'a> {
-    rest: ArenaIter<'a, FunctionKey, Function>,
-}
-
-impl<'a> Iterator for FunctionIter<'a> {
-    type Item = &'a Function;
-
-    ghost use Rattle.walrus_items.specs.Functions.{function_value, functions_left};
-
-    ghost next_gives = { YieldsFirstBy (λ f. function_value f.now) functions_left };
-
-    ghost remaining = { item_count functions_left };
-
-    fn next(&mut self) -> Option<&'a Function> {
-        match self.rest.next() {
-            Some((_, function)) => Some(function),
-            None => None,
-        }
-    }
-}
+pub type FunctionIter<'a> = ItemIter<'a, FunctionKey, Function>;
 
 /// The functions of a module with their ids, by rising id.
-#[derive(Drop)]
-pub struct FunctionEntries<'a> {
-    rest: ArenaIter<'a, FunctionKey, Function>,
-}
-
-impl<'a> Iterator for FunctionEntries<'a> {
-    type Item = (FunctionId, &'a Function);
-
-    ghost use Rattle.walrus_items.specs.Functions.{function_value, function_entries_left};
-
-    ghost next_gives = { YieldsFirstBy (λ f. (place f.0, function_value f.1.now)) function_entries_left };
-
-    ghost remaining = { item_count function_entries_left };
-
-    fn next(&mut self) -> Option<(FunctionId, &'a Function)> {
-        self.rest.next()
-    }
-}
+pub type FunctionEntries<'a> = ItemEntries<'a, FunctionKey, Function>;
 
 /// The functions of a module that have a body, with their ids, by rising id.
 #[derive(Drop)]

@@ -11,10 +11,11 @@ ghost use Rattle.walrus_items.specs.Keeping.{kept_slot, kept_where};
 ghost use Rattle.walrus_items.specs.Searches.{first, RemovesFound};
 ghost use Rattle.walrus_items.specs.declared.imports.ImportKind.TheVariants.{Function, Table, Memory, Global, Tag};
 
+use crate::items::{Item, ItemEntries, ItemIter, Items};
 use crate::marks::ItemMarks;
 use std::alloc::Global;
 use walrus_base::{
-    ArenaIter, FunctionId, GlobalId, ImportId, ImportKey, MemoryId, TableId, TagId, TombstoneArena,
+    FunctionId, GlobalId, ImportId, ImportKey, MemoryId, TableId, TagId,
 };
 use walrus_parts::{Error, Result};
 
@@ -109,42 +110,25 @@ impl Import {
     }
 }
 
-/// The imports of a module, by their ids. Deleted ids are never used again.
-#[derive(Drop)]
-pub struct ModuleImports {
-    arena: TombstoneArena<ImportKey, Import>,
-    alloc: Global,
+impl Item for Import {
+    ghost use Rattle.walrus_items.specs.Imports.{ImportValue, import_value};
+
+    ghost Seen = { ImportValue };
+
+    ghost value = { import_value };
 }
 
-impl ModuleImports {
+/// The imports of a module, by their ids. Deleted ids are never used again.
+pub type ModuleImports = Items<ImportKey, Import>;
+
+impl Items<ImportKey, Import> {
     ghost use Rattle.walrus_items.specs.Imports.{ImportValue, import_value, imported, imports, imports_left, import_entries_left, is_import_of, imports_item, function_of, stays_under};
-    ghost use Rattle.walrus_items.specs.LendsImport.{LendsImport};
 
     /// No imports. Takes no memory until the first one comes.
     pub fn new(alloc: Global) -> ModuleImports
         ensures { imports result ≡ [] }
     {
-        ModuleImports {
-            arena: TombstoneArena::new(alloc),
-            alloc,
-        }
-    }
-
-    /// Makes room for `additional` more imports, but for their names. `Memory` is the only error.
-    pub fn reserve(&mut self, additional: usize) -> Result<()>
-        ensures same { imports self.new ≡ imports self.old }
-        ensures room { OnOk result (HasRoom self.new.arena additional) }
-        ensures fails { IsOkUnless result out_of_memory }
-    {
-        self.arena.reserve(additional)?;
-        Ok(())
-    }
-
-    /// The id that the next import gets.
-    pub fn next_id(&self) -> ImportId
-        ensures { place result ≡ length (imports self.now) }
-    {
-        self.arena.next_id()
+        Items::empty(alloc)
     }
 
     /// Imports an item by the name of its module and its own. `Memory` is the only error; then nothing changes.
@@ -173,38 +157,6 @@ impl ModuleImports {
         )
     }
 
-    /// The import of a live id.
-    pub fn get(&self, id: ImportId) -> &Import
-        requires { IsLive (imports self.now) (place id) }
-        ensures { item_at (imports self.now) (place id) ≡ Some (import_value result.now) }
-    {
-        self.arena.get(id)
-    }
-
-    /// The import of a live id, for writing.
-    pub fn get_mut(&mut self, id: ImportId) -> &mut Import
-        requires { IsLive (imports self.old) (place id) }
-        ensures* writes_back { sem 𝓛 (LendsImport self.entry (place id) result) }
-        ensures value { item_at (imports self.old) (place id) ≡ Some (import_value result.now) }
-    {
-        self.arena.get_mut(id)
-    }
-
-    /// Whether the import of the id is there.
-    pub fn contains(&self, id: ImportId) -> bool
-        ensures { IsTrue result ↔ IsLive (imports self.now) (place id) }
-    {
-        self.arena.contains(id)
-    }
-
-    /// Takes the import of a live id away.
-    pub fn delete(&mut self, id: ImportId)
-        requires { IsLive (imports self.old) (place id) }
-        ensures { imports self.new ≡ slice_set (imports self.old) (place id) None }
-    {
-        let _ = self.arena.delete(id);
-    }
-
     /// Deletes every import whose item isn't marked. The others stay, and so do all places. Takes no memory.
     pub fn keep_only(&mut self, marks: ItemMarks<'_>)
         ensures { imports self.new ≡ kept_where (stays_under marks.entry) (imports self.old) }
@@ -221,38 +173,6 @@ impl ModuleImports {
     {
         if self.arena.contains(id) && !marks.has_import(self.arena.get(id).kind) {
             self.delete(id);
-        }
-    }
-
-    /// How many imports there are.
-    pub fn len(&self) -> usize
-        ensures { result ≡ count_by is_some (imports self.now) }
-    {
-        self.arena.len()
-    }
-
-    /// Whether there is no import.
-    pub fn is_empty(&self) -> bool
-        ensures { IsTrue result ↔ (count_by is_some (imports self.now) ≡ 0) }
-    {
-        self.len() == 0
-    }
-
-    /// The imports, by rising id.
-    pub fn iter(&self) -> ImportIter<'_>
-        ensures { imports_left result ≡ items (imports self.now) }
-    {
-        ImportIter {
-            rest: self.arena.iter(),
-        }
-    }
-
-    /// The imports with their ids, by rising id.
-    pub fn iter_entries(&self) -> ImportEntries<'_>
-        ensures { import_entries_left result ≡ entries (imports self.now) }
-    {
-        ImportEntries {
-            rest: self.arena.iter(),
         }
     }
 
@@ -314,44 +234,7 @@ impl ModuleImports {
 }
 
 /// The imports of a module, by rising id.
-#[derive(Drop)]
-pub struct ImportIter<'a> {
-    rest: ArenaIter<'a, ImportKey, Import>,
-}
-
-impl<'a> Iterator for ImportIter<'a> {
-    type Item = &'a Import;
-
-    ghost use Rattle.walrus_items.specs.Imports.{import_value, imports_left};
-
-    ghost next_gives = { YieldsFirstBy (λ i. import_value i.now) imports_left };
-
-    ghost remaining = { item_count imports_left };
-
-    fn next(&mut self) -> Option<&'a Import> {
-        match self.rest.next() {
-            Some((_, import)) => Some(import),
-            None => None,
-        }
-    }
-}
+pub type ImportIter<'a> = ItemIter<'a, ImportKey, Import>;
 
 /// The imports of a module with their ids, by rising id.
-#[derive(Drop)]
-pub struct ImportEntries<'a> {
-    rest: ArenaIter<'a, ImportKey, Import>,
-}
-
-impl<'a> Iterator for ImportEntries<'a> {
-    type Item = (ImportId, &'a Import);
-
-    ghost use Rattle.walrus_items.specs.Imports.{import_value, import_entries_left};
-
-    ghost next_gives = { YieldsFirstBy (λ e. (place e.0, import_value e.1.now)) import_entries_left };
-
-    ghost remaining = { item_count import_entries_left };
-
-    fn next(&mut self) -> Option<(ImportId, &'a Import)> {
-        self.rest.next()
-    }
-}
+pub type ImportEntries<'a> = ItemEntries<'a, ImportKey, Import>;

@@ -1,0 +1,7 @@
+use Rattle.std.proofs.Common.{sym}
+use Rattle.walrus_base.specs.Arena.{slots}
+use Rattle.walrus_items.proofs.SeenLemmas.{items-seen}
+use Rattle.walrus_items.proofs.items.Items.iter.Goals as goal
+
+pub returns : goal.returns
+returns g c = rw c.iter.ensures (sym (items-seen g.T.Item.value (slots c.args.self.now.arena)))

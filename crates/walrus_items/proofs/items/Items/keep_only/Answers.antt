@@ -1,0 +1,9 @@
+use Rattle.std.proofs.Common.{ap, ◌∙◌}
+use Rattle.walrus_base.specs.Arena.{slots}
+use Rattle.walrus_base.specs.Marks.{is_marked}
+use Rattle.walrus_base.proofs.Kept.{map-kept_by}
+use Rattle.walrus_items.specs.Seen.{seen}
+use Rattle.walrus_items.proofs.items.Items.keep_only.Goals as goal
+
+pub returns : goal.returns
+returns g c = ap (λ s. seen g.T.Item.value s) c.keep_only.ensures.kept ∙ map-kept_by g.T.Item.value (is_marked c.args.marks.now) (slots c.args.self.now.arena)
