@@ -19,29 +19,22 @@ use Rattle.walrus_types.specs.PlaceList.{has}
 use Rattle.walrus_types.specs.TypeDef.{TypeDef}
 use Rattle.walrus_types.specs.Whole.{KeepsGroups}
 use Rattle.walrus_types.proofs.Noted.{or_cases}
-use Rattle.walrus_items.specs.Functions.{functions}
-use Rattle.walrus_items.specs.Imports.{ImportValue, imported, stays_under}
-use Rattle.walrus_items.specs.Imports.{imports as imports_in}
+use Rattle.walrus_items.specs.Functions.{functions, ModuleFunctions}
+use Rattle.walrus_items.specs.Imports.{ImportValue, imported, stays_under, imports as imports_in, ModuleImports}
 use Rattle.walrus_items.specs.Keeping.{kept_slot, kept_where}
 use Rattle.walrus_items.specs.Marks.{has_item}
 use Rattle.walrus_items.specs.declared.imports.ImportKind.{ImportKind}
 use Rattle.walrus_items.specs.declared.imports.ImportKind.TheVariants as imports
-use Rattle.walrus_items.specs.declared.imports.ModuleImports.{ModuleImports}
 use Rattle.walrus_items.specs.declared.marks.ItemMarks.{ItemMarks}
-use Rattle.walrus_entities.specs.Globals.{globals as globals_in}
-use Rattle.walrus_entities.specs.Memories.{memories as memories_in}
-use Rattle.walrus_entities.specs.Tables.{tables as tables_in}
-use Rattle.walrus_entities.specs.Tags.{tags as tags_in}
-use Rattle.walrus_entities.specs.declared.globals.ModuleGlobals.{ModuleGlobals}
-use Rattle.walrus_entities.specs.declared.memories.ModuleMemories.{ModuleMemories}
-use Rattle.walrus_entities.specs.declared.tables.ModuleTables.{ModuleTables}
-use Rattle.walrus_entities.specs.declared.tags.ModuleTags.{ModuleTags}
+use Rattle.walrus_items.specs.Globals.{globals as globals_in, ModuleGlobals}
+use Rattle.walrus_items.specs.Memories.{memories as memories_in, ModuleMemories}
+use Rattle.walrus_items.specs.Tables.{tables as tables_in, ModuleTables}
+use Rattle.walrus_items.specs.Tags.{tags as tags_in, ModuleTags}
 use Rattle.walrus_contents.specs.View.{contents_view, global_of, import_of, memory_of, table_of, tag_of}
 use Rattle.walrus_contents.specs.declared.parts.Contents.{Contents}
 use Rattle.walrus_contents.proofs.Lookups.{mapped_some}
 use Rattle.walrus.specs.Marked.{IsMarked, MarksKept}
 use Rattle.walrus.specs.declared.passes.used.Used.{Used}
-use Rattle.walrus_items.specs.declared.functions.ModuleFunctions.{ModuleFunctions}
 use Rattle.walrus_model.specs.Abstract.{Abstract, Import}
 use Rattle.walrus_model.specs.Kept.{IsImportOf, Kept}
 use Rattle.walrus_model.specs.Pipeline.{Collected, KeepsOnly}

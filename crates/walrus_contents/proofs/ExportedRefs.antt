@@ -20,7 +20,7 @@ use Rattle.walrus_model.specs.Declared.{ref_func, IsRefInBody, IsRefInGlobal, Is
 use Rattle.walrus_model.specs.Live.{IsLive}
 use Rattle.walrus_model.specs.Names.{body_of as body_in, body_of_function}
 use Rattle.walrus_model.proofs.Lists.{Contains-head, Contains-tail, Contains-uncons, Contains-none}
-use Rattle.walrus_entities.specs.Globals.{GlobalValue, globals}
+use Rattle.walrus_items.specs.Globals.{GlobalValue, globals}
 use Rattle.walrus_contents.proofs.Lookups.{mapped_some}
 use Rattle.walrus_contents.specs.References.{is_exported, arg_passes, args_pass, op_passes, init_passes, kind_passes, all_pass, all_globals_pass, refs_are_exported}
 use Rattle.walrus_contents.specs.declared.parts.Contents.{Contents}

@@ -9,7 +9,7 @@ use Rattle.walrus_items.specs.Exports.{ExportValue, exports_item}
 use Rattle.walrus_items.specs.Functions.{FunctionValue}
 use Rattle.walrus_items.specs.declared.functions.FunctionKind.{FunctionKind}
 use Rattle.walrus_items.specs.declared.functions.FunctionKind.TheVariants as kind
-use Rattle.walrus_entities.specs.Globals.{GlobalValue}
+use Rattle.walrus_items.specs.Globals.{GlobalValue}
 use Rattle.walrus_model.specs.Abstract.{Abstract}
 use Rattle.walrus_model.specs.Declared.{IsUndeclared}
 use Rattle.walrus_model.specs.Live.{IsLive}

@@ -13,22 +13,15 @@ use Rattle.walrus_types.specs.declared.module_types.ModuleTypes.{ModuleTypes}
 use Rattle.walrus_code.specs.Function.{body_of}
 use Rattle.walrus_code.specs.declared.function.LocalFunction.{LocalFunction}
 use Rattle.walrus_functions.specs.EmittedBody.{types_of as local_types}
-use Rattle.walrus_items.specs.Exports.{ExportValue, exports, exported}
-use Rattle.walrus_items.specs.Functions.{FunctionValue, functions, kind_type}
-use Rattle.walrus_items.specs.Imports.{ImportValue, imports, imported}
-use Rattle.walrus_items.specs.declared.imports.ModuleImports.{ModuleImports}
-use Rattle.walrus_items.specs.declared.exports.ModuleExports.{ModuleExports}
+use Rattle.walrus_items.specs.Exports.{ExportValue, exports, exported, ModuleExports}
+use Rattle.walrus_items.specs.Functions.{FunctionValue, functions, kind_type, ModuleFunctions}
+use Rattle.walrus_items.specs.Imports.{ImportValue, imports, imported, ModuleImports}
 use Rattle.walrus_items.specs.declared.functions.FunctionKind.TheVariants as kind
 use Rattle.walrus_items.specs.declared.functions.FunctionKind.{FunctionKind}
-use Rattle.walrus_items.specs.declared.functions.ModuleFunctions.{ModuleFunctions}
-use Rattle.walrus_entities.specs.Globals.{GlobalValue, globals}
-use Rattle.walrus_entities.specs.Memories.{MemoryValue, memories}
-use Rattle.walrus_entities.specs.Tables.{TableValue, tables}
-use Rattle.walrus_entities.specs.Tags.{TagValue, tags}
-use Rattle.walrus_entities.specs.declared.globals.ModuleGlobals.{ModuleGlobals}
-use Rattle.walrus_entities.specs.declared.memories.ModuleMemories.{ModuleMemories}
-use Rattle.walrus_entities.specs.declared.tables.ModuleTables.{ModuleTables}
-use Rattle.walrus_entities.specs.declared.tags.ModuleTags.{ModuleTags}
+use Rattle.walrus_items.specs.Globals.{GlobalValue, globals, ModuleGlobals}
+use Rattle.walrus_items.specs.Memories.{MemoryValue, memories, ModuleMemories}
+use Rattle.walrus_items.specs.Tables.{TableValue, tables, ModuleTables}
+use Rattle.walrus_items.specs.Tags.{TagValue, tags, ModuleTags}
 use Rattle.walrus_model.specs.Abstract as abstract
 use Rattle.walrus_producers.specs.Seen.{producers}
 use Rattle.walrus_contents.specs.declared.parts.Contents.{Contents}

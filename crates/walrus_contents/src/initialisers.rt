@@ -4,9 +4,9 @@
 ghost use Rattle.std.specs.Prelude.{◌≡◌, map, option_map, OnOk};
 ghost use Rattle.std.specs.Option.{option_to_list};
 ghost use Rattle.walrus_code.specs.Code.{item_of};
-ghost use Rattle.walrus_entities.specs.Globals.{global_init, global_value};
-ghost use Rattle.walrus_entities.specs.Tables.{table_value};
-ghost use Rattle.walrus_entities.specs.Tags.{tag_value};
+ghost use Rattle.walrus_items.specs.Globals.{global_init, global_value};
+ghost use Rattle.walrus_items.specs.Tables.{table_value};
+ghost use Rattle.walrus_items.specs.Tags.{tag_value};
 ghost use Rattle.walrus_model.specs.Refers.{global_names, named_by, table_names, tag_names};
 ghost use Rattle.walrus_types.specs.ConstOps.{const_op, const_ops};
 ghost use Rattle.walrus_types.specs.Operators.{names_of, op_names, type_item};
@@ -19,8 +19,7 @@ ghost use Rattle.walrus_contents.specs.View.{global_of, table_of, tag_of};
 use crate::names::{push_heap_type, push_value_type};
 use std::alloc::AllocError;
 use std::result;
-use walrus_entities::{Global, GlobalKind, Table, Tag};
-use walrus_items::{HeapType, ItemId, TypeId};
+use walrus_items::{Global, GlobalKind, HeapType, ItemId, Table, Tag, TypeId};
 use walrus_types::{ConstExpr, ConstOp};
 
 // Puts what a table names behind `to`: the concrete type of its elements, and what its initialiser names, if no import brings it.

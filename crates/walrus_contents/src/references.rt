@@ -5,7 +5,7 @@ ghost use Rattle.walrus_base.specs.Arena.{items};
 ghost use Rattle.walrus_base.specs.IdSet.{has_id};
 ghost use Rattle.walrus_code.specs.Code.{arg_of, op_of};
 ghost use Rattle.walrus_code.specs.Function.{body_of};
-ghost use Rattle.walrus_entities.specs.Globals.{global_init, globals};
+ghost use Rattle.walrus_items.specs.Globals.{global_init, globals};
 ghost use Rattle.walrus_types.specs.ConstOps.{const_op, const_ops};
 ghost use Rattle.walrus_items.specs.Exports.{exported, exports};
 ghost use Rattle.walrus_items.specs.Functions.{functions};
@@ -18,11 +18,7 @@ ghost use Rattle.walrus_contents.specs.View.{parts_view};
 
 use crate::parts::Parts;
 use std::alloc::Global;
-use walrus_entities::{GlobalKind, ModuleGlobals};
-use walrus_items::{
-    Arg, ExportItem, FunctionKey, FunctionKind, IdHashSet, LocalFunction, ModuleExports,
-    ModuleFunctions, Operator, Result,
-};
+use walrus_items::{Arg, ExportItem, FunctionKey, FunctionKind, GlobalKind, IdHashSet, LocalFunction, ModuleExports, ModuleFunctions, ModuleGlobals, Operator, Result};
 use walrus_types::{ConstExpr, ConstOp};
 use wasm_opcodes::one_byte::REF_FUNC;
 

@@ -6,7 +6,7 @@ use test_support::{demand, first_id, second_id};
 use walrus_base::{
     GlobalId, GlobalKey, IdHashSet, MemoryId, MemoryKey, TableId, TableKey, TagId, TagKey,
 };
-use walrus_entities::{
+use walrus_items::{
     GlobalKind, ModuleGlobals, ModuleMemories, ModuleTables, ModuleTags, Tag, TagKind,
 };
 use walrus_ir::{AbstractHeapType, ConstExpr, HeapType, RefType, ValType, Value};

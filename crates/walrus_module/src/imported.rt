@@ -6,11 +6,11 @@ ghost use Rattle.walrus_items.specs.Functions.{functions};
 ghost use Rattle.walrus_items.specs.Imports.{imports};
 ghost use Rattle.walrus_items.specs.declared.functions.FunctionKind.TheVariants as functions;
 ghost use Rattle.walrus_items.specs.declared.imports.ImportKind.TheVariants.{Function, Table, Memory, Global, Tag};
-ghost use Rattle.walrus_entities.specs.Added.{no_segments};
-ghost use Rattle.walrus_entities.specs.Tables.{tables};
-ghost use Rattle.walrus_entities.specs.Memories.{memories};
-ghost use Rattle.walrus_entities.specs.Tags.{tags};
-ghost use Rattle.walrus_entities.specs.Globals.{globals};
+ghost use Rattle.walrus_items.specs.Added.{no_segments};
+ghost use Rattle.walrus_items.specs.Tables.{tables};
+ghost use Rattle.walrus_items.specs.Memories.{memories};
+ghost use Rattle.walrus_items.specs.Tags.{tags};
+ghost use Rattle.walrus_items.specs.Globals.{globals};
 ghost use Rattle.walrus_module.specs.Imported.{AddsImported};
 
 use crate::module::Module;

@@ -14,7 +14,7 @@ pub use config::ModuleConfig;
 pub use customs::{ModuleCustomSections, SectionIter};
 pub use entry::SectionEntry;
 pub use module::Module;
-pub use walrus_entities::{
+pub use walrus_items::{
     Global, GlobalEntries, GlobalIter, GlobalKind, Memory, MemoryEntries, MemoryIter,
     ModuleGlobals, ModuleMemories, ModuleTables, ModuleTags, Table, TableEntries, TableIter, Tag,
     TagEntries, TagIter, TagKind,

@@ -3,7 +3,7 @@ ghost use Rattle.std.specs.Prelude.{◌≡◌, map};
 ghost use Rattle.std.specs.Result.{result_map_both};
 ghost use Rattle.walrus_base.specs.Arena.{items};
 ghost use Rattle.walrus_base.specs.Id.{place};
-ghost use Rattle.walrus_entities.specs.Memories.{memories};
+ghost use Rattle.walrus_items.specs.Memories.{memories};
 ghost use Rattle.walrus_module.specs.OnlyMemory.{only_memory};
 
 use crate::module::Module;

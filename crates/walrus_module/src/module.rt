@@ -8,9 +8,8 @@ use crate::customs::ModuleCustomSections;
 use crate::entry::SectionEntry;
 use std::alloc::Global;
 use walrus_contents::Contents;
-use walrus_entities::{ModuleGlobals, ModuleMemories, ModuleTables, ModuleTags};
+use walrus_items::{ModuleExports, ModuleFunctions, ModuleGlobals, ModuleImports, ModuleMemories, ModuleTables, ModuleTags};
 use walrus_ir::{ModuleLocals, ModuleTypes};
-use walrus_items::{ModuleExports, ModuleFunctions, ModuleImports};
 use walrus_parts::Result;
 use walrus_producers::ModuleProducers;
 

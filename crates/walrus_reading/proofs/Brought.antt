@@ -12,11 +12,11 @@ use Rattle.walrus_types.specs.Operators.{Functions, Tables, Memories, Tags, Glob
 use Rattle.walrus_parts.specs.declared.error.Error.{Error}
 use Rattle.walrus_items.specs.Functions.{functions}
 use Rattle.walrus_items.specs.Imports.{imports, imported as imported_item}
-use Rattle.walrus_entities.specs.Added.{IsAdded}
-use Rattle.walrus_entities.specs.Globals.{globals}
-use Rattle.walrus_entities.specs.Memories.{memories}
-use Rattle.walrus_entities.specs.Tables.{tables}
-use Rattle.walrus_entities.specs.Tags.{tags}
+use Rattle.walrus_items.specs.Added.{IsAdded}
+use Rattle.walrus_items.specs.Globals.{globals}
+use Rattle.walrus_items.specs.Memories.{memories}
+use Rattle.walrus_items.specs.Tables.{tables}
+use Rattle.walrus_items.specs.Tags.{tags}
 use Rattle.walrus_model.specs.Abstract.{Import}
 use Rattle.walrus_model.specs.Sections.{imported, imported_function, imported_global, imported_memory, imported_table, imported_tag, imports_after, item_after}
 use Rattle.walrus_contents.specs.View.{HoldsNoOthers}

@@ -55,10 +55,10 @@ use Rattle.walrus_model.proofs.PipelineSame.{global_stays, import_stays, memory_
 use Rattle.walrus_reading.specs.Held.{HoldsGlobal, HoldsImport, HoldsMemory, HoldsTable, HoldsTag}
 use Rattle.walrus_reading.specs.Placed.{AllPlaced}
 use Rattle.walrus_items.specs.Imports.{imports}
-use Rattle.walrus_entities.specs.Globals.{globals}
-use Rattle.walrus_entities.specs.Memories.{memories}
-use Rattle.walrus_entities.specs.Tables.{tables}
-use Rattle.walrus_entities.specs.Tags.{tags}
+use Rattle.walrus_items.specs.Globals.{globals}
+use Rattle.walrus_items.specs.Memories.{memories}
+use Rattle.walrus_items.specs.Tables.{tables}
+use Rattle.walrus_items.specs.Tags.{tags}
 use Rattle.walrus_contents.specs.declared.parts.Contents.{Contents}
 use Rattle.walrus_contents.proofs.Lookups.{there}
 use Rattle.walrus_reading.proofs.Parsing.{used_below}

@@ -28,10 +28,10 @@ use Rattle.walrus_contents.proofs.Steps.{own_index}
 use Rattle.walrus_contents.proofs.Taking.{get_own, get_past}
 use Rattle.walrus_records.proofs.Images.{function_types_look, globals_look, memories_look, tables_look, tags_look, types_look}
 use Rattle.walrus_items.specs.Functions.{functions}
-use Rattle.walrus_entities.specs.Globals.{globals}
-use Rattle.walrus_entities.specs.Memories.{memories}
-use Rattle.walrus_entities.specs.Tables.{tables}
-use Rattle.walrus_entities.specs.Tags.{tags}
+use Rattle.walrus_items.specs.Globals.{globals}
+use Rattle.walrus_items.specs.Memories.{memories}
+use Rattle.walrus_items.specs.Tables.{tables}
+use Rattle.walrus_items.specs.Tags.{tags}
 use Rattle.walrus_contents.specs.declared.parts.Contents.{Contents}
 use Rattle.walrus_reading.specs.Held.{HoldsGlobal, HoldsImportedFunction, HoldsMemory, HoldsTable, HoldsTag}
 use Rattle.walrus_reading.specs.Imported.{HoldsImports}

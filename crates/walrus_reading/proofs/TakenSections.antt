@@ -17,10 +17,10 @@ use Rattle.walrus_groups.specs.Groups.{types_from}
 use Rattle.walrus_model.specs.Reads.{declared, is_function, context_with}
 use Rattle.walrus_model.specs.Sections.{Said, global_of, imported, imported_global, imports_after, imported_memory, imported_table, imported_tag, memory_of, table_of, tag_of, types_of}
 use Rattle.walrus_items.specs.Imports.{imports}
-use Rattle.walrus_entities.specs.Globals.{globals}
-use Rattle.walrus_entities.specs.Memories.{memories}
-use Rattle.walrus_entities.specs.Tables.{tables}
-use Rattle.walrus_entities.specs.Tags.{tags}
+use Rattle.walrus_items.specs.Globals.{globals}
+use Rattle.walrus_items.specs.Memories.{memories}
+use Rattle.walrus_items.specs.Tables.{tables}
+use Rattle.walrus_items.specs.Tags.{tags}
 use Rattle.walrus_contents.specs.declared.parts.Contents.{Contents}
 use Rattle.walrus_reading.specs.Held.{HoldsGlobal, HoldsImport, HoldsMemory, HoldsTable, HoldsTag}
 use Rattle.walrus_reading.specs.Imported.{HoldsImports}

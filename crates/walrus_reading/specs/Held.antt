@@ -4,11 +4,11 @@ use Rattle.std.specs.Prelude.{ℕ, Option, Some, None, ◌≡◌}
 use Rattle.walrus_types.specs.declared.locals.ModuleLocals.{ModuleLocals}
 use Rattle.walrus_items.specs.Functions.{FunctionValue}
 use Rattle.walrus_items.specs.Imports.{ImportValue}
-use Rattle.walrus_entities.specs.Added.{no_segments}
-use Rattle.walrus_entities.specs.Globals.{GlobalValue}
-use Rattle.walrus_entities.specs.Memories.{MemoryValue}
-use Rattle.walrus_entities.specs.Tables.{TableValue}
-use Rattle.walrus_entities.specs.Tags.{TagValue}
+use Rattle.walrus_items.specs.Added.{no_segments}
+use Rattle.walrus_items.specs.Globals.{GlobalValue}
+use Rattle.walrus_items.specs.Memories.{MemoryValue}
+use Rattle.walrus_items.specs.Tables.{TableValue}
+use Rattle.walrus_items.specs.Tags.{TagValue}
 use Rattle.walrus_model.specs.Abstract.{Function, Global, Import, Memory, Table, Tag}
 use Rattle.walrus_contents.specs.View as view
 

@@ -6,10 +6,10 @@ use Rattle.wasm_entries.specs.Record as entries
 use Rattle.walrus_types.specs.Operators.{Functions, Tables, Memories, Tags, Globals, Item}
 use Rattle.walrus_items.specs.Functions.{functions}
 use Rattle.walrus_items.specs.Imports.{imports}
-use Rattle.walrus_entities.specs.Globals.{globals}
-use Rattle.walrus_entities.specs.Memories.{memories}
-use Rattle.walrus_entities.specs.Tables.{tables}
-use Rattle.walrus_entities.specs.Tags.{tags}
+use Rattle.walrus_items.specs.Globals.{globals}
+use Rattle.walrus_items.specs.Memories.{memories}
+use Rattle.walrus_items.specs.Tables.{tables}
+use Rattle.walrus_items.specs.Tags.{tags}
 use Rattle.walrus_model.specs.Abstract.{Import}
 use Rattle.walrus_model.specs.Sections.{imported, imported_function, imported_global, imported_memory, imported_table, imported_tag, imports_after}
 use Rattle.walrus_contents.specs.declared.parts.Contents.{Contents}

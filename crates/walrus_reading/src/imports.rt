@@ -7,10 +7,10 @@ ghost use Rattle.walrus_base.specs.Id.{place};
 ghost use Rattle.walrus_code.specs.Indices.{ids_at};
 ghost use Rattle.walrus_items.specs.Functions.{functions};
 ghost use Rattle.walrus_items.specs.Imports.{imported, imports};
-ghost use Rattle.walrus_entities.specs.Globals.{globals};
-ghost use Rattle.walrus_entities.specs.Memories.{memories};
-ghost use Rattle.walrus_entities.specs.Tables.{tables};
-ghost use Rattle.walrus_entities.specs.Tags.{tags};
+ghost use Rattle.walrus_items.specs.Globals.{globals};
+ghost use Rattle.walrus_items.specs.Memories.{memories};
+ghost use Rattle.walrus_items.specs.Tables.{tables};
+ghost use Rattle.walrus_items.specs.Tags.{tags};
 ghost use Rattle.walrus_model.specs.Sections.{imported_function, imported_global, imported_memory, imported_table, imported_tag};
 ghost use Rattle.walrus_contents.specs.View.{HoldsNoOthers};
 ghost use Rattle.walrus_parts.specs.Errors.{out_of_memory};
@@ -21,9 +21,8 @@ ghost use Rattle.walrus_reading.specs.Stays.{DescStays, RefStays, TypeStays, Val
 
 use crate::entities::{read_reference, read_value};
 use walrus_contents::Contents;
-use walrus_entities::{ModuleGlobals, ModuleMemories, ModuleTables, ModuleTags};
+use walrus_items::{ImportKind, ModuleFunctions, ModuleGlobals, ModuleMemories, ModuleTables, ModuleTags};
 use walrus_ir::{FunctionId, GlobalId, ImportId, IndicesToIds, MemoryId, TableId, TagId};
-use walrus_items::{ImportKind, ModuleFunctions};
 use walrus_parts::Result;
 use wasm_wire::{RawDesc, RawGlobalType, RawImport, RawLimits, RawTableType};
 

@@ -4,11 +4,11 @@ use Rattle.std.specs.Prelude.{Option}
 use Rattle.walrus_base.specs.Arena.{item_at, slots}
 use Rattle.walrus_types.specs.Operators.{Space, Types, Functions, Tables, Memories, Tags, Globals, Elements, DataSegments, Op}
 use Rattle.walrus_items.specs.Seen.{seen}
-use Rattle.walrus_entities.specs.Globals.{GlobalValue, global_import, global_init, global_value, globals}
-use Rattle.walrus_entities.specs.Tables.{tables}
-use Rattle.walrus_entities.specs.declared.globals.Global as entities
-use Rattle.walrus_entities.specs.declared.globals.GlobalKind.{GlobalKind}
-use Rattle.walrus_entities.specs.declared.globals.GlobalKind.TheVariants as kind
+use Rattle.walrus_items.specs.Globals.{GlobalValue, global_import, global_init, global_value, globals}
+use Rattle.walrus_items.specs.Tables.{tables}
+use Rattle.walrus_items.specs.declared.globals.Global as entities
+use Rattle.walrus_items.specs.declared.globals.GlobalKind.{GlobalKind}
+use Rattle.walrus_items.specs.declared.globals.GlobalKind.TheVariants as kind
 use Rattle.walrus_contents.specs.View.{global_of, origin_of, own_initialiser, parts_view, table_of}
 use Rattle.walrus_contents.specs.declared.parts.Parts.{Parts}
 use Rattle.walrus_contents.proofs.Lookups.{mapped_some}

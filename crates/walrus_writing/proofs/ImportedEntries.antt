@@ -16,10 +16,10 @@ use Rattle.walrus_code.specs.declared.error.IrError.TheVariants as Ir
 use Rattle.walrus_contents.specs.View as seen
 use Rattle.walrus_contents.specs.View.{parts_view}
 use Rattle.walrus_contents.specs.declared.parts.Parts.{Parts}
-use Rattle.walrus_entities.specs.Globals.{GlobalValue, globals}
-use Rattle.walrus_entities.specs.Memories.{MemoryValue, memories}
-use Rattle.walrus_entities.specs.Tables.{TableValue, tables}
-use Rattle.walrus_entities.specs.Tags.{TagValue, tags}
+use Rattle.walrus_items.specs.Globals.{GlobalValue, globals}
+use Rattle.walrus_items.specs.Memories.{MemoryValue, memories}
+use Rattle.walrus_items.specs.Tables.{TableValue, tables}
+use Rattle.walrus_items.specs.Tags.{TagValue, tags}
 use Rattle.walrus_items.specs.Functions.{FunctionValue, functions}
 use Rattle.walrus_items.specs.Imports.{ImportValue}
 use Rattle.walrus_model.specs.Abstract.{Abstract, Import}

@@ -25,9 +25,9 @@ use Rattle.walrus_items.specs.Functions.{FunctionValue, functions, kind_type, lo
 use Rattle.walrus_items.specs.declared.exports.ExportItem.{ExportItem}
 use Rattle.walrus_items.specs.declared.exports.ExportItem.TheVariants as exports_as
 use Rattle.walrus_constants.specs.Named.{named_global, named_table}
-use Rattle.walrus_entities.specs.Globals.{GlobalValue, globals}
-use Rattle.walrus_entities.specs.Tables.{TableValue, tables}
-use Rattle.walrus_entities.specs.Tags.{TagValue, tags}
+use Rattle.walrus_items.specs.Globals.{GlobalValue, globals}
+use Rattle.walrus_items.specs.Tables.{TableValue, tables}
+use Rattle.walrus_items.specs.Tags.{TagValue, tags}
 use Rattle.walrus_types.specs.ModuleTypes.{type_slots}
 use Rattle.walrus_types.specs.TypeDef.{TypeDef}
 use Rattle.walrus_model.specs.Abstract as abstract

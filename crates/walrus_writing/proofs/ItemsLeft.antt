@@ -11,8 +11,8 @@ use Rattle.walrus_code.specs.declared.error.IrError.{IrError}
 use Rattle.walrus_code.specs.declared.error.IrError.TheVariants as Ir
 use Rattle.walrus_constants.specs.Named.{named_global, named_table}
 use Rattle.walrus_contents.specs.View.{global_of, table_of}
-use Rattle.walrus_entities.specs.Globals.{GlobalValue}
-use Rattle.walrus_entities.specs.Tables.{TableValue}
+use Rattle.walrus_items.specs.Globals.{GlobalValue}
+use Rattle.walrus_items.specs.Tables.{TableValue}
 use Rattle.walrus_model.specs.Sections as said
 use Rattle.walrus_model.proofs.Lists.{Contains-head, Contains-tail}
 use Rattle.walrus_model.proofs.Standing.{none_there}

@@ -8,10 +8,10 @@ use Rattle.walrus_items.specs.Functions.{FunctionValue}
 use Rattle.walrus_items.specs.Imports.{ImportValue, imported}
 use Rattle.walrus_items.specs.declared.functions.FunctionKind.{FunctionKind}
 use Rattle.walrus_items.specs.declared.functions.FunctionKind.TheVariants as kind
-use Rattle.walrus_entities.specs.Globals.{GlobalValue}
-use Rattle.walrus_entities.specs.Memories.{MemoryValue}
-use Rattle.walrus_entities.specs.Tables.{TableValue}
-use Rattle.walrus_entities.specs.Tags.{TagValue}
+use Rattle.walrus_items.specs.Globals.{GlobalValue}
+use Rattle.walrus_items.specs.Memories.{MemoryValue}
+use Rattle.walrus_items.specs.Tables.{TableValue}
+use Rattle.walrus_items.specs.Tags.{TagValue}
 use Rattle.walrus_model.specs.Abstract.{Abstract, Import}
 use Rattle.walrus_model.specs.WellMade.{ImportsMatch, import_in, import_of, kind_import, origin_import}
 use Rattle.walrus_model.proofs.Standing.{some_inj}

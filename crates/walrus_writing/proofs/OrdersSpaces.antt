@@ -4,10 +4,10 @@ use Rattle.std.specs.Prelude.{Option, IsSome, AllPairs, Contains, filter, option
 use Rattle.std.specs.List.{AllByRecursion}
 use Rattle.walrus_base.specs.Arena.{entries, item_at}
 use Rattle.walrus_types.specs.Operators.{Functions, Tables, Memories, Tags, Globals}
-use Rattle.walrus_entities.specs.Globals.{GlobalValue, globals}
-use Rattle.walrus_entities.specs.Memories.{MemoryValue, memories}
-use Rattle.walrus_entities.specs.Tables.{TableValue, tables}
-use Rattle.walrus_entities.specs.Tags.{TagValue, tags}
+use Rattle.walrus_items.specs.Globals.{GlobalValue, globals}
+use Rattle.walrus_items.specs.Memories.{MemoryValue, memories}
+use Rattle.walrus_items.specs.Tables.{TableValue, tables}
+use Rattle.walrus_items.specs.Tags.{TagValue, tags}
 use Rattle.walrus_items.specs.Imports.{ImportValue, imports}
 use Rattle.walrus_functions.proofs.LawOrder.{Sorted, sorted_of}
 use Rattle.walrus_contents.specs.View as seen

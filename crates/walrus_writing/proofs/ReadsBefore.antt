@@ -6,10 +6,10 @@ use borrow.Author.Tests.{ltb-true, ltb-false}
 use Rattle.walrus_base.specs.Arena.{item_at}
 use Rattle.walrus_base.specs.Types.{heap_names, val_names}
 use Rattle.walrus_types.specs.Operators.{Types, Tables, Globals, Item, Op, type_item, names_of}
-use Rattle.walrus_entities.specs.Globals.{GlobalValue, globals, global_import, global_init}
-use Rattle.walrus_entities.specs.Tables.{TableValue, tables}
-use Rattle.walrus_entities.specs.declared.globals.GlobalKind.{GlobalKind}
-use Rattle.walrus_entities.specs.declared.globals.GlobalKind.TheVariants as kinds
+use Rattle.walrus_items.specs.Globals.{GlobalValue, globals, global_import, global_init}
+use Rattle.walrus_items.specs.Tables.{TableValue, tables}
+use Rattle.walrus_items.specs.declared.globals.GlobalKind.{GlobalKind}
+use Rattle.walrus_items.specs.declared.globals.GlobalKind.TheVariants as kinds
 use Rattle.walrus_contents.specs.View.{global_of, origin_of, own_initialiser, parts_view, table_of}
 use Rattle.walrus_contents.specs.declared.parts.Parts.{Parts}
 use Rattle.walrus_model.specs.Abstract.{Abstract, Origin, ImportedBy, Defined, Global, Table}

@@ -18,8 +18,8 @@ use Rattle.walrus_functions.specs.Handlers.{params_of}
 use Rattle.walrus_functions.specs.Laws as laws
 use Rattle.walrus_functions.proofs.LawWritable.{ill_formed}
 use Rattle.walrus_groups.specs.Indexed.{HasExact}
-use Rattle.walrus_entities.specs.Globals.{GlobalValue, globals}
-use Rattle.walrus_entities.specs.Tables.{TableValue, tables}
+use Rattle.walrus_items.specs.Globals.{GlobalValue, globals}
+use Rattle.walrus_items.specs.Tables.{TableValue, tables}
 use Rattle.walrus_contents.specs.View.{body, global_of, parts_view, table_of}
 use Rattle.walrus_contents.specs.declared.parts.Parts.{Parts}
 use Rattle.walrus_contents.proofs.Slots.{item_seen}

@@ -36,10 +36,10 @@ use Rattle.walrus_groups.specs.Named.{named_def}
 use Rattle.walrus_items.specs.Exports.{exports}
 use Rattle.walrus_items.specs.Imports.{imports}
 use Rattle.walrus_constants.specs.Named.{named_global, named_table}
-use Rattle.walrus_entities.specs.Globals.{GlobalValue, globals}
-use Rattle.walrus_entities.specs.Memories.{MemoryValue, memories}
-use Rattle.walrus_entities.specs.Tables.{TableValue, tables}
-use Rattle.walrus_entities.specs.Tags.{TagValue, tags}
+use Rattle.walrus_items.specs.Globals.{GlobalValue, globals}
+use Rattle.walrus_items.specs.Memories.{MemoryValue, memories}
+use Rattle.walrus_items.specs.Tables.{TableValue, tables}
+use Rattle.walrus_items.specs.Tags.{TagValue, tags}
 use Rattle.walrus_contents.specs.View.{export_of, global_of, memory_of, parts_view, table_of, tag_of}
 use Rattle.walrus_contents.specs.declared.parts.Parts.{Parts}
 use Rattle.walrus_contents.proofs.Slots.{stands_at}

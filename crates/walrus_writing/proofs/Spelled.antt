@@ -8,8 +8,8 @@ use Rattle.walrus_base.specs.Arena.{entries, item_at, items}
 use Rattle.walrus_types.specs.Operators.{Tables, Globals, Item}
 use Rattle.walrus_code.specs.Names.{Lookup}
 use Rattle.walrus_items.specs.Imports.{ImportValue, imports}
-use Rattle.walrus_entities.specs.Globals.{GlobalValue, globals}
-use Rattle.walrus_entities.specs.Tables.{TableValue, tables}
+use Rattle.walrus_items.specs.Globals.{GlobalValue, globals}
+use Rattle.walrus_items.specs.Tables.{TableValue, tables}
 use Rattle.walrus_contents.specs.View as seen
 use Rattle.walrus_contents.specs.View.{parts_view}
 use Rattle.walrus_contents.specs.declared.parts.Parts.{Parts}

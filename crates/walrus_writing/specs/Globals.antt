@@ -10,7 +10,7 @@ use Rattle.walrus_code.specs.Names.{Lookup}
 use Rattle.walrus_code.specs.Results.{val_is_exact}
 use Rattle.walrus_code.specs.declared.error.IrError.{IrError}
 use Rattle.walrus_code.specs.declared.error.IrError.TheVariants.{Malformed, Memory, NoIndex, NotWritable, TooLarge}
-use Rattle.walrus_entities.specs.Globals.{GlobalValue}
+use Rattle.walrus_items.specs.Globals.{GlobalValue}
 use Rattle.walrus_contents.specs.View as seen
 use Rattle.walrus_parts.specs.declared.error.Error.{Error}
 use Rattle.walrus_parts.specs.declared.error.Error.TheVariants as errors

@@ -4,10 +4,10 @@ use Rattle.walrus_base.specs.Id.{place}
 use Rattle.walrus_types.specs.Operators.{Types, Functions, Tables, Memories, Tags, Globals}
 use Rattle.walrus_base.specs.Arena.{entries}
 use Rattle.walrus_contents.specs.declared.parts.Parts.{Parts}
-use Rattle.walrus_entities.specs.Globals.{globals}
-use Rattle.walrus_entities.specs.Memories.{memories}
-use Rattle.walrus_entities.specs.Tables.{tables}
-use Rattle.walrus_entities.specs.Tags.{tags}
+use Rattle.walrus_items.specs.Globals.{globals}
+use Rattle.walrus_items.specs.Memories.{memories}
+use Rattle.walrus_items.specs.Tables.{tables}
+use Rattle.walrus_items.specs.Tags.{tags}
 use Rattle.walrus_model.specs.Plan as model
 use Rattle.walrus_writing.specs.Brought.{own_places}
 use Rattle.walrus_writing.specs.declared.plan.Plan.{Plan}

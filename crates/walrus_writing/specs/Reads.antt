@@ -3,7 +3,7 @@ use Rattle.std.specs.Prelude.{ℕ, Bool, true, not, ◌||◌, nat_lt, List, Opti
 use Rattle.std.specs.List.{list_all}
 use Rattle.walrus_base.specs.Arena.{item_at}
 use Rattle.walrus_types.specs.Operators.{Tables, Globals, Item}
-use Rattle.walrus_entities.specs.Globals.{GlobalValue}
+use Rattle.walrus_items.specs.Globals.{GlobalValue}
 use Rattle.walrus_model.specs.Abstract.{Abstract}
 use Rattle.walrus_model.specs.Live.{IsLive}
 use Rattle.walrus_model.specs.Order.{ByImport}

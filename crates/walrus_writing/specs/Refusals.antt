@@ -9,8 +9,8 @@ use Rattle.walrus_code.specs.declared.function.LocalFunction.{LocalFunction}
 use Rattle.walrus_bodies.specs.declared.features.Features.{Features}
 use Rattle.walrus_functions.specs.EmittedBody.{Source, CantBeWritten, HasTooManyLocals}
 use Rattle.walrus_groups.specs.Indexed.{HasExact}
-use Rattle.walrus_entities.specs.Globals.{GlobalValue, globals}
-use Rattle.walrus_entities.specs.Tables.{TableValue, tables}
+use Rattle.walrus_items.specs.Globals.{GlobalValue, globals}
+use Rattle.walrus_items.specs.Tables.{TableValue, tables}
 use Rattle.walrus_contents.specs.View.{global_of, parts_view, table_of}
 use Rattle.walrus_writing.specs.Globals.{GlobalIsUnspelled}
 use Rattle.walrus_writing.specs.Imported.{ImportIsExact}

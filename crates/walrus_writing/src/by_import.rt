@@ -4,10 +4,10 @@ ghost use Rattle.std.specs.Prelude.{◌≡◌, ◌++◌, map, IfOk, IsOkUnless, 
 ghost use Rattle.walrus_base.specs.Arena.{entries, items};
 ghost use Rattle.walrus_base.specs.Id.{place};
 ghost use Rattle.walrus_types.specs.Operators.{Functions, Globals, Memories, Tables, Tags};
-ghost use Rattle.walrus_entities.specs.Globals.{globals};
-ghost use Rattle.walrus_entities.specs.Memories.{memories};
-ghost use Rattle.walrus_entities.specs.Tables.{tables};
-ghost use Rattle.walrus_entities.specs.Tags.{tags};
+ghost use Rattle.walrus_items.specs.Globals.{globals};
+ghost use Rattle.walrus_items.specs.Memories.{memories};
+ghost use Rattle.walrus_items.specs.Tables.{tables};
+ghost use Rattle.walrus_items.specs.Tags.{tags};
 ghost use Rattle.walrus_items.specs.Imports.{imported, imports};
 ghost use Rattle.walrus_model.specs.Imported.{number_in};
 ghost use Rattle.walrus_parts.specs.Errors.{out_of_memory};
@@ -15,9 +15,8 @@ ghost use Rattle.walrus_writing.specs.Brought.{own_places, places_brought};
 
 use crate::origins::{global_import, tag_import};
 use std::alloc::Global;
-use walrus_entities::{ModuleGlobals, ModuleMemories, ModuleTables, ModuleTags};
+use walrus_items::{ImportKind, ModuleGlobals, ModuleImports, ModuleMemories, ModuleTables, ModuleTags};
 use walrus_ir::{FunctionId, GlobalId, MemoryId, TableId, TagId};
-use walrus_items::{ImportKind, ModuleImports};
 use walrus_parts::Result;
 
 // The function that is imported, if it is one.

@@ -2,17 +2,16 @@
 ghost use Rattle.std.specs.Prelude.{◌≡◌, option_map};
 ghost use Rattle.walrus_base.specs.Id.{place};
 ghost use Rattle.walrus_contents.specs.View.{parts_view};
-ghost use Rattle.walrus_entities.specs.Globals.{global_import};
-ghost use Rattle.walrus_entities.specs.Tags.{tag_import};
+ghost use Rattle.walrus_items.specs.Globals.{global_import};
+ghost use Rattle.walrus_items.specs.Tags.{tag_import};
 ghost use Rattle.walrus_items.specs.Imports.{imported};
 ghost use Rattle.walrus_model.specs.Live.{IsLive};
 ghost use Rattle.walrus_model.specs.WellMade.{import_of};
 ghost use Rattle.walrus_writing.specs.Origins.{function_import};
 
 use walrus_contents::Parts;
-use walrus_entities::{GlobalKind, TagKind};
+use walrus_items::{FunctionKind, GlobalKind, ImportKind, TagKind};
 use walrus_ir::ImportId;
-use walrus_items::{FunctionKind, ImportKind};
 
 /// The import that brings a function of this kind.
 pub fn function_import(kind: &FunctionKind) -> Option<ImportId>

@@ -9,10 +9,10 @@ ghost use Rattle.walrus_types.specs.Operators.{Space, Types, Functions, Tables, 
 ghost use Rattle.walrus_items.specs.Functions.{functions};
 ghost use Rattle.walrus_items.specs.Imports.{imports};
 ghost use Rattle.walrus_contents.specs.View.{parts_view};
-ghost use Rattle.walrus_entities.specs.Globals.{globals, global_import};
-ghost use Rattle.walrus_entities.specs.Memories.{memories};
-ghost use Rattle.walrus_entities.specs.Tables.{tables};
-ghost use Rattle.walrus_entities.specs.Tags.{tags};
+ghost use Rattle.walrus_items.specs.Globals.{globals, global_import};
+ghost use Rattle.walrus_items.specs.Memories.{memories};
+ghost use Rattle.walrus_items.specs.Tables.{tables};
+ghost use Rattle.walrus_items.specs.Tags.{tags};
 ghost use Rattle.walrus_model.specs.Dead.{HasDead};
 ghost use Rattle.walrus_model.specs.Plan.{AreNumbered, IsPlan};
 ghost use Rattle.walrus_model.specs.WellMade.{ImportsMatch};
@@ -30,11 +30,10 @@ use crate::by_import::{
 use std::alloc::Global;
 use std::cmp::Reverse;
 use walrus_contents::Parts;
-use walrus_entities::GlobalKind;
+use walrus_items::{GlobalKind, ModuleFunctions};
 use walrus_ir::{
     FunctionId, GlobalId, IdsToIndices, MemoryId, ModuleTypes, TableId, TagId, TypeId,
 };
-use walrus_items::ModuleFunctions;
 use walrus_parts::{Error, Result};
 
 /// For each index space the ids of the items in the order in which they are written, so that each one's place in it is its index: what

@@ -1,7 +1,7 @@
 //! Which globals initialisers read ("Validation > Modules > Globals", "Tables").
 ghost use Rattle.std.specs.Prelude.{◌≡◌, true, false, map, IfOk, IsOkUnless};
 ghost use Rattle.walrus_code.specs.Code.{item_of};
-ghost use Rattle.walrus_entities.specs.Globals.{globals};
+ghost use Rattle.walrus_items.specs.Globals.{globals};
 ghost use Rattle.walrus_model.specs.Live.{IsLive};
 ghost use Rattle.walrus_model.specs.Refers.{written_in};
 ghost use Rattle.walrus_parts.specs.Errors.{out_of_memory};

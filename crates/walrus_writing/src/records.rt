@@ -8,8 +8,8 @@ ghost use Rattle.walrus_groups.specs.Indexed.{NumbersTypes, AreIndexed, LacksAnI
 ghost use Rattle.walrus_code.specs.Indices.{index_of};
 ghost use Rattle.walrus_items.specs.Exports.{exports, export_value, exported};
 ghost use Rattle.walrus_items.specs.Functions.{functions};
-ghost use Rattle.walrus_entities.specs.Memories.{memories, memory_value};
-ghost use Rattle.walrus_entities.specs.Tags.{tags, tag_value};
+ghost use Rattle.walrus_items.specs.Memories.{memories, memory_value};
+ghost use Rattle.walrus_items.specs.Tags.{tags, tag_value};
 ghost use Rattle.walrus_contents.specs.View.{export_of, memory_of, parts_view, tag_of};
 ghost use Rattle.walrus_parts.specs.Errors.{out_of_memory};
 ghost use Rattle.wasm_entries.specs.Record.{group, export_entry, global_entry, import_entry, table_entry};
@@ -24,10 +24,9 @@ use crate::bodies::local_of;
 use crate::origins::tag_import;
 use std::alloc::Global;
 use walrus_contents::Parts;
-use walrus_entities::{Memory, ModuleMemories, ModuleTags, Tag};
+use walrus_items::{Export, ExportItem, Memory, ModuleExports, ModuleFunctions, ModuleMemories, ModuleTags, Tag};
 use walrus_groups::index_types;
 use walrus_ir::{FunctionId, IdsToIndices, ModuleTypes};
-use walrus_items::{Export, ExportItem, ModuleExports, ModuleFunctions};
 use walrus_parts::{Error, Result};
 use wasm_wire::{
     Raw, RawBody, RawExport, RawExportKind, RawGlobal, RawGroup, RawImport, RawLimits, RawTable,

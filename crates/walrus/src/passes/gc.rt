@@ -3,10 +3,10 @@
 ghost use Rattle.std.specs.Prelude.{◌≡◌, IfErr, OnErr, OnOk};
 ghost use Rattle.walrus_types.specs.ModuleTypes.{type_names, type_slots};
 ghost use Rattle.walrus_types.specs.Operators.{Item, Functions, Globals, Memories, Tables, Tags, Types};
-ghost use Rattle.walrus_entities.specs.Globals.{globals};
-ghost use Rattle.walrus_entities.specs.Memories.{memories};
-ghost use Rattle.walrus_entities.specs.Tables.{tables};
-ghost use Rattle.walrus_entities.specs.Tags.{tags};
+ghost use Rattle.walrus_items.specs.Globals.{globals};
+ghost use Rattle.walrus_items.specs.Memories.{memories};
+ghost use Rattle.walrus_items.specs.Tables.{tables};
+ghost use Rattle.walrus_items.specs.Tags.{tags};
 ghost use Rattle.walrus_items.specs.Imports.{imports};
 ghost use Rattle.walrus_items.specs.Functions.{functions};
 ghost use Rattle.walrus_model.specs.Kept.{IsImportOf, Kept};

@@ -3,7 +3,7 @@ use Rattle.std.proofs.lemmas.Result.{err_from_is_err_and}
 use Rattle.walrus_base.specs.Arena.{item_at}
 use Rattle.walrus_base.specs.Id.{place}
 use Rattle.walrus_types.specs.Operators.{Globals}
-use Rattle.walrus_entities.specs.Globals.{GlobalValue, globals, global_entries_left, global_value}
+use Rattle.walrus_items.specs.Globals.{GlobalValue, globals, global_entries_left, global_value}
 use Rattle.walrus_contents.specs.There.{IsWhole}
 use Rattle.walrus_contents.specs.View.{global_of, parts_view}
 use Rattle.walrus_contents.proofs.LiveLemmas.{seen_there, was_there}

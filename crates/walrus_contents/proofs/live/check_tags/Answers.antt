@@ -3,7 +3,7 @@ use Rattle.std.proofs.lemmas.Result.{err_from_is_err_and}
 use Rattle.walrus_base.specs.Arena.{item_at}
 use Rattle.walrus_base.specs.Id.{place}
 use Rattle.walrus_types.specs.Operators.{Tags}
-use Rattle.walrus_entities.specs.Tags.{tags, tag_entries_left, tag_value}
+use Rattle.walrus_items.specs.Tags.{tags, tag_entries_left, tag_value}
 use Rattle.walrus_contents.specs.There.{IsWhole}
 use Rattle.walrus_contents.specs.View.{tag_of, parts_view}
 use Rattle.walrus_contents.proofs.LiveLemmas.{was_there}

@@ -1,7 +1,7 @@
 use Rattle.std.specs.Prelude.{◌≡◌}
 use Rattle.walrus_base.specs.Arena.{items}
 use Rattle.walrus_base.specs.IdSet.{has_id}
-use Rattle.walrus_entities.specs.Globals.{globals, globals_left}
+use Rattle.walrus_items.specs.Globals.{globals, globals_left}
 use Rattle.walrus_contents.specs.References.{all_globals_pass}
 use Rattle.walrus_contents.proofs.references.are_globals_marked.Given as goal
 

@@ -1,7 +1,7 @@
 use Rattle.std.proofs.Common.{◌≡◌, ◌&&◌, ap, ◌∙◌, sym, ℕ, Bool}
 use mathlib.Core.Path.{fun_ext}
 use Rattle.walrus_base.specs.Arena.{items}
-use Rattle.walrus_entities.specs.Globals.{globals}
+use Rattle.walrus_items.specs.Globals.{globals}
 use Rattle.walrus_items.specs.Exports.{exports}
 use Rattle.walrus_items.specs.Functions.{functions}
 use Rattle.walrus_contents.specs.References.{all_globals_pass, all_pass, refs_are_exported}

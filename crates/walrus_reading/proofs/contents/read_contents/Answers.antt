@@ -20,10 +20,10 @@ use Rattle.walrus_groups.specs.Groups.{types_from, AreDeclared}
 use Rattle.walrus_producers.specs.Seen.{producers}
 use Rattle.walrus_items.specs.Exports.{exports}
 use Rattle.walrus_items.specs.Functions.{functions}
-use Rattle.walrus_entities.specs.Globals.{globals}
-use Rattle.walrus_entities.specs.Memories.{memories}
-use Rattle.walrus_entities.specs.Tables.{tables}
-use Rattle.walrus_entities.specs.Tags.{tags}
+use Rattle.walrus_items.specs.Globals.{globals}
+use Rattle.walrus_items.specs.Memories.{memories}
+use Rattle.walrus_items.specs.Tables.{tables}
+use Rattle.walrus_items.specs.Tags.{tags}
 use Rattle.walrus_model.specs.Producers.{produced}
 use Rattle.walrus_model.specs.Sections.{global_of, memory_of, table_of, tag_of}
 use Rattle.walrus_records.proofs.TypesRefer.{types_declared}

@@ -1,7 +1,7 @@
 use Rattle.std.proofs.Common.{Some, ap, ap₂, refl, subst, sym, ◌∙◌}
 use Rattle.wasm_entries.specs.Record.{global_entry}
 use Rattle.walrus_code.specs.Indices.{ids_at}
-use Rattle.walrus_entities.specs.Globals.{globals}
+use Rattle.walrus_items.specs.Globals.{globals}
 use Rattle.walrus_model.specs.Abstract.{Defined}
 use Rattle.walrus_model.specs.Constants.{consts_of}
 use Rattle.walrus_reading.specs.Stays.{ConstStays}

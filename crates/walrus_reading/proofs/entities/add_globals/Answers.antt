@@ -1,6 +1,6 @@
 use Rattle.wasm_entries.specs.Record.{global_entry}
 use Rattle.walrus_code.specs.Indices.{ids_at}
-use Rattle.walrus_entities.specs.Globals.{globals}
+use Rattle.walrus_items.specs.Globals.{globals}
 use Rattle.walrus_model.specs.Sections.{global_of}
 use Rattle.walrus_reading.specs.Held.{HoldsGlobal}
 use Rattle.walrus_reading.specs.Stays.{GlobalStays}

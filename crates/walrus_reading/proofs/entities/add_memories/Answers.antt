@@ -1,4 +1,4 @@
-use Rattle.walrus_entities.specs.Memories.{memories}
+use Rattle.walrus_items.specs.Memories.{memories}
 use Rattle.walrus_model.specs.Sections.{memory_of}
 use Rattle.walrus_reading.specs.Held.{HoldsMemory}
 use Rattle.walrus_reading.proofs.Rows.{none_yet, one_more, all_done}

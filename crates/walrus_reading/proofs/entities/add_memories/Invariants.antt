@@ -1,5 +1,5 @@
 use Rattle.std.proofs.Common.{map, take}
-use Rattle.walrus_entities.specs.Memories.{memories}
+use Rattle.walrus_items.specs.Memories.{memories}
 use Rattle.walrus_model.specs.Sections.{memory_of}
 use Rattle.walrus_reading.specs.Held.{HoldsMemory}
 use Rattle.walrus_reading.specs.Placed.{AddsPlaced}

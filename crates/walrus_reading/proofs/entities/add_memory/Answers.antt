@@ -1,5 +1,5 @@
 use Rattle.std.proofs.Common.{refl}
-use Rattle.walrus_entities.specs.Memories.{memories}
+use Rattle.walrus_items.specs.Memories.{memories}
 use Rattle.walrus_reading.specs.Held.{HoldsMemory}
 use Rattle.walrus_reading.proofs.Rows.{adds_one}
 use Rattle.walrus_reading.proofs.entities.add_memory.Goals as goal

@@ -1,7 +1,7 @@
 use Rattle.std.proofs.Common.{ap₂, refl}
 use Rattle.wasm_entries.specs.Record.{table_entry}
 use Rattle.walrus_code.specs.Indices.{ids_at}
-use Rattle.walrus_entities.specs.Tables.{tables}
+use Rattle.walrus_items.specs.Tables.{tables}
 use Rattle.walrus_model.specs.Abstract.{Defined}
 use Rattle.walrus_model.specs.Sections.{limits_of}
 use Rattle.walrus_reading.specs.Held.{HoldsTable}

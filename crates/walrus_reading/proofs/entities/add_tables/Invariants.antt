@@ -1,6 +1,6 @@
 use Rattle.std.proofs.Common.{map, take}
 use Rattle.wasm_entries.specs.Record.{table_entry}
-use Rattle.walrus_entities.specs.Tables.{tables}
+use Rattle.walrus_items.specs.Tables.{tables}
 use Rattle.walrus_model.specs.Sections.{table_of}
 use Rattle.walrus_reading.specs.Held.{HoldsTable}
 use Rattle.walrus_reading.specs.Placed.{AddsPlaced}

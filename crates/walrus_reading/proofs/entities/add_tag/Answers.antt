@@ -1,6 +1,6 @@
 use Rattle.std.proofs.Common.{◌≡◌, ap, refl, ◌∙◌}
 use Rattle.walrus_base.specs.Id.{place}
-use Rattle.walrus_entities.specs.Tags.{tags}
+use Rattle.walrus_items.specs.Tags.{tags}
 use Rattle.walrus_model.specs.Sections.{tag_of}
 use Rattle.walrus_contents.proofs.Taking.{some_same}
 use Rattle.walrus_reading.specs.Held.{HoldsTag}

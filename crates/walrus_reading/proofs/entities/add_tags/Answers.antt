@@ -1,4 +1,4 @@
-use Rattle.walrus_entities.specs.Tags.{tags}
+use Rattle.walrus_items.specs.Tags.{tags}
 use Rattle.walrus_model.specs.Sections.{tag_of}
 use Rattle.walrus_reading.specs.Held.{HoldsTag}
 use Rattle.walrus_reading.proofs.Rows.{none_yet, one_more, all_done}

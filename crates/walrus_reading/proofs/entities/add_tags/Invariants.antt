@@ -1,5 +1,5 @@
 use Rattle.std.proofs.Common.{map, take}
-use Rattle.walrus_entities.specs.Tags.{tags}
+use Rattle.walrus_items.specs.Tags.{tags}
 use Rattle.walrus_model.specs.Sections.{tag_of}
 use Rattle.walrus_reading.specs.Held.{HoldsTag}
 use Rattle.walrus_reading.specs.Placed.{AddsPlaced}

@@ -2,7 +2,7 @@ use Rattle.std.proofs.Common.{◌≡◌, ◌++◌, map}
 use Rattle.walrus_base.specs.Arena.{entries, items}
 use Rattle.walrus_base.specs.Id.{place}
 use Rattle.walrus_types.specs.Operators.{Globals}
-use Rattle.walrus_entities.specs.Globals.{globals, global_entries_left}
+use Rattle.walrus_items.specs.Globals.{globals, global_entries_left}
 use Rattle.walrus_items.specs.Imports.{imports}
 use Rattle.walrus_writing.specs.Brought.{own_places, places_brought}
 use Rattle.walrus_writing.proofs.by_import.globals_by_import.Given as goal

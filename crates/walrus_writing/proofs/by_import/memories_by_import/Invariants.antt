@@ -2,7 +2,7 @@ use Rattle.std.proofs.Common.{◌≡◌, ◌++◌, map}
 use Rattle.walrus_base.specs.Arena.{entries, items}
 use Rattle.walrus_base.specs.Id.{place}
 use Rattle.walrus_types.specs.Operators.{Memories}
-use Rattle.walrus_entities.specs.Memories.{memories, memory_entries_left}
+use Rattle.walrus_items.specs.Memories.{memories, memory_entries_left}
 use Rattle.walrus_items.specs.Imports.{imports}
 use Rattle.walrus_writing.specs.Brought.{own_places, places_brought}
 use Rattle.walrus_writing.proofs.by_import.memories_by_import.Given as goal

@@ -6,7 +6,7 @@ use Rattle.walrus_base.specs.Id.{place}
 use Rattle.walrus_code.specs.Indices.{index_of}
 use Rattle.walrus_constants.specs.Named.{named_global}
 use Rattle.walrus_contents.specs.View.{global_of}
-use Rattle.walrus_entities.specs.Globals.{globals, globals_left}
+use Rattle.walrus_items.specs.Globals.{globals, globals_left}
 use Rattle.walrus_model.specs.Sections as said
 use Rattle.walrus_writing.proofs.ItemsLeft.{first_among, next_has, none_brings, one_brings, own_step, global_refused, written_begins, written_done, written_more, written_past, written_spelled}
 use Rattle.walrus_writing.proofs.globals.raw_globals.Goals as goal

@@ -1,6 +1,6 @@
 use Rattle.walrus_base.specs.Arena.{items}
 use Rattle.walrus_code.specs.Indices.{index_of}
-use Rattle.walrus_entities.specs.Globals.{globals, globals_left}
+use Rattle.walrus_items.specs.Globals.{globals, globals_left}
 use Rattle.walrus_writing.proofs.ItemsLeft.{GlobalsWritten}
 use Rattle.walrus_writing.proofs.globals.raw_globals.Given as goal
 

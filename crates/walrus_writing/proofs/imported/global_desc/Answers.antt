@@ -3,7 +3,7 @@ use Rattle.std.proofs.lemmas.Result.{err_from_is_err_and}
 use Rattle.walrus_code.specs.FromRaw.{val_of}
 use Rattle.walrus_code.specs.Indices.{index_of}
 use Rattle.walrus_contents.specs.View.{global_of}
-use Rattle.walrus_entities.specs.Globals.{global_value}
+use Rattle.walrus_items.specs.Globals.{global_value}
 use Rattle.walrus_writing.proofs.ImportedThings.{global_described, global_refused}
 use Rattle.walrus_writing.proofs.imported.global_desc.Goals as goal
 

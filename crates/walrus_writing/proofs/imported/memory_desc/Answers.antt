@@ -1,6 +1,6 @@
 use Rattle.std.proofs.Common.{ap}
 use Rattle.walrus_contents.specs.View.{memory_of}
-use Rattle.walrus_entities.specs.Memories.{memory_value}
+use Rattle.walrus_items.specs.Memories.{memory_value}
 use Rattle.walrus_model.specs.Sections as said
 use Rattle.walrus_writing.proofs.ImportedThings.{memory_described}
 use Rattle.walrus_writing.proofs.imported.memory_desc.Goals as goal

@@ -1,9 +1,9 @@
 use Rattle.walrus_base.specs.Id.{place}
 use Rattle.walrus_code.specs.Indices.{index_of}
-use Rattle.walrus_entities.specs.Globals.{global_value}
-use Rattle.walrus_entities.specs.Memories.{memory_value}
-use Rattle.walrus_entities.specs.Tables.{table_value}
-use Rattle.walrus_entities.specs.Tags.{tag_value}
+use Rattle.walrus_items.specs.Globals.{global_value}
+use Rattle.walrus_items.specs.Memories.{memory_value}
+use Rattle.walrus_items.specs.Tables.{table_value}
+use Rattle.walrus_items.specs.Tags.{tag_value}
 use Rattle.walrus_items.specs.Functions.{function_value}
 use Rattle.walrus_writing.proofs.ImportedEntries.{function_indexed, global_indexed, memory_indexed, table_indexed, tag_indexed}
 use Rattle.walrus_writing.proofs.imported.raw_desc.Goals as goal

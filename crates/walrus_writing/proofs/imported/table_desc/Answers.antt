@@ -2,7 +2,7 @@ use Rattle.wasm_entries.specs.declared.record.RawTableType.{RawTableType}
 use Rattle.std.proofs.lemmas.Result.{err_from_is_err_and}
 use Rattle.walrus_code.specs.Indices.{index_of}
 use Rattle.walrus_contents.specs.View.{table_of}
-use Rattle.walrus_entities.specs.Tables.{table_value}
+use Rattle.walrus_items.specs.Tables.{table_value}
 use Rattle.walrus_model.specs.Sections as said
 use Rattle.walrus_writing.proofs.ImportedThings.{table_described, table_refused}
 use Rattle.walrus_writing.proofs.imported.table_desc.Goals as goal

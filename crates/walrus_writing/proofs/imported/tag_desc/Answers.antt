@@ -1,6 +1,6 @@
 use Rattle.walrus_code.specs.Indices.{index_of}
 use Rattle.walrus_contents.specs.View.{tag_of}
-use Rattle.walrus_entities.specs.Tags.{tag_value}
+use Rattle.walrus_items.specs.Tags.{tag_value}
 use Rattle.walrus_writing.proofs.ImportedThings.{tag_described}
 use Rattle.walrus_writing.proofs.imported.tag_desc.Goals as goal
 

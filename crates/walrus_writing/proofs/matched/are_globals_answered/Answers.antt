@@ -1,6 +1,6 @@
 use Rattle.std.proofs.Common.{ap, sym, ◌∙◌, refl}
 use Rattle.walrus_types.specs.Operators.{Globals}
-use Rattle.walrus_entities.specs.Globals.{globals, global_entries_left, global_value}
+use Rattle.walrus_items.specs.Globals.{globals, global_entries_left, global_value}
 use Rattle.walrus_model.specs.WellMade.{origin_import}
 use Rattle.walrus_contents.specs.View as seen
 use Rattle.walrus_contents.specs.View.{parts_view}

@@ -1,5 +1,5 @@
 use Rattle.walrus_types.specs.Operators.{Globals}
-use Rattle.walrus_entities.specs.Globals.{globals, global_entries_left}
+use Rattle.walrus_items.specs.Globals.{globals, global_entries_left}
 use Rattle.walrus_contents.specs.View.{parts_view}
 use Rattle.walrus_contents.proofs.Walked.{Walked}
 use Rattle.walrus_writing.proofs.Matching.{AnsweredAt}

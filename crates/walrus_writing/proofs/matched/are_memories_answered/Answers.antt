@@ -1,6 +1,6 @@
 use Rattle.std.proofs.Common.{ap, ◌∙◌, refl}
 use Rattle.walrus_types.specs.Operators.{Memories}
-use Rattle.walrus_entities.specs.Memories.{memories, memory_entries_left, memory_value}
+use Rattle.walrus_items.specs.Memories.{memories, memory_entries_left, memory_value}
 use Rattle.walrus_model.specs.WellMade.{origin_import}
 use Rattle.walrus_contents.specs.View as seen
 use Rattle.walrus_contents.specs.View.{parts_view}

@@ -1,5 +1,5 @@
 use Rattle.walrus_types.specs.Operators.{Memories}
-use Rattle.walrus_entities.specs.Memories.{memories, memory_entries_left}
+use Rattle.walrus_items.specs.Memories.{memories, memory_entries_left}
 use Rattle.walrus_contents.specs.View.{parts_view}
 use Rattle.walrus_contents.proofs.Walked.{Walked}
 use Rattle.walrus_writing.proofs.Matching.{AnsweredAt}

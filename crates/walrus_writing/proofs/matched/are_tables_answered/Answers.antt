@@ -1,6 +1,6 @@
 use Rattle.std.proofs.Common.{ap, ◌∙◌, refl}
 use Rattle.walrus_types.specs.Operators.{Tables}
-use Rattle.walrus_entities.specs.Tables.{tables, table_entries_left, table_value}
+use Rattle.walrus_items.specs.Tables.{tables, table_entries_left, table_value}
 use Rattle.walrus_model.specs.WellMade.{origin_import}
 use Rattle.walrus_contents.specs.View as seen
 use Rattle.walrus_contents.specs.View.{parts_view}

@@ -1,6 +1,6 @@
 use Rattle.std.proofs.Common.{ap, sym, ◌∙◌, refl}
 use Rattle.walrus_types.specs.Operators.{Tags}
-use Rattle.walrus_entities.specs.Tags.{tags, tag_entries_left, tag_value}
+use Rattle.walrus_items.specs.Tags.{tags, tag_entries_left, tag_value}
 use Rattle.walrus_model.specs.WellMade.{origin_import}
 use Rattle.walrus_contents.specs.View as seen
 use Rattle.walrus_contents.specs.View.{parts_view}

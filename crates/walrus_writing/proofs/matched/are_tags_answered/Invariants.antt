@@ -1,5 +1,5 @@
 use Rattle.walrus_types.specs.Operators.{Tags}
-use Rattle.walrus_entities.specs.Tags.{tags, tag_entries_left}
+use Rattle.walrus_items.specs.Tags.{tags, tag_entries_left}
 use Rattle.walrus_contents.specs.View.{parts_view}
 use Rattle.walrus_contents.proofs.Walked.{Walked}
 use Rattle.walrus_writing.proofs.Matching.{AnsweredAt}

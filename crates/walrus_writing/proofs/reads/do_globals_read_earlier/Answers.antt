@@ -3,7 +3,7 @@ use Rattle.std.specs.Prelude.{IsSome}
 use Rattle.walrus_base.specs.Arena.{item_at}
 use Rattle.walrus_base.specs.Id.{place}
 use Rattle.walrus_types.specs.Operators.{Globals}
-use Rattle.walrus_entities.specs.Globals.{GlobalValue, globals, global_entries_left, global_value}
+use Rattle.walrus_items.specs.Globals.{GlobalValue, globals, global_entries_left, global_value}
 use Rattle.walrus_contents.specs.View.{global_of, origin_of, parts_view}
 use Rattle.walrus_contents.proofs.LiveLemmas.{seen_there}
 use Rattle.walrus_contents.proofs.Walked.{next_there, walk_begins, walk_goes, walk_ends}

@@ -1,4 +1,4 @@
-use Rattle.walrus_entities.specs.Globals.{globals, global_entries_left}
+use Rattle.walrus_items.specs.Globals.{globals, global_entries_left}
 use Rattle.walrus_contents.proofs.Walked.{Walked}
 use Rattle.walrus_writing.proofs.ReadsBefore.{GlobalPasses}
 use Rattle.walrus_writing.proofs.reads.do_globals_read_earlier.Given as goal

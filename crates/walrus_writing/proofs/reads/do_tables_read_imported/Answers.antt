@@ -1,7 +1,7 @@
 use Rattle.std.proofs.Common.{ℕ, ap, sym, ◌∙◌}
 use Rattle.walrus_base.specs.Arena.{item_at}
 use Rattle.walrus_base.specs.Id.{place}
-use Rattle.walrus_entities.specs.Tables.{TableValue, tables, table_entries_left, table_value}
+use Rattle.walrus_items.specs.Tables.{TableValue, tables, table_entries_left, table_value}
 use Rattle.walrus_contents.specs.View.{table_of}
 use Rattle.walrus_contents.proofs.LiveLemmas.{seen_there}
 use Rattle.walrus_contents.proofs.Walked.{next_there, walk_begins, walk_goes, walk_ends}

@@ -1,4 +1,4 @@
-use Rattle.walrus_entities.specs.Tables.{tables, table_entries_left}
+use Rattle.walrus_items.specs.Tables.{tables, table_entries_left}
 use Rattle.walrus_contents.proofs.Walked.{Walked}
 use Rattle.walrus_writing.proofs.ReadsBefore.{TablePasses}
 use Rattle.walrus_writing.proofs.reads.do_tables_read_imported.Given as goal

@@ -1,6 +1,6 @@
 use Rattle.std.proofs.Common.{sym, ◌∙◌}
 use Rattle.walrus_code.specs.Code.{item_of}
-use Rattle.walrus_entities.specs.Globals.{globals}
+use Rattle.walrus_items.specs.Globals.{globals}
 use Rattle.walrus_contents.proofs.NamedLemmas.{among}
 use Rattle.walrus_writing.specs.Reads.{may_name}
 use Rattle.walrus_writing.proofs.ReadsBefore.{fails_with}

@@ -1,6 +1,6 @@
 use Rattle.std.proofs.Common.{◌≡◌, true, map, take}
 use Rattle.walrus_code.specs.Code.{item_of}
-use Rattle.walrus_entities.specs.Globals.{globals}
+use Rattle.walrus_items.specs.Globals.{globals}
 use Rattle.walrus_writing.specs.Reads.{may_name_all}
 use Rattle.walrus_writing.proofs.reads.may_be_named.Given as goal
 

@@ -6,7 +6,7 @@ use Rattle.walrus_base.specs.Id.{place}
 use Rattle.walrus_code.specs.Indices.{index_of}
 use Rattle.walrus_constants.specs.Named.{named_table}
 use Rattle.walrus_contents.specs.View.{table_of}
-use Rattle.walrus_entities.specs.Tables.{tables, tables_left}
+use Rattle.walrus_items.specs.Tables.{tables, tables_left}
 use Rattle.walrus_model.specs.Sections as said
 use Rattle.walrus_writing.proofs.ItemsLeft.{first_among, next_has, none_brings, one_brings, own_step, table_refused, written_begins, written_done, written_more, written_past, written_spelled}
 use Rattle.walrus_writing.proofs.tables.raw_tables.Goals as goal

@@ -1,6 +1,6 @@
 use Rattle.walrus_base.specs.Arena.{items}
 use Rattle.walrus_code.specs.Indices.{index_of}
-use Rattle.walrus_entities.specs.Tables.{tables, tables_left}
+use Rattle.walrus_items.specs.Tables.{tables, tables_left}
 use Rattle.walrus_writing.proofs.ItemsLeft.{TablesWritten}
 use Rattle.walrus_writing.proofs.tables.raw_tables.Given as goal
 

@@ -10,9 +10,9 @@ use Rattle.walrus_types.specs.Shape.{place_in}
 use Rattle.walrus_code.specs.Indices.{index_of}
 use Rattle.walrus_constants.specs.Named.{named_global, named_table}
 use Rattle.walrus_contents.specs.View.{global_of, parts_view, table_of, tag_of}
-use Rattle.walrus_entities.specs.Globals.{GlobalValue, globals}
-use Rattle.walrus_entities.specs.Tables.{TableValue, tables}
-use Rattle.walrus_entities.specs.Tags.{TagValue, tags}
+use Rattle.walrus_items.specs.Globals.{GlobalValue, globals}
+use Rattle.walrus_items.specs.Tables.{TableValue, tables}
+use Rattle.walrus_items.specs.Tags.{TagValue, tags}
 use Rattle.walrus_writing.specs.Parts.{type_index, HasBytes, tag_index, unplaced}
 use Rattle.walrus_writing.specs.Places.{places}
 use Rattle.walrus_rules.proofs.Matches.{imports_live}

@@ -1,10 +1,10 @@
 use Rattle.walrus_types.specs.ModuleTypes.{type_names, type_slots}
 use Rattle.std.proofs.Common.{refl}
 use Rattle.walrus_types.specs.Operators.{Functions, Globals, Memories, Tables, Tags, Types}
-use Rattle.walrus_entities.specs.Globals.{globals}
-use Rattle.walrus_entities.specs.Memories.{memories}
-use Rattle.walrus_entities.specs.Tables.{tables}
-use Rattle.walrus_entities.specs.Tags.{tags}
+use Rattle.walrus_items.specs.Globals.{globals}
+use Rattle.walrus_items.specs.Memories.{memories}
+use Rattle.walrus_items.specs.Tables.{tables}
+use Rattle.walrus_items.specs.Tags.{tags}
 use Rattle.walrus_items.specs.Imports.{imports}
 use Rattle.walrus_items.specs.Functions.{functions}
 use Rattle.walrus_model.specs.Kept.{Kept}

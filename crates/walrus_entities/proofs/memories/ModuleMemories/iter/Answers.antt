@@ -1,8 +1,0 @@
-use Rattle.std.proofs.Common.{sym}
-use Rattle.walrus_base.specs.Arena.{slots}
-use Rattle.walrus_items.proofs.SeenLemmas.{items-seen}
-use Rattle.walrus_entities.specs.Memories.{memory_value}
-use Rattle.walrus_entities.proofs.memories.ModuleMemories.iter.Goals as goal
-
-pub returns : goal.returns
-returns c = rw c.iter.ensures (sym (items-seen memory_value (slots c.args.self.now.arena)))

@@ -1,6 +1,0 @@
-use Rattle.std.proofs.Common.{rules}
-use Rattle.walrus_items.proofs.SeenLemmas.{seen-left}
-use Rattle.walrus_entities.proofs.tables.ModuleTables.delete.Goals as goal
-
-pub returns : goal.returns
-returns c = search (rules, seen-left)

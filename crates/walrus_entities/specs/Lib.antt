@@ -1,9 +1,0 @@
-pub mod Added
-pub mod Globals
-pub mod LendsGlobal
-pub mod LendsMemory
-pub mod LendsTable
-pub mod LendsTag
-pub mod Memories
-pub mod Tables
-pub mod Tags
