@@ -7,6 +7,7 @@ use Rattle.wasm_operators.proofs.OneStands.{and_both}
 use Rattle.walrus_base.specs.Arena.{item_at, items, entries_from}
 use Rattle.walrus_code.specs.Function.{body_of}
 use Rattle.walrus_code.specs.declared.function.LocalFunction.{LocalFunction}
+use Rattle.walrus_types.specs.ConstOps.{const_ops}
 use Rattle.walrus_types.specs.Operators.{Types, Functions, Tables, Memories, Tags, Globals, Elements, DataSegments, Arg, Index, Label, Local, Number, Count, Byte, S32, S64, Bits32, Bits64, Value, Heap, Block, Access, Op, Item, function_item}
 use Rattle.walrus_items.specs.Exports.{ExportValue, exported, exports}
 use Rattle.walrus_items.specs.Functions.{FunctionValue, functions}
@@ -186,8 +187,8 @@ module _ (c : Contents) where
   in_global : all_globals_pass (is_exported E) (items (globals c.globals)) ≡ true → (f : ℕ) → IsUndeclared (IsLive V) V f → IsRefInGlobal (IsLive V) V f → ⊥
   in_global h f u r =
       let s = mapped_some global_of (item_at (globals c.globals) r.0) r.1 r.4 in
-      let passes = each_from (λ (v : GlobalValue). init_passes (is_exported E) v.initialiser) 0 (globals c.globals) h r.0 s.0 s.1 in
-      let is : s.0.initialiser ≡ Some r.2 = ap (λ (g : abstract.Global). g.initialiser) (sym s.2) ∙ r.5 in
+      let passes = each_from (λ (v : GlobalValue). init_passes (is_exported E) (option_map const_ops v.initialiser)) 0 (globals c.globals) h r.0 s.0 s.1 in
+      let is : option_map const_ops s.0.initialiser ≡ Some r.2 = ap (λ (g : abstract.Global). g.initialiser) (sym s.2) ∙ r.5 in
       exported_yet f u (ops_good (is_exported E) r.2 f (subst (λ (o : Option (List Op)). init_passes (is_exported E) o ≡ true) is passes) r.6)
 
   pub nothing_undeclared : refs_are_exported (items (functions c.funcs)) (items (globals c.globals)) E ≡ true → NothingUndeclared V
@@ -211,8 +212,8 @@ module _ (c : Contents) where
 
   global_undeclared : all_globals_pass (is_exported E) (items (globals c.globals)) ≡ false → (f : ℕ) × IsUndeclared (IsLive V) V f
   global_undeclared h =
-      let q = found_from (λ (v : GlobalValue). init_passes (is_exported E) v.initialiser) 0 (globals c.globals) h in
-      let k = init_bad (is_exported E) q.1.initialiser q.3 in
+      let q = found_from (λ (v : GlobalValue). init_passes (is_exported E) (option_map const_ops v.initialiser)) 0 (globals c.globals) h in
+      let k = init_bad (is_exported E) (option_map const_ops q.1.initialiser) q.3 in
       let there : V.globals q.0 ≡ Some (global_of q.1) = ap (option_map global_of) q.2 in (
         k.2,
         record {

@@ -1,9 +1,10 @@
 -- Functions that ref.func names ("Instructions > Reference Instructions"). Each has to be exported so far, since a segment that declares it
 -- can't be written yet ("Validation > Modules": the context's references).
-use Rattle.std.specs.Prelude.{ℕ, Bool, true, ◌&&◌, List, [], ◌∷◌, Option, Some, None, ◌==◌, if◌then◌else◌}
+use Rattle.std.specs.Prelude.{ℕ, Bool, true, ◌&&◌, List, [], ◌∷◌, Option, Some, None, option_map, ◌==◌, if◌then◌else◌}
 use Rattle.std.specs.List.{list_all, list_any}
 use Rattle.wasm_opcodes.specs.declared.one_byte.TheConstants.{REF_FUNC}
 use Rattle.walrus_code.specs.Function.{body_of}
+use Rattle.walrus_types.specs.ConstOps.{const_ops}
 use Rattle.walrus_types.specs.Operators.{Types, Functions, Tables, Memories, Tags, Globals, Elements, DataSegments, Arg, Index, Label, Local, Number, Count, Byte, S32, S64, Bits32, Bits64, Value, Heap, Block, Access, Op, function_item}
 use Rattle.walrus_items.specs.Exports.{ExportValue, exports_item}
 use Rattle.walrus_items.specs.Functions.{FunctionValue}
@@ -67,7 +68,7 @@ module _ (holds : ℕ → Bool) where
   init_passes (Some ops) = list_all op_passes ops
 
   abbrev pub all_globals_pass : List GlobalValue → Bool
-  all_globals_pass globals = list_all (λ g. init_passes g.initialiser) globals
+  all_globals_pass globals = list_all (λ g. init_passes (option_map const_ops g.initialiser)) globals
 
 -- each function that ref.func names in a body or in the initialiser of a global is exported
 abbrev pub refs_are_exported : List FunctionValue → List GlobalValue → List ExportValue → Bool

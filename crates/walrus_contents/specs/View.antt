@@ -6,6 +6,7 @@ use Rattle.walrus_base.specs.Arena.{item_at, items}
 use Rattle.walrus_base.specs.Id.{place}
 use Rattle.walrus_types.specs.Locals.{locals}
 use Rattle.walrus_types.specs.ModuleTypes.{type_names, type_slots}
+use Rattle.walrus_types.specs.ConstOps.{const_ops}
 use Rattle.walrus_types.specs.Operators.{Op, locals_of}
 use Rattle.walrus_types.specs.PlaceList.{has}
 use Rattle.walrus_types.specs.declared.locals.ModuleLocals.{ModuleLocals}
@@ -93,7 +94,7 @@ abbrev pub table_of : TableValue → abstract.Table
 table_of t = record {
   origin = origin_of t.imported_by;
   ty = record { limits = record { wide = t.table64; minimum = t.initial; maximum = t.maximum }; element = t.element };
-  initialiser = own_initialiser t.imported_by t.initialiser;
+  initialiser = own_initialiser t.imported_by (option_map const_ops t.initialiser);
 }
 
 abbrev pub tables_of : ModuleTables → ℕ → Option abstract.Table
@@ -115,7 +116,7 @@ abbrev pub tags_of : ModuleTags → ℕ → Option abstract.Tag
 tags_of all i = option_map tag_of (item_at (tags all) i)
 
 abbrev pub global_of : GlobalValue → abstract.Global
-global_of g = record { origin = origin_of g.imported_by; ty = record { value = g.ty; mutable = g.mutable; shared = g.shared }; initialiser = g.initialiser }
+global_of g = record { origin = origin_of g.imported_by; ty = record { value = g.ty; mutable = g.mutable; shared = g.shared }; initialiser = option_map const_ops g.initialiser }
 
 abbrev pub globals_of : ModuleGlobals → ℕ → Option abstract.Global
 globals_of all i = option_map global_of (item_at (globals all) i)

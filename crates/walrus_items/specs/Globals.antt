@@ -3,8 +3,7 @@ use Rattle.std.specs.Prelude.{ℕ, Bool, List, Option, Some, None, map}
 use Rattle.walrus_base.specs.Id.{place}
 use Rattle.walrus_base.specs.declared.keys.GlobalKey.{GlobalKey}
 use Rattle.walrus_base.specs.Types.{ValType}
-use Rattle.walrus_types.specs.ConstOps.{const_ops}
-use Rattle.walrus_types.specs.Operators.{Op}
+use Rattle.walrus_types.specs.declared.const_expr.ConstExpr.{ConstExpr}
 use Rattle.walrus_types.specs.Value.{val_type}
 use Rattle.walrus_items.specs.Seen.{text_of}
 use Rattle.walrus_items.specs.Held.{held, held_left, held_entries_left}
@@ -15,15 +14,15 @@ use Rattle.walrus_items.specs.declared.globals.Global.{Global}
 use Rattle.walrus_items.specs.declared.globals.GlobalKind.{GlobalKind}
 use Rattle.walrus_items.specs.declared.globals.GlobalKind.TheVariants.{Import, Local}
 
--- The place of a global's own id, its type and flags, the place of the import that brings it, the operators of its initialiser, and
--- the bytes of its name.
+-- The place of a global's own id, its type and flags, the place of the import that brings it, its initialiser, and the bytes
+-- of its name.
 pub record GlobalValue : Type 0 where
   pub id : ℕ
   pub ty : ValType ℕ
   pub mutable : Bool
   pub shared : Bool
   pub imported_by : Option ℕ
-  pub initialiser : Option (List Op)
+  pub initialiser : Option ConstExpr
   pub name : Option (List ℕ)
 
 -- the place of the import that brings a global of this kind
@@ -31,10 +30,10 @@ abbrev pub global_import : GlobalKind → Option ℕ
 global_import (Import i) = Some (place i)
 global_import (Local e) = None
 
--- the operators of the initialiser of a global of this kind
-abbrev pub global_init : GlobalKind → Option (List Op)
+-- the initialiser of a global of this kind
+abbrev pub global_init : GlobalKind → Option ConstExpr
 global_init (Import i) = None
-global_init (Local e) = Some (const_ops e)
+global_init (Local e) = Some e
 
 abbrev pub global_value : Global → GlobalValue
 global_value g = record {

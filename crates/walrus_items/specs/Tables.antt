@@ -4,9 +4,8 @@ use Rattle.walrus_base.specs.Id.{place}
 use Rattle.walrus_base.specs.declared.keys.TableKey.{TableKey}
 use Rattle.walrus_base.specs.IdSet.{has_id}
 use Rattle.walrus_base.specs.Types.{RefType, HeapType, OfHeap, FuncHeap}
-use Rattle.walrus_types.specs.ConstOps.{const_ops}
-use Rattle.walrus_types.specs.Operators.{Op}
 use Rattle.walrus_types.specs.Value.{ref_type}
+use Rattle.walrus_types.specs.declared.const_expr.ConstExpr.{ConstExpr}
 use Rattle.walrus_parts.specs.declared.error.Error.{Error}
 use Rattle.walrus_parts.specs.declared.error.Error.TheVariants.{SeveralFunctionTables}
 use Rattle.walrus_items.specs.Seen.{text_of}
@@ -16,15 +15,15 @@ use Rattle.walrus_items.specs.declared.items.ItemIter.{ItemIter}
 use Rattle.walrus_items.specs.declared.items.ItemEntries.{ItemEntries}
 use Rattle.walrus_items.specs.declared.tables.Table.{Table}
 
--- The place of a table's own id, its limits, the type of its elements, the operators of its initialiser, the place of the import that
--- brings it, which element segments it keeps, by their places, and the bytes of its name.
+-- The place of a table's own id, its limits, the type of its elements, its initialiser, the place of the import that brings it, which
+-- element segments it keeps, by their places, and the bytes of its name.
 pub record TableValue : Type 0 where
   pub id : ℕ
   pub table64 : Bool
   pub initial : ℕ
   pub maximum : Option ℕ
   pub element : RefType ℕ
-  pub initialiser : Option (List Op)
+  pub initialiser : Option ConstExpr
   pub imported_by : Option ℕ
   pub segments : ℕ → Bool
   pub name : Option (List ℕ)
@@ -36,7 +35,7 @@ table_value t = record {
   initial = t.initial;
   maximum = t.maximum;
   element = ref_type t.element_ty;
-  initialiser = option_map const_ops t.init;
+  initialiser = t.init;
   imported_by = option_map place t.«import»;
   segments = has_id t.elem_segments;
   name = text_of t.name;

@@ -14,9 +14,7 @@ ghost use Rattle.walrus_items.specs.declared.exports.ExportItem.TheVariants.{Fun
 
 use crate::items::{Item, ItemEntries, ItemIter, Items};
 use std::alloc::Global;
-use walrus_base::{
-    ExportId, ExportKey, FunctionId, GlobalId, MemoryId, TableId, TagId,
-};
+use walrus_base::{ExportId, ExportKey, FunctionId, GlobalId, MemoryId, TableId, TagId};
 use walrus_parts::{Error, ItemId, Result};
 
 /// What an export exports.

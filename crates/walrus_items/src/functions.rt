@@ -12,9 +12,7 @@ ghost use Rattle.walrus_items.specs.declared.functions.FunctionKind.TheVariants.
 use crate::items::{Item, ItemEntries, ItemIter, Items, Marked};
 use std::alloc::{AllocError, Global};
 use std::result;
-use walrus_base::{
-    FunctionId, FunctionKey, ImportId, TypeId,
-};
+use walrus_base::{ArenaIter, FunctionId, FunctionKey, ImportId, TypeId};
 use walrus_ir::LocalFunction;
 use walrus_parts::Result;
 

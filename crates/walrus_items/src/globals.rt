@@ -6,7 +6,6 @@ ghost use Rattle.walrus_base.specs.Id.{place};
 ghost use Rattle.walrus_base.specs.Arena.{HasRoom, item_at, IsLive, items, entries, kept_by};
 ghost use Rattle.walrus_parts.specs.Errors.{out_of_memory};
 ghost use Rattle.walrus_items.specs.Added.{IsAdded};
-ghost use Rattle.walrus_types.specs.ConstOps.{const_ops};
 ghost use Rattle.walrus_types.specs.Value.{val_type};
 
 use crate::items::{Item, ItemEntries, ItemIter, Items, Marked};
@@ -120,7 +119,7 @@ impl Items<GlobalKey, Global> {
           mutable = mutable;
           shared = shared;
           imported_by = None;
-          initialiser = Some (const_ops init);
+          initialiser = Some init;
           name = None;
         }) }
     {

@@ -14,9 +14,7 @@ ghost use Rattle.walrus_items.specs.declared.imports.ImportKind.TheVariants.{Fun
 use crate::items::{Item, ItemEntries, ItemIter, Items};
 use crate::marks::ItemMarks;
 use std::alloc::Global;
-use walrus_base::{
-    FunctionId, GlobalId, ImportId, ImportKey, MemoryId, TableId, TagId,
-};
+use walrus_base::{FunctionId, GlobalId, ImportId, ImportKey, MemoryId, TableId, TagId};
 use walrus_parts::{Error, Result};
 
 /// What an import imports.

@@ -13,27 +13,118 @@ mod sets;
 mod tables;
 mod tags;
 
-pub use exports::{Export, ExportEntries, ExportItem, ExportIter, ModuleExports};
-pub use functions::{
-    Function, FunctionEntries, FunctionIter, FunctionKind, ImportedFunction, LocalFunctionIter,
-    ModuleFunctions,
-};
-pub use globals::{Global, GlobalEntries, GlobalIter, GlobalKind, ModuleGlobals};
-pub use imports::{Import, ImportEntries, ImportIter, ImportKind, ModuleImports};
-pub use items::{Item, ItemEntries, ItemIter, Items, Marked};
-pub use law::{imports_are_equal_by_parts, items_are_told_apart, kinds_are_equal_as_items};
+pub use exports::Export;
+pub use exports::ExportEntries;
+pub use exports::ExportItem;
+pub use exports::ExportIter;
+pub use exports::ModuleExports;
+pub use functions::Function;
+pub use functions::FunctionEntries;
+pub use functions::FunctionIter;
+pub use functions::FunctionKind;
+pub use functions::ImportedFunction;
+pub use functions::LocalFunctionIter;
+pub use functions::ModuleFunctions;
+pub use globals::Global;
+pub use globals::GlobalEntries;
+pub use globals::GlobalIter;
+pub use globals::GlobalKind;
+pub use globals::ModuleGlobals;
+pub use imports::Import;
+pub use imports::ImportEntries;
+pub use imports::ImportIter;
+pub use imports::ImportKind;
+pub use imports::ModuleImports;
+pub use items::Item;
+pub use items::ItemEntries;
+pub use items::ItemIter;
+pub use items::Items;
+pub use items::Marked;
+pub use law::imports_are_equal_by_parts;
+pub use law::items_are_told_apart;
+pub use law::kinds_are_equal_as_items;
 pub use marks::ItemMarks;
-pub use memories::{Memory, MemoryEntries, MemoryIter, ModuleMemories};
-pub use tables::{ModuleTables, Table, TableEntries, TableIter};
-pub use tags::{ModuleTags, Tag, TagEntries, TagIter, TagKind};
-pub use walrus_parts::{
-    AbstractHeapType, ArenaIter, Arg, Args, ArrayType, BlockType, CodeTransform, CompositeType,
-    ConstExpr, ConstOp, CustomSection, CustomSectionKey, DataId, DataKey, ElementId, ElementKey,
-    EmittedBody, Error, ErrorKind, ExportId, ExportKey, Features, FieldType, FunctionBuilder,
-    FunctionId, FunctionKey, FunctionType, GlobalId, GlobalKey, GroupIds, HeapType, Id, IdHashSet,
-    IdsToIndices, ImportId, ImportKey, IndicesToIds, InstrLocId, InstrSeqBuilder, IrError, ItemId,
-    Local, LocalFunction, LocalId, LocalIter, LocalKey, LocalNumbers, MemoryId, MemoryKey,
-    ModuleLocals, ModuleTypes, NewType, Operator, RawCustomSection, RefType, Result, Roots,
-    StorageType, StructType, TableId, TableKey, TagId, TagKey, TombstoneArena, Type, TypeId,
-    TypeIter, TypeKey, UntypedCustomSectionId, ValType, Value,
-};
+pub use memories::Memory;
+pub use memories::MemoryEntries;
+pub use memories::MemoryIter;
+pub use memories::ModuleMemories;
+pub use tables::ModuleTables;
+pub use tables::Table;
+pub use tables::TableEntries;
+pub use tables::TableIter;
+pub use tags::ModuleTags;
+pub use tags::Tag;
+pub use tags::TagEntries;
+pub use tags::TagIter;
+pub use tags::TagKind;
+pub use walrus_parts::AbstractHeapType;
+pub use walrus_parts::ArenaIter;
+pub use walrus_parts::Arg;
+pub use walrus_parts::Args;
+pub use walrus_parts::ArrayType;
+pub use walrus_parts::BlockType;
+pub use walrus_parts::CodeTransform;
+pub use walrus_parts::CompositeType;
+pub use walrus_parts::ConstExpr;
+pub use walrus_parts::ConstOp;
+pub use walrus_parts::CustomSection;
+pub use walrus_parts::CustomSectionKey;
+pub use walrus_parts::DataId;
+pub use walrus_parts::DataKey;
+pub use walrus_parts::ElementId;
+pub use walrus_parts::ElementKey;
+pub use walrus_parts::EmittedBody;
+pub use walrus_parts::Error;
+pub use walrus_parts::ErrorKind;
+pub use walrus_parts::ExportId;
+pub use walrus_parts::ExportKey;
+pub use walrus_parts::Features;
+pub use walrus_parts::FieldType;
+pub use walrus_parts::FunctionBuilder;
+pub use walrus_parts::FunctionId;
+pub use walrus_parts::FunctionKey;
+pub use walrus_parts::FunctionType;
+pub use walrus_parts::GlobalId;
+pub use walrus_parts::GlobalKey;
+pub use walrus_parts::GroupIds;
+pub use walrus_parts::HeapType;
+pub use walrus_parts::Id;
+pub use walrus_parts::IdHashSet;
+pub use walrus_parts::IdsToIndices;
+pub use walrus_parts::ImportId;
+pub use walrus_parts::ImportKey;
+pub use walrus_parts::IndicesToIds;
+pub use walrus_parts::InstrLocId;
+pub use walrus_parts::InstrSeqBuilder;
+pub use walrus_parts::IrError;
+pub use walrus_parts::ItemId;
+pub use walrus_parts::Local;
+pub use walrus_parts::LocalFunction;
+pub use walrus_parts::LocalId;
+pub use walrus_parts::LocalIter;
+pub use walrus_parts::LocalKey;
+pub use walrus_parts::LocalNumbers;
+pub use walrus_parts::MemoryId;
+pub use walrus_parts::MemoryKey;
+pub use walrus_parts::ModuleLocals;
+pub use walrus_parts::ModuleTypes;
+pub use walrus_parts::NewType;
+pub use walrus_parts::Operator;
+pub use walrus_parts::RawCustomSection;
+pub use walrus_parts::RefType;
+pub use walrus_parts::Result;
+pub use walrus_parts::Roots;
+pub use walrus_parts::StorageType;
+pub use walrus_parts::StructType;
+pub use walrus_parts::TableId;
+pub use walrus_parts::TableKey;
+pub use walrus_parts::TagId;
+pub use walrus_parts::TagKey;
+pub use walrus_parts::TombstoneArena;
+pub use walrus_parts::Type;
+pub use walrus_parts::TypeId;
+pub use walrus_parts::TypeIter;
+pub use walrus_parts::TypeKey;
+pub use walrus_parts::UntypedCustomSectionId;
+pub use walrus_parts::ValType;
+pub use walrus_parts::Value;

@@ -10,7 +10,7 @@ ghost use Rattle.walrus_items.specs.Added.{IsAdded, no_segments};
 use crate::items::{Item, ItemEntries, ItemIter, Items, Marked};
 use crate::sets::no_ids;
 use std::alloc::Global;
-use walrus_base::{DataKey, ImportId, MemoryId, MemoryKey};
+use walrus_base::{DataKey, IdHashSet, ImportId, MemoryId, MemoryKey};
 use walrus_parts::Result;
 
 /// A memory of a module.

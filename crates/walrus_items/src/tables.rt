@@ -7,14 +7,13 @@ ghost use Rattle.walrus_base.specs.Arena.{HasRoom, item_at, IsLive, items, entri
 ghost use Rattle.walrus_parts.specs.Errors.{out_of_memory};
 ghost use Rattle.walrus_items.specs.Added.{IsAdded, no_segments};
 ghost use Rattle.std.specs.Result.{result_map_both};
-ghost use Rattle.walrus_types.specs.ConstOps.{const_ops};
 ghost use Rattle.walrus_types.specs.Value.{ref_type};
 ghost use Rattle.walrus_items.specs.Tables.{is_function_reference};
 
 use crate::items::{Item, ItemEntries, ItemIter, Items, Marked};
 use crate::sets::no_ids;
 use std::alloc::Global;
-use walrus_base::{ElementKey, ImportId, TableId, TableKey};
+use walrus_base::{ElementKey, IdHashSet, ImportId, TableId, TableKey};
 use walrus_ir::{AbstractHeapType, ConstExpr, HeapType, RefType};
 use walrus_parts::{Error, Result};
 
@@ -160,7 +159,7 @@ impl Items<TableKey, Table> {
           initial = initial;
           maximum = maximum;
           element = ref_type element_ty;
-          initialiser = option_map const_ops init;
+          initialiser = init;
           imported_by = None;
           segments = no_segments;
           name = None;

@@ -4,7 +4,7 @@ use std::alloc::Global;
 use std::test::Fail;
 use test_support::{demand, first_id, second_id};
 use walrus_base::{
-    GlobalId, GlobalKey, IdHashSet, MemoryId, MemoryKey, TableId, TableKey, TagId, TagKey,
+    GlobalId, GlobalKey, Marks, MemoryId, MemoryKey, TableId, TableKey, TagId, TagKey,
 };
 use walrus_items::{
     GlobalKind, ModuleGlobals, ModuleMemories, ModuleTables, ModuleTags, Tag, TagKind,
@@ -120,7 +120,9 @@ fn loses_table(tables: &mut ModuleTables, id: TableId) -> bool {
 
 // Whether nothing is left where none is marked.
 fn loses_tables(alloc: Global, tables: &mut ModuleTables) -> bool {
-    let marks: IdHashSet<TableKey> = IdHashSet::new(alloc);
+    let Ok(marks) = Marks::<TableKey>::new(alloc, 2) else {
+        return false;
+    };
     tables.keep_only(&marks);
     tables.is_empty()
 }
@@ -204,7 +206,9 @@ fn loses_memory(memories: &mut ModuleMemories, id: MemoryId) -> bool {
 
 // Whether nothing is left where none is marked.
 fn loses_memories(alloc: Global, memories: &mut ModuleMemories) -> bool {
-    let marks: IdHashSet<MemoryKey> = IdHashSet::new(alloc);
+    let Ok(marks) = Marks::<MemoryKey>::new(alloc, 2) else {
+        return false;
+    };
     memories.keep_only(&marks);
     memories.is_empty()
 }
@@ -287,7 +291,9 @@ fn loses_global(globals: &mut ModuleGlobals, id: GlobalId) -> bool {
 
 // Whether nothing is left where none is marked.
 fn loses_globals(alloc: Global, globals: &mut ModuleGlobals) -> bool {
-    let marks: IdHashSet<GlobalKey> = IdHashSet::new(alloc);
+    let Ok(marks) = Marks::<GlobalKey>::new(alloc, 2) else {
+        return false;
+    };
     globals.keep_only(&marks);
     globals.is_empty()
 }
@@ -355,7 +361,9 @@ fn loses_tag(tags: &mut ModuleTags, id: TagId) -> bool {
 
 // Whether nothing is left where none is marked.
 fn loses_tags(alloc: Global, tags: &mut ModuleTags) -> bool {
-    let marks: IdHashSet<TagKey> = IdHashSet::new(alloc);
+    let Ok(marks) = Marks::<TagKey>::new(alloc, 2) else {
+        return false;
+    };
     tags.keep_only(&marks);
     tags.is_empty()
 }

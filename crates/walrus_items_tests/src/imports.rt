@@ -1,11 +1,11 @@
 //! Imports.
 
-use std::alloc::Global;
+use std::alloc::{AllocError, Global};
 use std::hash::{DefaultHasher, Hash, Hasher};
 use std::test::Fail;
 use test_support::{demand, first_id, is_text};
 use walrus_base::{
-    FunctionId, FunctionKey, GlobalId, GlobalKey, IdHashSet, ImportId, MemoryId, MemoryKey,
+    FunctionId, FunctionKey, GlobalId, GlobalKey, Marks, ImportId, MemoryId, MemoryKey,
     TableId, TableKey, TagId, TagKey,
 };
 use walrus_items::{Import, ImportKind, ItemMarks, ModuleImports};
@@ -106,13 +106,17 @@ fn is_deleted(imports: &mut ModuleImports, id: ImportId) -> bool {
 }
 
 // What stays where this function is marked, and nothing else.
-fn keep_function(alloc: Global, imports: &mut ModuleImports, function: FunctionId) -> bool {
-    let mut funcs: IdHashSet<FunctionKey> = IdHashSet::new(alloc);
-    let tables: IdHashSet<TableKey> = IdHashSet::new(alloc);
-    let memories: IdHashSet<MemoryKey> = IdHashSet::new(alloc);
-    let globals: IdHashSet<GlobalKey> = IdHashSet::new(alloc);
-    let tags: IdHashSet<TagKey> = IdHashSet::new(alloc);
-    let marked = funcs.insert(function).is_ok();
+fn keep_function(
+    alloc: Global,
+    imports: &mut ModuleImports,
+    function: FunctionId,
+) -> Result<bool, AllocError> {
+    let mut funcs: Marks<FunctionKey> = Marks::new(alloc, 1)?;
+    let tables: Marks<TableKey> = Marks::new(alloc, 1)?;
+    let memories: Marks<MemoryKey> = Marks::new(alloc, 1)?;
+    let globals: Marks<GlobalKey> = Marks::new(alloc, 1)?;
+    let tags: Marks<TagKey> = Marks::new(alloc, 1)?;
+    let marked = function.index() < funcs.places() && funcs.mark(function);
     imports.keep_only(ItemMarks {
         funcs: &funcs,
         tables: &tables,
@@ -120,7 +124,7 @@ fn keep_function(alloc: Global, imports: &mut ModuleImports, function: FunctionI
         globals: &globals,
         tags: &tags,
     });
-    marked
+    Ok(marked)
 }
 
 fn are_edited(alloc: Global, imports: &mut ModuleImports, name: String) -> bool {
@@ -131,7 +135,7 @@ fn are_edited(alloc: Global, imports: &mut ModuleImports, name: String) -> bool 
         return false;
     };
     is_renamed(imports, first, name)
-        && keep_function(alloc, imports, first_id(alloc))
+        && matches!(keep_function(alloc, imports, first_id(alloc)), Ok(true))
         && !imports.contains(second)
         && is_deleted(imports, first)
         && imports.is_empty()

@@ -3,7 +3,7 @@
 use std::alloc::{AllocError, Global};
 use std::test::Fail;
 use test_support::{demand, first_id, is_name, is_text, second_id};
-use walrus_base::{ExportId, FunctionId, FunctionKey, IdHashSet, ImportId};
+use walrus_base::{ExportId, FunctionId, FunctionKey, Marks, ImportId};
 use walrus_ir::LocalFunction;
 use walrus_items::{ExportItem, FunctionKind, ImportedFunction, ModuleExports, ModuleFunctions};
 use walrus_parts::Error;
@@ -166,7 +166,9 @@ fn is_deleted(functions: &mut ModuleFunctions, id: FunctionId) -> bool {
 
 // Whether nothing is left where none is marked.
 fn is_emptied(alloc: Global, functions: &mut ModuleFunctions) -> bool {
-    let marks: IdHashSet<FunctionKey> = IdHashSet::new(alloc);
+    let Ok(marks) = Marks::<FunctionKey>::new(alloc, 2) else {
+        return false;
+    };
     functions.keep_only(&marks);
     functions.is_empty()
 }

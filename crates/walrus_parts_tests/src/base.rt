@@ -3,7 +3,7 @@
 use std::alloc::Global;
 use std::test::Fail;
 use test_support::{demand, first_id};
-use walrus_base::{FunctionId, FunctionKey, IdHashSet, TombstoneArena};
+use walrus_base::{FunctionId, FunctionKey, Id, IdHashSet, Marks, TombstoneArena};
 
 type Numbers = TombstoneArena<FunctionKey, usize>;
 
@@ -66,12 +66,38 @@ fn set_knows_its_ids(rt: HostRuntime) -> Result<(), Fail> {
     )
 }
 
-fn mark(alloc: Global, id: FunctionId) -> Option<IdHashSet<FunctionKey>> {
-    let mut marks = IdHashSet::new(alloc);
-    match marks.insert(id) {
-        Ok(_) => Some(marks),
-        Err(_) => None,
+// Whether each of many sets takes the id of a place far out: with a byte a place they would need a terabyte.
+fn are_small_sets(alloc: Global) -> bool {
+    let mut sets: Vec<IdHashSet<FunctionKey>> = Vec::new(alloc);
+    for _turn in 0..100_000 {
+        let mut set = IdHashSet::new(alloc);
+        if !matches!(set.insert(Id::at(10_000_000)), Ok(true)) || sets.push(set).is_err() {
+            return false;
+        }
     }
+    sets.len() == 100_000
+}
+
+#[test]
+fn a_set_takes_memory_by_what_is_in_it(rt: HostRuntime) -> Result<(), Fail> {
+    demand(are_small_sets(rt.alloc()), "many sets")
+}
+
+// Marks of so many places, of which one is set.
+fn mark(alloc: Global, places: usize, id: FunctionId) -> Option<Marks<FunctionKey>> {
+    let Ok(mut marks) = Marks::new(alloc, places) else {
+        return None;
+    };
+    if id.index() < marks.places() && marks.mark(id) {
+        Some(marks)
+    } else {
+        None
+    }
+}
+
+// Whether this place is marked, and none beside it.
+fn is_marked_alone(marks: &Marks<FunctionKey>, id: FunctionId) -> bool {
+    marks.is_marked(id) && marks.iter().take(2).count() == 1 && marks.iter().next() == Some(id)
 }
 
 // Adds two numbers, and keeps the second.
@@ -79,11 +105,13 @@ fn keeps_second(alloc: Global, arena: &mut Numbers) -> bool {
     let (Ok(first), Ok(second)) = (arena.alloc(10), arena.alloc(20)) else {
         return false;
     };
-    let Some(marks) = mark(alloc, second) else {
+    let Some(marks) = mark(alloc, 2, second) else {
         return false;
     };
     arena.keep_only(&marks);
-    first < second && !arena.contains(first) && arena.contains(second) && *arena.get(second) == 20
+    is_marked_alone(&marks, second)
+        && first < second
+        && !arena.contains(first) && arena.contains(second) && *arena.get(second) == 20
 }
 
 #[test]

@@ -1,6 +1,6 @@
 -- What a slot holds of an item that was read: the item as the sections say it, under the slot's own id, and nothing that they don't say: no
 -- name, and no segment that is kept as long as the item is.
-use Rattle.std.specs.Prelude.{ℕ, Option, Some, None, ◌≡◌}
+use Rattle.std.specs.Prelude.{ℕ, true, Option, Some, None, IfSome, ◌≡◌}
 use Rattle.walrus_types.specs.declared.locals.ModuleLocals.{ModuleLocals}
 use Rattle.walrus_items.specs.Functions.{FunctionValue}
 use Rattle.walrus_items.specs.Imports.{ImportValue}
@@ -10,6 +10,7 @@ use Rattle.walrus_items.specs.Memories.{MemoryValue}
 use Rattle.walrus_items.specs.Tables.{TableValue}
 use Rattle.walrus_items.specs.Tags.{TagValue}
 use Rattle.walrus_model.specs.Abstract.{Function, Global, Import, Memory, Table, Tag}
+use Rattle.walrus_constants.specs.Short.{is_short}
 use Rattle.walrus_contents.specs.View as view
 
 -- a slot holds this memory
@@ -21,12 +22,13 @@ pub record HoldsMemory (id : ℕ) (memory : Memory) (slot : Option MemoryValue) 
   pub segments : value.segments ≡ no_segments
   pub unnamed : value.name ≡ None
 
--- a slot holds this table, with the operators of its initialiser
+-- a slot holds this table, with its initialiser in its shortest form
 pub record HoldsTable (id : ℕ) (table : Table) (slot : Option TableValue) : Type 0 where
   pub value : TableValue
   pub is : slot ≡ Some value
   pub own_id : value.id ≡ id
   pub read : view.table_of value ≡ table
+  pub short : IfSome value.initialiser (λ e. is_short e ≡ true)
   pub segments : value.segments ≡ no_segments
   pub unnamed : value.name ≡ None
 
@@ -38,12 +40,13 @@ pub record HoldsTag (id : ℕ) (tag : Tag) (slot : Option TagValue) : Type 0 whe
   pub read : view.tag_of value ≡ tag
   pub unnamed : value.name ≡ None
 
--- a slot holds this global, with the operators of its initialiser
+-- a slot holds this global, with its initialiser in its shortest form
 pub record HoldsGlobal (id : ℕ) (global : Global) (slot : Option GlobalValue) : Type 0 where
   pub value : GlobalValue
   pub is : slot ≡ Some value
   pub own_id : value.id ≡ id
   pub read : view.global_of value ≡ global
+  pub short : IfSome value.initialiser (λ e. is_short e ≡ true)
   pub unnamed : value.name ≡ None
 
 -- a slot holds this import, which names the item that it brings

@@ -1,10 +1,11 @@
 //! The tables, memories, tags and globals that sections define. Each gets the next id of its kind.
-ghost use Rattle.std.specs.Prelude.{◌≡◌, ◌∷◌, [], map, option_map, All, IfOk, OnOk, IsOkUnless, Some};
+ghost use Rattle.std.specs.Prelude.{◌≡◌, ◌∷◌, [], map, option_map, All, IfOk, IfSome, OnOk, IsOkUnless, Some, true};
 ghost use Rattle.wasm_entries.specs.Record.{global_entry, table_entry};
 ghost use Rattle.walrus_types.specs.ConstOps.{const_ops};
 ghost use Rattle.walrus_types.specs.Value.{ref_type, val_type};
 ghost use Rattle.walrus_code.specs.FromRaw.{val_of};
 ghost use Rattle.walrus_code.specs.Indices.{ids_at};
+ghost use Rattle.walrus_constants.specs.Short.{is_short};
 ghost use Rattle.walrus_items.specs.Globals.{globals};
 ghost use Rattle.walrus_items.specs.Memories.{memories};
 ghost use Rattle.walrus_items.specs.Tables.{tables};
@@ -105,6 +106,7 @@ pub(crate) fn read_reference(raw: RawRef, indices: &IndicesToIds) -> RefType
 fn read_initialiser(alloc: Global, raw: &[RawConst], indices: &IndicesToIds) -> Result<ConstExpr>
     requires stays { ConstStays (ids_at indices.now) raw.now }
     ensures value { IfOk result (λ expr. const_ops expr ≡ consts_of raw.now) }
+    ensures short { IfOk result (λ expr. is_short expr ≡ true) }
     ensures fails { IsOkUnless result out_of_memory }
 {
     match read_const(alloc, raw, indices) {
@@ -119,6 +121,7 @@ fn read_initial(alloc: Global, raw: &RawTable, indices: &IndicesToIds) -> Result
     requires stays { TableStays (ids_at indices.now) (table_entry raw.now) }
     ensures value { IfOk result (λ found. option_map const_ops found ≡ option_map consts_of
         (table_entry raw.now).initial) }
+    ensures short { IfOk result (λ found. IfSome found (λ expr. is_short expr ≡ true)) }
     ensures fails { IsOkUnless result out_of_memory }
 {
     match &raw.initial {

@@ -25,6 +25,7 @@ returns-clause-added c =
       value = _;
       is = refl;
       own_id = c.in_ok-add_local.ensures.0;
+      short = c.in_ok-initial.ensures.short;
       read = ap₂ (λ value ops. record { origin = Defined; ty = record { value = value; mutable = c.args.raw.now.ty.mutable; shared = c.args.raw.now.ty.shared }; initialiser = Some ops })
           c.read_value-ty.ensures (c.in_ok-initial.ensures.value ∙ ap consts_of c.deref.ensures.value);
       unnamed = refl;

@@ -19,6 +19,7 @@ returns-clause-added c =
       value = _;
       is = refl;
       own_id = c.in_ok-add_local_with_init.ensures.0;
+      short = c.in_ok-initial.ensures.short;
       read = ap₂ (λ element initial. record { origin = Defined; ty = record { limits = limits_of c.args.raw.now.ty.limits; element = element }; initialiser = initial })
           c.read_reference-element.ensures c.in_ok-initial.ensures.value;
       segments = refl;

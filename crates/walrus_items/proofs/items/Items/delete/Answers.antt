@@ -4,4 +4,4 @@ use Rattle.walrus_items.proofs.SeenLemmas.{seen-left}
 use Rattle.walrus_items.proofs.items.Items.delete.Goals as goal
 
 pub returns : goal.returns
-returns g c = seen-left g.T.Item.value (slots c.args.self.now.arena) (slots c.delete.new.self.arena) (place c.args.id) c.delete.ensures.left
+returns g c = seen-left g.T.Item.value (slots c.args.self.now.arena) (slots c.delete.new.self) (place c.args.id) c.delete.ensures.left
