@@ -1,26 +1,32 @@
 -- What a contract sees of the two tables between indices and ids.
-use Rattle.std.specs.Prelude.{◌≡◌, ◌≢◌, ℕ, ◌+◌, List, [], ◌∷◌, ◌++◌, Option, Some, None, map, slice_get, slice_index_or, nat_eq}
+use Rattle.std.specs.Prelude.{◌≡◌, ◌≢◌, ℕ, ◌+◌, List, [], ◌∷◌, ◌++◌, Option, Some, None, map, length, slice_get, slice_index_or, nat_eq}
 use Rattle.std.specs.HashMap.{get, hash_map_len}
 use Rattle.walrus_base.specs.Id.{place}
+use Rattle.walrus_types.specs.Shape.{place_in}
 use Rattle.walrus_types.specs.Operators.{Space, Types, Functions, Tables, Memories, Tags, Globals, Elements, DataSegments}
 use Rattle.walrus_code.specs.Names.{Lookup}
+use Rattle.walrus_code.specs.declared.indices.IndexSpace.{IndexSpace}
 use Rattle.walrus_code.specs.declared.indices.IndicesToIds.{IndicesToIds}
-use Rattle.walrus_code.specs.declared.indices.Numbering.{Numbering}
-use Rattle.walrus_code.specs.declared.indices.IdsToIndices.{IdsToIndices}
+use Rattle.walrus_code.specs.declared.numbering.IdsToIndices.{IdsToIndices}
+use Rattle.walrus_code.specs.declared.numbering.Numbering.{Numbering}
 use Rattle.walrus_code.specs.declared.local_numbers.LocalNumbers.{LocalNumbers}
 
 -- ---- from indices to ids
 
--- the places of the items of a space, in the order of their indices
+-- the places of the items of one space, in the order of their indices
+abbrev pub places_of : {K : Type 0} → IndexSpace K → List ℕ
+places_of space = map place space.ids.items
+
+-- those of each space
 abbrev pub places_in : IndicesToIds → Space → List ℕ
-places_in ids Types = map place ids.types.items
-places_in ids Functions = map place ids.functions.items
-places_in ids Tables = map place ids.tables.items
-places_in ids Memories = map place ids.memories.items
-places_in ids Tags = map place ids.tags.items
-places_in ids Globals = map place ids.globals.items
-places_in ids Elements = map place ids.elements.items
-places_in ids DataSegments = map place ids.data_.items
+places_in ids Types = places_of ids.types
+places_in ids Functions = places_of ids.functions
+places_in ids Tables = places_of ids.tables
+places_in ids Memories = places_of ids.memories
+places_in ids Tags = places_of ids.tags
+places_in ids Globals = places_of ids.globals
+places_in ids Elements = places_of ids.elements
+places_in ids DataSegments = places_of ids.data_
 
 -- the place of the item of an index
 abbrev pub ids_at : IndicesToIds → Lookup
@@ -36,15 +42,28 @@ SamePlaces old new = (space : Space) → places_in new space ≡ places_in old s
 
 -- ---- from ids to indices
 
--- the index of the item at a place
-abbrev pub index_in : Numbering → ℕ → Option ℕ
-index_in numbering number = slice_index_or numbering.indices.items number None
+-- the index of the item at a place, in one space
+abbrev pub index_in : {K : Type 0} → Numbering K → ℕ → Option ℕ
+index_in numbers number = slice_index_or numbers.indices.items number None
+
+-- how many indices of one space are given
+abbrev pub given_in : {K : Type 0} → Numbering K → ℕ
+given_in numbers = numbers.count
 
 -- the item at this place has the next index
-pub record AddsIndex (old new : Numbering) (number : ℕ) : Type 0 where
-  pub counted : new.count ≡ old.count + 1
-  pub numbered : index_in new number ≡ Some old.count
+pub record AddsIndex {K : Type 0} (old new : Numbering K) (number : ℕ) : Type 0 where
+  pub counted : given_in new ≡ given_in old + 1
+  pub numbered : index_in new number ≡ Some (given_in old)
   pub kept : (other : ℕ) → other ≢ number → index_in new other ≡ index_in old other
+
+-- the same indices are given
+abbrev pub SameNumbering : {K : Type 0} → Numbering K → Numbering K → Type 0
+SameNumbering old new = (given_in new ≡ given_in old) × ((number : ℕ) → index_in new number ≡ index_in old number)
+
+-- the indices are those at which the items stand in this order, by their places
+pub record NumbersAlong {K : Type 0} (numbers : Numbering K) (order : List ℕ) : Type 0 where
+  pub counted : given_in numbers ≡ length order
+  pub numbered : (number : ℕ) → index_in numbers number ≡ place_in order number
 
 -- the index of the item at a place
 abbrev pub index_of : IdsToIndices → Lookup
@@ -59,14 +78,14 @@ index_of indices DataSegments number = index_in indices.data_ number
 
 -- how many indices of a space are given
 abbrev pub given : IdsToIndices → Space → ℕ
-given indices Types = indices.types.count
-given indices Functions = indices.functions.count
-given indices Tables = indices.tables.count
-given indices Memories = indices.memories.count
-given indices Tags = indices.tags.count
-given indices Globals = indices.globals.count
-given indices Elements = indices.elements.count
-given indices DataSegments = indices.data_.count
+given indices Types = given_in indices.types
+given indices Functions = given_in indices.functions
+given indices Tables = given_in indices.tables
+given indices Memories = given_in indices.memories
+given indices Tags = given_in indices.tags
+given indices Globals = given_in indices.globals
+given indices Elements = given_in indices.elements
+given indices DataSegments = given_in indices.data_
 
 -- the same indices of this space are given
 abbrev pub SameIn : IdsToIndices → IdsToIndices → Space → Type 0

@@ -1,23 +1,97 @@
-//! Items by their indices, and the indices of items (Structure > Modules > Indices).
-ghost use Rattle.std.specs.Prelude.{◌≡◌, ◌≢◌, ◌^◌, ◌<◌, ◌+◌, ℕ, [], length, MatchResult, option_map, Contains, None, Some};
+//! Items by their indices (Structure > Modules > Indices).
+ghost use Rattle.std.specs.Prelude.{◌≡◌, ◌≤◌, ◌<◌, ◌^◌, ◌++◌, ◌∷◌, [], length, map, Contains, IfOk, MatchResult, option_map, slice_get};
+ghost use Rattle.std.specs.List.{range_with_len};
 ghost use Rattle.walrus_base.specs.Id.{place};
 ghost use Rattle.walrus_types.specs.Operators.{Space, Types, Functions, Tables, Memories, Tags, Globals, Elements, DataSegments};
-ghost use Rattle.walrus_code.specs.Indices.{places_in, ids_at, Pushes, SamePlaces, index_in, index_of, given, Numbers, SameIndices, AddsIndex};
+ghost use Rattle.walrus_code.specs.Indices.{places_of, places_in, ids_at, Pushes, SamePlaces};
 
 use std::alloc::{AllocError, Global};
-use walrus_base::{DataId, ElementId, FunctionId, GlobalId, MemoryId, TableId, TagId, TypeId};
+use walrus_base::{
+    DataId, DataKey, ElementId, ElementKey, FunctionId, FunctionKey, GlobalId, GlobalKey, Id,
+    MemoryId, MemoryKey, TableId, TableKey, TagId, TagKey, TypeId, TypeKey,
+};
+
+/// The ids of the items of one index space by their indices.
+#[derive(Drop)]
+pub struct IndexSpace<K> {
+    ids: Vec<Id<K>>,
+}
+
+impl<K> IndexSpace<K> {
+    /// No index is given yet. Takes no memory until the first one is.
+    pub fn new(alloc: Global) -> IndexSpace<K>
+        ensures { places_of result ≡ [] }
+    {
+        IndexSpace {
+            ids: Vec::new(alloc),
+        }
+    }
+
+    /// A space whose ids are its indices: the items at so many first places, in their order.
+    pub fn in_place(alloc: Global, count: usize) -> Result<IndexSpace<K>, AllocError>
+        requires { count ≤ 2 ^ 32 }
+        ensures { IfOk result (λ space. places_of space ≡ range_with_len 0 count) }
+    {
+        let mut ids = Vec::with_capacity(alloc, count)?;
+        'places: for place in 0..count {
+            ids.push(Id::at(place))?;
+        }
+        Ok(IndexSpace { ids })
+    }
+
+    /// Gives the item, which has no index yet, the next one. Where memory runs out, nothing changes.
+    pub fn push(&mut self, id: Id<K>) -> Result<(), AllocError>
+        requires is_new { Contains (places_of self.old) (place id) → ⊥ }
+        requires room { length (places_of self.old) < 2 ^ 32 }
+        ensures { MatchResult result
+            (λ _. places_of self.new ≡ places_of self.old ++ place id ∷ [])
+            (λ _. places_of self.new ≡ places_of self.old) }
+    {
+        self.ids.push(id)?;
+        Ok(())
+    }
+
+    /// The item of this index, if one is given it.
+    pub fn get(&self, index: u32) -> Option<Id<K>>
+        ensures { option_map place result ≡ slice_get (places_of self.now) index }
+    {
+        self.ids.get(index as usize).copied()
+    }
+
+    /// How many indices are given.
+    pub fn len(&self) -> usize
+        ensures { result ≡ length (places_of self.now) }
+    {
+        self.ids.len()
+    }
+
+    /// The items in the order of their indices.
+    pub fn as_slice(&self) -> &[Id<K>]
+        ensures { map place result.now ≡ places_of self.now }
+    {
+        self.ids.as_slice()
+    }
+}
 
 /// The ids of a module's items by their indices in the input.
 #[derive(Drop)]
 pub struct IndicesToIds {
-    types: Vec<TypeId>,
-    functions: Vec<FunctionId>,
-    tables: Vec<TableId>,
-    memories: Vec<MemoryId>,
-    tags: Vec<TagId>,
-    globals: Vec<GlobalId>,
-    elements: Vec<ElementId>,
-    data_: Vec<DataId>,
+    /// The types.
+    pub types: IndexSpace<TypeKey>,
+    /// The functions.
+    pub functions: IndexSpace<FunctionKey>,
+    /// The tables.
+    pub tables: IndexSpace<TableKey>,
+    /// The memories.
+    pub memories: IndexSpace<MemoryKey>,
+    /// The tags.
+    pub tags: IndexSpace<TagKey>,
+    /// The globals.
+    pub globals: IndexSpace<GlobalKey>,
+    /// The element segments.
+    pub elements: IndexSpace<ElementKey>,
+    /// The data segments.
+    pub data_: IndexSpace<DataKey>,
 }
 
 impl IndicesToIds {
@@ -26,14 +100,14 @@ impl IndicesToIds {
         ensures { (space : Space) → places_in result space ≡ [] }
     {
         IndicesToIds {
-            types: Vec::new(alloc),
-            functions: Vec::new(alloc),
-            tables: Vec::new(alloc),
-            memories: Vec::new(alloc),
-            tags: Vec::new(alloc),
-            globals: Vec::new(alloc),
-            elements: Vec::new(alloc),
-            data_: Vec::new(alloc),
+            types: IndexSpace::new(alloc),
+            functions: IndexSpace::new(alloc),
+            tables: IndexSpace::new(alloc),
+            memories: IndexSpace::new(alloc),
+            tags: IndexSpace::new(alloc),
+            globals: IndexSpace::new(alloc),
+            elements: IndexSpace::new(alloc),
+            data_: IndexSpace::new(alloc),
         }
     }
 
@@ -45,15 +119,14 @@ impl IndicesToIds {
             (λ _. Pushes self.old self.new Types (place id))
             (λ _. SamePlaces self.old self.new) }
     {
-        self.types.push(id)?;
-        Ok(())
+        self.types.push(id)
     }
 
     /// The type of this index, if one is given it.
     pub fn get_type(&self, index: u32) -> Option<TypeId>
         ensures { option_map place result ≡ ids_at self.now Types index }
     {
-        self.types.get(index as usize).copied()
+        self.types.get(index)
     }
 
     /// Gives the function, which has no index yet, the next one. Where memory runs out, nothing changes.
@@ -64,15 +137,14 @@ impl IndicesToIds {
             (λ _. Pushes self.old self.new Functions (place id))
             (λ _. SamePlaces self.old self.new) }
     {
-        self.functions.push(id)?;
-        Ok(())
+        self.functions.push(id)
     }
 
     /// The function of this index, if one is given it.
     pub fn get_func(&self, index: u32) -> Option<FunctionId>
         ensures { option_map place result ≡ ids_at self.now Functions index }
     {
-        self.functions.get(index as usize).copied()
+        self.functions.get(index)
     }
 
     /// Gives the table, which has no index yet, the next one. Where memory runs out, nothing changes.
@@ -83,15 +155,14 @@ impl IndicesToIds {
             (λ _. Pushes self.old self.new Tables (place id))
             (λ _. SamePlaces self.old self.new) }
     {
-        self.tables.push(id)?;
-        Ok(())
+        self.tables.push(id)
     }
 
     /// The table of this index, if one is given it.
     pub fn get_table(&self, index: u32) -> Option<TableId>
         ensures { option_map place result ≡ ids_at self.now Tables index }
     {
-        self.tables.get(index as usize).copied()
+        self.tables.get(index)
     }
 
     /// Gives the memory, which has no index yet, the next one. Where memory runs out, nothing changes.
@@ -102,15 +173,14 @@ impl IndicesToIds {
             (λ _. Pushes self.old self.new Memories (place id))
             (λ _. SamePlaces self.old self.new) }
     {
-        self.memories.push(id)?;
-        Ok(())
+        self.memories.push(id)
     }
 
     /// The memory of this index, if one is given it.
     pub fn get_memory(&self, index: u32) -> Option<MemoryId>
         ensures { option_map place result ≡ ids_at self.now Memories index }
     {
-        self.memories.get(index as usize).copied()
+        self.memories.get(index)
     }
 
     /// Gives the tag, which has no index yet, the next one. Where memory runs out, nothing changes.
@@ -121,15 +191,14 @@ impl IndicesToIds {
             (λ _. Pushes self.old self.new Tags (place id))
             (λ _. SamePlaces self.old self.new) }
     {
-        self.tags.push(id)?;
-        Ok(())
+        self.tags.push(id)
     }
 
     /// The tag of this index, if one is given it.
     pub fn get_tag(&self, index: u32) -> Option<TagId>
         ensures { option_map place result ≡ ids_at self.now Tags index }
     {
-        self.tags.get(index as usize).copied()
+        self.tags.get(index)
     }
 
     /// Gives the global, which has no index yet, the next one. Where memory runs out, nothing changes.
@@ -140,15 +209,14 @@ impl IndicesToIds {
             (λ _. Pushes self.old self.new Globals (place id))
             (λ _. SamePlaces self.old self.new) }
     {
-        self.globals.push(id)?;
-        Ok(())
+        self.globals.push(id)
     }
 
     /// The global of this index, if one is given it.
     pub fn get_global(&self, index: u32) -> Option<GlobalId>
         ensures { option_map place result ≡ ids_at self.now Globals index }
     {
-        self.globals.get(index as usize).copied()
+        self.globals.get(index)
     }
 
     /// Gives the element segment, which has no index yet, the next one. Where memory runs out, nothing changes.
@@ -159,15 +227,14 @@ impl IndicesToIds {
             (λ _. Pushes self.old self.new Elements (place id))
             (λ _. SamePlaces self.old self.new) }
     {
-        self.elements.push(id)?;
-        Ok(())
+        self.elements.push(id)
     }
 
     /// The element segment of this index, if one is given it.
     pub fn get_element(&self, index: u32) -> Option<ElementId>
         ensures { option_map place result ≡ ids_at self.now Elements index }
     {
-        self.elements.get(index as usize).copied()
+        self.elements.get(index)
     }
 
     /// Gives the data segment, which has no index yet, the next one. Where memory runs out, nothing changes.
@@ -178,238 +245,13 @@ impl IndicesToIds {
             (λ _. Pushes self.old self.new DataSegments (place id))
             (λ _. SamePlaces self.old self.new) }
     {
-        self.data_.push(id)?;
-        Ok(())
+        self.data_.push(id)
     }
 
     /// The data segment of this index, if one is given it.
     pub fn get_data(&self, index: u32) -> Option<DataId>
         ensures { option_map place result ≡ ids_at self.now DataSegments index }
     {
-        self.data_.get(index as usize).copied()
-    }
-}
-
-// The indices of one index space, by the places of their items.
-#[derive(Drop)]
-struct Numbering {
-    indices: Vec<Option<u32>>,
-    // How many are given.
-    count: usize,
-}
-
-impl Numbering {
-    fn new(alloc: Global) -> Numbering
-        ensures count { result.count ≡ 0 }
-        ensures indices { (number : ℕ) → index_in result number ≡ None }
-    {
-        Numbering {
-            indices: Vec::new(alloc),
-            count: 0,
-        }
-    }
-
-    // Gives the item at this place the next index.
-    fn push(&mut self, place: usize) -> Result<(), AllocError>
-        requires { self.old.count < 2 ^ 32 }
-        ensures { MatchResult result
-            (λ _. AddsIndex self.old self.new place)
-            (λ _. (self.new.count ≡ self.old.count) × ((number : ℕ) → index_in self.new number
-            ≡ index_in self.old number)) }
-    {
-        if place >= self.indices.len() {
-            let Some(len) = place.checked_add(1) else {
-                return Err(AllocError);
-            };
-            self.indices.resize(len, None)?;
-        }
-        self.indices[place] = Some(self.count as u32);
-        self.count += 1;
-        Ok(())
-    }
-
-    fn get(&self, place: usize) -> Option<u32>
-        ensures { result ≡ index_in self.now place }
-    {
-        match self.indices.get(place) {
-            Some(index) => *index,
-            None => None,
-        }
-    }
-}
-
-/// The indices that a module's items get in the output, by their ids.
-#[derive(Drop)]
-pub struct IdsToIndices {
-    types: Numbering,
-    functions: Numbering,
-    tables: Numbering,
-    memories: Numbering,
-    tags: Numbering,
-    globals: Numbering,
-    elements: Numbering,
-    data_: Numbering,
-}
-
-impl IdsToIndices {
-    /// No index is given yet. Takes no memory until the first one is.
-    pub fn new(alloc: Global) -> IdsToIndices
-        ensures given { (space : Space) → given result space ≡ 0 }
-        ensures indices { (space : Space) (number : ℕ) → index_of result space number ≡ None }
-    {
-        IdsToIndices {
-            types: Numbering::new(alloc),
-            functions: Numbering::new(alloc),
-            tables: Numbering::new(alloc),
-            memories: Numbering::new(alloc),
-            tags: Numbering::new(alloc),
-            globals: Numbering::new(alloc),
-            elements: Numbering::new(alloc),
-            data_: Numbering::new(alloc),
-        }
-    }
-
-    /// Gives the type, which has no index yet, the next one. Where memory runs out, nothing changes.
-    pub fn push_type(&mut self, id: TypeId) -> Result<(), AllocError>
-        requires is_new { index_of self.old Types (place id) ≡ None }
-        requires room { given self.old Types < 2 ^ 32 }
-        ensures { MatchResult result
-            (λ _. Numbers self.old self.new Types (place id))
-            (λ _. SameIndices self.old self.new) }
-    {
-        self.types.push(id.index())
-    }
-
-    /// The index of the type, if it is given one.
-    pub fn get_type_index(&self, id: TypeId) -> Option<u32>
-        ensures { result ≡ index_of self.now Types (place id) }
-    {
-        self.types.get(id.index())
-    }
-
-    /// Gives the function, which has no index yet, the next one. Where memory runs out, nothing changes.
-    pub fn push_func(&mut self, id: FunctionId) -> Result<(), AllocError>
-        requires is_new { index_of self.old Functions (place id) ≡ None }
-        requires room { given self.old Functions < 2 ^ 32 }
-        ensures { MatchResult result
-            (λ _. Numbers self.old self.new Functions (place id))
-            (λ _. SameIndices self.old self.new) }
-    {
-        self.functions.push(id.index())
-    }
-
-    /// The index of the function, if it is given one.
-    pub fn get_func_index(&self, id: FunctionId) -> Option<u32>
-        ensures { result ≡ index_of self.now Functions (place id) }
-    {
-        self.functions.get(id.index())
-    }
-
-    /// Gives the table, which has no index yet, the next one. Where memory runs out, nothing changes.
-    pub fn push_table(&mut self, id: TableId) -> Result<(), AllocError>
-        requires is_new { index_of self.old Tables (place id) ≡ None }
-        requires room { given self.old Tables < 2 ^ 32 }
-        ensures { MatchResult result
-            (λ _. Numbers self.old self.new Tables (place id))
-            (λ _. SameIndices self.old self.new) }
-    {
-        self.tables.push(id.index())
-    }
-
-    /// The index of the table, if it is given one.
-    pub fn get_table_index(&self, id: TableId) -> Option<u32>
-        ensures { result ≡ index_of self.now Tables (place id) }
-    {
-        self.tables.get(id.index())
-    }
-
-    /// Gives the memory, which has no index yet, the next one. Where memory runs out, nothing changes.
-    pub fn push_memory(&mut self, id: MemoryId) -> Result<(), AllocError>
-        requires is_new { index_of self.old Memories (place id) ≡ None }
-        requires room { given self.old Memories < 2 ^ 32 }
-        ensures { MatchResult result
-            (λ _. Numbers self.old self.new Memories (place id))
-            (λ _. SameIndices self.old self.new) }
-    {
-        self.memories.push(id.index())
-    }
-
-    /// The index of the memory, if it is given one.
-    pub fn get_memory_index(&self, id: MemoryId) -> Option<u32>
-        ensures { result ≡ index_of self.now Memories (place id) }
-    {
-        self.memories.get(id.index())
-    }
-
-    /// Gives the tag, which has no index yet, the next one. Where memory runs out, nothing changes.
-    pub fn push_tag(&mut self, id: TagId) -> Result<(), AllocError>
-        requires is_new { index_of self.old Tags (place id) ≡ None }
-        requires room { given self.old Tags < 2 ^ 32 }
-        ensures { MatchResult result
-            (λ _. Numbers self.old self.new Tags (place id))
-            (λ _. SameIndices self.old self.new) }
-    {
-        self.tags.push(id.index())
-    }
-
-    /// The index of the tag, if it is given one.
-    pub fn get_tag_index(&self, id: TagId) -> Option<u32>
-        ensures { result ≡ index_of self.now Tags (place id) }
-    {
-        self.tags.get(id.index())
-    }
-
-    /// Gives the global, which has no index yet, the next one. Where memory runs out, nothing changes.
-    pub fn push_global(&mut self, id: GlobalId) -> Result<(), AllocError>
-        requires is_new { index_of self.old Globals (place id) ≡ None }
-        requires room { given self.old Globals < 2 ^ 32 }
-        ensures { MatchResult result
-            (λ _. Numbers self.old self.new Globals (place id))
-            (λ _. SameIndices self.old self.new) }
-    {
-        self.globals.push(id.index())
-    }
-
-    /// The index of the global, if it is given one.
-    pub fn get_global_index(&self, id: GlobalId) -> Option<u32>
-        ensures { result ≡ index_of self.now Globals (place id) }
-    {
-        self.globals.get(id.index())
-    }
-
-    /// Gives the element segment, which has no index yet, the next one. Where memory runs out, nothing changes.
-    pub fn push_element(&mut self, id: ElementId) -> Result<(), AllocError>
-        requires is_new { index_of self.old Elements (place id) ≡ None }
-        requires room { given self.old Elements < 2 ^ 32 }
-        ensures { MatchResult result
-            (λ _. Numbers self.old self.new Elements (place id))
-            (λ _. SameIndices self.old self.new) }
-    {
-        self.elements.push(id.index())
-    }
-
-    /// The index of the element segment, if it is given one.
-    pub fn get_element_index(&self, id: ElementId) -> Option<u32>
-        ensures { result ≡ index_of self.now Elements (place id) }
-    {
-        self.elements.get(id.index())
-    }
-
-    /// Gives the data segment, which has no index yet, the next one. Where memory runs out, nothing changes.
-    pub fn push_data(&mut self, id: DataId) -> Result<(), AllocError>
-        requires is_new { index_of self.old DataSegments (place id) ≡ None }
-        requires room { given self.old DataSegments < 2 ^ 32 }
-        ensures { MatchResult result
-            (λ _. Numbers self.old self.new DataSegments (place id))
-            (λ _. SameIndices self.old self.new) }
-    {
-        self.data_.push(id.index())
-    }
-
-    /// The index of the data segment, if it is given one.
-    pub fn get_data_index(&self, id: DataId) -> Option<u32>
-        ensures { result ≡ index_of self.now DataSegments (place id) }
-    {
-        self.data_.get(id.index())
+        self.data_.get(index)
     }
 }

@@ -12,7 +12,7 @@ ghost use Rattle.walrus_code.specs.Results.{heap_is_exact, val_is_exact, block_i
 ghost use Rattle.walrus_code.specs.Stands.{BlockStands, ArgStands};
 
 use crate::error::IrError;
-use crate::indices::IdsToIndices;
+use crate::numbering::IdsToIndices;
 use crate::local_numbers::LocalNumbers;
 use crate::operator::{Arg, BlockType, Operator};
 use std::alloc::Global;

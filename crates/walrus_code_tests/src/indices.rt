@@ -3,121 +3,68 @@
 use std::alloc::Global;
 use std::test::Fail;
 use test_support::{demand, first_id, second_id};
-use walrus_code::{IdsToIndices, IndicesToIds, LocalNumbers};
+use walrus_base::{Id, TableKey};
+use walrus_code::{IdsToIndices, IndexSpace, IndicesToIds, LocalNumbers, Numbering};
 
-// Each: the second id gets the index 0, the first one has none, and no item has the index 1.
-
-fn types_are_found(alloc: Global) -> bool {
-    let mut ids = IndicesToIds::new(alloc);
-    let id = second_id(alloc);
-    ids.push_type(id).is_ok() && ids.get_type(0) == Some(id) && ids.get_type(1).is_none()
+fn items_are_found(alloc: Global) -> bool {
+    let mut space: IndexSpace<TableKey> = IndexSpace::new(alloc);
+    space.push(Id::at(5)).is_ok()
+        && space.len() == 1
+        && space.get(0) == Some(Id::at(5))
+        && space.get(1).is_none()
 }
 
-fn types_are_numbered(alloc: Global) -> bool {
-    let mut indices = IdsToIndices::new(alloc);
-    let (other, id) = (first_id(alloc), second_id(alloc));
-    indices.push_type(id).is_ok()
-        && indices.get_type_index(id) == Some(0)
-        && indices.get_type_index(other).is_none()
+fn items_are_in_place(alloc: Global) -> bool {
+    let Ok(space) = IndexSpace::<TableKey>::in_place(alloc, 3) else {
+        return false;
+    };
+    space.len() == 3 && space.get(2) == Some(Id::at(2)) && space.get(3).is_none()
 }
 
-fn functions_are_found(alloc: Global) -> bool {
-    let mut ids = IndicesToIds::new(alloc);
-    let id = second_id(alloc);
-    ids.push_func(id).is_ok() && ids.get_func(0) == Some(id) && ids.get_func(1).is_none()
+fn items_are_numbered(alloc: Global) -> bool {
+    let mut numbers: Numbering<TableKey> = Numbering::new(alloc);
+    numbers.push(Id::at(5)).is_ok()
+        && numbers.count() == 1
+        && numbers.get(Id::at(5)) == Some(0)
+        && numbers.get(Id::at(0)).is_none()
 }
 
-fn functions_are_numbered(alloc: Global) -> bool {
-    let mut indices = IdsToIndices::new(alloc);
-    let (other, id) = (first_id(alloc), second_id(alloc));
-    indices.push_func(id).is_ok()
-        && indices.get_func_index(id) == Some(0)
-        && indices.get_func_index(other).is_none()
+fn items_are_numbered_along(alloc: Global) -> bool {
+    let order: [Id<TableKey>; 2] = [Id::at(2), Id::at(0)];
+    let Ok(numbers) = Numbering::along(alloc, &order) else {
+        return false;
+    };
+    numbers.count() == 2
+        && numbers.get(order[0]) == Some(0)
+        && numbers.get(order[1]) == Some(1)
+        && numbers.get(Id::at(1)).is_none()
 }
 
-fn tables_are_found(alloc: Global) -> bool {
-    let mut ids = IndicesToIds::new(alloc);
-    let id = second_id(alloc);
-    ids.push_table(id).is_ok() && ids.get_table(0) == Some(id) && ids.get_table(1).is_none()
+// Each way: the second item gets the index 0, the first one has none, and no item has the index 1.
+macro_rules! both_ways {
+    ($name:ident, $push:ident, $get:ident, $get_index:ident) => {
+        #[tactic(auto, using(crate::proofs::Fresh::{no_item, has_room}))]
+        fn $name(alloc: Global) -> bool {
+            let (mut ids, mut indices) = (IndicesToIds::new(alloc), IdsToIndices::new(alloc));
+            let (other, id) = (first_id(alloc), second_id(alloc));
+            ids.$push(id).is_ok()
+                && ids.$get(0) == Some(id)
+                && ids.$get(1).is_none()
+                && indices.$push(id).is_ok()
+                && indices.$get_index(id) == Some(0)
+                && indices.$get_index(other).is_none()
+        }
+    };
 }
 
-fn tables_are_numbered(alloc: Global) -> bool {
-    let mut indices = IdsToIndices::new(alloc);
-    let (other, id) = (first_id(alloc), second_id(alloc));
-    indices.push_table(id).is_ok()
-        && indices.get_table_index(id) == Some(0)
-        && indices.get_table_index(other).is_none()
-}
-
-fn memories_are_found(alloc: Global) -> bool {
-    let mut ids = IndicesToIds::new(alloc);
-    let id = second_id(alloc);
-    ids.push_memory(id).is_ok() && ids.get_memory(0) == Some(id) && ids.get_memory(1).is_none()
-}
-
-fn memories_are_numbered(alloc: Global) -> bool {
-    let mut indices = IdsToIndices::new(alloc);
-    let (other, id) = (first_id(alloc), second_id(alloc));
-    indices.push_memory(id).is_ok()
-        && indices.get_memory_index(id) == Some(0)
-        && indices.get_memory_index(other).is_none()
-}
-
-fn tags_are_found(alloc: Global) -> bool {
-    let mut ids = IndicesToIds::new(alloc);
-    let id = second_id(alloc);
-    ids.push_tag(id).is_ok() && ids.get_tag(0) == Some(id) && ids.get_tag(1).is_none()
-}
-
-fn tags_are_numbered(alloc: Global) -> bool {
-    let mut indices = IdsToIndices::new(alloc);
-    let (other, id) = (first_id(alloc), second_id(alloc));
-    indices.push_tag(id).is_ok()
-        && indices.get_tag_index(id) == Some(0)
-        && indices.get_tag_index(other).is_none()
-}
-
-fn globals_are_found(alloc: Global) -> bool {
-    let mut ids = IndicesToIds::new(alloc);
-    let id = second_id(alloc);
-    ids.push_global(id).is_ok() && ids.get_global(0) == Some(id) && ids.get_global(1).is_none()
-}
-
-fn globals_are_numbered(alloc: Global) -> bool {
-    let mut indices = IdsToIndices::new(alloc);
-    let (other, id) = (first_id(alloc), second_id(alloc));
-    indices.push_global(id).is_ok()
-        && indices.get_global_index(id) == Some(0)
-        && indices.get_global_index(other).is_none()
-}
-
-fn elements_are_found(alloc: Global) -> bool {
-    let mut ids = IndicesToIds::new(alloc);
-    let id = second_id(alloc);
-    ids.push_element(id).is_ok() && ids.get_element(0) == Some(id) && ids.get_element(1).is_none()
-}
-
-fn elements_are_numbered(alloc: Global) -> bool {
-    let mut indices = IdsToIndices::new(alloc);
-    let (other, id) = (first_id(alloc), second_id(alloc));
-    indices.push_element(id).is_ok()
-        && indices.get_element_index(id) == Some(0)
-        && indices.get_element_index(other).is_none()
-}
-
-fn segments_are_found(alloc: Global) -> bool {
-    let mut ids = IndicesToIds::new(alloc);
-    let id = second_id(alloc);
-    ids.push_data(id).is_ok() && ids.get_data(0) == Some(id) && ids.get_data(1).is_none()
-}
-
-fn segments_are_numbered(alloc: Global) -> bool {
-    let mut indices = IdsToIndices::new(alloc);
-    let (other, id) = (first_id(alloc), second_id(alloc));
-    indices.push_data(id).is_ok()
-        && indices.get_data_index(id) == Some(0)
-        && indices.get_data_index(other).is_none()
-}
+both_ways!(types_have_indices, push_type, get_type, get_type_index);
+both_ways!(functions_have_indices, push_func, get_func, get_func_index);
+both_ways!(tables_have_indices, push_table, get_table, get_table_index);
+both_ways!(memories_have_indices, push_memory, get_memory, get_memory_index);
+both_ways!(tags_have_indices, push_tag, get_tag, get_tag_index);
+both_ways!(globals_have_indices, push_global, get_global, get_global_index);
+both_ways!(elements_have_indices, push_element, get_element, get_element_index);
+both_ways!(segments_have_indices, push_data, get_data, get_data_index);
 
 fn locals_are_numbered(alloc: Global) -> bool {
     let (other, id) = (first_id(alloc), second_id(alloc));
@@ -129,66 +76,33 @@ fn locals_are_numbered(alloc: Global) -> bool {
 }
 
 #[test]
-fn types_have_indices(rt: HostRuntime) -> Result<(), Fail> {
+fn a_space_has_indices(rt: HostRuntime) -> Result<(), Fail> {
     demand(
-        types_are_found(rt.alloc()) && types_are_numbered(rt.alloc()),
-        "types",
+        items_are_found(rt.alloc()) && items_are_in_place(rt.alloc()),
+        "a space",
     )
 }
 
 #[test]
-fn functions_have_indices(rt: HostRuntime) -> Result<(), Fail> {
+fn a_numbering_has_indices(rt: HostRuntime) -> Result<(), Fail> {
     demand(
-        functions_are_found(rt.alloc()) && functions_are_numbered(rt.alloc()),
-        "functions",
+        items_are_numbered(rt.alloc()) && items_are_numbered_along(rt.alloc()),
+        "a numbering",
     )
 }
 
 #[test]
-fn tables_have_indices(rt: HostRuntime) -> Result<(), Fail> {
+fn all_spaces_have_indices(rt: HostRuntime) -> Result<(), Fail> {
     demand(
-        tables_are_found(rt.alloc()) && tables_are_numbered(rt.alloc()),
-        "tables",
-    )
-}
-
-#[test]
-fn memories_have_indices(rt: HostRuntime) -> Result<(), Fail> {
-    demand(
-        memories_are_found(rt.alloc()) && memories_are_numbered(rt.alloc()),
-        "memories",
-    )
-}
-
-#[test]
-fn tags_have_indices(rt: HostRuntime) -> Result<(), Fail> {
-    demand(
-        tags_are_found(rt.alloc()) && tags_are_numbered(rt.alloc()),
-        "tags",
-    )
-}
-
-#[test]
-fn globals_have_indices(rt: HostRuntime) -> Result<(), Fail> {
-    demand(
-        globals_are_found(rt.alloc()) && globals_are_numbered(rt.alloc()),
-        "globals",
-    )
-}
-
-#[test]
-fn elements_have_indices(rt: HostRuntime) -> Result<(), Fail> {
-    demand(
-        elements_are_found(rt.alloc()) && elements_are_numbered(rt.alloc()),
-        "element segments",
-    )
-}
-
-#[test]
-fn segments_have_indices(rt: HostRuntime) -> Result<(), Fail> {
-    demand(
-        segments_are_found(rt.alloc()) && segments_are_numbered(rt.alloc()),
-        "data segments",
+        types_have_indices(rt.alloc())
+            && functions_have_indices(rt.alloc())
+            && tables_have_indices(rt.alloc())
+            && memories_have_indices(rt.alloc())
+            && tags_have_indices(rt.alloc())
+            && globals_have_indices(rt.alloc())
+            && elements_have_indices(rt.alloc())
+            && segments_have_indices(rt.alloc()),
+        "all spaces",
     )
 }
 

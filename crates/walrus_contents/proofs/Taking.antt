@@ -1,31 +1,12 @@
 -- What each step of reading adds.
 use Rattle.wasm_entries.specs.Record as entries
 use Rattle.std.proofs.Common.{◌≡◌, ℕ, zero, suc, ◌+◌, ◌<◌, ◌≤◌, List, [], ◌∷◌, ◌++◌, length, map, get_or, refl, sym, ap, ap₂, subst, ◌∙◌, arith}
-use Rattle.std.specs.Prelude.{Some, None, Contains, slice_get, All}
+use Rattle.std.specs.Prelude.{Some, None, slice_get, All}
 use Rattle.std.specs.List.{range_with_len}
 use Rattle.std.proofs.lemmas.List.{map-append, get_or-map, length-map}
-use Rattle.std.proofs.lemmas.List.FromFn.{length-range_with_len, get_or-range_with_len}
-use Rattle.walrus_groups.proofs.Ranges.{range-next}
+use Rattle.walrus_code.proofs.Ranges.{range-more}
 
 -- ---- numbers in a row
-
-range_more_at : (a n : ℕ) → range_with_len a (suc n) ≡ range_with_len a n ++ (a + n) ∷ []
-range_more_at a zero = let e : a ≡ a + 0 = omega arith in ap (λ k. k ∷ []) e
-range_more_at a (suc n) =
-    let e : a + 1 + n ≡ a + suc n = omega arith in
-    ap (λ l. a ∷ l) (range_more_at (a + 1) n ∙ ap (λ k. range_with_len (a + 1) n ++ k ∷ []) e)
-
-pub range_more : (a n : ℕ) → range_with_len a (n + 1) ≡ range_with_len a n ++ (a + n) ∷ []
-range_more a n = let e : n + 1 ≡ suc n = omega arith in ap (range_with_len a) e ∙ range_more_at a n
-
-pub range_grown : (n k m : ℕ) (old new : List ℕ) → old ≡ range_with_len 0 n → k ≡ n → m ≡ n + 1 → new ≡ old ++ k ∷ [] → new ≡ range_with_len 0 m
-range_grown n k m old new is same next push =
-    push ∙ ap (λ l. l ++ k ∷ []) is ∙ ap (λ j. range_with_len 0 n ++ j ∷ []) same ∙ sym (range-next n) ∙ ap (range_with_len 0) (sym next)
-
-pub not_in_range : (xs : List ℕ) (n x : ℕ) → xs ≡ range_with_len 0 n → x ≡ n → Contains xs x → ⊥
-not_in_range xs n x is same h =
-    let lt : h.0 < n = omega (arith, h.1, ap length is, length-range_with_len 0 n) in
-    omega (arith, h.2, ap (λ l. get_or l h.0 x) is, get_or-range_with_len 0 n h.0 x lt)
 
 get_range : (a n i : ℕ) → i < n → slice_get (range_with_len a n) i ≡ Some (a + i)
 get_range a zero i lt = absurd (omega arith)
@@ -46,12 +27,7 @@ pub mapped_all : {A B : Type 0} (P : B → Type 0) (f : A → B) (xs : List A) (
 mapped_all P f xs i d h lt = subst P (get_or-map f xs i d (f d) lt) (h i (f d) (omega (arith, length-map xs f)))
 
 pub placed_more : {X : Type 0} (g : X → ℕ) (a n : ℕ) (done more : List X) (y : X) → map g done ≡ range_with_len a n → more ≡ done ++ y ∷ [] → g y ≡ a + n → map g more ≡ range_with_len a (n + 1)
-placed_more g a n done more y is push at = ap (map g) push ∙ map-append g done (y ∷ []) ∙ ap₂ (λ l k. l ++ k ∷ []) is at ∙ sym (range_more a n)
+placed_more g a n done more y is push at = ap (map g) push ∙ map-append g done (y ∷ []) ∙ ap₂ (λ l k. l ++ k ∷ []) is at ∙ sym (range-more a n)
 
 pub some_same : (a b : ℕ) → Some a ≡ Some b → a ≡ b
 some_same a b e = cc
-
--- ---- the end of a count
-
-pub reached : (i n : ℕ) → i ≤ n → n ≤ i → i ≡ n
-reached i n le ge = omega (arith, le, ge)

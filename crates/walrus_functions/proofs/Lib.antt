@@ -20,7 +20,6 @@ pub mod OrderLemmas
 pub mod RunLemmas
 pub mod SpellingLemmas
 pub mod StrictLemmas
-pub mod Turns
 pub mod TypedLemmas
 pub mod ValueLemmas
 pub mod WrittenLemmas

@@ -8,7 +8,7 @@ use Rattle.walrus_types.specs.Value.{val_type}
 use Rattle.walrus_types.specs.declared.value.ValType.{ValType as DeclaredValType}
 use Rattle.walrus_types.specs.contracts.value.ValTypePartialEq.TheImpl as equality
 use Rattle.walrus_functions.specs.Declaring.{AreLowest, typed, lower}
-use Rattle.walrus_functions.proofs.Turns.{map_snoc}
+use Rattle.walrus_code.proofs.Turns.{map_snoc}
 use Rattle.walrus_types.proofs.FunctionSame.{val_same}
 use Rattle.walrus_functions.proofs.ValueLemmas.{equal_itself}
 

@@ -1,6 +1,5 @@
 mod Each
 mod Kept
-pub mod Ranges
 mod GroupLemmas
 mod OrderWhole
 mod WrittenEach

@@ -11,8 +11,8 @@ pub use walrus_base::{
 pub use walrus_bodies::Features;
 pub use walrus_builder::{FunctionBuilder, InstrSeqBuilder};
 pub use walrus_code::{
-    Arg, Args, BlockType, IdsToIndices, IndicesToIds, InstrLocId, IrError, ItemId, LocalFunction,
-    LocalNumbers, Operator,
+    Arg, Args, BlockType, IdsToIndices, IndexSpace, IndicesToIds, InstrLocId, IrError, ItemId,
+    LocalFunction, LocalNumbers, Numbering, Operator,
 };
 pub use walrus_functions::{EmittedBody, emit_body, read_body};
 pub use walrus_types::{

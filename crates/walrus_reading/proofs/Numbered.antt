@@ -35,7 +35,6 @@ use Rattle.walrus_items.specs.Tags.{tags}
 use Rattle.walrus_contents.specs.declared.parts.Contents.{Contents}
 use Rattle.walrus_reading.specs.Held.{HoldsGlobal, HoldsImportedFunction, HoldsMemory, HoldsTable, HoldsTag}
 use Rattle.walrus_reading.specs.Imported.{HoldsImports}
-use Rattle.walrus_reading.specs.Numbers.{NumbersSpace}
 use Rattle.walrus_reading.specs.Placed.{AllPlaced}
 use Rattle.walrus_reading.specs.Stays.{AllStay, AreNumbered, DescStays}
 use Rattle.walrus_reading.proofs.Rows.{placed_length}
@@ -44,7 +43,7 @@ use Rattle.walrus_reading.proofs.StaysByRules.{all_stay, desc_stays}
 -- ---- the look-up of indices is what sections declare
 
 -- as many indices of each space as items are declared
-record HasIndices (r : wire.Module) (indices : IndicesToIds) : Type 0 where
+pub record HasIndices (r : wire.Module) (indices : IndicesToIds) : Type 0 where
   pub types : places_in indices Types ≡ range_with_len 0 (length (types_from 0 r.types))
   pub functions : places_in indices Functions ≡ range_with_len 0 (length (function_types r))
   pub tables : places_in indices Tables ≡ range_with_len 0 (length (tables_of r))
@@ -72,7 +71,7 @@ module _ (r : wire.Module) (indices : IndicesToIds) (h : HasIndices r indices) w
   name_at Elements i = in_place indices Elements (length (elements_of r)) i h.elements
   name_at DataSegments i = in_place indices DataSegments (unwrap_or r.data_count 0) i h.data_segments
 
-  all_named : ids_at indices ≡ declared r
+  pub all_named : ids_at indices ≡ declared r
   all_named = fun_ext (λ space. fun_ext (name_at space))
 
 -- no types, and no indices of types
@@ -120,43 +119,13 @@ module _ (r : wire.Module) (m : Contents) (h : HoldsImports r.imports m) (first 
   pub globals_counted : first ≡ length (globals m.globals) → own ≡ length r.globals → first + own ≡ length (globals_of r)
   globals_counted at same = counted HoldsGlobal (imported imported_global 0 r.imports) (globals m.globals) global_of r.globals first own h.globals at same
 
--- ---- spaces that are numbered one after another
+-- segments aren't there so far
+module _ (r : wire.Module) (only : IsSupported r) where
+  pub no_elements : [] ≡ range_with_len 0 (length (elements_of r))
+  no_elements = sym (ap (λ (l : List entries.Element). range_with_len 0 (length (map element_of l))) only.elements)
 
-module _ (r : wire.Module) (only : IsSupported r) (first second third fourth fifth last : IndicesToIds)
-    (types : places_in first Types ≡ range_with_len 0 (length (types_from 0 r.types))) (none : (space : Space) → space ≢ Types → places_in first space ≡ [])
-    (of_functions of_tables of_memories of_tags of_globals : ℕ)
-    (functions_long : of_functions ≡ length (function_types r)) (tables_long : of_tables ≡ length (tables_of r)) (memories_long : of_memories ≡ length (memories_of r)) (tags_long : of_tags ≡ length (tags_of r)) (globals_long : of_globals ≡ length (globals_of r))
-    (functions : NumbersSpace Functions of_functions first second) (tables : NumbersSpace Tables of_tables second third) (memories : NumbersSpace Memories of_memories third fourth)
-    (tags : NumbersSpace Tags of_tags fourth fifth) (globals : NumbersSpace Globals of_globals fifth last) where
-  -- a space that none of them is keeps its indices
-  still : (space : Space) → space ≢ Functions → space ≢ Tables → space ≢ Memories → space ≢ Tags → space ≢ Globals → places_in last space ≡ places_in first space
-  still space no_function no_table no_memory no_tag no_global =
-      globals.others space no_global ∙ tags.others space no_tag ∙ memories.others space no_memory ∙ tables.others space no_table ∙ functions.others space no_function
-
-  has_indices : HasIndices r last
-  has_indices = record {
-    types = still Types (λ (e : Types ≡ Functions). cc) (λ (e : Types ≡ Tables). cc) (λ (e : Types ≡ Memories). cc) (λ (e : Types ≡ Tags). cc) (λ (e : Types ≡ Globals). cc) ∙ types;
-    functions =
-        globals.others Functions (λ (e : Functions ≡ Globals). cc) ∙ tags.others Functions (λ (e : Functions ≡ Tags). cc) ∙ memories.others Functions (λ (e : Functions ≡ Memories). cc)
-        ∙ tables.others Functions (λ (e : Functions ≡ Tables). cc) ∙ functions.numbered ∙ ap (range_with_len 0) functions_long;
-    tables =
-        globals.others Tables (λ (e : Tables ≡ Globals). cc) ∙ tags.others Tables (λ (e : Tables ≡ Tags). cc) ∙ memories.others Tables (λ (e : Tables ≡ Memories). cc) ∙ tables.numbered
-        ∙ ap (range_with_len 0) tables_long;
-    memories =
-        globals.others Memories (λ (e : Memories ≡ Globals). cc) ∙ tags.others Memories (λ (e : Memories ≡ Tags). cc) ∙ memories.numbered
-        ∙ ap (range_with_len 0) memories_long;
-    tags = globals.others Tags (λ (e : Tags ≡ Globals). cc) ∙ tags.numbered ∙ ap (range_with_len 0) tags_long;
-    globals = globals.numbered ∙ ap (range_with_len 0) globals_long;
-    elements =
-        still Elements (λ (e : Elements ≡ Functions). cc) (λ (e : Elements ≡ Tables). cc) (λ (e : Elements ≡ Memories). cc) (λ (e : Elements ≡ Tags). cc) (λ (e : Elements ≡ Globals). cc)
-        ∙ none Elements (λ (e : Elements ≡ Types). cc) ∙ sym (ap (λ (l : List entries.Element). range_with_len 0 (length (map element_of l))) only.elements);
-    data_segments =
-        still DataSegments (λ (e : DataSegments ≡ Functions). cc) (λ (e : DataSegments ≡ Tables). cc) (λ (e : DataSegments ≡ Memories). cc) (λ (e : DataSegments ≡ Tags). cc) (λ (e : DataSegments ≡ Globals). cc)
-        ∙ none DataSegments (λ (e : DataSegments ≡ Types). cc) ∙ sym (ap (λ (o : Option ℕ). range_with_len 0 (unwrap_or o 0)) only.data_count);
-  }
-
-  pub numbered_items : ids_at last ≡ declared r
-  numbered_items = all_named r last has_indices
+  pub no_data : [] ≡ range_with_len 0 (unwrap_or r.data_count 0)
+  no_data = sym (ap (λ (o : Option ℕ). range_with_len 0 (unwrap_or o 0)) only.data_count)
 
 -- ---- what sections name
 

@@ -61,7 +61,7 @@ pub(crate) fn read_contents(alloc: Global, raw: &Raw<'_>, features: &Features) -
     let mut indices = IndicesToIds::new(alloc);
     add_types(alloc, &raw.types, &mut indices, &mut contents.types)?;
     add_imports(&raw.imports, &indices, &mut contents)?;
-    number_items(raw, &contents, &mut indices)?;
+    number_items(alloc, raw, &contents, &mut indices)?;
     let under = Under {
         alloc,
         features,

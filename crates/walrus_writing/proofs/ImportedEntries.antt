@@ -25,7 +25,7 @@ use Rattle.walrus_items.specs.Imports.{ImportValue}
 use Rattle.walrus_model.specs.Abstract.{Abstract, Import}
 use Rattle.walrus_parts.specs.Errors.{error_of_ir}
 use Rattle.walrus_writing.specs.Imported.{ImportsIndexed, IndexesDesc, IndexesImport, IndexesItem, IsEntryAt, IsEntryOf, RefusesImports}
-use Rattle.walrus_writing.proofs.Turns.{map_snoc}
+use Rattle.walrus_code.proofs.Turns.{map_snoc}
 
 -- ---- the item at a place
 

@@ -21,13 +21,11 @@ pub mod NamedTypes
 pub mod NoCauseAll
 pub mod NoCauseBodies
 pub mod NoCauseHeaps
-pub mod Numbering
 pub mod OrderByImport
 pub mod OrdersSpaces
 pub mod OwnFunctions
 pub mod OwnPlaces
 pub mod Parted
-pub mod Placing
 pub mod PlannedByImport
 pub mod Planning
 pub mod Ranked

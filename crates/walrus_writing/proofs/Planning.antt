@@ -1,15 +1,7 @@
 -- The orders of all spaces are a plan of the module.
-use Rattle.std.proofs.Common.{◌≡◌, ◌<◌, ◌^◌, ℕ, List, [], ◌++◌, map, length, refl, sym, ap, subst, arith}
-use Rattle.std.proofs.lemmas.List.{length-map}
+use Rattle.std.proofs.Common.{◌≡◌, ℕ, List, ◌++◌, map, sym, subst}
 use Rattle.walrus_base.specs.Arena.{entries, items}
 use Rattle.walrus_base.specs.Id.{place}
-use Rattle.walrus_base.specs.declared.id.Id.{Id}
-use Rattle.walrus_base.specs.declared.keys.TypeKey.{TypeKey}
-use Rattle.walrus_base.specs.declared.keys.FunctionKey.{FunctionKey}
-use Rattle.walrus_base.specs.declared.keys.GlobalKey.{GlobalKey}
-use Rattle.walrus_base.specs.declared.keys.MemoryKey.{MemoryKey}
-use Rattle.walrus_base.specs.declared.keys.TableKey.{TableKey}
-use Rattle.walrus_base.specs.declared.keys.TagKey.{TagKey}
 use Rattle.walrus_types.specs.ModuleTypes.{type_slots}
 use Rattle.walrus_types.specs.Operators.{Space, Types, Functions, Tables, Memories, Tags, Globals, Elements, DataSegments}
 use Rattle.walrus_items.specs.Functions.{functions}
@@ -23,13 +15,11 @@ use Rattle.walrus_contents.specs.declared.parts.Parts.{Parts}
 use Rattle.walrus_model.specs.Abstract.{Abstract, Element, DataSegment}
 use Rattle.walrus_model.specs.Dead.{HasDead}
 use Rattle.walrus_model.specs.Order.{ByImport}
-use Rattle.walrus_model.specs.Plan as model
 use Rattle.walrus_model.specs.Plan.{IsPlan}
 use Rattle.walrus_model.specs.WellMade.{ImportsMatch}
 use Rattle.walrus_model.proofs.Arenas.{entries_rise, no_pairs, ordered_nothing}
 use Rattle.walrus_model.proofs.Orders.{ordered_entries}
 use Rattle.walrus_writing.specs.Brought.{own_places, places_brought}
-use Rattle.walrus_writing.specs.Numbered.{with_places}
 use Rattle.walrus_writing.specs.Places.{places}
 use Rattle.walrus_writing.specs.Sizes.{IsOrder}
 use Rattle.walrus_writing.specs.declared.plan.Plan.{Plan}
@@ -62,38 +52,3 @@ module _ (p : Parts) where
 
     pub plan_is : IsPlan V (places plan)
     plan_is = record { holds = λ s. (in_order s).0; sorted = λ s. (in_order s).1 }
-
--- ---- the lists that are lent
-
-abbrev pub no_places : model.Plan
-no_places s = []
-
--- one space after another
-abbrev pub placed : List ℕ → List ℕ → List ℕ → List ℕ → List ℕ → List ℕ → model.Plan
-placed types functions tables memories tags globals =
-    with_places (with_places (with_places (with_places (with_places (with_places no_places Types types) Functions functions) Tables tables) Memories memories) Tags tags) Globals globals
-
-module _ (plan : Plan) (types : List (Id TypeKey)) (functions : List (Id FunctionKey)) (table_ids : List (Id TableKey)) (own : List (Id MemoryKey)) (tag_ids : List (Id TagKey)) (global_ids : List (Id GlobalKey))
-    (same_types : types ≡ plan.types.items) (same_functions : functions ≡ plan.functions.items) (same_tables : table_ids ≡ plan.tables.items) (same_own : own ≡ plan.memories.items) (same_tags : tag_ids ≡ plan.tags.items) (same_globals : global_ids ≡ plan.globals.items) where
-  pub placed_so : (s : Space) → placed (map place types) (map place functions) (map place table_ids) (map place own) (map place tag_ids) (map place global_ids) s ≡ places plan s
-  placed_so Types = ap (map place) same_types
-  placed_so Functions = ap (map place) same_functions
-  placed_so Tables = ap (map place) same_tables
-  placed_so Memories = ap (map place) same_own
-  placed_so Tags = ap (map place) same_tags
-  placed_so Globals = ap (map place) same_globals
-  placed_so Elements = refl
-  placed_so DataSegments = refl
-
-  few_of : {K : Type 0} (ids lent : List (Id K)) → lent ≡ ids → length lent < 2 ^ 32 → length (map place ids) < 2 ^ 32
-  few_of ids lent same few = omega (arith, few, ap length same, length-map ids place)
-
-  pub few_places : length types < 2 ^ 32 → length functions < 2 ^ 32 → length table_ids < 2 ^ 32 → length own < 2 ^ 32 → length tag_ids < 2 ^ 32 → length global_ids < 2 ^ 32 → (s : Space) → length (places plan s) < 2 ^ 32
-  few_places few_types few_functions few_tables few_memories few_tags few_globals Types = few_of plan.types.items types same_types few_types
-  few_places few_types few_functions few_tables few_memories few_tags few_globals Functions = few_of plan.functions.items functions same_functions few_functions
-  few_places few_types few_functions few_tables few_memories few_tags few_globals Tables = few_of plan.tables.items table_ids same_tables few_tables
-  few_places few_types few_functions few_tables few_memories few_tags few_globals Memories = few_of plan.memories.items own same_own few_memories
-  few_places few_types few_functions few_tables few_memories few_tags few_globals Tags = few_of plan.tags.items tag_ids same_tags few_tags
-  few_places few_types few_functions few_tables few_memories few_tags few_globals Globals = few_of plan.globals.items global_ids same_globals few_globals
-  few_places few_types few_functions few_tables few_memories few_tags few_globals Elements = omega arith
-  few_places few_types few_functions few_tables few_memories few_tags few_globals DataSegments = omega arith

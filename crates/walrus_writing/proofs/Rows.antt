@@ -2,7 +2,7 @@
 use Rattle.std.proofs.Common.{◌≡◌, ℕ, ◌+◌, ◌<◌, ◌≤◌, List, [], ◌∷◌, ◌++◌, map, drop, length, append_assoc, append-nil, sym, ap, ◌∙◌}
 use Rattle.std.specs.Prelude.{slice_index_or}
 use Rattle.std.proofs.lemmas.List.{drop_more, drop_all}
-use Rattle.walrus_writing.proofs.Turns.{map_snoc}
+use Rattle.walrus_code.proofs.Turns.{map_snoc}
 
 -- what is made, and what is to be made of those that are left
 pub left_turn : {A B C : Type 0} (f : A → C) (k : B → C) (made : List A) (one : A) (xs : List B) (i : ℕ) (d : B) (all : List C) → i < length xs

@@ -3,28 +3,7 @@ use Rattle.std.proofs.Common.{◌≡◌, ℕ, zero, suc, ◌+◌, ◌<◌, Bool,
 use Rattle.std.specs.Prelude.{slice_index_or}
 use Rattle.std.specs.List.{AllZip}
 use Rattle.std.specs.List.Sorted.{IsSortedBy}
-
--- the element at i, and all that stand behind it
-pub split_at : {A B : Type 0} (f : A → B) (xs : List A) (i : ℕ) (d : A) → i < length xs → (rest : List B) × (map f xs ≡ map f (take i xs) ++ f (slice_index_or xs i d) ∷ rest)
-split_at f [] i d h = absurd (omega arith)
-split_at f (x ∷ xs) zero d h = (map f xs, refl)
-split_at {A} {B} f (x ∷ xs) (suc i) d h =
-    let q : (rest : List B) × (map f xs ≡ map f (take i xs) ++ f (slice_index_or xs i d) ∷ rest) = split_at f xs i d (omega arith) in
-    (q.0, ap (λ (l : List B). f x ∷ l) q.1)
-
-more_at : {A : Type 0} (xs : List A) (i : ℕ) (d : A) → i < length xs → take (suc i) xs ≡ take i xs ++ slice_index_or xs i d ∷ []
-more_at [] i d h = absurd (omega arith)
-more_at (x ∷ xs) zero d h = refl
-more_at {A} (x ∷ xs) (suc i) d h = ap (λ (l : List A). x ∷ l) (more_at xs i d (omega arith))
-
-pub one_more : {A : Type 0} (xs : List A) (i : ℕ) (d : A) → i < length xs → take (i + 1) xs ≡ take i xs ++ slice_index_or xs i d ∷ []
-one_more xs i d h =
-    let next : suc i ≡ i + 1 = omega arith in
-    subst (λ n. take n xs ≡ take i xs ++ slice_index_or xs i d ∷ []) next (more_at xs i d h)
-
-pub map_snoc : {A B : Type 0} (f : A → B) (xs : List A) (x : A) → map f (xs ++ x ∷ []) ≡ map f xs ++ f x ∷ []
-map_snoc f [] x = refl
-map_snoc {A} {B} f (y ∷ xs) x = ap (λ (l : List B). f y ∷ l) (map_snoc f xs x)
+use Rattle.walrus_code.proofs.Turns.{map_snoc, one_more}
 
 -- what is made of the one is what comes next
 pub list_turn : {A B C : Type 0} (f : A → C) (g : B → C) (made : List A) (one : A) (left after : List B) (e : B) (all : List C)

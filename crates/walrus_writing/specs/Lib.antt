@@ -4,7 +4,6 @@ pub mod Globals
 pub mod Imported
 pub mod Local
 pub mod Matched
-pub mod Numbered
 pub mod Parts
 pub mod Records
 pub mod Refusals

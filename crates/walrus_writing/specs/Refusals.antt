@@ -57,12 +57,6 @@ RefusesItems p features (Err _) = ⊥
 
 -- ---- refusals of the parts
 
--- the items of one space are numbered: there are too many of them
-abbrev pub RefusesCount : ℕ → Error → Type 0
-RefusesCount count (Memory e) = ⊤
-RefusesCount count TooLarge = 2 ^ 32 ≤ count
-RefusesCount count _ = ⊥
-
 -- the items of all spaces are numbered
 abbrev pub RefusesCounts : Plan → Error → Type 0
 RefusesCounts plan (Memory e) = ⊤

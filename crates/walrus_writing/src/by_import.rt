@@ -3,7 +3,7 @@
 ghost use Rattle.std.specs.Prelude.{◌≡◌, ◌++◌, map, IfOk, IsOkUnless, option_map};
 ghost use Rattle.walrus_base.specs.Arena.{entries, items};
 ghost use Rattle.walrus_base.specs.Id.{place};
-ghost use Rattle.walrus_types.specs.Operators.{Functions, Globals, Memories, Tables, Tags};
+ghost use Rattle.walrus_types.specs.Operators.{Functions, Globals, Memories, Space, Tables, Tags};
 ghost use Rattle.walrus_items.specs.Globals.{globals};
 ghost use Rattle.walrus_items.specs.Memories.{memories};
 ghost use Rattle.walrus_items.specs.Tables.{tables};
@@ -16,128 +16,85 @@ ghost use Rattle.walrus_writing.specs.Brought.{own_places, places_brought};
 use crate::origins::{global_import, tag_import};
 use std::alloc::Global;
 use walrus_items::{ImportKind, ModuleGlobals, ModuleImports, ModuleMemories, ModuleTables, ModuleTags};
-use walrus_ir::{FunctionId, GlobalId, MemoryId, TableId, TagId};
+use walrus_ir::{
+    FunctionId, FunctionKey, GlobalId, GlobalKey, Id, MemoryId, MemoryKey, TableId, TableKey, TagId,
+    TagKey,
+};
 use walrus_parts::Result;
 
-// The function that is imported, if it is one.
-fn function_of(kind: ImportKind) -> Option<FunctionId>
-    ensures { option_map place result ≡ number_in Functions (imported kind) }
-{
-    match kind {
-        ImportKind::Function(id) => Some(id),
-        _ => None,
-    }
+/// A kind of items that imports bring. `space` is its index space.
+pub trait Importable: Sized {
+    ghost space: { Space };
+
+    /// The item of this kind that is imported, if it is one.
+    fn of(kind: ImportKind) -> Option<Id<Self>>
+        ensures { option_map place result ≡ number_in space (imported kind) };
 }
 
-/// The functions that imports bring, by rising import. Want of memory is the only refusal.
-pub fn imported_functions(alloc: Global, all: &ModuleImports) -> Result<Vec<FunctionId>>
-    ensures value { IfOk result (λ ids. map place ids.items
-        ≡ places_brought Functions (items (imports all.now))) }
-    ensures fails { IsOkUnless result out_of_memory }
-{
-    let mut ids = Vec::new(alloc);
-    for import in all.iter() {
-        if let Some(id) = function_of(import.kind) {
-            ids.push(id)?;
+impl Importable for FunctionKey {
+    ghost space = { Functions };
+
+    fn of(kind: ImportKind) -> Option<FunctionId> {
+        match kind {
+            ImportKind::Function(id) => Some(id),
+            _ => None,
         }
     }
-    Ok(ids)
 }
 
-// The table that is imported, if it is one.
-fn table_of(kind: ImportKind) -> Option<TableId>
-    ensures { option_map place result ≡ number_in Tables (imported kind) }
-{
-    match kind {
-        ImportKind::Table(id) => Some(id),
-        _ => None,
-    }
-}
+impl Importable for TableKey {
+    ghost space = { Tables };
 
-/// The tables that imports bring, by rising import. Want of memory is the only refusal.
-pub fn imported_tables(alloc: Global, all: &ModuleImports) -> Result<Vec<TableId>>
-    ensures value { IfOk result (λ ids. map place ids.items
-        ≡ places_brought Tables (items (imports all.now))) }
-    ensures fails { IsOkUnless result out_of_memory }
-{
-    let mut ids = Vec::new(alloc);
-    for import in all.iter() {
-        if let Some(id) = table_of(import.kind) {
-            ids.push(id)?;
+    fn of(kind: ImportKind) -> Option<TableId> {
+        match kind {
+            ImportKind::Table(id) => Some(id),
+            _ => None,
         }
     }
-    Ok(ids)
 }
 
-// The memory that is imported, if it is one.
-fn memory_of(kind: ImportKind) -> Option<MemoryId>
-    ensures { option_map place result ≡ number_in Memories (imported kind) }
-{
-    match kind {
-        ImportKind::Memory(id) => Some(id),
-        _ => None,
-    }
-}
+impl Importable for MemoryKey {
+    ghost space = { Memories };
 
-/// The memories that imports bring, by rising import. Want of memory is the only refusal.
-pub fn imported_memories(alloc: Global, all: &ModuleImports) -> Result<Vec<MemoryId>>
-    ensures value { IfOk result (λ ids. map place ids.items
-        ≡ places_brought Memories (items (imports all.now))) }
-    ensures fails { IsOkUnless result out_of_memory }
-{
-    let mut ids = Vec::new(alloc);
-    for import in all.iter() {
-        if let Some(id) = memory_of(import.kind) {
-            ids.push(id)?;
+    fn of(kind: ImportKind) -> Option<MemoryId> {
+        match kind {
+            ImportKind::Memory(id) => Some(id),
+            _ => None,
         }
     }
-    Ok(ids)
 }
 
-// The global that is imported, if it is one.
-fn global_of(kind: ImportKind) -> Option<GlobalId>
-    ensures { option_map place result ≡ number_in Globals (imported kind) }
-{
-    match kind {
-        ImportKind::Global(id) => Some(id),
-        _ => None,
-    }
-}
+impl Importable for GlobalKey {
+    ghost space = { Globals };
 
-/// The globals that imports bring, by rising import. Want of memory is the only refusal.
-pub fn imported_globals(alloc: Global, all: &ModuleImports) -> Result<Vec<GlobalId>>
-    ensures value { IfOk result (λ ids. map place ids.items
-        ≡ places_brought Globals (items (imports all.now))) }
-    ensures fails { IsOkUnless result out_of_memory }
-{
-    let mut ids = Vec::new(alloc);
-    for import in all.iter() {
-        if let Some(id) = global_of(import.kind) {
-            ids.push(id)?;
+    fn of(kind: ImportKind) -> Option<GlobalId> {
+        match kind {
+            ImportKind::Global(id) => Some(id),
+            _ => None,
         }
     }
-    Ok(ids)
 }
 
-// The tag that is imported, if it is one.
-fn tag_of(kind: ImportKind) -> Option<TagId>
-    ensures { option_map place result ≡ number_in Tags (imported kind) }
-{
-    match kind {
-        ImportKind::Tag(id) => Some(id),
-        _ => None,
+impl Importable for TagKey {
+    ghost space = { Tags };
+
+    fn of(kind: ImportKind) -> Option<TagId> {
+        match kind {
+            ImportKind::Tag(id) => Some(id),
+            _ => None,
+        }
     }
 }
 
-/// The tags that imports bring, by rising import. Want of memory is the only refusal.
-pub fn imported_tags(alloc: Global, all: &ModuleImports) -> Result<Vec<TagId>>
+/// The items of this kind that imports bring, by rising import. Want of memory is the only refusal.
+pub fn imported_ids<K: Importable>(alloc: Global, all: &ModuleImports) -> Result<Vec<Id<K>>>
     ensures value { IfOk result (λ ids. map place ids.items
-        ≡ places_brought Tags (items (imports all.now))) }
+        ≡ places_brought K.space (items (imports all.now))) }
     ensures fails { IsOkUnless result out_of_memory }
 {
     let mut ids = Vec::new(alloc);
-    for import in all.iter() {
-        if let Some(id) = tag_of(import.kind) {
+    'imports: for import in all.iter() {
+        if let Some(id) = K::of(import.kind) {
             ids.push(id)?;
         }
     }
@@ -154,7 +111,7 @@ pub fn functions_by_import(
         ≡ places_brought Functions (items (imports all_imports.now)) ++ map place own.now) }
     ensures fails { IsOkUnless result out_of_memory }
 {
-    let mut ids = imported_functions(alloc, all_imports)?;
+    let mut ids = imported_ids(alloc, all_imports)?;
     for id in own {
         ids.push(*id)?;
     }
@@ -172,7 +129,7 @@ pub fn tables_by_import(
         ++ own_places (λ x. x.imported_by) (entries (tables all.now))) }
     ensures fails { IsOkUnless result out_of_memory }
 {
-    let mut ids = imported_tables(alloc, all_imports)?;
+    let mut ids = imported_ids(alloc, all_imports)?;
     for (id, table) in all.iter_entries() {
         if table.import.is_none() {
             ids.push(id)?;
@@ -192,7 +149,7 @@ pub fn memories_by_import(
         ++ own_places (λ x. x.imported_by) (entries (memories all.now))) }
     ensures fails { IsOkUnless result out_of_memory }
 {
-    let mut ids = imported_memories(alloc, all_imports)?;
+    let mut ids = imported_ids(alloc, all_imports)?;
     for (id, memory) in all.iter_entries() {
         if memory.import.is_none() {
             ids.push(id)?;
@@ -212,7 +169,7 @@ pub fn globals_by_import(
         ++ own_places (λ x. x.imported_by) (entries (globals all.now))) }
     ensures fails { IsOkUnless result out_of_memory }
 {
-    let mut ids = imported_globals(alloc, all_imports)?;
+    let mut ids = imported_ids(alloc, all_imports)?;
     for (id, global) in all.iter_entries() {
         if global_import(&global.kind).is_none() {
             ids.push(id)?;
@@ -232,7 +189,7 @@ pub fn tags_by_import(
         ++ own_places (λ x. x.imported_by) (entries (tags all.now))) }
     ensures fails { IsOkUnless result out_of_memory }
 {
-    let mut ids = imported_tags(alloc, all_imports)?;
+    let mut ids = imported_ids(alloc, all_imports)?;
     for (id, tag) in all.iter_entries() {
         if tag_import(&tag.kind).is_none() {
             ids.push(id)?;

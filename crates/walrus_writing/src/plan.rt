@@ -1,10 +1,10 @@
 //! The order in which items are written, and their indices ("Structure > Modules > Indices").
-ghost use Rattle.std.specs.Prelude.{◌≡◌, ◌<◌, ◌^◌, ◌++◌, ℕ, map, length, IfOk, IfErr, IsOkUnless, None, nat_eq, option_map};
+ghost use Rattle.std.specs.Prelude.{◌≡◌, ◌<◌, ◌^◌, ◌++◌, ℕ, map, length, IfOk, IfErr, IsOkUnless, OnOk, nat_eq};
 ghost use Rattle.walrus_base.specs.Arena.{entries, items};
 ghost use Rattle.std.specs.List.{IsDistinct};
 ghost use Rattle.walrus_base.specs.Id.{place};
 ghost use Rattle.walrus_types.specs.ModuleTypes.{type_slots};
-ghost use Rattle.walrus_code.specs.Indices.{index_of, given};
+ghost use Rattle.walrus_code.specs.Indices.{index_of};
 ghost use Rattle.walrus_types.specs.Operators.{Space, Types, Functions, Tables, Memories, Tags, Globals};
 ghost use Rattle.walrus_items.specs.Functions.{functions};
 ghost use Rattle.walrus_items.specs.Imports.{imports};
@@ -19,9 +19,8 @@ ghost use Rattle.walrus_model.specs.WellMade.{ImportsMatch};
 ghost use Rattle.walrus_parts.specs.Errors.{out_of_memory};
 ghost use Rattle.walrus_writing.specs.Brought.{own_places, places_brought};
 ghost use Rattle.walrus_writing.specs.Local.{is_own};
-ghost use Rattle.walrus_writing.specs.Numbered.{NumbersSpace};
 ghost use Rattle.walrus_writing.specs.Places.{places};
-ghost use Rattle.walrus_writing.specs.Refusals.{RefusesCount, RefusesCounts};
+ghost use Rattle.walrus_writing.specs.Refusals.{RefusesCounts};
 ghost use Rattle.walrus_writing.specs.Sizes.{local_sizes, IsOrder};
 
 use crate::by_import::{
@@ -32,7 +31,7 @@ use std::cmp::Reverse;
 use walrus_contents::Parts;
 use walrus_items::{GlobalKind, ModuleFunctions};
 use walrus_ir::{
-    FunctionId, GlobalId, IdsToIndices, MemoryId, ModuleTypes, TableId, TagId, TypeId,
+    FunctionId, GlobalId, IdsToIndices, MemoryId, ModuleTypes, Numbering, TableId, TagId, TypeId,
 };
 use walrus_parts::{Error, Result};
 
@@ -104,14 +103,17 @@ impl Plan {
         ensures few { IfOk result (λ _. (space : Space) → length (places self.now space) < 2 ^ 32) }
         ensures fails { IfErr result (RefusesCounts (places self.now)) }
     {
-        let mut indices = IdsToIndices::new(alloc);
-        number_types(&mut indices, self.types.as_slice())?;
-        number_functions(&mut indices, self.functions.as_slice())?;
-        number_tables(&mut indices, self.tables.as_slice())?;
-        number_memories(&mut indices, self.memories.as_slice())?;
-        number_tags(&mut indices, self.tags.as_slice())?;
-        number_globals(&mut indices, self.globals.as_slice())?;
-        Ok(indices)
+        check_counts(self)?;
+        Ok(IdsToIndices {
+            types: Numbering::along(alloc, self.types.as_slice())?,
+            functions: Numbering::along(alloc, self.functions.as_slice())?,
+            tables: Numbering::along(alloc, self.tables.as_slice())?,
+            memories: Numbering::along(alloc, self.memories.as_slice())?,
+            tags: Numbering::along(alloc, self.tags.as_slice())?,
+            globals: Numbering::along(alloc, self.globals.as_slice())?,
+            elements: Numbering::new(alloc),
+            data_: Numbering::new(alloc),
+        })
     }
 }
 
@@ -176,110 +178,20 @@ fn types_in_order(alloc: Global, types: &ModuleTypes) -> Result<Vec<TypeId>>
     Ok(ids)
 }
 
-// Gives each of these types its index.
-fn number_types(indices: &mut IdsToIndices, order: &[TypeId]) -> Result<()>
-    requires distinct { IsDistinct nat_eq (map place order.now) }
-    requires none { (number : ℕ) → index_of indices.old Types number ≡ None }
-    requires count { given indices.old Types ≡ 0 }
-    ensures value { IfOk result (λ _. NumbersSpace Types indices.old indices.new (map place order.now)) }
-    ensures few { IfOk result (λ _. length order.now < 2 ^ 32) }
-    ensures fails { IfErr result (RefusesCount (length order.now)) }
+// Refused where a space has more items than there are indices.
+fn check_counts(plan: &Plan) -> Result<()>
+    ensures few { OnOk result ((space : Space) → length (places plan.now space) < 2 ^ 32) }
+    ensures fails { IfErr result (RefusesCounts (places plan.now)) }
 {
-    if order.len() > u32::MAX as usize {
+    let most = u32::MAX as usize;
+    if plan.types.len() > most
+        || plan.functions.len() > most
+        || plan.tables.len() > most
+        || plan.memories.len() > most
+        || plan.tags.len() > most
+        || plan.globals.len() > most
+    {
         return Err(Error::TooLarge);
-    }
-    for id in order {
-        indices.push_type(*id)?;
-    }
-    Ok(())
-}
-
-// Gives each of these functions its index.
-fn number_functions(indices: &mut IdsToIndices, order: &[FunctionId]) -> Result<()>
-    requires distinct { IsDistinct nat_eq (map place order.now) }
-    requires none { (number : ℕ) → index_of indices.old Functions number ≡ None }
-    requires count { given indices.old Functions ≡ 0 }
-    ensures value { IfOk result (λ _. NumbersSpace Functions indices.old indices.new (map place order.now)) }
-    ensures few { IfOk result (λ _. length order.now < 2 ^ 32) }
-    ensures fails { IfErr result (RefusesCount (length order.now)) }
-{
-    if order.len() > u32::MAX as usize {
-        return Err(Error::TooLarge);
-    }
-    for id in order {
-        indices.push_func(*id)?;
-    }
-    Ok(())
-}
-
-// Gives each of these tables its index.
-fn number_tables(indices: &mut IdsToIndices, order: &[TableId]) -> Result<()>
-    requires distinct { IsDistinct nat_eq (map place order.now) }
-    requires none { (number : ℕ) → index_of indices.old Tables number ≡ None }
-    requires count { given indices.old Tables ≡ 0 }
-    ensures value { IfOk result (λ _. NumbersSpace Tables indices.old indices.new (map place order.now)) }
-    ensures few { IfOk result (λ _. length order.now < 2 ^ 32) }
-    ensures fails { IfErr result (RefusesCount (length order.now)) }
-{
-    if order.len() > u32::MAX as usize {
-        return Err(Error::TooLarge);
-    }
-    for id in order {
-        indices.push_table(*id)?;
-    }
-    Ok(())
-}
-
-// Gives each of these memories its index.
-fn number_memories(indices: &mut IdsToIndices, order: &[MemoryId]) -> Result<()>
-    requires distinct { IsDistinct nat_eq (map place order.now) }
-    requires none { (number : ℕ) → index_of indices.old Memories number ≡ None }
-    requires count { given indices.old Memories ≡ 0 }
-    ensures value { IfOk result (λ _. NumbersSpace Memories indices.old indices.new (map place order.now)) }
-    ensures few { IfOk result (λ _. length order.now < 2 ^ 32) }
-    ensures fails { IfErr result (RefusesCount (length order.now)) }
-{
-    if order.len() > u32::MAX as usize {
-        return Err(Error::TooLarge);
-    }
-    for id in order {
-        indices.push_memory(*id)?;
-    }
-    Ok(())
-}
-
-// Gives each of these tags its index.
-fn number_tags(indices: &mut IdsToIndices, order: &[TagId]) -> Result<()>
-    requires distinct { IsDistinct nat_eq (map place order.now) }
-    requires none { (number : ℕ) → index_of indices.old Tags number ≡ None }
-    requires count { given indices.old Tags ≡ 0 }
-    ensures value { IfOk result (λ _. NumbersSpace Tags indices.old indices.new (map place order.now)) }
-    ensures few { IfOk result (λ _. length order.now < 2 ^ 32) }
-    ensures fails { IfErr result (RefusesCount (length order.now)) }
-{
-    if order.len() > u32::MAX as usize {
-        return Err(Error::TooLarge);
-    }
-    for id in order {
-        indices.push_tag(*id)?;
-    }
-    Ok(())
-}
-
-// Gives each of these globals its index.
-fn number_globals(indices: &mut IdsToIndices, order: &[GlobalId]) -> Result<()>
-    requires distinct { IsDistinct nat_eq (map place order.now) }
-    requires none { (number : ℕ) → index_of indices.old Globals number ≡ None }
-    requires count { given indices.old Globals ≡ 0 }
-    ensures value { IfOk result (λ _. NumbersSpace Globals indices.old indices.new (map place order.now)) }
-    ensures few { IfOk result (λ _. length order.now < 2 ^ 32) }
-    ensures fails { IfErr result (RefusesCount (length order.now)) }
-{
-    if order.len() > u32::MAX as usize {
-        return Err(Error::TooLarge);
-    }
-    for id in order {
-        indices.push_global(*id)?;
     }
     Ok(())
 }

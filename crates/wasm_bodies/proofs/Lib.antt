@@ -2,6 +2,6 @@ mod Alls
 mod Args
 mod Copies
 mod Named
-mod Numbering
+mod Ranges
 mod OpLemmas
 mod TypeLemmas

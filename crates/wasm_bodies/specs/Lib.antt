@@ -1,4 +1,3 @@
 pub mod Comparing
-pub mod Spaces
 pub mod Status
 pub mod Words

@@ -1,8 +1,11 @@
 //! What the bodies of a module are read and written by (Validation > Conventions > Contexts).
 
-ghost use Rattle.wasm_bodies.specs.Spaces.{NoIdsFrom};
+ghost use Rattle.std.specs.Prelude.{OnOk, nat_eq};
+ghost use Rattle.std.specs.List.{IsDistinct};
+ghost use Rattle.walrus_types.specs.Operators.{Space, Types};
+ghost use Rattle.walrus_code.specs.Indices.{places_in};
 
-use crate::spaces::{Space, give_ids, give_indices};
+use crate::spaces::{in_place, indices_of};
 use std::alloc::Global;
 use walrus_base::TypeId;
 use walrus_code::{IdsToIndices, IndicesToIds, IrError};
@@ -35,8 +38,8 @@ pub fn context_of(alloc: Global, records: &Raw<'_>) -> Result<Context, IrError> 
     let mut indices = IndicesToIds::new(alloc);
     let mut types = ModuleTypes::new(alloc);
     read_types(alloc, &records.types, &mut indices, &mut types)?;
-    give_all_ids(&mut indices, records)?;
-    let numbers = all_indices(alloc, records, types.len())?;
+    give_ids(alloc, &mut indices, records)?;
+    let numbers = indices_of(alloc, &indices)?;
     let tag_types = tag_types(alloc, records, &indices)?;
     Ok(Context {
         indices,
@@ -48,74 +51,68 @@ pub fn context_of(alloc: Global, records: &Raw<'_>) -> Result<Context, IrError> 
 }
 
 // Gives each item but the types its id.
-fn give_all_ids(indices: &mut IndicesToIds, records: &Raw<'_>) -> Result<(), IrError>
-    requires { NoIdsFrom 1 indices.old }
+fn give_ids(alloc: Global, indices: &mut IndicesToIds, records: &Raw<'_>) -> Result<(), IrError>
+    requires { IsDistinct nat_eq (places_in indices.old Types) }
+    ensures { OnOk result ((space : Space) → IsDistinct nat_eq (places_in indices.new space)) }
 {
-    give_ids(indices, Space::Functions, function_count(records))?;
-    give_ids(indices, Space::Tables, table_count(records))?;
-    give_ids(indices, Space::Memories, memory_count(records))?;
-    give_ids(indices, Space::Tags, tag_count(records))?;
-    give_ids(indices, Space::Globals, global_count(records))?;
-    give_ids(indices, Space::Elements, records.elements.len())?;
-    give_ids(indices, Space::DataSegments, data_count(records))
+    indices.functions = in_place(alloc, function_count(records))?;
+    indices.tables = in_place(alloc, table_count(records))?;
+    indices.memories = in_place(alloc, memory_count(records))?;
+    indices.tags = in_place(alloc, tag_count(records))?;
+    indices.globals = in_place(alloc, global_count(records))?;
+    indices.elements = in_place(alloc, records.elements.len())?;
+    indices.data_ = in_place(alloc, data_count(records))?;
+    Ok(())
 }
 
-// The indices of all items, of which there are so many types.
-fn all_indices(
-    alloc: Global,
-    records: &Raw<'_>,
-    type_count: usize,
-) -> Result<IdsToIndices, IrError> {
-    let mut numbers = IdsToIndices::new(alloc);
-    give_indices(&mut numbers, Space::Types, type_count)?;
-    give_indices(&mut numbers, Space::Functions, function_count(records))?;
-    give_indices(&mut numbers, Space::Tables, table_count(records))?;
-    give_indices(&mut numbers, Space::Memories, memory_count(records))?;
-    give_indices(&mut numbers, Space::Tags, tag_count(records))?;
-    give_indices(&mut numbers, Space::Globals, global_count(records))?;
-    give_indices(&mut numbers, Space::Elements, records.elements.len())?;
-    give_indices(&mut numbers, Space::DataSegments, data_count(records))?;
-    Ok(numbers)
+// What imports bring.
+#[derive(Clone, Copy, PartialEq, Eq)]
+enum Kind {
+    Functions,
+    Tables,
+    Memories,
+    Tags,
+    Globals,
 }
 
-// The space of what an import brings.
-fn space_of(desc: &RawDesc) -> Space {
+// The kind of what an import brings.
+fn kind_of(desc: &RawDesc) -> Kind {
     match desc {
-        RawDesc::Function(_) => Space::Functions,
-        RawDesc::Table(_) => Space::Tables,
-        RawDesc::Memory(_) => Space::Memories,
-        RawDesc::Global(_) => Space::Globals,
-        RawDesc::Tag(_) => Space::Tags,
+        RawDesc::Function(_) => Kind::Functions,
+        RawDesc::Table(_) => Kind::Tables,
+        RawDesc::Memory(_) => Kind::Memories,
+        RawDesc::Global(_) => Kind::Globals,
+        RawDesc::Tag(_) => Kind::Tags,
     }
 }
 
-// How many imports bring an item of this space.
-fn imported(imports: &[RawImport<'_>], space: Space) -> usize {
+// How many imports bring an item of this kind.
+fn imported(imports: &[RawImport<'_>], kind: Kind) -> usize {
     imports
         .iter()
-        .filter(|import| space_of(&import.desc) == space)
+        .filter(|import| kind_of(&import.desc) == kind)
         .count()
 }
 
 // How many functions there are, imported ones among them; and so for each other kind.
 fn function_count(records: &Raw<'_>) -> usize {
-    imported(&records.imports, Space::Functions).saturating_add(records.functions.len())
+    imported(&records.imports, Kind::Functions).saturating_add(records.functions.len())
 }
 
 fn table_count(records: &Raw<'_>) -> usize {
-    imported(&records.imports, Space::Tables).saturating_add(records.tables.len())
+    imported(&records.imports, Kind::Tables).saturating_add(records.tables.len())
 }
 
 fn memory_count(records: &Raw<'_>) -> usize {
-    imported(&records.imports, Space::Memories).saturating_add(records.memories.len())
+    imported(&records.imports, Kind::Memories).saturating_add(records.memories.len())
 }
 
 fn tag_count(records: &Raw<'_>) -> usize {
-    imported(&records.imports, Space::Tags).saturating_add(records.tags.len())
+    imported(&records.imports, Kind::Tags).saturating_add(records.tags.len())
 }
 
 fn global_count(records: &Raw<'_>) -> usize {
-    imported(&records.imports, Space::Globals).saturating_add(records.globals.len())
+    imported(&records.imports, Kind::Globals).saturating_add(records.globals.len())
 }
 
 // How many data segments bodies may name: none where no data count stands (Binary Format > Modules > Data Count Section).

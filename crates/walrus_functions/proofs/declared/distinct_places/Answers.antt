@@ -5,7 +5,7 @@ use Rattle.std.proofs.lemmas.Grind.{common_steps}
 use Rattle.std.proofs.lemmas.Cmp.{nat_eq_equiv}
 use Rattle.std.proofs.lemmas.Map.Keys.{IsDistinct-push}
 use Rattle.walrus_base.specs.Id.{place}
-use Rattle.walrus_functions.proofs.Turns.{split_at, map_more}
+use Rattle.walrus_code.proofs.Turns.{split_at, map_more}
 use Rattle.walrus_functions.proofs.DistinctLemmas.{twice, not_false, not_true, among-more}
 use Rattle.walrus_functions.proofs.declared.distinct_places.Goals as goal
 

@@ -1,6 +1,6 @@
 use Rattle.std.proofs.Common.{sym, subst, take}
 use Rattle.walrus_functions.specs.Declaring.{AreLowest, number_at}
-use Rattle.walrus_functions.proofs.Turns.{one_more}
+use Rattle.walrus_code.proofs.Turns.{one_more}
 use Rattle.walrus_functions.proofs.LowestLemmas.{lowest-more}
 use Rattle.walrus_functions.proofs.ValueLemmas.{number_alike}
 use Rattle.walrus_functions.proofs.declared.lowest_locals.Goals as goal

@@ -6,7 +6,7 @@ use Rattle.walrus_types.specs.Locals.{locals}
 use Rattle.walrus_types.specs.Value.{val_type}
 use Rattle.walrus_functions.specs.Declaring.{typed, AreTyped, same_local}
 use Rattle.walrus_functions.specs.EmittedBody.{types_of}
-use Rattle.walrus_functions.proofs.Turns.{map_more, map_snoc, split_at}
+use Rattle.walrus_code.proofs.Turns.{map_more, map_snoc, split_at}
 use Rattle.std.specs.List.{IsDistinct, list_any}
 use Rattle.walrus_types.specs.declared.value.ValType.{ValType as DeclaredValType}
 use Rattle.walrus_functions.proofs.DistinctLemmas.{not_before}

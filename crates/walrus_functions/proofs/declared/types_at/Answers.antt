@@ -11,7 +11,7 @@ use Rattle.walrus_base.specs.declared.id.Id.{Id}
 use Rattle.walrus_base.specs.declared.keys.LocalKey.{LocalKey}
 use Rattle.walrus_types.specs.Value.{val_type}
 use Rattle.walrus_types.specs.declared.value.ValType.{ValType as DeclaredValType}
-use Rattle.walrus_functions.proofs.Turns.{map_more, map_snoc}
+use Rattle.walrus_code.proofs.Turns.{map_more, map_snoc}
 use Rattle.walrus_functions.proofs.declared.types_at.Goals as goal
 
 pub returns-in_default : goal.returns-in_default

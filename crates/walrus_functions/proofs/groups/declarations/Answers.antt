@@ -8,7 +8,7 @@ use Rattle.walrus_bodies.specs.declared.declarations.Declaration.{Declaration}
 use Rattle.walrus_code.specs.Indices.{index_of}
 use Rattle.walrus_bodies.specs.Declarations.{declaration, declarations_of}
 use Rattle.walrus_functions.specs.Declaring.{AreDeclarations, group_of}
-use Rattle.walrus_functions.proofs.Turns.{split_at, map_more, map_snoc}
+use Rattle.walrus_code.proofs.Turns.{split_at, map_more, map_snoc}
 use Rattle.walrus_functions.proofs.DeclarationLemmas.{declared-more, declares-refused}
 use Rattle.std.proofs.lemmas.List.{take_all}
 use Rattle.std.proofs.lemmas.Result.{err_from_is_err_and}

@@ -1,22 +1,19 @@
 use Rattle.std.proofs.Common.{◌≡◌, ◌+◌, map, take, length, sym, ap, ◌∙◌, arith, length-take-le}
 use Rattle.std.proofs.lemmas.List.{length-map}
 use Rattle.walrus_base.specs.Id.{place}
-use Rattle.walrus_functions.proofs.Turns.{split_at, map_more}
-use Rattle.walrus_functions.proofs.NumberedLemmas.{fresh_in, numbered-more}
+use Rattle.walrus_code.proofs.Placing.{new_at}
+use Rattle.walrus_code.proofs.Turns.{map_more}
+use Rattle.walrus_functions.proofs.NumberedLemmas.{numbered-more}
 use Rattle.walrus_functions.proofs.groups.number_locals.Goals as goal
 
 pub push-requires-clause-is_new : goal.push-requires-clause-is_new
-push-requires-clause-is_new c =
-    let done = map place (take c.loop-id.id-index c.args.ids.now) in
-    let parts = split_at place c.args.ids.now c.loop-id.id-index _ c.loop-id-test.true in
-    c.loop-id.invariant.are _ ∙ fresh_in (map place c.args.ids.now) done _ parts.0 parts.1 c.requires.distinct
+push-requires-clause-is_new c = c.loop-id.invariant.are _ ∙ new_at c.args.ids.now c.loop-id.id-index _ c.loop-id-test.true c.requires.distinct
 
 pub loop-id-preserved : goal.loop-id-preserved
 loop-id-preserved c =
     let i = c.loop-id.id-index in
     let done = map place (take i c.args.ids.now) in
-    let parts = split_at place c.args.ids.now i _ c.loop-id-test.true in
-    let none = fresh_in (map place c.args.ids.now) done _ parts.0 parts.1 c.requires.distinct in
+    let none = new_at c.args.ids.now i _ c.loop-id-test.true c.requires.distinct in
     let long : length done ≡ i = length-map (take i c.args.ids.now) place ∙ length-take-le i c.args.ids.now (omega (arith, c.loop-id-test.true)) in
     record {
       count = c.in_ok-push.ensures.counted ∙ ap (λ n. n + 1) c.loop-id.invariant.count;

@@ -5,7 +5,7 @@ use Rattle.walrus_types.specs.declared.value.ValType.TheVariants as declared_val
 use Rattle.walrus_types.specs.contracts.value.ValTypePartialEq.TheImpl as equality
 use Rattle.walrus_types.proofs.FunctionSame.{val_same}
 use Rattle.walrus_functions.specs.Declaring.{AreRuns, group_of}
-use Rattle.walrus_functions.proofs.Turns.{map_more, map_snoc}
+use Rattle.walrus_code.proofs.Turns.{map_more, map_snoc}
 use Rattle.walrus_functions.proofs.RunLemmas.{runs-same, runs-next}
 use Rattle.walrus_functions.proofs.groups.runs_from.Goals as goal
 use Rattle.walrus_functions.proofs.groups.runs_from.Goals.{then-eq, else-eq+in_ok-push}
