@@ -10,12 +10,13 @@ use Rattle.walrus_base.specs.Arena.{item_at, entries}
 use Rattle.walrus_base.specs.Types.{HeapType, OfHeap, Concrete, Exact, ValType, I32, I64, F32, F64, V128, Ref, StorageType, Unpacked, I8, I16, CompType, Func, Struct, Array, heap_names, val_heaps, storage_heaps, field_heaps, comp_heaps, comp_names}
 use Rattle.walrus_types.specs.PlaceList.{has}
 use Rattle.walrus_types.specs.TypeDef.{TypeDef}
-use Rattle.walrus_types.specs.TypeSlots.{defs}
+use Rattle.walrus_types.specs.TypeSlots.{defs, last_of}
 use Rattle.walrus_types.specs.Whole.{AreWhole}
 use Rattle.walrus_types.specs.declared.types.Type.{«Type»}
 use Rattle.walrus_types.proofs.Lists.{Contains-head, Contains-tail}
+use Rattle.walrus_types.proofs.WholeLemmas.{last_row}
 use Rattle.walrus_groups.specs.Indexed.{AreInOrder, IsOutOfOrder, LaterSupertype, LaterType}
-use Rattle.walrus_groups.specs.Ordered.{heap_within, val_within, vals_within, storage_within, field_within, comp_within, last_of, all_below, is_ordered}
+use Rattle.walrus_groups.specs.Ordered.{heap_within, val_within, vals_within, storage_within, field_within, comp_within, all_below, is_ordered}
 use Rattle.walrus_groups.proofs.WrittenLists.{AllThere, IsRow, entries_there, group-row, has-row, entry_contained}
 
 -- ---- tests of lists
@@ -106,10 +107,6 @@ contains_row a n u (k, lt, e) =
     let small : k < n = (let l : length (range_with_len a n) ≡ n = length-range_with_len a n in omega (arith, l, lt)) in
     let is : a + k ≡ u = sym (get_or-range_with_len a n k u small) ∙ e in
     (omega (arith, is), omega (arith, is, small))
-
-last_row : (a n other : ℕ) → last_of (range_with_len a (suc n)) other ≡ a + n
-last_row a zero other = omega arith
-last_row a (suc n) other = last_row (a + 1) n a ∙ (let e : a + 1 + n ≡ a + suc n = omega arith in e)
 
 -- ---- the types
 

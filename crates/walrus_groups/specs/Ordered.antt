@@ -3,6 +3,7 @@ use Rattle.std.specs.Prelude.{ℕ, Bool, true, ◌&&◌, List, [], ◌∷◌, na
 use Rattle.std.specs.List.{list_all}
 use Rattle.walrus_base.specs.Types.{HeapType, OfHeap, Concrete, Exact, ValType, I32, I64, F32, F64, V128, Ref, StorageType, Unpacked, I8, I16, FieldType, CompType, Func, Struct, Array}
 use Rattle.walrus_types.specs.TypeDef.{TypeDef}
+use Rattle.walrus_types.specs.TypeSlots.{last_of}
 
 module _ (last : ℕ) where
   abbrev pub heap_within : HeapType ℕ → Bool
@@ -36,11 +37,6 @@ module _ (last : ℕ) where
   comp_within (Func params results) = vals_within params && vals_within results
   comp_within (Struct fields) = fields_within fields
   comp_within (Array element) = field_within element
-
--- the last of these, or the other where there is none
-abbrev pub last_of : List ℕ → ℕ → ℕ
-last_of [] other = other
-last_of (p ∷ ps) other = last_of ps p
 
 -- each of these is below the place
 abbrev pub all_below : ℕ → List ℕ → Bool

@@ -7,11 +7,11 @@ ghost use Rattle.walrus_base.specs.Id.{place};
 ghost use Rattle.walrus_types.specs.Composite.{storage_type, field_type, comp_type, supertypes};
 ghost use Rattle.walrus_types.specs.ModuleTypes.{type_slots};
 ghost use Rattle.walrus_types.specs.TypeDef.{type_def, type_place};
-ghost use Rattle.walrus_types.specs.TypeSlots.{group_at};
+ghost use Rattle.walrus_types.specs.TypeSlots.{group_at, last_of};
 ghost use Rattle.walrus_types.specs.TypesLeft.{place_and_def};
 ghost use Rattle.walrus_types.specs.Value.{heap_type, val_type};
 ghost use Rattle.walrus_groups.specs.Indexed.{AreInOrder, IsOutOfOrder};
-ghost use Rattle.walrus_groups.specs.Ordered.{heap_within, val_within, vals_within, storage_within, field_within, fields_within, comp_within, last_of, all_below, is_ordered};
+ghost use Rattle.walrus_groups.specs.Ordered.{heap_within, val_within, vals_within, storage_within, field_within, fields_within, comp_within, all_below, is_ordered};
 
 use walrus_base::TypeId;
 use walrus_types::{CompositeType, FieldType, HeapType, ModuleTypes, StorageType, Type, ValType};
@@ -46,11 +46,7 @@ fn last_place(types: &ModuleTypes, id: TypeId) -> usize
     requires there { IsLive (type_slots types.now) (place id) }
     ensures { result ≡ last_of (group_at (type_slots types.now) (place id)) (place id) }
 {
-    let mut last = id.index();
-    for member in types.group(id) {
-        last = member.index();
-    }
-    last
+    types.last_in_group(id).index()
 }
 
 // Whether the supertype, if there is one, is below this place.

@@ -1,12 +1,12 @@
 -- Groups stay whole where groups are added and deleted.
-use Rattle.std.proofs.Common.{◌≡◌, ℕ, zero, suc, ◌+◌, ◌<◌, ◌==◌, ◌||◌, Bool, true, false, List, [], ◌∷◌, ◌++◌, length, map, set, Option, Some, None, option_map, IsTrue, refl, sym, ap, ◌∙◌, arith, add-zero, eq-eqb, eqb-true, ⊎_elim, subst}
+use Rattle.std.proofs.Common.{◌≡◌, ℕ, zero, suc, ◌+◌, ◌-◌, ◌<◌, ◌==◌, ◌||◌, Bool, true, false, List, [], ◌∷◌, ◌++◌, length, map, set, Option, Some, None, option_map, IsTrue, refl, sym, ap, ◌∙◌, arith, add-zero, eq-eqb, eqb-true, ⊎_elim, subst}
 use Rattle.std.proofs.lemmas.List.{get_or-set_other}
 use Rattle.std.specs.List.{range_with_len}
 use Rattle.walrus_base.specs.Arena.{item_at, kept_by}
 use Rattle.walrus_base.proofs.Kept.{kept_was, kept_marked, kept_there}
 use Rattle.walrus_types.specs.PlaceList.{has}
-use Rattle.walrus_types.specs.TypeDef.{TypeDef}
-use Rattle.walrus_types.specs.TypeSlots.{new_group, cleared}
+use Rattle.walrus_types.specs.TypeDef.{TypeDef, places_between}
+use Rattle.walrus_types.specs.TypeSlots.{new_group, cleared, group_at, group_of, last_of}
 use Rattle.walrus_types.specs.Whole.{AreWhole, KeepsGroups}
 use Rattle.walrus_types.specs.declared.composite.NewType.{NewType}
 use Rattle.walrus_types.proofs.Indexed.{member_group, some_same}
@@ -131,3 +131,24 @@ whole-kept keeps slots old closed = record {
       let was = kept_was keeps slots t x e in
       ap (option_map (λ (y : TypeDef). y.group)) (kept_there keeps slots p (closed t x was (kept_marked keeps slots t x e) p h)) ∙ old.members t x was p h;
 }
+
+-- ---- the last member of a group
+
+pub last_row : (a n other : ℕ) → last_of (range_with_len a (suc n)) other ≡ a + n
+last_row a zero other = sym (add-zero a)
+last_row a (suc n) other = last_row (a + 1) n a ∙ omega arith
+
+module _ (slots : List (Option TypeDef)) (whole : AreWhole slots) (t first end : ℕ) (x : TypeDef) (at : item_at slots t ≡ Some x) (is : x.group ≡ places_between first end) where
+  -- a group isn't empty
+  pub not_empty : first < end
+  not_empty =
+      let inside = range-has first (end - first) t (ap (λ g. has g t) (sym is) ∙ whole.own t x at) in
+      let lt : inside.0 < end - first = inside.1 in
+      omega (arith, lt)
+
+  pub last_between : (other : ℕ) → last_of (group_at slots t) other ≡ end - 1
+  last_between other =
+      let lt : first < end = not_empty in
+      let count : end - first ≡ suc (end - first - 1) = omega (arith, lt) in
+      ap (λ o. last_of (group_of o) other) at ∙ ap (λ g. last_of g other) (is ∙ ap (λ n. range_with_len first n) count)
+      ∙ last_row first (end - first - 1) other ∙ omega (arith, lt)

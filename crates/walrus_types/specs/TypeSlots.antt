@@ -24,6 +24,11 @@ group_of (Some x) = x.group
 abbrev pub group_at : List (Option TypeDef) → ℕ → List ℕ
 group_at slots place = group_of (item_at slots place)
 
+-- the last of these, or the other where there is none
+abbrev pub last_of : List ℕ → ℕ → ℕ
+last_of [] other = other
+last_of (p ∷ ps) other = last_of ps p
+
 -- a group of these members: each has the whole group, whose places begin at the first
 abbrev pub new_group : (first : ℕ) → List NewType → List (Option TypeDef)
 new_group first members = map (λ member. Some (record { group = range_with_len first (length members); sub = new_sub member })) members

@@ -8,7 +8,7 @@ ghost use Rattle.walrus_types.specs.Alone.{alone, IsIndexed, AreInOrder, AreNotN
 ghost use Rattle.walrus_types.specs.Composite.{function_type, function_of};
 ghost use Rattle.walrus_types.specs.OwnIds.{under_own_ids};
 ghost use Rattle.walrus_types.specs.TypeDef.{type_def, type_place, type_name, name_bytes};
-ghost use Rattle.walrus_types.specs.TypeSlots.{defs, group_at, new_group, no_names, cleared};
+ghost use Rattle.walrus_types.specs.TypeSlots.{defs, group_at, last_of, new_group, no_names, cleared};
 ghost use Rattle.walrus_types.specs.Whole.{AreWhole, KeepsGroups};
 ghost use Rattle.std.proofs.Props.{props};
 ghost use Rattle.walrus_types.specs.TypesLeft.{types_left, ids_left};
@@ -207,6 +207,14 @@ impl ModuleTypes {
     {
         let ty = self.get(id);
         GroupIds::between(ty.first, ty.end)
+    }
+
+    /// The id of the last member of a live type's group, which is found at once, however many members there are.
+    pub fn last_in_group(&self, id: TypeId) -> TypeId
+        requires { IsLive (type_slots self.now) (place id) }
+        ensures { place result ≡ last_of (group_at (type_slots self.now) (place id)) (place id) }
+    {
+        Id::at(self.get(id).end - 1)
     }
 
     /// Each type is a member of its group, and all members of its group are there.
