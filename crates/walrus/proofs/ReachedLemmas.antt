@@ -1,5 +1,5 @@
 -- What a search for used items finds is what the abstract module says is reached, kept and sound.
-use Rattle.std.proofs.Common.{◌≡◌, inl, inr, ⊎_elim, true, map, sym, ap, ◌∙◌, subst}
+use Rattle.std.proofs.Common.{◌≡◌, ◌⊎◌, inl, inr, ⊎_elim, true, map, sym, ap, ◌∙◌, subst}
 use Rattle.std.specs.Prelude.{◌↔◌, Contains, Result, Ok, Err, IfOk, IfErr, OnOk, MatchResult}
 use Rattle.std.proofs.lemmas.Bool.{false≢true}
 use Rattle.std.proofs.lemmas.Option.{none-some}
@@ -10,7 +10,7 @@ use Rattle.walrus_items.specs.Exports.{ExportValue, exported, exports}
 use Rattle.walrus_model.specs.Abstract as abstract
 use Rattle.walrus_model.specs.Kept.{Kept}
 use Rattle.walrus_model.specs.Reached.{Reached}
-use Rattle.walrus_model.specs.Refers.{KeepsToo, Refers, written_in}
+use Rattle.walrus_model.specs.Refers.{KeepsToo, Refers}
 use Rattle.walrus_model.specs.Roots.{IsRoot, exported as is_exported, start, data_segment, element_segment, asked_for}
 use Rattle.walrus_model.proofs.Lists.{Contains-map, Contains-none}
 use Rattle.walrus_model.proofs.Reach.{Contains-unmap}
@@ -19,7 +19,8 @@ use Rattle.walrus_contents.specs.declared.parts.Contents.{Contents}
 use Rattle.walrus_module.specs.View.{export_of}
 use Rattle.walrus_parts.specs.declared.error.Error.{Error}
 use Rattle.walrus.specs.Marked.{IsMarked, MarksKept, ReachesSound, ReachesUnsound}
-use Rattle.walrus_contents.specs.Named.{all_names, export_names, kept_types}
+use Rattle.walrus_contents.specs.Named.{export_names, group_names, kept_types, own_names, own_written}
+use Rattle.walrus_contents.proofs.Groups.{own_is_written, written_split}
 use Rattle.walrus.specs.Used.{Followed, IsRefusal, has_mark}
 use Rattle.walrus.specs.declared.passes.used.Used.{Used}
 
@@ -37,7 +38,7 @@ module _ (held : Contents) where
   abbrev v : abstract.Abstract
   v = contents_view held
 
-  -- ---- what an item refers to is what it names
+  -- ---- what an item refers to
 
   kept_too : (x y : Item) → KeepsToo v x y → Contains (kept_types v x) y
   kept_too (Functions, f) y too = subst (λ (z : Item). Contains (map type_item (v.handler_types f)) z) (sym too.2) (Contains-map type_item too.0 (v.handler_types f) too.1)
@@ -59,11 +60,14 @@ module _ (held : Contents) where
   too_kept (Elements, i) y c = absurd (Contains-none y c)
   too_kept (DataSegments, i) y c = absurd (Contains-none y c)
 
-  pub names_are : (x y : Item) → Refers v x y ↔ Contains (all_names v x) y
-  names_are x y = (
-    ⊎_elim (λ c. Contains-append_left (written_in v x) (kept_types v x) y c) (λ too. Contains-append_right (written_in v x) (kept_types v x) y (kept_too x y too)),
-    λ c. ⊎_elim (λ h. inl h) (λ h. inr (too_kept x y h)) (Contains-append_cases (written_in v x) (kept_types v x) y c),
-  )
+  -- what an item names itself it refers to
+  pub own_referred : (x y : Item) → Contains (own_names v x) y → Refers v x y
+  own_referred x y c = ⊎_elim (λ h. inl (own_is_written v x y h)) (λ h. inr (too_kept x y h)) (Contains-append_cases (own_written v x) (kept_types v x) y c)
+
+  -- what it refers to is a member of its group, or named by it
+  pub refers_split : (x y : Item) → Refers v x y → Contains (group_names v x) y ⊎ Contains (own_names v x) y
+  refers_split x y (inl c) = ⊎_elim (λ g. inl g) (λ h. inr (Contains-append_left (own_written v x) (kept_types v x) y h)) (written_split v x y c)
+  refers_split x y (inr too) = inr (Contains-append_right (own_written v x) (kept_types v x) y (kept_too x y too))
 
   -- ---- the roots are what the exports name
 

@@ -1,5 +1,5 @@
 -- What a search for used items finds, and when it refuses.
-use Rattle.std.specs.Prelude.{ℕ, ◌≡◌, ◌≢◌, ◌↔◌, Bool, true, false, List, ◌++◌, take, Contains}
+use Rattle.std.specs.Prelude.{ℕ, ◌≡◌, ◌≢◌, ◌↔◌, Bool, true, false, List, ◌++◌, ◌⊎◌, take, Contains}
 use Rattle.walrus_base.specs.IdSet.{has_id}
 use Rattle.walrus_base.specs.declared.set.IdHashSet.{IdHashSet}
 use Rattle.walrus_types.specs.Operators.{Types, Functions, Tables, Memories, Tags, Globals, Elements, DataSegments, Item}
@@ -9,6 +9,7 @@ use Rattle.walrus_model.specs.Reached.{Reached}
 use Rattle.walrus_model.specs.Refers.{Refers}
 use Rattle.walrus_model.specs.Roots.{IsRoot}
 pub use Rattle.walrus_contents.specs.There.{IsRefusal}
+use Rattle.walrus_contents.specs.Named.{group_names}
 use Rattle.walrus_contents.specs.There.{IsSound}
 use Rattle.walrus.specs.declared.passes.used.Used.{Used}
 
@@ -44,13 +45,30 @@ Agrees used entered = (x : Item) → (has_mark used x ≡ true) ↔ Contains ent
 abbrev pub NamesDead : Abstract → List Item → Type 0
 NamesDead v named = (x : Item) × Contains named x × (IsLive v x → ⊥)
 
--- the items that are named, all live, are marked and entered behind those that were, and no others
-pub record Enters (v : Abstract) (named : List Item) (old new : Used) (before after : List Item) : Type 0 where
-  pub live : (x : Item) → Contains named x → IsLive v x
+-- the items that are named are marked and entered behind those that were, but for those that were marked, and no others
+pub record Notes (named : List Item) (old new : Used) (before after : List Item) : Type 0 where
   pub rest : List Item
   pub grows : after ≡ before ++ rest
   pub named_only : (x : Item) → Contains rest x → Contains named x
   pub agrees : Agrees old before → Agrees new after
+  pub entered : Agrees old before → (x : Item) → Contains named x → Contains after x
+
+-- with each item that was entered the members of its group were
+abbrev pub HoldGroups : Abstract → List Item → Type 0
+HoldGroups v entered = (x y : Item) → Contains entered x → Contains (group_names v x) y → Contains entered y
+
+-- the item is named, or a member of the group of one that is
+abbrev pub IsOf : Abstract → List Item → Item → Type 0
+IsOf v named y = Contains named y ⊎ ((x : Item) × Contains named x × Contains (group_names v x) y)
+
+-- the items that are named, and the members of their groups, all live, are marked and entered behind those that were, and no others
+pub record Enters (v : Abstract) (named : List Item) (old new : Used) (before after : List Item) : Type 0 where
+  pub live : (x : Item) → IsOf v named x → IsLive v x
+  pub rest : List Item
+  pub grows : after ≡ before ++ rest
+  pub named_only : (x : Item) → Contains rest x → IsOf v named x
+  pub agrees : Agrees old before → Agrees new after
+  pub groups : Agrees old before → HoldGroups v before → HoldGroups v after
   pub entered : Agrees old before → (x : Item) → Contains named x → Contains after x
 
 -- what the search keeps: so many of the items entered are sound, and all that they refer to is entered
@@ -59,6 +77,7 @@ pub record Follows (v : Abstract) (used : Used) (entered : List Item) (taken : �
   pub live : (x : Item) → Contains entered x → IsLive v x
   pub reached : (x : Item) → Contains entered x → Reached v x
   pub rooted : (x : Item) → IsRoot v x → Contains entered x
+  pub groups : HoldGroups v entered
   pub sound : (x : Item) → Contains (take taken entered) x → IsSound v x
   pub closed : (x y : Item) → Contains (take taken entered) x → Refers v x y → Contains entered y
 

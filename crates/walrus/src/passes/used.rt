@@ -1,10 +1,15 @@
 //! What a module uses: all that its roots reach.
 
 ghost use Rattle.std.specs.Prelude.{◌≡◌, ◌↔◌, ◌⊎◌, [], ◌∷◌, IfErr, IfOk, IsTrue, MatchResult, OnOk, map, not};
+ghost use Rattle.walrus_base.specs.Arena.{IsLive as IsLiveAt};
+ghost use Rattle.walrus_base.specs.Id.{place};
 ghost use Rattle.walrus_code.specs.Code.{item_of};
 ghost use Rattle.walrus_model.specs.Live.{IsLive};
 ghost use Rattle.walrus_module.specs.View.{view};
-ghost use Rattle.walrus_contents.specs.Named.{all_names, items_in};
+ghost use Rattle.walrus_types.specs.ModuleTypes.{type_slots};
+ghost use Rattle.walrus_types.specs.Operators.{type_item};
+ghost use Rattle.walrus_types.specs.TypeSlots.{group_at};
+ghost use Rattle.walrus_contents.specs.Named.{group_names, items_in, own_names};
 ghost use Rattle.walrus_contents.specs.There.{IsRefusal, IsSound};
 ghost use Rattle.walrus_contents.specs.View.{parts_view};
 ghost use Rattle.walrus.specs.Marked.{MarksKept, ReachesSound, ReachesUnsound};
@@ -15,6 +20,7 @@ ghost use Rattle.walrus.specs.Used.{
   IsNothing,
   Marks,
   NamesDead,
+  Notes,
   has_mark,
 };
 
@@ -23,7 +29,7 @@ use std::result;
 use walrus_contents::{Parts, is_live, push_export_names, push_item_names};
 use walrus_module::{
     DataKey, ElementKey, Error, FunctionKey, GlobalKey, IdHashSet, ItemId, MemoryKey, Module,
-    Result, TableKey, TagKey, TypeKey,
+    ModuleTypes, Result, TableKey, TagKey, TypeId, TypeKey,
 };
 
 /// The items that the roots of a module reach, by kind. Its roots are its exports so far.
@@ -125,7 +131,7 @@ fn follow(alloc: Global, parts: Parts<'_>, used: &mut Used, found: &mut Vec<Item
     Ok(())
 }
 
-// Enters all that a live item names. What was in `named` is let go.
+// Enters all that a live item names itself. What was in `named` is let go.
 fn follow_item(
     alloc: Global,
     parts: Parts<'_>,
@@ -137,17 +143,17 @@ fn follow_item(
     requires { IsLive (parts_view parts) (item_of item) }
     ensures { MatchResult result
         (λ _. IsSound (parts_view parts.entry) (item_of item) × Enters (parts_view parts.entry)
-        (all_names (parts_view parts.entry) (item_of item)) used.old used.new (items_in found.old)
+        (own_names (parts_view parts.entry) (item_of item)) used.old used.new (items_in found.old)
         (items_in found.new))
         (IsRefusal ((IsSound (parts_view parts.entry) (item_of item) → ⊥)
-        ⊎ NamesDead (parts_view parts.entry) (all_names (parts_view parts.entry) (item_of item)))) }
+        ⊎ NamesDead (parts_view parts.entry) (own_names (parts_view parts.entry) (item_of item)))) }
 {
     named.clear();
     push_item_names(alloc, parts, item, named)?;
     enter_all(parts, named.as_slice(), used, found)
 }
 
-// Marks live items, and enters each that wasn't marked.
+// Marks live items, and enters each that wasn't marked, a type with its whole group.
 fn enter_all(
     parts: Parts<'_>,
     items: &[ItemId],
@@ -172,13 +178,70 @@ fn enter(parts: Parts<'_>, item: ItemId, used: &mut Used, found: &mut Vec<ItemId
         (items_in found.new))
         (IsRefusal (IsLive (parts_view parts.entry) (item_of item) → ⊥)) }
 {
+    parts.types.groups_are_whole();
     if !is_live(parts, item) {
         return Err(Error::DeadItem);
     }
-    if mark(item, used)? {
-        found.push(item)?;
+    if note(item, used, found)? {
+        note_group(parts, item, used, found)?;
     }
     Ok(())
+}
+
+// Marks the members of a live type's group, and enters each that wasn't marked. No other item has a group.
+fn note_group(
+    parts: Parts<'_>,
+    item: ItemId,
+    used: &mut Used,
+    found: &mut Vec<ItemId>,
+) -> result::Result<(), AllocError>
+    requires { IsLive (parts_view parts) (item_of item) }
+    ensures { OnOk result (Notes (group_names (parts_view parts.entry) (item_of item)) used.old used.new
+        (items_in found.old) (items_in found.new)) }
+{
+    match item {
+        ItemId::Type(id) => note_members(parts.types, id, used, found),
+        ItemId::Function(_)
+        | ItemId::Table(_)
+        | ItemId::Memory(_)
+        | ItemId::Tag(_)
+        | ItemId::Global(_)
+        | ItemId::Element(_)
+        | ItemId::Data(_) => Ok(()),
+    }
+}
+
+// The same for a live type.
+fn note_members(
+    types: &ModuleTypes,
+    id: TypeId,
+    used: &mut Used,
+    found: &mut Vec<ItemId>,
+) -> result::Result<(), AllocError>
+    requires { IsLiveAt (type_slots types.now) (place id) }
+    ensures { OnOk result (Notes (map type_item (group_at (type_slots types.now) (place id))) used.old used.new
+        (items_in found.old) (items_in found.new)) }
+{
+    for member in types.group(id) {
+        note(ItemId::Type(member), used, found)?;
+    }
+    Ok(())
+}
+
+// Marks an item, enters it where it wasn't marked, and answers whether that is so.
+fn note(
+    item: ItemId,
+    used: &mut Used,
+    found: &mut Vec<ItemId>,
+) -> result::Result<bool, AllocError>
+    ensures { IfOk result (λ is_new. (is_new ≡ not (has_mark used.old (item_of item)))
+        × Notes (item_of item ∷ []) used.old used.new (items_in found.old) (items_in found.new)) }
+{
+    let is_new = mark(item, used)?;
+    if is_new {
+        found.push(item)?;
+    }
+    Ok(is_new)
 }
 
 // Marks an item, and answers whether it wasn't marked.
