@@ -1,18 +1,14 @@
 -- What a contract sees of an `IdHashSet`.
-use Rattle.std.specs.Prelude.{◌≡◌, ◌≢◌, ◌+◌, ℕ, Bool, true, false, List, [], ◌∷◌, drop, slice_index_or}
+use Rattle.std.specs.Prelude.{◌≡◌, ◌≢◌, ℕ, Bool, true, false, List}
+use Rattle.std.specs.BTreeSet.{contains, keys}
+use Rattle.std.specs.Ordering.{nat_cmp}
 use Rattle.walrus_base.specs.declared.set.IdHashSet.{IdHashSet}
 use Rattle.walrus_base.specs.declared.set.IdHashSetIter.{IdHashSetIter}
-
--- the places that are marked, by rising place, where the first of these marks is that of `place`
-abbrev pub marked_from : ℕ → List Bool → List ℕ
-marked_from place [] = []
-marked_from place (false ∷ rest) = marked_from (place + 1) rest
-marked_from place (true ∷ rest) = place ∷ marked_from (place + 1) rest
 
 module _ {K : Type 0} where
   -- whether the id of this place is in
   abbrev pub has_id : IdHashSet K → ℕ → Bool
-  has_id ids place = slice_index_or ids.marks.items place false
+  has_id ids place = contains nat_cmp ids.places place
 
   -- the id of this place is in
   abbrev pub HasId : IdHashSet K → ℕ → Type 0
@@ -34,8 +30,8 @@ module _ {K : Type 0} where
 
   -- the places of the ids that are in, by rising place
   abbrev pub ids_in : IdHashSet K → List ℕ
-  ids_in ids = marked_from 0 ids.marks.items
+  ids_in ids = keys ids.places
 
   -- the places of the ids that are still to come
   abbrev pub ids_left : IdHashSetIter K → List ℕ
-  ids_left left = marked_from left.place (drop left.place left.marks.now)
+  ids_left left = left.rest

@@ -5,10 +5,10 @@ ghost use Rattle.std.specs.Iterator.{YieldsFirstBy, item_count};
 ghost use Rattle.walrus_base.specs.Arena.{HasRoom, slots, item_at, IsLive, entries, entries_left, kept_by};
 ghost use Rattle.walrus_base.specs.LendsSome.{LendsSome};
 ghost use Rattle.walrus_base.specs.Id.{place};
-ghost use Rattle.walrus_base.specs.IdSet.{has_id};
+ghost use Rattle.walrus_base.specs.Marks.{is_marked};
 
 use crate::id::Id;
-use crate::set::IdHashSet;
+use crate::marks::Marks;
 use std::alloc::{AllocError, Global};
 use std::marker::PhantomData;
 
@@ -34,13 +34,13 @@ fn some_mut<T>(slot: &mut Option<T>) -> &mut T
 }
 
 /// Empties every place that isn't marked, and leaves the others as they are. Takes no memory.
-pub fn keep_marked<K, T>(places: &mut Vec<Option<T>>, marks: &IdHashSet<K>)
+pub fn keep_marked<K, T>(places: &mut Vec<Option<T>>, marks: &Marks<K>)
 where
     T: Drop,
-    ensures { places.new.items ≡ kept_by (has_id marks.now) places.old.items }
+    ensures { places.new.items ≡ kept_by (is_marked marks.now) places.old.items }
 {
     for place in 0..places.len() {
-        empty_unless(marks.contains(Id::at(place)), places, place);
+        empty_unless(marks.is_marked(Id::at(place)), places, place);
     }
 }
 
@@ -157,13 +157,13 @@ impl<K, T> TombstoneArena<K, T> {
         }
     }
 
-    /// Deletes every item whose id isn't in the set. The others stay, and so do all places. Takes no memory.
-    pub fn keep_only(&mut self, marks: &IdHashSet<K>)
+    /// Deletes every item that isn't marked. The others stay, and so do all places. Takes no memory.
+    pub fn keep_only(&mut self, marks: &Marks<K>)
     where
         T: Drop,
-        ensures kept { slots self.new ≡ kept_by (has_id marks.now) (slots self.old) }
+        ensures kept { slots self.new ≡ kept_by (is_marked marks.now) (slots self.old) }
         ensures each { (p : ℕ) → item_at (slots self.new) p
-            ≡ (if has_id marks.now p then item_at (slots self.old) p else None) }
+            ≡ (if is_marked marks.now p then item_at (slots self.old) p else None) }
     {
         keep_marked(&mut self.places, marks);
     }

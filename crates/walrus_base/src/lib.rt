@@ -1,9 +1,10 @@
-//! Ids, arenas and sets of ids: what the items of a module are kept in.
+//! Ids, arenas, sets of ids and marks: what the items of a module are kept in.
 #![tactic(auto)]
 
 mod arena;
 mod id;
 mod keys;
+mod marks;
 mod set;
 
 pub use arena::{ArenaIter, TombstoneArena, keep_marked};
@@ -13,4 +14,5 @@ pub use keys::{
     FunctionKey, GlobalId, GlobalKey, ImportId, ImportKey, LocalId, LocalKey, MemoryId, MemoryKey,
     TableId, TableKey, TagId, TagKey, TypeId, TypeKey, UntypedCustomSectionId,
 };
+pub use marks::{Marks, MarksIter};
 pub use set::{IdHashSet, IdHashSetIter};

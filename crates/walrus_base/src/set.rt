@@ -6,12 +6,14 @@ ghost use Rattle.walrus_base.specs.Id.{place};
 
 use crate::id::Id;
 use std::alloc::{AllocError, Global};
+use std::collections::BTreeSet;
+use std::collections::btree_set;
 use std::marker::PhantomData;
 
-/// A set of ids, kept as one mark for each place up to the largest that was ever put in.
+/// A set of ids. Its memory goes by how many ids are in, wherever their places are.
 #[derive(Drop)]
 pub struct IdHashSet<K> {
-    marks: Vec<bool>,
+    places: BTreeSet<usize>,
     kind: PhantomData<K>,
 }
 
@@ -21,7 +23,7 @@ impl<K> IdHashSet<K> {
         ensures { (number : ℕ) → has_id result number ≡ false }
     {
         IdHashSet {
-            marks: Vec::new(alloc),
+            places: BTreeSet::new(alloc),
             kind: PhantomData,
         }
     }
@@ -32,26 +34,17 @@ impl<K> IdHashSet<K> {
             (λ is_new. (is_new ≡ not (has_id self.old (place id))) × Adds self.old self.new (place id))
             (λ _. SameIds self.old self.new) }
     {
-        let place = id.index();
-        if place >= self.marks.len() {
-            let Some(len) = place.checked_add(1) else {
-                return Err(AllocError);
-            };
-            self.marks.resize(len, false)?;
+        match self.places.insert(id.index()) {
+            Ok(is_new) => Ok(is_new),
+            Err(_) => Err(AllocError),
         }
-        let is_new = !self.marks[place];
-        self.marks[place] = true;
-        Ok(is_new)
     }
 
     /// Whether the id is in.
     pub fn contains(&self, id: Id<K>) -> bool
         ensures { result ≡ has_id self.now (place id) }
     {
-        match self.marks.get(id.index()) {
-            Some(mark) => *mark,
-            None => false,
-        }
+        self.places.contains(&id.index())
     }
 
     /// Takes an id out, and answers whether it was in. Takes no memory.
@@ -59,13 +52,7 @@ impl<K> IdHashSet<K> {
         ensures was_in { result ≡ has_id self.old (place id) }
         ensures removes { Removes self.old self.new (place id) }
     {
-        let place = id.index();
-        if place >= self.marks.len() {
-            return false;
-        }
-        let was_in = self.marks[place];
-        self.marks[place] = false;
-        was_in
+        self.places.remove(&id.index())
     }
 
     /// The ids that are in, by rising place.
@@ -73,8 +60,7 @@ impl<K> IdHashSet<K> {
         ensures { ids_left result ≡ ids_in self.now }
     {
         IdHashSetIter {
-            marks: self.marks.as_slice(),
-            place: 0,
+            rest: self.places.iter(),
             kind: PhantomData,
         }
     }
@@ -83,9 +69,7 @@ impl<K> IdHashSet<K> {
 /// The ids of a set, by rising place.
 #[derive(Drop)]
 pub struct IdHashSetIter<'a, K> {
-    marks: &'a [bool],
-    // The first place that is still to be seen.
-    place: usize,
+    rest: btree_set::Iter<'a, usize>,
     kind: PhantomData<K>,
 }
 
@@ -97,13 +81,9 @@ impl<'a, K> Iterator for IdHashSetIter<'a, K> {
     ghost remaining = { item_count ids_left };
 
     fn next(&mut self) -> Option<Id<K>> {
-        while let Some(mark) = self.marks.get(self.place) {
-            let place = self.place;
-            self.place += 1;
-            if *mark {
-                return Some(Id::at(place));
-            }
+        match self.rest.next() {
+            Some(place) => Some(Id::at(*place)),
+            None => None,
         }
-        None
     }
 }

@@ -1,6 +1,6 @@
 use Rattle.std.proofs.Common.{◌≡◌, length}
 use Rattle.walrus_base.specs.Arena.{kept_by}
-use Rattle.walrus_base.specs.IdSet.{has_id}
+use Rattle.walrus_base.specs.Marks.{is_marked}
 use Rattle.walrus_base.proofs.Kept.{kept_behind}
 use Rattle.walrus_base.proofs.arena.keep_marked.Given as goal
 
@@ -8,4 +8,4 @@ use Rattle.walrus_base.proofs.arena.keep_marked.Given as goal
 abbrev pub invariant-loop-place : goal.invariant-loop-place
 invariant-loop-place g l =
     (length l.places.items ≡ length l.initial.places.items)
-    × (kept_behind (has_id l.marks) l.place l.places.items ≡ kept_by (has_id l.marks) l.initial.places.items)
+    × (kept_behind (is_marked l.marks) l.place l.places.items ≡ kept_by (is_marked l.marks) l.initial.places.items)
