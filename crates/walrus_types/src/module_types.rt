@@ -3,7 +3,7 @@ ghost use Rattle.std.specs.Prelude.{◌≡◌, ◌++◌, [], ℕ, length, Some, 
 ghost use Rattle.std.specs.List.{range_with_len};
 ghost use Rattle.walrus_base.specs.Arena.{item_at, IsLive, entries, kept_by};
 ghost use Rattle.walrus_base.specs.Id.{place};
-ghost use Rattle.walrus_base.specs.IdSet.{has_id};
+ghost use Rattle.walrus_base.specs.Marks.{is_marked};
 ghost use Rattle.walrus_types.specs.Alone.{alone, IsIndexed, AreInOrder, AreNotNamed, StandsAt, StandsFirst, FoundOrAdded};
 ghost use Rattle.walrus_types.specs.Composite.{function_type, function_of};
 ghost use Rattle.walrus_types.specs.OwnIds.{under_own_ids};
@@ -21,7 +21,7 @@ use crate::type_iter::TypeIter;
 use crate::types::Type;
 use crate::value::ValType;
 use std::alloc::{AllocError, Global};
-use walrus_base::{Id, IdHashSet, TypeId, TypeKey, keep_marked};
+use walrus_base::{Id, Marks, TypeId, TypeKey, keep_marked};
 
 /// The types of a module, by their ids, in groups (Structure > Types > Recursive Types).
 ///
@@ -167,12 +167,12 @@ impl ModuleTypes {
         clear(&mut self.places, first, end);
     }
 
-    /// Deletes every type whose id isn't in the set, which holds groups whole. The others stay, and so do all places.
+    /// Deletes every type that isn't marked, where groups are marked whole. The others stay, and so do all places.
     /// Takes no memory.
-    pub fn keep_only(&mut self, marks: &IdHashSet<TypeKey>)
-        requires { KeepsGroups (has_id marks.now) (type_slots self.old) }
-        ensures slots { type_slots self.new ≡ kept_by (has_id marks.now) (type_slots self.old) }
-        ensures names { type_names self.new ≡ kept_by (has_id marks.now) (type_names self.old) }
+    pub fn keep_only(&mut self, marks: &Marks<TypeKey>)
+        requires { KeepsGroups (is_marked marks.now) (type_slots self.old) }
+        ensures slots { type_slots self.new ≡ kept_by (is_marked marks.now) (type_slots self.old) }
+        ensures names { type_names self.new ≡ kept_by (is_marked marks.now) (type_names self.old) }
     {
         keep_marked(&mut self.places, marks);
     }

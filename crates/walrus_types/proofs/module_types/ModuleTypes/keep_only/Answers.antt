@@ -1,6 +1,6 @@
 use Rattle.std.proofs.Common.{length, ap, ◌∙◌}
 use Rattle.walrus_base.specs.Arena.{kept_by}
-use Rattle.walrus_base.specs.IdSet.{has_id}
+use Rattle.walrus_base.specs.Marks.{is_marked}
 use Rattle.walrus_base.proofs.Kept.{map-kept_by, length-kept_by}
 use Rattle.walrus_types.specs.ModuleTypes.{type_slots}
 use Rattle.walrus_types.specs.TypeDef.{type_def, type_name}
@@ -13,7 +13,7 @@ use Rattle.walrus_types.proofs.module_types.ModuleTypes.keep_only.Goals as goal
 pub invariant_of-self : goal.invariant_of-self
 invariant_of-self c =
     let old = c.args.self.now in
-    let keeps = has_id c.args.marks.now in
+    let keeps = is_marked c.args.marks.now in
     let kept = c.keep_marked.ensures in
     record {
       whole = whole-same (kept_by keeps (type_slots old)) _ (ap (λ places. defs places) kept ∙ map-kept_by type_def keeps old.places.items)
@@ -25,7 +25,7 @@ invariant_of-self c =
     }
 
 pub returns-clause-slots : goal.returns-clause-slots
-returns-clause-slots c = ap (λ places. defs places) c.keep_marked.ensures ∙ map-kept_by type_def (has_id c.args.marks.now) c.args.self.now.places.items
+returns-clause-slots c = ap (λ places. defs places) c.keep_marked.ensures ∙ map-kept_by type_def (is_marked c.args.marks.now) c.args.self.now.places.items
 
 pub returns-clause-names : goal.returns-clause-names
-returns-clause-names c = ap (λ places. names places) c.keep_marked.ensures ∙ map-kept_by type_name (has_id c.args.marks.now) c.args.self.now.places.items
+returns-clause-names c = ap (λ places. names places) c.keep_marked.ensures ∙ map-kept_by type_name (is_marked c.args.marks.now) c.args.self.now.places.items
