@@ -1,5 +1,5 @@
 -- How the marks and the items entered follow what is entered.
-use Rattle.std.proofs.Common.{◌≡◌, ℕ, zero, suc, ◌≢◌, ◌⊎◌, inl, inr, ⊎_elim, Bool, true, false, eqb, List, [], ◌∷◌, ◌++◌, sym, ap, ◌∙◌, subst, refl, append_assoc}
+use Rattle.std.proofs.Common.{◌≡◌, ℕ, zero, suc, ◌<◌, ◌≢◌, ◌⊎◌, inl, inr, ⊎_elim, Bool, true, false, eqb, List, [], ◌∷◌, ◌++◌, sym, ap, ◌∙◌, subst, refl, append_assoc}
 use Rattle.std.specs.Prelude.{Contains, Decides, not}
 use Rattle.std.proofs.lemmas.Bool.{false≢true}
 use Rattle.std.proofs.lemmas.Bool.Decides.{Decides-eqb}
@@ -11,8 +11,9 @@ use Rattle.walrus_model.specs.Live.{IsLive}
 use Rattle.walrus_model.proofs.Lists.{Contains-none}
 use Rattle.walrus_contents.specs.Named.{group_names}
 use Rattle.walrus_contents.proofs.Groups.{GroupsAreWhole}
-use Rattle.walrus.specs.Used.{Agrees, Enters, HoldGroups, IsNothing, IsOf, Marks, Notes, has_mark}
-use Rattle.walrus.specs.declared.passes.used.Used.{Used}
+use Rattle.walrus.specs.MarkedItems.{AddsMark, AreUnmarked, HavePlaces, SamePlaces, has_mark}
+use Rattle.walrus.specs.Used.{Agrees, Enters, HoldGroups, IsOf, Notes}
+use Rattle.walrus.specs.declared.passes.marks.MarkedItems.{MarkedItems}
 
 pub same_or_other : (a b : ℕ) → (a ≡ b) ⊎ (a ≢ b)
 same_or_other a b = choose (eqb a b) (Decides-eqb a b) where
@@ -66,7 +67,7 @@ was_in false r e f = absurd (false≢true (sym f ∙ e))
 
 -- ---- one item
 
-module _ (x : Item) (old new : Used) (m : Marks old new x) (before : List Item) where
+module _ (x : Item) (old new : MarkedItems) (m : AddsMark old new x) (before : List Item) where
   -- it wasn't marked
   pub notes_new : Notes (x ∷ []) old new before (before ++ x ∷ [])
   notes_new = record {
@@ -75,6 +76,7 @@ module _ (x : Item) (old new : Used) (m : Marks old new x) (before : List Item) 
     named_only = λ y c. c;
     agrees = λ a y. (λ h. there a y h (same_or_other_item y x), λ c. back a y c);
     entered = λ a y c. Contains-append_right before (x ∷ []) y c;
+    places = m.places;
   } where
     there : Agrees old before → (y : Item) → has_mark new y ≡ true → (y ≡ x) ⊎ (y ≢ x) → Contains (before ++ x ∷ []) y
     there a y h (inl e) = subst (λ (z : Item). Contains (before ++ x ∷ []) z) (sym e) (Contains-push before x)
@@ -95,6 +97,7 @@ module _ (x : Item) (old new : Used) (m : Marks old new x) (before : List Item) 
     named_only = λ y c. absurd (Contains-none y c);
     agrees = λ a y. (λ h. (a y).0 (unmarked y h (same_or_other_item y x)), λ c. marked y ((a y).1 c) (same_or_other_item y x));
     entered = λ a y c. ⊎_elim (λ h. absurd (Contains-none y h)) (λ (e : x ≡ y). subst (λ (z : Item). Contains before z) e ((a x).0 was)) (Contains-push_cases [] x y c);
+    places = m.places;
   } where
     marked : (y : Item) → has_mark old y ≡ true → (y ≡ x) ⊎ (y ≢ x) → has_mark new y ≡ true
     marked y h (inl e) = subst (λ (z : Item). has_mark new z ≡ true) (sym e) m.added
@@ -109,16 +112,17 @@ module _ (x : Item) (old new : Used) (m : Marks old new x) (before : List Item) 
 
 -- ---- nothing, and one after the other
 
-pub notes_none : (used : Used) (before : List Item) → Notes [] used used before before
+pub notes_none : (used : MarkedItems) (before : List Item) → Notes [] used used before before
 notes_none used before = record {
   rest = [];
   grows = sym (append-nil before);
   named_only = λ x c. c;
   agrees = λ a. a;
   entered = λ a x c. absurd (Contains-none x c);
+  places = λ space. refl;
 }
 
-pub notes_both : (a b : List Item) (u u1 u2 : Used) (f f1 f2 : List Item) → Notes a u u1 f f1 → Notes b u1 u2 f1 f2 → Notes (a ++ b) u u2 f f2
+pub notes_both : (a b : List Item) (u u1 u2 : MarkedItems) (f f1 f2 : List Item) → Notes a u u1 f f1 → Notes b u1 u2 f1 f2 → Notes (a ++ b) u u2 f f2
 notes_both a b u u1 u2 f f1 f2 x y = record {
   rest = x.rest ++ y.rest;
   grows = y.grows ∙ ap (λ (t : List Item). t ++ y.rest) x.grows ∙ append_assoc f x.rest y.rest;
@@ -128,6 +132,7 @@ notes_both a b u u1 u2 f f1 f2 x y = record {
       (λ h. subst (λ (t : List Item). Contains t z) (sym y.grows) (Contains-append_left f1 y.rest z (x.entered g z h)))
       (λ h. y.entered (x.agrees g) z h)
       (Contains-append_cases a b z c);
+  places = λ space. y.places space ∙ x.places space;
 }
 
 -- those that were entered are still
@@ -166,7 +171,7 @@ module _ (v : Abstract) where
     live_one y (inr g) = (whole g.0 y g.2).0
 
     -- it wasn't marked: its group was entered behind it
-    pub enters_new : (old mid new : Used) (f f1 f2 : List Item) → Notes (x ∷ []) old mid f f1 → Notes (group_names v x) mid new f1 f2 → Enters v (x ∷ []) old new f f2
+    pub enters_new : (old mid new : MarkedItems) (f f1 f2 : List Item) → Notes (x ∷ []) old mid f f1 → Notes (group_names v x) mid new f1 f2 → Enters v (x ∷ []) old new f f2
     enters_new old mid new f f1 f2 first others = record {
       live = live_one;
       rest = both.rest;
@@ -178,6 +183,7 @@ module _ (v : Abstract) where
           (λ new. both.entered a y (Contains-append_right (x ∷ []) group y (member z y g (Contains-append_cases (x ∷ []) group z (both.named_only z new)))))
           (was_or_new f f2 both.rest both.grows z c);
       entered = λ a y c. both.entered a y (Contains-append_left (x ∷ []) group y c);
+      places = both.places;
     } where
       abbrev group : List Item
       group = group_names v x
@@ -190,7 +196,7 @@ module _ (v : Abstract) where
       member z y g (inr m) = subst (λ (ys : List Item). Contains ys y) (whole x z m).1 g
 
     -- it was marked
-    pub enters_again : (old new : Used) (f f1 : List Item) → has_mark old x ≡ true → Notes (x ∷ []) old new f f1 → Enters v (x ∷ []) old new f f1
+    pub enters_again : (old new : MarkedItems) (f f1 : List Item) → has_mark old x ≡ true → Notes (x ∷ []) old new f f1 → Enters v (x ∷ []) old new f f1
     enters_again old new f f1 was n = record {
       live = live_one;
       rest = n.rest;
@@ -202,14 +208,15 @@ module _ (v : Abstract) where
           (λ new. subst (λ (w : Item). Contains f w) (one z (n.named_only z new)) ((a x).0 was))
           (was_or_new f f1 n.rest n.grows z c)) g);
       entered = n.entered;
+      places = n.places;
     }
 
-    pub enters_marked : (old new : Used) (f f1 : List Item) (is_new : Bool) → is_new ≡ not (has_mark old x) → is_new ≡ false → Notes (x ∷ []) old new f f1 → Enters v (x ∷ []) old new f f1
+    pub enters_marked : (old new : MarkedItems) (f f1 : List Item) (is_new : Bool) → is_new ≡ not (has_mark old x) → is_new ≡ false → Notes (x ∷ []) old new f f1 → Enters v (x ∷ []) old new f f1
     enters_marked old new f f1 is_new e f_is n = enters_again old new f f1 (was_in (has_mark old x) is_new e f_is) n
 
   -- ---- nothing, and one after the other
 
-  pub enters_none : (used : Used) (before : List Item) → Enters v [] used used before before
+  pub enters_none : (used : MarkedItems) (before : List Item) → Enters v [] used used before before
   enters_none used before = record {
     live = λ x o. absurd (of_none x o);
     rest = [];
@@ -218,9 +225,10 @@ module _ (v : Abstract) where
     agrees = λ a. a;
     groups = λ a h. h;
     entered = λ a x c. absurd (Contains-none x c);
+    places = λ space. refl;
   }
 
-  pub enters_both : (a b : List Item) (u u1 u2 : Used) (f f1 f2 : List Item) → Enters v a u u1 f f1 → Enters v b u1 u2 f1 f2 → Enters v (a ++ b) u u2 f f2
+  pub enters_both : (a b : List Item) (u u1 u2 : MarkedItems) (f f1 f2 : List Item) → Enters v a u u1 f f1 → Enters v b u1 u2 f1 f2 → Enters v (a ++ b) u u2 f f2
   enters_both a b u u1 u2 f f1 f2 x y = record {
     live = λ z o. ⊎_elim (λ h. x.live z h) (λ h. y.live z h) (of_cases a b z o);
     rest = x.rest ++ y.rest;
@@ -232,23 +240,18 @@ module _ (v : Abstract) where
         (λ h. kept_in f1 f2 y.rest y.grows z (x.entered g z h))
         (λ h. y.entered (x.agrees g) z h)
         (Contains-append_cases a b z c);
+    places = λ space. y.places space ∙ x.places space;
   }
 
-  pub enters_more : (a b c : List Item) (u u1 u2 : Used) (f f1 f2 : List Item) → c ≡ a ++ b → Enters v a u u1 f f1 → Enters v b u1 u2 f1 f2 → Enters v c u u2 f f2
+  pub enters_more : (a b c : List Item) (u u1 u2 : MarkedItems) (f f1 f2 : List Item) → c ≡ a ++ b → Enters v a u u1 f f1 → Enters v b u1 u2 f1 f2 → Enters v c u u2 f f2
   enters_more a b c u u1 u2 f f1 f2 e x y = subst (λ (named : List Item). Enters v named u u2 f f2) (sym e) (enters_both a b u u1 u2 f f1 f2 x y)
 
 -- ---- nothing is marked, and nothing entered
 
-module _ (used : Used) (types : IsNothing used.types) (funcs : IsNothing used.funcs) (tables : IsNothing used.tables) (globals : IsNothing used.globals) (memories : IsNothing used.memories) (tags : IsNothing used.tags) (elements : IsNothing used.elements) (segments : IsNothing used.data_) where
-  unmarked : (x : Item) → has_mark used x ≡ false
-  unmarked (Types, i) = types i
-  unmarked (Functions, i) = funcs i
-  unmarked (Tables, i) = tables i
-  unmarked (Memories, i) = memories i
-  unmarked (Tags, i) = tags i
-  unmarked (Globals, i) = globals i
-  unmarked (Elements, i) = elements i
-  unmarked (DataSegments, i) = segments i
+pub nothing_agrees : (marks : MarkedItems) → AreUnmarked marks → Agrees marks []
+nothing_agrees marks none x = (λ h. absurd (false≢true (sym (none x) ∙ h)), λ c. absurd (Contains-none x c))
 
-  pub nothing_agrees : Agrees used []
-  nothing_agrees x = (λ h. absurd (false≢true (sym (unmarked x) ∙ h)), λ c. absurd (Contains-none x c))
+-- ---- places
+
+pub have_places : (v : Abstract) (old new : MarkedItems) → SamePlaces old new → HavePlaces v old → HavePlaces v new
+have_places v old new same have x live = subst (λ (n : ℕ). x.1 < n) (sym (same x.0)) (have x live)

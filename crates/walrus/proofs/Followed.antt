@@ -17,7 +17,9 @@ use Rattle.walrus_contents.specs.Named.{group_names}
 use Rattle.walrus_contents.specs.There.{IsSound}
 use Rattle.walrus_model.proofs.Lists.{Contains-none}
 use Rattle.walrus_contents.proofs.Groups.{group_is_written}
-use Rattle.walrus.specs.declared.passes.used.Used.{Used}
+use Rattle.walrus.specs.MarkedItems.{AreUnmarked, HavePlaces}
+use Rattle.walrus.specs.declared.passes.marks.MarkedItems.{MarkedItems}
+use Rattle.walrus.proofs.Entered.{have_places, nothing_agrees}
 use Rattle.walrus_contents.proofs.NamedLemmas.{among}
 
 -- ---- the items by their ids
@@ -34,7 +36,7 @@ pub dead_among : (v : Abstract) (xs : List ItemId) (i : ℕ) (d : ItemId) → i 
 dead_among v xs i d lt dead = (item_of (get_or xs i d), among item_of xs i d lt, dead)
 
 -- those in front stay
-pub stays : (v : Abstract) (names : List Item) (u u' : Used) (f f' : List Item) (n : ℕ) → n < length f → Enters v names u u' f f' → take (n + 1) f' ≡ take (n + 1) f
+pub stays : (v : Abstract) (names : List Item) (u u' : MarkedItems) (f f' : List Item) (n : ℕ) → n < length f → Enters v names u u' f f' → take (n + 1) f' ≡ take (n + 1) f
 stays v names u u' f f' n lt e = ap (λ (t : List Item). take (n + 1) t) e.grows ∙ take-append-le (n + 1) f e.rest (omega arith)
 
 module _ (v : Abstract) where
@@ -48,9 +50,10 @@ module _ (v : Abstract) where
   of_reached named are x (inr g) = step g.0 x (are g.0 g.1) (inl (group_is_written v g.0 x g.2))
 
   -- the first turn
-  pub follows_init : (u0 u1 : Used) (roots f : List Item) → Agrees u0 [] → Enters v roots u0 u1 [] f → ((x : Item) → IsRoot v x ↔ Contains roots x) → Follows v u1 f 0
-  follows_init u0 u1 roots f none e are = record {
+  pub follows_init : (u0 u1 : MarkedItems) (roots f : List Item) → AreUnmarked u0 → HavePlaces v u0 → Enters v roots u0 u1 [] f → ((x : Item) → IsRoot v x ↔ Contains roots x) → Follows v u1 f 0
+  follows_init u0 u1 roots f unmarked have e are = record {
     agrees = e.agrees none;
+    places = have_places v u0 u1 e.places have;
     live = λ x c. e.live x (named x c);
     reached = λ x c. of_reached roots (λ y h. root y ((are y).1 h)) x (named x c);
     rooted = λ x r. e.entered none x ((are x).0 r);
@@ -58,13 +61,16 @@ module _ (v : Abstract) where
     sound = λ x c. absurd (nothing x c);
     closed = λ x y c r. absurd (nothing x c);
   } where
+    abbrev none : Agrees u0 []
+    none = nothing_agrees u0 unmarked
+
     named : (x : Item) → Contains f x → IsOf v roots x
     named x c = e.named_only x (subst (λ (t : List Item). Contains t x) e.grows c)
 
     nothing : (x : Item) → Contains (take 0 f) x → ⊥
     nothing x c = let lt : c.0 < 0 = c.1 in omega arith
 
-  module _ (n : ℕ) (u : Used) (f : List Item) (s : Follows v u f n) where
+  module _ (n : ℕ) (u : MarkedItems) (f : List Item) (s : Follows v u f n) where
     -- ---- a turn
     module _ (x : Item) (next : take (n + 1) f ≡ take n f ++ x ∷ []) (at : Contains f x) (names : List Item) (refers : (y : Item) → Contains names y → Refers v x y) (all : (y : Item) → Refers v x y → Contains (group_names v x) y ⊎ Contains names y) where
       -- it isn't sound, or what it names isn't there
@@ -72,9 +78,10 @@ module _ (v : Abstract) where
       unsound_by (inl not_sound) = (x, s.reached x at, not_sound)
       unsound_by (inr dead) = (dead.0, step x dead.0 (s.reached x at) (refers dead.0 dead.1), λ sound. dead.2 sound.live)
 
-      pub follows_more : (u' : Used) (f' : List Item) (same : take (n + 1) f' ≡ take (n + 1) f) → IsSound v x → Enters v names u u' f f' → Follows v u' f' (n + 1)
+      pub follows_more : (u' : MarkedItems) (f' : List Item) (same : take (n + 1) f' ≡ take (n + 1) f) → IsSound v x → Enters v names u u' f f' → Follows v u' f' (n + 1)
       follows_more u' f' same is_sound e = record {
         agrees = e.agrees s.agrees;
+        places = have_places v u u' e.places s.places;
         live = λ y c. ⊎_elim (λ h. s.live y h) (λ h. e.live y (e.named_only y h)) (cases y c);
         reached = λ y c. ⊎_elim (λ h. s.reached y h) (λ h. of_reached names (λ z m. step x z (s.reached x at) (refers z m)) y (e.named_only y h)) (cases y c);
         rooted = λ y r. still y (s.rooted y r);

@@ -4,14 +4,14 @@ ghost use Rattle.std.specs.Borrow.{sem};
 ghost use Rattle.std.specs.Iterator.{YieldsFirstBy, item_count};
 ghost use Rattle.walrus_base.specs.Id.{place};
 ghost use Rattle.walrus_base.specs.Arena.{HasRoom, item_at, IsLive, items, entries, kept_by};
-ghost use Rattle.walrus_base.specs.IdSet.{has_id};
+ghost use Rattle.walrus_base.specs.Marks.{is_marked};
 ghost use Rattle.walrus_parts.specs.Errors.{out_of_memory};
 ghost use Rattle.walrus_entities.specs.Added.{IsAdded};
 ghost use Rattle.walrus_types.specs.ConstOps.{const_ops};
 ghost use Rattle.walrus_types.specs.Value.{val_type};
 
 use std::alloc;
-use walrus_base::{ArenaIter, GlobalId, GlobalKey, IdHashSet, ImportId, TombstoneArena};
+use walrus_base::{ArenaIter, GlobalId, GlobalKey, ImportId, Marks, TombstoneArena};
 use walrus_ir::{ConstExpr, ValType};
 use walrus_parts::Result;
 
@@ -183,8 +183,8 @@ impl ModuleGlobals {
     }
 
     /// Deletes every global whose id isn't in the set. The others stay, and so do all places. Takes no memory.
-    pub fn keep_only(&mut self, marks: &IdHashSet<GlobalKey>)
-        ensures { globals self.new ≡ kept_by (has_id marks.now) (globals self.old) }
+    pub fn keep_only(&mut self, marks: &Marks<GlobalKey>)
+        ensures { globals self.new ≡ kept_by (is_marked marks.now) (globals self.old) }
     {
         self.arena.keep_only(marks);
     }

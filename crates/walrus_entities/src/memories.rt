@@ -4,13 +4,13 @@ ghost use Rattle.std.specs.Borrow.{sem};
 ghost use Rattle.std.specs.Iterator.{YieldsFirstBy, item_count};
 ghost use Rattle.walrus_base.specs.Id.{place};
 ghost use Rattle.walrus_base.specs.Arena.{HasRoom, item_at, IsLive, items, entries, kept_by};
-ghost use Rattle.walrus_base.specs.IdSet.{has_id};
+ghost use Rattle.walrus_base.specs.Marks.{is_marked};
 ghost use Rattle.walrus_parts.specs.Errors.{out_of_memory};
 ghost use Rattle.walrus_entities.specs.Added.{IsAdded, no_segments};
 
 use crate::sets::no_ids;
 use std::alloc::Global;
-use walrus_base::{ArenaIter, DataKey, IdHashSet, ImportId, MemoryId, MemoryKey, TombstoneArena};
+use walrus_base::{ArenaIter, DataKey, IdHashSet, ImportId, Marks, MemoryId, MemoryKey, TombstoneArena};
 use walrus_parts::Result;
 
 /// A memory of a module.
@@ -194,8 +194,8 @@ impl ModuleMemories {
     }
 
     /// Deletes every memory whose id isn't in the set. The others stay, and so do all places. Takes no memory.
-    pub fn keep_only(&mut self, marks: &IdHashSet<MemoryKey>)
-        ensures { memories self.new ≡ kept_by (has_id marks.now) (memories self.old) }
+    pub fn keep_only(&mut self, marks: &Marks<MemoryKey>)
+        ensures { memories self.new ≡ kept_by (is_marked marks.now) (memories self.old) }
     {
         self.arena.keep_only(marks);
     }

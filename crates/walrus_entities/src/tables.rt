@@ -4,7 +4,7 @@ ghost use Rattle.std.specs.Borrow.{sem};
 ghost use Rattle.std.specs.Iterator.{YieldsFirstBy, item_count};
 ghost use Rattle.walrus_base.specs.Id.{place};
 ghost use Rattle.walrus_base.specs.Arena.{HasRoom, item_at, IsLive, items, entries, kept_by};
-ghost use Rattle.walrus_base.specs.IdSet.{has_id};
+ghost use Rattle.walrus_base.specs.Marks.{is_marked};
 ghost use Rattle.walrus_parts.specs.Errors.{out_of_memory};
 ghost use Rattle.walrus_entities.specs.Added.{IsAdded, no_segments};
 ghost use Rattle.std.specs.Result.{result_map_both};
@@ -14,7 +14,7 @@ ghost use Rattle.walrus_entities.specs.Tables.{is_function_reference};
 
 use crate::sets::no_ids;
 use std::alloc::Global;
-use walrus_base::{ArenaIter, ElementKey, IdHashSet, ImportId, TableId, TableKey, TombstoneArena};
+use walrus_base::{ArenaIter, ElementKey, IdHashSet, ImportId, Marks, TableId, TableKey, TombstoneArena};
 use walrus_ir::{AbstractHeapType, ConstExpr, HeapType, RefType};
 use walrus_parts::{Error, Result};
 
@@ -230,8 +230,8 @@ impl ModuleTables {
     }
 
     /// Deletes every table whose id isn't in the set. The others stay, and so do all places. Takes no memory.
-    pub fn keep_only(&mut self, marks: &IdHashSet<TableKey>)
-        ensures { tables self.new ≡ kept_by (has_id marks.now) (tables self.old) }
+    pub fn keep_only(&mut self, marks: &Marks<TableKey>)
+        ensures { tables self.new ≡ kept_by (is_marked marks.now) (tables self.old) }
     {
         self.arena.keep_only(marks);
     }

@@ -4,12 +4,12 @@ ghost use Rattle.std.specs.Borrow.{sem};
 ghost use Rattle.std.specs.Iterator.{YieldsFirstBy, item_count};
 ghost use Rattle.walrus_base.specs.Id.{place};
 ghost use Rattle.walrus_base.specs.Arena.{HasRoom, item_at, IsLive, items, entries, kept_by};
-ghost use Rattle.walrus_base.specs.IdSet.{has_id};
+ghost use Rattle.walrus_base.specs.Marks.{is_marked};
 ghost use Rattle.walrus_parts.specs.Errors.{out_of_memory};
 ghost use Rattle.walrus_entities.specs.Added.{IsAdded};
 
 use std::alloc::Global;
-use walrus_base::{ArenaIter, IdHashSet, ImportId, TagId, TagKey, TombstoneArena, TypeId};
+use walrus_base::{ArenaIter, ImportId, Marks, TagId, TagKey, TombstoneArena, TypeId};
 use walrus_parts::Result;
 
 /// Where a tag comes from.
@@ -172,8 +172,8 @@ impl ModuleTags {
     }
 
     /// Deletes every tag whose id isn't in the set. The others stay, and so do all places. Takes no memory.
-    pub fn keep_only(&mut self, marks: &IdHashSet<TagKey>)
-        ensures { tags self.new ≡ kept_by (has_id marks.now) (tags self.old) }
+    pub fn keep_only(&mut self, marks: &Marks<TagKey>)
+        ensures { tags self.new ≡ kept_by (is_marked marks.now) (tags self.old) }
     {
         self.arena.keep_only(marks);
     }

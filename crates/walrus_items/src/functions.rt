@@ -4,7 +4,7 @@ ghost use Rattle.std.specs.Borrow.{sem};
 ghost use Rattle.std.specs.Iterator.{YieldsFirstBy, item_count};
 ghost use Rattle.walrus_base.specs.Id.{place};
 ghost use Rattle.walrus_base.specs.Arena.{HasRoom, item_at, IsLive, items, entries, kept_by};
-ghost use Rattle.walrus_base.specs.IdSet.{has_id};
+ghost use Rattle.walrus_base.specs.Marks.{is_marked};
 ghost use Rattle.walrus_parts.specs.Errors.{out_of_memory};
 ghost use Rattle.walrus_items.specs.Seen.{text_of, text_is};
 ghost use Rattle.walrus_items.specs.Searches.{first};
@@ -12,9 +12,7 @@ ghost use Rattle.walrus_items.specs.declared.functions.FunctionKind.TheVariants.
 
 use std::alloc::{AllocError, Global};
 use std::result;
-use walrus_base::{
-    ArenaIter, FunctionId, FunctionKey, IdHashSet, ImportId, TombstoneArena, TypeId,
-};
+use walrus_base::{ArenaIter, FunctionId, FunctionKey, ImportId, Marks, TombstoneArena, TypeId};
 use walrus_ir::LocalFunction;
 use walrus_parts::Result;
 
@@ -256,8 +254,8 @@ impl ModuleFunctions {
     }
 
     /// Deletes every function whose id isn't in the set. The others stay, and so do all places. Takes no memory.
-    pub fn keep_only(&mut self, marks: &IdHashSet<FunctionKey>)
-        ensures { functions self.new ≡ kept_by (has_id marks.now) (functions self.old) }
+    pub fn keep_only(&mut self, marks: &Marks<FunctionKey>)
+        ensures { functions self.new ≡ kept_by (is_marked marks.now) (functions self.old) }
     {
         self.arena.keep_only(marks);
     }

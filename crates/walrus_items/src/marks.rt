@@ -3,21 +3,21 @@ ghost use Rattle.std.specs.Prelude.{◌≡◌};
 ghost use Rattle.walrus_items.specs.Marks.{has_item};
 
 use crate::imports::ImportKind;
-use walrus_base::{FunctionKey, GlobalKey, IdHashSet, MemoryKey, TableKey, TagKey};
+use walrus_base::{FunctionKey, GlobalKey, Marks, MemoryKey, TableKey, TagKey};
 
 /// The items that stay of those that an import can bring, by kind.
 #[derive(Clone, Copy)]
 pub struct ItemMarks<'a> {
     /// The functions.
-    pub funcs: &'a IdHashSet<FunctionKey>,
+    pub funcs: &'a Marks<FunctionKey>,
     /// The tables.
-    pub tables: &'a IdHashSet<TableKey>,
+    pub tables: &'a Marks<TableKey>,
     /// The memories.
-    pub memories: &'a IdHashSet<MemoryKey>,
+    pub memories: &'a Marks<MemoryKey>,
     /// The globals.
-    pub globals: &'a IdHashSet<GlobalKey>,
+    pub globals: &'a Marks<GlobalKey>,
     /// The tags.
-    pub tags: &'a IdHashSet<TagKey>,
+    pub tags: &'a Marks<TagKey>,
 }
 
 impl<'a> ItemMarks<'a> {
@@ -28,11 +28,11 @@ impl<'a> ItemMarks<'a> {
         ensures { result ≡ has_item self.entry (imported kind) }
     {
         match kind {
-            ImportKind::Function(id) => self.funcs.contains(id),
-            ImportKind::Table(id) => self.tables.contains(id),
-            ImportKind::Memory(id) => self.memories.contains(id),
-            ImportKind::Global(id) => self.globals.contains(id),
-            ImportKind::Tag(id) => self.tags.contains(id),
+            ImportKind::Function(id) => self.funcs.is_marked(id),
+            ImportKind::Table(id) => self.tables.is_marked(id),
+            ImportKind::Memory(id) => self.memories.is_marked(id),
+            ImportKind::Global(id) => self.globals.is_marked(id),
+            ImportKind::Tag(id) => self.tags.is_marked(id),
         }
     }
 }

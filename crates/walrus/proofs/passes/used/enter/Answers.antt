@@ -15,9 +15,10 @@ returns c =
     let whole : GroupsAreWhole v = groups_whole (lent c.args.parts) c.groups_are_whole.ensures in
     let live : IsLive v x = search rules in
     let noted = c.in_ok-note.ensures in
-    let old = c.args.used.now in
+    let old = c.args.marks.now in
+    let mid = c.note.new.marks in
     let before = items_in c.args.found.now in
     elim c.if-branch.branch [
-      | then-branch+in_ok-note_group w ↦ ?
-      | else-branch w ↦ ?
+      | then-branch+in_ok-note_group w ↦ rw (w.found-is, w.marks-is) (enters_new v whole x live old mid w.note_group.new.marks before (items_in c.note.new.found) (items_in w.note_group.new.found) noted.1 w.in_ok-note_group.ensures)
+      | else-branch w ↦ rw (w.found-is, w.marks-is) (enters_marked v whole x live old mid before (items_in c.note.new.found) c.in_ok-note.field-0 noted.0 w.if-branch.false noted.1)
     ]

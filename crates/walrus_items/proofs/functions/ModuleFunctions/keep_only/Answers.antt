@@ -1,10 +1,10 @@
 use Rattle.std.proofs.Common.{ap, ◌∙◌}
 use Rattle.walrus_base.specs.Arena.{slots}
-use Rattle.walrus_base.specs.IdSet.{has_id}
+use Rattle.walrus_base.specs.Marks.{is_marked}
 use Rattle.walrus_base.proofs.Kept.{map-kept_by}
 use Rattle.walrus_items.specs.Functions.{function_value}
 use Rattle.walrus_items.specs.Seen.{seen}
 use Rattle.walrus_items.proofs.functions.ModuleFunctions.keep_only.Goals as goal
 
 pub returns : goal.returns
-returns c = ap (λ s. seen function_value s) c.keep_only.ensures.kept ∙ map-kept_by function_value (has_id c.args.marks.now) (slots c.args.self.now.arena)
+returns c = ap (λ s. seen function_value s) c.keep_only.ensures.kept ∙ map-kept_by function_value (is_marked c.args.marks.now) (slots c.args.self.now.arena)
