@@ -7,9 +7,8 @@ use Rattle.std.proofs.lemmas.List.{length-map}
 use Rattle.std.proofs.lemmas.List.Elements.{Contains-append_left}
 use Rattle.walrus_base.specs.Arena.{item_at, kept_by}
 use Rattle.walrus_base.specs.Id.{place}
-use Rattle.walrus_base.specs.IdSet.{HasId, has_id}
-use Rattle.walrus_base.specs.declared.keys.TypeKey.{TypeKey}
-use Rattle.walrus_base.specs.declared.set.IdHashSet.{IdHashSet}
+use Rattle.walrus_base.specs.Marks.{is_marked}
+use Rattle.walrus_base.specs.declared.marks.Marks.{Marks}
 use Rattle.walrus_base.proofs.Kept.{kept_marked, kept_there, kept_was}
 use Rattle.walrus_base.specs.Types.{sub_names}
 use Rattle.walrus_types.specs.ModuleTypes.{type_slots}
@@ -33,8 +32,9 @@ use Rattle.walrus_items.specs.Tags.{tags as tags_in, ModuleTags}
 use Rattle.walrus_contents.specs.View.{contents_view, global_of, import_of, memory_of, table_of, tag_of}
 use Rattle.walrus_contents.specs.declared.parts.Contents.{Contents}
 use Rattle.walrus_contents.proofs.Lookups.{mapped_some}
-use Rattle.walrus.specs.Marked.{IsMarked, MarksKept}
-use Rattle.walrus.specs.declared.passes.used.Used.{Used}
+use Rattle.walrus.specs.Marked.{MarksAreKept}
+use Rattle.walrus.specs.MarkedItems.{has_mark}
+use Rattle.walrus.specs.declared.passes.marks.MarkedItems.{MarkedItems}
 use Rattle.walrus_model.specs.Abstract.{Abstract, Import}
 use Rattle.walrus_model.specs.Kept.{IsImportOf, Kept}
 use Rattle.walrus_model.specs.Pipeline.{Collected, KeepsOnly}
@@ -49,11 +49,11 @@ length-kept_by keeps [] = refl
 length-kept_by keeps (x ∷ xs) = ap suc (length-kept_by (λ n. keeps (suc n)) xs)
 
 -- what is left where only the marked ones are kept
-pub keeps_only : {K X : Type 0} (marks : IdHashSet K) (Q : ℕ → Type 0) → ((i : ℕ) → HasId marks i ↔ Q i) → (old new : List (Option X)) → new ≡ kept_by (has_id marks) old → slots.KeepsOnly Q old new
-keeps_only {K} {X} marks Q same old new is = subst (λ (s : List (Option X)). slots.KeepsOnly Q old s) (sym is) (record {
-  kept = λ i q. kept_there (has_id marks) old i ((same i).1 q);
-  left = λ i x h. ((same i).0 (kept_marked (has_id marks) old i x h), kept_was (has_id marks) old i x h);
-  places = length-kept_by (has_id marks) old;
+pub keeps_only : {X : Type 0} (keeps : ℕ → Bool) (Q : ℕ → Type 0) → ((i : ℕ) → (keeps i ≡ true) ↔ Q i) → (old new : List (Option X)) → new ≡ kept_by keeps old → slots.KeepsOnly Q old new
+keeps_only {X} keeps Q same old new is = subst (λ (s : List (Option X)). slots.KeepsOnly Q old s) (sym is) (record {
+  kept = λ i q. kept_there keeps old i ((same i).1 q);
+  left = λ i x h. ((same i).0 (kept_marked keeps old i x h), kept_was keeps old i x h);
+  places = length-kept_by keeps old;
 })
 
 has_contains : (g : List ℕ) (p : ℕ) → has g p ≡ true → Contains g p
@@ -87,9 +87,9 @@ keeps_groups old i q x at (inl reached) g =
 keeps_groups old i q x at (inr spare) g = let apart : Types ≡ Memories = ap (λ (y : Item). y.0) spare.is in absurd (cc)
 
 -- the marked types are groups that are whole
-pub marks_groups : (old : Contents) (marks : IdHashSet TypeKey)
-    → ((t : ℕ) → HasId marks t ↔ Kept (contents_view old) (Types, t)) → KeepsGroups (has_id marks) (type_slots old.types)
-marks_groups old marks same t x at marked p g = (same p).1 (keeps_groups old t p x at ((same t).0 marked) g)
+pub marks_groups : (old : Contents) (keeps : ℕ → Bool)
+    → ((t : ℕ) → (keeps t ≡ true) ↔ Kept (contents_view old) (Types, t)) → KeepsGroups keeps (type_slots old.types)
+marks_groups old keeps same t x at marked p g = (same p).1 (keeps_groups old t p x at ((same t).0 marked) g)
 
 -- ---- imports
 
@@ -116,15 +116,15 @@ length-kept_where : {T : Type 0} (stays : T → Bool) (xs : List (Option T)) →
 length-kept_where stays xs = length-map xs (kept_slot stays)
 
 -- the marks of those kinds that an import can bring
-pub record MarksThose (m : ItemMarks) (used : Used) : Type 0 where
+pub record MarksThose (m : ItemMarks) (used : MarkedItems) : Type 0 where
   pub funcs : m.funcs.now ≡ used.funcs
   pub tables : m.tables.now ≡ used.tables
   pub memories : m.memories.now ≡ used.memories
   pub globals : m.globals.now ≡ used.globals
   pub tags : m.tags.now ≡ used.tags
 
--- the marks that read these sets, wherever the sets lie
-abbrev pub marks_of : Used → ItemMarks
+-- the marks of these kinds, wherever they lie
+abbrev pub marks_of : MarkedItems → ItemMarks
 marks_of used = record {
   funcs = record { ref_ptr = (0, 0); now = used.funcs };
   tables = record { ref_ptr = (0, 0); now = used.tables };
@@ -133,11 +133,11 @@ marks_of used = record {
   tags = record { ref_ptr = (0, 0); now = used.tags };
 }
 
-one_set : {K : Type 0} (a b : IdHashSet K) (i : ℕ) → a ≡ b → (has_id a i ≡ true) ↔ HasId b i
-one_set {K} a b i e = (λ h. subst (λ (s : IdHashSet K). has_id s i ≡ true) e h, λ h. subst (λ (s : IdHashSet K). has_id s i ≡ true) (sym e) h)
+one_set : {K : Type 0} (a b : Marks K) (i : ℕ) → a ≡ b → (is_marked a i ≡ true) ↔ (is_marked b i ≡ true)
+one_set {K} a b i e = (λ h. subst (λ (s : Marks K). is_marked s i ≡ true) e h, λ h. subst (λ (s : Marks K). is_marked s i ≡ true) (sym e) h)
 
--- what is imported is marked exactly where it is in the set of its kind
-marks_same : (m : ItemMarks) (used : Used) → MarksThose m used → (k : ImportKind) → (has_item m (imported k) ≡ true) ↔ IsMarked used (imported k)
+-- what is imported is marked exactly where it is among the marks of its kind
+marks_same : (m : ItemMarks) (used : MarkedItems) → MarksThose m used → (k : ImportKind) → (has_item m (imported k) ≡ true) ↔ (has_mark used (imported k) ≡ true)
 marks_same m used t (imports.Function f) = one_set m.funcs.now used.funcs (place f) t.funcs
 marks_same m used t (imports.Table i) = one_set m.tables.now used.tables (place i) t.tables
 marks_same m used t (imports.Memory i) = one_set m.memories.now used.memories (place i) t.memories
@@ -145,7 +145,7 @@ marks_same m used t (imports.Global i) = one_set m.globals.now used.globals (pla
 marks_same m used t (imports.Tag i) = one_set m.tags.now used.tags (place i) t.tags
 
 -- the imports of what is kept stay, and no others
-module _ (held : Contents) (used : Used) (marked : MarksKept (contents_view held) used) (marks : ItemMarks) (are : MarksThose marks used) where
+module _ (held : Contents) (used : MarkedItems) (marked : MarksAreKept (contents_view held) used) (marks : ItemMarks) (are : MarksThose marks used) where
   abbrev V : Abstract
   V = contents_view held
 
@@ -171,7 +171,7 @@ module _ (held : Contents) (used : Used) (marked : MarksKept (contents_view held
   })
 
 -- the same, where the marks are told by what was kept
-pub imports_left : (held : Contents) (used : Used) → MarksKept (contents_view held) used → (marks : ItemMarks) (new : List (Option ImportValue))
+pub imports_left : (held : Contents) (used : MarkedItems) → MarksAreKept (contents_view held) used → (marks : ItemMarks) (new : List (Option ImportValue))
     → new ≡ kept_where (stays_under marks) (imports_in held.imports) → MarksThose marks used
     → slots.KeepsOnly (IsImportOf (Kept (contents_view held)) (contents_view held)) (imports_in held.imports) new
 imports_left held used marked marks new is are = imports_kept held used marked marks are new is

@@ -12,9 +12,14 @@ use Rattle.walrus_model.specs.Reached.{Reached, root, step}
 use Rattle.walrus_model.specs.Refers.{Refers}
 use Rattle.walrus_model.specs.Roots.{IsRoot}
 use Rattle.walrus.specs.Marked.{ReachesUnsound}
-use Rattle.walrus.specs.Used.{Agrees, Enters, Followed, Follows, NamesDead}
+use Rattle.walrus.specs.Used.{Agrees, Enters, Followed, Follows, IsOf, NamesDead}
+use Rattle.walrus_contents.specs.Named.{group_names}
 use Rattle.walrus_contents.specs.There.{IsSound}
-use Rattle.walrus.specs.declared.passes.used.Used.{Used}
+use Rattle.walrus_model.proofs.Lists.{Contains-none}
+use Rattle.walrus_contents.proofs.Groups.{group_is_written}
+use Rattle.walrus.specs.MarkedItems.{AreUnmarked, HavePlaces}
+use Rattle.walrus.specs.declared.passes.marks.MarkedItems.{MarkedItems}
+use Rattle.walrus.proofs.Entered.{have_places, nothing_agrees}
 use Rattle.walrus_contents.proofs.NamedLemmas.{among}
 
 -- ---- the items by their ids
@@ -31,7 +36,7 @@ pub dead_among : (v : Abstract) (xs : List ItemId) (i : ℕ) (d : ItemId) → i 
 dead_among v xs i d lt dead = (item_of (get_or xs i d), among item_of xs i d lt, dead)
 
 -- those in front stay
-pub stays : (v : Abstract) (names : List Item) (u u' : Used) (f f' : List Item) (n : ℕ) → n < length f → Enters v names u u' f f' → take (n + 1) f' ≡ take (n + 1) f
+pub stays : (v : Abstract) (names : List Item) (u u' : MarkedItems) (f f' : List Item) (n : ℕ) → n < length f → Enters v names u u' f f' → take (n + 1) f' ≡ take (n + 1) f
 stays v names u u' f f' n lt e = ap (λ (t : List Item). take (n + 1) t) e.grows ∙ take-append-le (n + 1) f e.rest (omega arith)
 
 module _ (v : Abstract) where
@@ -39,40 +44,52 @@ module _ (v : Abstract) where
   pub unsound_root : (roots : List Item) → ((x : Item) → IsRoot v x ↔ Contains roots x) → NamesDead v roots → ReachesUnsound v
   unsound_root roots are dead = (dead.0, root dead.0 ((are dead.0).1 dead.1), λ sound. dead.2 sound.live)
 
+  -- where all that is named is reached, so are the members of its groups
+  of_reached : (named : List Item) → ((x : Item) → Contains named x → Reached v x) → (x : Item) → IsOf v named x → Reached v x
+  of_reached named are x (inl c) = are x c
+  of_reached named are x (inr g) = step g.0 x (are g.0 g.1) (inl (group_is_written v g.0 x g.2))
+
   -- the first turn
-  pub follows_init : (u0 u1 : Used) (roots f : List Item) → Agrees u0 [] → Enters v roots u0 u1 [] f → ((x : Item) → IsRoot v x ↔ Contains roots x) → Follows v u1 f 0
-  follows_init u0 u1 roots f none e are = record {
+  pub follows_init : (u0 u1 : MarkedItems) (roots f : List Item) → AreUnmarked u0 → HavePlaces v u0 → Enters v roots u0 u1 [] f → ((x : Item) → IsRoot v x ↔ Contains roots x) → Follows v u1 f 0
+  follows_init u0 u1 roots f unmarked have e are = record {
     agrees = e.agrees none;
+    places = have_places v u0 u1 e.places have;
     live = λ x c. e.live x (named x c);
-    reached = λ x c. root x ((are x).1 (named x c));
+    reached = λ x c. of_reached roots (λ y h. root y ((are y).1 h)) x (named x c);
     rooted = λ x r. e.entered none x ((are x).0 r);
+    groups = e.groups none (λ x y c. absurd (Contains-none x c));
     sound = λ x c. absurd (nothing x c);
     closed = λ x y c r. absurd (nothing x c);
   } where
-    named : (x : Item) → Contains f x → Contains roots x
+    abbrev none : Agrees u0 []
+    none = nothing_agrees u0 unmarked
+
+    named : (x : Item) → Contains f x → IsOf v roots x
     named x c = e.named_only x (subst (λ (t : List Item). Contains t x) e.grows c)
 
     nothing : (x : Item) → Contains (take 0 f) x → ⊥
     nothing x c = let lt : c.0 < 0 = c.1 in omega arith
 
-  module _ (n : ℕ) (u : Used) (f : List Item) (s : Follows v u f n) where
+  module _ (n : ℕ) (u : MarkedItems) (f : List Item) (s : Follows v u f n) where
     -- ---- a turn
-    module _ (x : Item) (next : take (n + 1) f ≡ take n f ++ x ∷ []) (at : Contains f x) (names : List Item) (all : (y : Item) → Refers v x y ↔ Contains names y) where
+    module _ (x : Item) (next : take (n + 1) f ≡ take n f ++ x ∷ []) (at : Contains f x) (names : List Item) (refers : (y : Item) → Contains names y → Refers v x y) (all : (y : Item) → Refers v x y → Contains (group_names v x) y ⊎ Contains names y) where
       -- it isn't sound, or what it names isn't there
       pub unsound_by : (IsSound v x → ⊥) ⊎ NamesDead v names → ReachesUnsound v
       unsound_by (inl not_sound) = (x, s.reached x at, not_sound)
-      unsound_by (inr dead) = (dead.0, step x dead.0 (s.reached x at) ((all dead.0).1 dead.1), λ sound. dead.2 sound.live)
+      unsound_by (inr dead) = (dead.0, step x dead.0 (s.reached x at) (refers dead.0 dead.1), λ sound. dead.2 sound.live)
 
-      pub follows_more : (u' : Used) (f' : List Item) (same : take (n + 1) f' ≡ take (n + 1) f) → IsSound v x → Enters v names u u' f f' → Follows v u' f' (n + 1)
+      pub follows_more : (u' : MarkedItems) (f' : List Item) (same : take (n + 1) f' ≡ take (n + 1) f) → IsSound v x → Enters v names u u' f f' → Follows v u' f' (n + 1)
       follows_more u' f' same is_sound e = record {
         agrees = e.agrees s.agrees;
+        places = have_places v u u' e.places s.places;
         live = λ y c. ⊎_elim (λ h. s.live y h) (λ h. e.live y (e.named_only y h)) (cases y c);
-        reached = λ y c. ⊎_elim (λ h. s.reached y h) (λ h. step x y (s.reached x at) ((all y).1 (e.named_only y h))) (cases y c);
+        reached = λ y c. ⊎_elim (λ h. s.reached y h) (λ h. of_reached names (λ z m. step x z (s.reached x at) (refers z m)) y (e.named_only y h)) (cases y c);
         rooted = λ y r. still y (s.rooted y r);
+        groups = e.groups s.agrees s.groups;
         sound = λ y c. ⊎_elim (λ h. s.sound y h) (λ (same : x ≡ y). subst (λ (z : Item). IsSound v z) same is_sound) (taken y c);
         closed = λ y z c r. ⊎_elim
             (λ h. still z (s.closed y z h r))
-            (λ (same : x ≡ y). e.entered s.agrees z ((all z).0 (subst (λ (w : Item). Refers v w z) (sym same) r)))
+            (λ (same : x ≡ y). ⊎_elim (λ g. still z (s.groups x z at g)) (λ own. e.entered s.agrees z own) (all z (subst (λ (w : Item). Refers v w z) (sym same) r)))
             (taken y c);
       } where
         still : (y : Item) → Contains f y → Contains f' y

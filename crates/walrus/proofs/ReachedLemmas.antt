@@ -1,5 +1,5 @@
 -- What a search for used items finds is what the abstract module says is reached, kept and sound.
-use Rattle.std.proofs.Common.{◌≡◌, inl, inr, ⊎_elim, true, map, sym, ap, ◌∙◌, subst}
+use Rattle.std.proofs.Common.{◌≡◌, ℕ, ◌⊎◌, inl, inr, ⊎_elim, Bool, true, map, sym, ap, ◌∙◌, subst}
 use Rattle.std.specs.Prelude.{◌↔◌, Contains, Result, Ok, Err, IfOk, IfErr, OnOk, MatchResult}
 use Rattle.std.proofs.lemmas.Bool.{false≢true}
 use Rattle.std.proofs.lemmas.Option.{none-some}
@@ -10,7 +10,7 @@ use Rattle.walrus_items.specs.Exports.{ExportValue, exported, exports}
 use Rattle.walrus_model.specs.Abstract as abstract
 use Rattle.walrus_model.specs.Kept.{Kept}
 use Rattle.walrus_model.specs.Reached.{Reached}
-use Rattle.walrus_model.specs.Refers.{KeepsToo, Refers, written_in}
+use Rattle.walrus_model.specs.Refers.{KeepsToo, Refers}
 use Rattle.walrus_model.specs.Roots.{IsRoot, exported as is_exported, start, data_segment, element_segment, asked_for}
 use Rattle.walrus_model.proofs.Lists.{Contains-map, Contains-none}
 use Rattle.walrus_model.proofs.Reach.{Contains-unmap}
@@ -18,26 +18,22 @@ use Rattle.walrus_contents.specs.View.{contents_view}
 use Rattle.walrus_contents.specs.declared.parts.Contents.{Contents}
 use Rattle.walrus_module.specs.View.{export_of}
 use Rattle.walrus_parts.specs.declared.error.Error.{Error}
-use Rattle.walrus.specs.Marked.{IsMarked, MarksKept, ReachesSound, ReachesUnsound}
-use Rattle.walrus_contents.specs.Named.{all_names, export_names, kept_types}
-use Rattle.walrus.specs.Used.{Followed, IsRefusal, has_mark}
+use Rattle.walrus_base.specs.IdSet.{has_id}
+use Rattle.walrus_base.specs.Marks.{is_marked}
+use Rattle.walrus_base.specs.declared.marks.Marks.{Marks}
+use Rattle.walrus_base.specs.declared.set.IdHashSet.{IdHashSet}
+use Rattle.walrus.specs.Marked.{HoldsMarked, MarksAreKept, MarksKept, ReachesSound, ReachesUnsound}
+use Rattle.walrus_contents.specs.Named.{export_names, group_names, kept_types, own_names, own_written}
+use Rattle.walrus_contents.proofs.Groups.{own_is_written, written_split}
+use Rattle.walrus.specs.Used.{Followed, IsRefusal}
+use Rattle.walrus.specs.declared.passes.marks.MarkedItems.{MarkedItems}
 use Rattle.walrus.specs.declared.passes.used.Used.{Used}
-
-is_marked : (used : Used) (x : Item) → IsMarked used x ↔ (has_mark used x ≡ true)
-is_marked used (Types, i) = (λ h. h, λ h. h)
-is_marked used (Functions, i) = (λ h. h, λ h. h)
-is_marked used (Tables, i) = (λ h. h, λ h. h)
-is_marked used (Memories, i) = (λ h. h, λ h. h)
-is_marked used (Tags, i) = (λ h. h, λ h. h)
-is_marked used (Globals, i) = (λ h. h, λ h. h)
-is_marked used (Elements, i) = (λ h. h, λ h. h)
-is_marked used (DataSegments, i) = (λ h. h, λ h. h)
 
 module _ (held : Contents) where
   abbrev v : abstract.Abstract
   v = contents_view held
 
-  -- ---- what an item refers to is what it names
+  -- ---- what an item refers to
 
   kept_too : (x y : Item) → KeepsToo v x y → Contains (kept_types v x) y
   kept_too (Functions, f) y too = subst (λ (z : Item). Contains (map type_item (v.handler_types f)) z) (sym too.2) (Contains-map type_item too.0 (v.handler_types f) too.1)
@@ -59,11 +55,14 @@ module _ (held : Contents) where
   too_kept (Elements, i) y c = absurd (Contains-none y c)
   too_kept (DataSegments, i) y c = absurd (Contains-none y c)
 
-  pub names_are : (x y : Item) → Refers v x y ↔ Contains (all_names v x) y
-  names_are x y = (
-    ⊎_elim (λ c. Contains-append_left (written_in v x) (kept_types v x) y c) (λ too. Contains-append_right (written_in v x) (kept_types v x) y (kept_too x y too)),
-    λ c. ⊎_elim (λ h. inl h) (λ h. inr (too_kept x y h)) (Contains-append_cases (written_in v x) (kept_types v x) y c),
-  )
+  -- what an item names itself it refers to
+  pub own_referred : (x y : Item) → Contains (own_names v x) y → Refers v x y
+  own_referred x y c = ⊎_elim (λ h. inl (own_is_written v x y h)) (λ h. inr (too_kept x y h)) (Contains-append_cases (own_written v x) (kept_types v x) y c)
+
+  -- what it refers to is a member of its group, or named by it
+  pub refers_split : (x y : Item) → Refers v x y → Contains (group_names v x) y ⊎ Contains (own_names v x) y
+  refers_split x y (inl c) = ⊎_elim (λ g. inl g) (λ h. inr (Contains-append_left (own_written v x) (kept_types v x) y h)) (written_split v x y c)
+  refers_split x y (inr too) = inr (Contains-append_right (own_written v x) (kept_types v x) y (kept_too x y too))
 
   -- ---- the roots are what the exports name
 
@@ -88,21 +87,44 @@ module _ (held : Contents) where
   -- ---- the clauses of the search
 
   -- no data is reached, so that no memory stays with it
-  kept_reached : (used : Used) → Followed v used → (x : Item) → Kept v x → Reached v x
-  kept_reached used f x (inl h) = h
-  kept_reached used f x (inr s) = absurd (false≢true (f.sound (DataSegments, s.segment) s.data_is_reached).live)
+  kept_reached : (marks : MarkedItems) → Followed v marks → (x : Item) → Kept v x → Reached v x
+  kept_reached marks f x (inl h) = h
+  kept_reached marks f x (inr s) = absurd (false≢true (f.sound (DataSegments, s.segment) s.data_is_reached).live)
 
-  marks_kept : (used : Used) → Followed v used → MarksKept v used
-  marks_kept used f x = (λ h. inl ((f.marked x).0 ((is_marked used x).0 h)), λ k. (is_marked used x).1 ((f.marked x).1 (kept_reached used f x k)))
+  marks_kept : (marks : MarkedItems) → Followed v marks → MarksAreKept v marks
+  marks_kept marks f x = (λ h. inl ((f.marked x).0 h), λ k. (f.marked x).1 (kept_reached marks f x k))
 
-  pub kept_by : (r : Result Used Error) → MatchResult r (Followed v) (IsRefusal (ReachesUnsound v)) → IfOk r (λ used. MarksKept v used)
-  kept_by (Ok used) f = marks_kept used f
+  pub kept_by : (r : Result MarkedItems Error) → MatchResult r (Followed v) (IsRefusal (ReachesUnsound v)) → IfOk r (MarksAreKept v)
+  kept_by (Ok marks) f = marks_kept marks f
   kept_by (Err e) f = tt
 
-  pub sound_by : (r : Result Used Error) → MatchResult r (Followed v) (IsRefusal (ReachesUnsound v)) → OnOk r (ReachesSound v)
-  sound_by (Ok used) f = f.sound
+  pub sound_by : (r : Result MarkedItems Error) → MatchResult r (Followed v) (IsRefusal (ReachesUnsound v)) → OnOk r (ReachesSound v)
+  sound_by (Ok marks) f = f.sound
   sound_by (Err e) f = tt
 
-  pub refused_by : (r : Result Used Error) → MatchResult r (Followed v) (IsRefusal (ReachesUnsound v)) → IfErr r (IsRefusal (ReachesUnsound v))
-  refused_by (Ok used) f = tt
+  pub refused_by : (r : Result MarkedItems Error) → MatchResult r (Followed v) (IsRefusal (ReachesUnsound v)) → IfErr r (IsRefusal (ReachesUnsound v))
+  refused_by (Ok marks) f = tt
   refused_by (Err e) h = h
+
+-- the sets of what is marked are those of what is kept
+pub sets_kept : (v : abstract.Abstract) (marks : MarkedItems) (used : Used) → MarksAreKept v marks → HoldsMarked marks used → MarksKept v used
+sets_kept v marks used are hold x = (λ h. (are x).0 ((hold x).0 h), λ k. (hold x).1 ((are x).1 k))
+
+-- the sets hold what is marked, where each holds what is marked of its kind
+module _ (marks : MarkedItems) (used : Used) where
+  abbrev Same : {K : Type 0} → IdHashSet K → Marks K → Type 0
+  Same ids of_kind = (p : ℕ) → has_id ids p ≡ is_marked of_kind p
+
+  one_kind : (a b : Bool) → a ≡ b → (a ≡ true) ↔ (b ≡ true)
+  one_kind a b e = (λ h. sym e ∙ h, λ h. e ∙ h)
+
+  pub sets_hold : Same used.types marks.types → Same used.funcs marks.funcs → Same used.tables marks.tables → Same used.memories marks.memories
+      → Same used.tags marks.tags → Same used.globals marks.globals → Same used.elements marks.elements → Same used.data_ marks.data_ → HoldsMarked marks used
+  sets_hold types funcs tables memories tags globals elements data_ (Types, i) = one_kind _ _ (types i)
+  sets_hold types funcs tables memories tags globals elements data_ (Functions, i) = one_kind _ _ (funcs i)
+  sets_hold types funcs tables memories tags globals elements data_ (Tables, i) = one_kind _ _ (tables i)
+  sets_hold types funcs tables memories tags globals elements data_ (Memories, i) = one_kind _ _ (memories i)
+  sets_hold types funcs tables memories tags globals elements data_ (Tags, i) = one_kind _ _ (tags i)
+  sets_hold types funcs tables memories tags globals elements data_ (Globals, i) = one_kind _ _ (globals i)
+  sets_hold types funcs tables memories tags globals elements data_ (Elements, i) = one_kind _ _ (elements i)
+  sets_hold types funcs tables memories tags globals elements data_ (DataSegments, i) = one_kind _ _ (data_ i)

@@ -8,3 +8,4 @@ pub mod Used
 pub mod Collected
 pub mod Headline
 pub mod Marked
+pub mod MarkedItems

@@ -1,6 +1,7 @@
 //! What works on whole modules.
 
 pub mod gc;
+mod marks;
 pub mod used;
 
 pub use used::Used;

@@ -10,3 +10,4 @@ pub mod TypeLists
 pub mod Named
 pub mod NamedFound
 pub mod ConstNames
+pub mod Groups

@@ -1,5 +1,5 @@
 -- Where each item is whole, and what is exported is there, nothing that is named is missing; and where nothing is, all is there.
-use Rattle.std.proofs.Common.{◌≡◌, ℕ, ◌<◌, ◌+◌, List, ◌∷◌, length, map, take, get_or, Some, None, sym, ap, ◌∙◌, subst, refl}
+use Rattle.std.proofs.Common.{◌≡◌, ℕ, ◌<◌, ◌+◌, List, ◌∷◌, length, map, take, get_or, Some, None, sym, ap, ◌∙◌, subst, refl, ⊎_elim}
 use Rattle.std.proofs.lemmas.Bool.{false≢true}
 use Rattle.std.specs.Prelude.{Option, IsSome, Contains, option_map, Result, MatchResult}
 use Rattle.walrus_base.specs.Arena.{item_at, items}
@@ -16,11 +16,12 @@ use Rattle.walrus_model.specs.Refers.{named_by, written_in, type_names, function
 use Rattle.walrus_model.proofs.Lists.{Contains-map, Contains-none}
 use Rattle.walrus_model.proofs.Reach.{Contains-unmap}
 use Rattle.walrus_parts.specs.declared.error.Error.{Error}
-use Rattle.walrus_contents.specs.Named.{export_names}
+use Rattle.walrus_contents.specs.Named.{export_names, own_written}
 use Rattle.walrus_contents.specs.There.{AreLive, AreWhole, ImportsAreLive, IsRefusal, IsSound, IsThere, IsUnsound, IsWhole, NoBody, NoLocal, OneIsDead}
 use Rattle.walrus_items.specs.Imports.{ImportValue, imported}
 use Rattle.walrus_contents.specs.View.{contents_view, export_of, import_of}
 use Rattle.walrus_contents.specs.declared.parts.Contents.{Contents}
+use Rattle.walrus_contents.proofs.Groups.{GroupsAreWhole, own_is_written, written_split}
 use Rattle.walrus_contents.proofs.Lookups.{mapped_some}
 use Rattle.walrus_contents.proofs.NamedLemmas.{among, result_map, row_more, same_some, some_none}
 use Rattle.walrus_contents.proofs.Walked.{Walked, next_there, walk_goes}
@@ -66,12 +67,15 @@ pub unsound_dead : (v : Abstract) (x : Item) → IsUnsound v x → HasDead v
 unsound_dead v x (NoBody i f same at e) = NoKind i f at e
 unsound_dead v x (NoLocal i f b l same at e used none) = DeadLocal i l b (ap body_of_function at ∙ ap body_of_kind e) used none
 
--- what was named is what is written in an item
-pub item_checked : {T : Type 0} (v : Abstract) (x : Item) (named : List Item) → named ≡ written_in v x → IsSound v x → (r : Result T Error)
+-- what was named is what is written in an item itself; the members of its group are there
+pub item_checked : {T : Type 0} (v : Abstract) → GroupsAreWhole v → (x : Item) (named : List Item) → named ≡ own_written v x → IsSound v x → (r : Result T Error)
     → MatchResult r (λ _. AreLive v named) (IsRefusal (OneIsDead v named)) → MatchResult r (λ _. IsWhole v x) (IsRefusal (HasDead v))
-item_checked v x named is sound r h = result_map (AreLive v named) (IsWhole v x) (OneIsDead v named) (HasDead v)
-    (λ live. record { sound = sound; written = subst (AreLive v) is live })
-    (λ dead. DeadName x dead.0 (subst (λ (ys : List Item). Contains ys dead.0) is dead.1.0) dead.1.1)
+item_checked v groups x named is sound r h = result_map (AreLive v named) (IsWhole v x) (OneIsDead v named) (HasDead v)
+    (λ live. record {
+      sound = sound;
+      written = λ y at. ⊎_elim (λ member. (groups x y member).0) (λ own. subst (AreLive v) is live y own) (written_split v x y at);
+    })
+    (λ dead. DeadName x dead.0 (own_is_written v x dead.0 (subst (λ (ys : List Item). Contains ys dead.0) is dead.1.0)) dead.1.1)
     r h
 
 -- ---- what is seen of a thing is there where the thing is

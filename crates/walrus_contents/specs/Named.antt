@@ -2,7 +2,7 @@
 use Rattle.std.specs.Prelude.{◌≡◌, ℕ, List, [], ◌++◌, map, Option, None, IsSome, Contains, ⊤}
 use Rattle.std.specs.Global.{Vec}
 use Rattle.walrus_base.specs.Arena.{item_at, items}
-use Rattle.walrus_base.specs.Types.{ValType, val_names}
+use Rattle.walrus_base.specs.Types.{ValType, sub_names, val_names}
 use Rattle.walrus_types.specs.Locals.{locals}
 use Rattle.walrus_types.specs.Operators.{Types, Functions, Tables, Memories, Tags, Globals, Elements, DataSegments, Item, type_item, locals_of}
 use Rattle.walrus_types.specs.declared.locals.ModuleLocals.{ModuleLocals}
@@ -13,7 +13,7 @@ use Rattle.walrus_functions.specs.EmittedBody.{types_of as local_types}
 use Rattle.walrus_items.specs.Exports.{exported, exports, ModuleExports}
 use Rattle.walrus_items.specs.declared.functions.FunctionKind.{FunctionKind}
 use Rattle.walrus_items.specs.declared.functions.FunctionKind.TheVariants.{Import, Local, Uninitialized}
-use Rattle.walrus_model.specs.Abstract.{Abstract}
+use Rattle.walrus_model.specs.Abstract.{Abstract, TypeDef}
 use Rattle.walrus_model.specs.Refers.{named_by, written_in}
 
 -- the items of the ids, in order
@@ -34,6 +34,36 @@ kept_types m (Tags, i) = []
 kept_types m (Globals, i) = []
 kept_types m (Elements, i) = []
 kept_types m (DataSegments, i) = []
+
+-- the members of a type's group; no other item has a group
+abbrev pub group_names : Abstract → Item → List Item
+group_names m (Types, i) = named_by (λ t. map type_item t.group) (m.types i)
+group_names m (Functions, i) = []
+group_names m (Tables, i) = []
+group_names m (Memories, i) = []
+group_names m (Tags, i) = []
+group_names m (Globals, i) = []
+group_names m (Elements, i) = []
+group_names m (DataSegments, i) = []
+
+-- what a type names itself: what it names beside the members of its group
+abbrev pub own_type_names : TypeDef → List Item
+own_type_names t = map type_item (sub_names t.sub)
+
+-- what is written in an item itself
+abbrev pub own_written : Abstract → Item → List Item
+own_written m (Types, i) = named_by own_type_names (m.types i)
+own_written m (Functions, i) = written_in m (Functions, i)
+own_written m (Tables, i) = written_in m (Tables, i)
+own_written m (Memories, i) = written_in m (Memories, i)
+own_written m (Tags, i) = written_in m (Tags, i)
+own_written m (Globals, i) = written_in m (Globals, i)
+own_written m (Elements, i) = written_in m (Elements, i)
+own_written m (DataSegments, i) = written_in m (DataSegments, i)
+
+-- what an item names itself
+abbrev pub own_names : Abstract → Item → List Item
+own_names m x = own_written m x ++ kept_types m x
 
 -- all that an item names
 abbrev pub all_names : Abstract → Item → List Item

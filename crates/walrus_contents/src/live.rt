@@ -109,12 +109,13 @@ fn check_functions(alloc: Global, parts: Parts<'_>, named: &mut Vec<ItemId>) -> 
     Ok(())
 }
 
-// The same for what is written in one item.
+// The same for what is written in one item. The members of a type's group are there.
 fn check_item(alloc: Global, parts: Parts<'_>, item: ItemId, named: &mut Vec<ItemId>) -> Result<()>
     requires { IsLive (parts_view parts) (item_of item) }
     ensures { MatchResult result (λ _. IsWhole (parts_view parts.entry) (item_of item))
         (IsRefusal (HasDead (parts_view parts.entry))) }
 {
+    parts.types.groups_are_whole();
     named.clear();
     push_written_names(alloc, parts, item, named)?;
     check_all(parts, named.as_slice())

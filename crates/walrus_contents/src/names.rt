@@ -8,14 +8,13 @@ ghost use Rattle.walrus_code.specs.Code.{item_of};
 ghost use Rattle.walrus_code.specs.Function.{body_of};
 ghost use Rattle.walrus_items.specs.Functions.{function_value};
 ghost use Rattle.walrus_model.specs.Live.{IsLive};
-ghost use Rattle.walrus_model.specs.Refers.{body_names, function_names, kind_names, named_by, type_names, written_in};
+ghost use Rattle.walrus_model.specs.Refers.{body_names, function_names, kind_names, named_by};
 ghost use Rattle.walrus_contents.specs.View.{body, function as function_of, kind_handlers, kind_of, parts_view, types_of};
 ghost use Rattle.walrus_types.specs.ModuleTypes.{type_slots};
 ghost use Rattle.walrus_types.specs.Operators.{locals_of, names_of, type_item};
-ghost use Rattle.walrus_types.specs.TypeSlots.{group_at};
 ghost use Rattle.walrus_types.specs.Value.{heap_type, val_type};
 ghost use Rattle.walrus_contents.specs.There.{IsRefusal, IsSound, IsUnsound};
-ghost use Rattle.walrus_contents.specs.Named.{AreThere, IsReady, IsUnready, OneIsMissing, Puts, all_names, export_names, kept_types, local_type_names, type_at};
+ghost use Rattle.walrus_contents.specs.Named.{AreThere, IsReady, IsUnready, OneIsMissing, Puts, export_names, kept_types, local_type_names, own_names, own_type_names, own_written, type_at};
 
 use crate::initialisers::{push_global_names, push_table_names, push_tag_names};
 use crate::parts::Parts;
@@ -39,8 +38,8 @@ pub fn push_export_names(
     Ok(())
 }
 
-/// Puts all that a live item names behind `to`: what is written in it, then the types of its legacy handlers. Refused as
-/// [`push_written_names`] is.
+/// Puts all that a live item names itself behind `to`: what is written in it, then the types of its legacy handlers. A type
+/// names the members of its group beside that, which aren't put. Refused as [`push_written_names`] is.
 pub fn push_item_names(
     alloc: Global,
     parts: Parts<'_>,
@@ -50,7 +49,7 @@ pub fn push_item_names(
     requires { IsLive (parts_view parts) (item_of item) }
     ensures { MatchResult result
         (λ _. IsSound (parts_view parts.entry) (item_of item) × Puts to.old to.new
-        (all_names (parts_view parts.entry) (item_of item)))
+        (own_names (parts_view parts.entry) (item_of item)))
         (IsRefusal (IsSound (parts_view parts.entry) (item_of item) → ⊥)) }
 {
     push_written_names(alloc, parts, item, to)?;
@@ -58,8 +57,8 @@ pub fn push_item_names(
     Ok(())
 }
 
-/// Puts what is written in a live item behind `to`. Refused with `DeadItem` where it is an uninitialised function, or one that
-/// uses a local that isn't there, and with `Memory`.
+/// Puts what is written in a live item itself behind `to`: of a type all but the members of its group. Refused with `DeadItem`
+/// where it is an uninitialised function, or one that uses a local that isn't there, and with `Memory`.
 pub fn push_written_names(
     alloc: Global,
     parts: Parts<'_>,
@@ -69,7 +68,7 @@ pub fn push_written_names(
     requires { IsLive (parts_view parts) (item_of item) }
     ensures { MatchResult result
         (λ _. IsSound (parts_view parts.entry) (item_of item) × Puts to.old to.new
-        (written_in (parts_view parts.entry) (item_of item)))
+        (own_written (parts_view parts.entry) (item_of item)))
         (IsRefusal (IsUnsound (parts_view parts.entry) (item_of item))) }
 {
     match item {
@@ -113,7 +112,7 @@ fn push_handler_types(kind: &FunctionKind, to: &mut Vec<ItemId>) -> result::Resu
     }
 }
 
-// Puts what is written in a live type behind `to`: the members of its group, and the types that it names.
+// Puts the types that a live type names behind `to`, beside the members of its group.
 fn push_type_names(
     alloc: Global,
     types: &ModuleTypes,
@@ -121,27 +120,11 @@ fn push_type_names(
     to: &mut Vec<ItemId>,
 ) -> result::Result<(), AllocError>
     requires { IsLiveAt (type_slots types.now) (place id) }
-    ensures { OnOk result (Puts to.old to.new (named_by type_names (types_of types.now (place id)))) }
+    ensures { OnOk result (Puts to.old to.new (named_by own_type_names (types_of types.now (place id)))) }
 {
-    push_group(types, id, to)?;
     let mut named = Vec::new(alloc);
     walrus_types::push_names(&mut named, types.get(id))?;
     push_type_ids(named.as_slice(), to)
-}
-
-// The same for the members of a live type's group.
-fn push_group(
-    types: &ModuleTypes,
-    id: TypeId,
-    to: &mut Vec<ItemId>,
-) -> result::Result<(), AllocError>
-    requires { IsLiveAt (type_slots types.now) (place id) }
-    ensures { OnOk result (Puts to.old to.new (map type_item (group_at (type_slots types.now) (place id)))) }
-{
-    for member in types.group(id) {
-        to.push(ItemId::Type(member))?;
-    }
-    Ok(())
 }
 
 // The same for types.

@@ -33,7 +33,7 @@ place_found (x ∷ xs) t at =
     (λ later. let found = place_found xs t later in some_later (x == t) (place_in xs t) found.0 found.1)
     (or_cases (x == t) (has xs t) at)
 
-has_contained : (xs : List ℕ) (p : ℕ) → Contains xs p → has xs p ≡ true
+pub has_contained : (xs : List ℕ) (p : ℕ) → Contains xs p → has xs p ≡ true
 has_contained [] p at = absurd (Contains-none p at)
 has_contained (x ∷ xs) p at =
     ⊎_elim

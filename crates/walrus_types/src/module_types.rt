@@ -53,6 +53,13 @@ impl ModuleTypes {
         }
     }
 
+    /// The id that the next type gets.
+    pub fn next_id(&self) -> TypeId
+        ensures { place result ≡ length (type_slots self.now) }
+    {
+        Id::at(self.places.len())
+    }
+
     /// The ids that the members of the next group get, if it has this many.
     pub fn next_ids(&self, alloc: Global, count: usize) -> Result<Vec<TypeId>, AllocError>
         ensures { IfOk result (λ ids. map (λ id. place id) ids.items

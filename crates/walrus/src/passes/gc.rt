@@ -19,13 +19,13 @@ ghost use Rattle.walrus.specs.Collected.{KeepsOnly};
 ghost use Rattle.walrus.specs.Marked.{ReachesSound, ReachesUnsound};
 ghost use Rattle.walrus.specs.Used.{IsRefusal};
 
-use crate::passes::used::Used;
+use crate::passes::used::marked;
 use std::alloc::Global;
 use walrus_module::{ItemMarks, Module, Result};
 
 /// Deletes the items that the module's roots don't reach, but the memory that stays with data, and the imports of items that
 /// don't stay. A second run deletes nothing.
-/// Refused as [`Used::new`] is; then nothing is deleted.
+/// Refused as [`Used::new`](crate::passes::used::Used::new) is; then nothing is deleted.
 pub fn run(alloc: Global, module: &mut Module) -> Result<()>
     ensures collected { OnOk result (Collected (view «module».old) (view «module».new)) }
     ensures functions { OnOk result (KeepsOnly (λ i. Kept (view «module».old) (Functions, i))
@@ -55,19 +55,19 @@ pub fn run(alloc: Global, module: &mut Module) -> Result<()>
         × («module».new.customs ≡ «module».old.customs) × (settings «module».new ≡ settings «module».old)
         × («module».new.producers ≡ «module».old.producers) }
 {
-    let used = Used::new(alloc, module)?;
-    module.funcs.keep_only(&used.funcs);
-    module.types.keep_only(&used.types);
+    let marks = marked(alloc, module)?;
+    module.funcs.keep_only(&marks.funcs);
+    module.types.keep_only(&marks.types);
     module.imports.keep_only(ItemMarks {
-        funcs: &used.funcs,
-        tables: &used.tables,
-        memories: &used.memories,
-        globals: &used.globals,
-        tags: &used.tags,
+        funcs: &marks.funcs,
+        tables: &marks.tables,
+        memories: &marks.memories,
+        globals: &marks.globals,
+        tags: &marks.tags,
     });
-    module.tables.keep_only(&used.tables);
-    module.memories.keep_only(&used.memories);
-    module.tags.keep_only(&used.tags);
-    module.globals.keep_only(&used.globals);
+    module.tables.keep_only(&marks.tables);
+    module.memories.keep_only(&marks.memories);
+    module.tags.keep_only(&marks.tags);
+    module.globals.keep_only(&marks.globals);
     Ok(())
 }

@@ -3,9 +3,10 @@ use Rattle.std.proofs.Common.{◌≡◌, List, ◌++◌, ap, map, ◌∙◌}
 use Rattle.walrus_code.specs.Code.{item_of}
 use Rattle.walrus_code.specs.declared.items.ItemId.{ItemId}
 use Rattle.walrus_model.specs.Dead.{HasDead}
-use Rattle.walrus_model.specs.Refers.{written_in}
+use Rattle.walrus_contents.specs.Named.{own_written}
 use Rattle.walrus_contents.specs.There.{IsUnsound}
-use Rattle.walrus_contents.specs.View.{parts_view}
+use Rattle.walrus_contents.specs.View.{lent, parts_view}
+use Rattle.walrus_contents.proofs.Groups.{groups_whole}
 use Rattle.walrus_contents.proofs.LiveLemmas.{item_checked, unsound_dead}
 use Rattle.walrus_contents.proofs.NamedLemmas.{refusal_map}
 use Rattle.walrus_contents.proofs.live.check_item.Goals as goal
@@ -22,6 +23,6 @@ returns c =
     let v = parts_view c.args.parts in
     let x = item_of c.args.item in
     let put = c.in_ok-push_written_names.ensures in
-    let names : map item_of c.as_slice.result.now ≡ written_in v x =
-    ap (λ (ids : List ItemId). map item_of ids) c.as_slice.ensures.value ∙ put.1 ∙ ap (λ (ids : List ItemId). map item_of ids ++ written_in v x) c.clear.ensures.items in
-    item_checked v x _ names put.0 c.check_all.result c.check_all.ensures
+    let names : map item_of c.as_slice.result.now ≡ own_written v x =
+    ap (λ (ids : List ItemId). map item_of ids) c.as_slice.ensures.value ∙ put.1 ∙ ap (λ (ids : List ItemId). map item_of ids ++ own_written v x) c.clear.ensures.items in
+    item_checked v (groups_whole (lent c.args.parts) c.groups_are_whole.ensures) x _ names put.0 c.check_all.result c.check_all.ensures

@@ -1,7 +1,6 @@
 use Rattle.std.proofs.lemmas.Result.{err_from_is_err_and}
 use Rattle.walrus_code.specs.Code.{item_of}
-use Rattle.walrus_model.specs.Refers.{written_in}
-use Rattle.walrus_contents.specs.Named.{items_in, kept_types}
+use Rattle.walrus_contents.specs.Named.{items_in, kept_types, own_written}
 use Rattle.walrus_contents.specs.There.{IsSound, IsUnsound}
 use Rattle.walrus_contents.specs.View.{parts_view}
 use Rattle.walrus_contents.proofs.NamedLemmas.{refusal_map, two_rows, unsound_not}
@@ -20,5 +19,5 @@ returns c =
     let x = item_of c.args.item in
     let put = c.in_ok-push_written_names.ensures in (
       put.0,
-      two_rows (items_in c.args.to.now) (items_in c.push_written_names.new.to) (items_in c.push_kept_types.new.to) (written_in v x) (kept_types v x) put.1 c.in_ok-push_kept_types.ensures,
+      two_rows (items_in c.args.to.now) (items_in c.push_written_names.new.to) (items_in c.push_kept_types.new.to) (own_written v x) (kept_types v x) put.1 c.in_ok-push_kept_types.ensures,
     )

@@ -1,5 +1,6 @@
 use Rattle.walrus_types.specs.ModuleTypes.{type_names, type_slots}
 use Rattle.std.proofs.Common.{refl}
+use Rattle.walrus_base.specs.Marks.{is_marked}
 use Rattle.walrus_types.specs.Operators.{Functions, Globals, Memories, Tables, Tags, Types}
 use Rattle.walrus_items.specs.Globals.{globals}
 use Rattle.walrus_items.specs.Memories.{memories}
@@ -17,47 +18,47 @@ use Rattle.walrus.proofs.passes.gc.run.Goals as goal
 pub keep_only-requires-2 : goal.keep_only-requires-2
 keep_only-requires-2 g c =
     let old = c.args.module.now in
-    marks_groups (contents_of old) c.in_ok-used.used.types (λ t. c.in_ok-used.ensures.kept (Types, t))
+    marks_groups (contents_of old) (is_marked c.in_ok-marks.marks.types) (λ t. c.in_ok-marks.ensures.kept (Types, t))
 
 pub returns-clause-functions : goal.returns-clause-functions
 returns-clause-functions g c =
     let old = c.args.module.now in
-    keeps_only c.in_ok-used.used.funcs (λ i. Kept (view old) (Functions, i)) (λ i. c.in_ok-used.ensures.kept (Functions, i)) (functions old.funcs) (functions c.keep_only.new.self) c.keep_only.ensures
+    keeps_only (is_marked c.in_ok-marks.marks.funcs) (λ i. Kept (view old) (Functions, i)) (λ i. c.in_ok-marks.ensures.kept (Functions, i)) (functions old.funcs) (functions c.keep_only.new.self) c.keep_only.ensures
 
 pub returns-clause-types : goal.returns-clause-types
 returns-clause-types g c =
     let old = c.args.module.now in
-    keeps_only c.in_ok-used.used.types (λ t. Kept (view old) (Types, t)) (λ t. c.in_ok-used.ensures.kept (Types, t)) (type_slots old.types) (type_slots c.keep_only-2.new.self) c.keep_only-2.ensures.slots
+    keeps_only (is_marked c.in_ok-marks.marks.types) (λ t. Kept (view old) (Types, t)) (λ t. c.in_ok-marks.ensures.kept (Types, t)) (type_slots old.types) (type_slots c.keep_only-2.new.self) c.keep_only-2.ensures.slots
 
 pub returns-clause-type_names : goal.returns-clause-type_names
 returns-clause-type_names g c =
     let old = c.args.module.now in
-    keeps_only c.in_ok-used.used.types (λ t. Kept (view old) (Types, t)) (λ t. c.in_ok-used.ensures.kept (Types, t)) (type_names old.types) (type_names c.keep_only-2.new.self) c.keep_only-2.ensures.names
+    keeps_only (is_marked c.in_ok-marks.marks.types) (λ t. Kept (view old) (Types, t)) (λ t. c.in_ok-marks.ensures.kept (Types, t)) (type_names old.types) (type_names c.keep_only-2.new.self) c.keep_only-2.ensures.names
 
 pub returns-clause-tables : goal.returns-clause-tables
 returns-clause-tables g c =
     let old = c.args.module.now in
-    keeps_only c.in_ok-used.used.tables (λ i. Kept (view old) (Tables, i)) (λ i. c.in_ok-used.ensures.kept (Tables, i)) (tables old.tables) (tables c.keep_only-4.new.self) c.keep_only-4.ensures
+    keeps_only (is_marked c.in_ok-marks.marks.tables) (λ i. Kept (view old) (Tables, i)) (λ i. c.in_ok-marks.ensures.kept (Tables, i)) (tables old.tables) (tables c.keep_only-4.new.self) c.keep_only-4.ensures
 
 pub returns-clause-memories : goal.returns-clause-memories
 returns-clause-memories g c =
     let old = c.args.module.now in
-    keeps_only c.in_ok-used.used.memories (λ i. Kept (view old) (Memories, i)) (λ i. c.in_ok-used.ensures.kept (Memories, i)) (memories old.memories) (memories c.keep_only-5.new.self) c.keep_only-5.ensures
+    keeps_only (is_marked c.in_ok-marks.marks.memories) (λ i. Kept (view old) (Memories, i)) (λ i. c.in_ok-marks.ensures.kept (Memories, i)) (memories old.memories) (memories c.keep_only-5.new.self) c.keep_only-5.ensures
 
 pub returns-clause-tags : goal.returns-clause-tags
 returns-clause-tags g c =
     let old = c.args.module.now in
-    keeps_only c.in_ok-used.used.tags (λ i. Kept (view old) (Tags, i)) (λ i. c.in_ok-used.ensures.kept (Tags, i)) (tags old.tags) (tags c.keep_only-6.new.self) c.keep_only-6.ensures
+    keeps_only (is_marked c.in_ok-marks.marks.tags) (λ i. Kept (view old) (Tags, i)) (λ i. c.in_ok-marks.ensures.kept (Tags, i)) (tags old.tags) (tags c.keep_only-6.new.self) c.keep_only-6.ensures
 
 pub returns-clause-globals : goal.returns-clause-globals
 returns-clause-globals g c =
     let old = c.args.module.now in
-    keeps_only c.in_ok-used.used.globals (λ i. Kept (view old) (Globals, i)) (λ i. c.in_ok-used.ensures.kept (Globals, i)) (globals old.globals) (globals c.keep_only-7.new.self) c.keep_only-7.ensures
+    keeps_only (is_marked c.in_ok-marks.marks.globals) (λ i. Kept (view old) (Globals, i)) (λ i. c.in_ok-marks.ensures.kept (Globals, i)) (globals old.globals) (globals c.keep_only-7.new.self) c.keep_only-7.ensures
 
 pub returns-clause-imports : goal.returns-clause-imports
 returns-clause-imports g c =
     let old = c.args.module.now in
-    imports_left (contents_of old) c.in_ok-used.used c.in_ok-used.ensures.kept (marks_of c.in_ok-used.used) (imports c.keep_only-3.new.self) c.keep_only-3.ensures
+    imports_left (contents_of old) c.in_ok-marks.marks c.in_ok-marks.ensures.kept (marks_of c.in_ok-marks.marks) (imports c.keep_only-3.new.self) c.keep_only-3.ensures
     (record { funcs = refl; tables = refl; memories = refl; globals = refl; tags = refl })
 
 pub returns-clause-collected : goal.returns-clause-collected

@@ -6,7 +6,7 @@ use Rattle.walrus_code.specs.declared.items.ItemId.{ItemId}
 use Rattle.walrus_contents.specs.Named.{items_in}
 use Rattle.walrus_contents.specs.View.{parts_view}
 use Rattle.walrus.specs.Used.{Enters, NamesDead}
-use Rattle.walrus.proofs.Entered.{enters_more}
+use Rattle.walrus.proofs.Entered.{enters_more, have_places}
 use Rattle.walrus.proofs.Followed.{dead_among}
 use Rattle.walrus_contents.proofs.NamedLemmas.{refusal_map}
 use Rattle.walrus.proofs.passes.used.enter_all.Goals as goal
@@ -18,14 +18,17 @@ returns-in_err-enter c =
     let all = c.args.items.now in
     rw (p.1, p.2) (refusal_map _ (NamesDead v (map item_of all)) (dead_among v all c.loop-item.item-index _ c.loop-item-test.true) c.in_err-enter.field-0.0 c.in_err-enter.ensures)
 
+pub enter-requires : goal.enter-requires
+enter-requires c = have_places (parts_view c.args.parts) c.args.marks.now c.loop-item.marks c.loop-item.invariant.places c.requires
+
 pub loop-item-preserved : goal.loop-item-preserved
 loop-item-preserved c =
     let v = parts_view c.args.parts in
     let all = c.args.items.now in
     let i = c.loop-item.item-index in
-    enters_more v (map item_of (take i all)) _ (map item_of (take (i + 1) all)) c.args.used.now c.loop-item.used c.enter.new.used (items_in c.args.found.now) (items_in c.loop-item.found) (items_in c.enter.new.found)
+    enters_more v (map item_of (take i all)) _ (map item_of (take (i + 1) all)) c.args.marks.now c.loop-item.marks c.enter.new.marks (items_in c.args.found.now) (items_in c.loop-item.found) (items_in c.enter.new.found)
     (map_more item_of all i _ c.loop-item-test.true) c.loop-item.invariant c.in_ok-enter.ensures
 
 pub returns : goal.returns
 returns c =
-    subst (λ (xs : List ItemId). Enters (parts_view c.args.parts) (map item_of xs) c.args.used.now c.loop-item.used (items_in c.args.found.now) (items_in c.loop-item.found)) (take_all c.loop-item.item-index c.args.items.now c.loop-item-test.false) c.loop-item.invariant
+    subst (λ (xs : List ItemId). Enters (parts_view c.args.parts) (map item_of xs) c.args.marks.now c.loop-item.marks (items_in c.args.found.now) (items_in c.loop-item.found)) (take_all c.loop-item.item-index c.args.items.now c.loop-item-test.false) c.loop-item.invariant

@@ -7,4 +7,4 @@ use Rattle.walrus.proofs.passes.used.enter_all.Given as goal
 
 -- the items before are entered
 abbrev pub invariant-loop-item : goal.invariant-loop-item
-invariant-loop-item l = Enters (parts_view l.parts) (map item_of (take l.item-index l.items)) l.fn.used l.used (items_in l.fn.found) (items_in l.found)
+invariant-loop-item l = Enters (parts_view l.parts) (map item_of (take l.item-index l.items)) l.fn.marks l.marks (items_in l.fn.found) (items_in l.found)

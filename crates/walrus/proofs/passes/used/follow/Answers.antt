@@ -4,17 +4,20 @@ use Rattle.std.proofs.lemmas.Result.{err_from_is_err_and}
 use Rattle.walrus_code.specs.Code.{item_of}
 use Rattle.walrus.specs.Used.{NamesDead}
 use Rattle.walrus.specs.Marked.{ReachesUnsound}
-use Rattle.walrus_contents.specs.Named.{all_names, items_in}
+use Rattle.walrus_contents.specs.Named.{items_in, own_names}
 use Rattle.walrus_contents.specs.View.{lent, parts_view}
 use Rattle.walrus_contents.specs.There.{IsSound}
 use Rattle.walrus.proofs.Followed.{follows_end, follows_more, item_found, next_item, stays, unsound_by}
 use Rattle.walrus_contents.proofs.NamedLemmas.{refusal_map}
-use Rattle.walrus.proofs.ReachedLemmas.{names_are}
+use Rattle.walrus.proofs.ReachedLemmas.{own_referred, refers_split}
 use Rattle.walrus.proofs.passes.used.follow.Goals as goal
 use Rattle.walrus.proofs.passes.used.follow.Goals.{else-loop-taken-test, then-loop-taken-test+then-taken-len}
 
-pub follow_item-requires : goal.follow_item-requires
-follow_item-requires c =
+pub follow_item-requires-clause-places : goal.follow_item-requires-clause-places
+follow_item-requires-clause-places g c = c.loop-taken.invariant.places
+
+pub follow_item-requires-clause-live : goal.follow_item-requires-clause-live
+follow_item-requires-clause-live g c =
     let n = c.loop-taken.taken in
     let f = c.loop-taken.found.items in
     let id = c.index-item.result.now in
@@ -31,8 +34,8 @@ returns-in_err-follow_item c =
     let id = c.index-item.result.now in
     let x = item_of id in
     let lt : n < length f = omega (arith, c.loop-taken.found.ok.0) in
-    rw (p.1, p.2) (refusal_map ((IsSound v x → ⊥) ⊎ NamesDead v (all_names v x)) (ReachesUnsound v)
-    (unsound_by v n c.loop-taken.used (items_in c.loop-taken.found) c.loop-taken.invariant x (next_item f n id lt c.index-item.ensures) (item_found f n id lt c.index-item.ensures) (all_names v x) (names_are (lent parts) x))
+    rw (p.1, p.2) (refusal_map ((IsSound v x → ⊥) ⊎ NamesDead v (own_names v x)) (ReachesUnsound v)
+    (unsound_by v n c.loop-taken.marks (items_in c.loop-taken.found) c.loop-taken.invariant x (next_item f n id lt c.index-item.ensures) (item_found f n id lt c.index-item.ensures) (own_names v x) (own_referred (lent parts) x) (refers_split (lent parts) x))
     c.in_err-follow_item.field-0.0 c.in_err-follow_item.ensures)
 
 pub loop-taken-preserved : goal.loop-taken-preserved
@@ -47,14 +50,14 @@ loop-taken-preserved c =
     let before = items_in c.loop-taken.found in
     let after = items_in c.follow_item.new.found in
     let entered = c.in_ok-follow_item.ensures in
-    follows_more v n c.loop-taken.used before c.loop-taken.invariant x (next_item f n id lt c.index-item.ensures) (item_found f n id lt c.index-item.ensures) (all_names v x) (names_are (lent parts) x)
-    c.follow_item.new.used after
-    (stays v (all_names v x) c.loop-taken.used c.follow_item.new.used before after n (omega (arith, lt, length-map f item_of)) entered.1) entered.0 entered.1
+    follows_more v n c.loop-taken.marks before c.loop-taken.invariant x (next_item f n id lt c.index-item.ensures) (item_found f n id lt c.index-item.ensures) (own_names v x) (own_referred (lent parts) x) (refers_split (lent parts) x)
+    c.follow_item.new.marks after
+    (stays v (own_names v x) c.loop-taken.marks c.follow_item.new.marks before after n (omega (arith, lt, length-map f item_of)) entered.1) entered.0 entered.1
 
 pub returns : goal.returns
 returns c =
     let f = c.loop-taken.found.items in
-    follows_end (parts_view c.args.parts) c.loop-taken.taken c.loop-taken.used (items_in c.loop-taken.found) c.loop-taken.invariant
+    follows_end (parts_view c.args.parts) c.loop-taken.taken c.loop-taken.marks (items_in c.loop-taken.found) c.loop-taken.invariant
     (elim c.loop-taken-test.branch [
       | else-loop-taken-test w ↦ omega (arith, c.loop-taken.found.ok.0, length-map f item_of)
       | then-loop-taken-test+then-taken-len w ↦ omega (arith, c.loop-taken.found.ok.0, length-map f item_of)

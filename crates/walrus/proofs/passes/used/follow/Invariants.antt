@@ -4,4 +4,4 @@ use Rattle.walrus.specs.Used.{Follows}
 use Rattle.walrus.proofs.passes.used.follow.Given as goal
 
 abbrev pub invariant-loop-taken : goal.invariant-loop-taken
-invariant-loop-taken l = Follows (parts_view l.parts) l.used (items_in l.found) l.taken
+invariant-loop-taken l = Follows (parts_view l.parts) l.marks (items_in l.found) l.taken
