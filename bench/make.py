@@ -7,6 +7,7 @@ KIND: small    many functions of a few operators each
       code     functions of some thousand operators, with locals
       bodies   functions of some hundred to some thousand operators: locals, constants, calls, blocks, branches, loads, stores
       entries  types, imports, globals, exports, segments of elements and of data in equal parts, and no code
+      group    function types in one group, of which an exported function has the last, so that the group stays whole
 Of the first five every function is exported or called by one that is, so nothing of it is dropped.
 """
 import sys
@@ -92,9 +93,24 @@ def entries_until(size, entry_of):
     return unsigned(len(entries)) + b"".join(entries), len(entries)
 
 
+def function_type(i):
+    return b"\x60\x02\x7F\x7E\x01" + b"\x7F\x7E\x7D\x7C"[i % 4 :][:1]
+
+
+def group_sections(size):
+    types, type_count = entries_until(size, function_type)
+    # one group; one function, whose body is one operator that fits each type
+    return [
+        (1, b"\x01\x4E" + types),
+        (3, b"\x01" + unsigned(type_count - 1)),
+        (7, b"\x01" + sized(b"f") + b"\x00\x00"),
+        (10, b"\x01" + sized(b"\x00\x00\x0B")),
+    ]
+
+
 def entry_sections(size):
     part = size // 6
-    types, type_count = entries_until(part, lambda i: b"\x60\x02\x7F\x7E\x01" + b"\x7F\x7E\x7D\x7C"[i % 4 :][:1])
+    types, type_count = entries_until(part, function_type)
     imports, import_count = entries_until(
         part, lambda i: sized(b"env") + sized(b"f%d" % i) + b"\x00" + unsigned(i % type_count))
     globals_, _ = entries_until(part, lambda i: b"\x7F\x01\x41" + unsigned(i % 64) + b"\x0B")
@@ -122,7 +138,8 @@ def code_sections(kind, size):
 
 def main():
     kind, size = sys.argv[1], int(float(sys.argv[2]) * 1_000_000)
-    sections = entry_sections(size) if kind == "entries" else code_sections(kind, size)
+    apart = {"entries": entry_sections, "group": group_sections}
+    sections = apart[kind](size) if kind in apart else code_sections(kind, size)
     sys.stdout.buffer.write(b"\x00asm\x01\x00\x00\x00" + b"".join(section(*s) for s in sections))
 
 

@@ -1,6 +1,7 @@
 #!/usr/bin/env bash
-# Runs the built program over a folder of rows, and prints which pass, and their count: tests/rows.sh [--list] [FOLDER], ../shared/rows
-# where none is given. With --list it prints the names that pass and nothing else, so that two lists can be compared by `diff`.
+# Runs the built program over a folder of rows, and prints which pass, and their count: tests/rows.sh [--list] [FOLDER [PROGRAM]],
+# ../shared/rows and the proved program where none is given. With --list it prints the names that pass and nothing else, so that two
+# lists can be compared by `diff`.
 # A row is NAME.wasm (the input), NAME.args (words, one a line; there need be none) and NAME.expect:
 #   bytes in hexadecimal   status 0, these bytes, and nothing on standard error
 #   ACCEPT                 status 0
@@ -14,8 +15,9 @@ list=
 [ "${1-}" != --list ] || { list=--list; shift; }
 folder=${1:-$top/../shared/rows}
 [ -d "$folder" ] || { echo "tests/rows.sh: there is no folder $folder, so nothing is run" >&2; exit 0; }
-"$top/tests/build.sh" walrus_gc
-exec python3 - "$top/crates/walrus_gc/out/walrus_gc" "$folder" $list << 'PY'
+program=${2:-$top/crates/walrus_gc/out/walrus_gc}
+[ $# -gt 1 ] || "$top/tests/build.sh" walrus_gc
+exec python3 - "$program" "$folder" $list << 'PY'
 import pathlib, subprocess, sys
 
 INVALID = b"walrus-gc: The input WebAssembly is invalid\n"

@@ -8,6 +8,7 @@ use Rattle.walrus_module.specs.Flags.{Flags, defaults}
 use Rattle.walrus.specs.Headline.{Runs}
 use Rattle.walrus.specs.Message.{Tells, line}
 use Rattle.walrus.specs.Text.{tool_text}
+use Rattle.walrus.specs.Tool.{CountsReads, CountsWrites}
 use Rattle.walrus.specs.declared.tool.ToolError.{ToolError}
 
 -- the program knows this word
@@ -35,8 +36,10 @@ abbrev pub IsTold : Result Unit ToolError → (status : ℕ) → (old new : Opti
 IsTold (Ok u) status old new failures_old failures_new = (status ≡ 0) × Keeps old new × (failures_new ≡ failures_old)
 IsTold (Err e) status old new failures_old failures_new = (status ≡ 1) × Tells old new failures_old failures_new (line (tool_text e))
 
--- there was a run, and its answer was told
-pub record RunsAndTells (c : Config) (from_old from_new to_old to_new : Option (List ℕ)) (status : ℕ) (old new : Option (List ℕ)) (failures_old failures_new : ℕ) : Type 0 where
+-- there was a run, its two devices counted the failure of which it answers and no other, and its answer was told
+pub record RunsAndTells (c : Config) (from_old from_new to_old to_new : Option (List ℕ)) (reads_old reads_new writes_old writes_new : ℕ) (status : ℕ) (old new : Option (List ℕ)) (failures_old failures_new : ℕ) : Type 0 where
   pub answer : Result Unit ToolError
   pub ran : Runs c from_old from_new to_old to_new answer
+  pub reads : CountsReads reads_old reads_new answer
+  pub writes : CountsWrites writes_old writes_new answer
   pub told : IsTold answer status old new failures_old failures_new

@@ -61,8 +61,10 @@ pub fn command<R: Source, W: Sink, E: Sink>(
         × Tells (E.held errors.old) (E.held errors.new) (E.write_failures errors.old)
         (E.write_failures errors.new) (line (codes "unknown word")) }
     ensures known { are_known words.now ≡ true → RunsAndTells (config_of (flags_for words.now))
-        (R.left input.old) (R.left input.new) (W.held output.old) (W.held output.new) result
-        (E.held errors.old) (E.held errors.new) (E.write_failures errors.old) (E.write_failures errors.new) }
+        (R.left input.old) (R.left input.new) (W.held output.old) (W.held output.new)
+        (R.read_failures input.old) (R.read_failures input.new) (W.write_failures output.old)
+        (W.write_failures output.new) result (E.held errors.old) (E.held errors.new)
+        (E.write_failures errors.old) (E.write_failures errors.new) }
 {
     if !all_known(words) {
         let _told = write_line(errors, "unknown word");

@@ -1,4 +1,4 @@
-//! Tests that cross crates: worked modules byte for byte, the words of the program, devices that fail, globals and memories, modules that can't be written.
+//! Tests that cross crates: worked modules byte for byte, the words of the program, devices that fail, the library as its users call it, modules that are built.
 #![tactic(auto)]
 
 #[cfg(test)]
@@ -6,17 +6,11 @@ mod command;
 #[cfg(test)]
 mod devices;
 #[cfg(test)]
-mod edited;
-#[cfg(test)]
 mod failing;
-#[cfg(test)]
-mod imported;
 #[cfg(test)]
 mod library;
 #[cfg(test)]
 mod modules;
-#[cfg(test)]
-mod parts;
 #[cfg(test)]
 mod rows;
 #[cfg(test)]
