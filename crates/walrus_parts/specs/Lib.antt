@@ -1,3 +1,4 @@
+pub mod Equality
 pub mod Errors
 pub mod Roots
 pub mod Section

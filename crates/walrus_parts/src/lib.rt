@@ -3,12 +3,14 @@
 
 mod custom;
 mod error;
+mod law;
 mod raw_section;
 mod roots;
 mod transform;
 
 pub use custom::CustomSection;
 pub use error::{Error, ErrorKind, Result};
+pub use law::{raw_sections_are_equal_by_parts, section_ids_are_equal_by_place};
 pub use raw_section::RawCustomSection;
 pub use roots::Roots;
 pub use transform::CodeTransform;

@@ -1,0 +1,15 @@
+//! The laws of equality, as contracts.
+ghost use Rattle.walrus_parts.specs.Equality.{ComparesIds, ComparesSections};
+
+use crate::raw_section::RawCustomSection;
+use walrus_ir::UntypedCustomSectionId;
+
+/// Two ids of custom sections are equal exactly where their places are.
+pub fn section_ids_are_equal_by_place()
+    ensures { ComparesIds ⟦<UntypedCustomSectionId as PartialEq>⟧.eq }
+{}
+
+/// Two sections that are kept as they were read are equal exactly where their names and their bytes are.
+pub fn raw_sections_are_equal_by_parts()
+    ensures { ComparesSections ⟦<RawCustomSection as PartialEq>⟧.eq }
+{}
