@@ -109,3 +109,7 @@ pub mod ReadSoFar
 pub mod Runs
 pub mod ReadExample
 pub mod WorkedRun
+pub mod WrittenOver
+pub mod OkReads
+pub mod WorkedSingle
+pub mod WorkedDeclared

@@ -6,6 +6,7 @@ ghost use Rattle.walrus_rules.specs.Examples.{RowRuns};
 ghost use Rattle.walrus_rules.specs.Headline.{NotBoth, OneOutput, StepsComeOut};
 ghost use Rattle.walrus_rules.specs.OneRun.{HandlersLive, HandlersOnce, KeptLives};
 ghost use Rattle.walrus_rules.specs.WellMadeLaws.{BroughtLives};
+ghost use Rattle.walrus_rules.specs.WorkedDeclared.{DeclaredRuns};
 
 /// What is said of the steps (parsing, gc, the declared segment, writing) gives the relation between the module that was
 /// read and the one that came out, which a reader reads.
@@ -33,4 +34,10 @@ pub fn brought_lives()
 /// second is exported, come to those of the module of that one function, to no others, and to nothing that is too large.
 pub fn worked_run()
     ensures { (c : Config) → c.writes_names ≡ false → c.writes_producers ≡ false → RowRuns c }
+{}
+
+/// The same where the one function names itself by `ref.func`, and nothing declares it: what the bytes come to has a
+/// segment more, which declares it.
+pub fn worked_declared()
+    ensures { (c : Config) → c.writes_names ≡ false → c.writes_producers ≡ false → DeclaredRuns c }
 {}
