@@ -113,3 +113,8 @@ pub mod WrittenOver
 pub mod OkReads
 pub mod WorkedSingle
 pub mod WorkedDeclared
+pub mod WorkedEmpty
+pub mod WorkedParts
+pub mod WorkedProducers
+pub mod WorkedCustoms
+pub mod WorkedNames

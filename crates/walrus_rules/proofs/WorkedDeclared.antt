@@ -18,13 +18,14 @@ use Rattle.wasm_operators.specs.Forms.{arg_form, args_form, operator_of, operato
 use Rattle.wasm_operators.specs.Table.{kinds_of}
 use Rattle.walrus_base.specs.Types.{comp_names}
 use Rattle.walrus_types.specs.Operators as items
-use Rattle.walrus_types.specs.Operators.{Types, Functions, Tables, Memories, Globals, Elements, DataSegments, Item, Block, OfType, Op, names_of, locals_of}
+use Rattle.walrus_types.specs.Operators.{Types, Functions, Tables, Memories, Globals, Elements, DataSegments, Item, Arg, Block, OfType, Op, names_of, locals_of}
 use Rattle.walrus_model.specs.Abstract.{Abstract, Name, Subject, AnItem, ProducerField, TypeDef, Function, Body, Element, DeclaredElements, ListedFunctions}
 use Rattle.walrus_model.specs.Config.{Config}
 use Rattle.walrus_model.specs.Declared.{ref_func, IsRefInBody, IsRefInGlobal, IsUndeclared, AreUndeclared}
 use Rattle.walrus_model.specs.Live.{IsLive}
 use Rattle.walrus_model.specs.Names.{body_of, body_of_function, body_of_kind, last_name, own_name, name_of, names_that_count, or_else, WritesNames, synthetic_name}
 use Rattle.walrus_model.specs.Producers.{produced, if_written}
+use Rattle.walrus_model.specs.Out.{IsTheSegment}
 use Rattle.walrus_model.specs.Pipeline.{Collected}
 use Rattle.walrus_model.specs.Reached.{Reached, root}
 use Rattle.walrus_model.specs.Refers.{written_in, IsUsed}
@@ -41,7 +42,7 @@ use Rattle.walrus_bodies.specs.Features.{are_allowed}
 use Rattle.walrus_rules.specs.Features.{features_of}
 use Rattle.walrus_rules.specs.Headline.{Reads, ComesTo}
 use Rattle.walrus_rules.specs.Pinned.{IsWrittenAs, GoesBefore}
-use Rattle.walrus_rules.specs.Spelling.{BodyStands, UsesAll, NeedsCount, IsSpelledAs}
+use Rattle.walrus_rules.specs.Spelling.{BodyStands, UsesAll, NeedsCount, IsChosen, IsSpelledAs}
 use Rattle.walrus_rules.specs.SpelledLaws.{BodiesNest}
 use Rattle.walrus_rules.specs.Text.{Text, said, sections_of, said_by, unplaced}
 use Rattle.walrus_rules.specs.WorkedDeclared.{names_itself, undeclared_text, undeclared_bytes, declared_text, declared_bytes, DeclaredRuns}
@@ -52,7 +53,7 @@ use Rattle.walrus_rules.proofs.OneOutput.{one_output}
 use Rattle.walrus_rules.proofs.ReadSoFar.{said_alone}
 use Rattle.walrus_rules.proofs.Runs.{comes_to}
 use Rattle.walrus_rules.proofs.SpelledReads.{nested_reads}
-use Rattle.walrus_rules.proofs.WorkedSingle.{name_list, last_of_list, may_add, nothing_there, the_body, the_function, single, function_at, body_at, all_carried, all_rises, parsed, single_parsed, single_collected}
+use Rattle.walrus_rules.proofs.WorkedSingle.{name_list, last_of_list, nothing_there, the_body, the_function, single, function_at, body_at, all_carried, all_rises, parsed, single_parsed, single_collected}
 use Rattle.walrus_rules.proofs.WorkedWritten.{the_type}
 
 -- ---- the modules
@@ -111,15 +112,19 @@ body_stands = record {
   operators = (ref_read, (drop_read, (end_read, tt)));
 }
 
+abbrev number_in : List Arg → ℕ
+number_in (items.Index x ∷ args) = x.1
+number_in args = 0
+
 -- f is function 0, where an operator is ref.func f
 one_of_them : (f : ℕ) → Contains the_ops (ref_func f) → 0 ≡ f
-one_of_them f at = ⊎_elim
-    (λ (e : ref_func 0 ≡ ref_func f). cc)
+one_of_them f has = ⊎_elim
+    (λ (e : ref_func 0 ≡ ref_func f). ap (λ (o : Op). number_in o.args) e)
     (λ more. ⊎_elim
     (λ e. absurd (differ 0x1A 0xD2 (omega arith) (ap (λ (o : Op). o.op) e)))
     (λ last. absurd (differ 0x0B 0xD2 (omega arith) (ap (λ (o : Op). o.op) (only_one (record { op = 0x0B; args = [] }) (ref_func f) last))))
     (Contains-uncons (record { op = 0x1A; args = [] }) (ref_func f) (record { op = 0x0B; args = [] } ∷ []) more))
-    (Contains-uncons (ref_func 0) (ref_func f) (record { op = 0x1A; args = [] } ∷ record { op = 0x0B; args = [] } ∷ []) at)
+    (Contains-uncons (ref_func 0) (ref_func f) (record { op = 0x1A; args = [] } ∷ record { op = 0x0B; args = [] } ∷ []) has)
   where
     differ : (a b : ℕ) → a < b → a ≡ b → ⊥
     differ a b l e = omega (arith, l, e)
@@ -149,15 +154,44 @@ module _ (elements : List Element) where
   uses f b e = subst UsesAll (body_at the_ops [] (Some 0) elements elements [] [] (λ y. []) f b e) (λ x low high. absurd (omega (arith, low, high)))
 
   no_data_named : (d : ℕ) → Contains (names_of the_ops) (DataSegments, d) → ⊥
-  no_data_named d at = let is : (Functions, 0) ≡ (DataSegments, d) = only_one (Functions, 0) (DataSegments, d) at in let space : Functions ≡ DataSegments = ap (λ (x : Item). x.0) is in absurd (cc)
+  no_data_named d at = let space : Functions ≡ DataSegments = ap (λ (x : Item). x.0) (only_one (Functions, 0) (DataSegments, d) at) in absurd (cc)
 
   no_data : NeedsCount n → ⊥
   no_data (inl (d, p)) = p
   no_data (inr (zero, (d, at))) = no_data_named d at
   no_data (inr (suc f, (d, at))) = at
 
-abbrev text_sections : List Section
-text_sections = sections_of undeclared_text
+abbrev raw_segment : entries.Element
+raw_segment = record { mode = entries.DeclaredElements; items = entries.Functions (0 ∷ []) }
+
+abbrev type_section : Section
+type_section = frames.Types (no_values ∷ [])
+
+abbrev function_section : Section
+function_section = frames.Functions (0 ∷ [])
+
+abbrev start_section : Section
+start_section = frames.Start 0
+
+abbrev element_section : Section
+element_section = frames.Elements (raw_segment ∷ [])
+
+abbrev code_section : Section
+code_section = frames.Code (unplaced names_itself ∷ [])
+
+-- what holds of these sections holds of all that the texts have
+on_read : (P : Section → Type 0) → P type_section → P function_section → P start_section → P code_section → All P (sections_of undeclared_text)
+on_read P types functions starts code =
+    All-cons P type_section (function_section ∷ start_section ∷ code_section ∷ []) types
+    (All-cons P function_section (start_section ∷ code_section ∷ []) functions
+    (All-cons P start_section (code_section ∷ []) starts (all_one P code_section code)))
+
+on_written : (P : Section → Type 0) → P type_section → P function_section → P start_section → P element_section → P code_section → All P (sections_of declared_text)
+on_written P types functions starts elements code =
+    All-cons P type_section (function_section ∷ start_section ∷ element_section ∷ code_section ∷ []) types
+    (All-cons P function_section (start_section ∷ element_section ∷ code_section ∷ []) functions
+    (All-cons P start_section (element_section ∷ code_section ∷ []) starts
+    (All-cons P element_section (code_section ∷ []) elements (all_one P code_section code))))
 
 read_spelled : IsSpelledAs module_read undeclared_bytes
 unfolding number_bytes groups
@@ -165,11 +199,7 @@ read_spelled = record {
   text = undeclared_text;
   spells = record {
     says = sym text_says;
-    stand =
-        All-cons SectionStands (frames.Types (no_values ∷ [])) _ types_stand
-        (All-cons SectionStands (frames.Functions (0 ∷ [])) _ zero_stands
-        (All-cons SectionStands (frames.Start 0) _ (omega arith)
-        (all_one SectionStands (frames.Code (unplaced names_itself ∷ [])) tt)));
+    stand = on_read SectionStands types_stand zero_stands (omega arith) tt;
     filled = all_one IsFilled no_values not_empty;
     bodies = all_one BodyStands names_itself body_stands;
     used = uses [];
@@ -190,26 +220,18 @@ read_spelled = record {
   written = refl;
 }
 
-abbrev raw_segment : entries.Element
-raw_segment = record { mode = entries.DeclaredElements; items = entries.Functions (0 ∷ []) }
-
 written_spelled : IsSpelledAs module_written declared_bytes
 unfolding number_bytes groups
 written_spelled = record {
   text = declared_text;
   spells = record {
     says = sym declared_says;
-    stand =
-        All-cons SectionStands (frames.Types (no_values ∷ [])) _ types_stand
-        (All-cons SectionStands (frames.Functions (0 ∷ [])) _ zero_stands
-        (All-cons SectionStands (frames.Start 0) _ (omega arith)
-        (All-cons SectionStands (frames.Elements (raw_segment ∷ [])) _ (all_one ElementStands raw_segment zero_stands)
-        (all_one SectionStands (frames.Code (unplaced names_itself ∷ [])) tt))));
+    stand = on_written SectionStands types_stand zero_stands (omega arith) (all_one ElementStands raw_segment zero_stands) tt;
     filled = all_one IsFilled no_values not_empty;
     bodies = all_one BodyStands names_itself body_stands;
     used = uses (the_segment ∷ []);
     as_many_bodies = refl;
-    elements = all_one _ raw_segment tt;
+    elements = all_one (λ (e : entries.Element). IsChosen module_written e.mode e.items) raw_segment tt;
     data_count = no_data (the_segment ∷ []);
     names = record {
       module_name = tt;
@@ -246,19 +268,10 @@ unfolding number_bytes groups
 code_fits = ((omega arith, (omega arith, tt)), omega arith)
 
 read_fits : All SectionFits (sections_of undeclared_text)
-read_fits =
-    All-cons SectionFits (frames.Types (no_values ∷ [])) _ types_fit
-    (All-cons SectionFits (frames.Functions (0 ∷ [])) _ functions_fit
-    (All-cons SectionFits (frames.Start 0) _ start_fits
-    (all_one SectionFits (frames.Code (unplaced names_itself ∷ [])) code_fits)))
+read_fits = on_read SectionFits types_fit functions_fit start_fits code_fits
 
 written_fits : All SectionFits (sections_of declared_text)
-written_fits =
-    All-cons SectionFits (frames.Types (no_values ∷ [])) _ types_fit
-    (All-cons SectionFits (frames.Functions (0 ∷ [])) _ functions_fit
-    (All-cons SectionFits (frames.Start 0) _ start_fits
-    (All-cons SectionFits (frames.Elements (raw_segment ∷ [])) _ elements_fit
-    (all_one SectionFits (frames.Code (unplaced names_itself ∷ [])) code_fits))))
+written_fits = on_written SectionFits types_fit functions_fit start_fits elements_fit code_fits
 
 -- ---- read: the rules hold
 
@@ -356,7 +369,7 @@ module _ (c : Config) where
 
   is_undeclared : IsUndeclared (IsLive (module_kept c)) (module_kept c) 0
   is_undeclared = record {
-    named = inl (0, the_body the_ops [] (Some 0), refl, refl, Contains-head (ref_func 0) _);
+    named = inl (0, the_body the_ops [] (Some 0), refl, refl, Contains-head (ref_func 0) (record { op = 0x1A; args = [] } ∷ record { op = 0x0B; args = [] } ∷ []));
     not_exported = λ e at is. Contains-none e at;
     not_listed = λ i e live at lists. nothing_there e at;
   }
@@ -420,7 +433,7 @@ module _ (c : Config) where
       renaming = unchanged;
       segment = None;
       indices = given (module_left c) unchanged;
-      carried = may_add (all_carried the_ops [] (Some 0) (the_segment ∷ []) [] [] (produced []) names);
+      carried = all_carried the_ops [] (Some 0) (the_segment ∷ []) [] [] (produced []) names (λ x. IsTheSegment None x) (the_segment ∷ []) [] [] (λ y. []);
       rises = all_rises the_ops [] (Some 0) (the_segment ∷ []) [] [] (produced []) names;
       declares = declares_none (module_left c) module_written unchanged none_undeclared;
       names = subst (λ b. WritesNames b (own_name (module_left c)) (IsLive (module_left c)) unchanged (module_left c) module_written) (sym no_names) (λ y. refl);

@@ -14,6 +14,7 @@ use Rattle.walrus_model.specs.Customs.{written_customs}
 use Rattle.walrus_model.specs.Declared.{ref_func, IsRefInBody, IsRefInGlobal}
 use Rattle.walrus_model.specs.Live.{IsLive}
 use Rattle.walrus_model.specs.Names.{body_of, body_of_function, body_of_kind, own_name, name_of, WritesNames}
+use Rattle.walrus_model.specs.Out.{IsTheSegment}
 use Rattle.walrus_model.specs.Producers.{produced, if_written}
 use Rattle.walrus_model.specs.Reached.{Reached, root}
 use Rattle.walrus_model.specs.Refers.{written_in, IsUsed}
@@ -29,7 +30,7 @@ use Rattle.walrus_rules.specs.Spelling.{UsesAll, NeedsCount}
 use Rattle.walrus_rules.specs.SpelledLaws.{BodiesNest}
 use Rattle.walrus_rules.proofs.NeedsBase.{given, are_given, declares_none, NamesNone}
 use Rattle.walrus_rules.proofs.Runs.{brings_itself}
-use Rattle.walrus_rules.proofs.WorkedSingle.{may_add, nothing_there, the_body, the_function, single, function_at, body_at, all_carried, all_rises, parsed, single_parsed, single_collected}
+use Rattle.walrus_rules.proofs.WorkedSingle.{nothing_there, the_body, the_function, single, function_at, body_at, all_carried, all_rises, parsed, single_parsed, single_collected}
 use Rattle.walrus_rules.proofs.WorkedWritten.{the_type}
 
 abbrev pub just_end : List Op
@@ -163,7 +164,7 @@ module _ (c : Config) (customs : List Custom) (producers : List ProducerField) (
         renaming = unchanged;
         segment = None;
         indices = given in_memory unchanged;
-        carried = may_add (all_carried just_end f_exported None [] [] customs in_memory.producers in_memory.named);
+        carried = all_carried just_end f_exported None [] [] customs in_memory.producers in_memory.named (λ x. IsTheSegment None x) [] others fields names;
         rises = all_rises just_end f_exported None [] [] customs in_memory.producers in_memory.named;
         declares = declares_none in_memory written unchanged (names_none customs in_memory.producers in_memory.named);
         names = has_names;

@@ -32,25 +32,7 @@ unfolding name_list
 last_of_list None = refl
 last_of_list (Some name) = refl
 
--- what is carried with nothing added is carried whatever may be added
-pub may_add : {K Added : Item → Type 0} {r : Renaming} {m n : Abstract} → Carried K (λ x. ⊥) r m n → Carried K Added r m n
-may_add c = record {
-  types = record { same = c.types.same; onto = λ j h. ⊎_elim (λ k. inl k) (λ none. absurd none) (c.types.onto j h) };
-  imports = c.imports;
-  functions = record { same = c.functions.same; onto = λ j h. ⊎_elim (λ k. inl k) (λ none. absurd none) (c.functions.onto j h) };
-  tables = record { same = c.tables.same; onto = λ j h. ⊎_elim (λ k. inl k) (λ none. absurd none) (c.tables.onto j h) };
-  memories = record { same = c.memories.same; onto = λ j h. ⊎_elim (λ k. inl k) (λ none. absurd none) (c.memories.onto j h) };
-  tags = record { same = c.tags.same; onto = λ j h. ⊎_elim (λ k. inl k) (λ none. absurd none) (c.tags.onto j h) };
-  globals = record { same = c.globals.same; onto = λ j h. ⊎_elim (λ k. inl k) (λ none. absurd none) (c.globals.onto j h) };
-  elements = record { same = c.elements.same; onto = λ j h. ⊎_elim (λ k. inl k) (λ none. absurd none) (c.elements.onto j h) };
-  data_segments = record { same = c.data_segments.same; onto = λ j h. ⊎_elim (λ k. inl k) (λ none. absurd none) (c.data_segments.onto j h) };
-  imports_apart = c.imports_apart;
-  apart = c.apart;
-  exports = c.exports;
-  start = c.start;
-}
-
-nothing_there : {X : Type 0} (x : X) → ◌≡◌ {A = Option X} None (Some x) → ⊥
+pub nothing_there : {X : Type 0} (x : X) → ◌≡◌ {A = Option X} None (Some x) → ⊥
 nothing_there x e = cc
 
 -- all of a space is kept
@@ -99,10 +81,29 @@ module _ (ops : List Op) (exports : List Export) (start : Option ℕ) where
     body_at zero b e = cc
     body_at (suc f) b e = absurd (nothing_there b e)
 
-    pub all_carried : Carried (IsLive m) (λ x. ⊥) unchanged m m
-    all_carried = carried_itself m
+    itself : Carried (IsLive m) (λ x. ⊥) unchanged m m
+    itself = carried_itself m
         (λ i f at un. let e : LocalFunction the_body ≡ Uninitialised = ap (λ (g : Function). g.kind) (function_at i f at) ∙ un in absurd (cc))
         (λ i x at. absurd (nothing_there x at))
+
+    -- and in a module that differs in what isn't carried, whatever may be added
+    module _ (Added : Item → Type 0) (tables_too : List Element) (other_customs : List Custom) (other_producers : List ProducerField) (other_names : Subject → List Name) where
+      pub all_carried : Carried (IsLive m) Added unchanged m (single elements tables_too other_customs other_producers other_names)
+      all_carried = record {
+        types = record { same = itself.types.same; onto = λ j h. ⊎_elim (λ k. inl k) (λ none. absurd none) (itself.types.onto j h) };
+        imports = itself.imports;
+        functions = record { same = itself.functions.same; onto = λ j h. ⊎_elim (λ k. inl k) (λ none. absurd none) (itself.functions.onto j h) };
+        tables = record { same = itself.tables.same; onto = λ j h. ⊎_elim (λ k. inl k) (λ none. absurd none) (itself.tables.onto j h) };
+        memories = record { same = itself.memories.same; onto = λ j h. ⊎_elim (λ k. inl k) (λ none. absurd none) (itself.memories.onto j h) };
+        tags = record { same = itself.tags.same; onto = λ j h. ⊎_elim (λ k. inl k) (λ none. absurd none) (itself.tags.onto j h) };
+        globals = record { same = itself.globals.same; onto = λ j h. ⊎_elim (λ k. inl k) (λ none. absurd none) (itself.globals.onto j h) };
+        elements = record { same = itself.elements.same; onto = λ j h. ⊎_elim (λ k. inl k) (λ none. absurd none) (itself.elements.onto j h) };
+        data_segments = record { same = itself.data_segments.same; onto = λ j h. ⊎_elim (λ k. inl k) (λ none. absurd none) (itself.data_segments.onto j h) };
+        imports_apart = itself.imports_apart;
+        apart = itself.apart;
+        exports = itself.exports;
+        start = itself.start;
+      }
 
     still : (space : Space) → (space ≡ Types → ⊥) → (i j : ℕ) → IsLive m (space, i) → IsLive m (space, j) → ByImport m space i j → i < j
     still Types away i j li lj before = absurd (away refl)
@@ -156,7 +157,7 @@ module _ (ops : List Op) (exports : List Export) (start : Option ℕ) where
       types_made = λ i. refl;
       no_handlers = λ f past. refl;
       renaming = unchanged;
-      carried = may_add (all_carried [] [] customs producers named);
+      carried = all_carried [] [] customs producers named (IsBehind 1) [] customs (produced producers) parsed.named;
       bodies = λ f a b is was. subst (λ (d : Body). IsWholeBody unchanged f d b) (body_at [] [] customs producers named f a is) (subst (IsWholeBody unchanged f the_body) (body_at [] [] customs producers named f b was) (whole_body uses f));
       in_place = λ x. refl;
       imports_in_place = λ i. refl;
