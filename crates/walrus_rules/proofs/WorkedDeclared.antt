@@ -12,7 +12,6 @@ use Rattle.wasm_entries.specs.Spelling.{IsIndex, ElementStands}
 use Rattle.wasm_frames.specs.Frames as frames
 use Rattle.wasm_frames.specs.Frames.{Section, gathered}
 use Rattle.wasm_writer.specs.Spelling.{SectionStands, SectionFits}
-use Rattle.wasm_operators.specs.Operators as wire
 use Rattle.wasm_operators.specs.declared.operator.RawArg.TheVariants as args
 use Rattle.wasm_operators.specs.Forms.{arg_form, args_form, operator_of, operator_from, operator}
 use Rattle.wasm_operators.specs.Table.{kinds_of}
@@ -32,7 +31,6 @@ use Rattle.walrus_model.specs.Refers.{written_in, IsUsed}
 use Rattle.walrus_model.specs.Renaming.{unchanged}
 use Rattle.walrus_model.specs.Roots.{start}
 use Rattle.walrus_model.specs.Rules.{Holds, IsFunctionType, IsEmptyFunctionType}
-use Rattle.walrus_model.specs.Sections as sections
 use Rattle.walrus_model.proofs.Examples.{only_one}
 use Rattle.walrus_model.proofs.Lists.{Contains-head, Contains-none, Contains-uncons}
 use Rattle.walrus_rules.specs.Chain.{BringsTo, Leaves, ParsedAs}
@@ -44,7 +42,7 @@ use Rattle.walrus_rules.specs.Headline.{Reads, ComesTo}
 use Rattle.walrus_rules.specs.Pinned.{IsWrittenAs, GoesBefore}
 use Rattle.walrus_rules.specs.Spelling.{BodyStands, UsesAll, NeedsCount, IsChosen, IsSpelledAs}
 use Rattle.walrus_rules.specs.SpelledLaws.{BodiesNest}
-use Rattle.walrus_rules.specs.Text.{Text, said, sections_of, said_by, unplaced}
+use Rattle.walrus_rules.specs.Text.{said, sections_of, said_by, unplaced}
 use Rattle.walrus_rules.specs.WorkedDeclared.{names_itself, undeclared_text, undeclared_bytes, declared_text, declared_bytes, DeclaredRuns}
 use Rattle.walrus_rules.proofs.BodiesBack.{bodies_hold}
 use Rattle.walrus_rules.proofs.NeedsBase.{no_item, given, are_given, declares_none, NamesNone}

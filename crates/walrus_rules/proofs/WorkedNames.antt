@@ -1,6 +1,7 @@
 -- The steps at work where names are written: the module's and its function's stay.
-use Rattle.std.proofs.Common.{◌≡◌, true, false, ℕ, zero, suc, ◌≤◌, Bool, List, [], ◌∷◌, refl, sym, ◌∙◌, subst, arith}
-use Rattle.std.specs.Prelude.{All, Contains, codes, Some, None, IsSome, is_some, slice_get, if◌then◌else◌}
+use Rattle.std.proofs.Common.{◌≡◌, true, false, ℕ, zero, suc, Bool, List, [], ◌∷◌, refl, sym, ◌∙◌, subst, arith}
+use Rattle.std.specs.Prelude.{All, codes, Some, None, IsSome, is_some, slice_get, if◌then◌else◌}
+use Rattle.std.specs.Str.{IsUtf8}
 use Rattle.std.proofs.lemmas.List.Elements.{All-nil, All-cons}
 use Rattle.wasm_forms.specs.Spelling.{number_bytes, groups}
 use Rattle.wasm_frames.specs.Frames.{Section}
@@ -26,7 +27,7 @@ use Rattle.walrus_rules.specs.Spelling.{BodyStands, MapStands, IsSpelledAs}
 use Rattle.walrus_rules.specs.Text.{custom, names_bytes, namings_of, sections_of, said_by}
 use Rattle.walrus_rules.specs.WorkedSections.{Runs, a_function, named_text, named_bytes}
 use Rattle.walrus_rules.proofs.BodiesBack.{bodies_hold}
-use Rattle.walrus_rules.proofs.NeedsBase.{no_item, one_item, empty_if}
+use Rattle.walrus_rules.proofs.NeedsBase.{no_item, empty_if}
 use Rattle.walrus_rules.proofs.Runs.{comes_to}
 use Rattle.walrus_rules.proofs.SpelledReads.{nested_reads}
 use Rattle.walrus_rules.proofs.WorkedEmpty.{just_end, f_exported, empty_function, in_memory, empty_uses, empty_needs_no_count, empty_nests, empty_holds, empty_brings, empty_written}
@@ -57,7 +58,7 @@ no_entries : MapStands []
 no_entries = ((λ i j d less at. absurd (omega arith)), All-nil _)
 
 maps_stand : (space : NameSpace) → MapStands (a_function space)
-maps_stand spaces.Functions = ((λ i j d less at. absurd (omega (arith, less, at))), all_one _ (0, codes "a") (is_text (codes "a") refl))
+maps_stand spaces.Functions = ((λ i j d less at. absurd (omega (arith, less, at))), all_one (λ (e : ℕ × Name). IsUtf8 e.1) (0, codes "a") (is_text (codes "a") refl))
 maps_stand spaces.Types = no_entries
 maps_stand spaces.Tables = no_entries
 maps_stand spaces.Memories = no_entries

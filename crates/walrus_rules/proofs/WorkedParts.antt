@@ -1,6 +1,6 @@
 -- What the sections of a module of one empty function, which is exported, stand and fit by; and a run from its text to another.
-use Rattle.std.proofs.Common.{◌≡◌, ◌≢◌, ℕ, ◌<◌, Bool, true, false, List, [], ◌∷◌, refl, sym, ap, subst, arith, ltb, ltb-true}
-use Rattle.std.specs.Prelude.{◌&&◌, None, if◌then◌else◌, All, codes}
+use Rattle.std.proofs.Common.{◌≡◌, ◌≢◌, ℕ, Bool, true, false, List, [], ◌∷◌, refl, sym, ap, subst, arith, ltb, ltb-true}
+use Rattle.std.specs.Prelude.{None, if◌then◌else◌, All, codes}
 use mathlib.Core.Path.{fun_ext}
 use Rattle.std.specs.List.{list_all}
 use Rattle.std.specs.Str.{IsUtf8, IsAscii}

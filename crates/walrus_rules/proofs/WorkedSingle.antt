@@ -1,21 +1,20 @@
 -- A module of one function with neither parameters, results nor locals: all of it stays under its own numbers in each step.
-use Rattle.std.proofs.Common.{◌≡◌, ℕ, zero, suc, ◌<◌, ◌≤◌, Bool, true, false, List, [], ◌∷◌, length, refl, sym, ap, ◌∙◌, subst, arith, inl, inr, ⊎_elim}
+use Rattle.std.proofs.Common.{◌≡◌, ℕ, zero, suc, ◌<◌, ◌≤◌, false, List, [], ◌∷◌, length, refl, sym, ap, ◌∙◌, subst, arith, inl, ⊎_elim}
 use Rattle.std.specs.Prelude.{Option, Some, None, IsSome, is_some, Contains, slice_get, ◌↔◌}
 use Rattle.walrus_types.specs.Operators as items
 use Rattle.walrus_types.specs.Operators.{Space, Types, Functions, Tables, Memories, Globals, Elements, DataSegments, Item, Op, locals_of}
-use Rattle.walrus_model.specs.Abstract.{Abstract, Name, Subject, TheModule, AnItem, TypeDef, Body, LocalFunction, Uninitialised, Function, Element, Import, Export, Custom, ProducerField}
-use Rattle.walrus_model.specs.Carried.{Carried, In}
+use Rattle.walrus_model.specs.Abstract.{Abstract, Name, Subject, AnItem, Body, LocalFunction, Uninitialised, Function, Element, Export, Custom, ProducerField}
+use Rattle.walrus_model.specs.Carried.{Carried}
 use Rattle.walrus_model.specs.Config.{Config}
 use Rattle.walrus_model.specs.Handlers.{handlers_of}
 use Rattle.walrus_model.specs.Kept.{Kept, IsImportOf}
 use Rattle.walrus_model.specs.Live.{IsLive}
-use Rattle.walrus_model.specs.Names.{body_of, last_name, name_of, own_name}
+use Rattle.walrus_model.specs.Names.{body_of, last_name, name_of}
 use Rattle.walrus_model.specs.Order.{Rises, ByImport}
 use Rattle.walrus_model.specs.Pipeline.{Collected, KeepsOnly}
 use Rattle.walrus_model.specs.Producers.{produced}
 use Rattle.walrus_model.specs.Reached.{Reached, step}
-use Rattle.walrus_model.specs.Refers.{IsUsed}
-use Rattle.walrus_model.specs.Renaming.{Renaming, unchanged}
+use Rattle.walrus_model.specs.Renaming.{unchanged}
 use Rattle.walrus_model.specs.Sections.{body_with, passes, is_on_table}
 use Rattle.walrus_model.proofs.Lists.{Contains-head, Contains-none}
 use Rattle.walrus_rules.specs.Chain.{ParsedAs, AndThose, NoFunction, NoMore, AreFoundOrAdded, IsWholeBody, IsBehind}
