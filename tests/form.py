@@ -42,6 +42,8 @@ FILES_OF_NUMBERS = (
     # whole modules, byte by byte, as examples
     "walrus_model/specs/Examples.antt",
     "walrus_rules/specs/Examples.antt",
+    "walrus_rules/specs/WorkedDeclared.antt",
+    "walrus_rules/specs/WorkedSections.antt",
     # bytes and patterns of bits that tests write and read back
     "walrus_parts_tests/src/",
 )

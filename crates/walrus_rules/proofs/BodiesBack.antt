@@ -1,6 +1,6 @@
--- What is spelled of bodies reads back, where their blocks nest, their operators are allowed and the module keeps the rules.
+-- What is spelled of bodies reads back, where their blocks nest, their operators are allowed and what they name is there.
 use Rattle.std.proofs.Common.{◌≡◌, ℕ, ◌+◌, ◌≤◌, ◌<◌, true, List, [], ◌∷◌, ◌++◌, length, map, zip, refl, sym, ap, subst, ◌∙◌, arith, length-append, inr}
-use Rattle.std.specs.Prelude.{Option, Some, None, IsSome, All, Contains, flat_map, replicate, slice_get, unwrap_or, option_to_list}
+use Rattle.std.specs.Prelude.{Option, Some, None, IsSome, All, Contains, flat_map, replicate, slice_get, unwrap_or, option_to_list, ◌^◌}
 use Rattle.std.specs.List.{AllByRecursion, AllZip}
 use Rattle.std.proofs.lemmas.List.{length-map, length-replicate}
 use Rattle.std.proofs.lemmas.List.FromFn.{length-range_with_len}
@@ -33,13 +33,14 @@ use Rattle.walrus_model.specs.Live.{IsLive}
 use Rattle.walrus_model.specs.Names.{body_of, body_of_kind, body_of_function}
 use Rattle.walrus_model.specs.Reads.{below, declared}
 use Rattle.walrus_model.specs.Sections.{Said, body_with, types_of, imported, imported_type, imported_function, function_with, function_types, tables_of, memories_of, tags_of, globals_of, elements_of, data_of}
-use Rattle.walrus_model.specs.Refers.{IsUsed, named_by, local_names, body_names, kind_names, function_names}
+use Rattle.walrus_model.specs.Refers.{IsUsed, written_in, named_by, local_names, body_names, kind_names, function_names}
 use Rattle.walrus_model.specs.Rules.{Holds}
 use Rattle.walrus_model.proofs.Lists.{Contains-tail, Contains-none, Contains-append_1, Contains-append_2}
 use Rattle.walrus_model.proofs.PipelineOps.{from_map}
 use Rattle.walrus_model.proofs.TypeRules.{Contains-flat_map}
 use Rattle.walrus_rules.specs.Features.{features_of}
 use Rattle.walrus_rules.specs.Headline.{ReadsBody}
+use Rattle.walrus_rules.specs.Once.{TypesLocals}
 use Rattle.walrus_rules.specs.Spelling.{BodyStands, UsesAll, NeedsCount, NamesData, IsCount, IsSpelling}
 use Rattle.walrus_rules.specs.SpelledLaws.{BodiesNest}
 use Rattle.walrus_rules.specs.Text.{Text, BodyText, said, unplaced}
@@ -75,7 +76,7 @@ pub record Knows (c : Config) (s : wire.Module) (b : Body) : Type 0 where
   pub names : (y : Item) → Contains (names_of b.operators) y → IsFound (declared s) y
   pub locals : (x : ℕ) → IsUsed b x → IsSome (b.local_type x)
   pub types : (x : ℕ) (y : Item) → IsUsed b x → Contains (local_names b x) y → IsFound (declared s) y
-  pub few : b.declared ≤ 50_000
+  pub few : b.declared < 2 ^ 32
   pub uses : UsesAll b
 
 module _ (c : Config) (s : wire.Module) (ty : ℕ) (x : BodyText) (stands : BodyStands x) (k : Knows c s (body_with (params_of (types_of s ty)) (said x))) where
@@ -88,8 +89,8 @@ module _ (c : Config) (s : wire.Module) (ty : ℕ) (x : BodyText) (stands : Body
   filled : AllByRecursion (λ (d : ℕ × RawVal). 0 < d.0) x.declarations
   filled = recursion_from_All (λ (d : ℕ × RawVal). 0 < d.0) x.declarations stands.filled
 
-  small : how_many x.declarations ≤ 50_000
-  small = subst (λ n. n ≤ 50_000) (how_many_long x.declarations) k.few
+  small : how_many x.declarations < 2 ^ 32
+  small = subst (λ n. n < 2 ^ 32) (how_many_long x.declarations) k.few
 
   long : length b.parameters ≡ length params
   long = length-range_with_len 0 (length params)
@@ -114,7 +115,7 @@ module _ (c : Config) (s : wire.Module) (ty : ℕ) (x : BodyText) (stands : Body
     back = row_bytes op_bytes x.operators;
     parts = refl;
     declared = x.declarations;
-    declares = declarations_stand x.declarations (omega (arith, small, as_few x.declarations filled)) (omega (arith, small)) stands.types;
+    declares = declarations_stand x.declarations (omega (arith, small, as_few x.declarations filled)) small stands.types;
     typed = types_named_back (declared s) x.declarations filled type_found;
     operators = record {
       texts = x.operators;
@@ -127,6 +128,22 @@ module _ (c : Config) (s : wire.Module) (ty : ℕ) (x : BodyText) (stands : Body
   }
 
 -- ---- all of them
+
+-- what the bodies of a module need to read back, beside that their blocks nest
+pub record BodiesHold (n : Abstract) : Type 0 where
+  pub written : (f : ℕ) (g : Function) (y : Item) → n.functions f ≡ Some g → Contains (written_in n (Functions, f)) y → IsLive n y
+  pub locals : TypesLocals n
+  pub blocks : (f : ℕ) (b : Body) → body_of n f ≡ Some b → blocks_hold (λ t. is_function_def (n.types t)) b.operators ≡ true
+  pub few : (f : ℕ) (b : Body) → body_of n f ≡ Some b → b.declared < 2 ^ 32
+
+-- the rules give it
+pub bodies_hold : (n : Abstract) → Holds n → BodiesHold n
+bodies_hold n holds = record {
+  written = λ f g y at has. holds.indices.written (Functions, f) y has;
+  locals = holds.indices.locals;
+  blocks = λ f b here. blocks_fine (λ t. is_function_def (n.types t)) b.operators (λ t o has names. function_def n t (holds.function_types.blocks f t b o here has names));
+  few = λ f b here. omega (arith, holds.locals f b here);
+}
 
 kind_body : (k : FunctionKind) (b : Body) → k ≡ LocalFunction b → body_of_kind k ≡ Some b
 kind_body k b e = ap body_of_kind e
@@ -184,7 +201,7 @@ module _ (c : Config) (t : Text) (spells : IsSpelling (told t) t) where
   live_found (Elements, i) h d = below_is (length (elements_of s)) i (some_there (elements_of s) i h)
   live_found (DataSegments, i) h d = counted t.data_count i spells.data_count (d refl) (omega (arith, some_there (map data_of t.data_segments) i h, length-map t.data_segments data_of))
 
-module _ (c : Config) (t : Text) (spells : IsSpelling (told t) t) (holds : Holds (told t)) (nest : BodiesNest c (told t)) where
+module _ (c : Config) (t : Text) (spells : IsSpelling (told t) t) (holds : BodiesHold (told t)) (nest : BodiesNest c (told t)) where
   abbrev w : wire.Module
   w = laid t
 
@@ -198,19 +215,19 @@ module _ (c : Config) (t : Text) (spells : IsSpelling (told t) t) (holds : Holds
   known f g at b is =
       let nest_b = nest f g b at is in
       let here : body_of n f ≡ Some b = ap body_of_function at ∙ kind_body g.kind b is in
-      let live : (y : Item) → Contains (body_names b) y → IsLive n y = λ y has. holds.indices.written (Functions, f) y
+      let live : (y : Item) → Contains (body_names b) y → IsLive n y = λ y has. holds.written f g y at
       (subst (λ (o : Option Function). Contains (named_by function_names o) y) (sym at)
       (Contains-tail (type_item g.ty) y (kind_names g.kind) (subst (λ (k : FunctionKind). Contains (kind_names k) y) (sym is) has))) in
       record {
         nested = nest_b.0;
         allowed = nest_b.1;
-        blocks = blocks_fine (λ t. is_function_def (n.types t)) b.operators (λ t o has names. function_def n t (holds.function_types.blocks f t b o here has names));
+        blocks = holds.blocks f b here;
         names = λ y has. live_found c t spells y (live y (Contains-append_1 y (names_of b.operators) (flat_map (local_names b) (locals_of b.operators)) has))
             (λ is_data. inr (f, (y.1, subst (λ (o : Option Body). NamesData o y.1) (sym here) (subst (λ (z : Space). Contains (names_of b.operators) (z, y.1)) is_data has))));
-        locals = λ x u. holds.indices.locals f b x here u;
+        locals = λ x u. holds.locals f b x here u;
         types = λ x y u has. live_found c t spells y (live y (Contains-append_2 y (names_of b.operators) (flat_map (local_names b) (locals_of b.operators)) (in_flat b x y u has)))
             (λ is_data. absurd (no_data (b.local_type x) y has is_data));
-        few = holds.locals f b here;
+        few = holds.few f b here;
         uses = spells.used f b here;
       }
     where

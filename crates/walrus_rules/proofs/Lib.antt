@@ -109,3 +109,12 @@ pub mod ReadSoFar
 pub mod Runs
 pub mod ReadExample
 pub mod WorkedRun
+pub mod WrittenOver
+pub mod OkReads
+pub mod WorkedSingle
+pub mod WorkedDeclared
+pub mod WorkedEmpty
+pub mod WorkedParts
+pub mod WorkedProducers
+pub mod WorkedCustoms
+pub mod WorkedNames

@@ -1,10 +1,10 @@
--- Operators put through a renaming nest as they did, and those that are allowed still are.
+-- Operators put through a renaming nest as they did, those that are allowed still are, and types of blocks are function types as before.
 use Rattle.std.proofs.Common.{◌≡◌, ℕ, Bool, true, List, [], ◌∷◌, map, refl, ap, ap₂, ◌∙◌, subst}
 use Rattle.std.specs.Prelude.{◌&&◌, if◌then◌else◌, Option, Some, None, Contains}
 use Rattle.std.specs.List.{list_all}
 use Rattle.std.specs.Cmp.Derive.{both_true}
-use Rattle.walrus_base.specs.Types.{CompType, Func, Struct, Array}
-use Rattle.walrus_types.specs.Operators.{NoResult, OneResult, OfType, Arg, Index, Local, Value, Heap, Block, Access, Label, Number, Count, Byte, S32, S64, Bits32, Bits64, Op}
+use Rattle.walrus_base.specs.Types.{CompType, Func, Struct, Array, map_comp}
+use Rattle.walrus_types.specs.Operators.{Types, NoResult, OneResult, OfType, Arg, Index, Local, Value, Heap, Block, Access, Label, Number, Count, Byte, S32, S64, Bits32, Bits64, Op}
 use Rattle.walrus_bodies.specs.declared.blocks.Opened.{Opened}
 use Rattle.walrus_bodies.specs.declared.blocks.Opened.TheVariants.{Plain}
 use Rattle.walrus_bodies.specs.declared.features.Features.{Features}
@@ -55,7 +55,40 @@ module _ (r : Renaming) (l : ℕ → ℕ) where
   allowed_renamed features [] = refl
   allowed_renamed features (o ∷ ops) = ap (λ (t : Bool). is_allowed features o.op && t) (allowed_renamed features ops)
 
+  -- blocks hold as those did whose types are put through the renaming
+  module _ (p : ℕ → Bool) where
+    block_renamed : (a : Arg) → block_holds p (renamed_arg r l a) ≡ block_holds (λ t. p (r.numbers Types t)) a
+    block_renamed (Block (OfType t)) = refl
+    block_renamed (Block NoResult) = refl
+    block_renamed (Block (OneResult v)) = refl
+    block_renamed (Label n) = refl
+    block_renamed (Index x) = refl
+    block_renamed (Local n) = refl
+    block_renamed (Number n) = refl
+    block_renamed (Count n) = refl
+    block_renamed (Byte n) = refl
+    block_renamed (S32 z) = refl
+    block_renamed (S64 z) = refl
+    block_renamed (Bits32 n) = refl
+    block_renamed (Bits64 n) = refl
+    block_renamed (Value v) = refl
+    block_renamed (Heap h) = refl
+    block_renamed (Access flags memory offset) = refl
+
+    args_renamed : (xs : List Arg) → args_hold p (map (renamed_arg r l) xs) ≡ args_hold (λ t. p (r.numbers Types t)) xs
+    args_renamed [] = refl
+    args_renamed (x ∷ xs) = ap₂ (λ (s t : Bool). s && t) (block_renamed x) (args_renamed xs)
+
+    pub blocks_renamed : (ops : List Op) → blocks_hold p (renamed_ops r l ops) ≡ blocks_hold (λ t. p (r.numbers Types t)) ops
+    blocks_renamed [] = refl
+    blocks_renamed (o ∷ ops) = ap₂ (λ (s t : Bool). s && t) (args_renamed o.args) (blocks_renamed ops)
+
 -- ---- blocks of function types
+
+pub function_comp_stays : (f : ℕ → ℕ) (x : CompType ℕ) → is_function_comp (map_comp f x) ≡ is_function_comp x
+function_comp_stays f (Func params results) = refl
+function_comp_stays f (Struct fields) = refl
+function_comp_stays f (Array element) = refl
 
 function_comp : (x : CompType ℕ) → IsFunctionComp x → is_function_comp x ≡ true
 function_comp (Func params results) h = refl

@@ -21,7 +21,6 @@ use Rattle.walrus_types.proofs.Noted.{or_cases}
 use Rattle.walrus_model.specs.Abstract.{Abstract, Name, Body, Function, ProducerValue, ProducerField}
 use Rattle.walrus_model.specs.Config.{Config}
 use Rattle.walrus_model.specs.Names.{body_of, body_of_function}
-use Rattle.walrus_model.specs.Rules.{Holds}
 use Rattle.walrus_rules.specs.Headline.{ReadsBody, Reads, has_function, value_of, field_of}
 use Rattle.walrus_rules.specs.Namings.{naming_of, space_of, has, has_local, is_in_range}
 use Rattle.walrus_rules.specs.OneRun.{Fits}
@@ -29,7 +28,7 @@ use Rattle.walrus_model.specs.Sections.{function_types, is_apart}
 use Rattle.walrus_rules.specs.SpelledLaws.{BodiesNest, SpelledReads}
 use Rattle.walrus_rules.specs.Spelling.{MapStands, IsSpelling, IsSpelledAs, is_dylink, is_other, written_as}
 use Rattle.walrus_rules.specs.Text.{Text, NameMap, NameText, listed, if_some, custom, sections_of, said, said_by, unplaced, names_bytes, field_bytes, namings_of, module_naming, space_namings, function_namings, further_spaces}
-use Rattle.walrus_rules.proofs.BodiesBack.{function_below, bodies_back}
+use Rattle.walrus_rules.proofs.BodiesBack.{function_below, BodiesHold, bodies_hold, bodies_back}
 use Rattle.walrus_rules.proofs.NamesBack.{raw_value, raw_field, fields_back, EntryStands, FunctionStands, names_back}
 use Rattle.walrus_rules.proofs.OneList.{All-front, All-back}
 use Rattle.walrus_rules.proofs.OneSections.{laid, more, customs_in}
@@ -265,12 +264,12 @@ fields_small (f ∷ fs) h lt = payload_small (codes "producers") (vector_bytes f
 
 -- ---- all of it
 
-module _ (c : Config) (t : Text) (spells : IsSpelling (said_by t) t) (fits : All SectionFits (sections_of t)) (nest : BodiesNest c (said_by t)) (holds : Holds (said_by t)) where
+module _ (c : Config) (t : Text) (spells : IsSpelling (said_by t) t) (fits : All SectionFits (sections_of t)) (nest : BodiesNest c (said_by t)) (holds : BodiesHold (said_by t)) where
   own : IsSpelling (told t) t
   own = subst (λ z. IsSpelling z t) (as_told t) spells
 
   bodies : AllZip (ReadsBody c (laid t)) (zip t.functions (map unplaced t.bodies)) (map said t.bodies)
-  bodies = bodies_back c t own (subst Holds (as_told t) holds) (subst (BodiesNest c) (as_told t) nest)
+  bodies = bodies_back c t own (subst BodiesHold (as_told t) holds) (subst (BodiesNest c) (as_told t) nest)
 
   small : Fits (told t)
   small = text_fits t own fits
@@ -310,12 +309,12 @@ module _ (c : Config) (t : Text) (spells : IsSpelling (said_by t) t) (fits : All
       (field_zip t.producers (λ lt. fields_back t.producers spells.producers (fields_small t.producers (All-back SectionFits (before_names ++ with_names) with_producers up_to_producers) lt))))
       (field_all t.producers)
 
-pub nested_reads : (c : Config) (n : Abstract) (bytes : List ℕ) (spelled : IsSpelledAs n bytes) → All SectionFits (sections_of spelled.text) → BodiesNest c n → Holds n → Reads c bytes n
+pub nested_reads : (c : Config) (n : Abstract) (bytes : List ℕ) (spelled : IsSpelledAs n bytes) → All SectionFits (sections_of spelled.text) → BodiesNest c n → BodiesHold n → Reads c bytes n
 nested_reads c n bytes sp fits nest holds =
     let is = sp.spells.says in
-    let back : Reads c (written_as sp.text) (said_by sp.text) = all_back_again c sp.text (subst (λ z. IsSpelling z sp.text) is sp.spells) fits (subst (BodiesNest c) is nest) (subst Holds is holds) in
+    let back : Reads c (written_as sp.text) (said_by sp.text) = all_back_again c sp.text (subst (λ z. IsSpelling z sp.text) is sp.spells) fits (subst (BodiesNest c) is nest) (subst BodiesHold is holds) in
     subst (λ z. Reads c bytes z) (sym is) (subst (λ l. Reads c l (said_by sp.text)) (sym sp.written) back)
 
 pub spelled_reads : SpelledReads
 spelled_reads c n bytes sp fits formed holds =
-    nested_reads c n bytes sp fits (λ f g b at is. let r = (formed f g b at is).read.operators in (r.nested, r.allowed)) holds
+    nested_reads c n bytes sp fits (λ f g b at is. let r = (formed f g b at is).read.operators in (r.nested, r.allowed)) (bodies_hold n holds)

@@ -21,7 +21,7 @@ use Rattle.walrus_rules.specs.SpelledLaws.{BodiesNest, HasBodies, WrittenBodies}
 use Rattle.walrus_rules.specs.Spelling.{IsSpelling, UsesAll}
 use Rattle.walrus_rules.specs.Text.{said, namings_of}
 use Rattle.walrus_rules.specs.WellMade.{IsCounted, IsWellFormed}
-use Rattle.walrus_rules.proofs.BodiesBack.{bodies_back}
+use Rattle.walrus_rules.proofs.BodiesBack.{bodies_hold, bodies_back}
 use Rattle.walrus_rules.proofs.MovedBody.{moved_arg, moved_op}
 use Rattle.walrus_rules.proofs.OneSections.{laid}
 use Rattle.walrus_rules.proofs.OneSpelling.{told, as_told}
@@ -29,7 +29,7 @@ use Rattle.walrus_rules.proofs.ReadBodies.{IsRead, is_read_by}
 use Rattle.walrus_rules.proofs.ReadFits.{some_there}
 use Rattle.walrus_rules.proofs.ShapesEnd.{range_has, range_in}
 use Rattle.walrus_rules.proofs.WellFormedWhole.{well_formed}
-use Rattle.walrus_rules.proofs.WrittenHolds.{written_holds, written_nest}
+use Rattle.walrus_rules.proofs.WrittenHolds.{written_holds, made_nest}
 
 arg_itself : (a : Arg) → moved_arg (λ x. x) a ≡ a
 arg_itself (Local n) = refl
@@ -104,6 +104,6 @@ written_bodies c u n t made nothing written spelling =
     let says = subst (λ x. IsSpelling x t) is spelling in
     let own = subst (λ x. IsSpelling x t) (as_told t) says in
     let holds = subst Holds (as_told t) (written_holds c u t made nothing as_text says) in
-    let nest = subst (BodiesNest c) (as_told t) (written_nest c u t made nothing as_text says) in
-    let read = is_read_by c (laid t) (map said t.bodies) t.producers (namings_of t.names) (bodies_back c t own holds nest) in
+    let nest = subst (BodiesNest c) (as_told t) (made_nest c u t made as_text says) in
+    let read = is_read_by c (laid t) (map said t.bodies) t.producers (namings_of t.names) (bodies_back c t own (bodies_hold (told t) holds) nest) in
     subst (HasBodies c) (sym (is ∙ as_told t)) (read_formed c (told t) holds read own.used)

@@ -4,8 +4,9 @@ use Rattle.walrus_model.specs.Rules.{Holds}
 use Rattle.walrus_rules.specs.Pinned.{IsWrittenAs}
 use Rattle.walrus_rules.specs.SpelledLaws.{BodiesNest, WrittenReads}
 use Rattle.walrus_rules.specs.Spelling.{IsSpelling}
+use Rattle.walrus_rules.proofs.BodiesBack.{bodies_hold}
 use Rattle.walrus_rules.proofs.SpelledReads.{nested_reads}
-use Rattle.walrus_rules.proofs.WrittenHolds.{written_holds, written_nest}
+use Rattle.walrus_rules.proofs.WrittenHolds.{written_holds, made_nest}
 
 pub written_reads : WrittenReads
 written_reads c u n bytes made nothing written spelled fits =
@@ -13,5 +14,5 @@ written_reads c u n bytes made nothing written spelled fits =
     let as_text = subst (IsWrittenAs c u) is written in
     let spelling = subst (λ x. IsSpelling x spelled.text) is spelled.spells in
     let holds = subst Holds (sym is) (written_holds c u spelled.text made nothing as_text spelling) in
-    let nest = subst (BodiesNest c) (sym is) (written_nest c u spelled.text made nothing as_text spelling) in
-    (nested_reads c n bytes spelled fits nest holds, holds)
+    let nest = subst (BodiesNest c) (sym is) (made_nest c u spelled.text made as_text spelling) in
+    (nested_reads c n bytes spelled fits nest (bodies_hold n holds), holds)

@@ -1,11 +1,13 @@
 //! The steps from the module that bytes read as to the one that is written.
 
-ghost use Rattle.std.specs.Prelude.{◌≡◌, false};
+ghost use Rattle.std.specs.Prelude.{◌≡◌, false, true};
 ghost use Rattle.walrus_model.specs.Config.{Config};
-ghost use Rattle.walrus_rules.specs.Examples.{RowRuns};
+ghost use Rattle.walrus_rules.specs.Examples.{one_function_bytes, RowRuns};
 ghost use Rattle.walrus_rules.specs.Headline.{NotBoth, OneOutput, StepsComeOut};
 ghost use Rattle.walrus_rules.specs.OneRun.{HandlersLive, HandlersOnce, KeptLives};
 ghost use Rattle.walrus_rules.specs.WellMadeLaws.{BroughtLives};
+ghost use Rattle.walrus_rules.specs.WorkedDeclared.{DeclaredRuns};
+ghost use Rattle.walrus_rules.specs.WorkedSections.{Runs, customs_bytes, named_bytes, produced_bytes};
 
 /// What is said of the steps (parsing, gc, the declared segment, writing) gives the relation between the module that was
 /// read and the one that came out, which a reader reads.
@@ -33,4 +35,22 @@ pub fn brought_lives()
 /// second is exported, come to those of the module of that one function, to no others, and to nothing that is too large.
 pub fn worked_run()
     ensures { (c : Config) → c.writes_names ≡ false → c.writes_producers ≡ false → RowRuns c }
+{}
+
+/// The same where the one function names itself by `ref.func`, and nothing declares it: what the bytes come to has a
+/// segment more, which declares it.
+pub fn worked_declared()
+    ensures { (c : Config) → c.writes_names ≡ false → c.writes_producers ≡ false → DeclaredRuns c }
+{}
+
+/// The same on a module of one function, which is exported. Where producers are written, this program stands among them.
+/// A section of dynamic linking and another custom section stay, in front and behind. Where names are written, those of
+/// the module and of its function stay.
+pub fn worked_sections()
+    ensures producers { (c : Config) → c.writes_names ≡ false → c.writes_producers ≡ true
+        → Runs c one_function_bytes produced_bytes }
+    ensures customs { (c : Config) → c.writes_names ≡ false → c.writes_producers ≡ false
+        → Runs c customs_bytes customs_bytes }
+    ensures names { (c : Config) → c.writes_names ≡ true → c.writes_producers ≡ false
+        → Runs c named_bytes named_bytes }
 {}

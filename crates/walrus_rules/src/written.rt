@@ -1,6 +1,7 @@
 //! What a module in memory is written as.
 
 ghost use Rattle.walrus_rules.specs.Needs.{AreNeeded};
+ghost use Rattle.walrus_rules.specs.OkLaws.{OkReads, RulesWritten};
 ghost use Rattle.walrus_rules.specs.Once.{BytesOnce, LivingKeeps, PremisesHold, WrittenOnce};
 ghost use Rattle.walrus_rules.specs.WellMadeLaws.{WrittenHolds};
 
@@ -19,4 +20,12 @@ pub fn written_once()
 /// Modules").
 pub fn written_holds()
     ensures { WrittenHolds }
+{}
+
+/// What may be written reads back: where there is no cause to refuse a module in memory, as an answer Ok says, the bytes of
+/// what it is written as read as that, and as nothing else, whether it is well made or not. What it is written as keeps the
+/// rules where it keeps them itself, and each of its bodies counts the locals that it declares.
+pub fn ok_reads()
+    ensures reads { OkReads }
+    ensures rules { RulesWritten }
 {}

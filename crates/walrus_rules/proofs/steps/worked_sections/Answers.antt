@@ -1,0 +1,13 @@
+use Rattle.walrus_rules.proofs.WorkedCustoms.{customs_run}
+use Rattle.walrus_rules.proofs.WorkedNames.{names_run}
+use Rattle.walrus_rules.proofs.WorkedProducers.{producers_run}
+use Rattle.walrus_rules.proofs.steps.worked_sections.Goals as goal
+
+pub returns-clause-producers : goal.returns-clause-producers
+returns-clause-producers c = producers_run
+
+pub returns-clause-customs : goal.returns-clause-customs
+returns-clause-customs c = customs_run
+
+pub returns-clause-names : goal.returns-clause-names
+returns-clause-names c = names_run
