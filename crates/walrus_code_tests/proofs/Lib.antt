@@ -1,1 +1,1 @@
-pub mod Fresh
+mod Apart

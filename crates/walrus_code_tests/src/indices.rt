@@ -42,29 +42,51 @@ fn items_are_numbered_along(alloc: Global) -> bool {
 
 // Each way: the second item gets the index 0, the first one has none, and no item has the index 1.
 macro_rules! both_ways {
-    ($name:ident, $push:ident, $get:ident, $get_index:ident) => {
-        #[tactic(auto, using(crate::proofs::Fresh::{no_item, has_room}))]
-        fn $name(alloc: Global) -> bool {
-            let (mut ids, mut indices) = (IndicesToIds::new(alloc), IdsToIndices::new(alloc));
-            let (other, id) = (first_id(alloc), second_id(alloc));
-            ids.$push(id).is_ok()
-                && ids.$get(0) == Some(id)
-                && ids.$get(1).is_none()
-                && indices.$push(id).is_ok()
-                && indices.$get_index(id) == Some(0)
-                && indices.$get_index(other).is_none()
-        }
-    };
+    ($alloc:expr, $space:ident, $push:ident, $get:ident, $get_index:ident) => {{
+        let (mut ids, mut indices) = (IndicesToIds::new($alloc), IdsToIndices::new($alloc));
+        ids.$space = IndexSpace::new($alloc);
+        indices.$space = Numbering::new($alloc);
+        let (other, id) = (first_id($alloc), second_id($alloc));
+        ids.$push(id).is_ok()
+            && ids.$get(0) == Some(id)
+            && ids.$get(1).is_none()
+            && indices.$push(id).is_ok()
+            && indices.$get_index(id) == Some(0)
+            && indices.$get_index(other).is_none()
+    }};
 }
 
-both_ways!(types_have_indices, push_type, get_type, get_type_index);
-both_ways!(functions_have_indices, push_func, get_func, get_func_index);
-both_ways!(tables_have_indices, push_table, get_table, get_table_index);
-both_ways!(memories_have_indices, push_memory, get_memory, get_memory_index);
-both_ways!(tags_have_indices, push_tag, get_tag, get_tag_index);
-both_ways!(globals_have_indices, push_global, get_global, get_global_index);
-both_ways!(elements_have_indices, push_element, get_element, get_element_index);
-both_ways!(segments_have_indices, push_data, get_data, get_data_index);
+fn types_have_indices(alloc: Global) -> bool {
+    both_ways!(alloc, types, push_type, get_type, get_type_index)
+}
+
+fn functions_have_indices(alloc: Global) -> bool {
+    both_ways!(alloc, functions, push_func, get_func, get_func_index)
+}
+
+fn tables_have_indices(alloc: Global) -> bool {
+    both_ways!(alloc, tables, push_table, get_table, get_table_index)
+}
+
+fn memories_have_indices(alloc: Global) -> bool {
+    both_ways!(alloc, memories, push_memory, get_memory, get_memory_index)
+}
+
+fn tags_have_indices(alloc: Global) -> bool {
+    both_ways!(alloc, tags, push_tag, get_tag, get_tag_index)
+}
+
+fn globals_have_indices(alloc: Global) -> bool {
+    both_ways!(alloc, globals, push_global, get_global, get_global_index)
+}
+
+fn elements_have_indices(alloc: Global) -> bool {
+    both_ways!(alloc, elements, push_element, get_element, get_element_index)
+}
+
+fn segments_have_indices(alloc: Global) -> bool {
+    both_ways!(alloc, data_, push_data, get_data, get_data_index)
+}
 
 fn locals_are_numbered(alloc: Global) -> bool {
     let (other, id) = (first_id(alloc), second_id(alloc));

@@ -62,11 +62,11 @@ returns-clause-numbered c =
     globals_counted (sections c.args.raw.now) c.args.contents.now c.requires.held c.index-5.result c.len-5.result (c.index-5.ensures ∙ c.next_id-5.ensures) (globals_long ∙ sym (length-map c.args.raw.now.globals.items global_entry)) in
     all_named (sections c.args.raw.now) _ (record {
       types = c.requires.types;
-      functions = c.in_ok-in_place.ensures.numbers ∙ ap (range_with_len 0) functions;
-      tables = c.in_ok-in_place-2.ensures.numbers ∙ ap (range_with_len 0) tables;
-      memories = c.in_ok-in_place-3.ensures.numbers ∙ ap (range_with_len 0) memories;
-      tags = c.in_ok-in_place-4.ensures.numbers ∙ ap (range_with_len 0) tags;
-      globals = c.in_ok-in_place-5.ensures.numbers ∙ ap (range_with_len 0) globals;
+      functions = c.in_ok-indices.ensures.numbers ∙ ap (range_with_len 0) functions;
+      tables = c.in_ok-indices-2.ensures.numbers ∙ ap (range_with_len 0) tables;
+      memories = c.in_ok-indices-3.ensures.numbers ∙ ap (range_with_len 0) memories;
+      tags = c.in_ok-indices-4.ensures.numbers ∙ ap (range_with_len 0) tags;
+      globals = c.in_ok-indices-5.ensures.numbers ∙ ap (range_with_len 0) globals;
       elements = c.requires.none Elements (λ (e : Elements ≡ Types). cc) ∙ no_elements (sections c.args.raw.now) c.requires.supported;
       data_segments = c.requires.none DataSegments (λ (e : DataSegments ≡ Types). cc) ∙ no_data (sections c.args.raw.now) c.requires.supported;
     })

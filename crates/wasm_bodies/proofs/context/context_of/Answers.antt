@@ -9,4 +9,4 @@ pub read_types-requires : goal.read_types-requires
 read_types-requires c = record { in_place = c.new-indices.ensures Types ∙ ap (λ slots. range_with_len 0 (length slots)) (sym c.new-types.ensures.slots) }
 
 pub give_ids-requires : goal.give_ids-requires
-give_ids-requires c = record { field-0 = subst (λ xs. IsDistinct nat_eq xs) (sym c.in_ok-read_types.ensures.in_place) (range-distinct 0 _) }
+give_ids-requires c = subst (λ xs. IsDistinct nat_eq xs) (sym c.in_ok-read_types.ensures.in_place) (range-distinct 0 _)
