@@ -18,11 +18,13 @@ members-init c =
     let t = place c.args.id in
     let left = ids_left c.into_iter-member-iterator.result in
     let is : left ≡ group_at slots t = ap ids_left c.into_iter-member-iterator.ensures.into_iter_gives ∙ c.group-member-items.ensures in
-    let found = items_in c.args.found.now in
-    (tt, tt,
+    let found = items_in c.args.found.now in (
+      tt,
+      tt,
       λ p at. group_live slots c.groups_are_whole.ensures t p (subst (λ (ps : List ℕ). Contains ps p) is at),
       λ space. refl,
-      λ new after n. subst (λ (ps : List ℕ). Notes (map type_item ps) c.args.marks.now new found after) is n)
+      λ new after n. subst (λ (ps : List ℕ). Notes (map type_item ps) c.args.marks.now new found after) is n,
+    )
 
 pub note-requires : goal.note-requires
 note-requires c =
@@ -37,12 +39,14 @@ members-preserved c =
     let steps : ids_left c.members.member-iterator ≡ q ∷ rest = c.in-Some.ensures.steps in
     let noted = c.in_ok-note.ensures.1 in
     let marks = c.members.marks in
-    let found = items_in c.members.found in
-    (tt, tt,
+    let found = items_in c.members.found in (
+      tt,
+      tt,
       λ p at. c.members.invariant.2 p (subst (λ (ps : List ℕ). Contains ps p) (sym steps) (Contains-tail q p rest at)),
       λ space. noted.places space ∙ c.members.invariant.3 space,
       λ new after n. c.members.invariant.4 new after (subst (λ (ps : List ℕ). Notes (map type_item ps) marks new found after) (sym steps)
-      (notes_both (type_item q ∷ []) (map type_item rest) marks c.note.new.marks new found (items_in c.note.new.found) after noted n)))
+          (notes_both (type_item q ∷ []) (map type_item rest) marks c.note.new.marks new found (items_in c.note.new.found) after noted n)),
+    )
 
 pub returns : goal.returns
 returns c =
