@@ -185,7 +185,7 @@ module _ (v : Abstract) where
       entered = λ a y c. both.entered a y (Contains-append_left (x ∷ []) group y c);
       places = both.places;
     } where
-      abbrev group : List Item
+      group : List Item
       group = group_names v x
 
       both : Notes ((x ∷ []) ++ group) old new f f2

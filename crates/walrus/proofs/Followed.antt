@@ -61,7 +61,7 @@ module _ (v : Abstract) where
     sound = λ x c. absurd (nothing x c);
     closed = λ x y c r. absurd (nothing x c);
   } where
-    abbrev none : Agrees u0 []
+    none : Agrees u0 []
     none = nothing_agrees u0 unmarked
 
     named : (x : Item) → Contains f x → IsOf v roots x

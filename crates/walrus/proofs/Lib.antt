@@ -4,3 +4,4 @@ pub mod Entered
 pub mod Followed
 pub mod ReachedLemmas
 pub mod CollectedLemmas
+pub mod Marking

@@ -7,6 +7,7 @@ use Rattle.walrus_base.specs.Types.{sub_names}
 use Rattle.walrus_types.specs.ModuleTypes.{type_slots}
 use Rattle.walrus_types.specs.Operators.{Types, Functions, Tables, Memories, Tags, Globals, Elements, DataSegments, Item, type_item}
 use Rattle.walrus_types.specs.TypeDef.{TypeDef}
+use Rattle.walrus_types.specs.TypeSlots.{group_at, group_of}
 use Rattle.walrus_types.specs.Whole.{AreWhole}
 use Rattle.walrus_types.proofs.ShapesEnd.{has_contained}
 use Rattle.walrus_types.proofs.ShapesKept.{made_of}
@@ -72,6 +73,15 @@ module _ (v : Abstract) where
 -- a member of an item's group is there, and has the same group
 abbrev pub GroupsAreWhole : Abstract → Type 0
 GroupsAreWhole v = (x y : Item) → Contains (group_names v x) y → IsLive v y × (group_names v y ≡ group_names v x)
+
+-- a member of a type's group is there
+pub group_live : (slots : List (Option TypeDef)) → AreWhole slots → (t p : ℕ) → Contains (group_at slots t) p → IsSome (item_at slots p)
+group_live slots whole t p at = by (item_at slots t) refl at where
+  by : (o : Option TypeDef) → item_at slots t ≡ o → Contains (group_of o) p → IsSome (item_at slots p)
+  by None e none = absurd (Contains-none p none)
+  by (Some x) e member =
+      let made = made_of (λ (y : TypeDef). y.group) (item_at slots p) x.group (whole.members t x e p (has_contained x.group p member)) in
+      subst (λ (o : Option TypeDef). IsSome o) (sym made.1) refl
 
 module _ (c : Contents) (whole : AreWhole (type_slots c.types)) where
   abbrev slots : List (Option TypeDef)

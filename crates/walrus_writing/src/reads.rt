@@ -3,9 +3,9 @@ ghost use Rattle.std.specs.Prelude.{◌≡◌, true, false, map, IfOk, IsOkUnles
 ghost use Rattle.walrus_code.specs.Code.{item_of};
 ghost use Rattle.walrus_items.specs.Globals.{globals};
 ghost use Rattle.walrus_model.specs.Live.{IsLive};
-ghost use Rattle.walrus_model.specs.Refers.{written_in};
 ghost use Rattle.walrus_parts.specs.Errors.{out_of_memory};
 ghost use Rattle.walrus_rules.specs.Refused.{LacksIndex};
+ghost use Rattle.walrus_contents.specs.Named.{own_written};
 ghost use Rattle.walrus_contents.specs.View.{parts_view};
 ghost use Rattle.walrus_writing.specs.Reads.{AreReadEarlier, AreReadImported, HasInitialiser, ReadsInOrder, may_name, may_name_all};
 
@@ -67,7 +67,7 @@ fn does_read_before(
     requires live { IsLive (parts_view parts) (item_of item) }
     requires initialised { HasInitialiser (item_of item) }
     ensures value { IfOk result (λ b. b ≡ may_name_all (globals parts.entry.globals.now) from
-        (written_in (parts_view parts.entry) (item_of item))) }
+        (own_written (parts_view parts.entry) (item_of item))) }
     ensures fails { IsOkUnless result out_of_memory }
 {
     named.clear();

@@ -125,7 +125,12 @@ fn search(alloc: Global, parts: Parts<'_>) -> Result<MarkedItems>
 }
 
 // Marks what each item entered names, those that are entered on the way too.
-fn follow(alloc: Global, parts: Parts<'_>, marks: &mut MarkedItems, found: &mut Vec<ItemId>) -> Result<()>
+fn follow(
+    alloc: Global,
+    parts: Parts<'_>,
+    marks: &mut MarkedItems,
+    found: &mut Vec<ItemId>,
+) -> Result<()>
     requires { Follows (parts_view parts) marks.old (items_in found.old) 0 }
     ensures { MatchResult result
         (λ _. Followed (parts_view parts.entry) marks.new)
@@ -185,7 +190,12 @@ fn enter_all(
 }
 
 // The same for one item.
-fn enter(parts: Parts<'_>, item: ItemId, marks: &mut MarkedItems, found: &mut Vec<ItemId>) -> Result<()>
+fn enter(
+    parts: Parts<'_>,
+    item: ItemId,
+    marks: &mut MarkedItems,
+    found: &mut Vec<ItemId>,
+) -> Result<()>
     requires { HavePlaces (parts_view parts) marks.old }
     ensures { MatchResult result
         (λ _. Enters (parts_view parts.entry) (item_of item ∷ []) marks.old marks.new (items_in found.old)
@@ -235,8 +245,8 @@ fn note_members(
 ) -> result::Result<(), AllocError>
     requires live { IsLiveAt (type_slots types.now) (place id) }
     requires places { (p : ℕ) → IsLiveAt (type_slots types.now) p → HasPlace marks.old (type_item p) }
-    ensures { OnOk result (Notes (map type_item (group_at (type_slots types.now) (place id))) marks.old marks.new
-        (items_in found.old) (items_in found.new)) }
+    ensures { OnOk result (Notes (map type_item (group_at (type_slots types.now) (place id)))
+        marks.old marks.new (items_in found.old) (items_in found.new)) }
 {
     types.groups_are_whole();
     'members: for member in types.group(id) {

@@ -14,10 +14,10 @@ use Rattle.walrus.proofs.passes.used.follow.Goals as goal
 use Rattle.walrus.proofs.passes.used.follow.Goals.{else-loop-taken-test, then-loop-taken-test+then-taken-len}
 
 pub follow_item-requires-clause-places : goal.follow_item-requires-clause-places
-follow_item-requires-clause-places g c = c.loop-taken.invariant.places
+follow_item-requires-clause-places c = c.loop-taken.invariant.places
 
 pub follow_item-requires-clause-live : goal.follow_item-requires-clause-live
-follow_item-requires-clause-live g c =
+follow_item-requires-clause-live c =
     let n = c.loop-taken.taken in
     let f = c.loop-taken.found.items in
     let id = c.index-item.result.now in

@@ -13,10 +13,10 @@ use Rattle.walrus.specs.declared.passes.marks.MarkedItems.{MarkedItems}
 use Rattle.walrus.proofs.passes.used.note_members.Given as goal
 
 -- the members to come are there, and what notes them notes all
-abbrev pub invariant-loop-members : goal.invariant-loop-members
-invariant-loop-members l =
-    (goal.iterator-loop-members).can_next l.member-iterator
-    × (goal.iterator-loop-members).is_finite l.member-iterator
+abbrev pub invariant-members : goal.invariant-members
+invariant-members l =
+    (goal.iterator-members).can_next l.member-iterator
+    × (goal.iterator-members).is_finite l.member-iterator
     × ((p : ℕ) → Contains (ids_left l.member-iterator) p → IsLive (type_slots l.types) p)
     × SamePlaces l.fn.marks l.marks
     × ((new : MarkedItems) (after : List Item) → Notes (map type_item (ids_left l.member-iterator)) l.marks new (items_in l.found) after

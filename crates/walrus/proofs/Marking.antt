@@ -1,0 +1,99 @@
+-- Marks for all places, and the sets that are made of them.
+use Rattle.std.proofs.Common.{◌≡◌, ℕ, zero, suc, ◌+◌, ◌<◌, ◌==◌, ◌||◌, Bool, true, false, List, [], ◌∷◌, length, Option, None, eq-eqb, eqb-true, add-zero, zero-add, sym, ap, ap₂, ◌∙◌, subst, refl, arith}
+use Rattle.std.specs.Prelude.{IsSome, slice_index_or}
+use Rattle.std.proofs.lemmas.Bool.{false≢true}
+use Rattle.walrus_base.specs.Arena.{item_at}
+use Rattle.walrus_base.specs.IdSet.{Adds, has_id}
+use Rattle.walrus_base.specs.declared.set.IdHashSet.{IdHashSet}
+use Rattle.walrus_base.specs.Marks.{is_marked, mark_places, marked_from, places_marked}
+use Rattle.walrus_base.specs.declared.marks.Marks.{Marks}
+use Rattle.walrus_types.specs.ModuleTypes.{type_slots}
+use Rattle.walrus_types.specs.Operators.{Types, Functions, Tables, Memories, Tags, Globals, Elements, DataSegments}
+use Rattle.walrus_types.specs.PlaceList.{has}
+use Rattle.walrus_types.proofs.Noted.{or_left}
+use Rattle.walrus_items.specs.Functions.{functions}
+use Rattle.walrus_items.specs.Globals.{globals}
+use Rattle.walrus_items.specs.Memories.{memories}
+use Rattle.walrus_items.specs.Tables.{tables}
+use Rattle.walrus_items.specs.Tags.{tags}
+use Rattle.walrus_contents.specs.View.{contents_view, function, global_of, memory_of, table_of, tag_of}
+use Rattle.walrus_contents.specs.declared.parts.Contents.{Contents}
+use Rattle.walrus_contents.proofs.LiveLemmas.{was_there}
+use Rattle.walrus.specs.MarkedItems.{HavePlaces}
+use Rattle.walrus.specs.declared.passes.marks.MarkedItems.{MarkedItems}
+
+-- ---- a mark for each live item
+
+below : {T : Type 0} (xs : List (Option T)) (i : ℕ) → IsSome (item_at xs i) → i < length xs
+below [] i h = absurd cc
+below (x ∷ xs) zero h = omega arith
+below (x ∷ xs) (suc i) h = let lt : i < length xs = below xs i h in omega (arith, lt)
+
+-- so many places are enough
+enough : {T : Type 0} (n : ℕ) (xs : List (Option T)) → n ≡ length xs → (i : ℕ) → IsSome (item_at xs i) → i < n
+enough n xs e i h = subst (λ (k : ℕ). i < k) (sym e) (below xs i h)
+
+pub places_made : (c : Contents) (m : MarkedItems) → mark_places m.types ≡ length (type_slots c.types) → mark_places m.funcs ≡ length (functions c.funcs)
+    → mark_places m.tables ≡ length (tables c.tables) → mark_places m.memories ≡ length (memories c.memories)
+    → mark_places m.tags ≡ length (tags c.tags) → mark_places m.globals ≡ length (globals c.globals) → HavePlaces (contents_view c) m
+places_made c m et ef eb em ea eg (Types, i) live = enough (mark_places m.types) (type_slots c.types) et i live
+places_made c m et ef eb em ea eg (Functions, i) live = enough (mark_places m.funcs) (functions c.funcs) ef i (was_there (function c.locals) (item_at (functions c.funcs) i) live)
+places_made c m et ef eb em ea eg (Tables, i) live = enough (mark_places m.tables) (tables c.tables) eb i (was_there table_of (item_at (tables c.tables) i) live)
+places_made c m et ef eb em ea eg (Memories, i) live = enough (mark_places m.memories) (memories c.memories) em i (was_there memory_of (item_at (memories c.memories) i) live)
+places_made c m et ef eb em ea eg (Tags, i) live = enough (mark_places m.tags) (tags c.tags) ea i (was_there tag_of (item_at (tags c.tags) i) live)
+places_made c m et ef eb em ea eg (Globals, i) live = enough (mark_places m.globals) (globals c.globals) eg i (was_there global_of (item_at (globals c.globals) i) live)
+places_made c m et ef eb em ea eg (Elements, i) live = absurd (false≢true live)
+places_made c m et ef eb em ea eg (DataSegments, i) live = absurd (false≢true live)
+
+-- ---- the places that are marked, as a list
+
+none_before : (bs : List Bool) (s q : ℕ) → q < s → has (marked_from s bs) q ≡ false
+none_before [] s q lt = refl
+none_before (false ∷ bs) s q lt = none_before bs (s + 1) q (omega (arith, lt))
+none_before (true ∷ bs) s q lt = by (s == q) refl (none_before bs (s + 1) q (omega (arith, lt))) where
+  by : (t : Bool) → (s == q) ≡ t → has (marked_from (s + 1) bs) q ≡ false → (t || has (marked_from (s + 1) bs) q) ≡ false
+  by true e later = let same : s ≡ q = eqb-true s q e in absurd (omega (arith, same, lt))
+  by false e later = later
+
+has_marked : (bs : List Bool) (s p : ℕ) → has (marked_from s bs) (s + p) ≡ slice_index_or bs p false
+has_marked [] s p = refl
+has_marked (false ∷ bs) s zero = none_before bs (s + 1) (s + 0) (omega arith)
+has_marked (false ∷ bs) s (suc p) = let e : s + suc p ≡ (s + 1) + p = omega arith in ap (has (marked_from (s + 1) bs)) e ∙ has_marked bs (s + 1) p
+has_marked (true ∷ bs) s zero = or_left (s == s + 0) (has (marked_from (s + 1) bs) (s + 0)) (eq-eqb s (s + 0) (sym (add-zero s)))
+has_marked (true ∷ bs) s (suc p) = by (s == s + suc p) refl (let e : s + suc p ≡ (s + 1) + p = omega arith in ap (has (marked_from (s + 1) bs)) e ∙ has_marked bs (s + 1) p) where
+  by : (t : Bool) → (s == s + suc p) ≡ t → has (marked_from (s + 1) bs) (s + suc p) ≡ slice_index_or bs p false → (t || has (marked_from (s + 1) bs) (s + suc p)) ≡ slice_index_or bs p false
+  by true e later = let same : s ≡ s + suc p = eqb-true s (s + suc p) e in absurd (omega (arith, same))
+  by false e later = later
+
+-- ---- a set that is made of them
+
+module _ {K : Type 0} (marks : Marks K) where
+  -- what is in, and what is still to come, is what is marked
+  abbrev pub Made : IdHashSet K → List ℕ → Type 0
+  Made ids rest = (p : ℕ) → (has_id ids p || has rest p) ≡ is_marked marks p
+
+  pub made_begins : (ids : IdHashSet K) (rest : List ℕ) → ((p : ℕ) → has_id ids p ≡ false) → rest ≡ places_marked marks → Made ids rest
+  made_begins ids rest none is p =
+      ap₂ (λ (a : Bool) (ps : List ℕ). a || has ps p) (none p) is
+      ∙ ap (has (places_marked marks)) (sym (zero-add p)) ∙ has_marked marks.marks.items 0 p
+
+  added : (now then_ here rest : Bool) → here ≡ true → now ≡ true → (now || rest) ≡ (then_ || (here || rest))
+  added true true true rest e f = refl
+  added true false true rest e f = refl
+  added now then_ false rest e f = absurd (false≢true e)
+  added false then_ true rest e f = absurd (false≢true f)
+
+  pub made_goes : (old new : IdHashSet K) (q : ℕ) (left rest : List ℕ) → left ≡ q ∷ rest → Adds old new q → Made old left → Made new rest
+  made_goes old new q left rest is adds made p = by (q == p) refl ∙ ap (λ (ps : List ℕ). has_id old p || has ps p) (sym is) ∙ made p where
+    by : (t : Bool) → (q == p) ≡ t → (has_id new p || has rest p) ≡ (has_id old p || ((q == p) || has rest p))
+    by true e = added (has_id new p) (has_id old p) (q == p) (has rest p) e (subst (λ (n : ℕ). has_id new n ≡ true) (eqb-true q p e) adds.added)
+    by false e =
+        ap (λ (a : Bool). a || has rest p) (adds.others p (λ same. false≢true (sym e ∙ eq-eqb q p (sym same))))
+        ∙ ap (λ (t : Bool). has_id old p || (t || has rest p)) (sym e)
+
+  or_none : (a : Bool) → a ≡ (a || false)
+  or_none true = refl
+  or_none false = refl
+
+  pub made_ends : (ids : IdHashSet K) (left : List ℕ) → left ≡ [] → Made ids left → (p : ℕ) → has_id ids p ≡ is_marked marks p
+  made_ends ids left is made p = or_none (has_id ids p) ∙ ap (λ (ps : List ℕ). has_id ids p || has ps p) (sym is) ∙ made p
