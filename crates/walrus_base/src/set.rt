@@ -6,8 +6,7 @@ ghost use Rattle.walrus_base.specs.Id.{place};
 
 use crate::id::Id;
 use std::alloc::{AllocError, Global};
-use std::collections::BTreeSet;
-use std::collections::btree_set;
+use std::collections::{BTreeSet, btree_set};
 use std::marker::PhantomData;
 
 /// A set of ids. Its memory goes by how many ids are in, wherever their places are.

@@ -12,8 +12,8 @@ ghost use Rattle.walrus_code.specs.Results.{heap_is_exact, val_is_exact, block_i
 ghost use Rattle.walrus_code.specs.Stands.{BlockStands, ArgStands};
 
 use crate::error::IrError;
-use crate::numbering::IdsToIndices;
 use crate::local_numbers::LocalNumbers;
+use crate::numbering::IdsToIndices;
 use crate::operator::{Arg, BlockType, Operator};
 use std::alloc::Global;
 use walrus_types::{AbstractHeapType, HeapType, ValType};

@@ -81,7 +81,13 @@ fn globals_have_indices(alloc: Global) -> bool {
 }
 
 fn elements_have_indices(alloc: Global) -> bool {
-    both_ways!(alloc, elements, push_element, get_element, get_element_index)
+    both_ways!(
+        alloc,
+        elements,
+        push_element,
+        get_element,
+        get_element_index
+    )
 }
 
 fn segments_have_indices(alloc: Global) -> bool {

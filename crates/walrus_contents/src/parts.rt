@@ -6,7 +6,10 @@ ghost use Rattle.walrus_model.specs.Live.{IsLive};
 ghost use Rattle.walrus_contents.specs.View.{HoldsNothing, contents_view, parts_view};
 
 use std::alloc::Global;
-use walrus_items::{ItemId, ModuleExports, ModuleFunctions, ModuleGlobals, ModuleImports, ModuleLocals, ModuleMemories, ModuleTables, ModuleTags, ModuleTypes, Result};
+use walrus_items::{
+    ItemId, ModuleExports, ModuleFunctions, ModuleGlobals, ModuleImports, ModuleLocals,
+    ModuleMemories, ModuleTables, ModuleTags, ModuleTypes, Result,
+};
 use walrus_producers::ModuleProducers;
 
 /// The collections in which a module keeps its items, and what these are made of.

@@ -18,7 +18,10 @@ ghost use Rattle.walrus_contents.specs.View.{parts_view};
 
 use crate::parts::Parts;
 use std::alloc::Global;
-use walrus_items::{Arg, ExportItem, FunctionKey, FunctionKind, GlobalKind, IdHashSet, LocalFunction, ModuleExports, ModuleFunctions, ModuleGlobals, Operator, Result};
+use walrus_items::{
+    Arg, ExportItem, FunctionKey, FunctionKind, GlobalKind, IdHashSet, LocalFunction,
+    ModuleExports, ModuleFunctions, ModuleGlobals, Operator, Result,
+};
 use walrus_types::{ConstExpr, ConstOp};
 use wasm_opcodes::one_byte::REF_FUNC;
 

@@ -6,10 +6,10 @@ use test_support::{demand, first_id, second_id};
 use walrus_base::{
     GlobalId, GlobalKey, Marks, MemoryId, MemoryKey, TableId, TableKey, TagId, TagKey,
 };
+use walrus_ir::{AbstractHeapType, ConstExpr, HeapType, RefType, ValType, Value};
 use walrus_items::{
     GlobalKind, ModuleGlobals, ModuleMemories, ModuleTables, ModuleTags, Tag, TagKind,
 };
-use walrus_ir::{AbstractHeapType, ConstExpr, HeapType, RefType, ValType, Value};
 use walrus_parts::Error;
 
 fn nullable(heap: AbstractHeapType) -> RefType {

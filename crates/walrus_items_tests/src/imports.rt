@@ -5,8 +5,8 @@ use std::hash::{DefaultHasher, Hash, Hasher};
 use std::test::Fail;
 use test_support::{demand, first_id, is_text};
 use walrus_base::{
-    FunctionId, FunctionKey, GlobalId, GlobalKey, Marks, ImportId, MemoryId, MemoryKey,
-    TableId, TableKey, TagId, TagKey,
+    FunctionId, FunctionKey, GlobalId, GlobalKey, ImportId, Marks, MemoryId, MemoryKey, TableId,
+    TableKey, TagId, TagKey,
 };
 use walrus_items::{Import, ImportKind, ItemMarks, ModuleImports};
 use walrus_parts::Error;

@@ -3,7 +3,7 @@
 use std::alloc::{AllocError, Global};
 use std::test::Fail;
 use test_support::{demand, first_id, is_name, is_text, second_id};
-use walrus_base::{ExportId, FunctionId, FunctionKey, Marks, ImportId};
+use walrus_base::{ExportId, FunctionId, FunctionKey, ImportId, Marks};
 use walrus_ir::LocalFunction;
 use walrus_items::{ExportItem, FunctionKind, ImportedFunction, ModuleExports, ModuleFunctions};
 use walrus_parts::Error;

@@ -8,8 +8,11 @@ use crate::customs::ModuleCustomSections;
 use crate::entry::SectionEntry;
 use std::alloc::Global;
 use walrus_contents::Contents;
-use walrus_items::{ModuleExports, ModuleFunctions, ModuleGlobals, ModuleImports, ModuleMemories, ModuleTables, ModuleTags};
 use walrus_ir::{ModuleLocals, ModuleTypes};
+use walrus_items::{
+    ModuleExports, ModuleFunctions, ModuleGlobals, ModuleImports, ModuleMemories, ModuleTables,
+    ModuleTags,
+};
 use walrus_parts::Result;
 use walrus_producers::ModuleProducers;
 

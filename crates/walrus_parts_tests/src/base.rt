@@ -111,7 +111,9 @@ fn keeps_second(alloc: Global, arena: &mut Numbers) -> bool {
     arena.keep_only(&marks);
     is_marked_alone(&marks, second)
         && first < second
-        && !arena.contains(first) && arena.contains(second) && *arena.get(second) == 20
+        && !arena.contains(first)
+        && arena.contains(second)
+        && *arena.get(second) == 20
 }
 
 #[test]

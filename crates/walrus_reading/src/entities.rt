@@ -20,8 +20,8 @@ ghost use Rattle.walrus_reading.specs.Stays.{ConstStays, GlobalStays, RefStays, 
 use std::alloc::Global;
 use walrus_code::name_value;
 use walrus_constants::read_const;
-use walrus_items::{ModuleGlobals, ModuleMemories, ModuleTables, ModuleTags};
 use walrus_ir::{ConstExpr, IndicesToIds, IrError, RefType, ValType};
+use walrus_items::{ModuleGlobals, ModuleMemories, ModuleTables, ModuleTags};
 use walrus_parts::{Error, Result};
 use wasm_wire::{RawConst, RawGlobal, RawLimits, RawRef, RawTable, RawVal};
 

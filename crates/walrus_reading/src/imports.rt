@@ -21,8 +21,10 @@ ghost use Rattle.walrus_reading.specs.Stays.{DescStays, RefStays, TypeStays, Val
 
 use crate::entities::{read_reference, read_value};
 use walrus_contents::Contents;
-use walrus_items::{ImportKind, ModuleFunctions, ModuleGlobals, ModuleMemories, ModuleTables, ModuleTags};
 use walrus_ir::{FunctionId, GlobalId, ImportId, IndicesToIds, MemoryId, TableId, TagId};
+use walrus_items::{
+    ImportKind, ModuleFunctions, ModuleGlobals, ModuleMemories, ModuleTables, ModuleTags,
+};
 use walrus_parts::Result;
 use wasm_wire::{RawDesc, RawGlobalType, RawImport, RawLimits, RawTableType};
 

@@ -52,27 +52,15 @@ pub(crate) fn number_items(
     ensures numbered { OnOk result (ids_at indices.new ≡ declared (sections raw.now)) }
     ensures fails { IsOkUnless result out_of_memory }
 {
-    indices.functions = in_place(
-        alloc,
-        contents.funcs.next_id().index(),
-        raw.functions.len(),
-    )?;
-    indices.tables = in_place(
-        alloc,
-        contents.tables.next_id().index(),
-        raw.tables.len(),
-    )?;
+    indices.functions = in_place(alloc, contents.funcs.next_id().index(), raw.functions.len())?;
+    indices.tables = in_place(alloc, contents.tables.next_id().index(), raw.tables.len())?;
     indices.memories = in_place(
         alloc,
         contents.memories.next_id().index(),
         raw.memories.len(),
     )?;
     indices.tags = in_place(alloc, contents.tags.next_id().index(), raw.tags.len())?;
-    indices.globals = in_place(
-        alloc,
-        contents.globals.next_id().index(),
-        raw.globals.len(),
-    )?;
+    indices.globals = in_place(alloc, contents.globals.next_id().index(), raw.globals.len())?;
     Ok(())
 }
 

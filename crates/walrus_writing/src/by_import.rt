@@ -15,10 +15,12 @@ ghost use Rattle.walrus_writing.specs.Brought.{own_places, places_brought};
 
 use crate::origins::{global_import, tag_import};
 use std::alloc::Global;
-use walrus_items::{ImportKind, ModuleGlobals, ModuleImports, ModuleMemories, ModuleTables, ModuleTags};
 use walrus_ir::{
-    FunctionId, FunctionKey, GlobalId, GlobalKey, Id, MemoryId, MemoryKey, TableId, TableKey, TagId,
-    TagKey,
+    FunctionId, FunctionKey, GlobalId, GlobalKey, Id, MemoryId, MemoryKey, TableId, TableKey,
+    TagId, TagKey,
+};
+use walrus_items::{
+    ImportKind, ModuleGlobals, ModuleImports, ModuleMemories, ModuleTables, ModuleTags,
 };
 use walrus_parts::Result;
 

@@ -15,9 +15,9 @@ use crate::origins::global_import;
 use std::alloc::Global;
 use walrus_code::index_value;
 use walrus_constants::raw_const;
+use walrus_ir::{IdsToIndices, IrError};
 use walrus_items as entities;
 use walrus_items::{GlobalKind, ModuleGlobals};
-use walrus_ir::{IdsToIndices, IrError};
 use walrus_parts::Error;
 use wasm_wire::{RawConst, RawGlobal, RawGlobalType};
 

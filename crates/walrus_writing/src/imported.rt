@@ -27,9 +27,9 @@ use crate::tables::raw_table_type;
 use std::alloc::Global;
 use walrus_code::index_value;
 use walrus_contents::Parts;
+use walrus_ir::{IdsToIndices, IrError, TypeId};
 use walrus_items as entities;
 use walrus_items::{Function, Import, ImportKind, Memory, Table, Tag};
-use walrus_ir::{IdsToIndices, IrError, TypeId};
 use walrus_parts::Error;
 use wasm_wire::{RawDesc, RawGlobalType, RawImport};
 

@@ -10,8 +10,8 @@ ghost use Rattle.walrus_model.specs.WellMade.{import_of};
 ghost use Rattle.walrus_writing.specs.Origins.{function_import};
 
 use walrus_contents::Parts;
-use walrus_items::{FunctionKind, GlobalKind, ImportKind, TagKind};
 use walrus_ir::ImportId;
+use walrus_items::{FunctionKind, GlobalKind, ImportKind, TagKind};
 
 /// The import that brings a function of this kind.
 pub fn function_import(kind: &FunctionKind) -> Option<ImportId>

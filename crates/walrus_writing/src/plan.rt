@@ -29,10 +29,10 @@ use crate::by_import::{
 use std::alloc::Global;
 use std::cmp::Reverse;
 use walrus_contents::Parts;
-use walrus_items::{GlobalKind, ModuleFunctions};
 use walrus_ir::{
     FunctionId, GlobalId, IdsToIndices, MemoryId, ModuleTypes, Numbering, TableId, TagId, TypeId,
 };
+use walrus_items::{GlobalKind, ModuleFunctions};
 use walrus_parts::{Error, Result};
 
 /// For each index space the ids of the items in the order in which they are written, so that each one's place in it is its index: what

@@ -24,9 +24,11 @@ use crate::bodies::local_of;
 use crate::origins::tag_import;
 use std::alloc::Global;
 use walrus_contents::Parts;
-use walrus_items::{Export, ExportItem, Memory, ModuleExports, ModuleFunctions, ModuleMemories, ModuleTags, Tag};
 use walrus_groups::index_types;
 use walrus_ir::{FunctionId, IdsToIndices, ModuleTypes};
+use walrus_items::{
+    Export, ExportItem, Memory, ModuleExports, ModuleFunctions, ModuleMemories, ModuleTags, Tag,
+};
 use walrus_parts::{Error, Result};
 use wasm_wire::{
     Raw, RawBody, RawExport, RawExportKind, RawGlobal, RawGroup, RawImport, RawLimits, RawTable,

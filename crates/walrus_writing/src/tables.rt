@@ -20,8 +20,8 @@ use crate::records::{limit_of, pages_of};
 use std::alloc::Global;
 use walrus_code::index_value;
 use walrus_constants::raw_const;
-use walrus_items::{ModuleTables, Table};
 use walrus_ir::{ConstExpr, IdsToIndices, IrError, RefType, ValType};
+use walrus_items::{ModuleTables, Table};
 use walrus_parts::Error;
 use wasm_wire::{RawConst, RawLimits, RawRef, RawTable, RawTableType, RawVal};
 

@@ -9,7 +9,7 @@ pub returns-then-len-most-clause-fails : goal.returns-then-len-most-clause-fails
 returns-then-len-most-clause-fails c =
     let p = c.args.plan.now in
     elim c.then-len-most.branch [
-      then-len-most-via-then-len-most w ↦ (Types, omega (arith, w.if-len-most.true, c.len.ensures, length-map p.types.items place))
+      | then-len-most-via-then-len-most w ↦ (Types, omega (arith, w.if-len-most.true, c.len.ensures, length-map p.types.items place))
       | then-len-most-via-else-len-most+then-len-most-2 w ↦ (Functions, omega (arith, w.if-len-most-2.true, w.len-else-len-most.ensures, length-map p.functions.items place))
       | then-len-most-via-else-len-most+else-len-most-2+then-len-most-3 w ↦ (Tables, omega (arith, w.if-len-most-3.true, w.len-else-len-most-2.ensures, length-map p.tables.items place))
       | then-len-most-via-else-len-most+else-len-most-2+else-len-most-3+then-len-most-4 w ↦ (Memories, omega (arith, w.if-len-most-4.true, w.len-else-len-most-3.ensures, length-map p.memories.items place))
