@@ -1,6 +1,6 @@
 -- The steps, one by one, on a legacy handler: the type that it needs is added when the module is parsed, and is kept for the function.
-use Rattle.std.proofs.Common.{◌≡◌, ◌≢◌, ℕ, zero, suc, ◌<◌, ◌≤◌, Bool, true, false, List, [], ◌∷◌, ◌++◌, length, refl, sym, ap, ◌∙◌, subst, arith, append-nil, inl, inr, ⊎_elim}
-use Rattle.std.specs.Prelude.{Option, Some, None, IsSome, is_some, All, Contains, slice_get, codes, pos, ◌↔◌, ◌⊎◌}
+use Rattle.std.proofs.Common.{◌≡◌, ◌≢◌, ℕ, zero, suc, ◌<◌, ◌≤◌, Bool, true, false, List, [], ◌∷◌, length, refl, sym, ap, ◌∙◌, subst, arith, append-nil, inl, inr, ⊎_elim}
+use Rattle.std.specs.Prelude.{Option, Some, None, IsSome, All, Contains, slice_get, codes, pos, ◌↔◌, ◌⊎◌}
 use Rattle.std.specs.List.{AllByRecursion}
 use Rattle.std.proofs.lemmas.List.Elements.{All-nil, All-cons}
 use Rattle.std.proofs.lemmas.List.Kept.{AllPairs-cons}
@@ -13,11 +13,10 @@ use Rattle.wasm_forms.specs.declared.types.RawVal.{RawVal}
 use Rattle.wasm_forms.specs.declared.types.RawVal.TheVariants as vals
 use Rattle.wasm_entries.specs.Record as entries
 use Rattle.wasm_entries.specs.TypeSpelling.{GroupStands, SubStands}
-use Rattle.wasm_entries.specs.Spelling.{IsIndex, ExportStands}
+use Rattle.wasm_entries.specs.Spelling.{ExportStands}
 use Rattle.wasm_frames.specs.Frames as frames
 use Rattle.wasm_frames.specs.Frames.{Section, gathered}
 use Rattle.wasm_writer.specs.Spelling.{SectionStands, SectionFits}
-use Rattle.wasm_operators.specs.Operators as wire
 use Rattle.wasm_operators.specs.declared.operator.RawArg.TheVariants as args
 use Rattle.wasm_operators.specs.declared.operator.RawBlock.TheVariants as blocks
 use Rattle.wasm_operators.specs.Forms.{arg_form, args_form, operator_of, operator_from, operator, block_type, block_from}
@@ -27,7 +26,7 @@ use Rattle.walrus_types.specs.Operators as items
 use Rattle.walrus_types.specs.Operators.{Space, Types, Functions, Tables, Memories, Globals, Elements, DataSegments, Item, Index, S32, Block, OneResult, OfType, Op, names_of}
 use Rattle.walrus_bodies.specs.Blocks.{are_nested}
 use Rattle.walrus_bodies.specs.Features.{are_allowed}
-use Rattle.walrus_model.specs.Abstract.{Abstract, Name, Subject, AnItem, ProducerField, TypeDef, Function, Body, LocalFunction, Uninitialised, Defined, Tag, Export}
+use Rattle.walrus_model.specs.Abstract.{Abstract, Name, Subject, ProducerField, TypeDef, Function, Body, LocalFunction, Uninitialised, Defined, Tag, Export}
 use Rattle.walrus_model.specs.Carried.{Carries, Carried}
 use Rattle.walrus_model.specs.Config.{Config}
 use Rattle.walrus_model.specs.Declared.{ref_func, IsRefInBody, IsRefInGlobal}
@@ -51,7 +50,7 @@ use Rattle.walrus_rules.specs.Chain.{ParsedAs, BringsTo, AndThose, NoFunction, N
 use Rattle.walrus_rules.specs.Examples.{the_end}
 use Rattle.walrus_rules.specs.Features.{features_of}
 use Rattle.walrus_rules.specs.Headline.{Reads, ComesTo}
-use Rattle.walrus_rules.specs.Pinned.{IsWrittenAs, GoesBefore}
+use Rattle.walrus_rules.specs.Pinned.{IsWrittenAs}
 use Rattle.walrus_rules.specs.Spelling.{BodyStands, UsesAll, NeedsCount, IsSpelledAs}
 use Rattle.walrus_rules.specs.SpelledLaws.{BodiesNest}
 use Rattle.walrus_rules.specs.Text.{said, sections_of, said_by, unplaced}
@@ -186,9 +185,13 @@ HasNoType o = (t : ℕ) → Contains o.args (Block (OfType t)) → ⊥
 none_typed : AllByRecursion HasNoType the_ops
 none_typed = (
   (λ t has. let is = only_one (Block (OneResult I32)) (Block (OfType t)) has in absurd (cc)),
-  ((λ t has. let is = only_one (S32 (pos 0)) (Block (OfType t)) has in absurd (cc)),
-  ((λ t has. let is = only_one (Index (items.Tags, 0)) (Block (OfType t)) has in absurd (cc)),
-  ((λ t has. Contains-none (Block (OfType t)) has), ((λ t has. Contains-none (Block (OfType t)) has), ((λ t has. Contains-none (Block (OfType t)) has), tt))))),
+  (
+    (λ t has. let is = only_one (S32 (pos 0)) (Block (OfType t)) has in absurd (cc)),
+    (
+      (λ t has. let is = only_one (Index (items.Tags, 0)) (Block (OfType t)) has in absurd (cc)),
+      ((λ t has. Contains-none (Block (OfType t)) has), ((λ t has. Contains-none (Block (OfType t)) has), ((λ t has. Contains-none (Block (OfType t)) has), tt))),
+    ),
+  ),
 )
 
 -- ---- what holds of all of these modules
