@@ -43,6 +43,7 @@ FILES_OF_NUMBERS = (
     "walrus_model/specs/Examples.antt",
     "walrus_rules/specs/Examples.antt",
     "walrus_rules/specs/WorkedDeclared.antt",
+    "walrus_rules/specs/WorkedHandler.antt",
     "walrus_rules/specs/WorkedSections.antt",
     # bytes and patterns of bits that tests write and read back
     "walrus_parts_tests/src/",

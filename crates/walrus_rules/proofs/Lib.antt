@@ -118,3 +118,4 @@ pub mod WorkedParts
 pub mod WorkedProducers
 pub mod WorkedCustoms
 pub mod WorkedNames
+pub mod WorkedHandler

@@ -43,14 +43,14 @@ use Rattle.walrus_rules.specs.Pinned.{IsWrittenAs, GoesBefore}
 use Rattle.walrus_rules.specs.Spelling.{BodyStands, UsesAll, NeedsCount, IsChosen, IsSpelledAs}
 use Rattle.walrus_rules.specs.SpelledLaws.{BodiesNest}
 use Rattle.walrus_rules.specs.Text.{said, sections_of, said_by, unplaced}
-use Rattle.walrus_rules.specs.WorkedDeclared.{names_itself, undeclared_text, undeclared_bytes, declared_text, declared_bytes, DeclaredRuns}
+use Rattle.walrus_rules.specs.WorkedDeclared.{names_itself, undeclared_text, undeclared_bytes, declared_text, declared_bytes}
+use Rattle.walrus_rules.specs.WorkedSections.{Runs}
 use Rattle.walrus_rules.proofs.BodiesBack.{bodies_hold}
 use Rattle.walrus_rules.proofs.NeedsBase.{no_item, given, are_given, declares_none, NamesNone}
-use Rattle.walrus_rules.proofs.NotBoth.{not_both}
-use Rattle.walrus_rules.proofs.OneOutput.{one_output}
 use Rattle.walrus_rules.proofs.ReadSoFar.{said_alone}
 use Rattle.walrus_rules.proofs.Runs.{comes_to}
 use Rattle.walrus_rules.proofs.SpelledReads.{nested_reads}
+use Rattle.walrus_rules.proofs.WorkedParts.{runs}
 use Rattle.walrus_rules.proofs.WorkedSingle.{name_list, last_of_list, nothing_there, the_body, the_function, single, function_at, body_at, all_carried, all_rises, parsed, single_parsed, single_collected}
 use Rattle.walrus_rules.proofs.WorkedWritten.{the_type}
 
@@ -450,7 +450,5 @@ module _ (c : Config) where
   unfolding written_spelled
   comes no_names no_producers = comes_to c undeclared_bytes declared_bytes module_read (module_left c) module_written (is_read c) read_holds brings (is_written no_names no_producers) written_spelled written_fits
 
-pub declared_runs : (c : Config) → c.writes_names ≡ false → c.writes_producers ≡ false → DeclaredRuns c
-declared_runs c no_names no_producers =
-    let run = comes c no_names no_producers in
-    record { comes = run; alone = λ output other. one_output c undeclared_bytes declared_bytes output run other; not_too_large = not_both c undeclared_bytes declared_bytes run }
+pub declared_runs : (c : Config) → c.writes_names ≡ false → c.writes_producers ≡ false → Runs c undeclared_bytes declared_bytes
+declared_runs c no_names no_producers = runs c undeclared_bytes declared_bytes (comes c no_names no_producers)

@@ -35,7 +35,7 @@ pub nothing_there : {X : Type 0} (x : X) → ◌≡◌ {A = Option X} None (Some
 nothing_there x e = cc
 
 -- all of a space is kept
-all_of : {X : Type 0} (K : ℕ → Type 0) (xs : ℕ → Option X) → ((i : ℕ) → IsSome (xs i) → K i) → KeepsOnly K xs xs
+pub all_of : {X : Type 0} (K : ℕ → Type 0) (xs : ℕ → Option X) → ((i : ℕ) → IsSome (xs i) → K i) → KeepsOnly K xs xs
 all_of K xs h = record { kept = λ i k. refl; left = λ i x at. (h i (ap is_some at), at) }
 
 module _ (ops : List Op) (exports : List Export) (start : Option ℕ) where

@@ -1,11 +1,9 @@
 -- The steps at work on a function that `ref.func` names, and that nothing declares: a segment that declares it is added.
-use Rattle.std.specs.Prelude.{ℕ, List, [], ◌∷◌, ◌++◌, Some, ◌≡◌}
+use Rattle.std.specs.Prelude.{ℕ, List, [], ◌∷◌, ◌++◌, Some}
 use Rattle.wasm_entries.specs.Record as entries
 use Rattle.wasm_frames.specs.Frames.{header}
 use Rattle.wasm_operators.specs.declared.operator.RawArg.TheVariants as args
-use Rattle.walrus_model.specs.Config.{Config}
 use Rattle.walrus_rules.specs.Examples.{no_values, the_end, empty_text}
-use Rattle.walrus_rules.specs.Headline.{ComesTo, ComesOutTooLarge}
 use Rattle.walrus_rules.specs.Text.{BodyText, Text}
 
 -- a body that names function 0 by ref.func, and drops it
@@ -35,9 +33,3 @@ declared_bytes = header ++ 0x01 ∷ 0x04 ∷ 0x01 ∷ 0x60 ∷ 0x00 ∷ 0x00
     ∷ 0x08 ∷ 0x01 ∷ 0x00
     ∷ 0x09 ∷ 0x05 ∷ 0x01 ∷ 0x03 ∷ 0x00 ∷ 0x01 ∷ 0x00
     ∷ 0x0A ∷ 0x07 ∷ 0x01 ∷ 0x05 ∷ 0x00 ∷ 0xD2 ∷ 0x00 ∷ 0x1A ∷ 0x0B ∷ []
-
--- a run on the first bytes comes to the second, to no others, and isn't too large
-pub record DeclaredRuns (c : Config) : Type 0 where
-  pub comes : ComesTo c undeclared_bytes declared_bytes
-  pub alone : (output : List ℕ) → ComesTo c undeclared_bytes output → output ≡ declared_bytes
-  pub not_too_large : ComesOutTooLarge c undeclared_bytes → ⊥

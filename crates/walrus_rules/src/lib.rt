@@ -17,7 +17,8 @@ pub use settled::{one_report, settles_again};
 pub use so_far::runs_come_out;
 pub use spelling::{has_alternatives, reads_once, spelled_once, spelled_reads, worked_row};
 pub use steps::{
-    brought_lives, one_run, steps_come_out, worked_declared, worked_run, worked_sections,
+    brought_lives, one_run, steps_come_out, worked_declared, worked_handler, worked_run,
+    worked_sections,
 };
 pub use well_made::{few_refusals, parsed_well, well_made_stays};
 pub use written::{ok_reads, written_holds, written_once};

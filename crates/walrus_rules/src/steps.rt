@@ -6,7 +6,8 @@ ghost use Rattle.walrus_rules.specs.Examples.{one_function_bytes, RowRuns};
 ghost use Rattle.walrus_rules.specs.Headline.{NotBoth, OneOutput, StepsComeOut};
 ghost use Rattle.walrus_rules.specs.OneRun.{HandlersLive, HandlersOnce, KeptLives};
 ghost use Rattle.walrus_rules.specs.WellMadeLaws.{BroughtLives};
-ghost use Rattle.walrus_rules.specs.WorkedDeclared.{DeclaredRuns};
+ghost use Rattle.walrus_rules.specs.WorkedDeclared.{declared_bytes, undeclared_bytes};
+ghost use Rattle.walrus_rules.specs.WorkedHandler.{catching_bytes, handled_bytes};
 ghost use Rattle.walrus_rules.specs.WorkedSections.{Runs, customs_bytes, named_bytes, produced_bytes};
 
 /// What is said of the steps (parsing, gc, the declared segment, writing) gives the relation between the module that was
@@ -40,7 +41,8 @@ pub fn worked_run()
 /// The same where the one function names itself by `ref.func`, and nothing declares it: what the bytes come to has a
 /// segment more, which declares it.
 pub fn worked_declared()
-    ensures { (c : Config) → c.writes_names ≡ false → c.writes_producers ≡ false → DeclaredRuns c }
+    ensures { (c : Config) → c.writes_names ≡ false → c.writes_producers ≡ false
+        → Runs c undeclared_bytes declared_bytes }
 {}
 
 /// The same on a module of one function, which is exported. Where producers are written, this program stands among them.
@@ -53,4 +55,11 @@ pub fn worked_sections()
         → Runs c customs_bytes customs_bytes }
     ensures names { (c : Config) → c.writes_names ≡ true → c.writes_producers ≡ false
         → Runs c named_bytes named_bytes }
+{}
+
+/// The same on a legacy handler, where legacy exceptions are taken: the function type that it needs isn't there, and what
+/// the bytes come to has it behind the others.
+pub fn worked_handler()
+    ensures { (c : Config) → c.writes_names ≡ false → c.writes_producers ≡ false → c.legacy_exceptions ≡ true
+        → Runs c catching_bytes handled_bytes }
 {}
