@@ -69,7 +69,8 @@ pub(crate) fn push_global_names(
 
 // The same for where a global comes from: an import, which names nothing, or its initialiser.
 fn push_kind_names(kind: &GlobalKind, to: &mut Vec<ItemId>) -> result::Result<(), AllocError>
-    ensures { OnOk result (Puts to.old to.new (named_by names_of (global_init kind.now))) }
+    ensures { OnOk result (Puts to.old to.new (named_by names_of
+        (option_map const_ops (global_init kind.now)))) }
 {
     match kind {
         GlobalKind::Import(_) => Ok(()),

@@ -1,5 +1,5 @@
 //! Functions that `ref.func` names (Instructions > Reference Instructions).
-ghost use Rattle.std.specs.Prelude.{◌≡◌, ◌&&◌, ◌||◌, ℕ, true, false, map, IfOk, IsOkUnless, OnOk};
+ghost use Rattle.std.specs.Prelude.{◌≡◌, ◌&&◌, ◌||◌, ℕ, true, false, map, option_map, IfOk, IsOkUnless, OnOk};
 ghost use Rattle.std.specs.List.{list_all};
 ghost use Rattle.walrus_base.specs.Arena.{items};
 ghost use Rattle.walrus_base.specs.IdSet.{has_id};
@@ -145,7 +145,8 @@ fn is_const_marked(expr: &ConstExpr, marks: &IdHashSet<FunctionKey>) -> bool
 }
 
 fn is_initialiser_marked(kind: &GlobalKind, marks: &IdHashSet<FunctionKey>) -> bool
-    ensures { result ≡ init_passes (has_id marks.now) (global_init kind.now) }
+    ensures { result ≡ init_passes (has_id marks.now)
+        (option_map const_ops (global_init kind.now)) }
 {
     match kind {
         GlobalKind::Import(_) => true,

@@ -1,19 +1,27 @@
-use Rattle.std.proofs.Common.{ap, ◌∙◌}
+use Rattle.std.proofs.Common.{ℕ, ap, ◌∙◌}
 use Rattle.std.proofs.lemmas.Result.{err_from_is_err_and}
 use Rattle.walrus_base.specs.Arena.{item_at}
 use Rattle.walrus_base.specs.Id.{place}
 use Rattle.walrus_types.specs.Operators.{Tags}
-use Rattle.walrus_items.specs.Tags.{tags, tag_entries_left, tag_value}
+use Rattle.walrus_items.specs.Tags.{TagValue, tags, tag_entries_left, tag_value}
 use Rattle.walrus_contents.specs.There.{IsWhole}
 use Rattle.walrus_contents.specs.View.{tag_of, parts_view}
-use Rattle.walrus_contents.proofs.LiveLemmas.{was_there}
-use Rattle.walrus_contents.proofs.Walked.{walk_begins, walk_goes, walk_ends}
+use Rattle.walrus_contents.proofs.LiveLemmas.{seen_there, was_there}
+use Rattle.walrus_contents.proofs.Walked.{next_there, walk_begins, walk_goes, walk_ends}
 use Rattle.walrus_contents.proofs.live.check_tags.Goals as goal
 
 pub loop-id-init : goal.loop-id-init
 loop-id-init c =
     let p = c.args.parts in
     (tt, tt, walk_begins (λ i. IsWhole (parts_view p) (Tags, i)) (tags p.tags.now) _ (ap tag_entries_left c.into_iter-id-iterator.ensures.into_iter_gives ∙ c.iter_entries-id-items.ensures))
+
+pub check_item-requires : goal.check_item-requires
+check_item-requires c =
+    let p = c.args.parts in
+    let slots = tags p.tags.now in
+    let e : ℕ × TagValue = (place c.in-Some.id, tag_value c.in-Some._tag.now) in
+    let at = next_there (λ i. IsWhole (parts_view p) (Tags, i)) slots _ _ e c.in-Some.ensures.steps c.loop-id.invariant.2 in
+    seen_there tag_of (item_at slots e.0) e.1 at
 
 pub loop-id-preserved : goal.loop-id-preserved
 loop-id-preserved c =
