@@ -8,6 +8,6 @@ use Rattle.walrus_writing.proofs.by_import.imported_ids.Given as goal
 -- the places so far, and those that the imports still to come bring
 abbrev pub invariant-imports : goal.invariant-imports
 invariant-imports g l =
-    goal.iterator-imports.can_next l.import-iterator
-    × goal.iterator-imports.is_finite l.import-iterator
+    (goal.iterator-imports g).can_next l.import-iterator
+    × (goal.iterator-imports g).is_finite l.import-iterator
     × (map place l.ids.items ++ places_brought g.K.Importable.space (imports_left l.import-iterator) ≡ places_brought g.K.Importable.space (items (imports l.all)))
