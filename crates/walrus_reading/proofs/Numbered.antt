@@ -43,35 +43,39 @@ use Rattle.walrus_reading.proofs.StaysByRules.{all_stay, desc_stays}
 -- ---- the look-up of indices is what sections declare
 
 -- as many indices of each space as items are declared
-pub record HasIndices (r : wire.Module) (indices : IndicesToIds) : Type 0 where
-  pub types : places_in indices Types ≡ range_with_len 0 (length (types_from 0 r.types))
-  pub functions : places_in indices Functions ≡ range_with_len 0 (length (function_types r))
-  pub tables : places_in indices Tables ≡ range_with_len 0 (length (tables_of r))
-  pub memories : places_in indices Memories ≡ range_with_len 0 (length (memories_of r))
-  pub tags : places_in indices Tags ≡ range_with_len 0 (length (tags_of r))
-  pub globals : places_in indices Globals ≡ range_with_len 0 (length (globals_of r))
-  pub elements : places_in indices Elements ≡ range_with_len 0 (length (elements_of r))
-  pub data_segments : places_in indices DataSegments ≡ range_with_len 0 (unwrap_or r.data_count 0)
+pub record HasIndices (r : wire.Module) (places : Space → List ℕ) : Type 0 where
+  pub types : places Types ≡ range_with_len 0 (length (types_from 0 r.types))
+  pub functions : places Functions ≡ range_with_len 0 (length (function_types r))
+  pub tables : places Tables ≡ range_with_len 0 (length (tables_of r))
+  pub memories : places Memories ≡ range_with_len 0 (length (memories_of r))
+  pub tags : places Tags ≡ range_with_len 0 (length (tags_of r))
+  pub globals : places Globals ≡ range_with_len 0 (length (globals_of r))
+  pub elements : places Elements ≡ range_with_len 0 (length (elements_of r))
+  pub data_segments : places DataSegments ≡ range_with_len 0 (unwrap_or r.data_count 0)
 
 below_by : (n i : ℕ) (b : Bool) → nat_lt i n ≡ b → slice_get (range_with_len 0 n) i ≡ (if b then Some i else None)
 below_by n i true e = get_own n i (ltb-true i n e)
 below_by n i false e = get_past 0 n i (ltb-false i n e)
 
-in_place : (indices : IndicesToIds) (space : Space) (n i : ℕ) → places_in indices space ≡ range_with_len 0 n → ids_at indices space i ≡ below n i
-in_place indices space n i numbered = ap (λ l. slice_get l i) numbered ∙ below_by n i (nat_lt i n) refl
+in_place : (places : Space → List ℕ) (space : Space) (n i : ℕ) → places space ≡ range_with_len 0 n → slice_get (places space) i ≡ below n i
+in_place places space n i numbered = ap (λ l. slice_get l i) numbered ∙ below_by n i (nat_lt i n) refl
 
-module _ (r : wire.Module) (indices : IndicesToIds) (h : HasIndices r indices) where
-  name_at : (space : Space) (i : ℕ) → ids_at indices space i ≡ declared r space i
-  name_at Types i = in_place indices Types (length (types_from 0 r.types)) i h.types
-  name_at Functions i = in_place indices Functions (length (function_types r)) i h.functions
-  name_at Tables i = in_place indices Tables (length (tables_of r)) i h.tables
-  name_at Memories i = in_place indices Memories (length (memories_of r)) i h.memories
-  name_at Tags i = in_place indices Tags (length (tags_of r)) i h.tags
-  name_at Globals i = in_place indices Globals (length (globals_of r)) i h.globals
-  name_at Elements i = in_place indices Elements (length (elements_of r)) i h.elements
-  name_at DataSegments i = in_place indices DataSegments (unwrap_or r.data_count 0) i h.data_segments
+-- the items at these places by their indices
+abbrev found : (Space → List ℕ) → Lookup
+found places space i = slice_get (places space) i
 
-  pub all_named : ids_at indices ≡ declared r
+module _ (r : wire.Module) (places : Space → List ℕ) (h : HasIndices r places) where
+  name_at : (space : Space) (i : ℕ) → slice_get (places space) i ≡ declared r space i
+  name_at Types i = in_place places Types (length (types_from 0 r.types)) i h.types
+  name_at Functions i = in_place places Functions (length (function_types r)) i h.functions
+  name_at Tables i = in_place places Tables (length (tables_of r)) i h.tables
+  name_at Memories i = in_place places Memories (length (memories_of r)) i h.memories
+  name_at Tags i = in_place places Tags (length (tags_of r)) i h.tags
+  name_at Globals i = in_place places Globals (length (globals_of r)) i h.globals
+  name_at Elements i = in_place places Elements (length (elements_of r)) i h.elements
+  name_at DataSegments i = in_place places DataSegments (unwrap_or r.data_count 0) i h.data_segments
+
+  pub all_named : found places ≡ declared r
   all_named = fun_ext (λ space. fun_ext (name_at space))
 
 -- no types, and no indices of types
@@ -149,7 +153,7 @@ pub imports_stay : (m : wire.Module) (indices : IndicesToIds) → places_in indi
 imports_stay m indices numbered h =
     let many : length (types_from 0 m.types) ≡ length (context_of m).types = as_long (λ (x : TypeDef). x.sub) sub_of (types_from 0 m.types) (context_of m).types (types_look m) in
     let at : (n : ℕ) → n < length (context_of m).types → ids_at indices Types n ≡ Some n =
-    λ n lt. in_place indices Types (length (types_from 0 m.types)) n numbered ∙ numbered_by (length (types_from 0 m.types)) n (length (context_of m).types) many lt in
+    λ n lt. in_place (places_in indices) Types (length (types_from 0 m.types)) n numbered ∙ numbered_by (length (types_from 0 m.types)) n (length (context_of m).types) many lt in
     λ i d lt. desc_stays (ids_at indices) (length (context_of m).types) at (get_or m.imports i d).desc (h.imports i d lt)
 
 -- where indices lead to what is declared, each leads to an item of its number
