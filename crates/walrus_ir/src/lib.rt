@@ -5,7 +5,7 @@
 pub use walrus_base::{
     ArenaIter, CustomSectionKey, DataId, DataKey, ElementId, ElementKey, ExportId, ExportKey,
     FunctionId, FunctionKey, GlobalId, GlobalKey, Id, IdHashSet, ImportId, ImportKey, LocalId,
-    LocalKey, MemoryId, MemoryKey, TableId, TableKey, TagId, TagKey, TombstoneArena, TypeId,
+    LocalKey, Marks, MemoryId, MemoryKey, TableId, TableKey, TagId, TagKey, TombstoneArena, TypeId,
     TypeKey, UntypedCustomSectionId,
 };
 pub use walrus_bodies::Features;

@@ -20,7 +20,7 @@ pub use walrus_ir::{
     ExportKey, Features, FieldType, FunctionBuilder, FunctionId, FunctionKey, FunctionType,
     GlobalId, GlobalKey, GroupIds, HeapType, Id, IdHashSet, IdsToIndices, ImportId, ImportKey,
     IndicesToIds, InstrLocId, InstrSeqBuilder, IrError, ItemId, Local, LocalFunction, LocalId,
-    LocalIter, LocalKey, LocalNumbers, MemoryId, MemoryKey, ModuleLocals, ModuleTypes, NewType,
-    Operator, RefType, StorageType, StructType, TableId, TableKey, TagId, TagKey, TombstoneArena,
-    Type, TypeId, TypeIter, TypeKey, UntypedCustomSectionId, ValType, Value,
+    LocalIter, LocalKey, LocalNumbers, Marks, MemoryId, MemoryKey, ModuleLocals, ModuleTypes,
+    NewType, Operator, RefType, StorageType, StructType, TableId, TableKey, TagId, TagKey,
+    TombstoneArena, Type, TypeId, TypeIter, TypeKey, UntypedCustomSectionId, ValType, Value,
 };
