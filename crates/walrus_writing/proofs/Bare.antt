@@ -1,7 +1,8 @@
 -- What imports bring is there, and has no initialiser where each import's item says to be brought by it.
 use Rattle.std.proofs.Common.{◌≡◌, ℕ, zero, suc, List, [], ◌∷◌, refl, sym, ap, ◌∙◌, subst, Some, None}
-use Rattle.std.specs.Prelude.{Option}
+use Rattle.std.specs.Prelude.{Option, option_map}
 use Rattle.walrus_base.specs.Arena.{item_at, slots}
+use Rattle.walrus_types.specs.ConstOps.{const_ops}
 use Rattle.walrus_types.specs.Operators.{Space, Types, Functions, Tables, Memories, Tags, Globals, Elements, DataSegments, Op}
 use Rattle.walrus_items.specs.Seen.{seen}
 use Rattle.walrus_items.specs.Globals.{GlobalValue, global_import, global_init, global_value, globals}
@@ -54,13 +55,13 @@ module _ (p : Parts) where
   table_bare n i t says at =
       let v = mapped_some table_of (item_at (tables p.tables.now) n) t at in
       let brought : origin_import (table_of v.0).origin ≡ Some i = ap (λ (u : Table). origin_import u.origin) (sym v.2) ∙ sym (ap (import_in (λ (u : Table). origin_import u.origin)) at) ∙ says in
-      subst (λ (u : Table). u.initialiser ≡ None) (sym v.2) (own_bare v.0.imported_by v.0.initialiser i (back v.0.imported_by i brought))
+      subst (λ (u : Table). u.initialiser ≡ None) (sym v.2) (own_bare v.0.imported_by (option_map const_ops v.0.initialiser) i (back v.0.imported_by i brought))
 
   global_bare : (n i : ℕ) (g : Global) → import_of V (Globals, n) ≡ Some i → V.globals n ≡ Some g → g.initialiser ≡ None
   global_bare n i g says at =
       let v = mapped_some global_of (item_at (globals p.globals.now) n) g at in
       let brought : origin_import (global_of v.0).origin ≡ Some i = ap (λ (u : Global). origin_import u.origin) (sym v.2) ∙ sym (ap (import_in (λ (u : Global). origin_import u.origin)) at) ∙ says in
-      subst (λ (u : Global). u.initialiser ≡ None) (sym v.2) (value_bare (slots p.globals.now.arena) n v.0 v.1 i (back v.0.imported_by i brought))
+      subst (λ (u : Global). u.initialiser ≡ None) (sym v.2) (ap (option_map const_ops) (value_bare (slots p.globals.now.arena) n v.0 v.1 i (back v.0.imported_by i brought)))
 
   -- what an item that says to be brought by an import is
   pub brought_bare : (s : Space) (n i : ℕ) (thing : Thing s) → import_of V (s, n) ≡ Some i → look V s n ≡ Some thing → IsBare s thing

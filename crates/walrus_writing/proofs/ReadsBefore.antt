@@ -5,11 +5,13 @@ use Rattle.std.specs.List.{list_all}
 use borrow.Author.Tests.{ltb-true, ltb-false}
 use Rattle.walrus_base.specs.Arena.{item_at}
 use Rattle.walrus_base.specs.Types.{heap_names, val_names}
+use Rattle.walrus_types.specs.ConstOps.{const_ops}
 use Rattle.walrus_types.specs.Operators.{Types, Tables, Globals, Item, Op, type_item, names_of}
 use Rattle.walrus_items.specs.Globals.{GlobalValue, globals, global_import, global_init}
 use Rattle.walrus_items.specs.Tables.{TableValue, tables}
 use Rattle.walrus_items.specs.declared.globals.GlobalKind.{GlobalKind}
 use Rattle.walrus_items.specs.declared.globals.GlobalKind.TheVariants as kinds
+use Rattle.walrus_contents.proofs.LiveLemmas.{was_there}
 use Rattle.walrus_contents.specs.View.{global_of, origin_of, own_initialiser, parts_view, table_of}
 use Rattle.walrus_contents.specs.declared.parts.Parts.{Parts}
 use Rattle.walrus_model.specs.Abstract.{Abstract, Origin, ImportedBy, Defined, Global, Table}
@@ -154,7 +156,7 @@ module _ (p : Parts) where
       let w = seen_unread 0 x.0 (item_at slots x.0) x.1.1 in
       let view : V.tables i ≡ Some (table_of t) = ap (option_map table_of) at in
       let named : Contains (table_names (table_of t)) (Globals, x.0) = subst (λ (o : Option Table). Contains (named_by table_names o) (Globals, x.0)) view (subst (λ (y : Item). Contains (written_in V (Tables, i)) y) x.1.0 f.1.0) in
-      let read = initialiser_reads (heap_names t.element.heap) (own_initialiser t.imported_by t.initialiser) x.0 named in
+      let read = initialiser_reads (heap_names t.element.heap) (own_initialiser t.imported_by (option_map const_ops t.initialiser)) x.0 named in
       LocalGlobalRead i x.0 (table_of t, (read.0, (view, read.1.0, read.1.1))) (subst (λ (o : Option GlobalValue). IsSome (option_map global_of o)) (sym w.1.0) refl) (not_imported x.0 w.0 w.1.0 w.1.1.0)
 
   -- ---- globals
@@ -177,7 +179,7 @@ module _ (p : Parts) where
   reader i g (x, (ops, (at, is, has))) = by (item_at slots i) refl at
     where
       by : (o : Option GlobalValue) → item_at slots i ≡ o → option_map global_of o ≡ Some x → (v : GlobalValue) × ((item_at slots i ≡ Some v) × IsSome v.initialiser)
-      by (Some v) e seen = (v, (e, subst (λ (o : Option (List Op)). IsSome o) (sym (ap (λ (y : Global). y.initialiser) (some_inj (global_of v) x seen) ∙ is)) refl))
+      by (Some v) e seen = (v, (e, was_there const_ops v.initialiser (subst (λ (o : Option (List Op)). IsSome o) (sym (ap (λ (y : Global). y.initialiser) (some_inj (global_of v) x seen) ∙ is)) refl)))
       by None e seen = absurd (none_some x seen)
 
   in_order : (i g : ℕ) (v w : GlobalValue) → item_at slots i ≡ Some v → item_at slots g ≡ Some w → origin_of v.imported_by ≡ Defined → origin_of w.imported_by ≡ Defined → g < i → ByImport V Globals g i
@@ -209,7 +211,7 @@ module _ (p : Parts) where
       let w = seen_unread i x.0 (item_at slots x.0) x.1.1 in
       let view : V.globals i ≡ Some (global_of v) = ap (option_map global_of) at in
       let named : Contains (global_names (global_of v)) (Globals, x.0) = subst (λ (o : Option Global). Contains (named_by global_names o) (Globals, x.0)) view (subst (λ (y : Item). Contains (written_in V (Globals, i)) y) x.1.0 f.1.0) in
-      let read = initialiser_reads (val_names v.ty) v.initialiser x.0 named in
+      let read = initialiser_reads (val_names v.ty) (option_map const_ops v.initialiser) x.0 named in
       LaterGlobalRead i x.0 (global_of v, (read.0, (view, read.1.0, read.1.1))) (subst (λ (o : Option GlobalValue). IsSome (option_map global_of o)) (sym w.1.0) refl)
       (λ either_way. ⊎_elim (λ is. not_imported x.0 w.0 w.1.0 w.1.1.0 is) (λ before. not_before i x.0 v w.0 at w.1.0 w.1.1.0 w.1.1.1 before) either_way)
 

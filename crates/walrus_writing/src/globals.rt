@@ -1,11 +1,12 @@
 //! The globals that a module defines, as records ("Binary Format > Modules > Global Section").
-ghost use Rattle.std.specs.Prelude.{◌≡◌, None, Some, IsSome, IfOk, IfErr, All, map};
+ghost use Rattle.std.specs.Prelude.{◌≡◌, None, Some, IsSome, IfOk, IfErr, All, map, option_map};
 ghost use Rattle.wasm_entries.specs.Record.{global_entry};
 ghost use Rattle.wasm_entries.specs.Spelling.{ExpressionStands, GlobalStands};
 ghost use Rattle.walrus_base.specs.Arena.{items};
 ghost use Rattle.walrus_code.specs.Indices.{index_of};
 ghost use Rattle.walrus_constants.specs.Named.{named_global};
 ghost use Rattle.walrus_contents.specs.View.{global_of};
+ghost use Rattle.walrus_types.specs.ConstOps.{const_ops};
 ghost use Rattle.walrus_items.specs.Globals.{globals, global_import, global_init, global_value};
 ghost use Rattle.walrus_model.specs.Sections as said;
 ghost use Rattle.walrus_writing.specs.Brought.{own_of};
@@ -28,7 +29,8 @@ fn raw_initialiser(
     indices: &IdsToIndices,
 ) -> Result<Vec<RawConst>, IrError>
     requires own { global_import kind.now ≡ None }
-    ensures indexed { IndexesInitialiser (index_of indices.now) (global_init kind.now) result }
+    ensures indexed { IndexesInitialiser (index_of indices.now)
+        (option_map const_ops (global_init kind.now)) result }
     ensures spelled { IfOk result (λ raw. ExpressionStands raw.items) }
 {
     match kind {
