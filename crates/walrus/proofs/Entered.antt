@@ -12,7 +12,7 @@ use Rattle.walrus_model.proofs.Lists.{Contains-none}
 use Rattle.walrus_contents.specs.Named.{group_names}
 use Rattle.walrus_contents.proofs.Groups.{GroupsAreWhole}
 use Rattle.walrus.specs.MarkedItems.{AddsMark, AreUnmarked, HavePlaces, SamePlaces, has_mark}
-use Rattle.walrus.specs.Used.{Agrees, Enters, HoldGroups, IsOf, Notes}
+use Rattle.walrus.specs.Used.{Agrees, Enters, IsOf, Notes}
 use Rattle.walrus.specs.declared.passes.marks.MarkedItems.{MarkedItems}
 
 pub same_or_other : (a b : ℕ) → (a ≡ b) ⊎ (a ≢ b)

@@ -27,7 +27,7 @@ impl<K> Marks<K> {
         })
     }
 
-    /// Marks an item, and answers whether it wasn't marked.
+    /// Marks an item whose place there is a mark for, and answers whether it wasn't marked.
     pub fn mark(&mut self, id: Id<K>) -> bool
         requires { place id < mark_places self.old }
         ensures is_new { result ≡ not (is_marked self.old (place id)) }

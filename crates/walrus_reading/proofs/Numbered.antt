@@ -1,7 +1,7 @@
 -- Each index leads to the item of its number, once each space has as many indices as it has items; and so does all that sections name.
 use Rattle.wasm_frames.specs.Record as wire
 use Rattle.std.proofs.Common.{◌≡◌, ℕ, ◌+◌, ◌<◌, Bool, true, false, List, [], ◌∷◌, ◌++◌, length, map, get_or, refl, sym, ap, subst, ◌∙◌, arith, length-append}
-use Rattle.std.specs.Prelude.{All, Option, Some, None, ◌≢◌, option_to_list, slice_get, nat_lt, if◌then◌else◌, unwrap_or}
+use Rattle.std.specs.Prelude.{All, Option, Some, None, option_to_list, slice_get, nat_lt, if◌then◌else◌, unwrap_or}
 use Rattle.std.specs.List.{range_with_len}
 use Rattle.std.proofs.lemmas.List.{length-map}
 use mathlib.Core.Path.{fun_ext}

@@ -17,7 +17,7 @@ use Rattle.wasm_operators.specs.Forms.{arg_form, args_form, operator_of, operato
 use Rattle.wasm_operators.specs.Table.{kinds_of}
 use Rattle.walrus_base.specs.Types.{comp_names}
 use Rattle.walrus_types.specs.Operators as items
-use Rattle.walrus_types.specs.Operators.{Types, Functions, Tables, Memories, Globals, Elements, DataSegments, Item, Arg, Block, OfType, Op, names_of, locals_of}
+use Rattle.walrus_types.specs.Operators.{Types, Functions, Tables, Memories, Globals, Elements, DataSegments, Item, Arg, Block, OfType, Op, names_of}
 use Rattle.walrus_model.specs.Abstract.{Abstract, Name, Subject, AnItem, ProducerField, TypeDef, Function, Body, Element, DeclaredElements, ListedFunctions}
 use Rattle.walrus_model.specs.Config.{Config}
 use Rattle.walrus_model.specs.Declared.{ref_func, IsRefInBody, IsRefInGlobal, IsUndeclared, AreUndeclared}

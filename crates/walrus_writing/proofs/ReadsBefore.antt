@@ -61,11 +61,6 @@ fails_with p xs x at e = by (list_all p xs) refl
     by false none = sym none
     by true all = absurd (none_there (sym e ∙ each_passes p xs x all at))
 
--- no type is a global
-no_global : (ts : List ℕ) (g : ℕ) → Contains (map type_item ts) (Globals, g) → ⊥
-no_global [] g at = Contains-none (Globals, g) at
-no_global (t ∷ ts) g at = ⊎_elim (λ (e : (Types, t) ≡ (Globals, g)). let no : Types ≡ Globals = ap (λ (x : Item). x.0) e in cc) (λ rest. no_global ts g rest) (Contains-uncons (Types, t) (Globals, g) (map type_item ts) at)
-
 -- what names a global is an initialiser
 pub initialiser_reads : (ts : List ℕ) (i : Option (List Op)) (g : ℕ) → Contains (map type_item ts ++ named_by names_of i) (Globals, g) → (ops : List Op) × ((i ≡ Some ops) × Contains (names_of ops) (Globals, g))
 initialiser_reads [] None g at = absurd (Contains-none (Globals, g) at)

@@ -17,7 +17,6 @@ use std::alloc::Global;
 use walrus_code::index_value;
 use walrus_constants::raw_const;
 use walrus_ir::{IdsToIndices, IrError};
-use walrus_items as entities;
 use walrus_items::{GlobalKind, ModuleGlobals};
 use walrus_parts::Error;
 use wasm_wire::{RawConst, RawGlobal, RawGlobalType};
@@ -47,7 +46,7 @@ fn raw_initialiser(
 /// type or its initialiser, and [`IrError::Memory`].
 pub fn raw_global(
     alloc: Global,
-    global: &entities::Global,
+    global: &walrus_items::Global,
     indices: &IdsToIndices,
 ) -> Result<RawGlobal, IrError>
     requires own { global_import global.now.kind ≡ None }

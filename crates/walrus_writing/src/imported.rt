@@ -28,7 +28,6 @@ use std::alloc::Global;
 use walrus_code::index_value;
 use walrus_contents::Parts;
 use walrus_ir::{IdsToIndices, IrError, TypeId};
-use walrus_items as entities;
 use walrus_items::{Function, Import, ImportKind, Memory, Table, Tag};
 use walrus_parts::Error;
 use wasm_wire::{RawDesc, RawGlobalType, RawImport};
@@ -71,7 +70,7 @@ fn memory_desc(memory: &Memory) -> RawDesc
 }
 
 // A global: its type.
-fn global_desc(global: &entities::Global, indices: &IdsToIndices) -> Result<RawDesc, IrError>
+fn global_desc(global: &walrus_items::Global, indices: &IdsToIndices) -> Result<RawDesc, IrError>
     ensures { IndexesDesc (index_of indices.now) Globals (global_of (global_value global.now)) result }
 {
     let value = index_value(global.ty, indices)?;

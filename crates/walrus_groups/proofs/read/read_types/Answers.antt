@@ -1,10 +1,10 @@
 use Rattle.std.proofs.Common.{◌+◌, List, map, drop, Ok, Err, sym, ◌∙◌, subst}
 use Rattle.std.proofs.lemmas.Result.{err_from_is_err_and}
 use Rattle.wasm_entries.specs.Record.{Group, sub, group}
-use Rattle.walrus_types.specs.ModuleTypes.{type_names, type_slots}
+use Rattle.walrus_types.specs.ModuleTypes.{type_slots}
 use Rattle.walrus_groups.specs.Groups.{ReadsTypes}
 use Rattle.walrus_groups.proofs.GroupLemmas.{none-read, group-then, group-ends, groups-next, groups-end}
-use Rattle.walrus_groups.proofs.Unnamed.{added_then, none_added}
+use Rattle.walrus_groups.proofs.Unnamed.{added_then}
 use Rattle.walrus_groups.proofs.read.read_types.Goals as goal
 
 pub returns-in_err-read_group-clause-read : goal.returns-in_err-read_group-clause-read
