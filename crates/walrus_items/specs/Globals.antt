@@ -1,5 +1,5 @@
 -- What a contract sees of the globals of a module ("Structure > Modules > Globals").
-use Rattle.std.specs.Prelude.{ℕ, Bool, List, Option, Some, None, map}
+use Rattle.std.specs.Prelude.{ℕ, Bool, List, Option, Some, None}
 use Rattle.walrus_base.specs.Id.{place}
 use Rattle.walrus_base.specs.declared.keys.GlobalKey.{GlobalKey}
 use Rattle.walrus_base.specs.Types.{ValType}

@@ -5,7 +5,6 @@ pub mod Functions
 pub mod Globals
 pub mod Held
 pub mod Imports
-pub mod Items
 pub mod Keeping
 pub mod LendsItem
 pub mod LendsKind

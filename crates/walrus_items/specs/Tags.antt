@@ -1,5 +1,5 @@
 -- What a contract sees of the tags of a module ("Structure > Modules > Tags").
-use Rattle.std.specs.Prelude.{ℕ, List, Option, Some, None, map}
+use Rattle.std.specs.Prelude.{ℕ, List, Option, Some, None}
 use Rattle.walrus_base.specs.Id.{place}
 use Rattle.walrus_base.specs.declared.keys.TagKey.{TagKey}
 use Rattle.walrus_items.specs.Seen.{text_of}

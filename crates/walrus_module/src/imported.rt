@@ -5,7 +5,7 @@ ghost use Rattle.walrus_types.specs.Value.{ref_type, val_type};
 ghost use Rattle.walrus_items.specs.Functions.{functions};
 ghost use Rattle.walrus_items.specs.Imports.{imports};
 ghost use Rattle.walrus_items.specs.declared.functions.FunctionKind.TheVariants as functions;
-ghost use Rattle.walrus_items.specs.declared.imports.ImportKind.TheVariants.{Function, Table, Memory, Global, Tag};
+ghost use Rattle.walrus_parts.specs.declared.kinds.ImportKind.TheVariants.{Function, Table, Memory, Global, Tag};
 ghost use Rattle.walrus_items.specs.Added.{no_segments};
 ghost use Rattle.walrus_items.specs.Tables.{tables};
 ghost use Rattle.walrus_items.specs.Memories.{memories};

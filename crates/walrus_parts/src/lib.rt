@@ -3,6 +3,7 @@
 
 mod custom;
 mod error;
+mod kinds;
 mod law;
 mod raw_section;
 mod roots;
@@ -10,7 +11,11 @@ mod transform;
 
 pub use custom::CustomSection;
 pub use error::{Error, ErrorKind, Result};
-pub use law::{raw_sections_are_equal_by_parts, section_ids_are_equal_by_place};
+pub use kinds::{ExportItem, ImportKind};
+pub use law::{
+    items_are_told_apart, kinds_are_equal_as_items, raw_sections_are_equal_by_parts,
+    section_ids_are_equal_by_place,
+};
 pub use raw_section::RawCustomSection;
 pub use roots::Roots;
 pub use transform::CodeTransform;

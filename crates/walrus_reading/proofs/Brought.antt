@@ -11,7 +11,8 @@ use Rattle.walrus_base.specs.declared.id.Id.{Id}
 use Rattle.walrus_types.specs.Operators.{Functions, Tables, Memories, Tags, Globals, Item}
 use Rattle.walrus_parts.specs.declared.error.Error.{Error}
 use Rattle.walrus_items.specs.Functions.{functions}
-use Rattle.walrus_items.specs.Imports.{imports, imported as imported_item}
+use Rattle.walrus_parts.specs.Kinds.{imported as imported_item}
+use Rattle.walrus_items.specs.Imports.{imports}
 use Rattle.walrus_items.specs.Added.{IsAdded}
 use Rattle.walrus_items.specs.Globals.{globals}
 use Rattle.walrus_items.specs.Memories.{memories}
