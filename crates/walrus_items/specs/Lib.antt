@@ -7,8 +7,6 @@ pub mod Held
 pub mod Imports
 pub mod Keeping
 pub mod LendsItem
-pub mod LendsKind
-pub mod Marks
 pub mod Memories
 pub mod OwnIds
 pub mod Searches

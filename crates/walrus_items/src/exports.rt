@@ -10,8 +10,7 @@ ghost use Rattle.walrus_parts.specs.Errors.{out_of_memory};
 ghost use Rattle.walrus_parts.specs.Kinds.{exported};
 ghost use Rattle.walrus_items.specs.Searches.{first, RemovesFound};
 
-use crate::items::{Item, ItemEntries, ItemIter, Items};
-use std::alloc::Global;
+use crate::items::{Fresh, Item, ItemEntries, ItemIter, Items};
 use walrus_base::{ExportId, ExportKey, FunctionId, GlobalId, MemoryId, TableId};
 use walrus_parts::{Error, ExportItem, Result};
 
@@ -56,18 +55,13 @@ impl Item for Export {
     ghost value = { export_value };
 }
 
+impl Fresh for Export {}
+
 /// The exports of a module, by their ids. Deleted ids are never used again.
 pub type ModuleExports = Items<ExportKey, Export>;
 
 impl Items<ExportKey, Export> {
     ghost use Rattle.walrus_items.specs.Exports.{ExportValue, export_value, exports, exports_left, export_entries_left, is_named, exports_item, function_named};
-
-    /// No exports. Takes no memory until the first one comes.
-    pub fn new(alloc: Global) -> ModuleExports
-        ensures { exports result ≡ [] }
-    {
-        Items::empty(alloc)
-    }
 
     /// Exports an item under a name. `Memory` is the only error; then nothing changes.
     pub fn add(&mut self, name: &str, item: ExportItem) -> Result<ExportId>

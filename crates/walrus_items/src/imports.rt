@@ -10,11 +10,9 @@ ghost use Rattle.walrus_parts.specs.Errors.{out_of_memory};
 ghost use Rattle.walrus_items.specs.Keeping.{kept_slot, kept_where};
 ghost use Rattle.walrus_items.specs.Searches.{first, RemovesFound};
 
-use crate::items::{Item, ItemEntries, ItemIter, Items};
-use crate::marks::ItemMarks;
-use std::alloc::Global;
+use crate::items::{Fresh, Item, ItemEntries, ItemIter, Items};
 use walrus_base::{FunctionId, ImportId, ImportKey};
-use walrus_parts::{Error, ImportKind, Result};
+use walrus_parts::{Error, ImportKind, ItemMarks, Result};
 
 /// An import of a module.
 #[derive(Debug, Drop, PartialEq, Eq, Hash)]
@@ -60,18 +58,13 @@ impl Item for Import {
     ghost value = { import_value };
 }
 
+impl Fresh for Import {}
+
 /// The imports of a module, by their ids. Deleted ids are never used again.
 pub type ModuleImports = Items<ImportKey, Import>;
 
 impl Items<ImportKey, Import> {
     ghost use Rattle.walrus_items.specs.Imports.{ImportValue, import_value, imports, imports_left, import_entries_left, is_import_of, imports_item, function_of, stays_under};
-
-    /// No imports. Takes no memory until the first one comes.
-    pub fn new(alloc: Global) -> ModuleImports
-        ensures { imports result ≡ [] }
-    {
-        Items::empty(alloc)
-    }
 
     /// Imports an item by the name of its module and its own. `Memory` is the only error; then nothing changes.
     pub fn add(&mut self, module: &str, name: &str, kind: ImportKind) -> Result<ImportId>

@@ -4,7 +4,7 @@ ghost use Rattle.walrus_base.specs.Id.{place};
 ghost use Rattle.walrus_types.specs.Value.{ref_type, val_type};
 ghost use Rattle.walrus_items.specs.Functions.{functions};
 ghost use Rattle.walrus_items.specs.Imports.{imports};
-ghost use Rattle.walrus_items.specs.declared.functions.FunctionKind.TheVariants as functions;
+ghost use Rattle.walrus_parts.specs.declared.function_kind.FunctionKind.TheVariants as functions;
 ghost use Rattle.walrus_parts.specs.declared.kinds.ImportKind.TheVariants.{Function, Table, Memory, Global, Tag};
 ghost use Rattle.walrus_items.specs.Added.{no_segments};
 ghost use Rattle.walrus_items.specs.Tables.{tables};

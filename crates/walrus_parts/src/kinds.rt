@@ -1,4 +1,4 @@
-//! What an import brings and what an export exports: an id of one of five kinds ("Structure > Modules").
+//! What an import brings and what an export exports, and where globals and tags come from ("Structure > Modules").
 ghost use Rattle.std.specs.Prelude.{◌≡◌};
 ghost use Rattle.walrus_code.specs.Code.{item_of};
 ghost use Rattle.walrus_parts.specs.Items.{is_item};
@@ -6,7 +6,7 @@ ghost use Rattle.walrus_parts.specs.Kinds.{exported};
 ghost use Rattle.walrus_parts.specs.declared.kinds.ExportItem.TheVariants as exports;
 ghost use Rattle.walrus_parts.specs.declared.kinds.ImportKind.TheVariants as imports;
 
-use walrus_ir::{FunctionId, GlobalId, ItemId, MemoryId, TableId, TagId};
+use walrus_ir::{ConstExpr, FunctionId, GlobalId, ImportId, ItemId, MemoryId, TableId, TagId};
 
 /// What an import imports.
 #[derive(Clone, Copy, Debug, PartialEq, Eq, Hash)]
@@ -145,4 +145,22 @@ impl From<TagId> for ExportItem {
     fn from(id: TagId) -> ExportItem {
         ExportItem::Tag(id)
     }
+}
+
+/// Where a global comes from.
+#[derive(Drop)]
+pub enum GlobalKind {
+    /// From an import.
+    Import(ImportId),
+    /// From the module, with this initialiser.
+    Local(ConstExpr),
+}
+
+/// Where a tag comes from.
+#[derive(Drop)]
+pub enum TagKind {
+    /// From an import.
+    Import(ImportId),
+    /// From the module.
+    Local,
 }

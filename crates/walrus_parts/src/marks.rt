@@ -1,10 +1,10 @@
 //! Marks of the items that stay, by kind.
 ghost use Rattle.std.specs.Prelude.{◌≡◌};
 ghost use Rattle.walrus_parts.specs.Kinds.{imported};
-ghost use Rattle.walrus_items.specs.Marks.{has_item};
+ghost use Rattle.walrus_parts.specs.Marks.{has_item};
 
-use walrus_base::{FunctionKey, GlobalKey, Marks, MemoryKey, TableKey, TagKey};
-use walrus_parts::ImportKind;
+use crate::kinds::ImportKind;
+use walrus_ir::{FunctionKey, GlobalKey, Marks, MemoryKey, TableKey, TagKey};
 
 /// The items that stay of those that an import can bring, by kind.
 #[derive(Clone, Copy)]
