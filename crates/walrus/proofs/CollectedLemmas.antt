@@ -19,12 +19,13 @@ use Rattle.walrus_types.specs.TypeDef.{TypeDef}
 use Rattle.walrus_types.specs.Whole.{KeepsGroups}
 use Rattle.walrus_types.proofs.Noted.{or_cases}
 use Rattle.walrus_items.specs.Functions.{functions, ModuleFunctions}
-use Rattle.walrus_items.specs.Imports.{ImportValue, imported, stays_under, imports as imports_in, ModuleImports}
+use Rattle.walrus_parts.specs.Kinds.{imported}
+use Rattle.walrus_items.specs.Imports.{ImportValue, stays_under, imports as imports_in, ModuleImports}
 use Rattle.walrus_items.specs.Keeping.{kept_slot, kept_where}
-use Rattle.walrus_items.specs.Marks.{has_item}
-use Rattle.walrus_items.specs.declared.imports.ImportKind.{ImportKind}
-use Rattle.walrus_items.specs.declared.imports.ImportKind.TheVariants as imports
-use Rattle.walrus_items.specs.declared.marks.ItemMarks.{ItemMarks}
+use Rattle.walrus_parts.specs.Marks.{has_item}
+use Rattle.walrus_parts.specs.declared.kinds.ImportKind.{ImportKind}
+use Rattle.walrus_parts.specs.declared.kinds.ImportKind.TheVariants as imports
+use Rattle.walrus_parts.specs.declared.marks.ItemMarks.{ItemMarks}
 use Rattle.walrus_items.specs.Globals.{globals as globals_in, ModuleGlobals}
 use Rattle.walrus_items.specs.Memories.{memories as memories_in, ModuleMemories}
 use Rattle.walrus_items.specs.Tables.{tables as tables_in, ModuleTables}

@@ -6,7 +6,8 @@ use Rattle.std.proofs.lemmas.Option.{none-some}
 use Rattle.std.proofs.lemmas.List.Elements.{Contains-append_left, Contains-append_right, Contains-append_cases}
 use Rattle.walrus_base.specs.Arena.{items}
 use Rattle.walrus_types.specs.Operators.{Types, Functions, Tables, Memories, Tags, Globals, Elements, DataSegments, Item, type_item}
-use Rattle.walrus_items.specs.Exports.{ExportValue, exported, exports}
+use Rattle.walrus_parts.specs.Kinds.{exported}
+use Rattle.walrus_items.specs.Exports.{ExportValue, exports}
 use Rattle.walrus_model.specs.Abstract as abstract
 use Rattle.walrus_model.specs.Kept.{Kept}
 use Rattle.walrus_model.specs.Reached.{Reached}

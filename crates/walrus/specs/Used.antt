@@ -1,5 +1,5 @@
 -- What a search for used items finds, and when it refuses.
-use Rattle.std.specs.Prelude.{ℕ, ◌≡◌, ◌≢◌, ◌↔◌, Bool, true, false, List, ◌++◌, ◌⊎◌, take, Contains}
+use Rattle.std.specs.Prelude.{ℕ, ◌≡◌, ◌↔◌, true, List, ◌++◌, ◌⊎◌, take, Contains}
 use Rattle.walrus_types.specs.Operators.{Item}
 use Rattle.walrus_model.specs.Abstract.{Abstract}
 use Rattle.walrus_model.specs.Live.{IsLive}

@@ -9,12 +9,13 @@ use Rattle.walrus_code.specs.Function.{body_of}
 use Rattle.walrus_code.specs.declared.function.LocalFunction.{LocalFunction}
 use Rattle.walrus_types.specs.ConstOps.{const_ops}
 use Rattle.walrus_types.specs.Operators.{Types, Functions, Tables, Memories, Tags, Globals, Elements, DataSegments, Arg, Index, Label, Local, Number, Count, Byte, S32, S64, Bits32, Bits64, Value, Heap, Block, Access, Op, Item, function_item}
-use Rattle.walrus_items.specs.Exports.{ExportValue, exported, exports}
+use Rattle.walrus_parts.specs.Kinds.{exported}
+use Rattle.walrus_items.specs.Exports.{ExportValue, exports}
 use Rattle.walrus_items.specs.Functions.{FunctionValue, functions}
-use Rattle.walrus_items.specs.Items.{is_item}
-use Rattle.walrus_items.proofs.ItemLemmas.{is_item-same, same-is_item}
-use Rattle.walrus_items.specs.declared.functions.FunctionKind.{FunctionKind}
-use Rattle.walrus_items.specs.declared.functions.FunctionKind.TheVariants as kind
+use Rattle.walrus_parts.specs.Items.{is_item}
+use Rattle.walrus_parts.proofs.ItemLemmas.{is_item-same, same-is_item}
+use Rattle.walrus_parts.specs.declared.function_kind.FunctionKind.{FunctionKind}
+use Rattle.walrus_parts.specs.declared.function_kind.FunctionKind.TheVariants as kind
 use Rattle.walrus_model.specs.Abstract.{Abstract, Export, Body}
 use Rattle.walrus_model.specs.Abstract as abstract
 use Rattle.walrus_model.specs.Declared.{ref_func, IsRefInBody, IsRefInGlobal, IsUndeclared, NothingUndeclared}

@@ -1,9 +1,8 @@
 -- The members of groups, and what items name themselves.
-use Rattle.std.proofs.Common.{◌≡◌, ℕ, ◌⊎◌, inl, inr, List, map, Option, Some, None, sym, ap, ◌∙◌, subst, refl}
+use Rattle.std.proofs.Common.{◌≡◌, ℕ, ◌⊎◌, inr, List, map, Option, Some, None, sym, ap, ◌∙◌, subst, refl}
 use Rattle.std.specs.Prelude.{Contains, IsSome}
 use Rattle.std.proofs.lemmas.List.Elements.{Contains-append_left, Contains-append_right, Contains-append_cases}
 use Rattle.walrus_base.specs.Arena.{item_at}
-use Rattle.walrus_base.specs.Types.{sub_names}
 use Rattle.walrus_types.specs.ModuleTypes.{type_slots}
 use Rattle.walrus_types.specs.Operators.{Types, Functions, Tables, Memories, Tags, Globals, Elements, DataSegments, Item, type_item}
 use Rattle.walrus_types.specs.TypeDef.{TypeDef}

@@ -6,7 +6,8 @@ use Rattle.walrus_base.specs.Arena.{item_at, items}
 use Rattle.walrus_types.specs.Operators.{Space, Types, Functions, Tables, Memories, Tags, Globals, Elements, DataSegments, Item}
 use Rattle.walrus_code.specs.Code.{item_of}
 use Rattle.walrus_code.specs.declared.items.ItemId.{ItemId}
-use Rattle.walrus_items.specs.Exports.{ExportValue, exported, exports}
+use Rattle.walrus_parts.specs.Kinds.{exported, imported}
+use Rattle.walrus_items.specs.Exports.{ExportValue, exports}
 use Rattle.walrus_model.specs.Abstract as abstract
 use Rattle.walrus_model.specs.Abstract.{Abstract}
 use Rattle.walrus_model.specs.Dead.{HasDead, DeadName, DeadLocal, DeadExport, DeadStart, DeadImport, NoKind}
@@ -18,7 +19,7 @@ use Rattle.walrus_model.proofs.Reach.{Contains-unmap}
 use Rattle.walrus_parts.specs.declared.error.Error.{Error}
 use Rattle.walrus_contents.specs.Named.{export_names, own_written}
 use Rattle.walrus_contents.specs.There.{AreLive, AreWhole, ImportsAreLive, IsRefusal, IsSound, IsThere, IsUnsound, IsWhole, NoBody, NoLocal, OneIsDead}
-use Rattle.walrus_items.specs.Imports.{ImportValue, imported}
+use Rattle.walrus_items.specs.Imports.{ImportValue}
 use Rattle.walrus_contents.specs.View.{contents_view, export_of, import_of}
 use Rattle.walrus_contents.specs.declared.parts.Contents.{Contents}
 use Rattle.walrus_contents.proofs.Groups.{GroupsAreWhole, own_is_written, written_split}

@@ -1,7 +1,7 @@
 -- Lists and what is found in them.
 use Rattle.std.proofs.Common.{inl, inr, ◌≡◌, ◌⊎◌, ℕ, zero, suc, ◌+◌, ◌<◌, ◌≤◌, Bool, List, [], ◌∷◌, ◌++◌, length, map, get_or, refl, sym, ap, ap₂, subst, ◌∙◌, arith, false, true}
 use Rattle.std.specs.Prelude.{Option, Some, None, IsSome, AllPairs, slice_get, zip, option_map, option_and_then, nat_eq, if◌then◌else◌}
-use Rattle.std.specs.List.{AllZip, range_with_len}
+use Rattle.std.specs.List.{range_with_len}
 use Rattle.std.proofs.lemmas.Bool.{ne_eqb}
 use Rattle.std.proofs.lemmas.List.{get_or-map, length-map}
 use Rattle.walrus_types.specs.Shape.{place_in}

@@ -10,9 +10,10 @@ use Rattle.walrus_code.specs.Code.{item_of}
 use Rattle.walrus_code.specs.Function.{body_of}
 use Rattle.walrus_code.specs.declared.items.ItemId.{ItemId}
 use Rattle.walrus_functions.specs.EmittedBody.{types_of as local_types}
-use Rattle.walrus_items.specs.Exports.{exported, exports, ModuleExports}
-use Rattle.walrus_items.specs.declared.functions.FunctionKind.{FunctionKind}
-use Rattle.walrus_items.specs.declared.functions.FunctionKind.TheVariants.{Import, Local, Uninitialized}
+use Rattle.walrus_parts.specs.Kinds.{exported}
+use Rattle.walrus_items.specs.Exports.{exports, ModuleExports}
+use Rattle.walrus_parts.specs.declared.function_kind.FunctionKind.{FunctionKind}
+use Rattle.walrus_parts.specs.declared.function_kind.FunctionKind.TheVariants.{Import, Local, Uninitialized}
 use Rattle.walrus_model.specs.Abstract.{Abstract, TypeDef}
 use Rattle.walrus_model.specs.Refers.{named_by, written_in}
 

@@ -14,11 +14,13 @@ use Rattle.walrus_types.specs.declared.module_types.ModuleTypes.{ModuleTypes}
 use Rattle.walrus_code.specs.Function.{body_of}
 use Rattle.walrus_code.specs.declared.function.LocalFunction.{LocalFunction}
 use Rattle.walrus_functions.specs.EmittedBody.{types_of as local_types}
-use Rattle.walrus_items.specs.Exports.{ExportValue, exports, exported, ModuleExports}
-use Rattle.walrus_items.specs.Functions.{FunctionValue, functions, kind_type, ModuleFunctions}
-use Rattle.walrus_items.specs.Imports.{ImportValue, imports, imported, ModuleImports}
-use Rattle.walrus_items.specs.declared.functions.FunctionKind.TheVariants as kind
-use Rattle.walrus_items.specs.declared.functions.FunctionKind.{FunctionKind}
+use Rattle.walrus_parts.specs.Kinds.{exported, imported}
+use Rattle.walrus_items.specs.Exports.{ExportValue, exports, ModuleExports}
+use Rattle.walrus_parts.specs.FunctionKinds.{kind_type}
+use Rattle.walrus_items.specs.Functions.{FunctionValue, functions, ModuleFunctions}
+use Rattle.walrus_items.specs.Imports.{ImportValue, imports, ModuleImports}
+use Rattle.walrus_parts.specs.declared.function_kind.FunctionKind.TheVariants as kind
+use Rattle.walrus_parts.specs.declared.function_kind.FunctionKind.{FunctionKind}
 use Rattle.walrus_items.specs.Globals.{GlobalValue, globals, ModuleGlobals}
 use Rattle.walrus_items.specs.Memories.{MemoryValue, memories, ModuleMemories}
 use Rattle.walrus_items.specs.Tables.{TableValue, tables, ModuleTables}

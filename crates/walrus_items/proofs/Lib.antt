@@ -1,4 +1,3 @@
 pub mod Found
-pub mod ItemLemmas
 pub mod KeepingLemmas
 pub mod SeenLemmas

@@ -1,18 +1,8 @@
 -- When imports are equal.
 use Rattle.std.specs.Prelude.{◌≡◌, ◌↔◌, Bool, IsTrue}
-use Rattle.walrus_types.specs.Operators.{Item}
-use Rattle.walrus_items.specs.Imports.{ImportValue, import_value, imported}
-use Rattle.walrus_items.specs.Items.{is_item}
+use Rattle.walrus_parts.specs.Kinds.{imported}
+use Rattle.walrus_items.specs.Imports.{ImportValue, import_value}
 use Rattle.walrus_items.specs.declared.imports.Import.{Import}
-use Rattle.walrus_items.specs.declared.imports.ImportKind.{ImportKind}
-
--- items are told to be one exactly where they are
-abbrev pub TellsItems : Type 0
-TellsItems = (x y : Item) → IsTrue (is_item x y) ↔ (x ≡ y)
-
--- what is compared so is equal exactly where it brings one item
-abbrev pub ComparesKinds : (ImportKind → ImportKind → Bool) → Type 0
-ComparesKinds eq = (a b : ImportKind) → IsTrue (eq a b) ↔ (imported a ≡ imported b)
 
 -- two imports have the same own id and names, and bring one item
 pub record IsSameImport (a b : ImportValue) : Type 0 where

@@ -1,20 +1,21 @@
 -- What a contract sees of the exports of a module ("Structure > Modules > Exports").
-use Rattle.std.specs.Prelude.{ℕ, Bool, true, false, ◌&&◌, List, Option, Some, None, map, option_and_then, bytes_eq}
+use Rattle.std.specs.Prelude.{ℕ, Bool, true, false, ◌&&◌, List, Option, Some, None, option_and_then, bytes_eq}
 use Rattle.std.specs.String.{string_bytes}
 use Rattle.walrus_base.specs.Id.{place}
 use Rattle.walrus_base.specs.declared.keys.ExportKey.{ExportKey}
 use Rattle.walrus_base.specs.declared.id.Id.{Id}
 use Rattle.walrus_base.specs.declared.keys.FunctionKey.{FunctionKey}
-use Rattle.walrus_types.specs.Operators.{Tables, Memories, Globals, Tags, Item, function_item}
-use Rattle.walrus_items.specs.Items.{is_item}
+use Rattle.walrus_types.specs.Operators.{Item}
+use Rattle.walrus_parts.specs.Items.{is_item}
+use Rattle.walrus_parts.specs.Kinds.{exported}
 use Rattle.walrus_items.specs.Searches.{first}
 use Rattle.walrus_items.specs.Held.{held, held_left, held_entries_left}
 use Rattle.walrus_items.specs.declared.items.Items.{Items}
 use Rattle.walrus_items.specs.declared.items.ItemIter.{ItemIter}
 use Rattle.walrus_items.specs.declared.items.ItemEntries.{ItemEntries}
 use Rattle.walrus_items.specs.declared.exports.Export.{Export}
-use Rattle.walrus_items.specs.declared.exports.ExportItem.{ExportItem}
-use Rattle.walrus_items.specs.declared.exports.ExportItem.TheVariants.{Function, Table, Memory, Global, Tag}
+use Rattle.walrus_parts.specs.declared.kinds.ExportItem.{ExportItem}
+use Rattle.walrus_parts.specs.declared.kinds.ExportItem.TheVariants.{Function, Table, Memory, Global, Tag}
 
 -- the place of an export's own id, its name, and what it exports
 pub record ExportValue : Type 0 where
@@ -24,14 +25,6 @@ pub record ExportValue : Type 0 where
 
 abbrev pub export_value : Export → ExportValue
 export_value e = record { id = place e.id; name = string_bytes e.name; item = e.item }
-
--- what is exported, by its index space and place
-abbrev pub exported : ExportItem → Item
-exported (Function f) = function_item (place f)
-exported (Table t) = (Tables, place t)
-exported (Memory m) = (Memories, place m)
-exported (Global g) = (Globals, place g)
-exported (Tag t) = (Tags, place t)
 
 -- the function that is exported, if it is one
 abbrev pub exported_function : ExportItem → Option (Id FunctionKey)

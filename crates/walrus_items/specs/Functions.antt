@@ -1,12 +1,9 @@
 -- What a contract sees of the functions of a module ("Structure > Modules > Functions").
-use Rattle.std.specs.Prelude.{ℕ, Bool, List, [], ◌∷◌, ◌++◌, Option, Some, None, map, ⊤}
+use Rattle.std.specs.Prelude.{ℕ, Bool, List, [], ◌∷◌, ◌++◌, Option, Some, None, map}
 use Rattle.std.specs.Option.{option_to_list}
 use Rattle.walrus_base.specs.Id.{place}
 use Rattle.walrus_base.specs.declared.keys.FunctionKey.{FunctionKey}
-use Rattle.walrus_base.specs.Arena.{slots, entries_left}
-use Rattle.walrus_base.specs.declared.id.Id.{Id}
-use Rattle.walrus_base.specs.declared.keys.TypeKey.{TypeKey}
-use Rattle.walrus_code.specs.Function.{function_type}
+use Rattle.walrus_base.specs.Arena.{entries_left}
 use Rattle.walrus_code.specs.declared.function.LocalFunction.{LocalFunction}
 use Rattle.walrus_items.specs.Seen.{text_of, text_is}
 use Rattle.walrus_items.specs.Held.{held, held_left, held_entries_left}
@@ -14,8 +11,8 @@ use Rattle.walrus_items.specs.declared.items.Items.{Items}
 use Rattle.walrus_items.specs.declared.items.ItemIter.{ItemIter}
 use Rattle.walrus_items.specs.declared.items.ItemEntries.{ItemEntries}
 use Rattle.walrus_items.specs.declared.functions.Function.{Function}
-use Rattle.walrus_items.specs.declared.functions.FunctionKind.{FunctionKind}
-use Rattle.walrus_items.specs.declared.functions.FunctionKind.TheVariants.{Import, Local, Uninitialized}
+use Rattle.walrus_parts.specs.declared.function_kind.FunctionKind.{FunctionKind}
+use Rattle.walrus_parts.specs.declared.function_kind.FunctionKind.TheVariants.{Import, Local, Uninitialized}
 use Rattle.walrus_items.specs.declared.functions.LocalFunctionIter.{LocalFunctionIter}
 
 -- the place of a function's own id, its kind, and the bytes of its name
@@ -26,24 +23,6 @@ pub record FunctionValue : Type 0 where
 
 abbrev pub function_value : Function → FunctionValue
 function_value f = record { id = place f.id; kind = f.kind; name = text_of f.name }
-
--- the type of a function of this kind
-abbrev pub kind_type : FunctionKind → Id TypeKey
-kind_type (Import i) = i.ty
-kind_type (Local f) = function_type f
-kind_type (Uninitialized ty) = ty
-
--- an import brings it
-abbrev pub IsImport : FunctionKind → Type 0
-IsImport (Import i) = ⊤
-IsImport (Local f) = ⊥
-IsImport (Uninitialized ty) = ⊥
-
--- it has a body
-abbrev pub IsLocal : FunctionKind → Type 0
-IsLocal (Local f) = ⊤
-IsLocal (Import i) = ⊥
-IsLocal (Uninitialized ty) = ⊥
 
 abbrev pub ModuleFunctions : Type 0
 ModuleFunctions = Items FunctionKey Function

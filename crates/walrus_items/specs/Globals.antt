@@ -1,5 +1,5 @@
 -- What a contract sees of the globals of a module ("Structure > Modules > Globals").
-use Rattle.std.specs.Prelude.{ℕ, Bool, List, Option, Some, None, map}
+use Rattle.std.specs.Prelude.{ℕ, Bool, List, Option, Some, None}
 use Rattle.walrus_base.specs.Id.{place}
 use Rattle.walrus_base.specs.declared.keys.GlobalKey.{GlobalKey}
 use Rattle.walrus_base.specs.Types.{ValType}
@@ -11,8 +11,8 @@ use Rattle.walrus_items.specs.declared.items.Items.{Items}
 use Rattle.walrus_items.specs.declared.items.ItemIter.{ItemIter}
 use Rattle.walrus_items.specs.declared.items.ItemEntries.{ItemEntries}
 use Rattle.walrus_items.specs.declared.globals.Global.{Global}
-use Rattle.walrus_items.specs.declared.globals.GlobalKind.{GlobalKind}
-use Rattle.walrus_items.specs.declared.globals.GlobalKind.TheVariants.{Import, Local}
+use Rattle.walrus_parts.specs.declared.kinds.GlobalKind.{GlobalKind}
+use Rattle.walrus_parts.specs.declared.kinds.GlobalKind.TheVariants.{Import, Local}
 
 -- The place of a global's own id, its type and flags, the place of the import that brings it, its initialiser, and the bytes
 -- of its name.

@@ -1,22 +1,23 @@
 -- What a contract sees of the imports of a module ("Structure > Modules > Imports").
-use Rattle.std.specs.Prelude.{ℕ, Bool, true, false, ◌&&◌, List, Option, Some, None, map, option_and_then, bytes_eq}
+use Rattle.std.specs.Prelude.{ℕ, Bool, true, false, ◌&&◌, List, Option, Some, None, option_and_then, bytes_eq}
 use Rattle.std.specs.String.{string_bytes}
 use Rattle.walrus_base.specs.Id.{place}
 use Rattle.walrus_base.specs.declared.keys.ImportKey.{ImportKey}
 use Rattle.walrus_base.specs.declared.id.Id.{Id}
 use Rattle.walrus_base.specs.declared.keys.FunctionKey.{FunctionKey}
-use Rattle.walrus_types.specs.Operators.{Tables, Memories, Globals, Tags, Item, function_item}
-use Rattle.walrus_items.specs.Items.{is_item}
-use Rattle.walrus_items.specs.Marks.{has_item}
+use Rattle.walrus_types.specs.Operators.{Item}
+use Rattle.walrus_parts.specs.Items.{is_item}
+use Rattle.walrus_parts.specs.Kinds.{imported}
+use Rattle.walrus_parts.specs.Marks.{has_item}
 use Rattle.walrus_items.specs.Searches.{first}
 use Rattle.walrus_items.specs.Held.{held, held_left, held_entries_left}
 use Rattle.walrus_items.specs.declared.items.Items.{Items}
 use Rattle.walrus_items.specs.declared.items.ItemIter.{ItemIter}
 use Rattle.walrus_items.specs.declared.items.ItemEntries.{ItemEntries}
 use Rattle.walrus_items.specs.declared.imports.Import.{Import}
-use Rattle.walrus_items.specs.declared.imports.ImportKind.{ImportKind}
-use Rattle.walrus_items.specs.declared.imports.ImportKind.TheVariants.{Function, Table, Memory, Global, Tag}
-use Rattle.walrus_items.specs.declared.marks.ItemMarks.{ItemMarks}
+use Rattle.walrus_parts.specs.declared.kinds.ImportKind.{ImportKind}
+use Rattle.walrus_parts.specs.declared.kinds.ImportKind.TheVariants.{Function, Table, Memory, Global, Tag}
+use Rattle.walrus_parts.specs.declared.marks.ItemMarks.{ItemMarks}
 
 -- the place of an import's own id, its two names, and what it imports
 pub record ImportValue : Type 0 where
@@ -27,14 +28,6 @@ pub record ImportValue : Type 0 where
 
 abbrev pub import_value : Import → ImportValue
 import_value i = record { id = place i.id; module_name = string_bytes i.«module»; name = string_bytes i.name; kind = i.kind }
-
--- what is imported, by its index space and place
-abbrev pub imported : ImportKind → Item
-imported (Function f) = function_item (place f)
-imported (Table t) = (Tables, place t)
-imported (Memory m) = (Memories, place m)
-imported (Global g) = (Globals, place g)
-imported (Tag t) = (Tags, place t)
 
 -- the function that is imported, if it is one
 abbrev pub imported_function : ImportKind → Option (Id FunctionKey)

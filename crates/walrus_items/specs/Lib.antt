@@ -5,11 +5,8 @@ pub mod Functions
 pub mod Globals
 pub mod Held
 pub mod Imports
-pub mod Items
 pub mod Keeping
 pub mod LendsItem
-pub mod LendsKind
-pub mod Marks
 pub mod Memories
 pub mod OwnIds
 pub mod Searches

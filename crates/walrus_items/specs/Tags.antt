@@ -1,5 +1,5 @@
 -- What a contract sees of the tags of a module ("Structure > Modules > Tags").
-use Rattle.std.specs.Prelude.{ℕ, List, Option, Some, None, map}
+use Rattle.std.specs.Prelude.{ℕ, List, Option, Some, None}
 use Rattle.walrus_base.specs.Id.{place}
 use Rattle.walrus_base.specs.declared.keys.TagKey.{TagKey}
 use Rattle.walrus_items.specs.Seen.{text_of}
@@ -8,8 +8,8 @@ use Rattle.walrus_items.specs.declared.items.Items.{Items}
 use Rattle.walrus_items.specs.declared.items.ItemIter.{ItemIter}
 use Rattle.walrus_items.specs.declared.items.ItemEntries.{ItemEntries}
 use Rattle.walrus_items.specs.declared.tags.Tag.{Tag}
-use Rattle.walrus_items.specs.declared.tags.TagKind.{TagKind}
-use Rattle.walrus_items.specs.declared.tags.TagKind.TheVariants.{Import, Local}
+use Rattle.walrus_parts.specs.declared.kinds.TagKind.{TagKind}
+use Rattle.walrus_parts.specs.declared.kinds.TagKind.TheVariants.{Import, Local}
 
 -- the places of a tag's own id, of its type, and of the import that brings it, and the bytes of its name
 pub record TagValue : Type 0 where

@@ -5,103 +5,14 @@ ghost use Rattle.std.specs.Borrow.{sem};
 ghost use Rattle.std.specs.Iterator.{YieldsFirstBy, item_count};
 ghost use Rattle.walrus_base.specs.Id.{place};
 ghost use Rattle.walrus_base.specs.Arena.{HasRoom, item_at, IsLive, items, entries};
-ghost use Rattle.walrus_code.specs.Code.{item_of};
 ghost use Rattle.walrus_types.specs.Operators.{Tables, Memories, Globals, function_item};
 ghost use Rattle.walrus_parts.specs.Errors.{out_of_memory};
-ghost use Rattle.walrus_items.specs.Items.{is_item};
+ghost use Rattle.walrus_parts.specs.Kinds.{exported};
 ghost use Rattle.walrus_items.specs.Searches.{first, RemovesFound};
-ghost use Rattle.walrus_items.specs.declared.exports.ExportItem.TheVariants.{Function, Table, Memory, Global, Tag};
 
-use crate::items::{Item, ItemEntries, ItemIter, Items};
-use std::alloc::Global;
-use walrus_base::{ExportId, ExportKey, FunctionId, GlobalId, MemoryId, TableId, TagId};
-use walrus_parts::{Error, ItemId, Result};
-
-/// What an export exports.
-#[derive(Clone, Copy, Debug)]
-pub enum ExportItem {
-    /// A function.
-    Function(FunctionId),
-    /// A table.
-    Table(TableId),
-    /// A memory.
-    Memory(MemoryId),
-    /// A global.
-    Global(GlobalId),
-    /// A tag.
-    Tag(TagId),
-}
-
-impl ExportItem {
-    ghost use Rattle.walrus_items.specs.Exports.{exported};
-
-    /// The item, as an operator would name it.
-    pub fn item_id(self) -> ItemId
-        ensures { item_of result ≡ exported self }
-    {
-        match self {
-            ExportItem::Function(id) => ItemId::Function(id),
-            ExportItem::Table(id) => ItemId::Table(id),
-            ExportItem::Memory(id) => ItemId::Memory(id),
-            ExportItem::Global(id) => ItemId::Global(id),
-            ExportItem::Tag(id) => ItemId::Tag(id),
-        }
-    }
-
-    // Whether it is the same item.
-    fn is_same(self, other: ExportItem) -> bool
-        ensures { result ≡ is_item (exported self) (exported other) }
-    {
-        match (self, other) {
-            (ExportItem::Function(one), ExportItem::Function(id)) => one == id,
-            (ExportItem::Table(one), ExportItem::Table(id)) => one == id,
-            (ExportItem::Memory(one), ExportItem::Memory(id)) => one == id,
-            (ExportItem::Global(one), ExportItem::Global(id)) => one == id,
-            (ExportItem::Tag(one), ExportItem::Tag(id)) => one == id,
-            _ => false,
-        }
-    }
-}
-
-impl From<FunctionId> for ExportItem {
-    ghost from_gives = { λ id item. item ≡ Function id };
-
-    fn from(id: FunctionId) -> ExportItem {
-        ExportItem::Function(id)
-    }
-}
-
-impl From<TableId> for ExportItem {
-    ghost from_gives = { λ id item. item ≡ Table id };
-
-    fn from(id: TableId) -> ExportItem {
-        ExportItem::Table(id)
-    }
-}
-
-impl From<MemoryId> for ExportItem {
-    ghost from_gives = { λ id item. item ≡ Memory id };
-
-    fn from(id: MemoryId) -> ExportItem {
-        ExportItem::Memory(id)
-    }
-}
-
-impl From<GlobalId> for ExportItem {
-    ghost from_gives = { λ id item. item ≡ Global id };
-
-    fn from(id: GlobalId) -> ExportItem {
-        ExportItem::Global(id)
-    }
-}
-
-impl From<TagId> for ExportItem {
-    ghost from_gives = { λ id item. item ≡ Tag id };
-
-    fn from(id: TagId) -> ExportItem {
-        ExportItem::Tag(id)
-    }
-}
+use crate::items::{Fresh, Item, ItemEntries, ItemIter, Items};
+use walrus_base::{ExportId, ExportKey, FunctionId, GlobalId, MemoryId, TableId};
+use walrus_parts::{Error, ExportItem, Result};
 
 /// An export of a module.
 #[derive(Debug, Drop)]
@@ -144,18 +55,13 @@ impl Item for Export {
     ghost value = { export_value };
 }
 
+impl Fresh for Export {}
+
 /// The exports of a module, by their ids. Deleted ids are never used again.
 pub type ModuleExports = Items<ExportKey, Export>;
 
 impl Items<ExportKey, Export> {
-    ghost use Rattle.walrus_items.specs.Exports.{ExportValue, export_value, exports, exports_left, export_entries_left, exported, is_named, exports_item, function_named};
-
-    /// No exports. Takes no memory until the first one comes.
-    pub fn new(alloc: Global) -> ModuleExports
-        ensures { exports result ≡ [] }
-    {
-        Items::empty(alloc)
-    }
+    ghost use Rattle.walrus_items.specs.Exports.{ExportValue, export_value, exports, exports_left, export_entries_left, is_named, exports_item, function_named};
 
     /// Exports an item under a name. `Memory` is the only error; then nothing changes.
     pub fn add(&mut self, name: &str, item: ExportItem) -> Result<ExportId>

@@ -5,87 +5,16 @@ ghost use Rattle.std.specs.Iterator.{YieldsFirstBy, item_count};
 ghost use Rattle.walrus_base.specs.Id.{place};
 ghost use Rattle.walrus_base.specs.Arena.{HasRoom, item_at, IsLive, items, entries, kept_by};
 ghost use Rattle.walrus_parts.specs.Errors.{out_of_memory};
+ghost use Rattle.walrus_parts.specs.FunctionKinds.{kind_type};
 ghost use Rattle.walrus_items.specs.Seen.{text_of, text_is};
 ghost use Rattle.walrus_items.specs.Searches.{first};
-ghost use Rattle.walrus_items.specs.declared.functions.FunctionKind.TheVariants.{Import, Local};
 
 use crate::items::{Item, ItemEntries, ItemIter, Items, Marked};
 use std::alloc::{AllocError, Global};
 use std::result;
-use walrus_base::{ArenaIter, FunctionId, FunctionKey, ImportId, TypeId};
+use walrus_base::{ArenaIter, FunctionId, FunctionKey, ImportId, TombstoneArena, TypeId};
 use walrus_ir::LocalFunction;
-use walrus_parts::Result;
-
-/// A function that an import brings in.
-#[derive(Drop)]
-pub struct ImportedFunction {
-    /// Its type.
-    pub ty: TypeId,
-    /// The import.
-    pub import: ImportId,
-}
-
-/// Where a function comes from.
-#[derive(Drop)]
-pub enum FunctionKind {
-    /// From an import.
-    Import(ImportedFunction),
-    /// From the module: it has a body.
-    Local(LocalFunction),
-    /// From the module, with this type, and its body isn't known yet.
-    Uninitialized(TypeId),
-}
-
-impl FunctionKind {
-    ghost use Rattle.walrus_items.specs.Functions.{IsImport, IsLocal};
-    ghost use Rattle.walrus_items.specs.LendsKind.{LendsImported, LendsLocal};
-
-    /// What a function of an import is. Asks for such a function.
-    pub fn unwrap_import(&self) -> &ImportedFunction
-        requires { IsImport self.now }
-        ensures { self.now ≡ Import result.now }
-    {
-        match self {
-            FunctionKind::Import(imported) => imported,
-            _ => unreachable!(),
-        }
-    }
-
-    /// The body of a local function. Asks for such a function.
-    pub fn unwrap_local(&self) -> &LocalFunction
-        requires { IsLocal self.now }
-        ensures { self.now ≡ Local result.now }
-    {
-        match self {
-            FunctionKind::Local(local) => local,
-            _ => unreachable!(),
-        }
-    }
-
-    /// What a function of an import is, for writing. Asks for such a function.
-    pub fn unwrap_import_mut(&mut self) -> &mut ImportedFunction
-        requires { IsImport self.old }
-        ensures* writes_back { sem 𝓛 (LendsImported self.entry result) }
-        ensures value { self.old ≡ Import result.now }
-    {
-        match self {
-            FunctionKind::Import(imported) => imported,
-            _ => unreachable!(),
-        }
-    }
-
-    /// The body of a local function, for writing. Asks for such a function.
-    pub fn unwrap_local_mut(&mut self) -> &mut LocalFunction
-        requires { IsLocal self.old }
-        ensures* writes_back { sem 𝓛 (LendsLocal self.entry result) }
-        ensures value { self.old ≡ Local result.now }
-    {
-        match self {
-            FunctionKind::Local(local) => local,
-            _ => unreachable!(),
-        }
-    }
-}
+use walrus_parts::{FunctionKind, ImportedFunction, Result};
 
 /// A function of a module.
 #[derive(Drop)]
@@ -98,7 +27,7 @@ pub struct Function {
 }
 
 impl Function {
-    ghost use Rattle.walrus_items.specs.Functions.{function_value, kind_type};
+    ghost use Rattle.walrus_items.specs.Functions.{function_value};
 
     /// The id under which the function was added.
     pub fn id(&self) -> FunctionId
@@ -160,7 +89,10 @@ impl Items<FunctionKey, Function> {
         ensures value { IfOk result (λ all. functions all ≡ []) }
         ensures fails { IsOkUnless result out_of_memory }
     {
-        Ok(Items::empty(alloc))
+        Ok(Items {
+            arena: TombstoneArena::new(alloc),
+            alloc,
+        })
     }
 
     /// Adds a function that this import brings in, without a name. `Memory` is the only error; then nothing changes.

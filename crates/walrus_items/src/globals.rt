@@ -8,20 +8,10 @@ ghost use Rattle.walrus_parts.specs.Errors.{out_of_memory};
 ghost use Rattle.walrus_items.specs.Added.{IsAdded};
 ghost use Rattle.walrus_types.specs.Value.{val_type};
 
-use crate::items::{Item, ItemEntries, ItemIter, Items, Marked};
-use std::alloc;
+use crate::items::{Fresh, Item, ItemEntries, ItemIter, Items, Marked};
 use walrus_base::{GlobalId, GlobalKey, ImportId};
 use walrus_ir::{ConstExpr, ValType};
-use walrus_parts::Result;
-
-/// Where a global comes from.
-#[derive(Drop)]
-pub enum GlobalKind {
-    /// From an import.
-    Import(ImportId),
-    /// From the module, with this initialiser.
-    Local(ConstExpr),
-}
+use walrus_parts::{GlobalKind, Result};
 
 /// A global of a module.
 #[derive(Drop)]
@@ -58,6 +48,8 @@ impl Item for Global {
     ghost value = { global_value };
 }
 
+impl Fresh for Global {}
+
 impl Marked for Global {}
 
 /// The globals of a module, by their ids. Deleted ids are never used again.
@@ -65,13 +57,6 @@ pub type ModuleGlobals = Items<GlobalKey, Global>;
 
 impl Items<GlobalKey, Global> {
     ghost use Rattle.walrus_items.specs.Globals.{GlobalValue, global_value, globals, globals_left, global_entries_left};
-
-    /// No globals. Takes no memory until the first one comes.
-    pub fn new(allocator: alloc::Global) -> ModuleGlobals
-        ensures { globals result ≡ [] }
-    {
-        Items::empty(allocator)
-    }
 
     /// Adds a global that this import brings in, without a name. `Memory` is the only error; then nothing changes.
     pub fn add_import(

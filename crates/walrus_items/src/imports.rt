@@ -9,68 +9,10 @@ ghost use Rattle.walrus_types.specs.Operators.{function_item};
 ghost use Rattle.walrus_parts.specs.Errors.{out_of_memory};
 ghost use Rattle.walrus_items.specs.Keeping.{kept_slot, kept_where};
 ghost use Rattle.walrus_items.specs.Searches.{first, RemovesFound};
-ghost use Rattle.walrus_items.specs.declared.imports.ImportKind.TheVariants.{Function, Table, Memory, Global, Tag};
 
-use crate::items::{Item, ItemEntries, ItemIter, Items};
-use crate::marks::ItemMarks;
-use std::alloc::Global;
-use walrus_base::{FunctionId, GlobalId, ImportId, ImportKey, MemoryId, TableId, TagId};
-use walrus_parts::{Error, Result};
-
-/// What an import imports.
-#[derive(Clone, Copy, Debug, PartialEq, Eq, Hash)]
-pub enum ImportKind {
-    /// A function.
-    Function(FunctionId),
-    /// A table.
-    Table(TableId),
-    /// A memory.
-    Memory(MemoryId),
-    /// A global.
-    Global(GlobalId),
-    /// A tag.
-    Tag(TagId),
-}
-
-impl From<FunctionId> for ImportKind {
-    ghost from_gives = { λ id kind. kind ≡ Function id };
-
-    fn from(id: FunctionId) -> ImportKind {
-        ImportKind::Function(id)
-    }
-}
-
-impl From<TableId> for ImportKind {
-    ghost from_gives = { λ id kind. kind ≡ Table id };
-
-    fn from(id: TableId) -> ImportKind {
-        ImportKind::Table(id)
-    }
-}
-
-impl From<MemoryId> for ImportKind {
-    ghost from_gives = { λ id kind. kind ≡ Memory id };
-
-    fn from(id: MemoryId) -> ImportKind {
-        ImportKind::Memory(id)
-    }
-}
-
-impl From<GlobalId> for ImportKind {
-    ghost from_gives = { λ id kind. kind ≡ Global id };
-
-    fn from(id: GlobalId) -> ImportKind {
-        ImportKind::Global(id)
-    }
-}
-
-impl From<TagId> for ImportKind {
-    ghost from_gives = { λ id kind. kind ≡ Tag id };
-
-    fn from(id: TagId) -> ImportKind {
-        ImportKind::Tag(id)
-    }
-}
+use crate::items::{Fresh, Item, ItemEntries, ItemIter, Items};
+use walrus_base::{FunctionId, ImportId, ImportKey};
+use walrus_parts::{Error, ImportKind, ItemMarks, Result};
 
 /// An import of a module.
 #[derive(Debug, Drop, PartialEq, Eq, Hash)]
@@ -116,18 +58,13 @@ impl Item for Import {
     ghost value = { import_value };
 }
 
+impl Fresh for Import {}
+
 /// The imports of a module, by their ids. Deleted ids are never used again.
 pub type ModuleImports = Items<ImportKey, Import>;
 
 impl Items<ImportKey, Import> {
-    ghost use Rattle.walrus_items.specs.Imports.{ImportValue, import_value, imported, imports, imports_left, import_entries_left, is_import_of, imports_item, function_of, stays_under};
-
-    /// No imports. Takes no memory until the first one comes.
-    pub fn new(alloc: Global) -> ModuleImports
-        ensures { imports result ≡ [] }
-    {
-        Items::empty(alloc)
-    }
+    ghost use Rattle.walrus_items.specs.Imports.{ImportValue, import_value, imports, imports_left, import_entries_left, is_import_of, imports_item, function_of, stays_under};
 
     /// Imports an item by the name of its module and its own. `Memory` is the only error; then nothing changes.
     pub fn add(&mut self, module: &str, name: &str, kind: ImportKind) -> Result<ImportId>

@@ -22,6 +22,9 @@ pub trait Item {
 /// A kind of items of which a pass marks those that stay.
 pub trait Marked: Item {}
 
+/// A kind of items whose collection begins without a refusal.
+pub trait Fresh: Item {}
+
 /// The items of one kind, by their ids. Deleted ids are never used again.
 #[derive(Drop)]
 pub struct Items<K, T> {
@@ -31,16 +34,6 @@ pub struct Items<K, T> {
 
 impl<K, T: Item> Items<K, T> {
     ghost use Rattle.walrus_items.specs.LendsItem.{LendsItem};
-
-    /// No items. Takes no memory until the first one comes.
-    pub fn empty(alloc: Global) -> Items<K, T>
-        ensures { held T.value result ≡ [] }
-    {
-        Items {
-            arena: TombstoneArena::new(alloc),
-            alloc,
-        }
-    }
 
     /// Makes room for `additional` more items, but for what they own. `Memory` is the only error.
     pub fn reserve(&mut self, additional: usize) -> Result<()>
@@ -122,6 +115,18 @@ impl<K, T: Item> Items<K, T> {
     {
         ItemEntries {
             rest: self.arena.iter(),
+        }
+    }
+}
+
+impl<K, T: Fresh> Items<K, T> {
+    /// No items. Takes no memory until the first one comes.
+    pub fn new(alloc: Global) -> Items<K, T>
+        ensures { held T.value result ≡ [] }
+    {
+        Items {
+            arena: TombstoneArena::new(alloc),
+            alloc,
         }
     }
 }

@@ -7,9 +7,8 @@ ghost use Rattle.walrus_base.specs.Arena.{HasRoom, item_at, IsLive, items, entri
 ghost use Rattle.walrus_parts.specs.Errors.{out_of_memory};
 ghost use Rattle.walrus_items.specs.Added.{IsAdded, no_segments};
 
-use crate::items::{Item, ItemEntries, ItemIter, Items, Marked};
+use crate::items::{Fresh, Item, ItemEntries, ItemIter, Items, Marked};
 use crate::sets::no_ids;
-use std::alloc::Global;
 use walrus_base::{DataKey, IdHashSet, ImportId, MemoryId, MemoryKey};
 use walrus_parts::Result;
 
@@ -54,6 +53,8 @@ impl Item for Memory {
     ghost value = { memory_value };
 }
 
+impl Fresh for Memory {}
+
 impl Marked for Memory {}
 
 /// The memories of a module, by their ids. Deleted ids are never used again.
@@ -61,13 +62,6 @@ pub type ModuleMemories = Items<MemoryKey, Memory>;
 
 impl Items<MemoryKey, Memory> {
     ghost use Rattle.walrus_items.specs.Memories.{MemoryValue, memory_value, memories, memories_left, memory_entries_left};
-
-    /// No memories. Takes no memory until the first one comes.
-    pub fn new(alloc: Global) -> ModuleMemories
-        ensures { memories result ≡ [] }
-    {
-        Items::empty(alloc)
-    }
 
     /// Adds a memory that this import brings in, without a name and segments. `Memory` is the only error; then nothing
     /// changes.

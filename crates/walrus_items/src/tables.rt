@@ -10,9 +10,8 @@ ghost use Rattle.std.specs.Result.{result_map_both};
 ghost use Rattle.walrus_types.specs.Value.{ref_type};
 ghost use Rattle.walrus_items.specs.Tables.{is_function_reference};
 
-use crate::items::{Item, ItemEntries, ItemIter, Items, Marked};
+use crate::items::{Fresh, Item, ItemEntries, ItemIter, Items, Marked};
 use crate::sets::no_ids;
-use std::alloc::Global;
 use walrus_base::{ElementKey, IdHashSet, ImportId, TableId, TableKey};
 use walrus_ir::{AbstractHeapType, ConstExpr, HeapType, RefType};
 use walrus_parts::{Error, Result};
@@ -65,6 +64,8 @@ impl Item for Table {
     ghost value = { table_value };
 }
 
+impl Fresh for Table {}
+
 impl Marked for Table {}
 
 /// The tables of a module, by their ids. Deleted ids are never used again.
@@ -72,13 +73,6 @@ pub type ModuleTables = Items<TableKey, Table>;
 
 impl Items<TableKey, Table> {
     ghost use Rattle.walrus_items.specs.Tables.{TableValue, table_value, tables, tables_left, table_entries_left, function_tables, main_table};
-
-    /// No tables. Takes no memory until the first one comes.
-    pub fn new(alloc: Global) -> ModuleTables
-        ensures { tables result ≡ [] }
-    {
-        Items::empty(alloc)
-    }
 
     /// Adds a table that this import brings in, without a name, an initialiser and segments. `Memory` is the only error;
     /// then nothing changes.

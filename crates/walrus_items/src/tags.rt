@@ -9,17 +9,8 @@ ghost use Rattle.walrus_items.specs.Added.{IsAdded};
 
 use crate::items::{Item, ItemEntries, ItemIter, Items, Marked};
 use std::alloc::Global;
-use walrus_base::{ImportId, TagId, TagKey, TypeId};
-use walrus_parts::Result;
-
-/// Where a tag comes from.
-#[derive(Drop)]
-pub enum TagKind {
-    /// From an import.
-    Import(ImportId),
-    /// From the module.
-    Local,
-}
+use walrus_base::{ImportId, TagId, TagKey, TombstoneArena, TypeId};
+use walrus_parts::{Result, TagKind};
 
 /// A tag of a module: a kind of exceptions.
 #[derive(Drop)]
@@ -89,7 +80,10 @@ impl Items<TagKey, Tag> {
         ensures value { IfOk result (λ all. tags all ≡ []) }
         ensures fails { IsOkUnless result out_of_memory }
     {
-        Ok(Items::empty(alloc))
+        Ok(Items {
+            arena: TombstoneArena::new(alloc),
+            alloc,
+        })
     }
 
     /// Adds a tag of this type, without a name. `Memory` is the only error; then nothing changes.

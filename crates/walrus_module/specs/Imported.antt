@@ -4,7 +4,7 @@ use Rattle.walrus_base.specs.Id.{place}
 use Rattle.walrus_base.specs.declared.id.Id.{Id}
 use Rattle.walrus_base.specs.declared.keys.ImportKey.{ImportKey}
 use Rattle.walrus_items.specs.Imports.{ImportValue}
-use Rattle.walrus_items.specs.declared.imports.ImportKind.{ImportKind}
+use Rattle.walrus_parts.specs.declared.kinds.ImportKind.{ImportKind}
 use Rattle.walrus_parts.specs.Errors.{out_of_memory}
 use Rattle.walrus_parts.specs.declared.error.Error.{Error}
 

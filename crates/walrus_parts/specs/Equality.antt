@@ -1,8 +1,12 @@
--- When custom sections are equal, and when their ids are.
+-- When items are one, when what imports bring is, when custom sections are equal, and when their ids are.
 use Rattle.std.specs.Prelude.{◌≡◌, ◌↔◌, Bool, IsTrue}
 use Rattle.std.specs.String.{string_bytes}
 use Rattle.walrus_base.specs.Id.{place}
 use Rattle.walrus_base.specs.declared.id.Id.{Id}
+use Rattle.walrus_types.specs.Operators.{Item}
+use Rattle.walrus_parts.specs.Items.{is_item}
+use Rattle.walrus_parts.specs.Kinds.{imported}
+use Rattle.walrus_parts.specs.declared.kinds.ImportKind.{ImportKind}
 use Rattle.walrus_parts.specs.declared.raw_section.RawCustomSection.{RawCustomSection}
 
 -- ids that are compared so are equal exactly where their places are
@@ -17,3 +21,11 @@ pub record IsSameSection (a b : RawCustomSection) : Type 0 where
 -- sections that are compared so are equal exactly where both their parts are
 abbrev pub ComparesSections : (RawCustomSection → RawCustomSection → Bool) → Type 0
 ComparesSections eq = (a b : RawCustomSection) → IsTrue (eq a b) ↔ IsSameSection a b
+
+-- items are told to be one exactly where they are
+abbrev pub TellsItems : Type 0
+TellsItems = (x y : Item) → IsTrue (is_item x y) ↔ (x ≡ y)
+
+-- what is compared so is equal exactly where it brings one item
+abbrev pub ComparesKinds : (ImportKind → ImportKind → Bool) → Type 0
+ComparesKinds eq = (a b : ImportKind) → IsTrue (eq a b) ↔ (imported a ≡ imported b)

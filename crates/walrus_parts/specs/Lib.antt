@@ -1,5 +1,10 @@
 pub mod Equality
 pub mod Errors
+pub mod FunctionKinds
+pub mod Items
+pub mod Kinds
+pub mod LendsKind
+pub mod Marks
 pub mod Roots
 pub mod Section
 pub mod Transform

@@ -3,14 +3,23 @@
 
 mod custom;
 mod error;
+mod function_kind;
+mod kinds;
 mod law;
+mod marks;
 mod raw_section;
 mod roots;
 mod transform;
 
 pub use custom::CustomSection;
 pub use error::{Error, ErrorKind, Result};
-pub use law::{raw_sections_are_equal_by_parts, section_ids_are_equal_by_place};
+pub use function_kind::{FunctionKind, ImportedFunction};
+pub use kinds::{ExportItem, GlobalKind, ImportKind, TagKind};
+pub use law::{
+    items_are_told_apart, kinds_are_equal_as_items, raw_sections_are_equal_by_parts,
+    section_ids_are_equal_by_place,
+};
+pub use marks::ItemMarks;
 pub use raw_section::RawCustomSection;
 pub use roots::Roots;
 pub use transform::CodeTransform;

@@ -17,10 +17,11 @@ use Rattle.walrus_code.specs.declared.function.LocalFunction.{LocalFunction}
 use Rattle.walrus_functions.specs.EmittedBody.{types_of as local_types}
 use Rattle.walrus_functions.specs.Handlers.{params_of}
 use Rattle.walrus_functions.specs.Laws.{moved_arg, moved_op}
-use Rattle.walrus_items.specs.Functions.{FunctionValue, functions, kind_type}
-use Rattle.walrus_items.specs.declared.functions.FunctionKind.{FunctionKind}
-use Rattle.walrus_items.specs.declared.functions.FunctionKind.TheVariants as variants
-use Rattle.walrus_items.specs.declared.functions.FunctionKind.TheVariants.{Local}
+use Rattle.walrus_parts.specs.FunctionKinds.{kind_type}
+use Rattle.walrus_items.specs.Functions.{FunctionValue, functions}
+use Rattle.walrus_parts.specs.declared.function_kind.FunctionKind.{FunctionKind}
+use Rattle.walrus_parts.specs.declared.function_kind.FunctionKind.TheVariants as variants
+use Rattle.walrus_parts.specs.declared.function_kind.FunctionKind.TheVariants.{Local}
 use Rattle.walrus_model.specs.Abstract as abstract
 use Rattle.walrus_model.specs.Abstract.{Abstract, Name, TypeDef, Function, ImportedFunction, Import, Body, Subject, TheModule, AnItem, ALocal}
 use Rattle.walrus_model.specs.Carried.{Carries}

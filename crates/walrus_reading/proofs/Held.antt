@@ -18,7 +18,7 @@ use Rattle.walrus_functions.specs.Handlers.{params_of}
 use Rattle.walrus_functions.specs.Laws.{moved_op}
 use Rattle.walrus_items.specs.Exports.{ExportValue, exports}
 use Rattle.walrus_items.specs.Functions.{FunctionValue}
-use Rattle.walrus_items.specs.declared.functions.FunctionKind.TheVariants as variants
+use Rattle.walrus_parts.specs.declared.function_kind.FunctionKind.TheVariants as variants
 use Rattle.walrus_model.specs.Abstract.{Export}
 use Rattle.walrus_model.specs.Sections.{Said, types_of, export_of}
 use Rattle.walrus_contents.specs.View as view

@@ -17,7 +17,7 @@ use Rattle.walrus_bodies.specs.BodyRead.{new_locals}
 use Rattle.walrus_bodies.specs.declared.features.Features.{Features}
 use Rattle.walrus_items.specs.Exports.{ExportValue, exports}
 use Rattle.walrus_items.specs.Functions.{FunctionValue, functions}
-use Rattle.walrus_items.specs.declared.functions.FunctionKind.TheVariants as variants
+use Rattle.walrus_parts.specs.declared.function_kind.FunctionKind.TheVariants as variants
 use Rattle.walrus_items.specs.Imports.{ImportValue, imports}
 use Rattle.walrus_items.specs.Globals.{GlobalValue, globals}
 use Rattle.walrus_items.specs.Memories.{MemoryValue, memories}

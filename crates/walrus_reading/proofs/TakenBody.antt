@@ -24,7 +24,7 @@ use Rattle.walrus_functions.specs.Laws.{moved_op}
 use Rattle.walrus_functions.specs.ReadFunction.{locals_from}
 use Rattle.walrus_functions.proofs.LawMoves.{there, back}
 use Rattle.walrus_items.specs.Functions.{FunctionValue}
-use Rattle.walrus_items.specs.declared.functions.FunctionKind.TheVariants as kind
+use Rattle.walrus_parts.specs.declared.function_kind.FunctionKind.TheVariants as kind
 use Rattle.walrus_model.specs.Sections.{Said}
 use Rattle.walrus_reading.specs.Placed.{AllPlaced}
 use Rattle.walrus_reading.specs.Taken.{AddsLocalsOf, AreTaken, HoldsLocal, IsSaid, IsTaken, SaysUnder, TakesFunction, TakesFunctions, locals_said}

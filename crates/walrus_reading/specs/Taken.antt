@@ -25,7 +25,7 @@ use Rattle.walrus_bodies.specs.declared.features.Features.{Features}
 use Rattle.walrus_code.specs.Indices.{ids_at}
 use Rattle.walrus_items.specs.Exports.{ExportValue, exports}
 use Rattle.walrus_items.specs.Functions.{FunctionValue, functions}
-use Rattle.walrus_items.specs.declared.functions.FunctionKind.TheVariants.{Local}
+use Rattle.walrus_parts.specs.declared.function_kind.FunctionKind.TheVariants.{Local}
 use Rattle.walrus_groups.specs.Groups.{types_from}
 use Rattle.walrus_model.specs.Reads.{ReadsBodyWith}
 use Rattle.walrus_items.specs.Imports.{imports}

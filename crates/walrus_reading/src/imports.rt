@@ -6,7 +6,8 @@ ghost use Rattle.wasm_entries.specs.declared.record.RawDesc.TheVariants as descs
 ghost use Rattle.walrus_base.specs.Id.{place};
 ghost use Rattle.walrus_code.specs.Indices.{ids_at};
 ghost use Rattle.walrus_items.specs.Functions.{functions};
-ghost use Rattle.walrus_items.specs.Imports.{imported, imports};
+ghost use Rattle.walrus_parts.specs.Kinds.{imported};
+ghost use Rattle.walrus_items.specs.Imports.{imports};
 ghost use Rattle.walrus_items.specs.Globals.{globals};
 ghost use Rattle.walrus_items.specs.Memories.{memories};
 ghost use Rattle.walrus_items.specs.Tables.{tables};

@@ -8,8 +8,8 @@ use Rattle.walrus_items.specs.Seen.{seen}
 use Rattle.walrus_items.specs.Globals.{GlobalValue, global_import, global_init, global_value, globals}
 use Rattle.walrus_items.specs.Tables.{tables}
 use Rattle.walrus_items.specs.declared.globals.Global as entities
-use Rattle.walrus_items.specs.declared.globals.GlobalKind.{GlobalKind}
-use Rattle.walrus_items.specs.declared.globals.GlobalKind.TheVariants as kind
+use Rattle.walrus_parts.specs.declared.kinds.GlobalKind.{GlobalKind}
+use Rattle.walrus_parts.specs.declared.kinds.GlobalKind.TheVariants as kind
 use Rattle.walrus_contents.specs.View.{global_of, origin_of, own_initialiser, parts_view, table_of}
 use Rattle.walrus_contents.specs.declared.parts.Parts.{Parts}
 use Rattle.walrus_contents.proofs.Lookups.{mapped_some}

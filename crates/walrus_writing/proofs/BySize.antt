@@ -13,8 +13,8 @@ use Rattle.std.proofs.lemmas.List.Sorted.{sorted_far, Contains-permutation, IsPe
 use Rattle.walrus_base.specs.Arena.{item_at, entries, entries_from}
 use Rattle.walrus_code.specs.declared.function.LocalFunction.{LocalFunction}
 use Rattle.walrus_items.specs.Functions.{FunctionValue, local_functions, local_at}
-use Rattle.walrus_items.specs.declared.functions.FunctionKind.{FunctionKind}
-use Rattle.walrus_items.specs.declared.functions.FunctionKind.TheVariants as kind
+use Rattle.walrus_parts.specs.declared.function_kind.FunctionKind.{FunctionKind}
+use Rattle.walrus_parts.specs.declared.function_kind.FunctionKind.TheVariants as kind
 use Rattle.walrus_types.specs.Shape.{place_in}
 use Rattle.walrus_contents.proofs.Lookups.{pairs_map, got_map}
 use Rattle.walrus_contents.proofs.Slots.{stands_at as stands_among}

@@ -18,7 +18,8 @@ use Rattle.walrus_contents.specs.View.{parts_view}
 use Rattle.walrus_contents.specs.declared.parts.Parts.{Parts}
 use Rattle.walrus_contents.proofs.Lookups.{mapped_some}
 use Rattle.walrus_contents.proofs.Slots.{stands_at}
-use Rattle.walrus_items.specs.Imports.{ImportValue, imported, imports}
+use Rattle.walrus_parts.specs.Kinds.{imported}
+use Rattle.walrus_items.specs.Imports.{ImportValue, imports}
 use Rattle.walrus_model.specs.Abstract.{Abstract, Function, FunctionKind, Global, Import, ImportedBy, ImportedFunction, LocalFunction, Uninitialised, Origin, Defined, Table, Tag}
 use Rattle.walrus_model.specs.Imported.{IsBrought, import_number, import_number_by, number_in, numbered_from}
 use Rattle.walrus_model.specs.Live.{IsLive}

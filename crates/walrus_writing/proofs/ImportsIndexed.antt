@@ -17,9 +17,10 @@ use Rattle.walrus_model.proofs.Indices.{planned_named}
 use Rattle.walrus_model.proofs.Lists.{Contains-append_1, Contains-head, Contains-map}
 use Rattle.walrus_model.proofs.Standing.{some_inj}
 use Rattle.walrus_base.specs.Arena.{item_at}
-use Rattle.walrus_items.specs.Imports.{ImportValue, imported, imports}
-use Rattle.walrus_items.specs.declared.imports.ImportKind.{ImportKind}
-use Rattle.walrus_items.specs.declared.imports.ImportKind.TheVariants as kinds
+use Rattle.walrus_parts.specs.Kinds.{imported}
+use Rattle.walrus_items.specs.Imports.{ImportValue, imports}
+use Rattle.walrus_parts.specs.declared.kinds.ImportKind.{ImportKind}
+use Rattle.walrus_parts.specs.declared.kinds.ImportKind.TheVariants as kinds
 use Rattle.walrus_contents.specs.View.{import_of, parts_view}
 use Rattle.walrus_contents.specs.declared.parts.Parts.{Parts}
 use Rattle.walrus_contents.proofs.NamedLemmas.{some_none}

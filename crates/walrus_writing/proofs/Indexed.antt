@@ -20,10 +20,12 @@ use Rattle.walrus_types.specs.Shape.{place_in}
 use Rattle.walrus_bodies.specs.declared.features.Features.{Features}
 use Rattle.walrus_functions.specs.DeclaredLocals.{AreDeclared}
 use Rattle.walrus_functions.specs.EmittedBody.{EmitsBody, LacksAnIndex, index_in}
-use Rattle.walrus_items.specs.Exports.{ExportValue, exported, exports}
-use Rattle.walrus_items.specs.Functions.{FunctionValue, functions, kind_type, local_at}
-use Rattle.walrus_items.specs.declared.exports.ExportItem.{ExportItem}
-use Rattle.walrus_items.specs.declared.exports.ExportItem.TheVariants as exports_as
+use Rattle.walrus_parts.specs.Kinds.{exported}
+use Rattle.walrus_items.specs.Exports.{ExportValue, exports}
+use Rattle.walrus_parts.specs.FunctionKinds.{kind_type}
+use Rattle.walrus_items.specs.Functions.{FunctionValue, functions, local_at}
+use Rattle.walrus_parts.specs.declared.kinds.ExportItem.{ExportItem}
+use Rattle.walrus_parts.specs.declared.kinds.ExportItem.TheVariants as exports_as
 use Rattle.walrus_constants.specs.Named.{named_global, named_table}
 use Rattle.walrus_items.specs.Globals.{GlobalValue, globals}
 use Rattle.walrus_items.specs.Tables.{TableValue, tables}
@@ -41,8 +43,8 @@ use Rattle.walrus_contents.specs.View.{body, export_of, function, global_of, kin
 use Rattle.walrus_contents.specs.declared.parts.Parts.{Parts}
 use Rattle.walrus_contents.proofs.Lookups.{still_some}
 use Rattle.walrus_contents.proofs.Slots.{item_seen}
-use Rattle.walrus_items.specs.declared.functions.FunctionKind.{FunctionKind}
-use Rattle.walrus_items.specs.declared.functions.FunctionKind.TheVariants as kind
+use Rattle.walrus_parts.specs.declared.function_kind.FunctionKind.{FunctionKind}
+use Rattle.walrus_parts.specs.declared.function_kind.FunctionKind.TheVariants as kind
 use Rattle.walrus_groups.specs.Indexed.{LacksAnIndex as TypesLackAnIndex}
 use Rattle.walrus_parts.specs.Errors.{error_of_ir}
 use Rattle.walrus_model.proofs.Indices.{planned_named}

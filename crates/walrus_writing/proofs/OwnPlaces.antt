@@ -11,9 +11,10 @@ use Rattle.walrus_items.specs.Globals.{GlobalValue, globals}
 use Rattle.walrus_items.specs.Memories.{MemoryValue, memories}
 use Rattle.walrus_items.specs.Tables.{TableValue, tables}
 use Rattle.walrus_items.specs.Tags.{TagValue, tags}
-use Rattle.walrus_items.specs.Imports.{ImportValue, imported, imports}
-use Rattle.walrus_items.specs.declared.imports.ImportKind.{ImportKind}
-use Rattle.walrus_items.specs.declared.imports.ImportKind.TheVariants as kind
+use Rattle.walrus_parts.specs.Kinds.{imported}
+use Rattle.walrus_items.specs.Imports.{ImportValue, imports}
+use Rattle.walrus_parts.specs.declared.kinds.ImportKind.{ImportKind}
+use Rattle.walrus_parts.specs.declared.kinds.ImportKind.TheVariants as kind
 use Rattle.walrus_contents.specs.View as seen
 use Rattle.walrus_contents.specs.View.{parts_view}
 use Rattle.walrus_contents.specs.declared.parts.Parts.{Parts}

@@ -9,8 +9,8 @@ use Rattle.walrus_types.specs.ConstOps.{const_ops}
 use Rattle.walrus_types.specs.Operators.{Types, Tables, Globals, Item, Op, type_item, names_of}
 use Rattle.walrus_items.specs.Globals.{GlobalValue, globals, global_import, global_init}
 use Rattle.walrus_items.specs.Tables.{TableValue, tables}
-use Rattle.walrus_items.specs.declared.globals.GlobalKind.{GlobalKind}
-use Rattle.walrus_items.specs.declared.globals.GlobalKind.TheVariants as kinds
+use Rattle.walrus_parts.specs.declared.kinds.GlobalKind.{GlobalKind}
+use Rattle.walrus_parts.specs.declared.kinds.GlobalKind.TheVariants as kinds
 use Rattle.walrus_contents.proofs.LiveLemmas.{was_there}
 use Rattle.walrus_contents.specs.View.{global_of, origin_of, own_initialiser, parts_view, table_of}
 use Rattle.walrus_contents.specs.declared.parts.Parts.{Parts}

@@ -3,7 +3,8 @@ use Rattle.std.specs.Prelude.{ℕ, List, Option, filter, filter_map, map}
 use Rattle.walrus_base.specs.Arena.{entries}
 use Rattle.walrus_types.specs.Operators.{Space}
 use Rattle.walrus_contents.specs.declared.parts.Parts.{Parts}
-use Rattle.walrus_items.specs.Imports.{ImportValue, imported, imports}
+use Rattle.walrus_parts.specs.Kinds.{imported}
+use Rattle.walrus_items.specs.Imports.{ImportValue, imports}
 use Rattle.walrus_model.specs.Imported.{number_in}
 use Rattle.walrus_writing.specs.Local.{is_own}
 

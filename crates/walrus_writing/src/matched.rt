@@ -3,7 +3,7 @@ ghost use Rattle.std.specs.Prelude.{◌≡◌, MatchResult, Some, true, false, o
 ghost use Rattle.walrus_base.specs.Id.{place};
 ghost use Rattle.walrus_types.specs.Operators.{Functions, Globals, Memories, Tables, Tags};
 ghost use Rattle.walrus_contents.specs.View.{parts_view};
-ghost use Rattle.walrus_items.specs.Imports.{imported};
+ghost use Rattle.walrus_parts.specs.Kinds.{imported};
 ghost use Rattle.walrus_model.specs.Dead.{HasDead};
 ghost use Rattle.walrus_model.specs.Live.{IsLive};
 ghost use Rattle.walrus_model.specs.WellMade.{ImportsMatch, import_of};

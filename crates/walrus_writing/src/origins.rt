@@ -4,7 +4,7 @@ ghost use Rattle.walrus_base.specs.Id.{place};
 ghost use Rattle.walrus_contents.specs.View.{parts_view};
 ghost use Rattle.walrus_items.specs.Globals.{global_import};
 ghost use Rattle.walrus_items.specs.Tags.{tag_import};
-ghost use Rattle.walrus_items.specs.Imports.{imported};
+ghost use Rattle.walrus_parts.specs.Kinds.{imported};
 ghost use Rattle.walrus_model.specs.Live.{IsLive};
 ghost use Rattle.walrus_model.specs.WellMade.{import_of};
 ghost use Rattle.walrus_writing.specs.Origins.{function_import};

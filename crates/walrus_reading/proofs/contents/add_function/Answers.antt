@@ -11,7 +11,7 @@ use Rattle.walrus_code.specs.Code.{ops_of}
 use Rattle.walrus_functions.specs.Handlers.{params_of}
 use Rattle.walrus_items.specs.Functions.{functions}
 use Rattle.walrus_items.specs.Seen.{text_of}
-use Rattle.walrus_items.specs.declared.functions.FunctionKind.TheVariants.{Local}
+use Rattle.walrus_parts.specs.declared.function_kind.FunctionKind.TheVariants.{Local}
 use Rattle.wasm_frames.specs.Record.{body_record}
 use Rattle.walrus_contents.proofs.Taking.{some_same}
 use Rattle.walrus_reading.proofs.TakenBody.{not_taken, taken}

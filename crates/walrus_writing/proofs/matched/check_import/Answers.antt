@@ -1,7 +1,7 @@
 use Rattle.std.proofs.Common.{◌∙◌, ap, sym}
 use Rattle.std.proofs.lemmas.Bool.{eqb-false}
 use Rattle.walrus_base.specs.Id.{place}
-use Rattle.walrus_items.specs.Imports.{imported}
+use Rattle.walrus_parts.specs.Kinds.{imported}
 use Rattle.walrus_model.specs.WellMade.{import_of}
 use Rattle.walrus_contents.specs.View.{parts_view}
 use Rattle.walrus_rules.specs.Refused.{NotBrought}

@@ -1,7 +1,8 @@
 use Rattle.std.proofs.Common.{refl}
 use Rattle.walrus_base.specs.Arena.{item_at}
 use Rattle.walrus_base.specs.Id.{place}
-use Rattle.walrus_items.specs.Imports.{import_value, imported, imports}
+use Rattle.walrus_parts.specs.Kinds.{imported}
+use Rattle.walrus_items.specs.Imports.{import_value, imports}
 use Rattle.walrus_contents.specs.View.{parts_view}
 use Rattle.walrus_writing.proofs.Matching.{named_by, other_named}
 use Rattle.walrus_writing.proofs.matched.is_named_by.Goals as goal

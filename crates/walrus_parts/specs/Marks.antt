@@ -2,7 +2,7 @@
 use Rattle.std.specs.Prelude.{Bool, false}
 use Rattle.walrus_base.specs.Marks.{is_marked}
 use Rattle.walrus_types.specs.Operators.{Types, Functions, Tables, Memories, Tags, Globals, Elements, DataSegments, Item}
-use Rattle.walrus_items.specs.declared.marks.ItemMarks.{ItemMarks}
+use Rattle.walrus_parts.specs.declared.marks.ItemMarks.{ItemMarks}
 
 -- whether the item is marked; only items that an import can bring are
 abbrev pub has_item : ItemMarks → Item → Bool

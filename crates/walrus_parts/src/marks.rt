@@ -1,9 +1,10 @@
 //! Marks of the items that stay, by kind.
 ghost use Rattle.std.specs.Prelude.{◌≡◌};
-ghost use Rattle.walrus_items.specs.Marks.{has_item};
+ghost use Rattle.walrus_parts.specs.Kinds.{imported};
+ghost use Rattle.walrus_parts.specs.Marks.{has_item};
 
-use crate::imports::ImportKind;
-use walrus_base::{FunctionKey, GlobalKey, Marks, MemoryKey, TableKey, TagKey};
+use crate::kinds::ImportKind;
+use walrus_ir::{FunctionKey, GlobalKey, Marks, MemoryKey, TableKey, TagKey};
 
 /// The items that stay of those that an import can bring, by kind.
 #[derive(Clone, Copy)]
@@ -21,8 +22,6 @@ pub struct ItemMarks<'a> {
 }
 
 impl<'a> ItemMarks<'a> {
-    ghost use Rattle.walrus_items.specs.Imports.{imported};
-
     /// Whether what is imported stays.
     pub fn has_import(self, kind: ImportKind) -> bool
         ensures { result ≡ has_item self.entry (imported kind) }

@@ -3,7 +3,7 @@ use Rattle.std.proofs.Common.{◌≡◌, ℕ, zero, suc, Bool, true, false, ◌&
 use Rattle.std.proofs.lemmas.Bool.{eqb-false, true_from_ne_false}
 use Rattle.std.specs.Prelude.{nat_eq}
 use Rattle.walrus_types.specs.Operators.{Space, Types, Functions, Tables, Memories, Tags, Globals, Elements, DataSegments, Item}
-use Rattle.walrus_items.specs.Items.{space_number, is_item}
+use Rattle.walrus_parts.specs.Items.{space_number, is_item}
 
 space_at : ℕ → Space
 space_at zero = Types

@@ -2,11 +2,11 @@
 use Rattle.std.specs.Borrow.{Lends, Fml, MutBor}
 use Rattle.walrus_code.specs.contracts.function.LocalFunction as local
 use Rattle.walrus_code.specs.declared.function.LocalFunction.{LocalFunction}
-use Rattle.walrus_items.specs.contracts.functions.FunctionKind.{the_row}
-use Rattle.walrus_items.specs.contracts.functions.ImportedFunction as imported
-use Rattle.walrus_items.specs.declared.functions.FunctionKind.{FunctionKind}
-use Rattle.walrus_items.specs.declared.functions.FunctionKind.TheVariants.{Import, Local}
-use Rattle.walrus_items.specs.declared.functions.ImportedFunction.{ImportedFunction}
+use Rattle.walrus_parts.specs.contracts.function_kind.FunctionKind.{the_row}
+use Rattle.walrus_parts.specs.contracts.function_kind.ImportedFunction as imported
+use Rattle.walrus_parts.specs.declared.function_kind.FunctionKind.{FunctionKind}
+use Rattle.walrus_parts.specs.declared.function_kind.FunctionKind.TheVariants.{Import, Local}
+use Rattle.walrus_parts.specs.declared.function_kind.ImportedFunction.{ImportedFunction}
 
 -- once the borrow r ends, the function is of an import, with the last value written through r
 abbrev pub LendsImported : MutBor FunctionKind → MutBor ImportedFunction → Fml
