@@ -1,6 +1,8 @@
 //! The items of a module, and the collections that hold them by their ids.
 #![tactic(auto)]
 
+mod data;
+mod elements;
 mod exports;
 mod functions;
 mod globals;
@@ -13,6 +15,8 @@ mod sets;
 mod tables;
 mod tags;
 
+pub use data::{Data, DataEntries, DataIter, DataKind, ModuleData};
+pub use elements::{Element, ElementEntries, ElementItems, ElementIter, ElementKind, ModuleElements};
 pub use exports::{Export, ExportEntries, ExportItem, ExportIter, ModuleExports};
 pub use functions::{
     Function, FunctionEntries, FunctionIter, FunctionKind, ImportedFunction, LocalFunctionIter,
