@@ -1,5 +1,5 @@
 -- What a contract sees of the data segments of a module ("Structure > Modules > Data Segments").
-use Rattle.std.specs.Prelude.{ℕ, Bool, true, false, List, Option, map}
+use Rattle.std.specs.Prelude.{ℕ, Bool, true, false, List, Option}
 use Rattle.walrus_base.specs.Id.{place}
 use Rattle.walrus_base.specs.declared.keys.DataKey.{DataKey}
 use Rattle.walrus_items.specs.Seen.{text_of}

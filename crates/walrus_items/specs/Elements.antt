@@ -1,5 +1,5 @@
 -- What a contract sees of the element segments of a module ("Structure > Modules > Element Segments").
-use Rattle.std.specs.Prelude.{◌≡◌, ℕ, ⊤, ⊥, List, Option, map}
+use Rattle.std.specs.Prelude.{◌≡◌, ℕ, ⊤, List, Option}
 use Rattle.std.specs.List.{AllZip}
 use Rattle.walrus_base.specs.Id.{place}
 use Rattle.walrus_base.specs.declared.keys.ElementKey.{ElementKey}
