@@ -1,3 +1,4 @@
+pub mod CopyLemmas
 pub mod Found
 pub mod KeepingLemmas
 pub mod SeenLemmas

@@ -1,4 +1,6 @@
 pub mod Added
+pub mod Data
+pub mod Elements
 pub mod Equality
 pub mod Exports
 pub mod Functions

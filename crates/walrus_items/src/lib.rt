@@ -1,6 +1,8 @@
 //! The items of a module, and the collections that hold them by their ids.
 #![tactic(auto)]
 
+mod data;
+mod elements;
 mod exports;
 mod functions;
 mod globals;
@@ -12,6 +14,10 @@ mod sets;
 mod tables;
 mod tags;
 
+pub use data::{Data, DataEntries, DataIter, DataKind, ModuleData};
+pub use elements::{
+    Element, ElementEntries, ElementItems, ElementIter, ElementKind, ModuleElements,
+};
 pub use exports::{Export, ExportEntries, ExportIter, ModuleExports};
 pub use functions::{Function, FunctionEntries, FunctionIter, LocalFunctionIter, ModuleFunctions};
 pub use globals::{Global, GlobalEntries, GlobalIter, ModuleGlobals};
@@ -21,12 +27,7 @@ pub use memories::{Memory, MemoryEntries, MemoryIter, ModuleMemories};
 pub use tables::{ModuleTables, Table, TableEntries, TableIter};
 pub use tags::{ModuleTags, Tag, TagEntries, TagIter};
 pub use walrus_parts::{
-    AbstractHeapType, ArenaIter, Arg, Args, ArrayType, BlockType, CompositeType, ConstExpr,
-    ConstOp, DataId, DataKey, ElementId, ElementKey, Error, ErrorKind, ExportId, ExportItem,
-    FieldType, FunctionBuilder, FunctionId, FunctionKey, FunctionKind, FunctionType, GlobalId,
-    GlobalKey, GlobalKind, GroupIds, HeapType, Id, IdHashSet, IdsToIndices, ImportId, ImportKind,
-    ImportedFunction, IndicesToIds, InstrLocId, InstrSeqBuilder, ItemId, ItemMarks, Local,
-    LocalFunction, LocalId, MemoryId, MemoryKey, ModuleLocals, ModuleTypes, NewType, Operator,
-    RefType, Result, StorageType, StructType, TableId, TableKey, TagId, TagKey, TagKind, Type,
-    TypeId, TypeKey, UntypedCustomSectionId, ValType, Value,
+    Arg, Error, ExportItem, FunctionKey, FunctionKind, GlobalKind, HeapType, IdHashSet, ImportKind,
+    ImportedFunction, ItemId, ItemMarks, LocalFunction, LocalId, ModuleLocals, ModuleTypes,
+    Operator, Result, TagKind, TypeId, ValType,
 };

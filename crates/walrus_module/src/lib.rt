@@ -15,17 +15,19 @@ pub use customs::{ModuleCustomSections, SectionIter};
 pub use entry::SectionEntry;
 pub use module::Module;
 pub use walrus_items::{
-    AbstractHeapType, ArenaIter, Arg, Args, ArrayType, BlockType, CompositeType, ConstExpr,
-    ConstOp, DataId, DataKey, ElementId, ElementKey, Error, ErrorKind, Export, ExportId,
-    ExportItem, FieldType, Function, FunctionBuilder, FunctionId, FunctionKey, FunctionKind,
-    FunctionType, Global, GlobalEntries, GlobalId, GlobalIter, GlobalKey, GlobalKind, GroupIds,
-    HeapType, Id, IdHashSet, IdsToIndices, Import, ImportEntries, ImportId, ImportIter, ImportKind,
-    ImportedFunction, IndicesToIds, InstrLocId, InstrSeqBuilder, ItemId, ItemMarks, Local,
-    LocalFunction, LocalId, Memory, MemoryEntries, MemoryId, MemoryIter, MemoryKey, ModuleExports,
-    ModuleFunctions, ModuleGlobals, ModuleImports, ModuleLocals, ModuleMemories, ModuleTables,
-    ModuleTags, ModuleTypes, NewType, Operator, RefType, Result, StorageType, StructType, Table,
-    TableEntries, TableId, TableIter, TableKey, Tag, TagEntries, TagId, TagIter, TagKey, TagKind,
-    Type, TypeId, TypeKey, UntypedCustomSectionId, ValType, Value,
+    Arg, Error, Export, ExportItem, Function, FunctionKey, FunctionKind, Global, GlobalEntries,
+    GlobalIter, GlobalKind, HeapType, IdHashSet, Import, ImportEntries, ImportIter, ImportKind,
+    ImportedFunction, ItemId, ItemMarks, LocalFunction, LocalId, Memory, MemoryEntries, MemoryIter,
+    ModuleExports, ModuleFunctions, ModuleGlobals, ModuleImports, ModuleLocals, ModuleMemories,
+    ModuleTables, ModuleTags, ModuleTypes, Operator, Result, Table, TableEntries, TableIter, Tag,
+    TagEntries, TagIter, TagKind, TypeId, ValType,
 };
-pub use walrus_parts::{CodeTransform, CustomSection, Marks, RawCustomSection, Roots};
+pub use walrus_parts::{
+    AbstractHeapType, ArenaIter, Args, ArrayType, BlockType, CodeTransform, CompositeType,
+    ConstExpr, ConstOp, CustomSection, DataId, DataKey, ElementId, ElementKey, ErrorKind, ExportId,
+    FieldType, FunctionBuilder, FunctionId, FunctionType, GlobalId, GlobalKey, GroupIds, Id,
+    IdsToIndices, ImportId, IndicesToIds, InstrLocId, InstrSeqBuilder, Local, Marks, MemoryId,
+    MemoryKey, NewType, RawCustomSection, RefType, Roots, StorageType, StructType, TableId,
+    TableKey, TagId, TagKey, Type, TypeKey, UntypedCustomSectionId, Value,
+};
 pub use walrus_producers::{ModuleProducers, ProducerField, ProducerValue};
