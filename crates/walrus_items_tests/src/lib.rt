@@ -1,4 +1,4 @@
-//! Tests of the collections: functions, imports and exports; tables, memories, globals and tags.
+//! Tests of the collections: functions, imports and exports; tables, memories, globals and tags; segments.
 #![tactic(auto)]
 
 #[cfg(test)]
@@ -9,3 +9,5 @@ mod exports;
 mod imports;
 #[cfg(test)]
 mod items;
+#[cfg(test)]
+mod segments;
