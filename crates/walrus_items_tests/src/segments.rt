@@ -118,7 +118,7 @@ fn are_edited_elements(alloc: Global, elements: &mut ModuleElements) -> bool {
 
 #[test]
 fn elements_are_edited(rt: HostRuntime) -> Result<(), Fail> {
-    let mut elements = ModuleElements::empty(rt.alloc());
+    let mut elements = ModuleElements::new(rt.alloc());
     demand(
         are_edited_elements(rt.alloc(), &mut elements),
         "two element segments",
@@ -184,7 +184,7 @@ fn are_edited_data(alloc: Global, segments: &mut ModuleData) -> bool {
 
 #[test]
 fn data_are_edited(rt: HostRuntime) -> Result<(), Fail> {
-    let mut segments = ModuleData::empty(rt.alloc());
+    let mut segments = ModuleData::new(rt.alloc());
     demand(
         are_edited_data(rt.alloc(), &mut segments),
         "two data segments",
