@@ -5,3 +5,4 @@ pub mod Handing
 pub mod FieldTurns
 pub mod Writing
 pub mod Fields
+pub mod Entries

@@ -1,4 +1,5 @@
 pub mod Fault
+pub mod Lent
 pub mod Names
 pub mod Producers
 pub mod Sink

@@ -7,10 +7,12 @@ mod names;
 mod naming;
 mod producers;
 mod sink;
+mod spell_names;
 mod spell_producers;
 
 pub use names::{names_once, read_names};
 pub use naming::{NameSpace, Naming};
 pub use producers::{RawField, fields_once, read_producers};
 pub use sink::NameSink;
+pub use spell_names::{RawLocals, RawName, RawNames, write_names};
 pub use spell_producers::write_producers;
