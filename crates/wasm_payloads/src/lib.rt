@@ -1,14 +1,18 @@
 //! The payloads of the custom sections `name` (Appendix > Custom Sections > Name Section) and `producers` (tool-conventions), read up
-//! to the first fault. No fault refuses.
-#![tactic(auto)]
+//! to the first fault, which refuses nothing, and written.
+#![tactic(auto, using(wasm_forms::proofs::Keeping::keeps_on))]
 
 mod front;
 mod names;
 mod naming;
 mod producers;
 mod sink;
+mod spell_names;
+mod spell_producers;
 
 pub use names::{names_once, read_names};
 pub use naming::{NameSpace, Naming};
 pub use producers::{RawField, fields_once, read_producers};
 pub use sink::NameSink;
+pub use spell_names::{RawLocals, RawName, RawNames, write_names};
+pub use spell_producers::write_producers;
