@@ -1,17 +1,16 @@
 -- What gc leaves of a module is reached as before, is all kept, and is carried under the renaming that changes nothing.
-use Rattle.std.proofs.Common.{◌≡◌, ℕ, true, false, List, ◌++◌, refl, sym, ap, ◌∙◌, subst, inl, inr, ⊎_elim}
-use Rattle.std.specs.Prelude.{Option, Some, None, IsSome, is_some, Contains}
-use Rattle.walrus_types.specs.Operators.{Space, Types, Functions, Tables, Memories, Tags, Globals, Elements, DataSegments, Item, Op, names_of}
-use Rattle.walrus_model.specs.Abstract.{Abstract, Memory, Function, Uninitialised, Element, ElementKind, ActiveElements, Import}
+use Rattle.std.proofs.Common.{◌≡◌, ℕ, true, false, refl, sym, ap, ◌∙◌, subst, inl, inr, ⊎_elim}
+use Rattle.std.specs.Prelude.{Option, Some, None, IsSome, is_some}
+use Rattle.walrus_types.specs.Operators.{Space, Types, Functions, Tables, Memories, Tags, Globals, Elements, DataSegments, Item}
+use Rattle.walrus_model.specs.Abstract.{Abstract, Memory, Function, Uninitialised, Import}
 use Rattle.walrus_model.specs.Live.{Has, IsLive}
-use Rattle.walrus_model.specs.Refers.{named_by, type_names, function_names, table_names, memory_names, tag_names, global_names, element_kind_names, element_item_names, element_names, data_names, written_in}
-use Rattle.walrus_model.specs.Roots.{IsRootElement, data_segment, element_segment}
-use Rattle.walrus_model.specs.Reached.{Reached, root, step}
+use Rattle.walrus_model.specs.Refers.{named_by, type_names, function_names, table_names, memory_names, tag_names, global_names, element_names, data_names, written_in}
+use Rattle.walrus_model.specs.Roots.{data_segment, element_segment}
+use Rattle.walrus_model.specs.Reached.{Reached, root}
 use Rattle.walrus_model.specs.Kept.{Kept, IsImportOf, IsSpareMemory, IsFirstMemory}
 use Rattle.walrus_model.specs.Renaming.{unchanged, renamed_table, renamed_memory, renamed_tag, renamed_global, renamed_element, renamed_data, renamed_import}
 use Rattle.walrus_model.specs.Same.{BothAnd, SameType, SameFunction}
 use Rattle.walrus_model.specs.Carried.{Carries, Carried, In}
-use Rattle.walrus_model.proofs.Lists.{Contains-head}
 use Rattle.walrus_model.specs.Pipeline.{KeepsOnly, Collected, StaysCollected, ReachedIsLive}
 use Rattle.walrus_model.proofs.PipelineSame.{table_stays, memory_stays, tag_stays, global_stays, element_stays, data_stays, import_stays, exports_stay, start_stays, type_itself, function_itself}
 use Rattle.walrus_model.proofs.PipelineAlike.{AgreesOn, agrees_back, RootsIn, refers_follows, root_follows, reached_through, spare_through}
@@ -39,7 +38,6 @@ module _ (v w : Abstract) (c : Collected v w) where
     exports = c.exports;
     begins = c.start;
     asks = c.section_roots;
-    tables = c.tables.kept;
     elements = c.elements.kept;
     data_segments = c.data_segments.kept;
     written = kept_written;
@@ -48,27 +46,16 @@ module _ (v w : Abstract) (c : Collected v w) where
     handler_types = c.handler_types;
   }
 
-  -- an active segment names its table
-  table_named : (i : ℕ) (e : Element) (table : ℕ) (offset : List Op) → v.elements i ≡ Some e → e.kind ≡ ActiveElements table offset → Contains (written_in v (Elements, i)) (Tables, table)
-  table_named i e table offset at is =
-      subst (λ (o : Option Element). Contains (named_by element_names o) (Tables, table)) (sym at)
-      (subst (λ (k : ElementKind). Contains (element_kind_names k ++ element_item_names e.items) (Tables, table)) (sym is)
-      (Contains-head (Tables, table) (names_of offset ++ element_item_names e.items)))
-
   roots_before : RootsIn (Kept v) v
   roots_before = record {
     data_segments = λ i d at h. inl (root (DataSegments, i) (data_segment i d at h refl));
     elements = λ i e at h. inl (root (Elements, i) (element_segment i e at h refl));
-    tables = λ i e table offset at is h. inl (step (Elements, i) (Tables, table)
-        (root (Elements, i) (element_segment i e at (subst (λ (k : ElementKind). IsRootElement v k) (sym is) h) refl))
-        (inl (table_named i e table offset at is)));
   }
 
   roots_after : RootsIn (Kept v) w
   roots_after = record {
     data_segments = λ i d at h. (c.data_segments.left i d at).0;
     elements = λ i e at h. (c.elements.left i e at).0;
-    tables = λ i e table offset at is h. (c.tables.left table h.0 h.1).0;
   }
 
   pub reached_in : (x : Item) → Reached v x → Reached w x

@@ -1,12 +1,12 @@
 -- What is reached follows a renaming.
-use Rattle.std.proofs.Common.{◌≡◌, ℕ, List, [], ◌∷◌, ◌++◌, map, refl, sym, ap, ◌∙◌, subst, inl, inr, ⊎_elim}
+use Rattle.std.proofs.Common.{◌≡◌, ℕ, List, [], ◌∷◌, map, refl, sym, ap, ◌∙◌, subst, inl, inr, ⊎_elim}
 use Rattle.std.specs.Prelude.{Option, Some, None, option_map, IsSome, Contains}
-use Rattle.walrus_types.specs.Operators.{Functions, Tables, Elements, DataSegments, Item, Op, names_of}
-use Rattle.walrus_model.specs.Abstract.{Abstract, Origin, ImportedBy, Defined, Table, Export, ElementKind, PassiveElements, DeclaredElements, ActiveElements, Element, DataKind, PassiveData, ActiveData, DataSegment}
-use Rattle.walrus_model.specs.Refers.{named_by, element_kind_names, element_names, element_item_names, written_in, Refers}
-use Rattle.walrus_model.specs.Roots.{IsImported, IsImportedTable, IsRootElement, IsRootData, IsRoot, exported, start, data_segment, element_segment, asked_for}
+use Rattle.walrus_types.specs.Operators.{Functions, Elements, DataSegments, Item}
+use Rattle.walrus_model.specs.Abstract.{Abstract, Export, ElementKind, PassiveElements, DeclaredElements, ActiveElements, Element, DataKind, PassiveData, ActiveData, DataSegment}
+use Rattle.walrus_model.specs.Refers.{written_in, Refers}
+use Rattle.walrus_model.specs.Roots.{IsRootElement, IsRootData, IsRoot, exported, start, data_segment, element_segment, asked_for}
 use Rattle.walrus_model.specs.Reached.{Reached, root, step}
-use Rattle.walrus_model.specs.Renaming.{Renaming, renamed, renamed_origin, renamed_table, renamed_element_kind, renamed_element, renamed_data_kind, renamed_data, renamed_export}
+use Rattle.walrus_model.specs.Renaming.{Renaming, renamed, renamed_element_kind, renamed_element, renamed_data_kind, renamed_data, renamed_export}
 use Rattle.walrus_model.specs.Same.{BothAnd}
 use Rattle.walrus_model.specs.Carried.{Carried}
 use Rattle.walrus_model.specs.Follows.{SetsFollow, IsWide, ReachedFollows}
@@ -36,13 +36,15 @@ there_is : {X : Type 0} (o : Option X) (x : X) → o ≡ Some x → IsSome o
 there_is o x e = subst IsSome (sym e) refl
 
 module _ (r : Renaming) where
-  origin_forth : (o : Origin) → IsImported o → IsImported (renamed_origin r o)
-  origin_forth (ImportedBy i) h = tt
-  origin_forth Defined h = absurd h
+  element_forth : (k : ElementKind) → IsRootElement k → IsRootElement (renamed_element_kind r k)
+  element_forth PassiveElements h = absurd h
+  element_forth DeclaredElements h = tt
+  element_forth (ActiveElements table offset) h = tt
 
-  origin_back : (o : Origin) → IsImported (renamed_origin r o) → IsImported o
-  origin_back (ImportedBy i) h = tt
-  origin_back Defined h = absurd h
+  element_back : (k : ElementKind) → IsRootElement (renamed_element_kind r k) → IsRootElement k
+  element_back PassiveElements h = absurd h
+  element_back DeclaredElements h = tt
+  element_back (ActiveElements table offset) h = tt
 
   data_forth : (k : DataKind) → IsRootData k → IsRootData (renamed_data_kind r k)
   data_forth PassiveData h = absurd h
@@ -67,32 +69,6 @@ module _ (K : Item → Type 0) (r : Renaming) (m n : Abstract) (c : Carried K (�
 
   -- ---- roots
 
-  -- the table of an active segment that is chosen is chosen
-  table_chosen : (i : ℕ) (e : Element) (table : ℕ) (offset : List Op) → K (Elements, i) → m.elements i ≡ Some e → e.kind ≡ ActiveElements table offset → K (Tables, table)
-  table_chosen i e table offset k is kind =
-      let named : Contains (element_names e) (Tables, table) = subst (λ (q : ElementKind). Contains (element_kind_names q ++ element_item_names e.items) (Tables, table)) (sym kind) (Contains-head (Tables, table) (names_of offset ++ element_item_names e.items)) in
-      wide.named (Elements, i) (Tables, table) k (subst (λ o. Contains (named_by element_names o) (Tables, table)) (sym is) named)
-
-  table_forth : (table : ℕ) → K (Tables, table) → IsImportedTable m table → IsImportedTable n (r.numbers Tables table)
-  table_forth table k (t, is, imported) =
-      let new = given (λ x y. y ≡ renamed_table r x) (m.tables table) (n.tables (r.numbers Tables table)) t (c.tables.same table k) is in
-      (new.0, new.1, subst (λ (z : Table). IsImported z.origin) (sym new.2) (origin_forth r t.origin imported))
-
-  table_back : (table : ℕ) → K (Tables, table) → IsImportedTable n (r.numbers Tables table) → IsImportedTable m table
-  table_back table k (t, is, imported) =
-      let old = taken (λ x y. y ≡ renamed_table r x) (m.tables table) (n.tables (r.numbers Tables table)) t (c.tables.same table k) is in
-      (old.0, old.1, origin_back r old.0.origin (subst (λ (z : Table). IsImported z.origin) old.2 imported))
-
-  element_forth : (i : ℕ) (e : Element) → K (Elements, i) → m.elements i ≡ Some e → (kind : ElementKind) → e.kind ≡ kind → IsRootElement m kind → IsRootElement n (renamed_element_kind r kind)
-  element_forth i e k is PassiveElements same h = absurd h
-  element_forth i e k is DeclaredElements same h = tt
-  element_forth i e k is (ActiveElements table offset) same h = table_forth table (table_chosen i e table offset k is same) h
-
-  element_back : (i : ℕ) (e : Element) → K (Elements, i) → m.elements i ≡ Some e → (kind : ElementKind) → e.kind ≡ kind → IsRootElement n (renamed_element_kind r kind) → IsRootElement m kind
-  element_back i e k is PassiveElements same h = absurd h
-  element_back i e k is DeclaredElements same h = tt
-  element_back i e k is (ActiveElements table offset) same h = table_back table (table_chosen i e table offset k is same) h
-
   root_forth : (x : Item) → IsRoot m x → IsRoot n (renamed r x)
   root_forth x (exported e at is) = exported (renamed_export r e) (subst (λ l. Contains l (renamed_export r e)) (sym c.exports) (Contains-map (renamed_export r) e m.exports at)) (ap (renamed r) is)
   root_forth x (start f at is) = start (r.numbers Functions f) (c.start ∙ ap (option_map (r.numbers Functions)) at) (ap (renamed r) is)
@@ -103,7 +79,7 @@ module _ (K : Item → Type 0) (r : Renaming) (m n : Abstract) (c : Carried K (�
   root_forth x (element_segment i e at kind is) =
       let k = subst K is (wide.reached x (root x (element_segment i e at kind is))) in
       let new = given (λ x y. y ≡ renamed_element r x) (m.elements i) (n.elements (r.numbers Elements i)) e (c.elements.same i k) at in
-      element_segment (r.numbers Elements i) new.0 new.1 (subst (λ (z : Element). IsRootElement n z.kind) (sym new.2) (element_forth i e k at e.kind refl kind)) (ap (renamed r) is)
+      element_segment (r.numbers Elements i) new.0 new.1 (subst (λ (z : Element). IsRootElement z.kind) (sym new.2) (element_forth r e.kind kind)) (ap (renamed r) is)
   root_forth x (asked_for at) = asked_for (subst (λ l. Contains l (renamed r x)) (sym sets.roots) (Contains-map (renamed r) x m.section_roots at))
 
   data_found : (i j : ℕ) (d : DataSegment) (y : Item) → n.data_segments j ≡ Some d → IsRootData d.kind → y ≡ (DataSegments, j) → K (DataSegments, i) → r.numbers DataSegments i ≡ j → (x : Item) × IsRoot m x × (renamed r x ≡ y)
@@ -111,10 +87,10 @@ module _ (K : Item → Type 0) (r : Renaming) (m n : Abstract) (c : Carried K (�
       let old = taken (λ x y. y ≡ renamed_data r x) (m.data_segments i) (n.data_segments (r.numbers DataSegments i)) d (c.data_segments.same i k) (ap n.data_segments e ∙ at) in
       ((DataSegments, i), data_segment i old.0 old.1 (data_back r old.0.kind (subst (λ (z : DataSegment). IsRootData z.kind) old.2 kind)) refl, ap (λ (q : ℕ). (DataSegments, q)) e ∙ sym is)
 
-  element_found : (i j : ℕ) (d : Element) (y : Item) → n.elements j ≡ Some d → IsRootElement n d.kind → y ≡ (Elements, j) → K (Elements, i) → r.numbers Elements i ≡ j → (x : Item) × IsRoot m x × (renamed r x ≡ y)
+  element_found : (i j : ℕ) (d : Element) (y : Item) → n.elements j ≡ Some d → IsRootElement d.kind → y ≡ (Elements, j) → K (Elements, i) → r.numbers Elements i ≡ j → (x : Item) × IsRoot m x × (renamed r x ≡ y)
   element_found i j d y at kind is k e =
       let old = taken (λ x y. y ≡ renamed_element r x) (m.elements i) (n.elements (r.numbers Elements i)) d (c.elements.same i k) (ap n.elements e ∙ at) in
-      ((Elements, i), element_segment i old.0 old.1 (element_back i old.0 k old.1 old.0.kind refl (subst (λ (z : Element). IsRootElement n z.kind) old.2 kind)) refl, ap (λ (q : ℕ). (Elements, q)) e ∙ sym is)
+      ((Elements, i), element_segment i old.0 old.1 (element_back r old.0.kind (subst (λ (z : Element). IsRootElement z.kind) old.2 kind)) refl, ap (λ (q : ℕ). (Elements, q)) e ∙ sym is)
 
   root_back : (y : Item) → IsRoot n y → (x : Item) × IsRoot m x × (renamed r x ≡ y)
   root_back y (exported e at is) =

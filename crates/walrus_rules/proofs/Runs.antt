@@ -1,5 +1,5 @@
 -- What a run comes to, of what is supported so far. For those who prove it: each of these is one line to use.
-use Rattle.std.proofs.Common.{◌≡◌, ℕ, true, false, List, [], refl, arith, ⊎_elim}
+use Rattle.std.proofs.Common.{ℕ, List, [], refl, arith, ⊎_elim}
 use Rattle.std.specs.Prelude.{All, Result, Ok, Err}
 use Rattle.wasm_writer.specs.Spelling.{SectionFits}
 use Rattle.walrus_model.specs.Abstract.{Abstract}
@@ -117,7 +117,7 @@ pub few_so_far : {X : Type 0} (c : Config) (w : Abstract) (result : Result X Ref
 few_so_far c w (Ok x) are h = tt
 few_so_far c w (Err Memory) are h = tt
 few_so_far c w (Err TooLarge) are h = tt
-few_so_far c w (Err Caller) are h = let no : false ≡ true = h.1.2 in cc
+few_so_far c w (Err Caller) are h = h
 few_so_far c w (Err DeadItem) are h = are.no_cause.all_there h
 few_so_far c w (Err TwoIndices) are h = are.no_cause.one_index h
 few_so_far c w (Err NoIndex) are h = are.no_cause.indices h

@@ -1,21 +1,21 @@
 -- What is kept of a module that was read is kept again in the one that is written for it, and nothing else stands there but types of handlers.
 use Rattle.std.proofs.Common.{◌≡◌, ℕ, ◌<◌, Bool, true, false, List, [], ◌∷◌, ◌++◌, map, refl, sym, ap, ◌∙◌, subst, inl, inr, ⊎_elim, ◌⊎◌, arith, eqb-true, eq-eqb}
 use Rattle.std.specs.Prelude.{Option, Some, None, option_map, IsSome, IsTrue, Contains}
-use Rattle.walrus_types.specs.Operators.{Space, Types, Functions, Tables, Memories, Tags, Globals, Elements, DataSegments, Item, Op, names_of, type_item}
-use Rattle.walrus_model.specs.Abstract.{Abstract, Origin, ImportedBy, Defined, Table, Export, ElementKind, PassiveElements, DeclaredElements, ActiveElements, ListedFunctions, Element, DataKind, PassiveData, ActiveData, DataSegment, TypeDef}
+use Rattle.walrus_types.specs.Operators.{Space, Types, Functions, Tables, Memories, Tags, Globals, Elements, DataSegments, Item, type_item}
+use Rattle.walrus_model.specs.Abstract.{Abstract, Export, ElementKind, PassiveElements, DeclaredElements, ActiveElements, ListedFunctions, Element, DataKind, PassiveData, ActiveData, DataSegment, TypeDef}
 use Rattle.walrus_model.specs.Live.{IsLive}
-use Rattle.walrus_model.specs.Refers.{named_by, type_names, element_kind_names, element_names, element_item_names, written_in, KeepsToo, Refers}
-use Rattle.walrus_model.specs.Roots.{IsImported, IsImportedTable, IsRootElement, IsRootData, IsRoot, exported, start, data_segment, element_segment, asked_for}
+use Rattle.walrus_model.specs.Refers.{named_by, type_names, element_names, written_in, KeepsToo, Refers}
+use Rattle.walrus_model.specs.Roots.{IsRootElement, IsRootData, IsRoot, exported, start, data_segment, element_segment, asked_for}
 use Rattle.walrus_model.specs.Reached.{Reached, root, step}
 use Rattle.walrus_model.specs.Kept.{Kept, IsFirstMemory, IsSpareMemory}
-use Rattle.walrus_model.specs.Renaming.{Renaming, renamed, renamed_origin, renamed_table, renamed_element_kind, renamed_element, renamed_data_kind, renamed_data, renamed_export}
+use Rattle.walrus_model.specs.Renaming.{Renaming, renamed, renamed_element_kind, renamed_element, renamed_data_kind, renamed_data, renamed_export}
 use Rattle.walrus_model.specs.Carried.{Carried}
 use Rattle.walrus_model.specs.Rules.{Holds}
 use Rattle.walrus_model.specs.Config.{Config}
 use Rattle.walrus_model.specs.Declared.{HasDeclaredSegment}
 use Rattle.walrus_model.specs.Out.{IsAdded, Out}
 use Rattle.walrus_model.specs.Sections.{is_on_table, is_on_memory, passes}
-use Rattle.walrus_model.proofs.Lists.{Contains-head, Contains-none, Contains-map}
+use Rattle.walrus_model.proofs.Lists.{Contains-none, Contains-map}
 use Rattle.walrus_model.proofs.Steps.{given, live_under}
 use Rattle.walrus_model.proofs.Follow.{names_follow_lem}
 use Rattle.walrus_model.proofs.PipelineOps.{from_map}
@@ -58,9 +58,10 @@ written_live n (Elements, i) y at = named_there _ (n.elements i) y at
 written_live n (DataSegments, i) y at = named_there _ (n.data_segments i) y at
 
 module _ (r : Renaming) where
-  origin_forth : (o : Origin) → IsImported o → IsImported (renamed_origin r o)
-  origin_forth (ImportedBy i) h = tt
-  origin_forth Defined h = absurd h
+  element_forth : (k : ElementKind) → IsRootElement k → IsRootElement (renamed_element_kind r k)
+  element_forth PassiveElements h = absurd h
+  element_forth DeclaredElements h = tt
+  element_forth (ActiveElements table offset) h = tt
 
   data_forth : (k : DataKind) → IsRootData k → IsRootData (renamed_data_kind r k)
   data_forth PassiveData h = absurd h
@@ -87,21 +88,6 @@ module _ (A : Item → Type 0) (r : Renaming) (m n : Abstract) (c : Carried (Kep
   live_m : (x : Item) → Reached m x → IsLive m x
   live_m x h = reached_live m plain holds x h
 
-  table_forth : (table : ℕ) → Kept m (Tables, table) → IsImportedTable m table → IsImportedTable n (r.numbers Tables table)
-  table_forth table k (t, is, imported) =
-      let new = given (λ x y. y ≡ renamed_table r x) (m.tables table) (n.tables (r.numbers Tables table)) t (c.tables.same table k) is in
-      (new.0, new.1, subst (λ (z : Table). IsImported z.origin) (sym new.2) (origin_forth r t.origin imported))
-
-  table_chosen : (i : ℕ) (e : Element) (table : ℕ) (offset : List Op) → Kept m (Elements, i) → m.elements i ≡ Some e → e.kind ≡ ActiveElements table offset → Kept m (Tables, table)
-  table_chosen i e table offset k is kind =
-      let named : Contains (element_names e) (Tables, table) = subst (λ (q : ElementKind). Contains (element_kind_names q ++ element_item_names e.items) (Tables, table)) (sym kind) (Contains-head (Tables, table) (names_of offset ++ element_item_names e.items)) in
-      kept_closed m (Elements, i) (Tables, table) k (subst (λ o. Contains (named_by element_names o) (Tables, table)) (sym is) named)
-
-  element_forth : (i : ℕ) (e : Element) → Kept m (Elements, i) → m.elements i ≡ Some e → (kind : ElementKind) → e.kind ≡ kind → IsRootElement m kind → IsRootElement n (renamed_element_kind r kind)
-  element_forth i e k is PassiveElements same h = absurd h
-  element_forth i e k is DeclaredElements same h = tt
-  element_forth i e k is (ActiveElements table offset) same h = table_forth table (table_chosen i e table offset k is same) h
-
   root_forth : (x : Item) → IsRoot m x → IsRoot n (renamed r x)
   root_forth x (exported e at is) = exported (renamed_export r e) (subst (λ l. Contains l (renamed_export r e)) (sym c.exports) (Contains-map (renamed_export r) e m.exports at)) (ap (renamed r) is)
   root_forth x (start f at is) = start (r.numbers Functions f) (c.start ∙ ap (option_map (r.numbers Functions)) at) (ap (renamed r) is)
@@ -112,7 +98,7 @@ module _ (A : Item → Type 0) (r : Renaming) (m n : Abstract) (c : Carried (Kep
   root_forth x (element_segment i e at kind is) =
       let k : Kept m (Elements, i) = inl (root (Elements, i) (element_segment i e at kind refl)) in
       let new = given (λ x y. y ≡ renamed_element r x) (m.elements i) (n.elements (r.numbers Elements i)) e (c.elements.same i k) at in
-      element_segment (r.numbers Elements i) new.0 new.1 (subst (λ (z : Element). IsRootElement n z.kind) (sym new.2) (element_forth i e k at e.kind refl kind)) (ap (renamed r) is)
+      element_segment (r.numbers Elements i) new.0 new.1 (subst (λ (z : Element). IsRootElement z.kind) (sym new.2) (element_forth r e.kind kind)) (ap (renamed r) is)
   root_forth x (asked_for at) = absurd (Contains-none x (subst (λ l. Contains l x) plain.section_roots at))
 
   -- a segment in the set of a reached table or memory

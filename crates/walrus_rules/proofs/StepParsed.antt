@@ -6,13 +6,13 @@ use Rattle.std.specs.Prelude.{Option, Some, None, IsSome, IsTrue, is_some, slice
 use mathlib.Core.Path.{fun_ext}
 use Rattle.walrus_base.specs.Types.{CompType, comp_names}
 use Rattle.walrus_types.specs.Operators.{Space, Types, Functions, Tables, Memories, Tags, Globals, Elements, DataSegments, Item, type_item}
-use Rattle.walrus_model.specs.Abstract.{Abstract, TypeDef, Body, FunctionKind, ImportedFunction, LocalFunction, Uninitialised, Function, ElementKind, PassiveElements, DeclaredElements, ActiveElements}
+use Rattle.walrus_model.specs.Abstract.{Abstract, TypeDef, Body, FunctionKind, ImportedFunction, LocalFunction, Uninitialised, Function}
 use Rattle.walrus_model.specs.Config.{Config}
 use Rattle.walrus_model.specs.Live.{IsLive}
 use Rattle.walrus_model.specs.Names.{body_of}
 use Rattle.walrus_model.specs.Handlers.{handlers_of}
 use Rattle.walrus_model.specs.Refers.{named_by, type_names, written_in, KeepsToo, Refers}
-use Rattle.walrus_model.specs.Roots.{IsRootElement, IsRoot, exported, start, data_segment, element_segment, asked_for}
+use Rattle.walrus_model.specs.Roots.{IsRoot, exported, start, data_segment, element_segment, asked_for}
 use Rattle.walrus_model.specs.Reached.{Reached, root, step}
 use Rattle.walrus_model.specs.Kept.{Kept, IsSpareMemory}
 use Rattle.walrus_model.specs.Renaming.{Renaming, renamed, renamed_table, renamed_memory, renamed_tag, renamed_global, renamed_element, renamed_data}
@@ -41,19 +41,14 @@ module _ (m : Abstract) (plain : IsPlain m) (holds : Holds m) where
   reached_live y (step x z h (inl at)) = holds.indices.written x y at
   reached_live y (step x z h (inr too)) = plain.sets x y too
 
--- ---- roots of modules that have the same exports, start, segments and tables
+-- ---- roots of modules that have the same exports, start and segments
 
-module _ (a b : Abstract) (exports : b.exports ≡ a.exports) (begins : b.start ≡ a.start) (datas : (i : ℕ) → b.data_segments i ≡ a.data_segments i) (elements : (i : ℕ) → b.elements i ≡ a.elements i) (tables : (i : ℕ) → b.tables i ≡ a.tables i) (asks : (x : Item) → Contains a.section_roots x → ⊥) where
-  root_element_goes : (k : ElementKind) → IsRootElement a k → IsRootElement b k
-  root_element_goes PassiveElements none = absurd none
-  root_element_goes DeclaredElements h = tt
-  root_element_goes (ActiveElements table offset) (t, there, imported) = (t, tables table ∙ there, imported)
-
+module _ (a b : Abstract) (exports : b.exports ≡ a.exports) (begins : b.start ≡ a.start) (datas : (i : ℕ) → b.data_segments i ≡ a.data_segments i) (elements : (i : ℕ) → b.elements i ≡ a.elements i) (asks : (x : Item) → Contains a.section_roots x → ⊥) where
   roots_go : (x : Item) → IsRoot a x → IsRoot b x
   roots_go x (exported e at is) = exported e (subst (λ l. Contains l e) (sym exports) at) is
   roots_go x (start f at is) = start f (begins ∙ at) is
   roots_go x (data_segment i d at h is) = data_segment i d (datas i ∙ at) h is
-  roots_go x (element_segment i e at h is) = element_segment i e (elements i ∙ at) (root_element_goes e.kind h) is
+  roots_go x (element_segment i e at h is) = element_segment i e (elements i ∙ at) h is
   roots_go x (asked_for at) = absurd (asks x at)
 
 -- ---- what is carried in place, with nothing added
@@ -225,7 +220,7 @@ module _ (c : Config) (m v : Abstract) (p : ParsedAs c m v) where
     steps_either x y (inr h) (inr too) = absurd (subst (λ z. KeepsToo v z y) h.is too)
 
     pub reached_back : (x : Item) → Reached v x → IsEither x
-    reached_back x (root y at) = inl (root x (roots_go v m (sym exports_same) (sym start_same) (λ i. sym (datas_stay i)) (λ i. sym (elements_stay i)) (λ i. sym (tables_stay i)) (λ y has. Contains-none y (subst (λ l. Contains l y) p.section_roots has)) x at))
+    reached_back x (root y at) = inl (root x (roots_go v m (sym exports_same) (sym start_same) (λ i. sym (datas_stay i)) (λ i. sym (elements_stay i)) (λ y has. Contains-none y (subst (λ l. Contains l y) p.section_roots has)) x at))
     reached_back y (step x z h at) = steps_either x y (reached_back x h) at
 
     keeps_on : (x y : Item) → KeepsToo m x y → KeepsToo v x y
@@ -243,7 +238,7 @@ module _ (c : Config) (m v : Abstract) (p : ParsedAs c m v) where
     refers_on x y live (inr too) = inr (keeps_on x y too)
 
     pub reached_on : (x : Item) → Reached m x → Reached v x
-    reached_on x (root y at) = root x (roots_go m v exports_same start_same datas_stay elements_stay tables_stay (λ y has. Contains-none y (subst (λ l. Contains l y) plain.section_roots has)) x at)
+    reached_on x (root y at) = root x (roots_go m v exports_same start_same datas_stay elements_stay (λ y has. Contains-none y (subst (λ l. Contains l y) plain.section_roots has)) x at)
     reached_on y (step x z h at) = step x y (reached_on x h) (refers_on x y (reached_live m plain holds x h) at)
 
     -- the types for a reached function's handlers are reached

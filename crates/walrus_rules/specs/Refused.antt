@@ -1,11 +1,10 @@
 -- Why a module in memory can't be written: each refusal with its causes, and what is said where there is none.
-use Rattle.std.specs.Prelude.{ℕ, Bool, true, false, List, [], length, flat_map, Some, None, All, AllPairs, Contains, ◌++◌, ◌≡◌, ◌≢◌, ◌<◌, ◌≤◌, ◌^◌, ◌⊎◌, ⊤, codes, Result, Ok, Err}
+use Rattle.std.specs.Prelude.{ℕ, false, List, [], length, flat_map, Some, None, All, AllPairs, Contains, ◌++◌, ◌≡◌, ◌≢◌, ◌<◌, ◌≤◌, ◌^◌, ◌⊎◌, ⊤, codes, Result, Ok, Err}
 use Rattle.walrus_base.specs.Types.{HeapType, IsNotExact, comp_names}
 use Rattle.walrus_types.specs.Operators.{Space, Types, Functions, Globals, Item, Op, names_of}
 use Rattle.walrus_model.specs.Abstract.{Abstract, TypeDef, Limits, Table, Global, Body, LocalFunction, Uninitialised, Function, Import, Custom}
 use Rattle.walrus_model.specs.Abstract as model
 use Rattle.walrus_model.specs.Config.{Config}
-use Rattle.walrus_model.specs.Customs.{is_debug_name}
 pub use Rattle.walrus_model.specs.Dead.{HasDead, DeadName, DeadLocal, DeadExport, DeadStart, DeadImport, NoKind}
 use Rattle.walrus_model.specs.Live.{Has, IsLive}
 use Rattle.walrus_model.specs.Names.{body_of}
@@ -92,18 +91,15 @@ pub record HasNoCause (c : Config) (v : Abstract) : Type 0 where
   pub spelled : HasUnspelled c v → ⊥
   pub fits : PassesLimits c v → ⊥
 
--- a section whose data is asked for may refuse; debug sections aren't asked
-abbrev pub IsAsked : (Custom → Bool) → Abstract → Type 0
-IsAsked may_refuse v = (s : Custom) × (Contains v.customs s × (is_debug_name s.name ≡ false) × (may_refuse s ≡ true))
-
--- each refusal comes with a cause of its own, and where one stands, it is refused
-abbrev pub RefusesToWrite : {X : Type 0} → (Custom → Bool) → Config → Abstract → Result X Refusal → Type 0
-RefusesToWrite may_refuse c v (Ok x) = HasNoCause c v
-RefusesToWrite may_refuse c v (Err DeadItem) = HasDead v
-RefusesToWrite may_refuse c v (Err TwoIndices) = HasTwoIndices v
-RefusesToWrite may_refuse c v (Err NoIndex) = LacksIndex v
-RefusesToWrite may_refuse c v (Err NotWritable) = HasUnspelled c v
-RefusesToWrite may_refuse c v (Err TooLarge) = (HasTwoIndices v → ⊥) × (LacksIndex v → ⊥) × (IsSayable v → PassesLimits c v)
-RefusesToWrite may_refuse c v (Err Caller) = IsAsked may_refuse v
-RefusesToWrite may_refuse c v (Err Memory) = ⊤
-RefusesToWrite may_refuse c v (Err Another) = ⊥
+-- each refusal comes with a cause of its own, and where one stands, it is refused; `Asked` says that a section whose
+-- data is asked for may refuse (`Custom` can't tell: of two sections with one name and one data one may, the other not)
+abbrev pub RefusesToWrite : {X : Type 0} → (Asked : Type 0) → Config → Abstract → Result X Refusal → Type 0
+RefusesToWrite Asked c v (Ok x) = HasNoCause c v
+RefusesToWrite Asked c v (Err DeadItem) = HasDead v
+RefusesToWrite Asked c v (Err TwoIndices) = HasTwoIndices v
+RefusesToWrite Asked c v (Err NoIndex) = LacksIndex v
+RefusesToWrite Asked c v (Err NotWritable) = HasUnspelled c v
+RefusesToWrite Asked c v (Err TooLarge) = (HasTwoIndices v → ⊥) × (LacksIndex v → ⊥) × (IsSayable v → PassesLimits c v)
+RefusesToWrite Asked c v (Err Caller) = Asked
+RefusesToWrite Asked c v (Err Memory) = ⊤
+RefusesToWrite Asked c v (Err Another) = ⊥

@@ -1,7 +1,7 @@
 -- The laws on refusals: which of them a well-made module meets, and that what may be written isn't too large.
-use Rattle.std.specs.Prelude.{ℕ, Bool, List, All, Result, Ok, Err, ⊤}
+use Rattle.std.specs.Prelude.{ℕ, List, All, Result, Ok, Err, ⊤}
 use Rattle.wasm_writer.specs.Spelling.{SectionFits}
-use Rattle.walrus_model.specs.Abstract.{Abstract, Custom}
+use Rattle.walrus_model.specs.Abstract.{Abstract}
 use Rattle.walrus_model.specs.Config.{Config}
 use Rattle.walrus_model.specs.WellMade.{ImportsMatch}
 use Rattle.walrus_rules.specs.Pinned.{IsWrittenAs}
@@ -22,13 +22,14 @@ IsFewOf (Err TwoIndices) = ⊥
 IsFewOf (Err NotWritable) = ⊥
 IsFewOf (Err Another) = ⊥
 
+-- ⊤ is the weakest of all facts that may stand for `Asked`
 abbrev pub FewRefusals : Type 0
-FewRefusals = (may_refuse : Custom → Bool) (c : Config) (u : Abstract) (result : Result (List ℕ) Refusal) → IsWellMade c u → RefusesToWrite may_refuse c u result → IsFewOf result
+FewRefusals = (c : Config) (u : Abstract) (result : Result (List ℕ) Refusal) → IsWellMade c u → RefusesToWrite ⊤ c u result → IsFewOf result
 
 -- a well-made module that may be written isn't too large
 abbrev pub OkOrTooLarge : Type 0
-OkOrTooLarge = (may_refuse : Custom → Bool) (c : Config) (u : Abstract) (bytes : List ℕ) → IsWellMade c u
-    → RefusesToWrite may_refuse c u (Ok bytes) → RefusesToWrite {X = List ℕ} may_refuse c u (Err TooLarge) → ⊥
+OkOrTooLarge = (c : Config) (u : Abstract) (bytes : List ℕ) → IsWellMade c u
+    → RefusesToWrite ⊤ c u (Ok bytes) → RefusesToWrite {X = List ℕ} ⊤ c u (Err TooLarge) → ⊥
 
 -- in what may be written imports and items name each other
 abbrev pub OkMatches : Type 0

@@ -1,6 +1,6 @@
 -- What is read and written so far: the words at full breadth, with what isn't supported yet beside them. It goes when all is supported.
-use Rattle.std.specs.Prelude.{ℕ, Bool, false, List, Result, Ok, Err, ◌⊎◌}
-use Rattle.walrus_model.specs.Abstract.{Abstract, Custom}
+use Rattle.std.specs.Prelude.{ℕ, List, Result, Ok, Err, ◌⊎◌}
+use Rattle.walrus_model.specs.Abstract.{Abstract}
 use Rattle.walrus_model.specs.Config.{Config}
 use Rattle.walrus_model.specs.Declared.{IsUndeclared, NothingUndeclared}
 use Rattle.walrus_model.specs.Live.{IsLive}
@@ -23,11 +23,8 @@ AcceptsSoFar c bytes = (m : Abstract) × ReadsSoFar c bytes m × Holds m
 abbrev pub HasUndeclared : Abstract → Type 0
 HasUndeclared v = (f : ℕ) × IsUndeclared (IsLive v) v f
 
-abbrev pub never : Custom → Bool
-never s = false
-
 -- each refusal to write comes with a cause of its own, and where one stands, it is refused
 abbrev pub RefusesSoFar : {X : Type 0} → Config → Abstract → Result X Refusal → Type 0
-RefusesSoFar c v (Ok x) = RefusesToWrite never c v (Ok x) × (HasUndeclared v → ⊥)
+RefusesSoFar c v (Ok x) = RefusesToWrite ⊥ c v (Ok x) × (HasUndeclared v → ⊥)
 RefusesSoFar c v (Err NotWritable) = HasUnspelled c v ⊎ HasUndeclared v
-RefusesSoFar {X} c v (Err e) = RefusesToWrite {X = X} never c v (Err e)
+RefusesSoFar {X} c v (Err e) = RefusesToWrite {X = X} ⊥ c v (Err e)
