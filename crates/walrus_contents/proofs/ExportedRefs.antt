@@ -30,7 +30,7 @@ use Rattle.walrus_contents.specs.View.{export_of, body, kind_of, function, globa
 -- ---- exports
 
 -- an export that leads to the function
-exported_at : (es : List ExportValue) (f : ℕ) → is_exported es f ≡ true → (e : Export) × Contains (map export_of es) e × (e.item ≡ function_item f)
+pub exported_at : (es : List ExportValue) (f : ℕ) → is_exported es f ≡ true → (e : Export) × Contains (map export_of es) e × (e.item ≡ function_item f)
 exported_at [] f h = absurd (cc)
 exported_at (e ∷ es) f h = by_test (λ k. exported_at es f k) (is_item (exported e.item) (function_item f)) refl h
   where
@@ -53,7 +53,7 @@ not_same : (x y : Item) → x ≡ y → is_item x y ≡ false → ⊥
 not_same x y e differs = false≢true (sym differs ∙ same-is_item x y e)
 
 -- no export leads to it
-none_exported : (es : List ExportValue) (f : ℕ) → is_exported es f ≡ false → (e : Export) → Contains (map export_of es) e → e.item ≡ function_item f → ⊥
+pub none_exported : (es : List ExportValue) (f : ℕ) → is_exported es f ≡ false → (e : Export) → Contains (map export_of es) e → e.item ≡ function_item f → ⊥
 none_exported [] f h e at is = Contains-none e at
 none_exported (x ∷ es) f h e at is =
     let both = either_false (is_item (exported x.item) (function_item f)) (is_exported es f) h in
@@ -165,7 +165,7 @@ module _ (c : Contents) where
   seen_at : (i : ℕ) (value : FunctionValue) → item_at (functions c.funcs) i ≡ Some value → V.functions i ≡ Some (function c.locals value)
   seen_at i value e = ap (option_map (function c.locals)) e
 
-  slot_at : (o : Option FunctionValue) (b : Body) → body_of_function (option_map (function c.locals) o) ≡ Some b → (value : FunctionValue) × (l : LocalFunction) × (o ≡ Some value) × (value.kind ≡ kind.Local l) × (b ≡ body c.locals l)
+  pub slot_at : (o : Option FunctionValue) (b : Body) → body_of_function (option_map (function c.locals) o) ≡ Some b → (value : FunctionValue) × (l : LocalFunction) × (o ≡ Some value) × (value.kind ≡ kind.Local l) × (b ≡ body c.locals l)
   slot_at None b e = absurd (cc)
   slot_at (Some value) b e = by_kind value.kind refl e
     where

@@ -1,3 +1,4 @@
+pub mod Refs
 pub mod ExportedRefs
 pub mod LiveLemmas
 pub mod NamedLemmas

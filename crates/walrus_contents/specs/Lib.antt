@@ -1,4 +1,5 @@
 pub mod Named
 pub mod References
 pub mod There
+pub mod Undeclared
 pub mod View

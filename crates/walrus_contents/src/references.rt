@@ -26,7 +26,7 @@ use walrus_types::{ConstExpr, ConstOp};
 use wasm_opcodes::one_byte::REF_FUNC;
 
 // The functions that are exported.
-fn exported_functions(alloc: Global, all: &ModuleExports) -> Result<IdHashSet<FunctionKey>>
+pub(crate) fn exported_functions(alloc: Global, all: &ModuleExports) -> Result<IdHashSet<FunctionKey>>
     ensures marks { IfOk result (λ marks. (f : ℕ) → has_id marks f
         ≡ is_exported (items (exports all.now)) f) }
     ensures fails { IsOkUnless result out_of_memory }

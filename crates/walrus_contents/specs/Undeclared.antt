@@ -1,0 +1,64 @@
+-- The functions that ref.func names ("Instructions > Reference Instructions"), in order.
+use Rattle.std.specs.Prelude.{ℕ, List, [], ◌∷◌, ◌++◌, Option, Some, None, filter_map, flat_map, option_map, ◌==◌, if◌then◌else◌}
+use Rattle.wasm_opcodes.specs.declared.one_byte.TheConstants.{REF_FUNC}
+use Rattle.walrus_code.specs.Function.{body_of}
+use Rattle.walrus_types.specs.ConstOps.{const_ops}
+use Rattle.walrus_types.specs.Operators.{Types, Functions, Tables, Memories, Tags, Globals, Elements, DataSegments, Arg, Index, Label, Local, Number, Count, Byte, S32, S64, Bits32, Bits64, Value, Heap, Block, Access, Op}
+use Rattle.walrus_items.specs.Functions.{FunctionValue}
+use Rattle.walrus_items.specs.declared.functions.FunctionKind.{FunctionKind}
+use Rattle.walrus_items.specs.declared.functions.FunctionKind.TheVariants as kind
+use Rattle.walrus_items.specs.Globals.{GlobalValue}
+
+-- the function that the argument names
+abbrev pub arg_ref : Arg → Option ℕ
+arg_ref (Index (Functions, f)) = Some f
+arg_ref (Index (Types, i)) = None
+arg_ref (Index (Tables, i)) = None
+arg_ref (Index (Memories, i)) = None
+arg_ref (Index (Tags, i)) = None
+arg_ref (Index (Globals, i)) = None
+arg_ref (Index (Elements, i)) = None
+arg_ref (Index (DataSegments, i)) = None
+arg_ref (Label n) = None
+arg_ref (Local n) = None
+arg_ref (Number n) = None
+arg_ref (Count n) = None
+arg_ref (Byte n) = None
+arg_ref (S32 z) = None
+arg_ref (S64 z) = None
+arg_ref (Bits32 n) = None
+arg_ref (Bits64 n) = None
+arg_ref (Value v) = None
+arg_ref (Heap h) = None
+arg_ref (Block b) = None
+arg_ref (Access flags memory offset) = None
+
+-- the same of the one argument, where there is just one
+abbrev pub args_ref : List Arg → Option ℕ
+args_ref [] = None
+args_ref (arg ∷ []) = arg_ref arg
+args_ref (arg ∷ other ∷ rest) = None
+
+-- the function that the operator names, if it is ref.func
+abbrev pub op_ref : Op → Option ℕ
+op_ref o = if o.op == REF_FUNC then args_ref o.args else None
+
+abbrev pub kind_refs : FunctionKind → List ℕ
+kind_refs (kind.Local f) = filter_map op_ref (body_of f)
+kind_refs (kind.Import i) = []
+kind_refs (kind.Uninitialized ty) = []
+
+abbrev pub function_refs : List FunctionValue → List ℕ
+function_refs funcs = flat_map (λ f. kind_refs f.kind) funcs
+
+-- those in an initialiser, if there is one
+abbrev pub init_refs : Option (List Op) → List ℕ
+init_refs None = []
+init_refs (Some ops) = filter_map op_ref ops
+
+abbrev pub global_refs : List GlobalValue → List ℕ
+global_refs globals = flat_map (λ g. init_refs (option_map const_ops g.initialiser)) globals
+
+-- those in bodies, then those in the initialisers of globals
+abbrev pub named_refs : List FunctionValue → List GlobalValue → List ℕ
+named_refs funcs globals = function_refs funcs ++ global_refs globals
