@@ -1,4 +1,3 @@
-pub mod Refs
 pub mod ExportedRefs
 pub mod LiveLemmas
 pub mod NamedLemmas

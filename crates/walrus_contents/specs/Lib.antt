@@ -1,5 +1,4 @@
 pub mod Named
 pub mod References
 pub mod There
-pub mod Undeclared
 pub mod View

@@ -6,10 +6,8 @@ mod live;
 mod names;
 mod parts;
 mod references;
-mod undeclared;
 
 pub use live::check_live;
 pub use names::{push_export_names, push_item_names, push_written_names};
 pub use parts::{Contents, Parts, is_live};
-pub use references::are_references_declared;
-pub use undeclared::undeclared_functions;
+pub use references::{are_references_declared, undeclared_functions};

@@ -1,7 +1,7 @@
 use Rattle.std.proofs.Common.{drop, map}
 use Rattle.walrus_base.specs.Id.{place}
-use Rattle.walrus_contents.proofs.Refs.{Bounds}
-use Rattle.walrus_contents.proofs.undeclared.places_for.Given as goal
+use Rattle.walrus_contents.proofs.ExportedRefs.{Bounds}
+use Rattle.walrus_contents.proofs.references.places_for.Given as goal
 
 -- the places that aren't left are below
 abbrev pub invariant-ids : goal.invariant-ids

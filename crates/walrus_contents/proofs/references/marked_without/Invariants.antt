@@ -3,7 +3,7 @@ use Rattle.std.specs.Prelude.{filter, not}
 use Rattle.walrus_base.specs.Id.{place}
 use Rattle.walrus_base.specs.IdSet.{has_id}
 use Rattle.walrus_base.specs.Marks.{marks_left, places_marked}
-use Rattle.walrus_contents.proofs.undeclared.marked_without.Given as goal
+use Rattle.walrus_contents.proofs.references.marked_without.Given as goal
 
 -- what was found and what is left to find are the whole
 abbrev pub invariant-ids : goal.invariant-ids

@@ -9,8 +9,8 @@ use Rattle.walrus_base.specs.declared.keys.FunctionKey.{FunctionKey}
 use Rattle.walrus_model.specs.Declared.{AreUndeclared}
 use Rattle.walrus_model.specs.Live.{IsLive}
 use Rattle.walrus_contents.specs.View.{lent, parts_view}
-use Rattle.walrus_contents.proofs.Refs.{if_ok, undeclared}
-use Rattle.walrus_contents.proofs.undeclared.undeclared_functions.Goals as goal
+use Rattle.walrus_contents.proofs.ExportedRefs.{if_ok, undeclared}
+use Rattle.walrus_contents.proofs.references.undeclared_functions.Goals as goal
 
 pub returns-clause-undeclared : goal.returns-clause-undeclared
 returns-clause-undeclared c =

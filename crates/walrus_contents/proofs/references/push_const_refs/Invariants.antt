@@ -2,8 +2,8 @@ use Rattle.std.proofs.Common.{◌≡◌, ◌++◌, drop, map}
 use Rattle.std.specs.Prelude.{filter_map}
 use Rattle.walrus_base.specs.Id.{place}
 use Rattle.walrus_types.specs.ConstOps.{const_op}
-use Rattle.walrus_contents.specs.Undeclared.{op_ref}
-use Rattle.walrus_contents.proofs.undeclared.push_const_refs.Given as goal
+use Rattle.walrus_contents.specs.References.{op_ref}
+use Rattle.walrus_contents.proofs.references.push_const_refs.Given as goal
 
 -- what was put so far and what is left to put are the whole
 abbrev pub invariant-loop-operator : goal.invariant-loop-operator

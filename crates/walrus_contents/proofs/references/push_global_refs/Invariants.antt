@@ -2,8 +2,8 @@ use Rattle.std.proofs.Common.{◌≡◌, ◌++◌, map}
 use Rattle.walrus_base.specs.Arena.{items}
 use Rattle.walrus_base.specs.Id.{place}
 use Rattle.walrus_items.specs.Globals.{globals, globals_left}
-use Rattle.walrus_contents.specs.Undeclared.{global_refs}
-use Rattle.walrus_contents.proofs.undeclared.push_global_refs.Given as goal
+use Rattle.walrus_contents.specs.References.{global_refs}
+use Rattle.walrus_contents.proofs.references.push_global_refs.Given as goal
 
 -- what was put so far and what is left to put are the whole
 abbrev pub invariant-loop-global : goal.invariant-loop-global
