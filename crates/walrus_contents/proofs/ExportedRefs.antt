@@ -331,9 +331,9 @@ module _ (c : Contents) where
   pub undeclared : (bs : List Bool) (holds : ℕ → Bool) (named fs : List ℕ) → named ≡ N → ((f : ℕ) → slice_index_or bs f false ≡ has named f)
       → ((f : ℕ) → holds f ≡ is_exported (items (exports c.exports)) f) → fs ≡ filter (λ f. not (holds f)) (marked_from 0 bs) → AreUndeclared (IsLive V) V fs
   undeclared bs holds named fs names marks exported is = subst (λ (xs : List ℕ). AreUndeclared (IsLive V) V xs) (sym is) (record {
-      rising = AllPairs-filter (λ i j. i < j) (λ f. not (holds f)) (marked_from 0 bs) (marks_rise bs 0);
-      are = λ f. (told f, found f);
-    })
+    rising = AllPairs-filter (λ i j. i < j) (λ f. not (holds f)) (marked_from 0 bs) (marks_rise bs 0);
+    are = λ f. (told f, found f);
+  })
     where
       told : (f : ℕ) → Contains (filter (λ f. not (holds f)) (marked_from 0 bs)) f → IsUndeclared (IsLive V) V f
       told f at =
