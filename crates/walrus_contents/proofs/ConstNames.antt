@@ -1,7 +1,6 @@
 -- What constant expressions name, and what ref.func names in them.
-use Rattle.std.proofs.Common.{◌≡◌, ℕ, Bool, true, List, [], ◌∷◌, ◌++◌, map, refl, ap, sym, subst, ◌∙◌}
+use Rattle.std.proofs.Common.{◌≡◌, ℕ, List, [], ◌∷◌, ◌++◌, map, refl, ap, sym, subst, ◌∙◌}
 use Rattle.std.specs.Prelude.{flat_map}
-use Rattle.std.specs.List.{list_all}
 use Rattle.std.proofs.lemmas.List.{append-nil}
 use Rattle.walrus_base.specs.Types.{heap_names}
 use Rattle.walrus_types.specs.ConstOps.{const_op, const_ops, value_op}
@@ -17,7 +16,6 @@ use Rattle.walrus_types.specs.declared.const_expr.ConstExpr.TheVariants as expre
 use Rattle.std.specs.Global.{Vec}
 use Rattle.walrus_code.specs.declared.items.ItemId.{ItemId}
 use Rattle.walrus_contents.specs.Named.{Puts, items_in}
-use Rattle.walrus_contents.specs.References.{op_passes}
 
 bytes_named : (bytes : List ℕ) → flat_map arg_names (map Byte bytes) ≡ []
 bytes_named [] = refl
@@ -45,11 +43,3 @@ null_named h = append-nil (map type_item (heap_names (heap_type h)))
 
 pub null_alone : (h : DeclaredHeap) → names_of (const_op (RefNull h) ∷ []) ≡ map type_item (heap_names (heap_type h))
 null_alone h = append-nil (op_names (const_op (RefNull h))) ∙ null_named h
-
--- and it isn't ref.func
-pub value_passes : (p : ℕ → Bool) (v : Value) → list_all (op_passes p) (value_op v ∷ []) ≡ true
-value_passes p (constant.I32 n) = refl
-value_passes p (constant.I64 n) = refl
-value_passes p (constant.F32 bits) = refl
-value_passes p (constant.F64 bits) = refl
-value_passes p (constant.V128 bytes) = refl

@@ -1,37 +1,69 @@
--- Where each function that ref.func names is exported, nothing is undeclared; else some function is.
-use Rattle.std.proofs.Common.{◌≡◌, ℕ, zero, suc, ◌+◌, Bool, true, false, ◌&&◌, ◌||◌, List, [], ◌∷◌, map, refl, sym, ap, ◌∙◌, subst, eqb-true, inl, inr, ◌⊎◌, ⊎_elim}
+-- The functions that ref.func names, and those of them that nothing exports.
+use Rattle.std.proofs.Common.{◌≡◌, ◌≤◌, ◌<◌, ◌==◌, ◌||◌, ◌⊎◌, ◌+◌, ℕ, zero, suc, Bool, true, false, List, [], ◌∷◌, ◌++◌, length, map, drop, get_or, inl, inr, refl, sym, ap, ap₂, ◌∙◌, ⊎_elim, subst, eqb-true, eq-eqb, drop-cons, add-one, add-zero, zero-add, arith}
+use Rattle.std.specs.Prelude.{filter_map, flat_map, filter, cond, not, Contains, AllPairs, IsSome, Option, Some, None, option_map, slice_index_or, Result, Ok, Err, IfOk, ◌↔◌, if◌then◌else◌}
+use Rattle.std.specs.List.{AllByRecursion, cons_option}
 use Rattle.std.proofs.lemmas.Bool.{false≢true}
-use Rattle.std.specs.Prelude.{Option, Some, None, Contains, IsSome, option_map, ◌==◌, if◌then◌else◌}
-use Rattle.std.specs.List.{list_all}
-use Rattle.wasm_operators.proofs.OneStands.{and_both}
-use Rattle.walrus_base.specs.Arena.{item_at, items, entries_from}
+use Rattle.std.proofs.lemmas.List.Elements.{All-from_recursion, Contains-append_cases, Contains-append_left, Contains-append_right}
+use Rattle.std.proofs.lemmas.List.Kept.{AllPairs-cons, AllPairs-filter}
+use Rattle.walrus_base.specs.Arena.{item_at, items, entries}
+use Rattle.walrus_base.specs.Marks.{marked_from}
 use Rattle.walrus_code.specs.Function.{body_of}
-use Rattle.walrus_code.specs.declared.function.LocalFunction.{LocalFunction}
 use Rattle.walrus_types.specs.ConstOps.{const_ops}
-use Rattle.walrus_types.specs.Operators.{Types, Functions, Tables, Memories, Tags, Globals, Elements, DataSegments, Arg, Index, Label, Local, Number, Count, Byte, S32, S64, Bits32, Bits64, Value, Heap, Block, Access, Op, Item, function_item}
-use Rattle.walrus_parts.specs.Kinds.{exported}
+use Rattle.walrus_types.specs.Operators.{Types, Functions, Tables, Memories, Tags, Globals, Elements, DataSegments, Arg, Index, Label, Local, Number, Count, Byte, S32, S64, Bits32, Bits64, Value as ValueArg, Heap, Block, Access, Item, Op, function_item}
+use Rattle.walrus_types.proofs.ShapesEnd.{has_contained}
+use Rattle.walrus_code.specs.declared.function.LocalFunction.{LocalFunction}
 use Rattle.walrus_items.specs.Exports.{ExportValue, exports}
-use Rattle.walrus_items.specs.Functions.{FunctionValue, functions}
+use Rattle.walrus_parts.specs.Kinds.{exported}
 use Rattle.walrus_parts.specs.Items.{is_item}
 use Rattle.walrus_parts.proofs.ItemLemmas.{is_item-same, same-is_item}
+use Rattle.walrus_items.specs.Functions.{FunctionValue, functions}
+use Rattle.walrus_items.specs.Globals.{GlobalValue, globals}
 use Rattle.walrus_parts.specs.declared.function_kind.FunctionKind.{FunctionKind}
 use Rattle.walrus_parts.specs.declared.function_kind.FunctionKind.TheVariants as kind
-use Rattle.walrus_model.specs.Abstract.{Abstract, Export, Body}
+use Rattle.walrus_model.specs.Abstract.{Abstract, Body, Export}
 use Rattle.walrus_model.specs.Abstract as abstract
-use Rattle.walrus_model.specs.Declared.{ref_func, IsRefInBody, IsRefInGlobal, IsUndeclared, NothingUndeclared}
+use Rattle.walrus_model.specs.Declared.{ref_func, AreUndeclared, IsRefInBody, IsRefInGlobal, IsUndeclared, NothingUndeclared}
 use Rattle.walrus_model.specs.Live.{IsLive}
 use Rattle.walrus_model.specs.Names.{body_of as body_in, body_of_function}
-use Rattle.walrus_model.proofs.Lists.{Contains-head, Contains-tail, Contains-uncons, Contains-none}
-use Rattle.walrus_items.specs.Globals.{GlobalValue, globals}
+use Rattle.walrus_model.proofs.Lists.{Contains-head, Contains-tail, Contains-uncons, Contains-none, Contains-map}
+use Rattle.walrus_model.proofs.Standing.{some_inj}
+use Rattle.walrus_model.proofs.TypeRules.{Contains-flat_map}
 use Rattle.walrus_contents.proofs.Lookups.{mapped_some}
-use Rattle.walrus_contents.specs.References.{is_exported, arg_passes, args_pass, op_passes, init_passes, kind_passes, all_pass, all_globals_pass, refs_are_exported}
+use Rattle.walrus_contents.proofs.Slots.{entry_in, item_seen}
 use Rattle.walrus_contents.specs.declared.parts.Contents.{Contents}
 use Rattle.walrus_contents.specs.View.{export_of, body, kind_of, function, global_of, contents_view}
+use Rattle.walrus_types.specs.ConstOps.{value_op}
+use Rattle.walrus_types.specs.PlaceList.{has}
+use Rattle.walrus_types.specs.declared.const_expr.Value.{Value}
+use Rattle.walrus_types.specs.declared.const_expr.Value.TheVariants as constant
+use Rattle.walrus_contents.specs.References.{HasUndeclared, is_exported, arg_ref, args_ref, op_ref, kind_refs, init_refs, function_refs, global_refs, named_refs}
+
+-- a constant isn't ref.func
+pub value_refs : (v : Value) → filter_map op_ref (value_op v ∷ []) ≡ []
+value_refs (constant.I32 n) = refl
+value_refs (constant.I64 n) = refl
+value_refs (constant.F32 bits) = refl
+value_refs (constant.F64 bits) = refl
+value_refs (constant.V128 bytes) = refl
+
+-- each of these places is below n, or still to come
+abbrev pub Bounds : List ℕ → List ℕ → ℕ → Type 0
+Bounds all left n = (f : ℕ) → has all f ≡ true → (f < n) ⊎ (has left f ≡ true)
+
+pub bounds_go : (all left rest : List ℕ) (x n m : ℕ) → left ≡ x ∷ rest → n ≤ m → x < m → Bounds all left n → Bounds all rest m
+bounds_go all left rest x n m is more room so_far f at =
+    ⊎_elim (λ (low : f < n). inl (omega (arith, low, more)))
+    (λ later. by (x == f) refl (subst (λ (xs : List ℕ). has xs f ≡ true) is later))
+    (so_far f at)
+  where
+    by : (t : Bool) → (x == f) ≡ t → (t || has rest f) ≡ true → (f < m) ⊎ (has rest f ≡ true)
+    by true e h = inl (subst (λ (k : ℕ). k < m) (eqb-true x f e) room)
+    by false e h = inr h
 
 -- ---- exports
 
 -- an export that leads to the function
-exported_at : (es : List ExportValue) (f : ℕ) → is_exported es f ≡ true → (e : Export) × Contains (map export_of es) e × (e.item ≡ function_item f)
+pub exported_at : (es : List ExportValue) (f : ℕ) → is_exported es f ≡ true → (e : Export) × Contains (map export_of es) e × (e.item ≡ function_item f)
 exported_at [] f h = absurd (cc)
 exported_at (e ∷ es) f h = by_test (λ k. exported_at es f k) (is_item (exported e.item) (function_item f)) refl h
   where
@@ -46,15 +78,11 @@ either_false : (b c : Bool) → (b || c) ≡ false → (b ≡ false) × (c ≡ f
 either_false true c e = absurd (cc)
 either_false false c e = (refl, e)
 
-one_false : (b c : Bool) → (b && c) ≡ false → (b ≡ false) ⊎ (c ≡ false)
-one_false true c e = inr e
-one_false false c e = inl refl
-
 not_same : (x y : Item) → x ≡ y → is_item x y ≡ false → ⊥
 not_same x y e differs = false≢true (sym differs ∙ same-is_item x y e)
 
 -- no export leads to it
-none_exported : (es : List ExportValue) (f : ℕ) → is_exported es f ≡ false → (e : Export) → Contains (map export_of es) e → e.item ≡ function_item f → ⊥
+pub none_exported : (es : List ExportValue) (f : ℕ) → is_exported es f ≡ false → (e : Export) → Contains (map export_of es) e → e.item ≡ function_item f → ⊥
 none_exported [] f h e at is = Contains-none e at
 none_exported (x ∷ es) f h e at is =
     let both = either_false (is_item (exported x.item) (function_item f)) (is_exported es f) h in
@@ -63,95 +91,166 @@ none_exported (x ∷ es) f h e at is =
     (λ d. none_exported es f both.1 e d is)
     (Contains-uncons (export_of x) e (map export_of es) at)
 
+-- ---- marks of places
+
+-- the places behind one of a slice, seen through a view
+pub left_at : {X : Type 0} (value : X → ℕ) (xs : List X) (i : ℕ) (d : X) → i < length xs → map value (drop i xs) ≡ value (get_or xs i d) ∷ map value (drop (i + 1) xs)
+left_at value xs i d lt = ap (map value) (let whole : drop i xs ≡ get_or xs i d ∷ drop (i + 1) xs = rw add-one (drop-cons xs i d lt) in whole)
+
+here_true : (a b : Bool) → a ≡ true → (a || b) ≡ true
+here_true true b e = refl
+here_true false b e = absurd (false≢true e)
+
+later_true : (a b : Bool) → b ≡ true → (a || b) ≡ true
+later_true true b e = refl
+later_true false b e = e
+
+pub room_here : (left rest : List ℕ) (x n : ℕ) → left ≡ x ∷ rest → ((f : ℕ) → has left f ≡ true → f < n) → x < n
+room_here left rest x n is room = room x (subst (λ (xs : List ℕ). has xs x ≡ true) (sym is) (here_true (x == x) (has rest x) (eq-eqb x x refl)))
+
+pub room_later : (left rest : List ℕ) (x n m : ℕ) → left ≡ x ∷ rest → m ≡ n → ((f : ℕ) → has left f ≡ true → f < n) → (f : ℕ) → has rest f ≡ true → f < m
+room_later left rest x n m is same room f at = subst (λ (k : ℕ). f < k) (sym same) (room f (subst (λ (xs : List ℕ). has xs f ≡ true) (sym is) (later_true (x == f) (has rest f) at)))
+
+swapped : (a b c : Bool) → (b || (a || c)) ≡ ((a || b) || c)
+swapped true true c = refl
+swapped true false c = refl
+swapped false b c = refl
+
+pub marks_go : (left rest : List ℕ) (x : ℕ) (old new all : ℕ → Bool) → left ≡ x ∷ rest → ((f : ℕ) → new f ≡ ((x == f) || old f)) → ((f : ℕ) → (has left f || old f) ≡ all f) → (f : ℕ) → (has rest f || new f) ≡ all f
+marks_go left rest x old new all is marked so_far f =
+    ap (λ (b : Bool). has rest f || b) (marked f) ∙ swapped (x == f) (has rest f) (old f)
+    ∙ ap (λ (xs : List ℕ). has xs f || old f) (sym is) ∙ so_far f
+
+all_above : (bs : List Bool) (s q : ℕ) → q < s → AllByRecursion (λ (y : ℕ). q < y) (marked_from s bs)
+all_above [] s q lt = tt
+all_above (false ∷ bs) s q lt = all_above bs (s + 1) q (omega (arith, lt))
+all_above (true ∷ bs) s q lt = (lt, all_above bs (s + 1) q (omega (arith, lt)))
+
+marks_rise : (bs : List Bool) (s : ℕ) → AllPairs (λ i j. i < j) (marked_from s bs)
+marks_rise [] s = λ i j d less low. absurd (omega (arith, low))
+marks_rise (false ∷ bs) s = marks_rise bs (s + 1)
+marks_rise (true ∷ bs) s = AllPairs-cons (λ i j. i < j) s (marked_from (s + 1) bs) (All-from_recursion (λ (y : ℕ). s < y) (marked_from (s + 1) bs) (all_above bs (s + 1) s (omega arith))) (marks_rise bs (s + 1))
+
+in_marked : (bs : List Bool) (s p q : ℕ) → q ≡ s + p → slice_index_or bs p false ≡ true → Contains (marked_from s bs) q
+in_marked [] s p q e h = absurd (false≢true h)
+in_marked (false ∷ bs) s zero q e h = absurd (false≢true h)
+in_marked (false ∷ bs) s (suc p) q e h = in_marked bs (s + 1) p q (omega (arith, e)) h
+in_marked (true ∷ bs) s zero q e h = let same : s ≡ q = omega (arith, e) in subst (λ (x : ℕ). Contains (s ∷ marked_from (s + 1) bs) x) same (Contains-head s (marked_from (s + 1) bs))
+in_marked (true ∷ bs) s (suc p) q e h = Contains-tail s q (marked_from (s + 1) bs) (in_marked bs (s + 1) p q (omega (arith, e)) h)
+
+from_marked : (bs : List Bool) (s q : ℕ) → Contains (marked_from s bs) q → (p : ℕ) × (q ≡ s + p) × (slice_index_or bs p false ≡ true)
+from_marked [] s q at = absurd (Contains-none q at)
+from_marked (false ∷ bs) s q at = let f = from_marked bs (s + 1) q at in (suc f.0, (let e : q ≡ (s + 1) + f.0 = f.1 in omega (arith, e)), f.2)
+from_marked (true ∷ bs) s q at = ⊎_elim
+    (λ (same : s ≡ q). (0, (omega (arith, same)), refl))
+    (λ later. let f = from_marked bs (s + 1) q later in (suc f.0, (let e : q ≡ (s + 1) + f.0 = f.1 in omega (arith, e)), f.2))
+    (Contains-uncons s q (marked_from (s + 1) bs) at)
+
+-- ---- lists
+
+contained_has : (ns : List ℕ) (p : ℕ) → has ns p ≡ true → Contains ns p
+contained_has [] p h = absurd (false≢true h)
+contained_has (n ∷ ns) p h = by (n == p) refl h (contained_has ns p)
+  where
+    by : (t : Bool) → (n == p) ≡ t → (t || has ns p) ≡ true → (has ns p ≡ true → Contains ns p) → Contains (n ∷ ns) p
+    by true e h rest = subst (Contains (n ∷ ns)) (eqb-true n p e) (Contains-head n ns)
+    by false e h rest = Contains-tail n p ns (rest h)
+
+in_filter : (p : ℕ → Bool) (xs : List ℕ) (x : ℕ) → Contains xs x → p x ≡ true → Contains (filter p xs) x
+in_filter p [] x c passes = absurd (Contains-none x c)
+in_filter p (y ∷ xs) x c passes = by (p y) refl (Contains-uncons y x xs c) (λ d. in_filter p xs x d passes)
+  where
+    by : (t : Bool) → p y ≡ t → (y ≡ x) ⊎ Contains xs x → (Contains xs x → Contains (filter p xs) x) → Contains (cond t (y ∷ filter p xs) (filter p xs)) x
+    by true e (inl same) rest = subst (Contains (y ∷ filter p xs)) same (Contains-head y (filter p xs))
+    by true e (inr is) rest = Contains-tail y x (filter p xs) (rest is)
+    by false e (inl same) rest = absurd (false≢true (sym e ∙ ap p same ∙ passes))
+    by false e (inr is) rest = rest is
+
+from_filter : (p : ℕ → Bool) (xs : List ℕ) (x : ℕ) → Contains (filter p xs) x → Contains xs x × (p x ≡ true)
+from_filter p [] x c = absurd (Contains-none x c)
+from_filter p (y ∷ xs) x c = by (p y) refl c (from_filter p xs x)
+  where
+    by : (t : Bool) → p y ≡ t → Contains (cond t (y ∷ filter p xs) (filter p xs)) x → (Contains (filter p xs) x → Contains xs x × (p x ≡ true)) → Contains (y ∷ xs) x × (p x ≡ true)
+    by true e at rest = ⊎_elim
+        (λ (same : y ≡ x). (subst (Contains (y ∷ xs)) same (Contains-head y xs), ap p (sym same) ∙ e))
+        (λ later. let r = rest later in (Contains-tail y x xs r.0, r.1))
+        (Contains-uncons y x (filter p xs) at)
+    by false e at rest = let r = rest at in (Contains-tail y x xs r.0, r.1)
+
+from_flat : {A : Type 0} (f : A → List ℕ) (xs : List A) (y : ℕ) → Contains (flat_map f xs) y → (x : A) × Contains xs x × Contains (f x) y
+from_flat f [] y at = absurd (Contains-none y at)
+from_flat f (x ∷ xs) y at = ⊎_elim
+    (λ (here : Contains (f x) y). (x, Contains-head x xs, here))
+    (λ later. let r = from_flat f xs y later in (r.0, Contains-tail x r.0 xs r.1, r.2))
+    (Contains-append_cases (f x) (flat_map f xs) y at)
+
 -- ---- operators
 
-module _ (p : ℕ → Bool) where
-  arg_bad : (a : Arg) → arg_passes p a ≡ false → (f : ℕ) × (a ≡ Index (function_item f)) × (p f ≡ false)
-  arg_bad (Index (Functions, f)) h = (f, refl, h)
-  arg_bad (Index (Types, i)) h = absurd (cc)
-  arg_bad (Index (Tables, i)) h = absurd (cc)
-  arg_bad (Index (Memories, i)) h = absurd (cc)
-  arg_bad (Index (Tags, i)) h = absurd (cc)
-  arg_bad (Index (Globals, i)) h = absurd (cc)
-  arg_bad (Index (Elements, i)) h = absurd (cc)
-  arg_bad (Index (DataSegments, i)) h = absurd (cc)
-  arg_bad (Label n) h = absurd (cc)
-  arg_bad (Local n) h = absurd (cc)
-  arg_bad (Number n) h = absurd (cc)
-  arg_bad (Count n) h = absurd (cc)
-  arg_bad (Byte n) h = absurd (cc)
-  arg_bad (S32 n) h = absurd (cc)
-  arg_bad (S64 n) h = absurd (cc)
-  arg_bad (Bits32 n) h = absurd (cc)
-  arg_bad (Bits64 n) h = absurd (cc)
-  arg_bad (Value v) h = absurd (cc)
-  arg_bad (Heap v) h = absurd (cc)
-  arg_bad (Block v) h = absurd (cc)
-  arg_bad (Access flags memory offset) h = absurd (cc)
+arg_is : (a : Arg) (f : ℕ) → arg_ref a ≡ Some f → a ≡ Index (function_item f)
+arg_is (Index (Functions, g)) f h = ap (λ (k : ℕ). Index (function_item k)) (some_inj g f h)
+arg_is (Index (Types, i)) f h = absurd cc
+arg_is (Index (Tables, i)) f h = absurd cc
+arg_is (Index (Memories, i)) f h = absurd cc
+arg_is (Index (Tags, i)) f h = absurd cc
+arg_is (Index (Globals, i)) f h = absurd cc
+arg_is (Index (Elements, i)) f h = absurd cc
+arg_is (Index (DataSegments, i)) f h = absurd cc
+arg_is (Label n) f h = absurd cc
+arg_is (Local n) f h = absurd cc
+arg_is (Number n) f h = absurd cc
+arg_is (Count n) f h = absurd cc
+arg_is (Byte n) f h = absurd cc
+arg_is (S32 n) f h = absurd cc
+arg_is (S64 n) f h = absurd cc
+arg_is (Bits32 n) f h = absurd cc
+arg_is (Bits64 n) f h = absurd cc
+arg_is (ValueArg v) f h = absurd cc
+arg_is (Heap v) f h = absurd cc
+arg_is (Block v) f h = absurd cc
+arg_is (Access flags memory offset) f h = absurd cc
 
-  args_bad : (xs : List Arg) → args_pass p xs ≡ false → (f : ℕ) × (xs ≡ Index (function_item f) ∷ []) × (p f ≡ false)
-  args_bad [] h = absurd (cc)
-  args_bad (a ∷ []) h = let q = arg_bad a h in (q.0, ap (λ (b : Arg). b ∷ []) q.1, q.2)
-  args_bad (a ∷ b ∷ rest) h = absurd (cc)
+args_are : (xs : List Arg) (f : ℕ) → args_ref xs ≡ Some f → xs ≡ Index (function_item f) ∷ []
+args_are [] f h = absurd cc
+args_are (a ∷ []) f h = ap (λ (b : Arg). b ∷ []) (arg_is a f h)
+args_are (a ∷ b ∷ rest) f h = absurd cc
 
-  op_bad : (o : Op) → op_passes p o ≡ false → (f : ℕ) × (o ≡ ref_func f) × (p f ≡ false)
-  op_bad o h = by_test (o.op == 0xD2) refl h
-    where
-      made : (n : ℕ) (xs : List Arg) (f : ℕ) → n ≡ 0xD2 → xs ≡ Index (function_item f) ∷ [] → (let x : Op = record { op = n; args = xs } in x) ≡ ref_func f
-      made n xs f e d = subst (λ m. (let x : Op = record { op = m; args = xs } in x) ≡ ref_func f) (sym e) (ap (λ (bs : List Arg). (let x : Op = record { op = 0xD2; args = bs } in x)) d)
-
-      by_test : (b : Bool) → (o.op == 0xD2) ≡ b → (if b then args_pass p o.args else true) ≡ false → (f : ℕ) × (o ≡ ref_func f) × (p f ≡ false)
-      by_test true is h = let q = args_bad o.args h in (q.0, made o.op o.args q.0 (eqb-true o.op 0xD2 is) q.1, q.2)
-      by_test false is h = absurd (cc)
-
-  ops_bad : (os : List Op) → list_all (op_passes p) os ≡ false → (f : ℕ) × Contains os (ref_func f) × (p f ≡ false)
-  ops_bad [] h = absurd (cc)
-  ops_bad (o ∷ os) h = by_test (λ k. ops_bad os k) (op_passes p o) refl h
-    where
-      by_test : (list_all (op_passes p) os ≡ false → (f : ℕ) × Contains os (ref_func f) × (p f ≡ false)) → (b : Bool) → op_passes p o ≡ b → (b && list_all (op_passes p) os) ≡ false → (f : ℕ) × Contains (o ∷ os) (ref_func f) × (p f ≡ false)
-      by_test rest true is h = let q = rest h in (q.0, Contains-tail o (ref_func q.0) os q.1, q.2)
-      by_test rest false is h = let q = op_bad o is in (q.0, subst (λ x. Contains (o ∷ os) x) q.1 (Contains-head o os), q.2)
-
-  ref_good : (f : ℕ) → op_passes p (ref_func f) ≡ true → p f ≡ true
-  ref_good f h = h
-
-  ops_good : (os : List Op) (f : ℕ) → list_all (op_passes p) os ≡ true → Contains os (ref_func f) → p f ≡ true
-  ops_good [] f h at = absurd (Contains-none (ref_func f) at)
-  ops_good (o ∷ os) f h at =
-      let both = and_both (op_passes p o) (list_all (op_passes p) os) h in
-      ⊎_elim
-      (λ (e : o ≡ ref_func f). ref_good f (subst (λ (x : Op). op_passes p x ≡ true) e both.0))
-      (λ d. ops_good os f both.1 d)
-      (Contains-uncons o (ref_func f) os at)
-
-  kind_bad : (k : FunctionKind) → kind_passes p k ≡ false → (l : LocalFunction) × (k ≡ kind.Local l) × (f : ℕ) × Contains (body_of l) (ref_func f) × (p f ≡ false)
-  kind_bad (kind.Local l) h = let q = ops_bad (body_of l) h in (l, refl, q.0, q.1, q.2)
-  kind_bad (kind.Import i) h = absurd (cc)
-  kind_bad (kind.Uninitialized ty) h = absurd (cc)
-
-  init_bad : (o : Option (List Op)) → init_passes p o ≡ false → (ops : List Op) × (o ≡ Some ops) × (f : ℕ) × Contains ops (ref_func f) × (p f ≡ false)
-  init_bad None h = absurd (cc)
-  init_bad (Some ops) h = let q = ops_bad ops h in (ops, refl, q.0, q.1, q.2)
-
--- ---- slots
-
-found_from : {X : Type 0} (test : X → Bool) (p : ℕ) (slots : List (Option X)) → list_all test (map (λ e. e.1) (entries_from p slots)) ≡ false → (i : ℕ) × (x : X) × (item_at slots i ≡ Some x) × (test x ≡ false)
-found_from test p [] h = absurd (cc)
-found_from test p (None ∷ rest) h = let q = found_from test (p + 1) rest h in (suc q.0, q.1, q.2, q.3)
-found_from {X} test p (Some x ∷ rest) h = by_test (λ k. found_from test (p + 1) rest k) (test x) refl h
+op_is : (o : Op) (f : ℕ) → op_ref o ≡ Some f → o ≡ ref_func f
+op_is o f h = by_test (o.op == 0xD2) refl h
   where
-    by_test : (list_all test (map (λ e. e.1) (entries_from (p + 1) rest)) ≡ false → (i : ℕ) × (y : X) × (item_at rest i ≡ Some y) × (test y ≡ false)) → (b : Bool) → test x ≡ b → (b && list_all test (map (λ e. e.1) (entries_from (p + 1) rest))) ≡ false → (i : ℕ) × (y : X) × (item_at (Some x ∷ rest) i ≡ Some y) × (test y ≡ false)
-    by_test more true is h = let q = more h in (suc q.0, q.1, q.2, q.3)
-    by_test more false is h = (0, x, refl, is)
+    made : (n : ℕ) (xs : List Arg) → n ≡ 0xD2 → xs ≡ Index (function_item f) ∷ [] → (let x : Op = record { op = n; args = xs } in x) ≡ ref_func f
+    made n xs e d = subst (λ m. (let x : Op = record { op = m; args = xs } in x) ≡ ref_func f) (sym e) (ap (λ (bs : List Arg). (let x : Op = record { op = 0xD2; args = bs } in x)) d)
 
-each_from : {X : Type 0} (test : X → Bool) (p : ℕ) (slots : List (Option X)) → list_all test (map (λ e. e.1) (entries_from p slots)) ≡ true → (i : ℕ) (x : X) → item_at slots i ≡ Some x → test x ≡ true
-each_from test p [] h i x e = absurd (cc)
-each_from test p (None ∷ rest) h zero x e = absurd (cc)
-each_from test p (None ∷ rest) h (suc i) x e = each_from test (p + 1) rest h i x e
-each_from test p (Some y ∷ rest) h zero x e =
-    let same : y ≡ x = cc in
-    subst (λ z. test z ≡ true) same (and_both (test y) (list_all test (map (λ e. e.1) (entries_from (p + 1) rest))) h).0
-each_from test p (Some y ∷ rest) h (suc i) x e = each_from test (p + 1) rest (and_both (test y) (list_all test (map (λ e. e.1) (entries_from (p + 1) rest))) h).1 i x e
+    by_test : (b : Bool) → (o.op == 0xD2) ≡ b → (if b then args_ref o.args else None) ≡ Some f → o ≡ ref_func f
+    by_test true is h = made o.op o.args (eqb-true o.op 0xD2 is) (args_are o.args f h)
+    by_test false is h = absurd cc
+
+ops_name : (os : List Op) (f : ℕ) → Contains (filter_map op_ref os) f → Contains os (ref_func f)
+ops_name [] f at = absurd (Contains-none f at)
+ops_name (o ∷ os) f at = by (op_ref o) refl at (ops_name os f)
+  where
+    by : (r : Option ℕ) → op_ref o ≡ r → Contains (cons_option r (filter_map op_ref os)) f → (Contains (filter_map op_ref os) f → Contains os (ref_func f)) → Contains (o ∷ os) (ref_func f)
+    by None e at rest = Contains-tail o (ref_func f) os (rest at)
+    by (Some g) e at rest = ⊎_elim
+        (λ (same : g ≡ f). subst (λ (x : Op). Contains (o ∷ os) x) (op_is o f (e ∙ ap (λ (k : ℕ). Some k) same)) (Contains-head o os))
+        (λ later. Contains-tail o (ref_func f) os (rest later))
+        (Contains-uncons g f (filter_map op_ref os) at)
+
+ops_named : (os : List Op) (f : ℕ) → Contains os (ref_func f) → Contains (filter_map op_ref os) f
+ops_named [] f at = absurd (Contains-none (ref_func f) at)
+ops_named (o ∷ os) f at = ⊎_elim
+    (λ (same : o ≡ ref_func f). subst (λ (x : Op). Contains (filter_map op_ref (x ∷ os)) f) (sym same) (Contains-head f (filter_map op_ref os)))
+    (λ later. by (op_ref o) refl (ops_named os f later))
+    (Contains-uncons o (ref_func f) os at)
+  where
+    by : (r : Option ℕ) → op_ref o ≡ r → Contains (filter_map op_ref os) f → Contains (cons_option r (filter_map op_ref os)) f
+    by None e at = at
+    by (Some g) e at = Contains-tail g f (filter_map op_ref os) at
+
+-- ---- results
+
+pub if_ok : {A E : Type 0} (P Q : A → Type 0) (r : Result A E) → ((a : A) → P a → Q a) → IfOk r P → IfOk r Q
+if_ok P Q (Ok a) step h = step a h
+if_ok P Q (Err e) step h = h
 
 -- ---- the module
 
@@ -159,13 +258,45 @@ module _ (c : Contents) where
   abbrev V : Abstract
   V = contents_view c
 
-  abbrev E : List ExportValue
-  E = items (exports c.exports)
+  abbrev IsNamed : ℕ → Type 0
+  IsNamed f = IsRefInBody (IsLive V) V f ⊎ IsRefInGlobal (IsLive V) V f
 
-  -- the function at a place, seen
-  seen_at : (i : ℕ) (value : FunctionValue) → item_at (functions c.funcs) i ≡ Some value → V.functions i ≡ Some (function c.locals value)
-  seen_at i value e = ap (option_map (function c.locals)) e
+  item_in : {X : Type 0} (slots : List (Option X)) (i : ℕ) (x : X) → item_at slots i ≡ Some x → Contains (items slots) x
+  item_in {X} slots i x e = Contains-map (λ (entry : ℕ × X). entry.1) (i, x) (entries slots) (entry_in slots i x e)
 
+  by_kind : (value : FunctionValue) (i : ℕ) → item_at (functions c.funcs) i ≡ Some value → (k : FunctionKind) → value.kind ≡ k → (f : ℕ) → Contains (kind_refs k) f → IsRefInBody (IsLive V) V f
+  by_kind value i e (kind.Import m) is f at = absurd (Contains-none f at)
+  by_kind value i e (kind.Uninitialized ty) is f at = absurd (Contains-none f at)
+  by_kind value i e (kind.Local l) is f at =
+      let there : V.functions i ≡ Some (function c.locals value) = ap (option_map (function c.locals)) e in
+      let found : body_in V i ≡ Some (body c.locals l) = ap body_of_function there ∙ ap (λ (x : FunctionKind). body_of_function (Some (let g : abstract.Function = record { ty = (function c.locals value).ty; kind = kind_of c.locals x } in g))) is in
+      (i, body c.locals l, subst (λ o. IsSome o) (sym there) refl, found, ops_name (body_of l) f at)
+
+  body_named : (f : ℕ) → Contains (function_refs (items (functions c.funcs))) f → IsRefInBody (IsLive V) V f
+  body_named f at =
+      let q = from_flat (λ (v : FunctionValue). kind_refs v.kind) (items (functions c.funcs)) f at in
+      let s = item_seen (functions c.funcs) q.0 q.1 in
+      by_kind q.0 s.0 s.1 q.0.kind refl f q.2
+
+  by_init : (value : GlobalValue) (i : ℕ) → item_at (globals c.globals) i ≡ Some value → (o : Option (List Op)) → option_map const_ops value.initialiser ≡ o → (f : ℕ) → Contains (init_refs o) f → IsRefInGlobal (IsLive V) V f
+  by_init value i e None is f at = absurd (Contains-none f at)
+  by_init value i e (Some ops) is f at =
+      let there : V.globals i ≡ Some (global_of value) = ap (option_map global_of) e in
+      (i, global_of value, ops, subst (λ o. IsSome o) (sym there) refl, there, is, ops_name ops f at)
+
+  global_named : (f : ℕ) → Contains (global_refs (items (globals c.globals))) f → IsRefInGlobal (IsLive V) V f
+  global_named f at =
+      let q = from_flat (λ (v : GlobalValue). init_refs (option_map const_ops v.initialiser)) (items (globals c.globals)) f at in
+      let s = item_seen (globals c.globals) q.0 q.1 in
+      by_init q.0 s.0 s.1 (option_map const_ops q.0.initialiser) refl f q.2
+
+  abbrev N : List ℕ
+  N = named_refs (items (functions c.funcs)) (items (globals c.globals))
+
+  is_named : (f : ℕ) → Contains N f → IsNamed f
+  is_named f at = ⊎_elim (λ d. inl (body_named f d)) (λ d. inr (global_named f d)) (Contains-append_cases (function_refs (items (functions c.funcs))) (global_refs (items (globals c.globals))) f at)
+
+  -- the body at a place, seen
   slot_at : (o : Option FunctionValue) (b : Body) → body_of_function (option_map (function c.locals) o) ≡ Some b → (value : FunctionValue) × (l : LocalFunction) × (o ≡ Some value) × (value.kind ≡ kind.Local l) × (b ≡ body c.locals l)
   slot_at None b e = absurd (cc)
   slot_at (Some value) b e = by_kind value.kind refl e
@@ -175,54 +306,66 @@ module _ (c : Contents) where
       by_kind (kind.Import i) is e = absurd (cc)
       by_kind (kind.Uninitialized ty) is e = absurd (cc)
 
-  -- it is named and exported
-  exported_yet : (f : ℕ) → IsUndeclared (IsLive V) V f → is_exported E f ≡ true → ⊥
-  exported_yet f u good = let e = exported_at E f good in u.not_exported e.0 e.1 e.2
-
-  in_body : all_pass (is_exported E) (items (functions c.funcs)) ≡ true → (f : ℕ) → IsUndeclared (IsLive V) V f → IsRefInBody (IsLive V) V f → ⊥
-  in_body h f u r =
+  in_body : (f : ℕ) → IsRefInBody (IsLive V) V f → Contains (function_refs (items (functions c.funcs))) f
+  in_body f r =
       let s = slot_at (item_at (functions c.funcs) r.0) r.1 r.3 in
-      let passes = each_from (λ (v : FunctionValue). kind_passes (is_exported E) v.kind) 0 (functions c.funcs) h r.0 s.0 s.2 in
-      exported_yet f u (ops_good (is_exported E) (body_of s.1) f (subst (λ (k : FunctionKind). kind_passes (is_exported E) k ≡ true) s.3 passes) (subst (λ (c : Body). Contains c.operators (ref_func f)) s.4 r.4))
+      let at : Contains (body_of s.1) (ref_func f) = subst (λ (b : Body). Contains b.operators (ref_func f)) s.4 r.4 in
+      Contains-flat_map (λ (v : FunctionValue). kind_refs v.kind) (items (functions c.funcs)) s.0 f (item_in (functions c.funcs) r.0 s.0 s.2)
+      (subst (λ (k : FunctionKind). Contains (kind_refs k) f) (sym s.3) (ops_named (body_of s.1) f at))
 
-  in_global : all_globals_pass (is_exported E) (items (globals c.globals)) ≡ true → (f : ℕ) → IsUndeclared (IsLive V) V f → IsRefInGlobal (IsLive V) V f → ⊥
-  in_global h f u r =
+  in_global : (f : ℕ) → IsRefInGlobal (IsLive V) V f → Contains (global_refs (items (globals c.globals))) f
+  in_global f r =
       let s = mapped_some global_of (item_at (globals c.globals) r.0) r.1 r.4 in
-      let passes = each_from (λ (v : GlobalValue). init_passes (is_exported E) (option_map const_ops v.initialiser)) 0 (globals c.globals) h r.0 s.0 s.1 in
       let is : option_map const_ops s.0.initialiser ≡ Some r.2 = ap (λ (g : abstract.Global). g.initialiser) (sym s.2) ∙ r.5 in
-      exported_yet f u (ops_good (is_exported E) r.2 f (subst (λ (o : Option (List Op)). init_passes (is_exported E) o ≡ true) is passes) r.6)
+      Contains-flat_map (λ (v : GlobalValue). init_refs (option_map const_ops v.initialiser)) (items (globals c.globals)) s.0 f (item_in (globals c.globals) r.0 s.0 s.1)
+      (subst (λ (o : Option (List Op)). Contains (init_refs o) f) (sym is) (ops_named r.2 f r.6))
 
-  pub nothing_undeclared : refs_are_exported (items (functions c.funcs)) (items (globals c.globals)) E ≡ true → NothingUndeclared V
-  nothing_undeclared h f u =
-      let both = and_both (all_pass (is_exported E) (items (functions c.funcs))) (all_globals_pass (is_exported E) (items (globals c.globals))) h in
-      ⊎_elim (λ r. in_body both.0 f u r) (λ r. in_global both.1 f u r) u.named
+  has_name : (f : ℕ) → IsRefInBody (IsLive V) V f ⊎ IsRefInGlobal (IsLive V) V f → Contains N f
+  has_name f (inl r) = Contains-append_left (function_refs (items (functions c.funcs))) (global_refs (items (globals c.globals))) f (in_body f r)
+  has_name f (inr r) = Contains-append_right (function_refs (items (functions c.funcs))) (global_refs (items (globals c.globals))) f (in_global f r)
 
-  body_undeclared : all_pass (is_exported E) (items (functions c.funcs)) ≡ false → (f : ℕ) × IsUndeclared (IsLive V) V f
-  body_undeclared h =
-      let q = found_from (λ (v : FunctionValue). kind_passes (is_exported E) v.kind) 0 (functions c.funcs) h in
-      let k = kind_bad (is_exported E) q.1.kind q.3 in
-      let there : V.functions q.0 ≡ Some (function c.locals q.1) = seen_at q.0 q.1 q.2 in
-      let found : body_in V q.0 ≡ Some (body c.locals k.0) = ap body_of_function there ∙ ap (λ (x : FunctionKind). body_of_function (Some (let f : abstract.Function = record { ty = (function c.locals q.1).ty; kind = kind_of c.locals x } in f))) k.1 in (
-        k.2,
-        record {
-          named = inl (q.0, body c.locals k.0, subst (λ o. IsSome o) (sym there) refl, found, k.3);
-          not_exported = none_exported E k.2 k.4;
-          not_listed = λ i e live is at. absurd (cc);
-        },
-      )
+  negated : (b : Bool) → not b ≡ true → b ≡ false
+  negated true e = absurd (false≢true e)
+  negated false e = refl
 
-  global_undeclared : all_globals_pass (is_exported E) (items (globals c.globals)) ≡ false → (f : ℕ) × IsUndeclared (IsLive V) V f
-  global_undeclared h =
-      let q = found_from (λ (v : GlobalValue). init_passes (is_exported E) (option_map const_ops v.initialiser)) 0 (globals c.globals) h in
-      let k = init_bad (is_exported E) (option_map const_ops q.1.initialiser) q.3 in
-      let there : V.globals q.0 ≡ Some (global_of q.1) = ap (option_map global_of) q.2 in (
-        k.2,
-        record {
-          named = inr (q.0, global_of q.1, k.0, subst (λ o. IsSome o) (sym there) refl, there, k.1, k.3);
-          not_exported = none_exported E k.2 k.4;
-          not_listed = λ i e live is at. absurd (cc);
-        },
-      )
+  -- what is marked, where that is what is named, but for what is exported
+  pub undeclared : (bs : List Bool) (holds : ℕ → Bool) (named fs : List ℕ) → named ≡ N → ((f : ℕ) → slice_index_or bs f false ≡ has named f)
+      → ((f : ℕ) → holds f ≡ is_exported (items (exports c.exports)) f) → fs ≡ filter (λ f. not (holds f)) (marked_from 0 bs) → AreUndeclared (IsLive V) V fs
+  undeclared bs holds named fs names marks exported is = subst (λ (xs : List ℕ). AreUndeclared (IsLive V) V xs) (sym is) (record {
+    rising = AllPairs-filter (λ i j. i < j) (λ f. not (holds f)) (marked_from 0 bs) (marks_rise bs 0);
+    are = λ f. (told f, found f);
+  })
+    where
+      told : (f : ℕ) → Contains (filter (λ f. not (holds f)) (marked_from 0 bs)) f → IsUndeclared (IsLive V) V f
+      told f at =
+          let q = from_filter (λ f. not (holds f)) (marked_from 0 bs) f at in
+          let m = from_marked bs 0 f q.0 in
+          let same : f ≡ m.0 = m.1 ∙ zero-add m.0 in
+          let marked : slice_index_or bs f false ≡ true = subst (λ (k : ℕ). slice_index_or bs k false ≡ true) (sym same) m.2 in
+          let at_all : Contains N f = subst (λ (xs : List ℕ). Contains xs f) names (contained_has named f (sym (marks f) ∙ marked)) in
+          record {
+            named = is_named f at_all;
+            not_exported = none_exported (items (exports c.exports)) f (sym (exported f) ∙ negated (holds f) q.1);
+            not_listed = λ i e live is at. absurd cc;
+          }
 
-  pub one_undeclared : refs_are_exported (items (functions c.funcs)) (items (globals c.globals)) E ≡ false → (f : ℕ) × IsUndeclared (IsLive V) V f
-  one_undeclared h = ⊎_elim body_undeclared global_undeclared (one_false (all_pass (is_exported E) (items (functions c.funcs))) (all_globals_pass (is_exported E) (items (globals c.globals))) h)
+      found : (f : ℕ) → IsUndeclared (IsLive V) V f → Contains (filter (λ f. not (holds f)) (marked_from 0 bs)) f
+      found f u =
+          let at : Contains named f = subst (λ (xs : List ℕ). Contains xs f) (sym names) (has_name f u.named) in
+          let marked : slice_index_or bs f false ≡ true = marks f ∙ has_contained named f at in
+          in_filter (λ f. not (holds f)) (marked_from 0 bs) f (in_marked bs 0 f f (sym (zero-add f)) marked) (by (holds f) refl)
+        where
+          by : (b : Bool) → holds f ≡ b → not (holds f) ≡ true
+          by false e = ap not e
+          by true e = let x = exported_at (items (exports c.exports)) f (sym (exported f) ∙ e) in absurd (u.not_exported x.0 x.1 x.2)
+
+-- ---- whether there are any
+
+module _ {X : Type 0} (value : X → ℕ) (v : Abstract) where
+  pub none_undeclared : (xs : List X) → AreUndeclared (IsLive v) v (map value xs) → length xs ≡ 0 → NothingUndeclared v
+  none_undeclared [] are e f u = Contains-none f ((are.are f).1 u)
+  none_undeclared (x ∷ xs) are e f u = absurd (omega (arith, e))
+
+  pub some_undeclared : (xs : List X) → AreUndeclared (IsLive v) v (map value xs) → (length xs ≡ 0 → ⊥) → HasUndeclared v
+  some_undeclared [] are differs = absurd (differs refl)
+  some_undeclared (x ∷ xs) are differs = (value x, (are.are (value x)).0 (Contains-head (value x) (map value xs)))

@@ -1,27 +1,31 @@
-//! Functions that `ref.func` names (Instructions > Reference Instructions).
-ghost use Rattle.std.specs.Prelude.{◌≡◌, ◌&&◌, ◌||◌, ℕ, true, false, map, option_map, IfOk, IsOkUnless, OnOk};
-ghost use Rattle.std.specs.List.{list_all};
+//! Functions that `ref.func` names and that nothing declares (Valid > Modules: the context's references).
+ghost use Rattle.std.specs.Prelude.{◌≡◌, ◌≤◌, ◌<◌, ◌++◌, ◌||◌, ◌==◌, ℕ, true, not, false, filter, filter_map, map, option_map, IfOk, IsOkUnless, OnOk};
 ghost use Rattle.walrus_base.specs.Arena.{items};
+ghost use Rattle.walrus_base.specs.Id.{place};
 ghost use Rattle.walrus_base.specs.IdSet.{has_id};
+ghost use Rattle.walrus_base.specs.Marks.{is_marked, mark_places, places_marked};
 ghost use Rattle.walrus_code.specs.Code.{arg_of, op_of};
 ghost use Rattle.walrus_code.specs.Function.{body_of};
-ghost use Rattle.walrus_items.specs.Globals.{global_init, globals};
-ghost use Rattle.walrus_types.specs.ConstOps.{const_op, const_ops};
-ghost use Rattle.walrus_parts.specs.Kinds.{exported};
-ghost use Rattle.walrus_items.specs.Exports.{exports};
 ghost use Rattle.walrus_items.specs.Functions.{functions};
+ghost use Rattle.walrus_items.specs.Globals.{global_init, globals};
+ghost use Rattle.walrus_items.specs.Exports.{exports};
+ghost use Rattle.walrus_parts.specs.Kinds.{exported};
 ghost use Rattle.walrus_parts.specs.Items.{is_item};
+ghost use Rattle.walrus_types.specs.ConstOps.{const_op, const_ops};
+ghost use Rattle.walrus_types.specs.PlaceList.{has};
 ghost use Rattle.walrus_types.specs.Operators.{function_item};
 ghost use Rattle.walrus_parts.specs.Errors.{out_of_memory};
-ghost use Rattle.walrus_model.specs.Declared.{NothingUndeclared};
-ghost use Rattle.walrus_contents.specs.References.{is_exported, arg_passes, args_pass, op_passes, init_passes, kind_passes, all_pass, all_globals_pass, HasUndeclared};
+ghost use Rattle.walrus_model.specs.Declared.{AreUndeclared, NothingUndeclared};
+ghost use Rattle.walrus_model.specs.Live.{IsLive};
+ghost use Rattle.walrus_contents.specs.References.{HasUndeclared, is_exported, arg_ref, args_ref, op_ref, kind_refs, function_refs, init_refs, global_refs, named_refs};
 ghost use Rattle.walrus_contents.specs.View.{parts_view};
 
 use crate::parts::Parts;
-use std::alloc::Global;
+use std::alloc::{AllocError, Global};
+use walrus_base::Marks;
 use walrus_items::{
-    Arg, ExportItem, FunctionKey, FunctionKind, GlobalKind, IdHashSet, LocalFunction,
-    ModuleExports, ModuleFunctions, ModuleGlobals, Operator, Result,
+    Arg, Error, ExportItem, FunctionId, FunctionKey, FunctionKind, GlobalKind, IdHashSet,
+    LocalFunction, ModuleExports, ModuleFunctions, ModuleGlobals, Operator, Result,
 };
 use walrus_types::{ConstExpr, ConstOp};
 use wasm_opcodes::one_byte::REF_FUNC;
@@ -51,127 +55,226 @@ fn mark_function(item: ExportItem, marks: &mut IdHashSet<FunctionKey>) -> Result
     Ok(())
 }
 
-// Whether a function that the argument names is marked.
-fn is_arg_marked(arg: &Arg, marks: &IdHashSet<FunctionKey>) -> bool
-    ensures { result ≡ arg_passes (has_id marks.now) (arg_of arg.now) }
+// The function that the argument names.
+fn arg_ref(arg: &Arg) -> Option<FunctionId>
+    ensures { option_map place result ≡ arg_ref (arg_of arg.now) }
 {
     match *arg {
-        Arg::Function(id) => marks.contains(id),
-        _ => true,
+        Arg::Function(id) => Some(id),
+        _ => None,
     }
 }
 
 // The same of the one argument, where there is just one.
-fn are_args_marked(args: &[Arg], marks: &IdHashSet<FunctionKey>) -> bool
-    ensures { result ≡ args_pass (has_id marks.now) (map arg_of args.now) }
+fn args_ref(args: &[Arg]) -> Option<FunctionId>
+    ensures { option_map place result ≡ args_ref (map arg_of args.now) }
 {
     match args {
-        [arg] => is_arg_marked(arg, marks),
-        _ => true,
+        [arg] => arg_ref(arg),
+        _ => None,
     }
 }
 
-// Whether the operator isn't `ref.func`, or names a function that is marked.
-fn is_operator_marked(operator: &Operator, marks: &IdHashSet<FunctionKey>) -> bool
-    ensures { result ≡ op_passes (has_id marks.now) (op_of operator.now) }
+// The function that the operator names, if it is `ref.func`.
+fn operator_ref(operator: &Operator) -> Option<FunctionId>
+    ensures { option_map place result ≡ op_ref (op_of operator.now) }
 {
     if operator.op != REF_FUNC {
-        return true;
+        return None;
     }
-    are_args_marked(operator.args.as_slice(), marks)
+    args_ref(operator.args.as_slice())
 }
 
-fn are_operators_marked(function: &LocalFunction, marks: &IdHashSet<FunctionKey>) -> bool
-    ensures { result ≡ list_all (op_passes (has_id marks.now)) (body_of function.now) }
+// Puts the functions that `ref.func` names in a body behind `to`, in order.
+fn push_body_refs(function: &LocalFunction, to: &mut Vec<FunctionId>) -> Result<()>
+    ensures puts { OnOk result (map place to.new.items ≡ map place to.old.items
+        ++ filter_map op_ref (body_of function.now)) }
+    ensures fails { IsOkUnless result out_of_memory }
 {
     let operators = function.operators.as_slice();
     for operator in operators {
-        if !is_operator_marked(operator, marks) {
-            return false;
+        if let Some(id) = operator_ref(operator) {
+            to.push(id)?;
         }
     }
-    true
+    Ok(())
 }
 
-fn is_kind_marked(kind: &FunctionKind, marks: &IdHashSet<FunctionKey>) -> bool
-    ensures { result ≡ kind_passes (has_id marks.now) kind.now }
+// The same for a function of this kind.
+fn push_kind_refs(kind: &FunctionKind, to: &mut Vec<FunctionId>) -> Result<()>
+    ensures puts { OnOk result (map place to.new.items ≡ map place to.old.items ++ kind_refs kind.now) }
+    ensures fails { IsOkUnless result out_of_memory }
 {
     match kind {
-        FunctionKind::Local(local) => are_operators_marked(local, marks),
-        FunctionKind::Import(_) | FunctionKind::Uninitialized(_) => true,
+        FunctionKind::Local(local) => push_body_refs(local, to),
+        FunctionKind::Import(_) | FunctionKind::Uninitialized(_) => Ok(()),
     }
 }
 
-fn are_functions_marked(funcs: &ModuleFunctions, marks: &IdHashSet<FunctionKey>) -> bool
-    ensures { result ≡ all_pass (has_id marks.now) (items (functions funcs.now)) }
+// The same for all functions.
+fn push_function_refs(funcs: &ModuleFunctions, to: &mut Vec<FunctionId>) -> Result<()>
+    ensures puts { OnOk result (map place to.new.items ≡ map place to.old.items
+        ++ function_refs (items (functions funcs.now))) }
+    ensures fails { IsOkUnless result out_of_memory }
 {
     for function in funcs.iter() {
-        if !is_kind_marked(&function.kind, marks) {
-            return false;
-        }
+        push_kind_refs(&function.kind, to)?;
     }
-    true
+    Ok(())
 }
 
-// Whether the operator of a constant expression isn't `ref.func`, or names a function that is marked.
-fn is_const_op_marked(operator: &ConstOp, marks: &IdHashSet<FunctionKey>) -> bool
-    ensures { result ≡ op_passes (has_id marks.now) (const_op operator.now) }
+// The function that the operator of a constant expression names, if it is `ref.func`.
+fn const_ref(operator: &ConstOp) -> Option<FunctionId>
+    ensures { option_map place result ≡ op_ref (const_op operator.now) }
 {
     match *operator {
-        ConstOp::RefFunc(id) => marks.contains(id),
-        _ => true,
+        ConstOp::RefFunc(id) => Some(id),
+        _ => None,
     }
 }
 
-fn are_const_ops_marked(operators: &[ConstOp], marks: &IdHashSet<FunctionKey>) -> bool
-    ensures { result ≡ list_all (op_passes (has_id marks.now)) (map const_op operators.now) }
+// Puts the functions that `ref.func` names in these operators behind `to`, in order.
+fn push_const_refs(operators: &[ConstOp], to: &mut Vec<FunctionId>) -> Result<()>
+    ensures puts { OnOk result (map place to.new.items ≡ map place to.old.items
+        ++ filter_map op_ref (map const_op operators.now)) }
+    ensures fails { IsOkUnless result out_of_memory }
 {
     for operator in operators {
-        if !is_const_op_marked(operator, marks) {
-            return false;
+        if let Some(id) = const_ref(operator) {
+            to.push(id)?;
         }
     }
-    true
+    Ok(())
 }
 
-#[tactic(auto, using(crate::proofs::ConstNames::value_passes))]
-fn is_const_marked(expr: &ConstExpr, marks: &IdHashSet<FunctionKey>) -> bool
-    ensures { result ≡ list_all (op_passes (has_id marks.now)) (const_ops expr.now) }
+// The same for a constant expression.
+#[tactic(auto, using(crate::proofs::ExportedRefs::value_refs))]
+fn push_expr_refs(expr: &ConstExpr, to: &mut Vec<FunctionId>) -> Result<()>
+    ensures puts { OnOk result (map place to.new.items ≡ map place to.old.items
+        ++ filter_map op_ref (const_ops expr.now)) }
+    ensures fails { IsOkUnless result out_of_memory }
 {
     match expr {
-        ConstExpr::RefFunc(id) => marks.contains(*id),
-        ConstExpr::Extended(operators) => are_const_ops_marked(operators.as_slice(), marks),
-        ConstExpr::Value(_) | ConstExpr::Global(_) | ConstExpr::RefNull(_) => true,
+        ConstExpr::RefFunc(id) => Ok(to.push(*id)?),
+        ConstExpr::Extended(operators) => push_const_refs(operators.as_slice(), to),
+        ConstExpr::Value(_) | ConstExpr::Global(_) | ConstExpr::RefNull(_) => Ok(()),
     }
 }
 
-fn is_initialiser_marked(kind: &GlobalKind, marks: &IdHashSet<FunctionKey>) -> bool
-    ensures { result ≡ init_passes (has_id marks.now)
-        (option_map const_ops (global_init kind.now)) }
+// The same for where a global comes from: an import, which names nothing, or its initialiser.
+fn push_initialiser_refs(kind: &GlobalKind, to: &mut Vec<FunctionId>) -> Result<()>
+    ensures puts { OnOk result (map place to.new.items ≡ map place to.old.items
+        ++ init_refs (option_map const_ops (global_init kind.now))) }
+    ensures fails { IsOkUnless result out_of_memory }
 {
     match kind {
-        GlobalKind::Import(_) => true,
-        GlobalKind::Local(initialiser) => is_const_marked(initialiser, marks),
+        GlobalKind::Import(_) => Ok(()),
+        GlobalKind::Local(initialiser) => push_expr_refs(initialiser, to),
     }
 }
 
-fn are_globals_marked(all_globals: &ModuleGlobals, marks: &IdHashSet<FunctionKey>) -> bool
-    ensures { result ≡ all_globals_pass (has_id marks.now) (items (globals all_globals.now)) }
+// The same for all globals.
+fn push_global_refs(all_globals: &ModuleGlobals, to: &mut Vec<FunctionId>) -> Result<()>
+    ensures puts { OnOk result (map place to.new.items ≡ map place to.old.items
+        ++ global_refs (items (globals all_globals.now))) }
+    ensures fails { IsOkUnless result out_of_memory }
 {
     for global in all_globals.iter() {
-        if !is_initialiser_marked(&global.kind, marks) {
-            return false;
-        }
+        push_initialiser_refs(&global.kind, to)?;
     }
-    true
+    Ok(())
 }
 
-// Whether each function that `ref.func` names in a body or in the initialiser of a global is marked.
-fn are_all_marked(parts: Parts<'_>, marks: &IdHashSet<FunctionKey>) -> bool
-    ensures { result ≡ (all_pass (has_id marks.now) (items (functions parts.entry.funcs.now))
-        && all_globals_pass (has_id marks.now) (items (globals parts.entry.globals.now))) }
+// The functions that `ref.func` names in bodies and in the initialisers of globals.
+fn named_functions(alloc: Global, parts: Parts<'_>) -> Result<Vec<FunctionId>>
+    ensures names { IfOk result (λ named. map place named.items
+        ≡ named_refs (items (functions parts.entry.funcs.now)) (items (globals parts.entry.globals.now))) }
+    ensures fails { IsOkUnless result out_of_memory }
 {
-    are_functions_marked(parts.funcs, marks) && are_globals_marked(parts.globals, marks)
+    let mut named = Vec::new(alloc);
+    push_function_refs(parts.funcs, &mut named)?;
+    push_global_refs(parts.globals, &mut named)?;
+    Ok(named)
+}
+
+// So many places, or more, so that the id's is one of them. Of more than a `usize` counts there is no memory for marks.
+fn with_place(places: usize, id: FunctionId) -> Result<usize>
+    ensures more { IfOk result (λ more. places ≤ more) }
+    ensures room { IfOk result (λ more. place id < more) }
+    ensures fails { IsOkUnless result out_of_memory }
+{
+    if id.index() < places {
+        return Ok(places);
+    }
+    match id.index().checked_add(1) {
+        Some(more) => Ok(more),
+        None => Err(Error::Memory(AllocError)),
+    }
+}
+
+// As many places as lie below the one behind the last of the ids, which needn't be live.
+fn places_for(ids: &[FunctionId]) -> Result<usize>
+    ensures room { IfOk result (λ places. (f : ℕ) → has (map place ids.now) f ≡ true → f < places) }
+    ensures fails { IsOkUnless result out_of_memory }
+{
+    let mut places = 0;
+    'ids: for id in ids {
+        places = with_place(places, *id)?;
+    }
+    Ok(places)
+}
+
+// Marks one.
+fn mark_one(marks: &mut Marks<FunctionKey>, id: FunctionId)
+    requires { place id < mark_places marks.old }
+    ensures marks { (f : ℕ) → is_marked marks.new f ≡ ((place id == f) || is_marked marks.old f) }
+    ensures places { mark_places marks.new ≡ mark_places marks.old }
+{
+    let _is_new = marks.mark(id);
+}
+
+// Marks of these ids.
+fn marks_of(alloc: Global, ids: &[FunctionId]) -> Result<Marks<FunctionKey>>
+    ensures marks { IfOk result (λ marks. (f : ℕ) → is_marked marks f ≡ has (map place ids.now) f) }
+    ensures fails { IsOkUnless result out_of_memory }
+{
+    let mut marks = Marks::new(alloc, places_for(ids)?)?;
+    'ids: for id in ids {
+        mark_one(&mut marks, *id);
+    }
+    Ok(marks)
+}
+
+// The ids that are marked and aren't in the set, by rising place.
+fn marked_without(
+    alloc: Global,
+    marks: &Marks<FunctionKey>,
+    without: &IdHashSet<FunctionKey>,
+) -> Result<Vec<FunctionId>>
+    ensures are { IfOk result (λ found. map place found.items
+        ≡ filter (λ f. not (has_id without.now f)) (places_marked marks.now)) }
+    ensures fails { IsOkUnless result out_of_memory }
+{
+    let mut found = Vec::new(alloc);
+    'ids: for id in marks.iter() {
+        if !without.contains(id) {
+            found.push(id)?;
+        }
+    }
+    Ok(found)
+}
+
+/// The functions that `ref.func` names in a body or in the initialiser of a global and that nothing exports, by rising id, those that
+/// aren't there included: segments, which can declare functions too, aren't handled so far. `Memory` is the only error.
+pub fn undeclared_functions(alloc: Global, parts: Parts<'_>) -> Result<Vec<FunctionId>>
+    ensures undeclared { IfOk result (λ ids. AreUndeclared (IsLive (parts_view parts.entry))
+        (parts_view parts.entry) (map place ids.items)) }
+    ensures fails { IsOkUnless result out_of_memory }
+{
+    let named = named_functions(alloc, parts)?;
+    let exported = exported_functions(alloc, parts.exports)?;
+    let marks = marks_of(alloc, named.as_slice())?;
+    marked_without(alloc, &marks, &exported)
 }
 
 /// Whether each function that `ref.func` names in a body or in the initialiser of a global is exported, so that nothing is
@@ -182,6 +285,5 @@ pub fn are_references_declared(alloc: Global, parts: Parts<'_>) -> Result<bool>
     ensures undeclared { IfOk result (λ declared. declared ≡ false → HasUndeclared (parts_view parts.entry)) }
     ensures fails { IsOkUnless result out_of_memory }
 {
-    let marks = exported_functions(alloc, parts.exports)?;
-    Ok(are_all_marked(parts, &marks))
+    Ok(undeclared_functions(alloc, parts)?.is_empty())
 }
