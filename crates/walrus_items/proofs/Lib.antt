@@ -1,4 +1,3 @@
-pub mod CopyLemmas
 pub mod Found
 pub mod KeepingLemmas
 pub mod SeenLemmas

@@ -1,19 +1,15 @@
 -- What a contract sees of the element segments of a module ("Structure > Modules > Element Segments").
-use Rattle.std.specs.Prelude.{◌≡◌, ℕ, ⊤, List, Option}
-use Rattle.std.specs.List.{AllZip}
+use Rattle.std.specs.Prelude.{ℕ, List, Option}
 use Rattle.walrus_base.specs.Id.{place}
 use Rattle.walrus_base.specs.declared.keys.ElementKey.{ElementKey}
-use Rattle.walrus_types.specs.ConstOps.{SameExpr}
 use Rattle.walrus_items.specs.Seen.{text_of}
 use Rattle.walrus_items.specs.Held.{held, held_left, held_entries_left}
 use Rattle.walrus_items.specs.declared.items.Items.{Items}
 use Rattle.walrus_items.specs.declared.items.ItemIter.{ItemIter}
 use Rattle.walrus_items.specs.declared.items.ItemEntries.{ItemEntries}
 use Rattle.walrus_items.specs.declared.elements.Element.{Element}
-use Rattle.walrus_items.specs.declared.elements.ElementKind.{ElementKind}
-use Rattle.walrus_items.specs.declared.elements.ElementKind.TheVariants.{Passive, Declared, Active}
-use Rattle.walrus_items.specs.declared.elements.ElementItems.{ElementItems}
-use Rattle.walrus_items.specs.declared.elements.ElementItems.TheVariants.{Functions, Expressions}
+use Rattle.walrus_parts.specs.declared.segments.ElementKind.{ElementKind}
+use Rattle.walrus_parts.specs.declared.segments.ElementItems.{ElementItems}
 
 -- the place of a segment's own id, how it is used, what it holds, and the bytes of its name
 pub record ElementValue : Type 0 where
@@ -24,19 +20,6 @@ pub record ElementValue : Type 0 where
 
 abbrev pub element_value : Element → ElementValue
 element_value e = record { id = place e.id; kind = e.kind; items = e.items; name = text_of e.name }
-
--- the same case with the same parts
-abbrev pub SameElementKind : ElementKind → ElementKind → Type 0
-SameElementKind Passive Passive = ⊤
-SameElementKind Declared Declared = ⊤
-SameElementKind (Active table offset) (Active table' offset') = (table ≡ table') × SameExpr offset offset'
-SameElementKind a b = ⊥
-
--- the same case with the same parts, in the same order
-abbrev pub SameElementItems : ElementItems → ElementItems → Type 0
-SameElementItems (Functions xs) (Functions ys) = xs.items ≡ ys.items
-SameElementItems (Expressions s xs) (Expressions t ys) = (s ≡ t) × AllZip SameExpr xs.items ys.items
-SameElementItems a b = ⊥
 
 abbrev pub ModuleElements : Type 0
 ModuleElements = Items ElementKey Element

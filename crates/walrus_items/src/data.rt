@@ -8,23 +8,8 @@ ghost use Rattle.walrus_parts.specs.Errors.{out_of_memory};
 ghost use Rattle.walrus_items.specs.Added.{IsAdded};
 
 use crate::items::{Fresh, Item, ItemEntries, ItemIter, Items, Marked};
-use walrus_base::{DataId, DataKey, MemoryId};
-use walrus_ir::ConstExpr;
-use walrus_parts::Result;
-
-/// How a data segment is used.
-#[derive(Drop)]
-pub enum DataKind {
-    /// Copied into a memory when the module is instantiated.
-    Active {
-        /// The memory.
-        memory: MemoryId,
-        /// Where in the memory it begins.
-        offset: ConstExpr,
-    },
-    /// Copied by operators alone.
-    Passive,
-}
+use walrus_base::{DataId, DataKey};
+use walrus_parts::{DataKind, Result};
 
 /// A data segment of a module.
 #[derive(Drop)]

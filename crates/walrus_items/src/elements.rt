@@ -1,93 +1,15 @@
 //! The element segments of a module ("Structure > Modules > Element Segments").
-ghost use Rattle.std.specs.Prelude.{◌≡◌, [], Some, None, IsTrue, ◌↔◌, IfOk, IsOkUnless, count_by, is_some, slice_set, OnOk, length};
+ghost use Rattle.std.specs.Prelude.{◌≡◌, [], Some, None, IsTrue, ◌↔◌, IsOkUnless, count_by, is_some, slice_set, OnOk, length};
 ghost use Rattle.std.specs.Borrow.{sem};
 ghost use Rattle.std.specs.Iterator.{YieldsFirstBy, item_count};
-ghost use Rattle.std.specs.List.{AllZip};
 ghost use Rattle.walrus_base.specs.Id.{place};
 ghost use Rattle.walrus_base.specs.Arena.{HasRoom, item_at, IsLive, items, entries, kept_by};
 ghost use Rattle.walrus_parts.specs.Errors.{out_of_memory};
-ghost use Rattle.walrus_types.specs.ConstOps.{SameExpr};
 ghost use Rattle.walrus_items.specs.Added.{IsAdded};
 
 use crate::items::{Fresh, Item, ItemEntries, ItemIter, Items, Marked};
-use std::alloc::Global;
-use walrus_base::{ElementId, ElementKey, FunctionId, TableId};
-use walrus_ir::{ConstExpr, RefType};
-use walrus_parts::Result;
-
-/// How an element segment is used.
-#[derive(Drop)]
-pub enum ElementKind {
-    /// Copied by operators alone.
-    Passive,
-    /// Never copied: it declares the functions that `ref.func` may name.
-    Declared,
-    /// Copied into a table when the module is instantiated.
-    Active {
-        /// The table.
-        table: TableId,
-        /// Where in the table it begins.
-        offset: ConstExpr,
-    },
-}
-
-impl ElementKind {
-    ghost use Rattle.walrus_items.specs.Elements.{SameElementKind};
-
-    /// An equal kind. `Memory` is the only error.
-    pub fn try_clone(&self, alloc: Global) -> Result<ElementKind>
-        ensures same { IfOk result (λ copy. SameElementKind self.now copy) }
-        ensures fails { IsOkUnless result out_of_memory }
-    {
-        match self {
-            ElementKind::Passive => Ok(ElementKind::Passive),
-            ElementKind::Declared => Ok(ElementKind::Declared),
-            ElementKind::Active { table, offset } => Ok(ElementKind::Active {
-                table: *table,
-                offset: offset.try_clone(alloc)?,
-            }),
-        }
-    }
-}
-
-/// What an element segment holds.
-#[derive(Drop)]
-pub enum ElementItems {
-    /// References to these functions.
-    Functions(Vec<FunctionId>),
-    /// The values of these expressions, each of the type.
-    Expressions(RefType, Vec<ConstExpr>),
-}
-
-// Equal expressions, in their order.
-fn copy_of_all(alloc: Global, all: &[ConstExpr]) -> Result<Vec<ConstExpr>>
-    ensures same { IfOk result (λ copy. AllZip SameExpr all.now copy.items) }
-    ensures fails { IsOkUnless result out_of_memory }
-{
-    let mut copy = Vec::new(alloc);
-    'copied: for expression in all {
-        copy.push(expression.try_clone(alloc)?)?;
-    }
-    Ok(copy)
-}
-
-impl ElementItems {
-    ghost use Rattle.walrus_items.specs.Elements.{SameElementItems};
-
-    /// Equal items. `Memory` is the only error.
-    pub fn try_clone(&self, alloc: Global) -> Result<ElementItems>
-        ensures same { IfOk result (λ copy. SameElementItems self.now copy) }
-        ensures fails { IsOkUnless result out_of_memory }
-    {
-        match self {
-            ElementItems::Functions(all) => Ok(ElementItems::Functions(all.to_vec(alloc)?)),
-            ElementItems::Expressions(ty, all) => Ok(ElementItems::Expressions(
-                *ty,
-                copy_of_all(alloc, all.as_slice())?,
-            )),
-        }
-    }
-}
+use walrus_base::{ElementId, ElementKey};
+use walrus_parts::{ElementItems, ElementKind, Result};
 
 /// An element segment of a module.
 #[derive(Drop)]

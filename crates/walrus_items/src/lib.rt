@@ -14,10 +14,8 @@ mod sets;
 mod tables;
 mod tags;
 
-pub use data::{Data, DataEntries, DataIter, DataKind, ModuleData};
-pub use elements::{
-    Element, ElementEntries, ElementItems, ElementIter, ElementKind, ModuleElements,
-};
+pub use data::{Data, DataEntries, DataIter, ModuleData};
+pub use elements::{Element, ElementEntries, ElementIter, ModuleElements};
 pub use exports::{Export, ExportEntries, ExportIter, ModuleExports};
 pub use functions::{Function, FunctionEntries, FunctionIter, LocalFunctionIter, ModuleFunctions};
 pub use globals::{Global, GlobalEntries, GlobalIter, ModuleGlobals};
@@ -27,7 +25,7 @@ pub use memories::{Memory, MemoryEntries, MemoryIter, ModuleMemories};
 pub use tables::{ModuleTables, Table, TableEntries, TableIter};
 pub use tags::{ModuleTags, Tag, TagEntries, TagIter};
 pub use walrus_parts::{
-    Arg, Error, ExportItem, FunctionKey, FunctionKind, GlobalKind, HeapType, IdHashSet, ImportKind,
-    ImportedFunction, ItemId, ItemMarks, LocalFunction, LocalId, ModuleLocals, ModuleTypes,
-    Operator, Result, TagKind, TypeId, ValType,
+    Arg, DataKind, ElementItems, ElementKind, Error, ExportItem, FunctionKey, FunctionKind,
+    GlobalKind, HeapType, IdHashSet, ImportKind, ImportedFunction, ItemId, ItemMarks,
+    LocalFunction, LocalId, ModuleLocals, ModuleTypes, Operator, Result, TagKind, TypeId, ValType,
 };

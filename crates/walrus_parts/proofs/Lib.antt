@@ -1,1 +1,2 @@
+pub mod CopyLemmas
 pub mod ItemLemmas

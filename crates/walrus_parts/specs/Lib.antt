@@ -7,4 +7,5 @@ pub mod LendsKind
 pub mod Marks
 pub mod Roots
 pub mod Section
+pub mod Segments
 pub mod Transform

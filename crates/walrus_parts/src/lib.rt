@@ -9,6 +9,7 @@ mod law;
 mod marks;
 mod raw_section;
 mod roots;
+mod segments;
 mod transform;
 
 pub use custom::CustomSection;
@@ -22,6 +23,7 @@ pub use law::{
 pub use marks::ItemMarks;
 pub use raw_section::RawCustomSection;
 pub use roots::Roots;
+pub use segments::{DataKind, ElementItems, ElementKind};
 pub use transform::CodeTransform;
 pub use walrus_ir::{
     AbstractHeapType, ArenaIter, Arg, Args, ArrayType, BlockType, CompositeType, ConstExpr,

@@ -1,7 +1,7 @@
 use Rattle.std.proofs.Common.{take}
 use Rattle.std.specs.List.{AllZip}
 use Rattle.walrus_types.specs.ConstOps.{SameExpr}
-use Rattle.walrus_items.proofs.elements.copy_of_all.Given as goal
+use Rattle.walrus_parts.proofs.segments.copy_of_all.Given as goal
 
 -- the copies so far are those of the expressions so far
 abbrev pub invariant-copied : goal.invariant-copied

@@ -1,8 +1,8 @@
 use Rattle.std.proofs.Common.{sym, subst, ◌+◌, take}
 use Rattle.std.specs.List.{AllZip}
 use Rattle.walrus_types.specs.ConstOps.{SameExpr}
-use Rattle.walrus_items.proofs.CopyLemmas.{zip_turn}
-use Rattle.walrus_items.proofs.elements.copy_of_all.Goals as goal
+use Rattle.walrus_parts.proofs.CopyLemmas.{zip_turn}
+use Rattle.walrus_parts.proofs.segments.copy_of_all.Goals as goal
 
 pub copied-preserved : goal.copied-preserved
 copied-preserved c =
