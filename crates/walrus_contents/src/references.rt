@@ -22,10 +22,10 @@ ghost use Rattle.walrus_contents.specs.View.{parts_view};
 
 use crate::parts::Parts;
 use std::alloc::{AllocError, Global};
-use walrus_base::Marks;
+use walrus_base::{FunctionId, Marks};
 use walrus_items::{
-    Arg, Error, ExportItem, FunctionId, FunctionKey, FunctionKind, GlobalKind, IdHashSet,
-    LocalFunction, ModuleExports, ModuleFunctions, ModuleGlobals, Operator, Result,
+    Arg, Error, ExportItem, FunctionKey, FunctionKind, GlobalKind, IdHashSet, LocalFunction,
+    ModuleExports, ModuleFunctions, ModuleGlobals, Operator, Result,
 };
 use walrus_types::{ConstExpr, ConstOp};
 use wasm_opcodes::one_byte::REF_FUNC;
