@@ -5,7 +5,7 @@ use Rattle.std.proofs.lemmas.Bool.{false≢true}
 use Rattle.std.proofs.lemmas.Option.{none-some}
 use Rattle.std.proofs.lemmas.List.Elements.{Contains-append_left, Contains-append_right, Contains-append_cases}
 use Rattle.walrus_base.specs.Arena.{items}
-use Rattle.walrus_types.specs.Operators.{Types, Functions, Tables, Memories, Tags, Globals, Elements, DataSegments, Item, type_item}
+use Rattle.walrus_types.specs.Operators.{Types, Functions, Tables, Memories, Tags, Globals, Elements, DataSegments, Item, function_item, type_item}
 use Rattle.walrus_parts.specs.Kinds.{exported}
 use Rattle.walrus_items.specs.Exports.{ExportValue, exports}
 use Rattle.walrus_model.specs.Abstract as abstract
@@ -24,8 +24,9 @@ use Rattle.walrus_base.specs.Marks.{is_marked}
 use Rattle.walrus_base.specs.declared.marks.Marks.{Marks}
 use Rattle.walrus_base.specs.declared.set.IdHashSet.{IdHashSet}
 use Rattle.walrus.specs.Marked.{HoldsMarked, MarksAreKept, MarksKept, ReachesSound, ReachesUnsound}
-use Rattle.walrus_contents.specs.Named.{export_names, group_names, kept_types, own_names, own_written}
+use Rattle.walrus_contents.specs.Named.{export_names, group_names, kept_types, own_names, own_written, root_names, start_names}
 use Rattle.walrus_contents.proofs.Groups.{own_is_written, written_split}
+use Rattle.walrus_contents.proofs.RootNames.{named_start, start_named}
 use Rattle.walrus.specs.Used.{Followed, IsRefusal}
 use Rattle.walrus.specs.declared.passes.marks.MarkedItems.{MarkedItems}
 use Rattle.walrus.specs.declared.passes.used.Used.{Used}
@@ -65,24 +66,31 @@ module _ (held : Contents) where
   refers_split x y (inl c) = ⊎_elim (λ g. inl g) (λ h. inr (Contains-append_left (own_written v x) (kept_types v x) y h)) (written_split v x y c)
   refers_split x y (inr too) = inr (Contains-append_right (own_written v x) (kept_types v x) y (kept_too x y too))
 
-  -- ---- the roots are what the exports name
+  -- ---- the roots are what the exports name, and the start function
 
-  root_named : (x : Item) → IsRoot v x → Contains (export_names held.exports) x
+  root_named : (x : Item) → IsRoot v x → Contains (root_names held) x
   root_named x (is_exported e at is) =
       let from = Contains-unmap export_of (items (exports held.exports)) e at in
       let same : exported from.0.item ≡ x = ap (λ (y : abstract.Export). y.item) from.2 ∙ sym is in
-      subst (λ (y : Item). Contains (export_names held.exports) y) same (Contains-map (λ (y : ExportValue). exported y.item) from.0 (items (exports held.exports)) from.1)
-  root_named x (start f at is) = absurd (none-some f at)
+      subst (λ (y : Item). Contains (root_names held) y) same
+      (Contains-append_left (export_names held.exports) (start_names held.start) _ (Contains-map (λ (y : ExportValue). exported y.item) from.0 (items (exports held.exports)) from.1))
+  root_named x (start f at is) = subst (λ (y : Item). Contains (root_names held) y) (sym is) (Contains-append_right (export_names held.exports) (start_names held.start) (function_item f) (start_named held.start f at))
   root_named x (data_segment i d at kind is) = absurd (none-some d at)
   root_named x (element_segment i e at kind is) = absurd (none-some e at)
   root_named x (asked_for at) = absurd (Contains-none x at)
 
-  named_root : (x : Item) → Contains (export_names held.exports) x → IsRoot v x
-  named_root x c =
+  export_root : (x : Item) → Contains (export_names held.exports) x → IsRoot v x
+  export_root x c =
       let from = Contains-unmap (λ (e : ExportValue). exported e.item) (items (exports held.exports)) x c in
       is_exported (export_of from.0) (Contains-map export_of from.0 (items (exports held.exports)) from.1) (sym from.2)
 
-  pub roots_are : (x : Item) → IsRoot v x ↔ Contains (export_names held.exports) x
+  start_root : (x : Item) → Contains (start_names held.start) x → IsRoot v x
+  start_root x c = let from = named_start held.start x c in start from.0 from.1 from.2
+
+  named_root : (x : Item) → Contains (root_names held) x → IsRoot v x
+  named_root x c = ⊎_elim (export_root x) (start_root x) (Contains-append_cases (export_names held.exports) (start_names held.start) x c)
+
+  pub roots_are : (x : Item) → IsRoot v x ↔ Contains (root_names held) x
   roots_are x = (root_named x, named_root x)
 
   -- ---- the clauses of the search

@@ -11,3 +11,4 @@ pub mod Named
 pub mod NamedFound
 pub mod ConstNames
 pub mod Groups
+pub mod RootNames

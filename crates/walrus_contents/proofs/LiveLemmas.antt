@@ -1,6 +1,7 @@
 -- Where each item is whole, and what is exported is there, nothing that is named is missing; and where nothing is, all is there.
 use Rattle.std.proofs.Common.{◌≡◌, ℕ, ◌<◌, ◌+◌, List, ◌∷◌, length, map, take, get_or, Some, None, sym, ap, ◌∙◌, subst, refl, ⊎_elim}
 use Rattle.std.proofs.lemmas.Bool.{false≢true}
+use Rattle.std.proofs.lemmas.List.Elements.{Contains-append_cases, Contains-append_left, Contains-append_right}
 use Rattle.std.specs.Prelude.{Option, IsSome, Contains, option_map, Result, MatchResult}
 use Rattle.walrus_base.specs.Arena.{item_at, items}
 use Rattle.walrus_types.specs.Operators.{Space, Types, Functions, Tables, Memories, Tags, Globals, Elements, DataSegments, Item}
@@ -17,7 +18,7 @@ use Rattle.walrus_model.specs.Refers.{named_by, written_in, type_names, function
 use Rattle.walrus_model.proofs.Lists.{Contains-map, Contains-none}
 use Rattle.walrus_model.proofs.Reach.{Contains-unmap}
 use Rattle.walrus_parts.specs.declared.error.Error.{Error}
-use Rattle.walrus_contents.specs.Named.{export_names, own_written}
+use Rattle.walrus_contents.specs.Named.{export_names, own_written, root_names, start_names}
 use Rattle.walrus_contents.specs.There.{AreLive, AreWhole, ImportsAreLive, IsRefusal, IsSound, IsThere, IsUnsound, IsWhole, NoBody, NoLocal, OneIsDead}
 use Rattle.walrus_items.specs.Imports.{ImportValue}
 use Rattle.walrus_contents.specs.View.{contents_view, export_of, import_of}
@@ -25,6 +26,7 @@ use Rattle.walrus_contents.specs.declared.parts.Contents.{Contents}
 use Rattle.walrus_contents.proofs.Groups.{GroupsAreWhole, own_is_written, written_split}
 use Rattle.walrus_contents.proofs.Lookups.{mapped_some}
 use Rattle.walrus_contents.proofs.NamedLemmas.{among, result_map, row_more, same_some, some_none}
+use Rattle.walrus_contents.proofs.RootNames.{named_start, start_named}
 use Rattle.walrus_contents.proofs.Walked.{Walked, next_there, walk_goes}
 
 -- what something is written in is there
@@ -41,6 +43,10 @@ written_is_live v (Tags, i) y at = live_where tag_names (v.tags i) y at
 written_is_live v (Globals, i) y at = live_where global_names (v.globals i) y at
 written_is_live v (Elements, i) y at = live_where element_names (v.elements i) y at
 written_is_live v (DataSegments, i) y at = live_where data_names (v.data_segments i) y at
+
+none_where : {X : Type 0} (o : Option X) → (IsSome o → ⊥) → o ≡ None
+none_where (Some x) h = absurd (h refl)
+none_where None h = refl
 
 -- ---- bodies
 
@@ -111,14 +117,22 @@ module _ (c : Contents) where
   abbrev V : Abstract
   V = contents_view c
 
-  pub exports_dead : OneIsDead V (export_names c.exports) → HasDead V
-  exports_dead dead =
-      let from = Contains-unmap (λ (e : ExportValue). exported e.item) (items (exports c.exports)) dead.0 dead.1.0 in
-      DeadExport (export_of from.0) (Contains-map export_of from.0 (items (exports c.exports)) from.1) (λ live. dead.1.1 (subst (λ (y : Item). IsLive V y) from.2 live))
+  exports_dead : (x : Item) → Contains (export_names c.exports) x → (IsLive V x → ⊥) → HasDead V
+  exports_dead x at dead =
+      let from = Contains-unmap (λ (e : ExportValue). exported e.item) (items (exports c.exports)) x at in
+      DeadExport (export_of from.0) (Contains-map export_of from.0 (items (exports c.exports)) from.1) (λ live. dead (subst (λ (y : Item). IsLive V y) from.2 live))
+
+  start_dead : (x : Item) → Contains (start_names c.start) x → (IsLive V x → ⊥) → HasDead V
+  start_dead x at dead =
+      let from = named_start c.start x at in
+      DeadStart from.0 from.1 (none_where (V.functions from.0) (λ live. dead (subst (λ (y : Item). IsLive V y) (sym from.2) live)))
+
+  pub roots_dead : OneIsDead V (root_names c) → HasDead V
+  roots_dead dead = ⊎_elim (λ h. exports_dead dead.0 h dead.1.1) (λ h. start_dead dead.0 h dead.1.1) (Contains-append_cases (export_names c.exports) (start_names c.start) dead.0 dead.1.0)
 
   -- what the check has found before it comes to the functions
   pub record Checked : Type 0 where
-    pub exports : AreLive V (export_names c.exports)
+    pub roots : AreLive V (root_names c)
     pub imports : ImportsAreLive V
     pub types : AreWhole V Types
     pub tables : AreWhole V Tables
@@ -144,8 +158,9 @@ module _ (c : Contents) where
           (fs i (subst (λ (o : Option abstract.Function). IsSome o) (sym at.1) refl)).sound.locals i at.0 b x refl at.1 at.2 used;
       exports = λ x at.
           let from = Contains-unmap export_of (items (exports c.exports)) x at in
-          subst (λ (y : abstract.Export). IsLive V y.item) from.2 (k.exports (exported from.0.item) (Contains-map (λ (y : ExportValue). exported y.item) from.0 (items (exports c.exports)) from.1));
+          subst (λ (y : abstract.Export). IsLive V y.item) from.2 (k.roots (exported from.0.item) (Contains-append_left (export_names c.exports) (start_names c.start) _ (Contains-map (λ (y : ExportValue). exported y.item) from.0 (items (exports c.exports)) from.1)));
       imports = k.imports;
+      start = λ f is. k.roots (Functions, f) (Contains-append_right (export_names c.exports) (start_names c.start) (Functions, f) (start_named c.start f is));
       initialised = λ i g at. (fs i (subst (λ (o : Option abstract.Function). IsSome o) (sym at) refl)).sound.initialised i g refl at;
     }
 
@@ -153,7 +168,7 @@ module _ (c : Contents) where
   there_dead h (DeadName x y at dead) = dead (h.written x y at)
   there_dead h (DeadLocal f x b is used none) = some_none (b.local_type x) (h.locals f b x is used) none
   there_dead h (DeadExport e at dead) = dead (h.exports e at)
-  there_dead h (DeadStart f is none) = absurd cc
+  there_dead h (DeadStart f is none) = some_none (V.functions f) (h.start f is) none
   there_dead h (DeadImport i x at dead) = dead (h.imports i x at)
   there_dead h (NoKind i f at none) = h.initialised i f at none
 

@@ -1,10 +1,14 @@
 -- What an item of a module in memory names, and what has to be there so that it can be told.
 use Rattle.std.specs.Prelude.{◌≡◌, ℕ, List, [], ◌++◌, map, Option, None, IsSome, Contains, ⊤}
 use Rattle.std.specs.Global.{Vec}
+use Rattle.std.specs.Option.{option_to_list}
 use Rattle.walrus_base.specs.Arena.{item_at, items}
+use Rattle.walrus_base.specs.Id.{place}
 use Rattle.walrus_base.specs.Types.{ValType, sub_names, val_names}
+use Rattle.walrus_base.specs.declared.id.Id.{Id}
+use Rattle.walrus_base.specs.declared.keys.FunctionKey.{FunctionKey}
 use Rattle.walrus_types.specs.Locals.{locals}
-use Rattle.walrus_types.specs.Operators.{Types, Functions, Tables, Memories, Tags, Globals, Elements, DataSegments, Item, type_item, locals_of}
+use Rattle.walrus_types.specs.Operators.{Types, Functions, Tables, Memories, Tags, Globals, Elements, DataSegments, Item, function_item, type_item, locals_of}
 use Rattle.walrus_types.specs.declared.locals.ModuleLocals.{ModuleLocals}
 use Rattle.walrus_code.specs.Code.{item_of}
 use Rattle.walrus_code.specs.Function.{body_of}
@@ -16,6 +20,7 @@ use Rattle.walrus_parts.specs.declared.function_kind.FunctionKind.{FunctionKind}
 use Rattle.walrus_parts.specs.declared.function_kind.FunctionKind.TheVariants.{Import, Local, Uninitialized}
 use Rattle.walrus_model.specs.Abstract.{Abstract, TypeDef}
 use Rattle.walrus_model.specs.Refers.{named_by, written_in}
+use Rattle.walrus_contents.specs.declared.parts.Contents.{Contents}
 
 -- the items of the ids, in order
 abbrev pub items_in : Vec ItemId → List Item
@@ -73,6 +78,14 @@ all_names m x = written_in m x ++ kept_types m x
 -- what the exports name
 abbrev pub export_names : ModuleExports → List Item
 export_names all = map (λ e. exported e.item) (items (exports all))
+
+-- what the start function is, if there is one
+abbrev pub start_names : Option (Id FunctionKey) → List Item
+start_names start = map (λ f. function_item (place f)) (option_to_list start)
+
+-- the roots: what the exports name, and then the start function
+abbrev pub root_names : Contents → List Item
+root_names c = export_names c.exports ++ start_names c.start
 
 -- the type of the local at a place, if one is there
 abbrev pub type_at : ModuleLocals → ℕ → Option (ValType ℕ)

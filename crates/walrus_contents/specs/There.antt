@@ -13,12 +13,18 @@ use Rattle.walrus_parts.specs.declared.error.Error.TheVariants.{Memory, DeadItem
 abbrev pub ImportsAreLive : Abstract → Type 0
 ImportsAreLive v = (i : ℕ) (x : Import) → v.imports i ≡ Some x → IsLive v x.item
 
--- what items, imports and exports name is there, the locals that bodies use among it, and each function has an import or a body
+-- the start function is there
+abbrev pub StartIsLive : Abstract → Type 0
+StartIsLive v = (f : ℕ) → v.start ≡ Some f → IsSome (v.functions f)
+
+-- what items, imports and exports name is there, the locals that bodies use and the start function among it, and each function has an import
+-- or a body
 pub record IsThere (v : Abstract) : Type 0 where
   pub written : NamesAreLive v
   pub locals : (i : ℕ) (b : Body) (x : ℕ) → body_of v i ≡ Some b → IsUsed b x → IsSome (b.local_type x)
   pub exports : (e : Export) → Contains v.exports e → IsLive v e.item
   pub imports : ImportsAreLive v
+  pub start : StartIsLive v
   pub initialised : (i : ℕ) (f : Function) → v.functions i ≡ Some f → f.kind ≢ Uninitialised
 
 -- ---- item by item

@@ -1,5 +1,5 @@
 -- The parts of a module in memory as an abstract module: the number of an item is the place of its id. What isn't kept so far is absent:
--- segments, and so that a table or a memory holds one, a start function, custom sections, names.
+-- segments, and so that a table or a memory holds one, custom sections, names.
 use Rattle.std.specs.Prelude.{ℕ, Bool, false, ◌&&◌, not, List, [], map, filter, length, Option, Some, None, option_map, ◌≡◌}
 use Rattle.std.specs.List.{range_with_len}
 use Rattle.walrus_base.specs.Arena.{item_at, items}
@@ -137,6 +137,7 @@ lent p = record {
   tags = p.tags.now;
   globals = p.globals.now;
   exports = p.exports.now;
+  start = p.start;
   producers = p.producers.now;
 }
 
@@ -153,7 +154,7 @@ contents_view c = record {
   elements = λ i. None;
   data_segments = λ i. None;
   exports = exports_of c.exports;
-  start = None;
+  start = option_map place c.start;
   customs = [];
   producers = producers c.producers;
   named = λ x. [];
@@ -187,4 +188,5 @@ pub record HoldsNothing (c : Contents) : Type 0 where
   pub tags : tags c.tags ≡ []
   pub globals : globals c.globals ≡ []
   pub exports : exports c.exports ≡ []
+  pub start : c.start ≡ None
   pub producers : producers c.producers ≡ []

@@ -8,19 +8,19 @@ ghost use Rattle.walrus_types.specs.Operators.{Functions, Globals, Tables, Tags,
 ghost use Rattle.walrus_contents.specs.There.{AreLive, AreWhole, ImportsAreLive, IsRefusal, IsWhole, OneIsDead};
 ghost use Rattle.walrus_contents.specs.View.{parts_view};
 
-use crate::names::{push_export_names, push_written_names};
+use crate::names::{push_root_names, push_written_names};
 use crate::parts::{Parts, is_live};
 use std::alloc::Global;
 use walrus_items::{Error, ImportKind, ItemId, Result};
 
 /// Checks that each function has an import or a body, and that all that items, imports and exports name is there, the locals of
-/// bodies among it. Refused with `DeadItem` exactly where one of these isn't so, and with `Memory`.
+/// bodies and the start function among it. Refused with `DeadItem` exactly where one of these isn't so, and with `Memory`.
 pub fn check_live(alloc: Global, parts: Parts<'_>) -> Result<()>
     ensures { MatchResult result (λ _. HasDead (parts_view parts.entry) → ⊥)
         (IsRefusal (HasDead (parts_view parts.entry))) }
 {
     let mut named = Vec::new(alloc);
-    push_export_names(parts.exports, &mut named)?;
+    push_root_names(parts, &mut named)?;
     check_all(parts, named.as_slice())?;
     check_imports(parts)?;
     check_types(alloc, parts, &mut named)?;

@@ -9,24 +9,45 @@ ghost use Rattle.walrus_code.specs.Function.{body_of};
 ghost use Rattle.walrus_items.specs.Functions.{function_value};
 ghost use Rattle.walrus_model.specs.Live.{IsLive};
 ghost use Rattle.walrus_model.specs.Refers.{body_names, function_names, kind_names, named_by};
-ghost use Rattle.walrus_contents.specs.View.{body, function as function_of, kind_handlers, kind_of, parts_view, types_of};
+ghost use Rattle.walrus_contents.specs.View.{body, function as function_of, kind_handlers, kind_of, lent, parts_view, types_of};
 ghost use Rattle.walrus_types.specs.ModuleTypes.{type_slots};
 ghost use Rattle.walrus_types.specs.Operators.{locals_of, names_of, type_item};
 ghost use Rattle.walrus_types.specs.Value.{heap_type, val_type};
 ghost use Rattle.walrus_contents.specs.There.{IsRefusal, IsSound, IsUnsound};
-ghost use Rattle.walrus_contents.specs.Named.{AreThere, IsReady, IsUnready, OneIsMissing, Puts, export_names, kept_types, local_type_names, own_names, own_type_names, own_written, type_at};
+ghost use Rattle.walrus_contents.specs.Named.{AreThere, IsReady, IsUnready, OneIsMissing, Puts, export_names, kept_types, local_type_names, own_names, own_type_names, own_written, root_names, start_names, type_at};
 
 use crate::initialisers::{push_global_names, push_table_names, push_tag_names};
 use crate::parts::Parts;
 use std::alloc::{AllocError, Global};
 use std::result;
 use walrus_items::{
-    Error, Function, FunctionKind, HeapType, ItemId, LocalFunction, LocalId, ModuleExports,
+    Error, Function, FunctionId, FunctionKind, HeapType, ItemId, LocalFunction, LocalId, ModuleExports,
     ModuleFunctions, ModuleLocals, ModuleTypes, Result, TypeId, ValType,
 };
 
-/// Puts what the exports name behind `to`, in order.
-pub fn push_export_names(
+/// Puts the roots behind `to`: what the exports name, in order, and then the start function.
+pub fn push_root_names(parts: Parts<'_>, to: &mut Vec<ItemId>) -> result::Result<(), AllocError>
+    ensures { OnOk result (Puts to.old to.new (root_names (lent parts.entry))) }
+{
+    push_export_names(parts.exports, to)?;
+    push_start_name(parts.start, to)
+}
+
+// The same for the start function, if there is one.
+fn push_start_name(
+    start: Option<FunctionId>,
+    to: &mut Vec<ItemId>,
+) -> result::Result<(), AllocError>
+    ensures { OnOk result (Puts to.old to.new (start_names start)) }
+{
+    match start {
+        Some(id) => Ok(to.push(ItemId::Function(id))?),
+        None => Ok(()),
+    }
+}
+
+// The same for what the exports name.
+fn push_export_names(
     exports: &ModuleExports,
     to: &mut Vec<ItemId>,
 ) -> result::Result<(), AllocError>

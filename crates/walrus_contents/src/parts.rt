@@ -7,7 +7,7 @@ ghost use Rattle.walrus_contents.specs.View.{HoldsNothing, contents_view, parts_
 
 use std::alloc::Global;
 use walrus_items::{
-    ItemId, ModuleExports, ModuleFunctions, ModuleGlobals, ModuleImports, ModuleLocals,
+    FunctionId, ItemId, ModuleExports, ModuleFunctions, ModuleGlobals, ModuleImports, ModuleLocals,
     ModuleMemories, ModuleTables, ModuleTags, ModuleTypes, Result,
 };
 use walrus_producers::ModuleProducers;
@@ -33,6 +33,8 @@ pub struct Parts<'a> {
     pub globals: &'a ModuleGlobals,
     /// The exports.
     pub exports: &'a ModuleExports,
+    /// The start function, if there is one.
+    pub start: Option<FunctionId>,
     /// The producers.
     pub producers: &'a ModuleProducers,
 }
@@ -58,6 +60,8 @@ pub struct Contents {
     pub globals: ModuleGlobals,
     /// The exports.
     pub exports: ModuleExports,
+    /// The start function, if there is one.
+    pub start: Option<FunctionId>,
     /// The producers.
     pub producers: ModuleProducers,
 }
@@ -78,6 +82,7 @@ impl Contents {
             tags: ModuleTags::new(alloc)?,
             globals: ModuleGlobals::new(alloc),
             exports: ModuleExports::new(alloc),
+            start: None,
             producers: ModuleProducers::new(alloc),
         })
     }
@@ -96,6 +101,7 @@ impl Contents {
             tags: &self.tags,
             globals: &self.globals,
             exports: &self.exports,
+            start: self.start,
             producers: &self.producers,
         }
     }

@@ -7,3 +7,5 @@ mod edited;
 mod imported;
 #[cfg(test)]
 mod parts;
+#[cfg(test)]
+mod start;

@@ -20,6 +20,7 @@ module _ {V : Type 0} {O : V → Type 0} where
     tags = m.tags;
     globals = m.globals;
     exports = m.exports;
+    start = m.start;
     producers = m.producers;
   }
 

@@ -47,6 +47,7 @@ impl Module {
             tags: &self.tags,
             globals: &self.globals,
             exports: &self.exports,
+            start: self.start,
             producers: &self.producers,
         }
     }

@@ -8,7 +8,7 @@ use crate::customs::ModuleCustomSections;
 use crate::entry::SectionEntry;
 use std::alloc::Global;
 use walrus_contents::Contents;
-use walrus_ir::{ModuleLocals, ModuleTypes};
+use walrus_ir::{FunctionId, ModuleLocals, ModuleTypes};
 use walrus_items::{
     ModuleExports, ModuleFunctions, ModuleGlobals, ModuleImports, ModuleMemories, ModuleTables,
     ModuleTags,
@@ -37,6 +37,8 @@ pub struct Module {
     pub memories: ModuleMemories,
     /// The tags.
     pub tags: ModuleTags,
+    /// The start function, if there is one.
+    pub start: Option<FunctionId>,
     /// The producers. They are kept and not written so far.
     pub producers: ModuleProducers,
     /// The custom sections.
@@ -74,6 +76,7 @@ impl Module {
             globals: contents.globals,
             locals: contents.locals,
             exports: contents.exports,
+            start: contents.start,
             memories: contents.memories,
             tags: contents.tags,
             producers: contents.producers,

@@ -52,7 +52,7 @@ use Rattle.walrus_reading.proofs.AllHeld.{Fits, all_fit}
 use Rattle.walrus_reading.proofs.Held.{HeldBody, HeldFunction, exported}
 use Rattle.walrus_model.proofs.Supported.{supported}
 use Rattle.walrus_contents.specs.View.{body, kind_of, kind_handlers, handlers_at, function, contents_view, global_of, import_of as import_of_value, memory_of, table_of, tag_of}
-use Rattle.walrus_model.proofs.PipelineSame.{global_stays, import_stays, memory_stays, table_stays, tag_stays}
+use Rattle.walrus_model.proofs.PipelineSame.{global_stays, import_stays, memory_stays, start_stays, table_stays, tag_stays}
 use Rattle.walrus_reading.specs.Held.{HoldsGlobal, HoldsImport, HoldsMemory, HoldsTable, HoldsTag}
 use Rattle.walrus_reading.specs.Placed.{AllPlaced}
 use Rattle.walrus_items.specs.Imports.{imports}
@@ -468,7 +468,7 @@ module _ (c : Features) (r : wire.Module) (x : Contents) (many : length r.bodies
       imports_apart = λ i j k l e. e;
       apart = λ space no i j k l e. e;
       exports = exported c (supported r) x h ∙ sym (map-itself (renamed_export (moving moved)) _ (λ e. refl));
-      start = refl;
+      start = h.start ∙ sym (start_stays (moving moved) (λ s n. refl) (λ n. refl) r.start);
     };
     bodies = whole_bodies;
     in_place = λ y. refl;

@@ -1,6 +1,6 @@
 -- Where each item has the place of its index, what the rules on indices hold of looks up to itself.
 use Rattle.std.proofs.Common.{◌≡◌, ℕ, ◌+◌, ◌<◌, ◌≤◌, List, [], ◌∷◌, map, length, get_or, Option, Some, None, refl, ap, ap₂, arith}
-use Rattle.std.specs.Prelude.{option_map}
+use Rattle.std.specs.Prelude.{option_and_then, option_map}
 use Rattle.std.proofs.lemmas.List.Elements.{All-head, All-tail}
 use Rattle.wasm_forms.specs.Reading.{◌>>=◌}
 use Rattle.wasm_forms.specs.declared.types.RawHeap.{RawHeap}
@@ -16,7 +16,7 @@ use Rattle.wasm_entries.specs.declared.record.RawExportKind.{RawExportKind}
 use Rattle.wasm_entries.specs.declared.record.RawExportKind.TheVariants as kinds
 use Rattle.wasm_entries.specs.Record as entries
 use Rattle.wasm_frames.specs.Record as wire
-use Rattle.wasm_wire.specs.Indices.{HeapHolds, ValueHolds, ConstHolds, ExpressionHolds, InitialHolds, TableHolds, GlobalHolds, DescHolds, IndicesHold, count_of, with_globals}
+use Rattle.wasm_wire.specs.Indices.{HeapHolds, ValueHolds, ConstHolds, ExpressionHolds, InitialHolds, TableHolds, GlobalHolds, DescHolds, IndicesHold, StartExists, count_of, with_globals}
 use Rattle.wasm_wire.specs.declared.rules.counts.Counts.{Counts}
 use Rattle.walrus_base.specs.Types.{HeapType, Concrete, RefType, ValType, Ref}
 use Rattle.walrus_types.specs.Operators.{Space, Types, Functions, Globals, Arg, Index, Number, Byte, Heap, Op}
@@ -130,6 +130,10 @@ module _ (names : Lookup) where
     kind_stays kinds.Global n lt = a.globals n lt
     kind_stays kinds.Tag n lt = a.tags n lt
 
+    start_stays : (start : Option ℕ) → StartExists c start → option_and_then (names Functions) start ≡ start
+    start_stays None h = refl
+    start_stays (Some f) lt = a.functions f lt
+
     pub all_stay : (m : wire.Module) → c.imported_globals + length m.globals ≡ c.globals → IndicesHold c m → AllStay names m
     all_stay m count h = record {
       imports = λ i d lt. desc_stays c.types a.types (get_or m.imports i d).desc (h.imports i d lt);
@@ -138,4 +142,5 @@ module _ (names : Lookup) where
       tags = λ i d lt. a.types (get_or m.tags i d) (h.tags i d lt);
       globals = λ i d lt. global_stays (c.imported_globals + i) (get_or m.globals i d) (omega (arith, count, lt)) (h.globals i d lt);
       exports = λ i d lt. kind_stays (get_or m.exports i d).kind (get_or m.exports i d).index (h.exports i d lt);
+      start = start_stays m.start h.start;
     }

@@ -35,13 +35,11 @@ none (Some x) e = cc
 
 pub supported_from_test : (m : wire.Module) → holds_supported m ≡ true → IsSupported m
 supported_from_test m e =
-    let customs_none = both_pass (is_none m.start && is_empty m.elements && is_none m.data_count && is_empty m.data_segments) (is_empty m.customs) e in
-    let data_segments_none = both_pass (is_none m.start && is_empty m.elements && is_none m.data_count) (is_empty m.data_segments) customs_none.0 in
-    let data_count_none = both_pass (is_none m.start && is_empty m.elements) (is_none m.data_count) data_segments_none.0 in
-    let elements_none = both_pass (is_none m.start) (is_empty m.elements) data_count_none.0 in
+    let customs_none = both_pass (is_empty m.elements && is_none m.data_count && is_empty m.data_segments) (is_empty m.customs) e in
+    let data_segments_none = both_pass (is_empty m.elements && is_none m.data_count) (is_empty m.data_segments) customs_none.0 in
+    let data_count_none = both_pass (is_empty m.elements) (is_none m.data_count) data_segments_none.0 in
     record {
-      start = absent m.start elements_none.0;
-      elements = nothing m.elements elements_none.1;
+      elements = nothing m.elements data_count_none.0;
       data_count = absent m.data_count data_count_none.1;
       data_segments = nothing m.data_segments data_segments_none.1;
       customs = nothing m.customs customs_none.1;
@@ -49,4 +47,4 @@ supported_from_test m e =
 
 pub test_from_supported : (m : wire.Module) → IsSupported m → holds_supported m ≡ true
 test_from_supported m h =
-    pass_both _ _ (pass_both _ _ (pass_both _ _ (pass_both _ _ (none m.start h.start) (empty m.elements h.elements)) (none m.data_count h.data_count)) (empty m.data_segments h.data_segments)) (empty m.customs h.customs)
+    pass_both _ _ (pass_both _ _ (pass_both _ _ (empty m.elements h.elements) (none m.data_count h.data_count)) (empty m.data_segments h.data_segments)) (empty m.customs h.customs)

@@ -1,7 +1,8 @@
 -- The fields of a module that took in all sections.
 use Rattle.std.proofs.Common.{◌≡◌, ℕ, true, List, [], length, map, get_or, sym, ap, subst, ◌∙◌}
-use Rattle.std.specs.Prelude.{Option, Some, None, Result, Err, All, flat_map, zip}
+use Rattle.std.specs.Prelude.{Option, Some, None, Result, Err, All, flat_map, option_map, zip}
 use Rattle.walrus_base.specs.Arena.{item_at}
+use Rattle.walrus_base.specs.Id.{place}
 use Rattle.walrus_types.specs.ModuleTypes.{type_names, type_slots}
 use Rattle.walrus_types.specs.declared.locals.ModuleLocals.{ModuleLocals}
 use Rattle.walrus_types.specs.declared.module_types.ModuleTypes.{ModuleTypes}
@@ -65,8 +66,8 @@ module _ (c : Features) (r : wire.Module) (m b : Contents) (held : HoldsImports 
       → AreTaken (context_with c r) (types_of r) (zip r.functions r.bodies) (locals m.locals) (functions b.funcs) (functions m.funcs)
       → imports m.imports ≡ imports b.imports → AddsPlaced HoldsTable (map table_of r.tables) (tables b.tables) (tables m.tables) → AddsPlaced HoldsMemory (map memory_of r.memories) (memories b.memories) (memories m.memories)
       → AddsPlaced HoldsTag (map tag_of r.tags) (tags b.tags) (tags m.tags) → AddsPlaced HoldsGlobal (map global_of r.globals) (globals b.globals) (globals m.globals) → AllPlaced HoldsExport 0 r.exports (exports m.exports)
-      → HasTaken c r m
-  sections_taken many typed unnamed taken same_imports with_tables with_memories with_tags with_globals exported =
+      → option_map place m.start ≡ r.start → HasTaken c r m
+  sections_taken many typed unnamed taken same_imports with_tables with_memories with_tags with_globals exported started =
       let s = saids_of (context_with c r) (types_of r) r.functions r.bodies taken.said many taken.read in
       record {
         bodies = s.0;
@@ -80,6 +81,7 @@ module _ (c : Features) (r : wire.Module) (m b : Contents) (held : HoldsImports 
         };
         locals = subst (λ (l : List (ℕ × Said)). AllPlaced HoldsLocal 0 (flat_map (locals_said (types_of r)) l) (locals m.locals)) s.1.1 taken.locals;
         exports = exported;
+        start = started;
         imports = subst (λ l. AllPlaced HoldsImport 0 (imports_after [] r.imports) l) (sym same_imports) held.imports;
         tables = placed_more HoldsTable (imported imported_table 0 r.imports) (map table_of r.tables) (tables b.tables) (tables m.tables) held.tables with_tables;
         memories = placed_more HoldsMemory (imported imported_memory 0 r.imports) (map memory_of r.memories) (memories b.memories) (memories m.memories) held.memories with_memories;

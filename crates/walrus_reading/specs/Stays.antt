@@ -1,5 +1,5 @@
 -- That each index in what was read is declared, and leads to an item whose place has that number: while a module is read no item is deleted.
-use Rattle.std.specs.Prelude.{ℕ, ◌+◌, ◌<◌, length, All, Some, ◌≡◌, ⊤}
+use Rattle.std.specs.Prelude.{ℕ, ◌+◌, ◌<◌, length, All, Option, Some, option_and_then, ◌≡◌, ⊤}
 use Rattle.wasm_forms.specs.declared.types.RawRef.{RawRef}
 use Rattle.wasm_forms.specs.declared.types.RawVal.{RawVal}
 use Rattle.wasm_entries.specs.declared.record.RawDesc.{RawDesc}
@@ -52,6 +52,10 @@ module _ (names : Lookup) where
   abbrev pub ExportStays : entries.Export → Type 0
   ExportStays e = names (space_of e.kind) e.index ≡ Some e.index
 
+  -- the index of the start function, if there is one
+  abbrev pub StartStays : Option ℕ → Type 0
+  StartStays start = option_and_then (names Functions) start ≡ start
+
   -- so it is for all that sections say of these
   pub record AllStay (m : wire.Module) : Type 0 where
     pub imports : All (λ x. DescStays x.desc) m.imports
@@ -60,6 +64,7 @@ module _ (names : Lookup) where
     pub tags : All TypeStays m.tags
     pub globals : All GlobalStays m.globals
     pub exports : All ExportStays m.exports
+    pub start : StartStays m.start
 
   -- each of so many items of a space has the place of its index
   pub record AreNumbered (c : Counts) : Type 0 where

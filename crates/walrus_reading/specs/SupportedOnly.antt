@@ -7,4 +7,4 @@ is_empty xs = length xs == 0
 
 -- types, imports, functions, tables, memories, tags, globals, exports and bodies alone
 abbrev pub holds_supported : Module → Bool
-holds_supported m = is_none m.start && is_empty m.elements && is_none m.data_count && is_empty m.data_segments && is_empty m.customs
+holds_supported m = is_empty m.elements && is_none m.data_count && is_empty m.data_segments && is_empty m.customs

@@ -116,8 +116,8 @@ pub record HoldsFunctions (types : ℕ → Option TypeDef) (brought : List Funct
 abbrev pub AreLocatedIn : wire.Module → List (Option FunctionValue) → Type 0
 AreLocatedIn r slots = AllZip IsLocated r.bodies (drop (length (imported imported_function 0 r.imports)) slots)
 
--- The module holds these sections, whose bodies say this: the imports, the items of each index space and the exports in their order, and the
--- locals of all functions, function by function; nothing else. No type has a name.
+-- The module holds these sections, whose bodies say this: the imports, the items of each index space and the exports in their order, the start
+-- function, and the locals of all functions, function by function; nothing else. No type has a name.
 pub record HasTaken (features : Features) (r : wire.Module) (m : Contents) : Type 0 where
   pub bodies : List Said
   pub read : AllZip (ReadsBodyWith features r) (zip r.functions r.bodies) bodies
@@ -126,6 +126,7 @@ pub record HasTaken (features : Features) (r : wire.Module) (m : Contents) : Typ
   pub functions : HoldsFunctions (types_of r) (imported imported_function 0 r.imports) (zip r.functions bodies) (functions m.funcs)
   pub locals : AllPlaced HoldsLocal 0 (flat_map (locals_said (types_of r)) (zip r.functions bodies)) (locals m.locals)
   pub exports : AllPlaced HoldsExport 0 r.exports (exports m.exports)
+  pub start : option_map place m.start ≡ r.start
   pub imports : AllPlaced HoldsImport 0 (imports_after [] r.imports) (imports m.imports)
   pub tables : AllPlaced HoldsTable 0 (tables_of r) (tables m.tables)
   pub memories : AllPlaced HoldsMemory 0 (memories_of r) (memories m.memories)

@@ -1,11 +1,11 @@
 //! From the records of a module's sections to what a module in memory holds.
-ghost use Rattle.std.specs.Prelude.{true, ◌≡◌, ◌≢◌, ◌++◌, ◌∷◌, ◌<◌, ◌^◌, ℕ, [], length, map, zip, All, IfOk, OnOk, IsOkUnless, Some, None, option_map};
+ghost use Rattle.std.specs.Prelude.{true, ◌≡◌, ◌≢◌, ◌++◌, ◌∷◌, ◌<◌, ◌^◌, ℕ, [], length, map, zip, All, IfOk, OnOk, IsOkUnless, Some, None, option_and_then, option_map};
 ghost use Rattle.std.specs.Fn.{FnReturnsAt};
 ghost use Rattle.std.specs.List.{range_with_len};
 ghost use Rattle.walrus_base.specs.Id.{place};
 ghost use Rattle.walrus_types.specs.Locals.{locals};
 ghost use Rattle.walrus_types.specs.ModuleTypes.{type_names, type_slots};
-ghost use Rattle.walrus_types.specs.Operators.{Space, Types};
+ghost use Rattle.walrus_types.specs.Operators.{Functions, Space, Types};
 ghost use Rattle.walrus_types.specs.Value.{val_type};
 ghost use Rattle.walrus_code.specs.Indices.{places_in, ids_at};
 ghost use Rattle.walrus_code.specs.Location.{location, location_at};
@@ -37,7 +37,7 @@ use walrus_bodies::{ReadBody, read_body_over};
 use walrus_contents::Contents;
 use walrus_groups::read_types;
 use walrus_ir::{
-    Features, IndicesToIds, InstrLocId, IrError, LocalFunction, LocalId, ModuleLocals, ModuleTypes,
+    Features, FunctionId, IndicesToIds, InstrLocId, IrError, LocalFunction, LocalId, ModuleLocals, ModuleTypes,
     ValType,
 };
 use walrus_items::{ExportItem, ModuleExports, ModuleFunctions};
@@ -81,8 +81,16 @@ pub(crate) fn read_contents(alloc: Global, raw: &Raw<'_>, features: &Features) -
     add_tags(&raw.tags, &indices, &mut contents.tags)?;
     add_globals(alloc, &raw.globals, &indices, &mut contents.globals)?;
     add_exports(&raw.exports, &indices, &mut contents.exports)?;
+    contents.start = start_named(raw.start, &indices);
     add_own_producer(&mut contents.producers)?;
     Ok(contents)
+}
+
+// The function that the start section names, if there is one.
+fn start_named(raw: Option<u32>, indices: &IndicesToIds) -> Option<FunctionId>
+    ensures { option_map place result ≡ option_and_then (ids_at indices.now Functions) raw }
+{
+    indices.get_func(raw?)
 }
 
 // Puts this program into the producers, since what the bytes say of these isn't read so far.

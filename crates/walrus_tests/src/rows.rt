@@ -6,7 +6,7 @@ use std::test::Fail;
 use test_support::{add_bytes, demand};
 
 // Inputs and what they come to, in hexadecimal.
-const ROWS: [(&str, &str); 27] = [
+const ROWS: [(&str, &str); 29] = [
     // the header alone
     ("00 61 73 6D 01 00 00 00", "00 61 73 6D 01 00 00 00"),
     // two empty functions, of which the second is exported
@@ -38,6 +38,16 @@ const ROWS: [(&str, &str); 27] = [
     (
         "00 61 73 6D 01 00 00 00 01 04 01 60 00 00 03 02 01 00 07 05 01 01 66 00 00 0A 0C 01 0A 01 02 7F 20 01 1A 02 40 0B 0B",
         "00 61 73 6D 01 00 00 00 01 04 01 60 00 00 03 02 01 00 07 05 01 01 66 00 00 0A 0C 01 0A 01 01 7F 20 00 1A 02 40 0B 0B",
+    ),
+    // the start function alone
+    (
+        "00 61 73 6D 01 00 00 00 01 04 01 60 00 00 03 02 01 00 08 01 00 0A 04 01 02 00 0B",
+        "00 61 73 6D 01 00 00 00 01 04 01 60 00 00 03 02 01 00 08 01 00 0A 04 01 02 00 0B",
+    ),
+    // of two functions the second is the start function
+    (
+        "00 61 73 6D 01 00 00 00 01 04 01 60 00 00 03 03 02 00 00 08 01 01 0A 0A 02 05 00 41 00 1A 0B 02 00 0B",
+        "00 61 73 6D 01 00 00 00 01 04 01 60 00 00 03 02 01 00 08 01 00 0A 04 01 02 00 0B",
     ),
     // a reference to a function that is exported
     (

@@ -100,6 +100,13 @@ module _ (names : Lookup) (ren : Renaming) (agrees : (space : Space) (i j : ℕ)
       let q = heads (Some y) (export_with_index names x) (map Some raws) (map (export_with_index names) es) e in
       ap₂ ◌∷◌ (same_export x y (sym q.0)) (same_exports raws es q.1)
 
+  -- the start function is the same, too
+  same_start : (new old : Option ℕ) → option_map (λ (i : ℕ). Some i) new ≡ option_map (names Functions) old → new ≡ option_map (ren.numbers Functions) old
+  same_start None None e = refl
+  same_start (Some j) (Some i) e = ap Some (agrees Functions i j (sym (some_inj (Some j) (names Functions i) e)))
+  same_start None (Some i) e = absurd (cc)
+  same_start (Some j) None e = absurd (cc)
+
 -- ---- a space that has nothing
 
 no_place : {X : Type 0} (o : Option X) → o ≡ None → IsSome o → ⊥
@@ -227,7 +234,7 @@ module _ {p : Parts} {features : Features} (r : Records p features) where
       (imports_apart p r.names renaming agrees bare live index numbered r.imports r.imports_are)
       (λ s no_type. planned_apart r.names r.plan r.numbered before after r.is_plan renaming (λ t i. refl) s)
       (same_exports r.names renaming (number_is r) r.exports before.exports r.exports_are)
-      refl
+      (same_start r.names renaming (number_is r) r.start before.start r.start_is)
 
   -- ---- bodies: what one says, what it is made of, and the order of its locals
 

@@ -260,6 +260,18 @@ module _ (p : Parts) (none_dead : HasDead (parts_view p) → ⊥) (names : Looku
   pub exports_indexed : All (λ e. IsSome e) (map (λ v. export_with_index names (export_of v)) (items (exports p.exports.now)))
   exports_indexed = exports_named (items (exports p.exports.now)) there.exports
 
+  start_by : (o : Option ℕ) → ((f : ℕ) → o ≡ Some f → IsSome (names Functions f)) → option_map (λ (i : ℕ). Some i) (option_and_then (names Functions) o) ≡ option_map (names Functions) o
+  start_by None h = refl
+  start_by (Some f) h = kept (names Functions f) (h f refl)
+    where
+      kept : (o : Option ℕ) → IsSome o → option_map (λ (i : ℕ). Some i) o ≡ Some o
+      kept (Some i) some = refl
+      kept None some = absurd (none_there some)
+
+  -- so has the start function
+  pub start_indexed : option_map (λ (i : ℕ). Some i) (option_and_then (names Functions) V.start) ≡ option_map (names Functions) V.start
+  start_indexed = start_by V.start (λ f is. item_named (Functions, f) (there.start f is))
+
 -- ---- the ids of the functions, wherever they are lent
 
 lent_all : (P : ℕ → Type 0) (ids lent : List (Id FunctionKey)) → All P (map place ids) → lent ≡ ids → All (λ id. P (place id)) lent

@@ -1,7 +1,7 @@
 -- What a refusal of a part says of the items that are written, and the records that are.
 use Rattle.wasm_entries.specs.Record as entries
 use Rattle.std.proofs.Common.{inl, inr, ◌≡◌, ℕ, ◌<◌, ◌^◌, List, [], ◌∷◌, ◌++◌, map, length, refl, sym, ap, ◌∙◌, subst, Some}
-use Rattle.std.specs.Prelude.{Option, All, Err, option_and_then}
+use Rattle.std.specs.Prelude.{Option, All, Err, option_and_then, option_map}
 use Rattle.std.specs.Global.{Vec}
 use Rattle.std.specs.List.{AllZip}
 use Rattle.std.specs.Str.{IsUtf8}
@@ -155,6 +155,7 @@ module _ (p : Parts) (features : Features) (names : Lookup) (plan : Plan) (raws 
     (globals_spelled : All IsSpelledGlobal (own_of (λ x. x.imported_by) (items (globals p.globals.now))))
     (exports_are : map (λ e. Some (export_entry e)) exported ≡ map (λ v. export_with_index names (export_of v)) (items (exports p.exports.now)))
     (texts : All (λ e. IsUtf8 e.name.now) exported)
+    (started : Option ℕ) (start_is : option_map (λ (i : ℕ). Some i) started ≡ option_map (names Functions) (parts_view p).start)
     (bodies_are : AllZip (λ id bytes. HasBytes p names features (place id) bytes.items) plan.own_functions.items bodies) where
   abbrev pub records_of : Records p features
   records_of = record {
@@ -196,14 +197,16 @@ module _ (p : Parts) (features : Features) (names : Lookup) (plan : Plan) (raws 
     exports = map export_entry exported;
     exports_are = map-map (λ (e : entries.Export). Some e) export_entry exported ∙ exports_are ∙ sym (map-map (export_with_index names) export_of (items (exports p.exports.now)));
     texts = All-map (λ (e : entries.Export). IsUtf8 e.name) export_entry exported texts;
+    start = started;
+    start_is = start_is;
   }
 
   -- the module of these sections
-  module _ (m : wire.Module) (code : List wire.Body) (sections : m ≡ sections_with (map group raws) (map import_entry raw_imports) raw_functions (map table_entry raw_tables) raw_memories raw_tags (map global_entry raw_globals) (map export_entry exported) code) (codes : code ≡ map (λ (v : Vec ℕ). unplaced v.items) bodies) where
+  module _ (m : wire.Module) (code : List wire.Body) (sections : m ≡ sections_with (map group raws) (map import_entry raw_imports) raw_functions (map table_entry raw_tables) raw_memories raw_tags (map global_entry raw_globals) (map export_entry exported) started code) (codes : code ≡ map (λ (v : Vec ℕ). unplaced v.items) bodies) where
     module_is : m ≡ laid (text_of records_of)
     module_is =
         sections
-        ∙ ap (sections_with (map group raws) (map import_entry raw_imports) raw_functions (map table_entry raw_tables) raw_memories raw_tags (map global_entry raw_globals) (map export_entry exported))
+        ∙ ap (sections_with (map group raws) (map import_entry raw_imports) raw_functions (map table_entry raw_tables) raw_memories raw_tags (map global_entry raw_globals) (map export_entry exported) started)
         (codes ∙ sym (map-map unplaced (λ (v : Vec ℕ). v.items) bodies) ∙ sym (bodies_same p names features (map place plan.own_functions.items) (map (λ (v : Vec ℕ). v.items) bodies) records_of.bodies_are))
 
     pub records_written : (bytes : List ℕ) → bytes ≡ module_bytes m → ModuleFits m → Spells p features bytes

@@ -1,13 +1,14 @@
 -- The text that records make has as many bodies as functions, and all its entries stand.
 use Rattle.wasm_entries.specs.Record as entries
 use Rattle.std.proofs.Common.{◌≡◌, ℕ, List, [], ◌∷◌, length, map, refl, sym, ap, ap₂, arith, suc}
-use Rattle.std.specs.Prelude.{All, Some, option_and_then}
+use Rattle.std.specs.Prelude.{All, IfSome, Option, None, Some, option_and_then, option_map}
 use Rattle.std.specs.List.{AllByRecursion, AllZip}
 use Rattle.std.specs.Str.{IsUtf8}
 use Rattle.std.proofs.lemmas.List.Elements.{All-nil, All-from_recursion, recursion_from_All}
 use Rattle.wasm_entries.specs.Spelling.{IsIndex, ExportStands}
 use Rattle.wasm_writer.specs.Spelling.{SectionStands}
 use Rattle.walrus_types.specs.Operators.{Space, Types, Functions, Tags}
+use Rattle.walrus_model.proofs.Standing.{some_inj}
 use Rattle.walrus_bodies.specs.declared.features.Features.{Features}
 use Rattle.walrus_code.specs.Names.{Lookup}
 use Rattle.walrus_contents.specs.View.{parts_view}
@@ -97,6 +98,11 @@ module _ {p : Parts} {features : Features} (r : Records p features) where
       let parts = export_parts r.names x y (sym q.0) in
       (record { name = texts.0; index = is_index x.item.0 x.item.1 y.index parts.index }, exports_stand raws all q.1 texts.1)
 
+  start_stands : (start was : Option ℕ) → option_map (λ (i : ℕ). Some i) start ≡ option_map (r.names Functions) was → IfSome start IsIndex
+  start_stands None was e = tt
+  start_stands (Some j) (Some i) e = is_index Functions i j (sym (some_inj (Some j) (r.names Functions i) e))
+  start_stands (Some j) None e = absurd (cc)
+
   pub sections_stand : All SectionStands (sections_of (text_of r))
   sections_stand = all_sections (text_of r) SectionStands (record {
     types = r.types_stand;
@@ -107,7 +113,7 @@ module _ {p : Parts} {features : Features} (r : Records p features) where
     tags = All-from_recursion IsIndex r.tags (tags_stand r.tags (r.own Tags) r.tags_are);
     globals = r.globals_stand;
     exports = All-from_recursion ExportStands r.exports (exports_stand r.exports V.exports r.exports_are (recursion_from_All (λ (e : entries.Export). IsUtf8 e.name) r.exports r.texts));
-    start = tt;
+    start = start_stands r.start V.start r.start_is;
     elements = All-nil _;
     data_count = tt;
     bodies = tt;

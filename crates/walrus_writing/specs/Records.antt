@@ -2,7 +2,7 @@
 use Rattle.wasm_entries.specs.Record as entries
 use Rattle.wasm_entries.specs.declared.record.RawLimits.{RawLimits}
 use Rattle.wasm_frames.specs.Record as wire
-use Rattle.std.specs.Prelude.{ℕ, List, [], ◌∷◌, ◌++◌, Option, Some, All, Contains, filter_map, length, map, option_and_then, ◌≡◌, ◌≢◌, ◌<◌, ◌^◌}
+use Rattle.std.specs.Prelude.{ℕ, List, [], ◌∷◌, ◌++◌, Option, Some, All, Contains, filter_map, length, map, option_and_then, option_map, ◌≡◌, ◌≢◌, ◌<◌, ◌^◌}
 use Rattle.std.specs.List.{AllZip}
 use Rattle.std.specs.Str.{IsUtf8}
 use Rattle.wasm_entries.specs.Record.{Group}
@@ -83,6 +83,8 @@ pub record Records (p : Parts) (features : Features) : Type 0 where
   pub exports : List entries.Export
   pub exports_are : map Some exports ≡ map (export_with_index names) (parts_view p).exports
   pub texts : All (λ e. IsUtf8 e.name) exports
+  pub start : Option ℕ
+  pub start_is : option_map Some start ≡ option_map (names Functions) (parts_view p).start
 
 -- the text of each body
 abbrev pub texts_in : (p : Parts) (names : Lookup) (features : Features) (order : List ℕ) (bodies : List (List ℕ)) → AllZip (HasBytes p names features) order bodies → List BodyText
@@ -102,12 +104,13 @@ text_of {p} {features} r = record empty_text {
   tags = r.tags;
   globals = r.globals;
   exports = r.exports;
+  start = r.start;
   bodies = texts_in p r.names features (r.own Functions) r.bodies r.bodies_are;
 }
 
 -- a module of these sections
-abbrev pub sections_with : List Group → List entries.Import → List ℕ → List entries.Table → List RawLimits → List ℕ → List entries.Global → List entries.Export → List wire.Body → wire.Module
-sections_with types imports functions tables memories tags globals exports bodies = record wire.no_sections { types = types; imports = imports; functions = functions; tables = tables; memories = memories; tags = tags; globals = globals; exports = exports; bodies = bodies }
+abbrev pub sections_with : List Group → List entries.Import → List ℕ → List entries.Table → List RawLimits → List ℕ → List entries.Global → List entries.Export → Option ℕ → List wire.Body → wire.Module
+sections_with types imports functions tables memories tags globals exports start bodies = record wire.no_sections { types = types; imports = imports; functions = functions; tables = tables; memories = memories; tags = tags; globals = globals; exports = exports; start = start; bodies = bodies }
 
 -- the bytes are those of the text, which fits
 pub record Spells (p : Parts) (features : Features) (bytes : List ℕ) : Type 0 where

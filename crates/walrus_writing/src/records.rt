@@ -4,6 +4,7 @@ ghost use Rattle.std.specs.Str.{IsUtf8};
 ghost use Rattle.walrus_base.specs.Arena.{items};
 ghost use Rattle.walrus_base.specs.Id.{place};
 ghost use Rattle.walrus_types.specs.ModuleTypes.{type_slots};
+ghost use Rattle.walrus_types.specs.Operators.{Functions};
 ghost use Rattle.walrus_groups.specs.Indexed.{NumbersTypes, AreIndexed, LacksAnIndex};
 ghost use Rattle.walrus_code.specs.Indices.{index_of};
 ghost use Rattle.walrus_parts.specs.Kinds.{exported};
@@ -240,6 +241,13 @@ pub fn raw_exports<'a>(
     Ok(raw)
 }
 
+// The index of the start function, if there is one that has an index.
+pub fn raw_start(start: Option<FunctionId>, indices: &IdsToIndices) -> Option<u32>
+    ensures { result ≡ option_and_then (index_of indices.now Functions) (option_map place start) }
+{
+    indices.get_func_index(start?)
+}
+
 pub fn raw_bodies<'a>(alloc: Global, bodies: &'a [Vec<u8>]) -> Result<Vec<RawBody<'a>>>
     ensures value { IfOk result (λ raw. map body_record raw.items
         ≡ map (λ bytes. unplaced bytes.items) bodies.now) }
@@ -266,12 +274,13 @@ pub fn raw_module<'a>(
     tags: Vec<u32>,
     globals: Vec<RawGlobal>,
     exports: Vec<RawExport<'a>>,
+    start: Option<u32>,
     bodies: Vec<RawBody<'a>>,
 ) -> Raw<'a>
     ensures { sections result ≡ sections_with (map group types.items)
         (map import_entry imports.entry.items) functions.items
         (map table_entry tables.items) memories.items tags.items (map global_entry globals.items)
-        (map export_entry exports.entry.items) (map body_record bodies.entry.items) }
+        (map export_entry exports.entry.items) start (map body_record bodies.entry.items) }
 {
     Raw {
         order: Vec::new(alloc),
@@ -283,7 +292,7 @@ pub fn raw_module<'a>(
         tags,
         globals,
         exports,
-        start: None,
+        start,
         elements: Vec::new(alloc),
         data_count: None,
         bodies,

@@ -19,7 +19,8 @@ use crate::matched::check_matched;
 use crate::plan::Plan;
 use crate::reads::are_reads_in_order;
 use crate::records::{
-    raw_bodies, raw_exports, raw_functions, raw_memories, raw_module, raw_tags, raw_types,
+    raw_bodies, raw_exports, raw_functions, raw_memories, raw_module, raw_start, raw_tags,
+    raw_types,
 };
 use crate::tables::raw_tables;
 use std::alloc::Global;
@@ -86,8 +87,9 @@ fn write_items(alloc: Global, parts: Parts<'_>, features: &Features) -> Result<V
     let tags = raw_tags(alloc, parts.tags, &indices)?;
     let globals = raw_globals(alloc, parts.globals, &indices)?;
     let exports = raw_exports(alloc, parts.exports, &indices)?;
+    let start = raw_start(parts.start, &indices);
     let raw = raw_module(
-        alloc, types, imports, functions, tables, memories, tags, globals, exports, code,
+        alloc, types, imports, functions, tables, memories, tags, globals, exports, start, code,
     );
     let bytes = written_module(alloc, &raw)?;
     Ok(bytes)

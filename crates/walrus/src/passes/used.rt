@@ -22,7 +22,7 @@ use crate::passes::marks::MarkedItems;
 use std::alloc::{AllocError, Global};
 use std::result;
 use walrus_base::Marks;
-use walrus_contents::{Parts, is_live, push_export_names, push_item_names};
+use walrus_contents::{Parts, is_live, push_item_names, push_root_names};
 use walrus_module::{
     DataKey, ElementKey, Error, FunctionKey, GlobalKey, IdHashSet, ItemId, MemoryKey, Module,
     ModuleTypes, Result, TableKey, TagKey, TypeId, TypeKey,
@@ -105,6 +105,7 @@ pub(crate) fn marked(alloc: Global, module: &Module) -> Result<MarkedItems>
         tags: &module.tags,
         globals: &module.globals,
         exports: &module.exports,
+        start: module.start,
         producers: &module.producers,
     };
     search(alloc, parts)
@@ -118,7 +119,7 @@ fn search(alloc: Global, parts: Parts<'_>) -> Result<MarkedItems>
     let mut marks = MarkedItems::none(alloc, parts)?;
     let mut found = Vec::new(alloc);
     let mut roots = Vec::new(alloc);
-    push_export_names(parts.exports, &mut roots)?;
+    push_root_names(parts, &mut roots)?;
     enter_all(parts, roots.as_slice(), &mut marks, &mut found)?;
     follow(alloc, parts, &mut marks, &mut found)?;
     Ok(marks)

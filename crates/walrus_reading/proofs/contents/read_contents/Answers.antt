@@ -125,6 +125,7 @@ returns-clause-taken c =
     let b = c.add_imports.new.contents in
     let typed : type_slots b.types ≡ map Some (types_from 0 (map group c.args.raw.now.types.items)) =
     ap type_slots c.in_ok-add_imports.ensures.others.types ∙ c.in_ok-add_types.ensures.added ∙ ap (λ (l : List (Vec RawSub)). map Some (types_from 0 (map group l))) c.deref.ensures.value in
+    let all : AllStay (ids_at c.number_items.new.indices) s = stay (ids_at c.number_items.new.indices) s c.in_ok-number_items.ensures.numbered c.requires.rules.indices in
     sections_taken c.args.features.now s _ b (subst (λ (l : List RawImport). HoldsImports (map import_entry l) b) c.deref-2.ensures.value c.in_ok-add_imports.ensures.held)
     c.requires.rules.as_many_bodies typed (subst (λ (t : ModuleTypes). All (λ name. name ≡ Some None) (type_names t)) (sym c.in_ok-add_imports.ensures.others.types) c.in_ok-add_types.ensures.unnamed)
     (under_sections c.args.features.now s c.number_items.new.indices b.types c.in_ok-number_items.ensures.numbered typed
@@ -136,6 +137,7 @@ returns-clause-taken c =
     (subst (λ (l : List ℕ). AddsPlaced HoldsTag (map tag_of l) (tags b.tags) (tags c.add_tags.new.all)) c.deref-7.ensures.value c.in_ok-add_tags.ensures.added)
     (subst (λ (l : List RawGlobal). AddsPlaced HoldsGlobal (map global_of (map global_entry l)) (globals b.globals) (globals c.add_globals.new.all)) c.deref-8.ensures.value c.in_ok-add_globals.ensures.added)
     (subst (λ (l : List RawExport). AllPlaced HoldsExport 0 (map export_entry l) (exports c.add_exports.new.all)) c.deref-9.ensures.value c.in_ok-add_exports.ensures.added)
+    (c.start_named.ensures ∙ all.start)
 
 pub returns-clause-located : goal.returns-clause-located
 returns-clause-located c =

@@ -1,5 +1,5 @@
 use Rattle.std.proofs.Common.{◌∙◌, ℕ, map, ap, subst}
-use Rattle.std.specs.Prelude.{option_and_then}
+use Rattle.std.specs.Prelude.{Some, option_and_then, option_map}
 use Rattle.std.specs.Global.{Vec}
 use Rattle.std.specs.List.{AllZip}
 use Rattle.std.proofs.lemmas.Result.{err_from_is_err_and}
@@ -17,7 +17,7 @@ use Rattle.walrus_writing.specs.Parts.{type_index, HasBytes, tag_index, unplaced
 use Rattle.walrus_writing.specs.Places.{places}
 use Rattle.walrus_rules.proofs.Matches.{imports_live}
 use Rattle.walrus_writing.proofs.ImportsIndexed.{imports_indexed, written_indexed}
-use Rattle.walrus_writing.proofs.Indexed.{ids_indexed, ids_typed, no_type_lacks, exports_indexed, globals_indexed, tables_indexed, tags_indexed}
+use Rattle.walrus_writing.proofs.Indexed.{ids_indexed, ids_typed, no_type_lacks, exports_indexed, globals_indexed, start_indexed, tables_indexed, tags_indexed}
 use Rattle.walrus_writing.proofs.OwnPlaces.{own_indexed}
 use Rattle.walrus_writing.proofs.RefusesUnspelled.{imports_refused}
 use Rattle.walrus_writing.proofs.Refusing.{counts_refused, types_refused, bodies_refused, globals_refused, tables_refused, records_written, records_refused}
@@ -115,6 +115,7 @@ returns-in_err-bytes-clause-refused c =
     c.in_ok-memories.ensures.value c.in_ok-memories.ensures.stand c.in_ok-tags.ensures.value
     c.in_ok-globals.ensures.value c.in_ok-globals.ensures.stand c.in_ok-globals.ensures.spelled
     c.in_ok-exports.ensures.value c.in_ok-exports.ensures.text
+    c.raw_start-start.result (ap (option_map (λ (i : ℕ). Some i)) c.raw_start-start.ensures ∙ start_indexed c.args.parts c.requires.there names (places c.in_ok-plan.plan) (plan.plan c.requires.there c.requires.matched) c.in_ok-indices.ensures.value)
     (subst (λ ids. AllZip (λ id bytes. HasBytes c.args.parts names c.args.features.now (place id) bytes.items) ids c.in_ok-bodies.bodies.items) c.as_slice-order.ensures.value c.in_ok-bodies.ensures.value)
     _ _ c.raw_module-raw.ensures (c.in_ok-code.ensures.value ∙ ap (map (λ (v : Vec ℕ). unplaced v.items)) c.as_slice.ensures.value) (Vec ℕ) _ c.in_err-bytes.ensures)
 
@@ -131,5 +132,6 @@ returns-clause-spells c =
     c.in_ok-memories.ensures.value c.in_ok-memories.ensures.stand c.in_ok-tags.ensures.value
     c.in_ok-globals.ensures.value c.in_ok-globals.ensures.stand c.in_ok-globals.ensures.spelled
     c.in_ok-exports.ensures.value c.in_ok-exports.ensures.text
+    c.raw_start-start.result (ap (option_map (λ (i : ℕ). Some i)) c.raw_start-start.ensures ∙ start_indexed c.args.parts c.requires.there names (places c.in_ok-plan.plan) (plan.plan c.requires.there c.requires.matched) c.in_ok-indices.ensures.value)
     (subst (λ ids. AllZip (λ id bytes. HasBytes c.args.parts names c.args.features.now (place id) bytes.items) ids c.in_ok-bodies.bodies.items) c.as_slice-order.ensures.value c.in_ok-bodies.ensures.value)
     _ _ c.raw_module-raw.ensures (c.in_ok-code.ensures.value ∙ ap (map (λ (v : Vec ℕ). unplaced v.items)) c.as_slice.ensures.value) c.in_ok-bytes.bytes.items c.in_ok-bytes.ensures.0 c.in_ok-bytes.ensures.1

@@ -1,0 +1,10 @@
+(module
+  (type $none (func))
+  (type $pair (func (param i32 i64)))
+  (import "m" "unused" (func $unused))
+  (import "m" "called" (func $called))
+  (global $count (mut i32) (i32.const 0))
+  (func $dropped (type $pair))
+  (func $inner (global.set $count (i32.const 1)))
+  (func $start (call $called) (call $inner))
+  (start $start))
