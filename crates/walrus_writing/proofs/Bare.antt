@@ -18,7 +18,7 @@ use Rattle.walrus_model.specs.Spaces.{Thing, look}
 use Rattle.walrus_model.specs.WellMade.{ImportsMatch, import_in, import_of, origin_import}
 use Rattle.walrus_model.proofs.Standing.{some_inj}
 use Rattle.walrus_writing.specs.Imported.{AreBare, IsBare}
-use Rattle.walrus_writing.proofs.Somes.{none_some}
+use Rattle.walrus_plan.proofs.Somes.{none_some}
 
 -- ---- the kind of a global says both
 

@@ -47,7 +47,7 @@ use Rattle.walrus_model.proofs.Standing.{got_where, none_there, some_inj, zip_le
 use Rattle.walrus_rules.specs.Pinned.{HasType, IsDeclared, BeginsBefore, GoesBefore}
 use Rattle.walrus_rules.specs.Spelling.{UsesAll}
 use Rattle.walrus_rules.specs.Text.{said}
-use Rattle.walrus_writing.specs.Brought.{import_numbers}
+use Rattle.walrus_plan.specs.Brought.{import_numbers}
 use Rattle.walrus_writing.specs.Imported.{AreBare}
 use Rattle.walrus_writing.specs.Parts.{export_with_index, kind_in, memory_limits, slots_of, tag_index}
 use Rattle.walrus_writing.specs.Records.{Records}

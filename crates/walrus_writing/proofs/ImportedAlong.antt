@@ -1,62 +1,31 @@
 -- The entries of imports, by rising id, stand for what these bring: for each space what `written_both` of the model asks.
-use Rattle.std.proofs.Common.{◌≡◌, ℕ, suc, ◌+◌, List, [], ◌∷◌, map, refl, sym, ap, ◌∙◌, subst, Some, None, arith}
-use Rattle.std.specs.Prelude.{Option, All, Contains, IsSome, filter_map, option_map, slice_get}
-use Rattle.std.specs.List.{cons_option}
+use Rattle.std.proofs.Common.{◌≡◌, ℕ, suc, ◌+◌, List, [], ◌∷◌, refl, sym, ap, ◌∙◌, subst, Some, None, arith}
+use Rattle.std.specs.Prelude.{Option, All, Contains, IsSome, slice_get}
 use Rattle.std.specs.List.{AllZip}
 use Rattle.std.proofs.lemmas.List.Elements.{All-cons, All-nil}
 use Rattle.wasm_entries.specs.Record as wire
 use Rattle.wasm_entries.specs.Spelling.{ImportStands}
-use Rattle.walrus_base.specs.Arena.{entries, item_at, items}
 use Rattle.walrus_base.specs.Types.{RefType, ValType, map_ref, map_val}
 use Rattle.walrus_types.specs.Operators.{Space, Types, Functions, Tables, Memories, Tags, Globals, Elements, DataSegments}
 use Rattle.walrus_code.specs.Names.{Lookup, named_val}
 use Rattle.walrus_constants.specs.Laws.{AgreesWith}
 use Rattle.walrus_constants.specs.Named.{named_global, named_ref, named_table}
 use Rattle.walrus_constants.proofs.Renamed.{agreed, agrees_last, ref_agrees, val_agrees}
-use Rattle.walrus_contents.specs.View as seen
-use Rattle.walrus_contents.specs.View.{parts_view}
-use Rattle.walrus_contents.specs.declared.parts.Parts.{Parts}
 use Rattle.walrus_contents.proofs.Lookups.{mapped_some}
-use Rattle.walrus_contents.proofs.Slots.{stands_at}
-use Rattle.walrus_parts.specs.Kinds.{imported}
-use Rattle.walrus_items.specs.Imports.{ImportValue, imports}
-use Rattle.walrus_model.specs.Abstract.{Abstract, Function, FunctionKind, Global, Import, ImportedBy, ImportedFunction, LocalFunction, Uninitialised, Origin, Defined, Table, Tag}
-use Rattle.walrus_model.specs.Imported.{IsBrought, import_number, import_number_by, number_in, numbered_from}
+use Rattle.walrus_model.specs.Abstract.{Abstract, Function, FunctionKind, Global, Import, ImportedBy, ImportedFunction, Table, Tag}
+use Rattle.walrus_model.specs.Imported.{IsBrought, numbered_from}
 use Rattle.walrus_model.specs.Live.{IsLive}
 use Rattle.walrus_model.specs.Renaming.{Renaming, renamed_global, renamed_table}
 use Rattle.walrus_model.specs.Same.{SameFunction, SameKind}
 use Rattle.walrus_model.specs.Spaces.{SameThing, Thing, look}
 use Rattle.walrus_model.specs.WellMade.{import_in, import_of, kind_import, origin_import}
-use Rattle.walrus_model.proofs.Lists.{Contains-head, Contains-tail}
 use Rattle.walrus_model.proofs.Spaces.{live_from}
 use Rattle.walrus_model.proofs.Standing.{got_where, some_inj, zip_right}
-use Rattle.walrus_writing.specs.Brought.{places_brought}
+use Rattle.walrus_plan.proofs.BroughtBy.{kind_origin, origin_is}
 use Rattle.walrus_writing.specs.Imported.{AreBare, IsBare, IsEntryAt, as_brought, named_function, named_thing}
-use Rattle.walrus_writing.proofs.Somes.{none_some}
+use Rattle.walrus_plan.proofs.Somes.{none_some}
 
--- ---- the places of what imports bring
-
-module _ (p : Parts) (s : Space) where
-  numbers_brought : (es : List (ℕ × ImportValue)) → ((e : ℕ × ImportValue) → Contains es e → item_at (imports p.imports.now) e.0 ≡ Some e.1)
-      → filter_map (import_number (parts_view p) s) (map (λ e. e.0) es) ≡ places_brought s (map (λ e. e.1) es)
-  numbers_brought [] at = refl
-  numbers_brought (e ∷ es) at =
-      ap (λ (o : Option ImportValue). cons_option (import_number_by s (option_map seen.import_of o)) (filter_map (import_number (parts_view p) s) (map (λ d. d.0) es))) (at e (Contains-head e es))
-      ∙ ap (λ (l : List ℕ). cons_option (number_in s (imported e.1.kind)) l) (numbers_brought es (λ d c. at d (Contains-tail e d es c)))
-
-  pub brought_numbers : filter_map (import_number (parts_view p) s) (map (λ e. e.0) (entries (imports p.imports.now))) ≡ places_brought s (items (imports p.imports.now))
-  brought_numbers = numbers_brought (entries (imports p.imports.now)) (stands_at (imports p.imports.now))
-
--- ---- what an item says to be brought by
-
-pub kind_origin : (k : FunctionKind) (p : ℕ) → kind_import k ≡ Some p → k ≡ ImportedFunction p
-kind_origin (ImportedFunction q) p e = ap (λ (n : ℕ). ImportedFunction n) (some_inj q p e)
-kind_origin (LocalFunction b) p e = absurd (cc)
-kind_origin Uninitialised p e = absurd (cc)
-
-pub origin_is : (o : Origin) (p : ℕ) → origin_import o ≡ Some p → o ≡ ImportedBy p
-origin_is (ImportedBy q) p e = ap (λ (n : ℕ). ImportedBy n) (some_inj q p e)
-origin_is Defined p e = absurd (cc)
+-- ---- what a thing says to be brought by
 
 -- a thing says that this import brings it
 abbrev SaysImport : (s : Space) → Thing s → ℕ → Type 0

@@ -18,8 +18,8 @@ use Rattle.walrus_model.specs.Spaces.{Thing, look, SameThing}
 use Rattle.walrus_model.proofs.ImportedZip.{imported_zip}
 use Rattle.walrus_writing.specs.Imported.{AreBare, IsEntryAt}
 use Rattle.walrus_writing.proofs.ImportedAlong.{entries_brought}
-use Rattle.walrus_writing.proofs.OrderByImport.{own_number}
-use Rattle.walrus_writing.proofs.Turns.{zip_snoc}
+use Rattle.walrus_plan.proofs.OrderByImport.{own_number}
+use Rattle.walrus_plan.proofs.Turns.{zip_snoc}
 
 -- ---- lists
 

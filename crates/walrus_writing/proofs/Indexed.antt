@@ -54,8 +54,8 @@ use Rattle.walrus_model.proofs.Standing.{none_there, some_inj, some_of, self_eq}
 use Rattle.walrus_model.specs.Plan.{AreNumbered, IsPlan, Plan}
 use Rattle.walrus_writing.specs.Refusals.{RefusesBodies}
 use Rattle.walrus_writing.specs.Parts.{IsIndexed, export_with_index, function_seen, local_in, slots_of, source, source_of, tag_index, type_index, type_index_of}
-use Rattle.walrus_writing.specs.Sizes.{IsOrder}
-use Rattle.walrus_writing.proofs.BySize.{body_at, body_there, ordered_by_size, own_body}
+use Rattle.walrus_plan.specs.Sizes.{IsOrder}
+use Rattle.walrus_plan.proofs.BySize.{body_at, body_there, ordered_by_size, own_body}
 use Rattle.walrus_writing.proofs.NamedAll.{global_named, val_named, ops_named, table_named}
 
 -- ---- places

@@ -8,7 +8,7 @@ use Rattle.walrus_constants.specs.Named.{named_const, named_global, named_initia
 use Rattle.walrus_model.specs.Abstract.{Global, Table}
 use Rattle.walrus_model.specs.Refers.{global_names, named_by, table_names}
 use Rattle.walrus_model.proofs.Lists.{Contains-head, Contains-map, Contains-append_1, Contains-append_2}
-use Rattle.walrus_writing.proofs.Somes.{some_then}
+use Rattle.walrus_plan.proofs.Somes.{some_then}
 
 module _ (names : Lookup) where
   abbrev TypesNamed : List ℕ → Type 0

@@ -9,10 +9,10 @@ use Rattle.walrus_model.specs.Dead.{HasDead}
 use Rattle.walrus_rules.specs.Features.{features_of}
 use Rattle.walrus_rules.specs.Refused.{HasUnspelled, ExactType, ExactConstant, EmptyConstant, IllFormed, PassesLimits, HasNoCause}
 use Rattle.walrus_rules.proofs.NoCause.{two}
+use Rattle.walrus_plan.proofs.RefusesPlanned.{lacks_none}
 use Rattle.walrus_writing.specs.Records.{Records}
 use Rattle.walrus_writing.proofs.NoCauseBodies.{formed}
 use Rattle.walrus_writing.proofs.NoCauseHeaps.{not_exact, const_not_exact, not_empty}
-use Rattle.walrus_writing.proofs.RefusesLarge.{lacks_none}
 
 module _ (c : Config) (p : Parts) (r : Records p (features_of c)) where
   abbrev V : Abstract
@@ -28,7 +28,7 @@ module _ (c : Config) (p : Parts) (r : Records p (features_of c)) where
   no_cause lives ordered small = record {
     all_there = lives;
     one_index = two V r.matched;
-    indices = lacks_none c p r.matched r.reads ordered;
+    indices = lacks_none p r.matched r.reads ordered;
     spelled = none_unspelled;
     fits = small;
   }

@@ -23,13 +23,13 @@ use Rattle.walrus_model.specs.Abstract.{Global, Memory, Origin, Defined, Table, 
 use Rattle.walrus_model.specs.Imported.{import_number, number_in}
 use Rattle.walrus_model.proofs.Lists.{Contains-head, Contains-tail}
 use Rattle.walrus_model.proofs.Standing.{some_inj}
-use Rattle.walrus_writing.specs.Brought.{import_numbers, own_of, own_places, places_brought}
-use Rattle.walrus_writing.specs.Local.{is_own}
-use Rattle.walrus_writing.specs.Places.{places, places_own}
+use Rattle.walrus_plan.specs.Brought.{import_numbers, own_of, own_places, places_brought}
+use Rattle.walrus_plan.specs.Local.{is_own}
+use Rattle.walrus_plan.specs.Places.{places, places_own}
 use Rattle.walrus_writing.specs.Records.{AreDefined}
-use Rattle.walrus_writing.specs.declared.plan.Plan.{Plan}
-use Rattle.walrus_writing.proofs.ImportedAlong.{brought_numbers}
-use Rattle.walrus_writing.proofs.OrdersSpaces.{own_defined}
+use Rattle.walrus_plan.specs.declared.plan.Plan.{Plan}
+use Rattle.walrus_plan.proofs.BroughtBy.{brought_numbers}
+use Rattle.walrus_plan.proofs.OrdersSpaces.{own_defined}
 
 -- ---- no import brings them
 

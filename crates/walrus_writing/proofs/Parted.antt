@@ -16,10 +16,10 @@ use Rattle.walrus_model.specs.Ordered.{StandsFor}
 use Rattle.walrus_model.specs.Sections.{imported, imported_function}
 use Rattle.walrus_model.specs.WellMade.{import_in, import_of, kind_import}
 use Rattle.walrus_model.proofs.Lists.{Contains-head, Contains-tail}
-use Rattle.walrus_writing.specs.Brought.{import_numbers}
+use Rattle.walrus_plan.specs.Brought.{import_numbers}
 use Rattle.walrus_writing.specs.Records.{Records}
-use Rattle.walrus_writing.proofs.OrderByImport.{brought_in, in_either}
-use Rattle.walrus_writing.proofs.Somes.{none_some}
+use Rattle.walrus_plan.proofs.OrderByImport.{brought_in, in_either}
+use Rattle.walrus_plan.proofs.Somes.{none_some}
 
 -- ---- lists
 

@@ -1,9 +1,8 @@
 -- The declarations of a body that is written stand: one for each type, none for no local, by the ranks of their types.
 use Rattle.std.proofs.Common.{◌≡◌, ℕ, zero, suc, ◌<◌, ◌≤◌, ◌⊎◌, inl, inr, Bool, List, [], ◌∷◌, ◌++◌, map, replicate, refl, sym, ap, ap₂, subst, ◌∙◌, arith}
-use Rattle.std.specs.Prelude.{◌≢◌, Option, Some, AllPairs, flat_map}
+use Rattle.std.specs.Prelude.{◌≢◌, Option, Some, flat_map}
 use Rattle.std.specs.List.{AllByRecursion}
 use Rattle.std.proofs.lemmas.List.Elements.{All-from_recursion, recursion_from_All}
-use Rattle.std.proofs.lemmas.List.Kept.{AllPairs-cons}
 use Rattle.wasm_forms.specs.Grammar.{Is, IsRow, U32, ◌then◌}
 use Rattle.wasm_forms.specs.Reading.{◌>>=◌}
 use Rattle.wasm_forms.specs.Types.{ValueStands, value_type}
@@ -21,16 +20,10 @@ use Rattle.walrus_functions.specs.EmittedBody.{Source, BodyWritten, spelled_as, 
 use Rattle.walrus_types.specs.Operators.{locals_of}
 use Rattle.walrus_functions.proofs.LawOrder.{Sorted, sorted_of}
 use Rattle.walrus_rules.specs.Spelling.{BodyStands}
+use Rattle.walrus_plan.proofs.SortedPairs.{pairs_of}
 use Rattle.walrus_contents.proofs.Lookups.{heads}
 use Rattle.walrus_contents.proofs.Named.{through}
 use Rattle.walrus_model.proofs.Standing.{some_inj}
-
--- ---- lists
-
--- the recursive form of a relation on pairs is that by places
-pub pairs_of : {X : Type 0} (R : X → X → Type 0) (xs : List X) → Sorted R xs → AllPairs R xs
-pairs_of R [] h = λ i j d less low. absurd (omega (arith, low))
-pairs_of R (x ∷ xs) h = AllPairs-cons R x xs (All-from_recursion (R x) xs h.0) (pairs_of R xs h.1)
 
 -- ---- ranks rise along the locals, their types and the groups
 

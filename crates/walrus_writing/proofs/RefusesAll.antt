@@ -19,12 +19,13 @@ use Rattle.walrus_rules.specs.Refused.{PassesLimits}
 use Rattle.walrus_rules.specs.SoFar.{HasUndeclared, RefusesSoFar}
 use Rattle.walrus_rules.proofs.NoCause.{two}
 use Rattle.walrus_writing.specs.Emitted.{IsPlain, told}
-use Rattle.walrus_writing.specs.Matched.{RefusesUnmatched}
-use Rattle.walrus_writing.specs.Reads.{ReadsInOrder}
+use Rattle.walrus_plan.specs.Reads.{ReadsInOrder}
+use Rattle.walrus_plan.specs.Refusals.{RefusesPlan}
+use Rattle.walrus_plan.proofs.RefusesPlanned.{lacks_none}
 use Rattle.walrus_writing.specs.Records.{DoesNotFit, Spells}
 use Rattle.walrus_writing.specs.Refusals.{RefusesItems}
 use Rattle.walrus_writing.proofs.NoCauseAll.{no_cause}
-use Rattle.walrus_writing.proofs.RefusesLarge.{lacks_none, passes}
+use Rattle.walrus_writing.proofs.RefusesLarge.{passes, too_many_items}
 use Rattle.walrus_writing.proofs.RefusesUnspelled.{unspelled}
 
 -- ---- before items are written
@@ -35,11 +36,13 @@ dead_refused X c v (Memory m) r = tt
 dead_refused X c v DeadItem r = r
 dead_refused X c v _ r = absurd r
 
--- imports and items don't name each other
-pub unmatched_refused : (X : Type 0) (c : Config) (v : Abstract) (e : Error) → RefusesUnmatched v e → RefusesSoFar {X = X} c v (told {X = X} (Err e))
-unmatched_refused X c v TwoIndices r = r
-unmatched_refused X c v NoIndex r = r
-unmatched_refused X c v _ r = absurd r
+-- they have no plan
+pub plan_refused : (X : Type 0) (c : Config) (p : Parts) (e : Error) → RefusesPlan p e → RefusesSoFar {X = X} c (parts_view p) (told {X = X} (Err e))
+plan_refused X c p (Memory m) r = tt
+plan_refused X c p TwoIndices r = r
+plan_refused X c p NoIndex r = r
+plan_refused X c p TooLarge r = (r.0, r.1, λ sayable. too_many_items c p r.2)
+plan_refused X c p _ r = absurd r
 
 -- ---- items
 
@@ -60,7 +63,7 @@ module _ (c : Config) (p : Parts) (lives : HasDead (parts_view p) → ⊥) (decl
   items_with : {X : Type 0} (view : X → List ℕ) (result : Result X Error) → Refuses view result (features_of c)
   items_with view (Ok x) sizes spells r = (no_cause c p spells.records lives ordered (sizes.1 (view x) spells), undeclared_none)
   items_with view (Err NotWritable) sizes spells r = inl (unspelled c p lives r)
-  items_with view (Err TooLarge) sizes spells r = (two V matched, lacks_none c p matched before ordered, λ sayable. passes c p sizes.0 r)
+  items_with view (Err TooLarge) sizes spells r = (two V matched, lacks_none p matched before ordered, λ sayable. passes c p sizes.0 r)
   items_with view (Err (Memory m)) sizes spells r = tt
   items_with view (Err _) sizes spells r = absurd r
 

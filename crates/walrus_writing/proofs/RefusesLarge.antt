@@ -1,4 +1,4 @@
--- What passes 32 bits; and that where it does, nothing lacks an index.
+-- What passes 32 bits.
 use Rattle.std.proofs.Common.{inl, inr, ◌≡◌, ℕ, zero, suc, ◌<◌, List, [], ◌∷◌, map, length, refl, sym, ap, subst, arith}
 use Rattle.std.specs.Prelude.{◌≢◌, Option, All, AllPairs, Contains, slice_index_or}
 use Rattle.walrus_base.specs.Id.{place}
@@ -7,23 +7,20 @@ use Rattle.walrus_types.specs.Operators.{locals_of}
 use Rattle.walrus_code.specs.Function.{body_of as ops_of_local}
 use Rattle.walrus_functions.specs.DeclaredLocals.{GoesBefore, AreDeclared}
 use Rattle.walrus_functions.proofs.LawOrder.{turn}
-use Rattle.walrus_groups.specs.Indexed.{AreInOrder}
-use Rattle.walrus_types.specs.ModuleTypes.{type_slots}
 use Rattle.walrus_functions.specs.EmittedBody.{HasTooManyLocals}
 use Rattle.walrus_contents.specs.View.{body, parts_view}
 use Rattle.walrus_contents.specs.declared.parts.Parts.{Parts}
 use Rattle.walrus_model.specs.Abstract.{Abstract}
 use Rattle.walrus_model.specs.Config.{Config}
 use Rattle.walrus_model.specs.Names.{body_of_function}
-use Rattle.walrus_model.specs.WellMade.{ImportsMatch}
 use Rattle.walrus_rules.specs.Features.{features_of}
-use Rattle.walrus_rules.specs.Refused.{LacksIndex, NotBrought, LocalGlobalRead, LaterGlobalRead, LaterSupertype, LaterType, PassesLimits, ManyItems, ManyLocals}
+use Rattle.walrus_rules.specs.Refused.{PassesLimits, ManyItems, ManyLocals}
 use Rattle.walrus_model.proofs.Indices.{planned_rising}
+use Rattle.walrus_plan.specs.Refusals.{HasTooManyItems}
 use Rattle.walrus_writing.specs.Parts.{slots_of}
-use Rattle.walrus_writing.specs.Reads.{ReadsInOrder}
 use Rattle.walrus_writing.specs.Records.{DoesNotFit}
 use Rattle.walrus_writing.specs.Refusals as refusals
-use Rattle.walrus_writing.specs.Refusals.{HasBody, HasTooManyItems}
+use Rattle.walrus_writing.specs.Refusals.{HasBody}
 
 -- ---- declared locals
 
@@ -55,7 +52,7 @@ module _ (c : Config) (p : Parts) where
 
   -- ---- too many items or locals
 
-  too_many_items : HasTooManyItems p → PassesLimits c V
+  pub too_many_items : HasTooManyItems p → PassesLimits c V
   too_many_items (plan, (is_plan, (s, many))) = let n = planned_rising V plan is_plan s in ManyItems s n.0 n.1 n.2 (omega (arith, many, n.3))
 
   many_locals : HasBody p (features_of c) HasTooManyLocals → PassesLimits c V
@@ -66,15 +63,5 @@ module _ (c : Config) (p : Parts) where
 
   -- a count or a size passes 32 bits
   pub passes : (DoesNotFit p (features_of c) → PassesLimits c V) → refusals.PassesLimits p (features_of c) → PassesLimits c V
-  passes unfit (inl h) = too_many_items h
-  passes unfit (inr (inl h)) = many_locals h
-  passes unfit (inr (inr h)) = unfit h
-
-  -- ---- where imports and items name each other, and types and what initialisers read stand in order, nothing lacks an index
-
-  pub lacks_none : ImportsMatch V → ReadsInOrder V → AreInOrder (type_slots p.types.now) → LacksIndex V → ⊥
-  lacks_none matched before ordered (NotBrought y i says none) = let named = matched.items y i says in none named.0 named.1 named.2
-  lacks_none matched before ordered (LocalGlobalRead i g reads live not) = not (before.tables i g reads live)
-  lacks_none matched before ordered (LaterGlobalRead i g reads live not) = not (before.globals i g reads live)
-  lacks_none matched before ordered (LaterSupertype t u x at named live not) = not (ordered.supertypes t u x at named)
-  lacks_none matched before ordered (LaterType t u x at named live not) = not (ordered.others t u x at named)
+  passes unfit (inl h) = many_locals h
+  passes unfit (inr h) = unfit h

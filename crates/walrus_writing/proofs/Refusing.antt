@@ -44,7 +44,6 @@ use Rattle.walrus_contents.specs.View.{export_of, global_of, memory_of, parts_vi
 use Rattle.walrus_contents.specs.declared.parts.Parts.{Parts}
 use Rattle.walrus_contents.proofs.Slots.{stands_at}
 use Rattle.walrus_model.specs.Abstract.{Memory}
-use Rattle.walrus_model.specs.Plan as model
 use Rattle.walrus_model.specs.Plan.{AreNumbered, IsPlan}
 use Rattle.walrus_model.specs.WellMade.{ImportsMatch}
 use Rattle.walrus_model.specs.Sections as said
@@ -55,15 +54,15 @@ use Rattle.walrus_parts.specs.declared.error.Error.TheVariants as Parts_error
 use Rattle.walrus_rules.specs.Examples.{empty_text}
 use Rattle.walrus_rules.proofs.OneSections.{laid}
 use Rattle.walrus_writing.specs.Parts.{HasBytes, export_with_index, memory_limits, tag_index, type_index, unplaced}
-use Rattle.walrus_writing.specs.Brought.{import_numbers, own_of, own_places, places_brought}
+use Rattle.walrus_plan.specs.Brought.{import_numbers, own_of, own_places, places_brought}
 use Rattle.walrus_writing.specs.Imported.{IsEntryAt}
-use Rattle.walrus_writing.specs.Places.{places, places_own}
+use Rattle.walrus_plan.specs.Places.{places, places_own}
 use Rattle.walrus_writing.specs.Records.{Records, Spells, sections_with, text_of}
 use Rattle.walrus_writing.specs.Globals.{IsSpelledGlobal, RefusesGlobals}
-use Rattle.walrus_writing.specs.Reads.{ReadsInOrder}
-use Rattle.walrus_writing.specs.Refusals.{ABody, AType, ATable, AGlobal, RefusesBodies, RefusesCounts, RefusesItems, RefusesTypes}
+use Rattle.walrus_plan.specs.Reads.{ReadsInOrder}
+use Rattle.walrus_writing.specs.Refusals.{ABody, AType, ATable, AGlobal, RefusesBodies, RefusesItems, RefusesTypes}
 use Rattle.walrus_writing.specs.Tables.{IsSpelledTable, RefusesTables}
-use Rattle.walrus_writing.specs.declared.plan.Plan.{Plan}
+use Rattle.walrus_plan.specs.declared.plan.Plan.{Plan}
 use Rattle.walrus_writing.proofs.OwnPlaces.{defined_own, parted_own, seen_by_own}
 use Rattle.walrus_writing.proofs.Sections.{all_sections, bytes_same, each_section, plain}
 use Rattle.walrus_writing.proofs.Spelled.{globals_all_spelled, tables_all_spelled}
@@ -73,11 +72,6 @@ use Rattle.walrus_writing.proofs.TextStands.{bodies_same}
 -- ---- refusals
 
 module _ (p : Parts) (features : Features) (X : Type 0) where
-  pub counts_refused : (plan : model.Plan) (e : Error) → IsPlan (parts_view p) plan → RefusesCounts plan e → RefusesItems {X = X} p features (Err e)
-  counts_refused plan (Parts_error.Memory m) is_plan r = tt
-  counts_refused plan Parts_error.TooLarge is_plan r = inl (plan, (is_plan, r))
-  counts_refused plan _ is_plan r = absurd r
-
   pub types_refused : (e : Error) → RefusesTypes (type_slots p.types.now) e → RefusesItems {X = X} p features (Err e)
   types_refused (Parts_error.Memory m) r = tt
   types_refused Parts_error.NotWritable r = AType r
@@ -86,7 +80,7 @@ module _ (p : Parts) (features : Features) (X : Type 0) where
   pub bodies_refused : (e : Error) → RefusesBodies p features e → RefusesItems {X = X} p features (Err e)
   bodies_refused (Parts_error.Memory m) r = tt
   bodies_refused Parts_error.NotWritable r = ABody r
-  bodies_refused Parts_error.TooLarge r = inr (inl r)
+  bodies_refused Parts_error.TooLarge r = inl r
   bodies_refused _ r = absurd r
 
   pub tables_refused : (e : Error) → RefusesTables (items (tables p.tables.now)) e → RefusesItems {X = X} p features (Err e)
@@ -219,4 +213,4 @@ module _ (p : Parts) (features : Features) (names : Lookup) (plan : Plan) (raws 
     pub records_refused : (X : Type 0) (e : WireError) → WritesModule (Err e) m → RefusesItems {X = X} p features (Err (error_of_wire e))
     records_refused X Wire.Malformed refused = absurd refused
     records_refused X (Wire.Memory e) refused = tt
-    records_refused X Wire.TooLarge refused = inr (inr (record { records = records_of; too_large = λ all. refused (subst ModuleFits (sym module_is) (each_section (text_of records_of) SectionFits none_fit all)) }))
+    records_refused X Wire.TooLarge refused = inr (record { records = records_of; too_large = λ all. refused (subst ModuleFits (sym module_is) (each_section (text_of records_of) SectionFits none_fit all)) })

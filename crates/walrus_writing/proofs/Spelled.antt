@@ -20,16 +20,16 @@ use Rattle.walrus_model.specs.Spaces.{Thing, look}
 use Rattle.walrus_model.specs.WellMade.{ImportsMatch, import_in, import_of, origin_import}
 use Rattle.walrus_model.proofs.Lists.{Contains-head, Contains-map, Contains-none, Contains-tail, Contains-uncons}
 use Rattle.walrus_model.proofs.Standing.{got_where, none_there, some_inj, zip_right}
-use Rattle.walrus_writing.specs.Brought.{import_numbers, own_of}
+use Rattle.walrus_plan.specs.Brought.{import_numbers, own_of}
 use Rattle.walrus_writing.specs.Globals.{GlobalIsUnspelled, IsSpelledGlobal}
 use Rattle.walrus_writing.specs.Globals as global_causes
 use Rattle.walrus_writing.specs.Imported.{IsEntryAt, is_exact_thing}
-use Rattle.walrus_writing.specs.Local.{is_own}
+use Rattle.walrus_plan.specs.Local.{is_own}
 use Rattle.walrus_writing.specs.Tables.{IsSpelledTable, TableIsUnspelled}
 use Rattle.walrus_writing.specs.Tables as table_causes
 use Rattle.walrus_writing.proofs.Bare.{brought_bare}
-use Rattle.walrus_writing.proofs.Matching.{origin_back}
-use Rattle.walrus_writing.proofs.Somes.{none_some}
+use Rattle.walrus_plan.proofs.Matching.{origin_back}
+use Rattle.walrus_plan.proofs.Somes.{none_some}
 
 -- ---- what passes a test is among those that do
 

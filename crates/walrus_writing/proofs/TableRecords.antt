@@ -20,7 +20,7 @@ use Rattle.walrus_model.proofs.Standing.{none_there, some_inj}
 use Rattle.walrus_constants.specs.Named.{named_initialiser, named_ref, named_table}
 use Rattle.walrus_constants.specs.Written.{IndexesConst, IsUnspelled}
 use Rattle.walrus_constants.proofs.Causes.{not_found}
-use Rattle.walrus_writing.proofs.Somes.{none_some}
+use Rattle.walrus_plan.proofs.Somes.{none_some}
 use Rattle.walrus_writing.specs.Tables.{TableIsUnspelled, ExactElement, UnspelledInitialiser, IndexesTable, IndexesInitial}
 
 -- ---- both parts

@@ -19,7 +19,7 @@ use Rattle.walrus_model.proofs.Indices.{planned_below}
 use Rattle.walrus_rules.specs.Spelling.{BodyStands}
 use Rattle.walrus_rules.specs.Text.{sections_of}
 use Rattle.walrus_rules.specs.Text as text
-use Rattle.walrus_writing.specs.Brought.{import_numbers}
+use Rattle.walrus_plan.specs.Brought.{import_numbers}
 use Rattle.walrus_writing.specs.Parts.{HasBytes, source, tag_index, type_index, type_index_of, export_with_index, unplaced}
 use Rattle.walrus_writing.specs.Records.{Records, text_of, texts_in}
 use Rattle.walrus_writing.proofs.CarriedOver.{export_parts}

@@ -14,7 +14,7 @@ use Rattle.walrus_model.specs.Renaming.{Renaming}
 use Rattle.walrus_rules.specs.Text.{BodyText}
 use Rattle.walrus_rules.proofs.OneSections.{laid}
 use Rattle.walrus_rules.proofs.OneSpelling.{told}
-use Rattle.walrus_writing.specs.Brought.{import_numbers}
+use Rattle.walrus_plan.specs.Brought.{import_numbers}
 use Rattle.walrus_writing.specs.Parts.{HasBytes}
 use Rattle.walrus_writing.specs.Records.{Records, text_of, texts_in}
 

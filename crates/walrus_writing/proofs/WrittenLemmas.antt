@@ -27,7 +27,7 @@ use Rattle.walrus_rules.specs.Namings.{is_in_range}
 use Rattle.walrus_rules.specs.Pinned.{IsWrittenAs}
 use Rattle.walrus_rules.specs.Sections.{items_of}
 use Rattle.walrus_rules.specs.Text.{said}
-use Rattle.walrus_writing.specs.Brought.{import_numbers}
+use Rattle.walrus_plan.specs.Brought.{import_numbers}
 use Rattle.walrus_writing.specs.Emitted.{IsPlain}
 use Rattle.walrus_writing.specs.Records.{Records}
 use Rattle.walrus_writing.proofs.CarriedOver.{carried_over, pinned_locals}

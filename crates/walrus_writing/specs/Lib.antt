@@ -1,14 +1,7 @@
-pub mod Brought
 pub mod Emitted
 pub mod Globals
 pub mod Imported
-pub mod Local
-pub mod Matched
 pub mod Parts
 pub mod Records
 pub mod Refusals
-pub mod Sizes
-pub mod Places
-pub mod Reads
 pub mod Tables
-pub mod Origins

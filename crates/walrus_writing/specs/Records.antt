@@ -27,10 +27,10 @@ use Rattle.walrus_rules.specs.Examples.{empty_text}
 use Rattle.walrus_rules.specs.Spelling.{written_as}
 use Rattle.walrus_rules.specs.Text.{BodyText, Text, sections_of}
 use Rattle.walrus_writing.specs.Globals.{GlobalIsUnspelled}
-use Rattle.walrus_writing.specs.Brought.{import_numbers}
+use Rattle.walrus_plan.specs.Brought.{import_numbers}
 use Rattle.walrus_writing.specs.Imported.{IsEntryAt}
 use Rattle.walrus_writing.specs.Parts.{type_index, memory_limits, tag_index, export_with_index, HasBytes}
-use Rattle.walrus_writing.specs.Reads.{ReadsInOrder}
+use Rattle.walrus_plan.specs.Reads.{ReadsInOrder}
 use Rattle.walrus_writing.specs.Tables.{TableIsUnspelled}
 
 -- the things of a space, in the order of the plan, have these records

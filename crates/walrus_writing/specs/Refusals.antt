@@ -1,8 +1,7 @@
--- Why items that name nothing dead, and that all have an index, can't be written.
-use Rattle.std.specs.Prelude.{ℕ, List, Option, Some, Contains, length, ◌≡◌, ◌≤◌, ◌^◌, ◌⊎◌, ⊤, Result, Ok, Err}
+-- Why items that name nothing dead, and that have a plan, can't be written.
+use Rattle.std.specs.Prelude.{ℕ, List, Option, Some, Contains, ◌≡◌, ◌⊎◌, ⊤, Result, Ok, Err}
 use Rattle.walrus_base.specs.Arena.{items}
 use Rattle.walrus_types.specs.ModuleTypes.{type_slots}
-use Rattle.walrus_types.specs.Operators.{Space}
 use Rattle.walrus_types.specs.TypeDef.{TypeDef}
 use Rattle.walrus_code.specs.Names.{Lookup}
 use Rattle.walrus_code.specs.declared.function.LocalFunction.{LocalFunction}
@@ -17,7 +16,6 @@ use Rattle.walrus_writing.specs.Imported.{ImportIsExact}
 use Rattle.walrus_writing.specs.Tables.{TableIsUnspelled}
 use Rattle.walrus_contents.specs.declared.parts.Parts.{Parts}
 use Rattle.walrus_model.specs.Abstract.{Import}
-use Rattle.walrus_model.specs.Plan.{IsPlan, Plan}
 use Rattle.walrus_writing.specs.Parts.{function_seen, source}
 use Rattle.walrus_writing.specs.Records.{DoesNotFit}
 use Rattle.walrus_parts.specs.declared.error.Error.{Error}
@@ -27,17 +25,9 @@ use Rattle.walrus_parts.specs.declared.error.Error.TheVariants.{Memory, NotWrita
 abbrev pub HasBody : Parts → Features → (Source → Type 0) → Type 0
 HasBody p features P = (names : Lookup) × ((number : ℕ) × ((local : LocalFunction) × (((parts_view p).functions number ≡ Some (function_seen p local)) × P (source p names features local))))
 
--- a space of the plan has too many items
-abbrev pub HasTooMany : Plan → Type 0
-HasTooMany plan = (space : Space) × (2 ^ 32 ≤ length (plan space))
-
--- so has one of a plan of the module
-abbrev pub HasTooManyItems : Parts → Type 0
-HasTooManyItems p = (plan : Plan) × (IsPlan (parts_view p) plan × HasTooMany plan)
-
--- a count or a size passes 32 bits: the items of a space, the locals of a function, or what is written
+-- a count or a size passes 32 bits: the locals of a function, or what is written
 abbrev pub PassesLimits : Parts → Features → Type 0
-PassesLimits p features = HasTooManyItems p ⊎ (HasBody p features HasTooManyLocals ⊎ DoesNotFit p features)
+PassesLimits p features = HasBody p features HasTooManyLocals ⊎ DoesNotFit p features
 
 -- what no bytes spell: a body, an exact heap type in a type, the type of an imported item, a table, or a global
 pub data HasUnspellable (p : Parts) (features : Features) : Type 0 where
@@ -47,7 +37,7 @@ pub data HasUnspellable (p : Parts) (features : Features) : Type 0 where
   ATable : (t : TableValue) → Contains (items (tables p.tables.now)) t → TableIsUnspelled (table_of t) → HasUnspellable p features
   AGlobal : (g : GlobalValue) → Contains (items (globals p.globals.now)) g → GlobalIsUnspelled (global_of g) → HasUnspellable p features
 
--- items that name nothing dead and all have an index: each refusal comes with its cause
+-- items that name nothing dead and have a plan: each refusal comes with its cause
 abbrev pub RefusesItems : {X : Type 0} → Parts → Features → Result X Error → Type 0
 RefusesItems p features (Ok x) = ⊤
 RefusesItems p features (Err NotWritable) = HasUnspellable p features
@@ -56,12 +46,6 @@ RefusesItems p features (Err (Memory e)) = ⊤
 RefusesItems p features (Err _) = ⊥
 
 -- ---- refusals of the parts
-
--- the items of all spaces are numbered
-abbrev pub RefusesCounts : Plan → Error → Type 0
-RefusesCounts plan (Memory e) = ⊤
-RefusesCounts plan TooLarge = HasTooMany plan
-RefusesCounts plan _ = ⊥
 
 -- types are spelled: an exact heap type stands in one
 abbrev pub RefusesTypes : List (Option TypeDef) → Error → Type 0

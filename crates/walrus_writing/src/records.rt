@@ -17,13 +17,12 @@ ghost use Rattle.walrus_parts.specs.Errors.{out_of_memory};
 ghost use Rattle.wasm_entries.specs.Record.{group, export_entry, global_entry, import_entry, table_entry};
 ghost use Rattle.wasm_entries.specs.TypeSpelling.{IsBelow, LimitsStand};
 ghost use Rattle.wasm_frames.specs.Record.{body_record, sections};
-ghost use Rattle.walrus_writing.specs.Brought.{own_of};
+ghost use Rattle.walrus_plan.specs.Brought.{own_of};
 ghost use Rattle.walrus_writing.specs.Parts.{index_at, kind_in, type_index, memory_limits, tag_index, export_with_index, unplaced};
 ghost use Rattle.walrus_writing.specs.Records.{sections_with};
 ghost use Rattle.walrus_writing.specs.Refusals.{RefusesTypes};
 
 use crate::bodies::local_of;
-use crate::origins::tag_import;
 use std::alloc::Global;
 use walrus_contents::Parts;
 use walrus_groups::index_types;
@@ -32,6 +31,7 @@ use walrus_items::{
     Export, ExportItem, Memory, ModuleExports, ModuleFunctions, ModuleMemories, ModuleTags, Tag,
 };
 use walrus_parts::{Error, Result};
+use walrus_plan::tag_import;
 use wasm_wire::{
     Raw, RawBody, RawExport, RawExportKind, RawGlobal, RawGroup, RawImport, RawLimits, RawTable,
 };

@@ -13,7 +13,7 @@ ghost use Rattle.walrus_constants.specs.Named.{named_ref, named_table};
 ghost use Rattle.walrus_contents.specs.View.{table_of};
 ghost use Rattle.walrus_items.specs.Tables.{tables, table_value};
 ghost use Rattle.walrus_model.specs.Sections as said;
-ghost use Rattle.walrus_writing.specs.Brought.{own_of};
+ghost use Rattle.walrus_plan.specs.Brought.{own_of};
 ghost use Rattle.walrus_writing.specs.Tables.{IndexesInitial, IndexesTable, IsSpelledTable, RefusesTables};
 
 use crate::records::{limit_of, pages_of};

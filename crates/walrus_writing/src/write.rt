@@ -1,23 +1,17 @@
 //! Writing a module's parts as bytes.
 ghost use Rattle.std.specs.Prelude.{IfOk};
-ghost use Rattle.walrus_types.specs.ModuleTypes.{type_slots};
-ghost use Rattle.walrus_groups.specs.Indexed.{AreInOrder};
 ghost use Rattle.walrus_model.specs.Config.{Config};
 ghost use Rattle.walrus_model.specs.Dead.{HasDead};
-ghost use Rattle.walrus_model.specs.WellMade.{ImportsMatch};
 ghost use Rattle.walrus_rules.specs.SoFar.{RefusesSoFar};
 ghost use Rattle.walrus_contents.specs.View.{parts_view};
 ghost use Rattle.walrus_writing.specs.Emitted.{IsEmitted, IsPlain, told};
-ghost use Rattle.walrus_writing.specs.Reads.{ReadsInOrder};
+ghost use Rattle.walrus_plan.specs.Prepared.{IsPrepared};
 ghost use Rattle.walrus_writing.specs.Records.{Spells};
 ghost use Rattle.walrus_writing.specs.Refusals.{RefusesItems};
 
 use crate::bodies::{Indexed, body_bytes};
 use crate::globals::raw_globals;
 use crate::imported::raw_imports;
-use crate::matched::check_matched;
-use crate::plan::Plan;
-use crate::reads::are_reads_in_order;
 use crate::records::{
     raw_bodies, raw_exports, raw_functions, raw_memories, raw_module, raw_start, raw_tags,
     raw_types,
@@ -25,9 +19,9 @@ use crate::records::{
 use crate::tables::raw_tables;
 use std::alloc::Global;
 use walrus_contents::{Parts, are_references_declared, check_live};
-use walrus_groups::are_in_order;
 use walrus_ir::Features;
 use walrus_parts::{Error, Result};
+use walrus_plan::{Prepared, prepare};
 use wasm_wire::written_module;
 
 /// The bytes of a module of these parts, whose bodies may use these proposals; neither names nor producers are written.
@@ -47,47 +41,43 @@ pub fn write_parts(alloc: Global, parts: Parts<'_>, features: &Features) -> Resu
         (told result) }
 {
     check_live(alloc, parts)?;
-    check_matched(parts)?;
     if !are_references_declared(alloc, parts)? {
         return Err(Error::NotWritable);
     }
-    if !are_reads_in_order(alloc, parts)? {
-        return Err(Error::NoIndex);
-    }
-    if !are_in_order(parts.types) {
-        return Err(Error::NoIndex);
-    }
-    write_items(alloc, parts, features)
+    let prepared = prepare(alloc, parts)?;
+    write_prepared(alloc, parts, &prepared, features)
 }
 
-// The bytes of items that name nothing dead, and that all have an index.
-fn write_items(alloc: Global, parts: Parts<'_>, features: &Features) -> Result<Vec<u8>>
+// The bytes of items that name nothing dead, in the order of their plan, by the indices that it gives.
+fn write_prepared(
+    alloc: Global,
+    parts: Parts<'_>,
+    prepared: &Prepared,
+    features: &Features,
+) -> Result<Vec<u8>>
     requires there { HasDead (parts_view parts) → ⊥ }
-    requires matched { ImportsMatch (parts_view parts) }
-    requires reads { ReadsInOrder (parts_view parts) }
-    requires in_order { AreInOrder (type_slots parts.types.now) }
+    requires planned { IsPrepared parts prepared.now }
     ensures spells { IfOk result (λ bytes. Spells parts.entry features.now bytes.items) }
     ensures refused { RefusesItems parts.entry features.now result }
 {
-    let plan = Plan::new(alloc, parts)?;
-    let indices = plan.indices(alloc)?;
-    let order = plan.own_functions.as_slice();
-    let types = raw_types(alloc, parts.types, &indices)?;
-    let functions = raw_functions(alloc, parts, order, &indices)?;
+    let indices = &prepared.indices;
+    let order = prepared.plan.own_functions.as_slice();
+    let types = raw_types(alloc, parts.types, indices)?;
+    let functions = raw_functions(alloc, parts, order, indices)?;
     let under = Indexed {
         parts,
-        indices: &indices,
+        indices,
         features,
     };
     let bodies = body_bytes(alloc, under, order)?;
     let code = raw_bodies(alloc, bodies.as_slice())?;
-    let imports = raw_imports(alloc, parts, &indices)?;
-    let tables = raw_tables(alloc, parts.tables, &indices)?;
+    let imports = raw_imports(alloc, parts, indices)?;
+    let tables = raw_tables(alloc, parts.tables, indices)?;
     let memories = raw_memories(alloc, parts.memories)?;
-    let tags = raw_tags(alloc, parts.tags, &indices)?;
-    let globals = raw_globals(alloc, parts.globals, &indices)?;
-    let exports = raw_exports(alloc, parts.exports, &indices)?;
-    let start = raw_start(parts.start, &indices);
+    let tags = raw_tags(alloc, parts.tags, indices)?;
+    let globals = raw_globals(alloc, parts.globals, indices)?;
+    let exports = raw_exports(alloc, parts.exports, indices)?;
+    let start = raw_start(parts.start, indices);
     let raw = raw_module(
         alloc, types, imports, functions, tables, memories, tags, globals, exports, start, code,
     );

@@ -3,7 +3,7 @@ use Rattle.std.specs.List.{AllZip}
 use Rattle.walrus_base.specs.Id.{place}
 use Rattle.walrus_code.specs.Indices.{index_of}
 use Rattle.walrus_writing.specs.Parts.{HasBytes}
-use Rattle.walrus_writing.proofs.Turns.{zip_turn}
+use Rattle.walrus_plan.proofs.Turns.{zip_turn}
 use Rattle.walrus_writing.proofs.bodies.body_bytes.Goals as goal
 
 pub loop-id-preserved : goal.loop-id-preserved

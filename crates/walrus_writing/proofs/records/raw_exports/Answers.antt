@@ -9,7 +9,7 @@ use Rattle.walrus_items.specs.Exports.{exports, exports_left}
 use Rattle.walrus_contents.specs.View.{export_of}
 use Rattle.walrus_writing.specs.Parts.{export_with_index}
 use Rattle.walrus_writing.proofs.ItemsLeft.{next_has}
-use Rattle.walrus_writing.proofs.Turns.{list_turn}
+use Rattle.walrus_plan.proofs.Turns.{list_turn}
 use Rattle.walrus_writing.proofs.records.raw_exports.Goals as goal
 
 pub loop-export-preserved : goal.loop-export-preserved

@@ -4,7 +4,7 @@ use Rattle.walrus_base.specs.Id.{place}
 use Rattle.walrus_code.specs.Indices.{index_of}
 use Rattle.walrus_contents.specs.View.{parts_view}
 use Rattle.walrus_writing.specs.Parts.{type_index}
-use Rattle.walrus_writing.proofs.Rows.{left_turn, left_end}
+use Rattle.walrus_plan.proofs.Rows.{left_turn, left_end}
 use Rattle.walrus_writing.proofs.records.raw_functions.Goals as goal
 
 pub loop-id-preserved : goal.loop-id-preserved

@@ -4,7 +4,7 @@ use Rattle.wasm_entries.specs.TypeSpelling.{LimitsStand}
 use Rattle.walrus_base.specs.Arena.{items}
 use Rattle.walrus_items.specs.Memories.{memories, memories_left}
 use Rattle.walrus_contents.specs.View.{memory_of}
-use Rattle.walrus_writing.specs.Brought.{own_of}
+use Rattle.walrus_plan.specs.Brought.{own_of}
 use Rattle.walrus_writing.specs.Parts.{memory_limits}
 use Rattle.walrus_writing.proofs.records.raw_memories.Given as goal
 

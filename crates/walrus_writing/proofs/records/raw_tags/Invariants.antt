@@ -3,7 +3,7 @@ use Rattle.walrus_base.specs.Arena.{items}
 use Rattle.walrus_code.specs.Indices.{index_of}
 use Rattle.walrus_items.specs.Tags.{tags, tags_left}
 use Rattle.walrus_contents.specs.View.{tag_of}
-use Rattle.walrus_writing.specs.Brought.{own_of}
+use Rattle.walrus_plan.specs.Brought.{own_of}
 use Rattle.walrus_writing.specs.Parts.{tag_index}
 use Rattle.walrus_writing.proofs.records.raw_tags.Given as goal
 

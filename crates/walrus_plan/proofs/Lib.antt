@@ -1,0 +1,15 @@
+pub mod BroughtBy
+pub mod BySize
+pub mod Matching
+pub mod OrderByImport
+pub mod OrdersSpaces
+pub mod OwnFunctions
+pub mod PlannedByImport
+pub mod Planning
+pub mod ReadsBefore
+pub mod RefusesIndex
+pub mod RefusesPlanned
+pub mod Rows
+pub mod Somes
+pub mod SortedPairs
+pub mod Turns

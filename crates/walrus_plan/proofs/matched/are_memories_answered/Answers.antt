@@ -1,0 +1,29 @@
+use Rattle.std.proofs.Common.{ap, ◌∙◌, refl}
+use Rattle.walrus_types.specs.Operators.{Memories}
+use Rattle.walrus_items.specs.Memories.{memories, memory_entries_left, memory_value}
+use Rattle.walrus_model.specs.WellMade.{origin_import}
+use Rattle.walrus_contents.specs.View as seen
+use Rattle.walrus_contents.specs.View.{parts_view}
+use Rattle.walrus_contents.proofs.Walked.{walk_begins}
+use Rattle.walrus_plan.proofs.Matching.{AnsweredAt, all_answered, answers_go, memory_says, lacks_here}
+use Rattle.walrus_plan.proofs.matched.are_memories_answered.Goals as goal
+
+pub loop-id-init : goal.loop-id-init
+loop-id-init c =
+    let p = c.args.parts in
+    (tt, tt, walk_begins (AnsweredAt (parts_view p) Memories) (memories p.memories.now) _ (ap memory_entries_left c.into_iter-id-iterator.ensures.into_iter_gives ∙ c.iter_entries-id-items.ensures))
+
+pub returns-then-not-is_answered-clause-lacks : goal.returns-then-not-is_answered-clause-lacks
+returns-then-not-is_answered-clause-lacks c = λ is.
+    let p = c.args.parts in
+    lacks_here seen.memory_of (λ x. origin_import x.origin) (parts_view p) Memories (memories p.memories.now) (λ i. refl) _ _ _ c.in-Some.ensures.steps c.loop-id.invariant.2 _ (memory_says (memory_value c.in-Some.memory.now)) (c.is_answered.ensures.not c.if-not-is_answered.true)
+
+pub loop-id-preserved : goal.loop-id-preserved
+loop-id-preserved c =
+    let p = c.args.parts in
+    (tt, tt, answers_go seen.memory_of (λ x. origin_import x.origin) (parts_view p) Memories (memories p.memories.now) (λ i. refl) _ _ _ c.in-Some.ensures.steps c.loop-id.invariant.2 _ (memory_says (memory_value c.in-Some.memory.now)) (c.is_answered.ensures.answered c.if-not-is_answered.false))
+
+pub returns-clause-answered : goal.returns-clause-answered
+returns-clause-answered c = λ is.
+    let p = c.args.parts in
+    all_answered seen.memory_of (λ x. origin_import x.origin) (parts_view p) Memories (memories p.memories.now) (λ i. refl) _ c.in-None.ensures.steps.0 c.loop-id.invariant.2

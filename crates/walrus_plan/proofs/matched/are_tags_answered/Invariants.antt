@@ -1,0 +1,13 @@
+use Rattle.walrus_types.specs.Operators.{Tags}
+use Rattle.walrus_items.specs.Tags.{tags, tag_entries_left}
+use Rattle.walrus_contents.specs.View.{parts_view}
+use Rattle.walrus_contents.proofs.Walked.{Walked}
+use Rattle.walrus_plan.proofs.Matching.{AnsweredAt}
+use Rattle.walrus_plan.proofs.matched.are_tags_answered.Given as goal
+
+-- the tags that aren't left are answered
+abbrev pub invariant-loop-id : goal.invariant-loop-id
+invariant-loop-id l =
+    goal.iterator-loop-id.can_next l.id-iterator
+    × goal.iterator-loop-id.is_finite l.id-iterator
+    × Walked (AnsweredAt (parts_view l.parts) Tags) (tags l.parts.tags.now) (tag_entries_left l.id-iterator)

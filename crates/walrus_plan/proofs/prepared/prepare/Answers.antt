@@ -1,0 +1,50 @@
+use Rattle.std.proofs.Common.{subst}
+use Rattle.std.specs.Bool.{OnFalse}
+use Rattle.std.proofs.lemmas.Result.{err_from_is_err_and}
+use Rattle.walrus_types.specs.ModuleTypes.{type_slots}
+use Rattle.walrus_groups.specs.Indexed.{IsOutOfOrder}
+use Rattle.walrus_plan.specs.Places.{places}
+use Rattle.walrus_plan.proofs.RefusesIndex.{out_of_order}
+use Rattle.walrus_plan.proofs.RefusesPlanned.{counts_refused, unmatched_refused}
+use Rattle.walrus_plan.proofs.prepared.prepare.Goals as goal
+
+pub returns-in_err-check_matched-clause-refused : goal.returns-in_err-check_matched-clause-refused
+returns-in_err-check_matched-clause-refused c =
+    let p = err_from_is_err_and c.from_residual.result c.from_residual.ensures.1 in
+    rw (p.1, p.2) (unmatched_refused c.args.parts _ c.in_err-check_matched.ensures)
+
+pub returns-then-not-branch-clause-refused : goal.returns-then-not-branch-clause-refused
+returns-then-not-branch-clause-refused c = c.in_ok-are_reads_in_order.ensures.lacks c.if-not-branch.true
+
+pub returns-then-not-are_in_order-clause-refused : goal.returns-then-not-are_in_order-clause-refused
+returns-then-not-are_in_order-clause-refused c =
+    out_of_order c.args.parts c.requires.there (subst (λ b. OnFalse b (IsOutOfOrder (type_slots c.args.parts.types.now))) c.if-not-are_in_order.true c.are_in_order.ensures.cause)
+
+pub indices-requires : goal.indices-requires
+indices-requires c = record { distinct = λ s. ((c.in_ok-plan.ensures.plan c.requires.there c.in_ok-check_matched.ensures).holds s).differ }
+
+pub returns-in_err-indices-clause-refused : goal.returns-in_err-indices-clause-refused
+returns-in_err-indices-clause-refused c =
+    let p = err_from_is_err_and c.from_residual-in_err-indices.result c.from_residual-in_err-indices.ensures.1 in
+    rw (p.1, p.2) (counts_refused c.args.parts c.in_ok-check_matched.ensures
+    (c.in_ok-are_reads_in_order.ensures.in_order c.if-not-branch.false) (c.are_in_order.ensures.in_order.0 c.if-not-are_in_order.false)
+    (places c.in_ok-plan.plan) _ (c.in_ok-plan.ensures.plan c.requires.there c.in_ok-check_matched.ensures) c.in_err-indices.ensures.fails)
+
+pub returns-clause-prepared : goal.returns-clause-prepared
+returns-clause-prepared c =
+    let plan = c.in_ok-plan.ensures in
+    record {
+      matched = c.in_ok-check_matched.ensures;
+      reads = c.in_ok-are_reads_in_order.ensures.in_order c.if-not-branch.false;
+      in_order = c.are_in_order.ensures.in_order.0 c.if-not-are_in_order.false;
+      is_plan = plan.plan c.requires.there c.in_ok-check_matched.ensures;
+      numbered = c.in_ok-indices.ensures.value;
+      few = c.in_ok-indices.ensures.few;
+      types = plan.types;
+      own = plan.own;
+      functions = plan.functions;
+      tables = plan.tables;
+      memories = plan.memories;
+      tags = plan.tags;
+      globals = plan.globals;
+    }

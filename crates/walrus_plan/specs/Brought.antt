@@ -1,0 +1,25 @@
+-- The order of the items of an index space: what imports bring, and then what the module defines.
+use Rattle.std.specs.Prelude.{ℕ, List, Option, filter, filter_map, map}
+use Rattle.walrus_base.specs.Arena.{entries}
+use Rattle.walrus_types.specs.Operators.{Space}
+use Rattle.walrus_contents.specs.declared.parts.Parts.{Parts}
+use Rattle.walrus_parts.specs.Kinds.{imported}
+use Rattle.walrus_items.specs.Imports.{ImportValue, imports}
+use Rattle.walrus_model.specs.Imported.{number_in}
+use Rattle.walrus_plan.specs.Local.{is_own}
+
+-- the places of what these imports bring to a space, in their order
+abbrev pub places_brought : Space → List ImportValue → List ℕ
+places_brought s all = filter_map (λ i. number_in s (imported i.kind)) all
+
+-- those of these that no import brings
+abbrev pub own_of : {X : Type 0} → (X → Option ℕ) → List X → List X
+own_of imported_by all = filter (λ x. is_own (imported_by x)) all
+
+-- their places
+abbrev pub own_places : {X : Type 0} → (X → Option ℕ) → List (ℕ × X) → List ℕ
+own_places imported_by all = map (λ e. e.0) (own_of (λ e. imported_by e.1) all)
+
+-- the numbers of the imports, rising
+abbrev pub import_numbers : Parts → List ℕ
+import_numbers p = map (λ e. e.0) (entries (imports p.imports.now))

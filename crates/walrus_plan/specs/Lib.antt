@@ -1,0 +1,9 @@
+pub mod Brought
+pub mod Local
+pub mod Matched
+pub mod Origins
+pub mod Places
+pub mod Prepared
+pub mod Reads
+pub mod Refusals
+pub mod Sizes

@@ -1,0 +1,197 @@
+//! The order in which items are written, and their indices ("Structure > Modules > Indices").
+ghost use Rattle.std.specs.Prelude.{◌≡◌, ◌<◌, ◌^◌, ◌++◌, ℕ, map, length, IfOk, IfErr, IsOkUnless, OnOk, nat_eq};
+ghost use Rattle.walrus_base.specs.Arena.{entries, items};
+ghost use Rattle.std.specs.List.{IsDistinct};
+ghost use Rattle.walrus_base.specs.Id.{place};
+ghost use Rattle.walrus_types.specs.ModuleTypes.{type_slots};
+ghost use Rattle.walrus_code.specs.Indices.{index_of};
+ghost use Rattle.walrus_types.specs.Operators.{Space, Types, Functions, Tables, Memories, Tags, Globals};
+ghost use Rattle.walrus_items.specs.Functions.{functions};
+ghost use Rattle.walrus_items.specs.Imports.{imports};
+ghost use Rattle.walrus_contents.specs.View.{parts_view};
+ghost use Rattle.walrus_items.specs.Globals.{globals, global_import};
+ghost use Rattle.walrus_items.specs.Memories.{memories};
+ghost use Rattle.walrus_items.specs.Tables.{tables};
+ghost use Rattle.walrus_items.specs.Tags.{tags};
+ghost use Rattle.walrus_model.specs.Dead.{HasDead};
+ghost use Rattle.walrus_model.specs.Plan.{AreNumbered, IsPlan};
+ghost use Rattle.walrus_model.specs.WellMade.{ImportsMatch};
+ghost use Rattle.walrus_parts.specs.Errors.{out_of_memory};
+ghost use Rattle.walrus_plan.specs.Brought.{own_places, places_brought};
+ghost use Rattle.walrus_plan.specs.Local.{is_own};
+ghost use Rattle.walrus_plan.specs.Places.{places};
+ghost use Rattle.walrus_plan.specs.Refusals.{RefusesCounts};
+ghost use Rattle.walrus_plan.specs.Sizes.{local_sizes, IsOrder};
+
+use crate::by_import::{
+    functions_by_import, globals_by_import, memories_by_import, tables_by_import, tags_by_import,
+};
+use std::alloc::Global;
+use std::cmp::Reverse;
+use walrus_contents::Parts;
+use walrus_ir::{
+    FunctionId, GlobalId, IdsToIndices, MemoryId, ModuleTypes, Numbering, TableId, TagId, TypeId,
+};
+use walrus_items::{GlobalKind, ModuleFunctions};
+use walrus_parts::{Error, Result};
+
+/// For each index space the ids of the items in the order in which they are written, so that each one's place in it is its index: what
+/// imports bring, by rising import, and then what the module defines.
+#[derive(Drop)]
+pub struct Plan {
+    /// The types, by rising id.
+    pub types: Vec<TypeId>,
+    /// The functions that the module defines: the larger ones first, and of two as large the one of the smaller id.
+    pub own_functions: Vec<FunctionId>,
+    /// The functions: those that imports bring, and then the module's own.
+    pub functions: Vec<FunctionId>,
+    /// The tables, the module's own by rising id.
+    pub tables: Vec<TableId>,
+    /// The memories, the module's own by rising id.
+    pub memories: Vec<MemoryId>,
+    /// The tags, the module's own by rising id.
+    pub tags: Vec<TagId>,
+    /// The globals, the module's own by rising id.
+    pub globals: Vec<GlobalId>,
+}
+
+impl Plan {
+    /// The order in which the items of these parts are written. Want of memory is the only refusal.
+    pub fn new(alloc: Global, parts: Parts<'_>) -> Result<Plan>
+        ensures types { IfOk result (λ plan. map place plan.types.items
+            ≡ map (λ e. e.0) (entries (type_slots parts.entry.types.now))) }
+        ensures own { IfOk result (λ plan. IsOrder (functions parts.entry.funcs.now)
+            (map place plan.own_functions.items)) }
+        ensures functions { IfOk result (λ plan. map place plan.functions.items
+            ≡ places_brought Functions (items (imports parts.entry.imports.now))
+            ++ map place plan.own_functions.items) }
+        ensures tables { IfOk result (λ plan. map place plan.tables.items
+            ≡ places_brought Tables (items (imports parts.entry.imports.now))
+            ++ own_places (λ x. x.imported_by) (entries (tables parts.entry.tables.now))) }
+        ensures memories { IfOk result (λ plan. map place plan.memories.items
+            ≡ places_brought Memories (items (imports parts.entry.imports.now))
+            ++ own_places (λ x. x.imported_by) (entries (memories parts.entry.memories.now))) }
+        ensures tags { IfOk result (λ plan. map place plan.tags.items
+            ≡ places_brought Tags (items (imports parts.entry.imports.now))
+            ++ own_places (λ x. x.imported_by) (entries (tags parts.entry.tags.now))) }
+        ensures globals { IfOk result (λ plan. map place plan.globals.items
+            ≡ places_brought Globals (items (imports parts.entry.imports.now))
+            ++ own_places (λ x. x.imported_by) (entries (globals parts.entry.globals.now))) }
+        ensures plan { IfOk result (λ plan. (HasDead (parts_view parts.entry) → ⊥)
+            → ImportsMatch (parts_view parts.entry)
+            → IsPlan (parts_view parts.entry) (places plan)) }
+        ensures fails { IsOkUnless result out_of_memory }
+    {
+        let own_functions = functions_by_size(alloc, parts.funcs)?;
+        let functions = functions_by_import(alloc, parts.imports, own_functions.as_slice())?;
+        Ok(Plan {
+            types: types_in_order(alloc, parts.types)?,
+            own_functions,
+            functions,
+            tables: tables_by_import(alloc, parts.imports, parts.tables)?,
+            memories: memories_by_import(alloc, parts.imports, parts.memories)?,
+            tags: tags_by_import(alloc, parts.imports, parts.tags)?,
+            globals: globals_by_import(alloc, parts.imports, parts.globals)?,
+        })
+    }
+
+    /// The index of each item; what the plan doesn't hold has none. Refused with `TooLarge` where an index space has 2^32 items or more,
+    /// and with `Memory`.
+    pub fn indices(&self, alloc: Global) -> Result<IdsToIndices>
+        requires distinct { (space : Space) → IsDistinct nat_eq (places self.now space) }
+        ensures value { IfOk result (λ indices. AreNumbered (index_of indices) (places self.now)) }
+        ensures few { IfOk result (λ _. (space : Space) → length (places self.now space) < 2 ^ 32) }
+        ensures fails { IfErr result (RefusesCounts (places self.now)) }
+    {
+        check_counts(self)?;
+        Ok(IdsToIndices {
+            types: Numbering::along(alloc, self.types.as_slice())?,
+            functions: Numbering::along(alloc, self.functions.as_slice())?,
+            tables: Numbering::along(alloc, self.tables.as_slice())?,
+            memories: Numbering::along(alloc, self.memories.as_slice())?,
+            tags: Numbering::along(alloc, self.tags.as_slice())?,
+            globals: Numbering::along(alloc, self.globals.as_slice())?,
+            elements: Numbering::new(alloc),
+            data_: Numbering::new(alloc),
+        })
+    }
+}
+
+/// Whether the module defines a global of this kind.
+pub fn is_global_own(kind: &GlobalKind) -> bool
+    ensures { result ≡ is_own (global_import kind.now) }
+{
+    match kind {
+        GlobalKind::Local(_) => true,
+        GlobalKind::Import(_) => false,
+    }
+}
+
+// The functions with a body, with their sizes.
+fn sized_functions(
+    alloc: Global,
+    funcs: &ModuleFunctions,
+) -> Result<Vec<(Reverse<usize>, FunctionId)>>
+    ensures value { IfOk result (λ sized. map (λ s. (s.0.0, place s.1)) sized.items
+        ≡ local_sizes (functions funcs.now)) }
+    ensures fails { IsOkUnless result out_of_memory }
+{
+    let mut sized = Vec::new(alloc);
+    for (id, local) in funcs.iter_local() {
+        sized.push((Reverse(local.size()), id))?;
+    }
+    Ok(sized)
+}
+
+// The functions with a body, the larger ones first, and of two as large the one of the smaller id.
+pub fn functions_by_size(alloc: Global, funcs: &ModuleFunctions) -> Result<Vec<FunctionId>>
+    ensures value { IfOk result (λ order. IsOrder (functions funcs.now) (map place order.items)) }
+    ensures fails { IsOkUnless result out_of_memory }
+{
+    let mut sized = sized_functions(alloc, funcs)?;
+    sized.sort_unstable();
+    let ids = ids_of(alloc, sized.as_slice())?;
+    Ok(ids)
+}
+
+fn ids_of(alloc: Global, sized: &[(Reverse<usize>, FunctionId)]) -> Result<Vec<FunctionId>>
+    ensures value { IfOk result (λ ids. map place ids.items ≡ map (λ s. place s.1) sized.now) }
+    ensures fails { IsOkUnless result out_of_memory }
+{
+    let mut ids = Vec::with_capacity(alloc, sized.len())?;
+    for (_, id) in sized {
+        ids.push(*id)?;
+    }
+    Ok(ids)
+}
+
+// The types, by rising id.
+fn types_in_order(alloc: Global, types: &ModuleTypes) -> Result<Vec<TypeId>>
+    ensures value { IfOk result (λ ids. map place ids.items
+        ≡ map (λ e. e.0) (entries (type_slots types.now))) }
+    ensures fails { IsOkUnless result out_of_memory }
+{
+    let mut ids = Vec::with_capacity(alloc, types.len())?;
+    for ty in types.iter() {
+        ids.push(ty.id())?;
+    }
+    Ok(ids)
+}
+
+// Refused where a space has more items than there are indices.
+fn check_counts(plan: &Plan) -> Result<()>
+    ensures few { OnOk result ((space : Space) → length (places plan.now space) < 2 ^ 32) }
+    ensures fails { IfErr result (RefusesCounts (places plan.now)) }
+{
+    let most = u32::MAX as usize;
+    if plan.types.len() > most
+        || plan.functions.len() > most
+        || plan.tables.len() > most
+        || plan.memories.len() > most
+        || plan.tags.len() > most
+        || plan.globals.len() > most
+    {
+        return Err(Error::TooLarge);
+    }
+    Ok(())
+}
