@@ -20,8 +20,9 @@ use crate::initialisers::{push_global_names, push_table_names, push_tag_names};
 use crate::parts::Parts;
 use std::alloc::{AllocError, Global};
 use std::result;
+use walrus_base::FunctionId;
 use walrus_items::{
-    Error, Function, FunctionId, FunctionKind, HeapType, ItemId, LocalFunction, LocalId, ModuleExports,
+    Error, Function, FunctionKind, HeapType, ItemId, LocalFunction, LocalId, ModuleExports,
     ModuleFunctions, ModuleLocals, ModuleTypes, Result, TypeId, ValType,
 };
 

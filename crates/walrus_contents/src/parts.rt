@@ -6,8 +6,9 @@ ghost use Rattle.walrus_model.specs.Live.{IsLive};
 ghost use Rattle.walrus_contents.specs.View.{HoldsNothing, contents_view, parts_view};
 
 use std::alloc::Global;
+use walrus_base::FunctionId;
 use walrus_items::{
-    FunctionId, ItemId, ModuleExports, ModuleFunctions, ModuleGlobals, ModuleImports, ModuleLocals,
+    ItemId, ModuleExports, ModuleFunctions, ModuleGlobals, ModuleImports, ModuleLocals,
     ModuleMemories, ModuleTables, ModuleTags, ModuleTypes, Result,
 };
 use walrus_producers::ModuleProducers;

@@ -28,7 +28,7 @@ use walrus_module::{
     ModuleTypes, Result, TableKey, TagKey, TypeId, TypeKey,
 };
 
-/// The items that the roots of a module reach, by kind. Its roots are its exports so far.
+/// The items that the roots of a module reach, by kind. Its roots are its exports and its start function so far.
 #[derive(Drop)]
 pub struct Used {
     /// The tables.
