@@ -31,7 +31,7 @@ raw_types-requires c = record {
 
 pub returns-in_err-types-clause-refused : goal.returns-in_err-types-clause-refused
 returns-in_err-types-clause-refused c =
-    let p = err_from_is_err_and c.from_residual-in_err-types.result c.from_residual-in_err-types.ensures.1 in
+    let p = err_from_is_err_and c.from_residual.result c.from_residual.ensures.1 in
     rw (p.1, p.2) (types_refused c.args.parts c.args.features.now (Vec ℕ) _ c.in_err-types.ensures.fails)
 
 pub raw_imports-requires : goal.raw_imports-requires
