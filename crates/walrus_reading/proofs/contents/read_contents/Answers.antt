@@ -137,7 +137,7 @@ returns-clause-taken c =
     (subst (λ (l : List ℕ). AddsPlaced HoldsTag (map tag_of l) (tags b.tags) (tags c.add_tags.new.all)) c.deref-7.ensures.value c.in_ok-add_tags.ensures.added)
     (subst (λ (l : List RawGlobal). AddsPlaced HoldsGlobal (map global_of (map global_entry l)) (globals b.globals) (globals c.add_globals.new.all)) c.deref-8.ensures.value c.in_ok-add_globals.ensures.added)
     (subst (λ (l : List RawExport). AllPlaced HoldsExport 0 (map export_entry l) (exports c.add_exports.new.all)) c.deref-9.ensures.value c.in_ok-add_exports.ensures.added)
-    (c.start_named.ensures ∙ all.start)
+    (c.start_named-contents.ensures ∙ all.start)
 
 pub returns-clause-located : goal.returns-clause-located
 returns-clause-located c =
