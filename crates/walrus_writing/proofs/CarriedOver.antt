@@ -57,6 +57,7 @@ use Rattle.walrus_writing.proofs.ImportedAlong.{entries_brought, entries_live}
 use Rattle.walrus_writing.proofs.ImportsCarried.{brought_numbered, import_index, imports_apart, imports_carried, imports_ordered, index_is}
 use Rattle.walrus_writing.proofs.NamedTypes.{def_parts, each_place, same_in_group, group_renamed}
 use Rattle.walrus_writing.proofs.Parted.{body_among, body_behind, functions_brought, stand_among}
+use Rattle.walrus_rules.proofs.OneSections.{later_none}
 use Rattle.walrus_writing.proofs.SameBodies.{uses_all, names_no_data, locals_rise}
 use Rattle.walrus_writing.proofs.TypesEntered.{types_apart}
 use Rattle.walrus_writing.proofs.WrittenAs.{laid_of, module_said, number_is, renaming_of}
@@ -234,7 +235,7 @@ module _ {p : Parts} {features : Features} (r : Records p features) where
       (imports_apart p r.names renaming agrees bare live index numbered r.imports r.imports_are)
       (λ s no_type. planned_apart r.names r.plan r.numbered before after r.is_plan renaming (λ t i. refl) s)
       (same_exports r.names renaming (number_is r) r.exports before.exports r.exports_are)
-      (same_start r.names renaming (number_is r) r.start before.start r.start_is)
+      (later_none r.start ∙ same_start r.names renaming (number_is r) r.start before.start r.start_is)
 
   -- ---- bodies: what one says, what it is made of, and the order of its locals
 

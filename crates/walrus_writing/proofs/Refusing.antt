@@ -1,6 +1,6 @@
 -- What a refusal of a part says of the items that are written, and the records that are.
 use Rattle.wasm_entries.specs.Record as entries
-use Rattle.std.proofs.Common.{inl, inr, ◌≡◌, ℕ, ◌<◌, ◌^◌, List, [], ◌∷◌, ◌++◌, map, length, refl, sym, ap, ◌∙◌, subst, Some}
+use Rattle.std.proofs.Common.{inl, inr, ◌≡◌, ℕ, ◌<◌, ◌^◌, List, [], ◌∷◌, ◌++◌, map, length, refl, sym, ap, ◌∙◌, subst, None, Some}
 use Rattle.std.specs.Prelude.{Option, All, Err, option_and_then, option_map}
 use Rattle.std.specs.Global.{Vec}
 use Rattle.std.specs.List.{AllZip}
@@ -52,7 +52,7 @@ use Rattle.walrus_parts.specs.Errors.{error_of_wire}
 use Rattle.walrus_parts.specs.declared.error.Error.{Error}
 use Rattle.walrus_parts.specs.declared.error.Error.TheVariants as Parts_error
 use Rattle.walrus_rules.specs.Examples.{empty_text}
-use Rattle.walrus_rules.proofs.OneSections.{laid}
+use Rattle.walrus_rules.proofs.OneSections.{laid, later, later_none}
 use Rattle.walrus_writing.specs.Parts.{HasBytes, export_with_index, memory_limits, tag_index, type_index, unplaced}
 use Rattle.walrus_plan.specs.Brought.{import_numbers, own_of, own_places, places_brought}
 use Rattle.walrus_writing.specs.Imported.{IsEntryAt}
@@ -200,7 +200,8 @@ module _ (p : Parts) (features : Features) (names : Lookup) (plan : Plan) (raws 
     module_is : m ≡ laid (text_of records_of)
     module_is =
         sections
-        ∙ ap (sections_with (map group raws) (map import_entry raw_imports) raw_functions (map table_entry raw_tables) raw_memories raw_tags (map global_entry raw_globals) (map export_entry exported) started)
+        ∙ ap (λ (o : Option ℕ). sections_with (map group raws) (map import_entry raw_imports) raw_functions (map table_entry raw_tables) raw_memories raw_tags (map global_entry raw_globals) (map export_entry exported) o code) (sym (later_none started))
+        ∙ ap (sections_with (map group raws) (map import_entry raw_imports) raw_functions (map table_entry raw_tables) raw_memories raw_tags (map global_entry raw_globals) (map export_entry exported) (later started None))
         (codes ∙ sym (map-map unplaced (λ (v : Vec ℕ). v.items) bodies) ∙ sym (bodies_same p names features (map place plan.own_functions.items) (map (λ (v : Vec ℕ). v.items) bodies) records_of.bodies_are))
 
     pub records_written : (bytes : List ℕ) → bytes ≡ module_bytes m → ModuleFits m → Spells p features bytes

@@ -1,6 +1,6 @@
 -- The text that records make has as many bodies as functions, and all its entries stand.
 use Rattle.wasm_entries.specs.Record as entries
-use Rattle.std.proofs.Common.{◌≡◌, ℕ, List, [], ◌∷◌, length, map, refl, sym, ap, ap₂, arith, suc}
+use Rattle.std.proofs.Common.{◌≡◌, ℕ, List, [], ◌∷◌, length, map, refl, sym, ap, ap₂, subst, arith, suc}
 use Rattle.std.specs.Prelude.{All, IfSome, Option, None, Some, option_and_then, option_map}
 use Rattle.std.specs.List.{AllByRecursion, AllZip}
 use Rattle.std.specs.Str.{IsUtf8}
@@ -9,6 +9,7 @@ use Rattle.wasm_entries.specs.Spelling.{IsIndex, ExportStands}
 use Rattle.wasm_writer.specs.Spelling.{SectionStands}
 use Rattle.walrus_types.specs.Operators.{Space, Types, Functions, Tags}
 use Rattle.walrus_model.proofs.Standing.{some_inj}
+use Rattle.walrus_rules.proofs.OneSections.{later_none}
 use Rattle.walrus_bodies.specs.declared.features.Features.{Features}
 use Rattle.walrus_code.specs.Names.{Lookup}
 use Rattle.walrus_contents.specs.View.{parts_view}
@@ -113,7 +114,7 @@ module _ {p : Parts} {features : Features} (r : Records p features) where
     tags = All-from_recursion IsIndex r.tags (tags_stand r.tags (r.own Tags) r.tags_are);
     globals = r.globals_stand;
     exports = All-from_recursion ExportStands r.exports (exports_stand r.exports V.exports r.exports_are (recursion_from_All (λ (e : entries.Export). IsUtf8 e.name) r.exports r.texts));
-    start = start_stands r.start V.start r.start_is;
+    start = subst (λ (o : Option ℕ). IfSome o IsIndex) (sym (later_none r.start)) (start_stands r.start V.start r.start_is);
     elements = All-nil _;
     data_count = tt;
     bodies = tt;
