@@ -48,7 +48,7 @@ fn a_sum_is_read(rt: HostRuntime) -> Result<(), Fail> {
 }
 
 // The items of a segment: the sum, and the value of the global.
-fn raw_items(alloc: Global) -> Result<Vec<Vec<RawConst>>, AllocError> {
+fn items_over_indices(alloc: Global) -> Result<Vec<Vec<RawConst>>, AllocError> {
     let mut value = Vec::new(alloc);
     value.push(RawConst::GlobalGet(0))?;
     let mut items = Vec::new(alloc);
@@ -65,7 +65,7 @@ fn are_items(found: &[ConstExpr], id: GlobalId) -> bool {
 }
 
 fn are_read(alloc: Global, ids: &IndicesToIds, id: GlobalId) -> bool {
-    let Ok(raw) = raw_items(alloc) else {
+    let Ok(raw) = items_over_indices(alloc) else {
         return false;
     };
     matches!(read_consts(alloc, raw.as_slice(), ids), Ok(found) if are_items(found.as_slice(), id))
@@ -106,7 +106,7 @@ fn a_globals_value_is_written(rt: HostRuntime) -> Result<(), Fail> {
 }
 
 // The items of a segment: the value of the global, and five.
-fn items(alloc: Global, id: GlobalId) -> Result<Vec<ConstExpr>, AllocError> {
+fn items_over_ids(alloc: Global, id: GlobalId) -> Result<Vec<ConstExpr>, AllocError> {
     let mut items = Vec::new(alloc);
     items.push(ConstExpr::Global(id))?;
     items.push(ConstExpr::Value(Value::I32(5)))?;
@@ -116,15 +116,14 @@ fn items(alloc: Global, id: GlobalId) -> Result<Vec<ConstExpr>, AllocError> {
 fn are_raw_items(found: &[Vec<RawConst>]) -> bool {
     match found {
         [value, five] => {
-            is_raw_value(value.as_slice())
-                && five.as_slice() == [RawConst::I32Const(5)].as_slice()
+            is_raw_value(value.as_slice()) && five.as_slice() == [RawConst::I32Const(5)].as_slice()
         }
         _ => false,
     }
 }
 
 fn are_written(alloc: Global, indices: &IdsToIndices, id: GlobalId) -> bool {
-    let Ok(items) = items(alloc, id) else {
+    let Ok(items) = items_over_ids(alloc, id) else {
         return false;
     };
     matches!(raw_consts(alloc, items.as_slice(), indices), Ok(raw) if are_raw_items(raw.as_slice()))

@@ -1,6 +1,6 @@
 -- What the loops over lists of constant expressions keep, and what they answer.
 use Rattle.std.proofs.Common.{◌≡◌, ◌∙◌, ℕ, ◌+◌, ◌<◌, List, [], ◌∷◌, ◌++◌, Option, Some, None, map, length, drop, get_or, refl, sym, ap, subst, append_assoc, append-nil, All}
-use Rattle.std.specs.Prelude.{IsSome, Result, Ok, Err}
+use Rattle.std.specs.Prelude.{IsSome, Contains, Result, Ok, Err}
 use Rattle.std.proofs.lemmas.List.{map-append}
 use Rattle.std.proofs.lemmas.List.Elements.{All-nil, All-push}
 use Rattle.wasm_forms.specs.Reading.{◌>>=◌}
@@ -11,9 +11,11 @@ use Rattle.walrus_code.specs.Results.{Finds}
 use Rattle.walrus_code.specs.declared.error.IrError.{IrError}
 use Rattle.walrus_code.specs.declared.error.IrError.TheVariants.{Malformed, Memory, NoIndex, NotWritable, TooLarge}
 use Rattle.walrus_groups.specs.Named.{each}
+use Rattle.walrus_model.proofs.Lists.{Contains-head, Contains-append_2}
 use Rattle.walrus_model.proofs.Standing.{some_inj}
 use Rattle.walrus_constants.specs.Named.{named_const}
 use Rattle.walrus_constants.specs.Written.{LacksAnIndex, IsUnspelled, IsSpelled, IndexesConst, FirstRefused, IndexesConsts}
+use Rattle.walrus_constants.proofs.Causes.{not_found}
 use Rattle.walrus_constants.proofs.Loops.{behind, cut, one_more}
 
 -- ---- lists
@@ -69,6 +71,17 @@ each_push find (w ∷ xs) ys x y e found =
     ∙ ap (λ o. o >>= λ others. Some (b.0 ∷ others)) (each_push find xs d.0 x y d.1 found)
     ∙ ap (λ l. Some (l ++ y ∷ [])) (some_inj (b.0 ∷ d.0) ys d.2)
 
+abbrev none_of : (Y : Type 0) → Option Y
+none_of Y = None
+
+nothing_then : {X Y : Type 0} (o : Option X) → (o >>= λ (x : X). none_of Y) ≡ none_of Y
+nothing_then None = refl
+nothing_then (Some x) = refl
+
+none_at : {X Y : Type 0} (find : X → Option Y) (xs : List X) (x : X) (ys : List X) → find x ≡ None → each find (xs ++ x ∷ ys) ≡ None
+none_at find [] x ys none = ap (λ o. o >>= λ y. each find ys >>= λ others. Some (y ∷ others)) none
+none_at find (w ∷ xs) x ys none = ap (λ o. find w >>= λ v. o >>= λ others. Some (v ∷ others)) (none_at find xs x ys none) ∙ nothing_then (find w)
+
 module _ (names : Lookup) where
   -- those in front of what is left have their indices, under which they are these, and bytes spell each
   pub record SoFar (all left found : List (List Op)) : Type 0 where
@@ -113,3 +126,13 @@ module _ (names : Lookup) where
         subst (λ (l : List (List Op)). each (named_const names) l ≡ Some found) same s.named,
         subst (λ (l : List (List Op)). All IsSpelled l) same s.spelled,
       )
+
+  -- ---- what a refusal says of the whole list
+
+  -- one of them lacks an index, and so nothing is found for the list
+  pub consts_lacking : (all : List (List Op)) → FirstRefused names all (LacksAnIndex names) → each (named_const names) all ≡ None
+  consts_lacking all f = ap (each (named_const names)) f.are ∙ none_at (named_const names) f.before f.first f.after (not_found names f.first f.cause)
+
+  -- no bytes spell one of them
+  pub consts_unspelled : (all : List (List Op)) → FirstRefused names all IsUnspelled → (ops : List Op) × (Contains all ops × IsUnspelled ops)
+  consts_unspelled all f = (f.first, (subst (λ (l : List (List Op)). Contains l f.first) (sym f.are) (Contains-append_2 f.first f.before (f.first ∷ f.after) (Contains-head f.first f.after)), f.cause))

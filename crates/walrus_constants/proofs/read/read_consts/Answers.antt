@@ -1,9 +1,11 @@
 use Rattle.std.proofs.Common.{◌≡◌, true, map, drop, ap, arith, List, [], ◌∷◌, ◌+◌}
+use Rattle.std.specs.Global.{Vec}
 use Rattle.std.proofs.lemmas.List.{drop_all}
 use Rattle.std.proofs.lemmas.List.Elements.{All-push}
 use Rattle.std.proofs.lemmas.Result.{err_from_is_err_and}
 use Rattle.wasm_entries.specs.Record.{Expression, expression}
 use Rattle.walrus_types.specs.ConstOps.{const_ops}
+use Rattle.walrus_types.specs.declared.const_expr.ConstExpr.{ConstExpr}
 use Rattle.walrus_code.specs.Indices.{ids_at}
 use Rattle.walrus_model.specs.Constants.{consts_of}
 use Rattle.walrus_constants.specs.Named.{named_const}
@@ -21,8 +23,8 @@ loop-one-preserved c = record {
 
 pub returns-in_err-read_const-clause-named : goal.returns-in_err-read_const-clause-named
 returns-in_err-read_const-clause-named c =
-    let p = err_from_is_err_and c.from_residual.result c.from_residual.ensures.1 in
-    rw (p.1, p.2) (read_refused (named_const (ids_at c.args.indices.now)) const_ops _ (map const_ops c.loop-one.found.items) _ _ _ _ _
+    let p = err_from_is_err_and c.from_residual-in_err-read_const.result c.from_residual-in_err-read_const.ensures.1 in
+    rw (p.1, p.2) (read_refused (named_const (ids_at c.args.indices.now)) {A = ConstExpr} {B = Vec ConstExpr} const_ops (λ found. map const_ops found.items) (map const_ops c.loop-one.found.items) _ _ _ _ _
     (ap (map consts_of) (next_of expression c.args.raw.now c.loop-one.one-index c.one-item.result c.as_slice.result.now c.loop-one-test.true c.one-item.is c.as_slice.ensures.value))
     c.loop-one.invariant.named c.in_err-read_const.ensures.named)
 

@@ -1,8 +1,10 @@
 use Rattle.std.proofs.Common.{◌∙◌, map, drop, ap, refl, arith}
+use Rattle.std.specs.Global.{Vec}
 use Rattle.std.proofs.lemmas.List.{drop_all}
 use Rattle.std.proofs.lemmas.Result.{err_from_is_err_and}
 use Rattle.wasm_entries.specs.Record.{expression}
 use Rattle.wasm_entries.specs.Spelling.{ExpressionStands}
+use Rattle.wasm_entries.specs.declared.record.RawConst.{RawConst}
 use Rattle.walrus_types.specs.ConstOps.{const_ops}
 use Rattle.walrus_code.specs.Indices.{index_of}
 use Rattle.walrus_model.specs.Constants.{consts_of}
@@ -21,8 +23,8 @@ loop-expr-preserved c = record {
 
 pub returns-in_err-raw_const-clause-indexed : goal.returns-in_err-raw_const-clause-indexed
 returns-in_err-raw_const-clause-indexed c =
-    let p = err_from_is_err_and c.from_residual.result c.from_residual.ensures.1 in
-    rw (p.1, p.2) (written_refused (index_of c.args.indices.now) (λ raw. consts_of raw.items) _ (map const_ops c.args.all.now) _ _ _ _ _
+    let p = err_from_is_err_and c.from_residual-in_err-raw_const.result c.from_residual-in_err-raw_const.ensures.1 in
+    rw (p.1, p.2) (written_refused (index_of c.args.indices.now) {A = Vec RawConst} {B = Vec (Vec RawConst)} (λ raw. consts_of raw.items) (λ raw. map consts_of (map expression raw.items)) (map const_ops c.args.all.now) _ _ _ _ _
     (next_of const_ops c.args.all.now c.loop-expr.expr-index c.expr-item.result _ c.loop-expr-test.true c.expr-item.is refl)
     c.loop-expr.invariant.indexed c.in_err-raw_const.ensures.indexed)
 
