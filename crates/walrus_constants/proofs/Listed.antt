@@ -1,6 +1,6 @@
 -- What the loops over lists of constant expressions keep, and what they answer.
 use Rattle.std.proofs.Common.{◌≡◌, ◌∙◌, ℕ, ◌+◌, ◌<◌, List, [], ◌∷◌, ◌++◌, Option, Some, None, map, length, drop, get_or, refl, sym, ap, subst, append_assoc, append-nil, All}
-use Rattle.std.specs.Prelude.{IsSome, Contains, Result, Ok, Err}
+use Rattle.std.specs.Prelude.{IsSome, Contains, Err}
 use Rattle.std.proofs.lemmas.List.{map-append}
 use Rattle.std.proofs.lemmas.List.Elements.{All-nil, All-push}
 use Rattle.wasm_forms.specs.Reading.{◌>>=◌}
@@ -32,6 +32,10 @@ all_pushed P f items more x pushed all one = subst (λ l. All P l) (sym (mapped_
 
 -- ---- reading: those found so far and those that are left are those of the whole
 
+pub read_begins : {Y : Type 0} (done : List Y) (whole : Option (List Y)) → done ≡ [] → behind done whole ≡ whole
+read_begins done None none = refl
+read_begins done (Some all) none = ap (λ l. Some (l ++ all)) none
+
 module _ {X Y : Type 0} (find : X → Option Y) where
   pub read_next : (done more : List Y) (left rest : List X) (whole : Option (List Y)) (x : X) (y : Y) → left ≡ x ∷ rest → find x ≡ Some y → more ≡ done ++ y ∷ [] → behind done (each find left) ≡ whole → behind more (each find rest) ≡ whole
   read_next done more left rest whole x y step found pushed keeps =
@@ -52,10 +56,6 @@ module _ {X Y : Type 0} (find : X → Option Y) where
   read_refused one many done left rest whole x NoIndex step keeps u = absurd u
   read_refused one many done left rest whole x NotWritable step keeps u = absurd u
   read_refused one many done left rest whole x TooLarge step keeps u = absurd u
-
-  pub read_begins : (done : List Y) (whole : Option (List Y)) → done ≡ [] → behind done whole ≡ whole
-  read_begins done None none = refl
-  read_begins done (Some all) none = ap (λ l. Some (l ++ all)) none
 
   pub read_all : (done : List Y) (left : List X) (whole : Option (List Y)) → left ≡ [] → behind done (each find left) ≡ whole → whole ≡ Some done
   read_all done left whole none keeps = sym keeps ∙ ap (λ l. behind done (each find l)) none ∙ ap (λ l. Some l) (append-nil done)

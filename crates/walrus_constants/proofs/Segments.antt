@@ -1,5 +1,5 @@
 -- Segments meet their records.
-use Rattle.std.proofs.Common.{◌≡◌, ◌∙◌, ℕ, List, [], ◌∷◌, map, Option, Some, refl, sym}
+use Rattle.std.proofs.Common.{◌≡◌, ◌∙◌, List, [], ◌∷◌, map, Option, Some, refl, sym}
 use Rattle.wasm_forms.specs.Reading.{◌>>=◌}
 use Rattle.wasm_entries.specs.Record as entries
 use Rattle.walrus_base.specs.Types.{map_ref}

@@ -1,17 +1,23 @@
-use Rattle.std.proofs.Common.{◌≡◌, true, map, drop, ap, arith, List, [], ◌∷◌, ◌+◌}
+use Rattle.std.proofs.Common.{◌≡◌, true, map, ap, arith, List}
 use Rattle.std.specs.Global.{Vec}
 use Rattle.std.proofs.lemmas.List.{drop_all}
-use Rattle.std.proofs.lemmas.List.Elements.{All-push}
+use Rattle.std.proofs.lemmas.List.Elements.{All-nil, All-push}
 use Rattle.std.proofs.lemmas.Result.{err_from_is_err_and}
-use Rattle.wasm_entries.specs.Record.{Expression, expression}
+use Rattle.wasm_entries.specs.Record.{expression}
 use Rattle.walrus_types.specs.ConstOps.{const_ops}
 use Rattle.walrus_types.specs.declared.const_expr.ConstExpr.{ConstExpr}
 use Rattle.walrus_code.specs.Indices.{ids_at}
 use Rattle.walrus_model.specs.Constants.{consts_of}
 use Rattle.walrus_constants.specs.Named.{named_const}
 use Rattle.walrus_constants.specs.Short.{is_short}
-use Rattle.walrus_constants.proofs.Listed.{next_of, mapped_push, read_next, read_refused, read_begins, read_all}
+use Rattle.walrus_constants.proofs.Listed.{next_of, mapped_push, read_begins, read_next, read_refused, read_all}
 use Rattle.walrus_constants.proofs.read.read_consts.Goals as goal
+
+pub loop-one-init : goal.loop-one-init
+loop-one-init c = record {
+  named = read_begins (map const_ops c.in_ok-found.found.items) _ (ap (map const_ops) c.in_ok-found.ensures.items);
+  short = rw c.in_ok-found.ensures.items (All-nil (λ expr. is_short expr ≡ true));
+}
 
 pub loop-one-preserved : goal.loop-one-preserved
 loop-one-preserved c = record {

@@ -1,6 +1,7 @@
-use Rattle.std.proofs.Common.{◌∙◌, map, drop, ap, refl, arith}
+use Rattle.std.proofs.Common.{List, map, ap, refl, arith}
 use Rattle.std.specs.Global.{Vec}
 use Rattle.std.proofs.lemmas.List.{drop_all}
+use Rattle.std.proofs.lemmas.List.Elements.{All-nil}
 use Rattle.std.proofs.lemmas.Result.{err_from_is_err_and}
 use Rattle.wasm_entries.specs.Record.{expression}
 use Rattle.wasm_entries.specs.Spelling.{ExpressionStands}
@@ -10,6 +11,12 @@ use Rattle.walrus_code.specs.Indices.{index_of}
 use Rattle.walrus_model.specs.Constants.{consts_of}
 use Rattle.walrus_constants.proofs.Listed.{next_of, mapped_push, all_pushed, written_begins, written_next, written_refused, written_all}
 use Rattle.walrus_constants.proofs.write.raw_consts.Goals as goal
+
+pub loop-expr-init : goal.loop-expr-init
+loop-expr-init c = record {
+  indexed = written_begins (index_of c.args.indices.now) (map const_ops c.args.all.now) _ (ap (λ (l : List (Vec RawConst)). map consts_of (map expression l)) c.in_ok-raw.ensures.items);
+  spelled = rw c.in_ok-raw.ensures.items (All-nil ExpressionStands);
+}
 
 pub loop-expr-preserved : goal.loop-expr-preserved
 loop-expr-preserved c = record {
