@@ -1,12 +1,12 @@
 //! Constant expressions over indices and over ids.
 
-use std::alloc::Global;
+use std::alloc::{AllocError, Global};
 use std::test::Fail;
 use test_support::{demand, second_id};
 use walrus_base::GlobalId;
 use walrus_code::{IdsToIndices, IndicesToIds};
-use walrus_constants::{raw_const, raw_op, read_const, read_op};
-use walrus_types::{ConstExpr, ConstOp};
+use walrus_constants::{raw_const, raw_consts, raw_op, read_const, read_consts, read_op};
+use walrus_types::{ConstExpr, ConstOp, Value};
 use wasm_entries::RawConst;
 
 // The sum of five and the value of the global with the index 0.
@@ -47,6 +47,41 @@ fn a_sum_is_read(rt: HostRuntime) -> Result<(), Fail> {
     demand(sum_is_read(rt.alloc()), "a sum over ids")
 }
 
+// The items of a segment: the sum, and the value of the global.
+fn items_over_indices(alloc: Global) -> Result<Vec<Vec<RawConst>>, AllocError> {
+    let mut value = Vec::new(alloc);
+    value.push(RawConst::GlobalGet(0))?;
+    let mut items = Vec::new(alloc);
+    items.push(RAW_SUM.as_slice().to_vec(alloc)?)?;
+    items.push(value)?;
+    Ok(items)
+}
+
+fn are_items(found: &[ConstExpr], id: GlobalId) -> bool {
+    match found {
+        [sum, ConstExpr::Global(value)] => is_sum(sum, id) && *value == id,
+        _ => false,
+    }
+}
+
+fn are_read(alloc: Global, ids: &IndicesToIds, id: GlobalId) -> bool {
+    let Ok(raw) = items_over_indices(alloc) else {
+        return false;
+    };
+    matches!(read_consts(alloc, raw.as_slice(), ids), Ok(found) if are_items(found.as_slice(), id))
+}
+
+fn items_are_read(alloc: Global) -> bool {
+    let mut ids = IndicesToIds::new(alloc);
+    let id = second_id(alloc);
+    ids.push_global(id).is_ok() && are_read(alloc, &ids, id)
+}
+
+#[test]
+fn the_items_of_a_segment_are_read(rt: HostRuntime) -> Result<(), Fail> {
+    demand(items_are_read(rt.alloc()), "a sum and a value over ids")
+}
+
 fn is_raw_value(found: &[RawConst]) -> bool {
     found == [RawConst::GlobalGet(0)].as_slice()
 }
@@ -67,5 +102,43 @@ fn a_globals_value_is_written(rt: HostRuntime) -> Result<(), Fail> {
     demand(
         value_is_written(rt.alloc()),
         "the value of a global over indices",
+    )
+}
+
+// The items of a segment: the value of the global, and five.
+fn items_over_ids(alloc: Global, id: GlobalId) -> Result<Vec<ConstExpr>, AllocError> {
+    let mut items = Vec::new(alloc);
+    items.push(ConstExpr::Global(id))?;
+    items.push(ConstExpr::Value(Value::I32(5)))?;
+    Ok(items)
+}
+
+fn are_raw_items(found: &[Vec<RawConst>]) -> bool {
+    match found {
+        [value, five] => {
+            is_raw_value(value.as_slice()) && five.as_slice() == [RawConst::I32Const(5)].as_slice()
+        }
+        _ => false,
+    }
+}
+
+fn are_written(alloc: Global, indices: &IdsToIndices, id: GlobalId) -> bool {
+    let Ok(items) = items_over_ids(alloc, id) else {
+        return false;
+    };
+    matches!(raw_consts(alloc, items.as_slice(), indices), Ok(raw) if are_raw_items(raw.as_slice()))
+}
+
+fn items_are_written(alloc: Global) -> bool {
+    let mut indices = IdsToIndices::new(alloc);
+    let id = second_id(alloc);
+    indices.push_global(id).is_ok() && are_written(alloc, &indices, id)
+}
+
+#[test]
+fn the_items_of_a_segment_are_written(rt: HostRuntime) -> Result<(), Fail> {
+    demand(
+        items_are_written(rt.alloc()),
+        "the value of a global and a number over indices",
     )
 }

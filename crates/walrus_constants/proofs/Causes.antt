@@ -16,6 +16,7 @@ use Rattle.walrus_groups.specs.Named.{each}
 use Rattle.walrus_model.specs.Constants.{consts_of}
 use Rattle.walrus_model.specs.WellMade.{block_heaps, arg_heaps, op_heaps}
 use Rattle.walrus_model.proofs.Lists.{Contains-head, Contains-uncons, Contains-none}
+use Rattle.walrus_model.proofs.Standing.{none_there}
 use Rattle.walrus_constants.specs.Named.{named_const_op, named_const}
 use Rattle.walrus_constants.specs.Written.{ops_are_exact, LacksAnIndex, IsUnspelled, NoOperator, ExactHeap, IndexesConst}
 
@@ -29,18 +30,18 @@ both P xs ys h k x c = ⊎_elim (h x) (k x) (Contains-append_cases xs ys x c)
 -- ---- what has no number
 
 module _ (names : Lookup) where
-  abbrev Lacks : List Item → Type 0
+  abbrev pub Lacks : List Item → Type 0
   Lacks xs = (x : Item) × (Contains xs x × (names x.0 x.1 ≡ None))
 
-  abbrev IsFound : Item → Type 0
+  abbrev pub IsFound : Item → Type 0
   IsFound x = IsSome (names x.0 x.1)
 
   -- nothing is found, and one of these items has no number; or something, and each of them has one
-  abbrev Told : {Y : Type 0} → List Item → Option Y → Type 0
+  abbrev pub Told : {Y : Type 0} → List Item → Option Y → Type 0
   Told xs None = Lacks xs
   Told xs (Some y) = (x : Item) → Contains xs x → IsFound x
 
-  told_last : {Y Z : Type 0} (xs : List Item) (o : Option Y) (f : Y → Z) → Told xs o → Told xs (o >>= λ y. Some (f y))
+  pub told_last : {Y Z : Type 0} (xs : List Item) (o : Option Y) (f : Y → Z) → Told xs o → Told xs (o >>= λ y. Some (f y))
   told_last xs None f t = t
   told_last xs (Some y) f t = t
 
@@ -48,21 +49,21 @@ module _ (names : Lookup) where
   told_joined xs ys None t l = (l.0, (Contains-append_right xs ys l.0 l.1.0, l.1.1))
   told_joined xs ys (Some z) t u = both IsFound xs ys t u
 
-  told_then : {Y Z : Type 0} (xs ys : List Item) (o : Option Y) (k : Y → Option Z) → Told xs o → ((y : Y) → Told ys (k y)) → Told (xs ++ ys) (o >>= k)
+  pub told_then : {Y Z : Type 0} (xs ys : List Item) (o : Option Y) (k : Y → Option Z) → Told xs o → ((y : Y) → Told ys (k y)) → Told (xs ++ ys) (o >>= k)
   told_then xs ys None k t u = (t.0, (Contains-append_left xs ys t.0 t.1.0, t.1.1))
   told_then xs ys (Some y) k t u = told_joined xs ys (k y) t (u y)
 
-  told_none : (x : Item) → Contains [] x → IsFound x
+  pub told_none : (x : Item) → Contains [] x → IsFound x
   told_none x c = absurd (Contains-none x c)
 
-  told_number : (x : Item) (o : Option ℕ) → names x.0 x.1 ≡ o → Told (x ∷ []) o
+  pub told_number : (x : Item) (o : Option ℕ) → names x.0 x.1 ≡ o → Told (x ∷ []) o
   told_number x None e = (x, (Contains-head x [], e))
   told_number x (Some n) e = only IsFound x (rw e refl)
 
   told_one : {Z : Type 0} (x : Item) (f : ℕ → Z) → Told (x ∷ []) (names x.0 x.1 >>= λ n. Some (f n))
   told_one x f = told_last (x ∷ []) (names x.0 x.1) f (told_number x (names x.0 x.1) refl)
 
-  told_heap : (h : HeapType ℕ) → Told (map type_item (heap_names h)) (named_heap names h)
+  pub told_heap : (h : HeapType ℕ) → Told (map type_item (heap_names h)) (named_heap names h)
   told_heap (OfHeap h) = told_none
   told_heap (Concrete t) = told_one (Types, t) (λ n. Concrete n)
   told_heap (Exact t) = told_one (Types, t) (λ n. Exact n)
@@ -107,7 +108,7 @@ module _ (names : Lookup) where
   told_op : (o : Op) → Told (op_names o) (named_const_op names o)
   told_op o = told_last (op_names o) (named_args names (λ x. Some x) o.args) (λ args. let made : Op = record { op = o.op; args = args } in made) (told_args o.args)
 
-  told_ops : (ops : List Op) → Told (names_of ops) (named_const names ops)
+  pub told_ops : (ops : List Op) → Told (names_of ops) (named_const names ops)
   told_ops [] = told_none
   told_ops (o ∷ rest) =
       told_then (op_names o) (names_of rest) (named_const_op names o) (λ p. named_const names rest >>= λ others. Some (p ∷ others)) (told_op o)
@@ -124,6 +125,14 @@ module _ (names : Lookup) where
       not_there : (o : Option ℕ) → IsSome o → o ≡ None → ⊥
       not_there None h e = absurd cc
       not_there (Some n) h e = absurd cc
+
+  pub found_by : {Y : Type 0} (xs : List Item) (o : Option Y) → Told xs o → ((x : Item) → Contains xs x → IsFound x) → IsSome o
+  found_by xs (Some y) t k = refl
+  found_by xs None t k = absurd (none_there (subst (λ (o : Option ℕ). IsSome o) t.1.1 (k t.0 t.1.0)))
+
+  pub all_found : {Y : Type 0} (xs : List Item) (o : Option Y) → Told xs o → IsSome o → (x : Item) → Contains xs x → IsFound x
+  all_found xs (Some y) t h = t
+  all_found xs None t h = absurd (none_there h)
 
   -- nothing is found exactly where an item has no number
   pub lacking : (ops : List Op) → named_const names ops ≡ None → LacksAnIndex names ops

@@ -3,3 +3,6 @@ mod Loops
 pub mod Causes
 pub mod Renamed
 pub mod Items
+pub mod Segments
+pub mod SegmentsNamed
+pub mod Listed

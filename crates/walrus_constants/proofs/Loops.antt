@@ -10,10 +10,10 @@ use Rattle.walrus_groups.specs.Named.{each}
 abbrev pub behind : {Y : Type 0} → List Y → Option (List Y) → Option (List Y)
 behind done rest = rest >>= λ more. Some (done ++ more)
 
-cut : {A : Type 0} (xs : List A) (i : ℕ) (d : A) → i < length xs → drop i xs ≡ get_or xs i d ∷ drop (i + 1) xs
+pub cut : {A : Type 0} (xs : List A) (i : ℕ) (d : A) → i < length xs → drop i xs ≡ get_or xs i d ∷ drop (i + 1) xs
 cut xs i d h = let e : suc i ≡ i + 1 = omega arith in drop-cons xs i d h ∙ ap (λ k. get_or xs i d ∷ drop k xs) e
 
-one_more : {Y : Type 0} (done : List Y) (y : Y) (rest : Option (List Y)) → behind (done ++ y ∷ []) rest ≡ behind done (rest >>= λ others. Some (y ∷ others))
+pub one_more : {Y : Type 0} (done : List Y) (y : Y) (rest : Option (List Y)) → behind (done ++ y ∷ []) rest ≡ behind done (rest >>= λ others. Some (y ∷ others))
 one_more done y None = refl
 one_more done y (Some more) = ap (λ l. Some l) (append_assoc done (y ∷ []) more)
 

@@ -30,12 +30,12 @@ agrees_then x None k z h a = tt
 agrees_then x (Some y) k z h a = subst (λ w. Agrees z (k w)) h a
 
 module _ (r : Renaming) (names : Lookup) (agrees : AgreesWith r names) where
-  number : (space : Space) (n : ℕ) (o : Option ℕ) → names space n ≡ o → Agrees (r.numbers space n) o
-  number space n None e = tt
-  number space n (Some k) e = agrees space n k e
+  pub number_agrees : (space : Space) (n : ℕ) (o : Option ℕ) → names space n ≡ o → Agrees (r.numbers space n) o
+  number_agrees space n None e = tt
+  number_agrees space n (Some k) e = agrees space n k e
 
   one : {Y : Type 0} (space : Space) (n : ℕ) (f : ℕ → Y) → Agrees (f (r.numbers space n)) (names space n >>= λ k. Some (f k))
-  one space n f = agrees_last (r.numbers space n) (names space n) f (number space n (names space n) refl)
+  one space n f = agrees_last (r.numbers space n) (names space n) f (number_agrees space n (names space n) refl)
 
   heap_agrees : (h : HeapType ℕ) → Agrees (map_heap (r.numbers Types) h) (named_heap names h)
   heap_agrees (OfHeap h) = refl
@@ -92,7 +92,7 @@ module _ (r : Renaming) (names : Lookup) (agrees : AgreesWith r names) where
   op_agrees : (o : Op) → Agrees (renamed_op r (λ x. x) o) (named_const_op names o)
   op_agrees o = agrees_last (map arg_renamed o.args) (args_found o.args) (λ args. let made : Op = record { op = o.op; args = args } in made) (args_agree o.args)
 
-  const_agrees : (ops : List Op) → Agrees (renamed_const r ops) (named_const names ops)
+  pub const_agrees : (ops : List Op) → Agrees (renamed_const r ops) (named_const names ops)
   const_agrees [] = refl
   const_agrees (o ∷ rest) =
       agrees_then (renamed_op r (λ x. x) o) (named_const_op names o) (λ p. named_const names rest >>= λ others. Some (p ∷ others)) (renamed_op r (λ x. x) o ∷ renamed_const r rest) (op_agrees o)

@@ -1,4 +1,5 @@
 pub mod Named
+pub mod Segments
 pub mod Short
 pub mod Written
 pub mod Laws

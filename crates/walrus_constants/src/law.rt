@@ -1,5 +1,5 @@
 //! The laws of constant expressions that are put through look-ups, as contracts. Nothing runs here.
-ghost use Rattle.walrus_constants.specs.Laws.{ConstantsLeadBack, ConstantsLack, ConstantsInPlace, ConstantsRenamed, ConstantNames, OneRecord, LookUpsRename, GlobalsRead, GlobalsWritten, TablesRead, TablesWritten};
+ghost use Rattle.walrus_constants.specs.Laws.{ConstantsLeadBack, ConstantsLack, ConstantsInPlace, ConstantsRenamed, ConstantNames, OneRecord, LookUpsRename, GlobalsRead, GlobalsWritten, TablesRead, TablesWritten, ElementsRead, ElementsWritten, ElementsFound, DataRead, DataWritten, DataFound};
 
 /// Constant expressions that are put through a look-up, and then through one that leads back, are the same again.
 pub fn constants_lead_back()
@@ -43,4 +43,22 @@ pub fn globals_meet_their_records()
 pub fn tables_meet_their_records()
     ensures read { TablesRead }
     ensures written { TablesWritten }
+{}
+
+/// A segment of elements that was read of a record is what the record says; one that is written is, renamed, what its record says.
+pub fn elements_meet_their_records()
+    ensures read { ElementsRead }
+    ensures written { ElementsWritten }
+{}
+
+/// The same of segments of data.
+pub fn data_meet_their_records()
+    ensures read { DataRead }
+    ensures written { DataWritten }
+{}
+
+/// A segment is found exactly where each item that it names has a number.
+pub fn segments_are_found()
+    ensures elements { ElementsFound }
+    ensures data_segments { DataFound }
 {}

@@ -9,8 +9,8 @@ mod write;
 
 pub use law::{
     constants_are_renamed, constants_lack, constants_lead_back, constants_stay_in_place,
-    globals_meet_their_records, look_ups_rename, operators_have_one_record,
-    tables_meet_their_records,
+    data_meet_their_records, elements_meet_their_records, globals_meet_their_records,
+    look_ups_rename, operators_have_one_record, segments_are_found, tables_meet_their_records,
 };
-pub use read::{read_const, read_op};
-pub use write::{raw_const, raw_op};
+pub use read::{read_const, read_consts, read_op};
+pub use write::{raw_const, raw_consts, raw_op};

@@ -1,8 +1,10 @@
 //! Constant expressions over indices, as constant expressions over ids.
-ghost use Rattle.std.specs.Prelude.{◌≡◌, ◌∷◌, [], true, false, length, map, option_map, IfOk, MatchOption, Some};
+ghost use Rattle.std.specs.Prelude.{◌≡◌, ◌∷◌, [], true, false, length, map, option_map, All, IfOk, MatchOption, Some};
+ghost use Rattle.wasm_entries.specs.Record.{expression};
 ghost use Rattle.walrus_types.specs.ConstOps.{const_op, const_ops};
 ghost use Rattle.walrus_code.specs.Indices.{ids_at};
 ghost use Rattle.walrus_code.specs.Results.{Finds};
+ghost use Rattle.walrus_groups.specs.Named.{each};
 ghost use Rattle.walrus_model.specs.Constants.{const_of, consts_of};
 ghost use Rattle.walrus_constants.specs.Named.{named_const_op, named_const};
 ghost use Rattle.walrus_constants.specs.Short.{is_simple, is_short};
@@ -35,6 +37,28 @@ pub fn read_const(
         },
         _ => Ok(ConstExpr::Extended(read_ops(alloc, raw, indices)?)),
     }
+}
+
+/// The constant expressions with the id for each index in them, one by one and each in its shortest form: the items of a segment of
+/// elements (Binary Format > Modules > Element Section).
+///
+/// # Errors
+///
+/// [`IrError::Malformed`] where an index in one of them isn't declared, and [`IrError::Memory`].
+pub fn read_consts(
+    alloc: Global,
+    raw: &[Vec<RawConst>],
+    indices: &IndicesToIds,
+) -> Result<Vec<ConstExpr>, IrError>
+    ensures named { Finds (λ found. map const_ops found.items) result
+        (each (named_const (ids_at indices.now)) (map consts_of (map expression raw.now))) }
+    ensures short { IfOk result (λ found. All (λ expr. is_short expr ≡ true) found.items) }
+{
+    let mut found = Vec::with_capacity(alloc, raw.len())?;
+    for one in raw {
+        found.push(read_const(alloc, one.as_slice(), indices)?)?;
+    }
+    Ok(found)
 }
 
 // The expression of one operator.

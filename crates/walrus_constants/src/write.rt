@@ -1,5 +1,6 @@
 //! Constant expressions over ids, as constant expressions over indices.
 ghost use Rattle.std.specs.Prelude.{◌≡◌, ◌∷◌, [], map, ok_or, All, IfOk};
+ghost use Rattle.wasm_entries.specs.Record.{expression};
 ghost use Rattle.wasm_entries.specs.Spelling.{ConstStands, ExpressionStands};
 ghost use Rattle.walrus_types.specs.ConstOps.{const_op, const_ops, value_op, vector_const};
 ghost use Rattle.walrus_code.specs.Indices.{index_of};
@@ -7,7 +8,7 @@ ghost use Rattle.walrus_code.specs.Results.{Indexes, IndexesIn, NeedsNoMemory};
 ghost use Rattle.walrus_code.specs.declared.error.IrError.TheVariants.{NoIndex};
 ghost use Rattle.walrus_model.specs.Constants.{const_of, consts_of};
 ghost use Rattle.walrus_constants.specs.Named.{named_const_op, named_const};
-ghost use Rattle.walrus_constants.specs.Written.{ops_are_exact, IndexesConst};
+ghost use Rattle.walrus_constants.specs.Written.{ops_are_exact, IndexesConst, IndexesConsts};
 
 use crate::heap::raw_heap;
 use std::alloc::Global;
@@ -38,6 +39,28 @@ pub fn raw_const(
         ConstExpr::RefFunc(id) => raw_alone(alloc, ConstOp::RefFunc(*id), indices),
         ConstExpr::Extended(ops) => raw_ops(alloc, ops.as_slice(), indices),
     }
+}
+
+/// The constant expressions with the index for each id in them, one by one, which bytes can spell: the items of a segment of elements
+/// (Binary Format > Modules > Element Section).
+///
+/// # Errors
+///
+/// Those of [`raw_const`] for the first of them that is refused, and [`IrError::Memory`].
+pub fn raw_consts(
+    alloc: Global,
+    all: &[ConstExpr],
+    indices: &IdsToIndices,
+) -> Result<Vec<Vec<RawConst>>, IrError>
+    ensures indexed { IndexesConsts (λ raw. map consts_of (map expression raw.items)) (index_of indices.now)
+        (map const_ops all.now) result }
+    ensures spelled { IfOk result (λ raw. All ExpressionStands (map expression raw.items)) }
+{
+    let mut raw = Vec::with_capacity(alloc, all.len())?;
+    for expr in all {
+        raw.push(raw_const(alloc, expr, indices)?)?;
+    }
+    Ok(raw)
 }
 
 // The operator of a constant.
