@@ -17,7 +17,9 @@ use walrus_parts::{Error, Result};
 /// What a module's parts are written by: the order of their items, and the index that each has by it.
 #[derive(Drop)]
 pub struct Prepared {
+    /// The items of each index space, in the order in which they are written.
     pub plan: Plan,
+    /// The index of each of them.
     pub indices: IdsToIndices,
 }
 
