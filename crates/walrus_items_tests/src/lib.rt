@@ -1,4 +1,5 @@
-//! Tests of the collections: functions, imports and exports; tables, memories, globals and tags; segments.
+//! Tests of the collections: functions, imports and exports; tables, memories, globals and tags; segments. And of what bodies name
+//! and nothing declares.
 #![tactic(auto)]
 
 #[cfg(test)]
@@ -9,5 +10,7 @@ mod exports;
 mod imports;
 #[cfg(test)]
 mod items;
+#[cfg(test)]
+mod references;
 #[cfg(test)]
 mod segments;

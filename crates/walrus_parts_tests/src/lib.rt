@@ -16,11 +16,15 @@ mod measures;
 #[cfg(test)]
 mod names;
 #[cfg(test)]
+mod names_written;
+#[cfg(test)]
 mod parts;
 #[cfg(test)]
 mod producers;
 #[cfg(test)]
 mod producers_held;
+#[cfg(test)]
+mod producers_written;
 #[cfg(test)]
 mod sample;
 #[cfg(test)]

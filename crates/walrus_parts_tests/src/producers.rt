@@ -29,13 +29,16 @@ fn tells_bytes(alloc: Global, bytes: &[u8], text: &mut String) -> bool {
     }
 }
 
-// Whether these are the fields of the payload.
+/// Whether these are the fields of the payload.
+pub fn says(alloc: Global, payload: &[u8], wanted: &str) -> bool {
+    let mut text = String::new(alloc);
+    tells_bytes(alloc, payload, &mut text) && is_text(&text, wanted)
+}
+
+// Whether these are the fields of the payload that the text says.
 fn tells(alloc: Global, payload: &str, wanted: &str) -> bool {
     let mut bytes = Vec::new(alloc);
-    let mut text = String::new(alloc);
-    add_bytes(&mut bytes, payload)
-        && tells_bytes(alloc, &bytes, &mut text)
-        && is_text(&text, wanted)
+    add_bytes(&mut bytes, payload) && says(alloc, &bytes, wanted)
 }
 
 // Each payload, and its fields.
