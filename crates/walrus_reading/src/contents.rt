@@ -37,8 +37,8 @@ use walrus_bodies::{ReadBody, read_body_over};
 use walrus_contents::Contents;
 use walrus_groups::read_types;
 use walrus_ir::{
-    Features, FunctionId, IndicesToIds, InstrLocId, IrError, LocalFunction, LocalId, ModuleLocals, ModuleTypes,
-    ValType,
+    Features, FunctionId, IndicesToIds, InstrLocId, IrError, LocalFunction, LocalId, ModuleLocals,
+    ModuleTypes, ValType,
 };
 use walrus_items::{ExportItem, ModuleExports, ModuleFunctions};
 use walrus_parts::{Error, Result};
