@@ -58,6 +58,9 @@ fn dead_start_is_found(alloc: Global) -> bool {
     let Ok((mut module, _other, start)) = with_start(alloc) else {
         return false;
     };
+    if !module.funcs.contains(start) {
+        return false;
+    }
     module.funcs.delete(start);
     if !matches!(gc::run(alloc, &mut module), Err(Error::DeadItem)) {
         return false;
