@@ -1,6 +1,6 @@
 -- The functions that ref.func names, and those of them that nothing exports.
-use Rattle.std.proofs.Common.{◌≡◌, ◌≤◌, ◌<◌, ◌==◌, ◌||◌, ◌⊎◌, ◌+◌, ℕ, zero, suc, Bool, true, false, List, [], ◌∷◌, ◌++◌, length, map, drop, get_or, inl, inr, refl, sym, ap, ap₂, ◌∙◌, ⊎_elim, subst, eqb-true, eq-eqb, drop-cons, add-one, add-zero, zero-add, arith}
-use Rattle.std.specs.Prelude.{filter_map, flat_map, filter, cond, not, Contains, AllPairs, IsSome, Option, Some, None, option_map, slice_index_or, Result, Ok, Err, IfOk, ◌↔◌, if◌then◌else◌}
+use Rattle.std.proofs.Common.{◌≡◌, ◌≤◌, ◌<◌, ◌==◌, ◌||◌, ◌⊎◌, ◌+◌, ℕ, zero, suc, Bool, true, false, List, [], ◌∷◌, length, map, drop, get_or, inl, inr, refl, sym, ap, ◌∙◌, ⊎_elim, subst, eqb-true, eq-eqb, drop-cons, add-one, zero-add, arith}
+use Rattle.std.specs.Prelude.{filter_map, flat_map, filter, cond, not, Contains, AllPairs, IsSome, Option, Some, None, option_map, slice_index_or, Result, Ok, Err, IfOk, if◌then◌else◌}
 use Rattle.std.specs.List.{AllByRecursion, cons_option}
 use Rattle.std.proofs.lemmas.Bool.{false≢true}
 use Rattle.std.proofs.lemmas.List.Elements.{All-from_recursion, Contains-append_cases, Contains-append_left, Contains-append_right}
@@ -49,16 +49,6 @@ value_refs (constant.V128 bytes) = refl
 -- each of these places is below n, or still to come
 abbrev pub Bounds : List ℕ → List ℕ → ℕ → Type 0
 Bounds all left n = (f : ℕ) → has all f ≡ true → (f < n) ⊎ (has left f ≡ true)
-
-pub bounds_go : (all left rest : List ℕ) (x n m : ℕ) → left ≡ x ∷ rest → n ≤ m → x < m → Bounds all left n → Bounds all rest m
-bounds_go all left rest x n m is more room so_far f at =
-    ⊎_elim (λ (low : f < n). inl (omega (arith, low, more)))
-    (λ later. by (x == f) refl (subst (λ (xs : List ℕ). has xs f ≡ true) is later))
-    (so_far f at)
-  where
-    by : (t : Bool) → (x == f) ≡ t → (t || has rest f) ≡ true → (f < m) ⊎ (has rest f ≡ true)
-    by true e h = inl (subst (λ (k : ℕ). k < m) (eqb-true x f e) room)
-    by false e h = inr h
 
 -- ---- exports
 

@@ -1,15 +1,12 @@
 -- What is there and what isn't, and two tests at once.
 use Rattle.std.proofs.Common.{◌≡◌, ◌&&◌, ◌||◌, Bool, true, false, Some, None, refl, sym}
-use Rattle.std.specs.Prelude.{Option, IsSome, option_map}
+use Rattle.std.specs.Prelude.{Option, IsSome}
 pub use Rattle.walrus_model.proofs.Standing.{none_there, some_inj, some_of}
+pub use Rattle.walrus_contents.proofs.Lookups.{still_some}
 use Rattle.wasm_forms.specs.Reading.{◌>>=◌}
 
 pub none_some : {A : Type 0} (x : A) → None ≡ Some x → ⊥
 none_some x e = cc
-
-pub still_some : {A B : Type 0} (f : A → B) (o : Option A) → IsSome o → IsSome (option_map f o)
-still_some f (Some x) h = refl
-still_some f None h = h
 
 pub some_then : {A B : Type 0} (o : Option A) (f : A → Option B) → IsSome o → ((x : A) → IsSome (f x)) → IsSome (o >>= f)
 some_then (Some x) f h k = k x
