@@ -5,3 +5,4 @@ pub mod Followed
 pub mod ReachedLemmas
 pub mod CollectedLemmas
 pub mod Marking
+pub mod Spare

@@ -1,8 +1,11 @@
 -- Marks for all places, and the sets that are made of them.
-use Rattle.std.proofs.Common.{◌≡◌, ℕ, zero, suc, ◌+◌, ◌<◌, ◌==◌, ◌||◌, Bool, true, false, List, [], ◌∷◌, length, Option, eq-eqb, eqb-true, add-zero, zero-add, sym, ap, ap₂, ◌∙◌, subst, refl, arith}
-use Rattle.std.specs.Prelude.{IsSome, slice_index_or}
+use Rattle.std.proofs.Common.{◌≡◌, ℕ, zero, suc, ◌+◌, ◌<◌, ◌==◌, ◌||◌, Bool, true, false, List, [], ◌∷◌, length, Option, Some, None, eq-eqb, eqb-true, add-zero, zero-add, sym, ap, ap₂, ◌∙◌, subst, refl, arith}
+use Rattle.std.specs.Prelude.{◌↔◌, IsSome, MatchOption, slice_index_or}
+use Rattle.std.specs.Option.{is_some}
 use Rattle.std.proofs.lemmas.Bool.{false≢true}
 use Rattle.walrus_base.specs.Arena.{item_at}
+use Rattle.walrus_base.specs.Id.{place}
+use Rattle.walrus_base.specs.declared.id.Id.{Id}
 use Rattle.walrus_base.specs.IdSet.{Adds, has_id}
 use Rattle.walrus_base.specs.declared.set.IdHashSet.{IdHashSet}
 use Rattle.walrus_base.specs.Marks.{is_marked, mark_places, marked_from, places_marked}
@@ -11,12 +14,13 @@ use Rattle.walrus_types.specs.ModuleTypes.{type_slots}
 use Rattle.walrus_types.specs.Operators.{Types, Functions, Tables, Memories, Tags, Globals, Elements, DataSegments}
 use Rattle.walrus_types.specs.PlaceList.{has}
 use Rattle.walrus_types.proofs.Noted.{or_left}
+use Rattle.walrus_items.specs.Data.{data_segments}
 use Rattle.walrus_items.specs.Functions.{functions}
 use Rattle.walrus_items.specs.Globals.{globals}
 use Rattle.walrus_items.specs.Memories.{memories}
 use Rattle.walrus_items.specs.Tables.{tables}
 use Rattle.walrus_items.specs.Tags.{tags}
-use Rattle.walrus_contents.specs.View.{contents_view, function, global_of, memory_of, table_of, tag_of}
+use Rattle.walrus_contents.specs.View.{contents_view, data_of, function, global_of, memory_of, table_of, tag_of}
 use Rattle.walrus_contents.specs.declared.parts.Contents.{Contents}
 use Rattle.walrus_contents.proofs.LiveLemmas.{was_there}
 use Rattle.walrus.specs.MarkedItems.{HavePlaces}
@@ -35,15 +39,16 @@ enough n xs e i h = subst (λ (k : ℕ). i < k) (sym e) (below xs i h)
 
 pub places_made : (c : Contents) (m : MarkedItems) → mark_places m.types ≡ length (type_slots c.types) → mark_places m.funcs ≡ length (functions c.funcs)
     → mark_places m.tables ≡ length (tables c.tables) → mark_places m.memories ≡ length (memories c.memories)
-    → mark_places m.tags ≡ length (tags c.tags) → mark_places m.globals ≡ length (globals c.globals) → HavePlaces (contents_view c) m
-places_made c m et ef eb em ea eg (Types, i) live = enough (mark_places m.types) (type_slots c.types) et i live
-places_made c m et ef eb em ea eg (Functions, i) live = enough (mark_places m.funcs) (functions c.funcs) ef i (was_there (function c.locals) (item_at (functions c.funcs) i) live)
-places_made c m et ef eb em ea eg (Tables, i) live = enough (mark_places m.tables) (tables c.tables) eb i (was_there table_of (item_at (tables c.tables) i) live)
-places_made c m et ef eb em ea eg (Memories, i) live = enough (mark_places m.memories) (memories c.memories) em i (was_there memory_of (item_at (memories c.memories) i) live)
-places_made c m et ef eb em ea eg (Tags, i) live = enough (mark_places m.tags) (tags c.tags) ea i (was_there tag_of (item_at (tags c.tags) i) live)
-places_made c m et ef eb em ea eg (Globals, i) live = enough (mark_places m.globals) (globals c.globals) eg i (was_there global_of (item_at (globals c.globals) i) live)
-places_made c m et ef eb em ea eg (Elements, i) live = absurd (false≢true live)
-places_made c m et ef eb em ea eg (DataSegments, i) live = absurd (false≢true live)
+    → mark_places m.tags ≡ length (tags c.tags) → mark_places m.globals ≡ length (globals c.globals)
+    → mark_places m.data_ ≡ length (data_segments c.data_) → HavePlaces (contents_view c) m
+places_made c m et ef eb em ea eg ed (Types, i) live = enough (mark_places m.types) (type_slots c.types) et i live
+places_made c m et ef eb em ea eg ed (Functions, i) live = enough (mark_places m.funcs) (functions c.funcs) ef i (was_there (function c.locals) (item_at (functions c.funcs) i) live)
+places_made c m et ef eb em ea eg ed (Tables, i) live = enough (mark_places m.tables) (tables c.tables) eb i (was_there table_of (item_at (tables c.tables) i) live)
+places_made c m et ef eb em ea eg ed (Memories, i) live = enough (mark_places m.memories) (memories c.memories) em i (was_there memory_of (item_at (memories c.memories) i) live)
+places_made c m et ef eb em ea eg ed (Tags, i) live = enough (mark_places m.tags) (tags c.tags) ea i (was_there tag_of (item_at (tags c.tags) i) live)
+places_made c m et ef eb em ea eg ed (Globals, i) live = enough (mark_places m.globals) (globals c.globals) eg i (was_there global_of (item_at (globals c.globals) i) live)
+places_made c m et ef eb em ea eg ed (Elements, i) live = absurd (false≢true live)
+places_made c m et ef eb em ea eg ed (DataSegments, i) live = enough (mark_places m.data_) (data_segments c.data_) ed i (was_there data_of (item_at (data_segments c.data_) i) live)
 
 -- ---- the places that are marked, as a list
 
@@ -64,6 +69,22 @@ has_marked (true ∷ bs) s (suc p) = by (s == s + suc p) refl (let e : s + suc p
   by : (t : Bool) → (s == s + suc p) ≡ t → has (marked_from (s + 1) bs) (s + suc p) ≡ slice_index_or bs p false → (t || has (marked_from (s + 1) bs) (s + suc p)) ≡ slice_index_or bs p false
   by true e later = let same : s ≡ s + suc p = eqb-true s (s + suc p) e in absurd (omega (arith, same))
   by false e later = later
+
+-- whether any is, told by the first of them
+module _ {K : Type 0} (marks : Marks K) where
+  first_marked : (q : ℕ) (left after : List ℕ) → left ≡ places_marked marks → left ≡ q ∷ after → is_marked marks q ≡ true
+  first_marked q left after all is =
+      sym (has_marked marks.marks.items 0 q) ∙ ap (has (places_marked marks)) (zero-add q)
+      ∙ ap (λ (ps : List ℕ). has ps q) (sym all ∙ is) ∙ or_left (q == q) (has after q) (eq-eqb q q refl)
+
+  none_marked : (left : List ℕ) → left ≡ places_marked marks → left ≡ [] → (p : ℕ) → is_marked marks p ≡ false
+  none_marked left all is p =
+      sym (has_marked marks.marks.items 0 p) ∙ ap (has (places_marked marks)) (zero-add p) ∙ ap (λ (ps : List ℕ). has ps p) (sym all ∙ is)
+
+  pub any_marked : (r : Option (Id K)) (left after : List ℕ) → left ≡ places_marked marks
+      → MatchOption r ((left ≡ []) × (after ≡ [])) (λ id. left ≡ place id ∷ after) → (is_some r ≡ true) ↔ ((p : ℕ) × (is_marked marks p ≡ true))
+  any_marked (Some id) left after all is = (λ h. (place id, first_marked (place id) left after all is), λ h. refl)
+  any_marked None left after all is = (λ h. absurd (false≢true h), λ h. absurd (false≢true (sym (none_marked left all is.0 h.0) ∙ h.1)))
 
 -- ---- a set that is made of them
 

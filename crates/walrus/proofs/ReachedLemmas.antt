@@ -1,21 +1,20 @@
 -- What a search for used items finds is what the abstract module says is reached, kept and sound.
-use Rattle.std.proofs.Common.{◌≡◌, ℕ, ◌⊎◌, inl, inr, ⊎_elim, Bool, true, map, sym, ap, ◌∙◌, subst}
-use Rattle.std.specs.Prelude.{◌↔◌, Contains, Result, Ok, Err, IfOk, IfErr, OnOk, MatchResult}
+use Rattle.std.proofs.Common.{◌≡◌, ℕ, ⊎_elim, Bool, true, false, sym, ap, ◌∙◌, subst, refl}
+use Rattle.std.specs.Prelude.{◌↔◌, Contains, option_map, Result, Ok, Err, IfOk, IfErr, OnOk, MatchResult}
 use Rattle.std.proofs.lemmas.Bool.{false≢true}
 use Rattle.std.proofs.lemmas.Option.{none-some}
-use Rattle.std.proofs.lemmas.List.Elements.{Contains-append_left, Contains-append_right, Contains-append_cases}
-use Rattle.walrus_base.specs.Arena.{items}
-use Rattle.walrus_types.specs.Operators.{Types, Functions, Tables, Memories, Tags, Globals, Elements, DataSegments, Item, function_item, type_item}
+use Rattle.walrus_base.specs.Arena.{item_at, items}
+use Rattle.walrus_types.specs.Operators.{Types, Functions, Tables, Memories, Tags, Globals, Elements, DataSegments, Item, function_item}
 use Rattle.walrus_parts.specs.Kinds.{exported}
+use Rattle.walrus_parts.specs.declared.segments.DataKind.TheVariants.{Active, Passive}
+use Rattle.walrus_parts.specs.declared.segments.DataKind.{DataKind}
+use Rattle.walrus_items.specs.Data.{data_segments, is_passive_data}
 use Rattle.walrus_items.specs.Exports.{ExportValue, exports}
 use Rattle.walrus_model.specs.Abstract as abstract
-use Rattle.walrus_model.specs.Kept.{Kept}
-use Rattle.walrus_model.specs.Reached.{Reached}
-use Rattle.walrus_model.specs.Refers.{KeepsToo, Refers}
-use Rattle.walrus_model.specs.Roots.{IsRoot, exported as is_exported, start, data_segment, element_segment, asked_for}
+use Rattle.walrus_model.specs.Roots.{IsRoot, IsRootData, exported as is_exported, start, data_segment, element_segment, asked_for}
 use Rattle.walrus_model.proofs.Lists.{Contains-map, Contains-none}
 use Rattle.walrus_model.proofs.Reach.{Contains-unmap}
-use Rattle.walrus_contents.specs.View.{contents_view}
+use Rattle.walrus_contents.specs.View.{contents_view, data_kind_of, data_of}
 use Rattle.walrus_contents.specs.declared.parts.Contents.{Contents}
 use Rattle.walrus_module.specs.View.{export_of}
 use Rattle.walrus_parts.specs.declared.error.Error.{Error}
@@ -24,10 +23,10 @@ use Rattle.walrus_base.specs.Marks.{is_marked}
 use Rattle.walrus_base.specs.declared.marks.Marks.{Marks}
 use Rattle.walrus_base.specs.declared.set.IdHashSet.{IdHashSet}
 use Rattle.walrus.specs.Marked.{HoldsMarked, MarksAreKept, MarksKept, ReachesSound, ReachesUnsound}
-use Rattle.walrus_contents.specs.Named.{export_names, group_names, kept_types, own_names, own_written, root_names, start_names}
-use Rattle.walrus_contents.proofs.Groups.{own_is_written, written_split}
-use Rattle.walrus_contents.proofs.RootNames.{named_start, start_named}
-use Rattle.walrus.specs.Used.{Followed, IsRefusal}
+use Rattle.walrus_contents.specs.Named.{active_names, export_names, root_names, start_names}
+use Rattle.walrus_contents.proofs.Lookups.{mapped_some}
+use Rattle.walrus_contents.proofs.RootNames.{active_is_root, active_named, export_is_root, named_active, named_start, root_cases, start_is_root, start_named}
+use Rattle.walrus.specs.Used.{IsRefusal}
 use Rattle.walrus.specs.declared.passes.marks.MarkedItems.{MarkedItems}
 use Rattle.walrus.specs.declared.passes.used.Used.{Used}
 
@@ -35,47 +34,27 @@ module _ (held : Contents) where
   abbrev v : abstract.Abstract
   v = contents_view held
 
-  -- ---- what an item refers to
+  -- ---- the roots are what the exports name, the start function, and the active data segments
 
-  kept_too : (x y : Item) → KeepsToo v x y → Contains (kept_types v x) y
-  kept_too (Functions, f) y too = subst (λ (z : Item). Contains (map type_item (v.handler_types f)) z) (sym too.2) (Contains-map type_item too.0 (v.handler_types f) too.1)
-  kept_too (Tables, i) y too = absurd (false≢true too.1)
-  kept_too (Memories, i) y too = absurd (false≢true too.1)
-  kept_too (Types, i) y too = absurd too
-  kept_too (Tags, i) y too = absurd too
-  kept_too (Globals, i) y too = absurd too
-  kept_too (Elements, i) y too = absurd too
-  kept_too (DataSegments, i) y too = absurd too
+  active_kind : (k : DataKind) → IsRootData (data_kind_of k) → is_passive_data k ≡ false
+  active_kind (Active memory offset) h = refl
+  active_kind Passive h = absurd h
 
-  too_kept : (x y : Item) → Contains (kept_types v x) y → KeepsToo v x y
-  too_kept (Functions, f) y c = let from = Contains-unmap type_item (v.handler_types f) y c in (from.0, from.1, sym from.2)
-  too_kept (Types, i) y c = absurd (Contains-none y c)
-  too_kept (Tables, i) y c = absurd (Contains-none y c)
-  too_kept (Memories, i) y c = absurd (Contains-none y c)
-  too_kept (Tags, i) y c = absurd (Contains-none y c)
-  too_kept (Globals, i) y c = absurd (Contains-none y c)
-  too_kept (Elements, i) y c = absurd (Contains-none y c)
-  too_kept (DataSegments, i) y c = absurd (Contains-none y c)
-
-  -- what an item names itself it refers to
-  pub own_referred : (x y : Item) → Contains (own_names v x) y → Refers v x y
-  own_referred x y c = ⊎_elim (λ h. inl (own_is_written v x y h)) (λ h. inr (too_kept x y h)) (Contains-append_cases (own_written v x) (kept_types v x) y c)
-
-  -- what it refers to is a member of its group, or named by it
-  pub refers_split : (x y : Item) → Refers v x y → Contains (group_names v x) y ⊎ Contains (own_names v x) y
-  refers_split x y (inl c) = ⊎_elim (λ g. inl g) (λ h. inr (Contains-append_left (own_written v x) (kept_types v x) y h)) (written_split v x y c)
-  refers_split x y (inr too) = inr (Contains-append_right (own_written v x) (kept_types v x) y (kept_too x y too))
-
-  -- ---- the roots are what the exports name, and the start function
+  root_kind : (k : DataKind) → is_passive_data k ≡ false → IsRootData (data_kind_of k)
+  root_kind (Active memory offset) e = tt
+  root_kind Passive e = absurd (false≢true (sym e))
 
   root_named : (x : Item) → IsRoot v x → Contains (root_names held) x
   root_named x (is_exported e at is) =
       let from = Contains-unmap export_of (items (exports held.exports)) e at in
       let same : exported from.0.item ≡ x = ap (λ (y : abstract.Export). y.item) from.2 ∙ sym is in
       subst (λ (y : Item). Contains (root_names held) y) same
-      (Contains-append_left (export_names held.exports) (start_names held.start) _ (Contains-map (λ (y : ExportValue). exported y.item) from.0 (items (exports held.exports)) from.1))
-  root_named x (start f at is) = subst (λ (y : Item). Contains (root_names held) y) (sym is) (Contains-append_right (export_names held.exports) (start_names held.start) (function_item f) (start_named held.start f at))
-  root_named x (data_segment i d at kind is) = absurd (none-some d at)
+      (export_is_root held (exported from.0.item) (Contains-map (λ (y : ExportValue). exported y.item) from.0 (items (exports held.exports)) from.1))
+  root_named x (start f at is) = subst (λ (y : Item). Contains (root_names held) y) (sym is) (start_is_root held (function_item f) (start_named held.start f at))
+  root_named x (data_segment i d at kind is) =
+      let from = mapped_some data_of (item_at (data_segments held.data_) i) d at in
+      let active = active_kind from.0.kind (subst (λ (s : abstract.DataSegment). IsRootData s.kind) from.2 kind) in
+      subst (λ (y : Item). Contains (root_names held) y) (sym is) (active_is_root held (DataSegments, i) (active_named held.data_ i from.0 from.1 active))
   root_named x (element_segment i e at kind is) = absurd (none-some e at)
   root_named x (asked_for at) = absurd (Contains-none x at)
 
@@ -87,31 +66,32 @@ module _ (held : Contents) where
   start_root : (x : Item) → Contains (start_names held.start) x → IsRoot v x
   start_root x c = let from = named_start held.start x c in start from.0 from.1 from.2
 
+  active_root : (x : Item) → Contains (active_names held.data_) x → IsRoot v x
+  active_root x c =
+      let from = named_active held.data_ x c in
+      data_segment from.0 (data_of from.1) (ap (option_map data_of) from.2) (root_kind from.1.kind from.3) from.4
+
   named_root : (x : Item) → Contains (root_names held) x → IsRoot v x
-  named_root x c = ⊎_elim (export_root x) (start_root x) (Contains-append_cases (export_names held.exports) (start_names held.start) x c)
+  named_root x c = ⊎_elim (export_root x) (λ h. ⊎_elim (start_root x) (active_root x) h) (root_cases held x c)
 
   pub roots_are : (x : Item) → IsRoot v x ↔ Contains (root_names held) x
   roots_are x = (root_named x, named_root x)
 
-  -- ---- the clauses of the search
+-- ---- the clauses of the search
 
-  -- no data is reached, so that no memory stays with it
-  kept_reached : (marks : MarkedItems) → Followed v marks → (x : Item) → Kept v x → Reached v x
-  kept_reached marks f x (inl h) = h
-  kept_reached marks f x (inr s) = absurd (false≢true (f.sound (DataSegments, s.segment) s.data_is_reached).live)
+module _ (v : abstract.Abstract) where
+  abbrev Found : Result MarkedItems Error → Type 0
+  Found r = MatchResult r (λ marks. MarksAreKept v marks × ReachesSound v) (IsRefusal (ReachesUnsound v))
 
-  marks_kept : (marks : MarkedItems) → Followed v marks → MarksAreKept v marks
-  marks_kept marks f x = (λ h. inl ((f.marked x).0 h), λ k. (f.marked x).1 (kept_reached marks f x k))
-
-  pub kept_by : (r : Result MarkedItems Error) → MatchResult r (Followed v) (IsRefusal (ReachesUnsound v)) → IfOk r (MarksAreKept v)
-  kept_by (Ok marks) f = marks_kept marks f
+  pub kept_by : (r : Result MarkedItems Error) → Found r → IfOk r (MarksAreKept v)
+  kept_by (Ok marks) f = f.0
   kept_by (Err e) f = tt
 
-  pub sound_by : (r : Result MarkedItems Error) → MatchResult r (Followed v) (IsRefusal (ReachesUnsound v)) → OnOk r (ReachesSound v)
-  sound_by (Ok marks) f = f.sound
+  pub sound_by : (r : Result MarkedItems Error) → Found r → OnOk r (ReachesSound v)
+  sound_by (Ok marks) f = f.1
   sound_by (Err e) f = tt
 
-  pub refused_by : (r : Result MarkedItems Error) → MatchResult r (Followed v) (IsRefusal (ReachesUnsound v)) → IfErr r (IsRefusal (ReachesUnsound v))
+  pub refused_by : (r : Result MarkedItems Error) → Found r → IfErr r (IsRefusal (ReachesUnsound v))
   refused_by (Ok marks) f = tt
   refused_by (Err e) h = h
 

@@ -18,9 +18,13 @@ use Rattle.walrus.specs.declared.passes.marks.MarkedItems.{MarkedItems}
 abbrev pub Agrees : MarkedItems → List Item → Type 0
 Agrees marks entered = (x : Item) → (has_mark marks x ≡ true) ↔ Contains entered x
 
+-- an item of which P holds isn't live
+abbrev pub OneDead : Abstract → (Item → Type 0) → Type 0
+OneDead v P = (x : Item) × P x × (IsLive v x → ⊥)
+
 -- an item that is named isn't live
 abbrev pub NamesDead : Abstract → List Item → Type 0
-NamesDead v named = (x : Item) × Contains named x × (IsLive v x → ⊥)
+NamesDead v named = OneDead v (Contains named)
 
 -- the items that are named are marked and entered behind those that were, but for those that were marked, and no others
 pub record Notes (named : List Item) (old new : MarkedItems) (before after : List Item) : Type 0 where
@@ -50,6 +54,12 @@ pub record Enters (v : Abstract) (named : List Item) (old new : MarkedItems) (be
   pub entered : Agrees old before → (x : Item) → Contains named x → Contains after x
   pub places : SamePlaces old new
 
+-- all that P holds of, with the members of their groups, all live, is entered so
+pub record EntersAll (v : Abstract) (P : Item → Type 0) (old new : MarkedItems) (before after : List Item) : Type 0 where
+  pub named : List Item
+  pub are : (x : Item) → Contains named x ↔ P x
+  pub enters : Enters v named old new before after
+
 -- what the search keeps: so many of the items entered are sound, and all that they refer to is entered
 pub record Follows (v : Abstract) (marks : MarkedItems) (entered : List Item) (taken : ℕ) : Type 0 where
   pub agrees : Agrees marks entered
@@ -61,7 +71,8 @@ pub record Follows (v : Abstract) (marks : MarkedItems) (entered : List Item) (t
   pub sound : (x : Item) → Contains (take taken entered) x → IsSound v x
   pub closed : (x y : Item) → Contains (take taken entered) x → Refers v x y → Contains entered y
 
--- what is marked at its end: what is reached, which is sound
+-- what is marked at its end: what is reached, which is sound; there is a mark for each live item still
 pub record Followed (v : Abstract) (marks : MarkedItems) : Type 0 where
   pub marked : (x : Item) → (has_mark marks x ≡ true) ↔ Reached v x
   pub sound : (x : Item) → Reached v x → IsSound v x
+  pub places : HavePlaces v marks

@@ -1,6 +1,6 @@
 -- The functions that ref.func names, and those of them that nothing exports.
-use Rattle.std.proofs.Common.{◌≡◌, ◌≤◌, ◌<◌, ◌==◌, ◌||◌, ◌⊎◌, ◌+◌, ℕ, zero, suc, Bool, true, false, List, [], ◌∷◌, length, map, drop, get_or, inl, inr, refl, sym, ap, ◌∙◌, ⊎_elim, subst, eqb-true, eq-eqb, drop-cons, add-one, zero-add, arith}
-use Rattle.std.specs.Prelude.{filter_map, flat_map, filter, cond, not, Contains, AllPairs, IsSome, Option, Some, None, option_map, slice_index_or, Result, Ok, Err, IfOk, if◌then◌else◌}
+use Rattle.std.proofs.Common.{◌≡◌, ◌<◌, ◌==◌, ◌||◌, ◌⊎◌, ◌+◌, ℕ, zero, suc, Bool, true, false, List, [], ◌∷◌, length, map, drop, get_or, inl, inr, refl, sym, ap, ◌∙◌, ⊎_elim, subst, eqb-true, eq-eqb, drop-cons, add-one, zero-add, arith}
+use Rattle.std.specs.Prelude.{filter_map, flat_map, filter, not, Contains, AllPairs, IsSome, Option, Some, None, option_map, slice_index_or, Result, Ok, Err, IfOk, if◌then◌else◌}
 use Rattle.std.specs.List.{AllByRecursion, cons_option}
 use Rattle.std.proofs.lemmas.Bool.{false≢true}
 use Rattle.std.proofs.lemmas.List.Elements.{All-from_recursion, Contains-append_cases, Contains-append_left, Contains-append_right}
@@ -28,6 +28,7 @@ use Rattle.walrus_model.specs.Names.{body_of as body_in, body_of_function}
 use Rattle.walrus_model.proofs.Lists.{Contains-head, Contains-tail, Contains-uncons, Contains-none, Contains-map}
 use Rattle.walrus_model.proofs.Standing.{some_inj}
 use Rattle.walrus_model.proofs.TypeRules.{Contains-flat_map}
+use Rattle.walrus_contents.proofs.Filters.{from_filter, in_filter}
 use Rattle.walrus_contents.proofs.Lookups.{mapped_some}
 use Rattle.walrus_contents.proofs.Slots.{entry_in, item_seen}
 use Rattle.walrus_contents.specs.declared.parts.Contents.{Contents}
@@ -145,27 +146,6 @@ contained_has (n ∷ ns) p h = by (n == p) refl h (contained_has ns p)
     by : (t : Bool) → (n == p) ≡ t → (t || has ns p) ≡ true → (has ns p ≡ true → Contains ns p) → Contains (n ∷ ns) p
     by true e h rest = subst (Contains (n ∷ ns)) (eqb-true n p e) (Contains-head n ns)
     by false e h rest = Contains-tail n p ns (rest h)
-
-in_filter : (p : ℕ → Bool) (xs : List ℕ) (x : ℕ) → Contains xs x → p x ≡ true → Contains (filter p xs) x
-in_filter p [] x c passes = absurd (Contains-none x c)
-in_filter p (y ∷ xs) x c passes = by (p y) refl (Contains-uncons y x xs c) (λ d. in_filter p xs x d passes)
-  where
-    by : (t : Bool) → p y ≡ t → (y ≡ x) ⊎ Contains xs x → (Contains xs x → Contains (filter p xs) x) → Contains (cond t (y ∷ filter p xs) (filter p xs)) x
-    by true e (inl same) rest = subst (Contains (y ∷ filter p xs)) same (Contains-head y (filter p xs))
-    by true e (inr is) rest = Contains-tail y x (filter p xs) (rest is)
-    by false e (inl same) rest = absurd (false≢true (sym e ∙ ap p same ∙ passes))
-    by false e (inr is) rest = rest is
-
-from_filter : (p : ℕ → Bool) (xs : List ℕ) (x : ℕ) → Contains (filter p xs) x → Contains xs x × (p x ≡ true)
-from_filter p [] x c = absurd (Contains-none x c)
-from_filter p (y ∷ xs) x c = by (p y) refl c (from_filter p xs x)
-  where
-    by : (t : Bool) → p y ≡ t → Contains (cond t (y ∷ filter p xs) (filter p xs)) x → (Contains (filter p xs) x → Contains xs x × (p x ≡ true)) → Contains (y ∷ xs) x × (p x ≡ true)
-    by true e at rest = ⊎_elim
-        (λ (same : y ≡ x). (subst (Contains (y ∷ xs)) same (Contains-head y xs), ap p (sym same) ∙ e))
-        (λ later. let r = rest later in (Contains-tail y x xs r.0, r.1))
-        (Contains-uncons y x (filter p xs) at)
-    by false e at rest = let r = rest at in (Contains-tail y x xs r.0, r.1)
 
 from_flat : {A : Type 0} (f : A → List ℕ) (xs : List A) (y : ℕ) → Contains (flat_map f xs) y → (x : A) × Contains xs x × Contains (f x) y
 from_flat f [] y at = absurd (Contains-none y at)

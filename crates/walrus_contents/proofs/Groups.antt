@@ -1,5 +1,5 @@
 -- The members of groups, and what items name themselves.
-use Rattle.std.proofs.Common.{◌≡◌, ℕ, ◌⊎◌, inr, List, map, Option, Some, None, sym, ap, ◌∙◌, subst, refl}
+use Rattle.std.proofs.Common.{◌≡◌, ℕ, ◌⊎◌, inl, inr, ⊎_elim, List, map, Option, Some, None, sym, ap, ◌∙◌, subst, refl}
 use Rattle.std.specs.Prelude.{Contains, IsSome}
 use Rattle.std.proofs.lemmas.List.Elements.{Contains-append_left, Contains-append_right, Contains-append_cases}
 use Rattle.walrus_base.specs.Arena.{item_at}
@@ -12,10 +12,10 @@ use Rattle.walrus_types.proofs.ShapesEnd.{has_contained}
 use Rattle.walrus_types.proofs.ShapesKept.{made_of}
 use Rattle.walrus_model.specs.Abstract.{Abstract}
 use Rattle.walrus_model.specs.Live.{IsLive}
-use Rattle.walrus_model.specs.Refers.{named_by, type_names, written_in}
+use Rattle.walrus_model.specs.Refers.{Refers, named_by, type_names, written_in}
 use Rattle.walrus_model.proofs.Lists.{Contains-none}
 use Rattle.walrus_model.proofs.Reach.{Contains-unmap}
-use Rattle.walrus_contents.specs.Named.{group_names, own_type_names, own_written}
+use Rattle.walrus_contents.specs.Named.{NamesItself, group_names, own_type_names, own_written}
 use Rattle.walrus_contents.specs.View.{contents_view}
 use Rattle.walrus_contents.specs.declared.parts.Contents.{Contents}
 
@@ -66,6 +66,16 @@ module _ (v : Abstract) where
   group_is_written (Globals, i) y at = absurd (Contains-none y at)
   group_is_written (Elements, i) y at = absurd (Contains-none y at)
   group_is_written (DataSegments, i) y at = absurd (Contains-none y at)
+
+  -- what an item names itself it refers to
+  pub own_refers : (x y : Item) → NamesItself v x y → Refers v x y
+  own_refers x y (inl own) = inl (own_is_written x y own)
+  own_refers x y (inr too) = inr too
+
+  -- what it refers to is a member of its group, or named by it
+  pub refers_split : (x y : Item) → Refers v x y → Contains (group_names v x) y ⊎ NamesItself v x y
+  refers_split x y (inl at) = ⊎_elim (λ g. inl g) (λ own. inr (inl own)) (written_split x y at)
+  refers_split x y (inr too) = inr (inr too)
 
 -- ---- groups are there whole
 

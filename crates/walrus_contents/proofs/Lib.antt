@@ -12,3 +12,5 @@ pub mod NamedFound
 pub mod ConstNames
 pub mod Groups
 pub mod RootNames
+pub mod Filters
+pub mod KeptNames

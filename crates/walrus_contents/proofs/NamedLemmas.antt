@@ -10,7 +10,7 @@ use Rattle.walrus_base.specs.Id.{place}
 use Rattle.walrus_base.specs.declared.id.Id.{Id}
 use Rattle.walrus_base.specs.declared.keys.LocalKey.{LocalKey}
 use Rattle.walrus_types.specs.declared.locals.ModuleLocals.{ModuleLocals}
-use Rattle.walrus_types.specs.Operators.{Functions, Item, type_item, locals_of, names_of}
+use Rattle.walrus_types.specs.Operators.{Functions, Item, locals_of, names_of}
 use Rattle.walrus_code.specs.Function.{body_of}
 use Rattle.walrus_code.specs.declared.function.LocalFunction.{LocalFunction}
 use Rattle.walrus_code.specs.declared.items.ItemId.{ItemId}
@@ -19,12 +19,12 @@ use Rattle.walrus_parts.specs.declared.function_kind.FunctionKind.{FunctionKind}
 use Rattle.walrus_parts.specs.declared.function_kind.FunctionKind.TheVariants.{Import, Local, Uninitialized}
 use Rattle.walrus_model.specs.Abstract as abstract
 use Rattle.walrus_model.specs.Refers.{IsUsed, body_names, function_names, named_by, written_in}
-use Rattle.walrus_contents.specs.View.{body, contents_view, function, handlers_at, kind_handlers, kind_of}
+use Rattle.walrus_contents.specs.View.{body, contents_view, function, kind_of}
 use Rattle.walrus_contents.specs.declared.parts.Contents.{Contents}
 use Rattle.walrus_parts.specs.declared.error.Error.{Error}
 use Rattle.walrus_parts.specs.declared.error.Error.TheVariants.{Memory, DeadItem}
 use Rattle.walrus_model.proofs.Lists.{Contains-head, Contains-tail, Contains-none}
-use Rattle.walrus_contents.specs.Named.{AreThere, IsReady, IsUnready, OneIsMissing, Puts, items_in, kept_types, local_type_names, type_at}
+use Rattle.walrus_contents.specs.Named.{AreThere, IsReady, IsUnready, OneIsMissing, Puts, items_in, local_type_names, type_at}
 use Rattle.walrus_contents.specs.There.{IsRefusal, IsSound, IsUnsound, NoBody, NoLocal}
 
 pub some_none : {X : Type 0} (o : Option X) → IsSome o → o ≡ None → ⊥
@@ -169,7 +169,3 @@ module _ (c : Contents) where
         (λ x. (sound_ready x.0, subst (λ (o : Option FunctionValue). Puts old new (named_by function_names (option_map (function c.locals) o))) (sym is) x.1))
         (unready_unsound f.kind refl)
         r h
-
-  -- what a function keeps beside that
-  pub function_kept : (i : ℕ) (f : FunctionValue) → item_at (functions c.funcs) i ≡ Some f → kept_types v (Functions, i) ≡ map type_item (kind_handlers f.kind)
-  function_kept i f is = ap (λ (o : Option FunctionValue). map type_item (handlers_at o)) is

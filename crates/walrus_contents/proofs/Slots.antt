@@ -1,5 +1,5 @@
 -- What stands among the entries of slots.
-use Rattle.std.proofs.Common.{◌≡◌, ℕ, zero, suc, ◌+◌, ⊎_elim, List, [], ◌∷◌, Some, None, ap, ap₂, ◌∙◌, subst, refl, arith}
+use Rattle.std.proofs.Common.{◌≡◌, ℕ, zero, suc, ◌+◌, ◌<◌, ⊎_elim, List, [], ◌∷◌, Some, None, ap, ap₂, ◌∙◌, subst, refl, arith}
 use Rattle.std.specs.Prelude.{Option, Contains}
 use Rattle.std.proofs.lemmas.Option.{none-some}
 use Rattle.walrus_base.specs.Arena.{item_at, entries, entries_from, items}
@@ -53,3 +53,42 @@ module _ {X : Type 0} where
   item_seen slots x c =
       let from = Contains-unmap (λ (e : ℕ × X). e.1) (entries slots) x c in
       (from.0.0, stands_at slots from.0 from.1 ∙ ap (λ (y : X). Some y) from.2)
+
+  -- ---- the first entry
+
+  none_before : (rest : List (Option X)) (i : ℕ) → ((j : ℕ) → j < i → item_at rest j ≡ None) → (j : ℕ) → j < suc i → item_at (None ∷ rest) j ≡ None
+  none_before rest i h zero lt = refl
+  none_before rest i h (suc j) lt = h j (omega (arith, lt))
+
+  -- it stands so many places behind the first one, and nothing before it
+  record IsFirst (k : ℕ) (slots : List (Option X)) (e : ℕ × X) : Type 0 where
+    behind : ℕ
+    place : e.0 ≡ k + behind
+    item : item_at slots behind ≡ Some e.1
+    before : (j : ℕ) → j < behind → item_at slots j ≡ None
+
+  first_from : (k : ℕ) (slots : List (Option X)) (e : ℕ × X) (rest : List (ℕ × X)) → entries_from k slots ≡ e ∷ rest → IsFirst k slots e
+  first_from k [] e rest h = absurd cc
+  first_from k (None ∷ more) e rest h =
+      let f = first_from (k + 1) more e rest h in
+      record { behind = suc f.behind; place = (let q : e.0 ≡ k + 1 + f.behind = f.place in omega (arith, q)); item = f.item; before = none_before more f.behind f.before }
+  first_from k (Some y ∷ more) e rest h =
+      let same : (k, y) ≡ e = cc in
+      subst (IsFirst k (Some y ∷ more)) same (record { behind = 0; place = omega arith; item = refl; before = λ j lt. absurd (omega (arith, lt)) })
+
+  -- the first entry stands at its place, and nothing before it
+  pub first_there : (slots : List (Option X)) (e : ℕ × X) (rest : List (ℕ × X)) → entries slots ≡ e ∷ rest → (item_at slots e.0 ≡ Some e.1) × ((j : ℕ) → j < e.0 → item_at slots j ≡ None)
+  first_there slots e rest h =
+      let f = first_from 0 slots e rest h in
+      let here : f.behind ≡ e.0 = let r : e.0 ≡ 0 + f.behind = f.place in omega (arith, r) in
+      subst (λ (n : ℕ). (item_at slots n ≡ Some e.1) × ((j : ℕ) → j < n → item_at slots j ≡ None)) here (f.item, f.before)
+
+  none_from : (k : ℕ) (slots : List (Option X)) → entries_from k slots ≡ [] → (j : ℕ) → item_at slots j ≡ None
+  none_from k [] h j = refl
+  none_from k (None ∷ rest) h zero = refl
+  none_from k (None ∷ rest) h (suc j) = none_from (k + 1) rest h j
+  none_from k (Some y ∷ rest) h j = absurd cc
+
+  -- where no entry is, nothing stands
+  pub none_there : (slots : List (Option X)) → entries slots ≡ [] → (j : ℕ) → item_at slots j ≡ None
+  none_there slots h j = none_from 0 slots h j

@@ -1,5 +1,4 @@
 -- What each step of reading adds.
-use Rattle.wasm_entries.specs.Record as entries
 use Rattle.std.proofs.Common.{◌≡◌, ℕ, zero, suc, ◌+◌, ◌<◌, ◌≤◌, List, [], ◌∷◌, ◌++◌, length, map, get_or, refl, sym, ap, ap₂, subst, ◌∙◌, arith}
 use Rattle.std.specs.Prelude.{Some, None, slice_get, All}
 use Rattle.std.specs.List.{range_with_len}

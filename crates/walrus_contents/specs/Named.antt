@@ -1,8 +1,8 @@
 -- What an item of a module in memory names, and what has to be there so that it can be told.
-use Rattle.std.specs.Prelude.{◌≡◌, ℕ, List, [], ◌++◌, map, Option, None, IsSome, Contains, ⊤}
+use Rattle.std.specs.Prelude.{◌≡◌, ◌↔◌, ◌⊎◌, ℕ, not, List, [], ◌++◌, filter, map, Option, None, IsSome, Contains, ⊤}
 use Rattle.std.specs.Global.{Vec}
 use Rattle.std.specs.Option.{option_to_list}
-use Rattle.walrus_base.specs.Arena.{item_at, items}
+use Rattle.walrus_base.specs.Arena.{entries, item_at, items}
 use Rattle.walrus_base.specs.Id.{place}
 use Rattle.walrus_base.specs.Types.{ValType, sub_names, val_names}
 use Rattle.walrus_base.specs.declared.id.Id.{Id}
@@ -15,11 +15,12 @@ use Rattle.walrus_code.specs.Function.{body_of}
 use Rattle.walrus_code.specs.declared.items.ItemId.{ItemId}
 use Rattle.walrus_functions.specs.EmittedBody.{types_of as local_types}
 use Rattle.walrus_parts.specs.Kinds.{exported}
+use Rattle.walrus_items.specs.Data.{data_segments, is_passive_data, ModuleData}
 use Rattle.walrus_items.specs.Exports.{exports, ModuleExports}
 use Rattle.walrus_parts.specs.declared.function_kind.FunctionKind.{FunctionKind}
 use Rattle.walrus_parts.specs.declared.function_kind.FunctionKind.TheVariants.{Import, Local, Uninitialized}
 use Rattle.walrus_model.specs.Abstract.{Abstract, TypeDef}
-use Rattle.walrus_model.specs.Refers.{named_by, written_in}
+use Rattle.walrus_model.specs.Refers.{KeepsToo, named_by, written_in}
 use Rattle.walrus_contents.specs.declared.parts.Contents.{Contents}
 
 -- the items of the ids, in order
@@ -30,16 +31,11 @@ items_in ids = map item_of ids.items
 abbrev pub Puts : Vec ItemId → Vec ItemId → List Item → Type 0
 Puts old new names = items_in new ≡ items_in old ++ names
 
--- what an item keeps beside what is written in it: a function the types of its legacy handlers; no segments are there so far
-abbrev pub kept_types : Abstract → Item → List Item
-kept_types m (Functions, f) = map type_item (m.handler_types f)
-kept_types m (Types, i) = []
-kept_types m (Tables, i) = []
-kept_types m (Memories, i) = []
-kept_types m (Tags, i) = []
-kept_types m (Globals, i) = []
-kept_types m (Elements, i) = []
-kept_types m (DataSegments, i) = []
+-- behind the ids that were there stand those of just the items of which P holds
+pub record PutsAll (old new : Vec ItemId) (P : Item → Type 0) : Type 0 where
+  pub added : List Item
+  pub behind : Puts old new added
+  pub are : (x : Item) → Contains added x ↔ P x
 
 -- the members of a type's group; no other item has a group
 abbrev pub group_names : Abstract → Item → List Item
@@ -67,13 +63,9 @@ own_written m (Globals, i) = written_in m (Globals, i)
 own_written m (Elements, i) = written_in m (Elements, i)
 own_written m (DataSegments, i) = written_in m (DataSegments, i)
 
--- what an item names itself
-abbrev pub own_names : Abstract → Item → List Item
-own_names m x = own_written m x ++ kept_types m x
-
--- all that an item names
-abbrev pub all_names : Abstract → Item → List Item
-all_names m x = written_in m x ++ kept_types m x
+-- what an item refers to beside the members of its group: what is written in it itself, and what it keeps beside that
+abbrev pub NamesItself : Abstract → Item → Item → Type 0
+NamesItself m x y = Contains (own_written m x) y ⊎ KeepsToo m x y
 
 -- what the exports name
 abbrev pub export_names : ModuleExports → List Item
@@ -83,9 +75,13 @@ export_names all = map (λ e. exported e.item) (items (exports all))
 abbrev pub start_names : Option (Id FunctionKey) → List Item
 start_names start = map (λ f. function_item (place f)) (option_to_list start)
 
--- the roots: what the exports name, and then the start function
+-- the active data segments, which are roots
+abbrev pub active_names : ModuleData → List Item
+active_names all = map (λ e. (DataSegments, e.0)) (filter (λ e. not (is_passive_data e.1.kind)) (entries (data_segments all)))
+
+-- the roots: what the exports name, then the start function, and then the active data segments
 abbrev pub root_names : Contents → List Item
-root_names c = export_names c.exports ++ start_names c.start
+root_names c = export_names c.exports ++ start_names c.start ++ active_names c.data_
 
 -- the type of the local at a place, if one is there
 abbrev pub type_at : ModuleLocals → ℕ → Option (ValType ℕ)

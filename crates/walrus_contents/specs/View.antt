@@ -1,5 +1,5 @@
 -- The parts of a module in memory as an abstract module: the number of an item is the place of its id. What isn't kept so far is absent:
--- segments, and so that a table or a memory holds one, custom sections, names.
+-- element segments, and so that a table holds one, custom sections, names.
 use Rattle.std.specs.Prelude.{ℕ, Bool, false, ◌&&◌, not, List, [], map, filter, length, Option, Some, None, option_map, ◌≡◌}
 use Rattle.std.specs.List.{range_with_len}
 use Rattle.walrus_base.specs.Arena.{item_at, items}
@@ -21,6 +21,9 @@ use Rattle.walrus_items.specs.Functions.{FunctionValue, functions, ModuleFunctio
 use Rattle.walrus_items.specs.Imports.{ImportValue, imports, ModuleImports}
 use Rattle.walrus_parts.specs.declared.function_kind.FunctionKind.TheVariants as kind
 use Rattle.walrus_parts.specs.declared.function_kind.FunctionKind.{FunctionKind}
+use Rattle.walrus_parts.specs.declared.segments.DataKind.TheVariants.{Active, Passive}
+use Rattle.walrus_parts.specs.declared.segments.DataKind.{DataKind}
+use Rattle.walrus_items.specs.Data.{DataValue, data_segments, ModuleData}
 use Rattle.walrus_items.specs.Globals.{GlobalValue, globals, ModuleGlobals}
 use Rattle.walrus_items.specs.Memories.{MemoryValue, memories, ModuleMemories}
 use Rattle.walrus_items.specs.Tables.{TableValue, tables, ModuleTables}
@@ -123,6 +126,24 @@ global_of g = record { origin = origin_of g.imported_by; ty = record { value = g
 abbrev pub globals_of : ModuleGlobals → ℕ → Option abstract.Global
 globals_of all i = option_map global_of (item_at (globals all) i)
 
+-- ---- data segments
+
+-- how a segment is used
+abbrev pub data_kind_of : DataKind → abstract.DataKind
+data_kind_of (Active memory offset) = abstract.ActiveData (place memory) (const_ops offset)
+data_kind_of Passive = abstract.PassiveData
+
+abbrev pub data_of : DataValue → abstract.DataSegment
+data_of d = record { kind = data_kind_of d.kind; value = d.value }
+
+abbrev pub data_segments_of : ModuleData → ℕ → Option abstract.DataSegment
+data_segments_of all i = option_map data_of (item_at (data_segments all) i)
+
+-- the segments in the set of a memory, if one is there
+abbrev pub kept_data : Option MemoryValue → ℕ → Bool
+kept_data None d = false
+kept_data (Some m) d = m.segments d
+
 -- ---- the module
 
 -- what is lent, as if it were owned
@@ -136,6 +157,7 @@ lent p = record {
   memories = p.memories.now;
   tags = p.tags.now;
   globals = p.globals.now;
+  data_ = p.data_.now;
   exports = p.exports.now;
   start = p.start;
   producers = p.producers.now;
@@ -152,14 +174,14 @@ contents_view c = record {
   tags = tags_of c.tags;
   globals = globals_of c.globals;
   elements = λ i. None;
-  data_segments = λ i. None;
+  data_segments = data_segments_of c.data_;
   exports = exports_of c.exports;
   start = option_map place c.start;
   customs = [];
   producers = producers c.producers;
   named = λ x. [];
   table_segments = λ t e. false;
-  memory_segments = λ y d. false;
+  memory_segments = λ y d. kept_data (item_at (memories c.memories) y) d;
   handler_types = λ f. handlers_at (item_at (functions c.funcs) f);
   section_roots = [];
 }
@@ -168,13 +190,15 @@ contents_view c = record {
 abbrev pub parts_view : Parts → abstract.Abstract
 parts_view p = contents_view (lent p)
 
--- it holds types, locals, functions, exports and producers alone: no import, table, memory, tag or global, dropped ones included
+-- it holds types, locals, functions, exports and producers alone: no import, table, memory, tag, global or segment, dropped ones
+-- included
 pub record HoldsNoOthers (c : Contents) : Type 0 where
   pub imports : imports c.imports ≡ []
   pub tables : tables c.tables ≡ []
   pub memories : memories c.memories ≡ []
   pub tags : tags c.tags ≡ []
   pub globals : globals c.globals ≡ []
+  pub data_segments : data_segments c.data_ ≡ []
 
 -- they hold nothing, dropped items included
 pub record HoldsNothing (c : Contents) : Type 0 where
@@ -187,6 +211,7 @@ pub record HoldsNothing (c : Contents) : Type 0 where
   pub memories : memories c.memories ≡ []
   pub tags : tags c.tags ≡ []
   pub globals : globals c.globals ≡ []
+  pub data_segments : data_segments c.data_ ≡ []
   pub exports : exports c.exports ≡ []
   pub start : c.start ≡ None
   pub producers : producers c.producers ≡ []

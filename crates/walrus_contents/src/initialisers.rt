@@ -1,25 +1,26 @@
-//! What tables, tags and globals name, and the constant expressions that initialise them
+//! What tables, tags, globals and data segments name, and the constant expressions that initialise them
 //! (Valid > Instructions > Expressions > Constant Expressions).
 
 ghost use Rattle.std.specs.Prelude.{◌≡◌, map, option_map, OnOk};
 ghost use Rattle.std.specs.Option.{option_to_list};
 ghost use Rattle.walrus_code.specs.Code.{item_of};
+ghost use Rattle.walrus_items.specs.Data.{data_value};
 ghost use Rattle.walrus_items.specs.Globals.{global_init, global_value};
 ghost use Rattle.walrus_items.specs.Tables.{table_value};
 ghost use Rattle.walrus_items.specs.Tags.{tag_value};
-ghost use Rattle.walrus_model.specs.Refers.{global_names, named_by, table_names, tag_names};
+ghost use Rattle.walrus_model.specs.Refers.{data_kind_names, data_names, global_names, named_by, table_names, tag_names};
 ghost use Rattle.walrus_types.specs.ConstOps.{const_op, const_ops};
 ghost use Rattle.walrus_types.specs.Operators.{names_of, op_names, type_item};
 ghost use Rattle.walrus_types.specs.Value.{heap_type};
 ghost use Rattle.walrus_base.specs.Types.{heap_names};
 ghost use Rattle.walrus_base.specs.Id.{place};
 ghost use Rattle.walrus_contents.specs.Named.{Puts};
-ghost use Rattle.walrus_contents.specs.View.{global_of, table_of, tag_of};
+ghost use Rattle.walrus_contents.specs.View.{data_kind_of, data_of, global_of, table_of, tag_of};
 
 use crate::names::{push_heap_type, push_value_type};
 use std::alloc::AllocError;
 use std::result;
-use walrus_items::{Global, GlobalKind, HeapType, ItemId, Table, Tag, TypeId};
+use walrus_items::{Data, DataKind, Global, GlobalKind, HeapType, ItemId, Table, Tag, TypeId};
 use walrus_types::{ConstExpr, ConstOp};
 
 // Puts what a table names behind `to`: the concrete type of its elements, and what its initialiser names, if no import brings it.
@@ -75,6 +76,29 @@ fn push_kind_names(kind: &GlobalKind, to: &mut Vec<ItemId>) -> result::Result<()
     match kind {
         GlobalKind::Import(_) => Ok(()),
         GlobalKind::Local(initialiser) => push_const_names(initialiser, to),
+    }
+}
+
+// The same for a data segment: of an active one its memory, and what its offset names.
+pub(crate) fn push_data_names(
+    segment: &Data,
+    to: &mut Vec<ItemId>,
+) -> result::Result<(), AllocError>
+    ensures { OnOk result (Puts to.old to.new (data_names (data_of (data_value segment.now)))) }
+{
+    push_use_names(&segment.kind, to)
+}
+
+// The same for how a data segment is used.
+fn push_use_names(kind: &DataKind, to: &mut Vec<ItemId>) -> result::Result<(), AllocError>
+    ensures { OnOk result (Puts to.old to.new (data_kind_names (data_kind_of kind.now))) }
+{
+    match kind {
+        DataKind::Active { memory, offset } => {
+            to.push(ItemId::Memory(*memory))?;
+            push_const_names(offset, to)
+        }
+        DataKind::Passive => Ok(()),
     }
 }
 

@@ -1,37 +1,52 @@
 //! What the items of a module name.
 
-ghost use Rattle.std.specs.Prelude.{◌≡◌, ◌++◌, map, flat_map, IfOk, IsSome, None, OnOk, MatchResult};
+ghost use Rattle.std.specs.Prelude.{◌≡◌, ◌++◌, map, flat_map, Contains, IfOk, IsSome, None, OnOk, MatchResult};
 ghost use Rattle.walrus_base.specs.Arena.{IsLive as IsLiveAt};
 ghost use Rattle.walrus_base.specs.Id.{place};
+ghost use Rattle.walrus_base.specs.IdSet.{ids_in};
 ghost use Rattle.walrus_base.specs.Types.{heap_names, val_names};
 ghost use Rattle.walrus_code.specs.Code.{item_of};
 ghost use Rattle.walrus_code.specs.Function.{body_of};
 ghost use Rattle.walrus_items.specs.Functions.{function_value};
 ghost use Rattle.walrus_model.specs.Live.{IsLive};
-ghost use Rattle.walrus_model.specs.Refers.{body_names, function_names, kind_names, named_by};
+ghost use Rattle.walrus_model.specs.Refers.{KeepsToo, body_names, function_names, kind_names, named_by};
 ghost use Rattle.walrus_contents.specs.View.{body, function as function_of, kind_handlers, kind_of, lent, parts_view, types_of};
 ghost use Rattle.walrus_types.specs.ModuleTypes.{type_slots};
-ghost use Rattle.walrus_types.specs.Operators.{locals_of, names_of, type_item};
+ghost use Rattle.walrus_types.specs.Operators.{DataSegments, locals_of, names_of, type_item};
 ghost use Rattle.walrus_types.specs.Value.{heap_type, val_type};
 ghost use Rattle.walrus_contents.specs.There.{IsRefusal, IsSound, IsUnsound};
-ghost use Rattle.walrus_contents.specs.Named.{AreThere, IsReady, IsUnready, OneIsMissing, Puts, export_names, kept_types, local_type_names, own_names, own_type_names, own_written, root_names, start_names, type_at};
+ghost use Rattle.walrus_contents.specs.Named.{AreThere, IsReady, IsUnready, NamesItself, OneIsMissing, Puts, PutsAll, active_names, export_names, local_type_names, own_type_names, own_written, root_names, start_names, type_at};
 
-use crate::initialisers::{push_global_names, push_table_names, push_tag_names};
+use crate::initialisers::{push_data_names, push_global_names, push_table_names, push_tag_names};
 use crate::parts::Parts;
 use std::alloc::{AllocError, Global};
 use std::result;
-use walrus_base::FunctionId;
+use walrus_base::{DataKey, FunctionId, IdHashSet};
 use walrus_items::{
-    Error, Function, FunctionKind, HeapType, ItemId, LocalFunction, LocalId, ModuleExports,
-    ModuleFunctions, ModuleLocals, ModuleTypes, Result, TypeId, ValType,
+    Error, Function, FunctionKind, HeapType, ItemId, LocalFunction, LocalId, ModuleData,
+    ModuleExports, ModuleFunctions, ModuleLocals, ModuleTypes, Result, TypeId, ValType,
 };
 
-/// Puts the roots behind `to`: what the exports name, in order, and then the start function.
+/// Puts the roots behind `to`: what the exports name, in order, then the start function, and then the active data segments by
+/// rising id.
 pub fn push_root_names(parts: Parts<'_>, to: &mut Vec<ItemId>) -> result::Result<(), AllocError>
     ensures { OnOk result (Puts to.old to.new (root_names (lent parts.entry))) }
 {
     push_export_names(parts.exports, to)?;
-    push_start_name(parts.start, to)
+    push_start_name(parts.start, to)?;
+    push_active_data(parts.data_, to)
+}
+
+// The same for the active data segments.
+fn push_active_data(segments: &ModuleData, to: &mut Vec<ItemId>) -> result::Result<(), AllocError>
+    ensures { OnOk result (Puts to.old to.new (active_names segments.now)) }
+{
+    for (id, segment) in segments.iter_entries() {
+        if !segment.is_passive() {
+            to.push(ItemId::Data(id))?;
+        }
+    }
+    Ok(())
 }
 
 // The same for the start function, if there is one.
@@ -60,8 +75,9 @@ fn push_export_names(
     Ok(())
 }
 
-/// Puts all that a live item names itself behind `to`: what is written in it, then the types of its legacy handlers. A type
-/// names the members of its group beside that, which aren't put. Refused as [`push_written_names`] is.
+/// Puts all that a live item refers to behind `to`, but the members of a type's group: what is written in it, and then what it keeps
+/// beside that, a function the types of its legacy handlers, a memory the data segments in its set. Refused as
+/// [`push_written_names`] is.
 pub fn push_item_names(
     alloc: Global,
     parts: Parts<'_>,
@@ -70,12 +86,12 @@ pub fn push_item_names(
 ) -> Result<()>
     requires { IsLive (parts_view parts) (item_of item) }
     ensures { MatchResult result
-        (λ _. IsSound (parts_view parts.entry) (item_of item) × Puts to.old to.new
-        (own_names (parts_view parts.entry) (item_of item)))
+        (λ _. IsSound (parts_view parts.entry) (item_of item) × PutsAll to.old to.new
+        (NamesItself (parts_view parts.entry) (item_of item)))
         (IsRefusal (IsSound (parts_view parts.entry) (item_of item) → ⊥)) }
 {
     push_written_names(alloc, parts, item, to)?;
-    push_kept_types(parts, item, to)?;
+    push_kept_names(parts, item, to)?;
     Ok(())
 }
 
@@ -99,29 +115,44 @@ pub fn push_written_names(
         ItemId::Table(id) => Ok(push_table_names(parts.tables.get(id), to)?),
         ItemId::Tag(id) => Ok(push_tag_names(parts.tags.get(id), to)?),
         ItemId::Global(id) => Ok(push_global_names(parts.globals.get(id), to)?),
-        ItemId::Memory(_) | ItemId::Element(_) | ItemId::Data(_) => Ok(()),
+        ItemId::Data(id) => Ok(push_data_names(parts.data_.get(id), to)?),
+        ItemId::Memory(_) | ItemId::Element(_) => Ok(()),
     }
 }
 
-// Puts what a live item keeps beside that behind `to`: a function the types of its legacy handlers.
-fn push_kept_types(
+// Puts what a live item keeps beside that behind `to`: a function the types of its legacy handlers, a memory the data segments in
+// its set.
+fn push_kept_names(
     parts: Parts<'_>,
     item: ItemId,
     to: &mut Vec<ItemId>,
 ) -> result::Result<(), AllocError>
     requires { IsLive (parts_view parts) (item_of item) }
-    ensures { OnOk result (Puts to.old to.new (kept_types (parts_view parts.entry) (item_of item))) }
+    ensures { OnOk result (PutsAll to.old to.new (KeepsToo (parts_view parts.entry) (item_of item))) }
 {
     match item {
         ItemId::Function(id) => push_handler_types(&parts.funcs.get(id).kind, to),
+        ItemId::Memory(id) => push_data_ids(&parts.memories.get(id).data_segments, to),
         ItemId::Type(_)
         | ItemId::Table(_)
-        | ItemId::Memory(_)
         | ItemId::Tag(_)
         | ItemId::Global(_)
         | ItemId::Element(_)
         | ItemId::Data(_) => Ok(()),
     }
+}
+
+// The data segments of a set, by rising id.
+fn push_data_ids(
+    segments: &IdHashSet<DataKey>,
+    to: &mut Vec<ItemId>,
+) -> result::Result<(), AllocError>
+    ensures { OnOk result (Puts to.old to.new (map (λ d. (DataSegments, d)) (ids_in segments.now))) }
+{
+    'ids: for id in segments.iter() {
+        to.push(ItemId::Data(id))?;
+    }
+    Ok(())
 }
 
 // The types of the legacy handlers of a function of this kind.

@@ -8,7 +8,7 @@ ghost use Rattle.walrus_contents.specs.View.{HoldsNothing, contents_view, parts_
 use std::alloc::Global;
 use walrus_base::FunctionId;
 use walrus_items::{
-    ItemId, ModuleExports, ModuleFunctions, ModuleGlobals, ModuleImports, ModuleLocals,
+    ItemId, ModuleData, ModuleExports, ModuleFunctions, ModuleGlobals, ModuleImports, ModuleLocals,
     ModuleMemories, ModuleTables, ModuleTags, ModuleTypes, Result,
 };
 use walrus_producers::ModuleProducers;
@@ -32,6 +32,8 @@ pub struct Parts<'a> {
     pub tags: &'a ModuleTags,
     /// The globals.
     pub globals: &'a ModuleGlobals,
+    /// The data segments.
+    pub data_: &'a ModuleData,
     /// The exports.
     pub exports: &'a ModuleExports,
     /// The start function, if there is one.
@@ -59,6 +61,8 @@ pub struct Contents {
     pub tags: ModuleTags,
     /// The globals.
     pub globals: ModuleGlobals,
+    /// The data segments.
+    pub data_: ModuleData,
     /// The exports.
     pub exports: ModuleExports,
     /// The start function, if there is one.
@@ -82,6 +86,7 @@ impl Contents {
             memories: ModuleMemories::new(alloc),
             tags: ModuleTags::new(alloc)?,
             globals: ModuleGlobals::new(alloc),
+            data_: ModuleData::new(alloc),
             exports: ModuleExports::new(alloc),
             start: None,
             producers: ModuleProducers::new(alloc),
@@ -101,6 +106,7 @@ impl Contents {
             memories: &self.memories,
             tags: &self.tags,
             globals: &self.globals,
+            data_: &self.data_,
             exports: &self.exports,
             start: self.start,
             producers: &self.producers,
@@ -108,7 +114,7 @@ impl Contents {
     }
 }
 
-/// Whether the item is there. A module has no segments so far.
+/// Whether the item is there. A module has no element segments so far.
 pub fn is_live(parts: Parts<'_>, item: ItemId) -> bool
     ensures { IsTrue result ↔ IsLive (parts_view parts.entry) (item_of item) }
 {
@@ -119,6 +125,7 @@ pub fn is_live(parts: Parts<'_>, item: ItemId) -> bool
         ItemId::Memory(id) => parts.memories.contains(id),
         ItemId::Tag(id) => parts.tags.contains(id),
         ItemId::Global(id) => parts.globals.contains(id),
-        ItemId::Element(_) | ItemId::Data(_) => false,
+        ItemId::Data(id) => parts.data_.contains(id),
+        ItemId::Element(_) => false,
     }
 }

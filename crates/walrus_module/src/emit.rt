@@ -46,6 +46,7 @@ impl Module {
             memories: &self.memories,
             tags: &self.tags,
             globals: &self.globals,
+            data_: &self.data_,
             exports: &self.exports,
             start: self.start,
             producers: &self.producers,

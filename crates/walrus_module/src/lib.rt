@@ -11,23 +11,107 @@ pub mod module;
 mod parse;
 
 pub use config::ModuleConfig;
-pub use customs::{ModuleCustomSections, SectionIter};
+pub use customs::ModuleCustomSections;
+pub use customs::SectionIter;
 pub use entry::SectionEntry;
 pub use module::Module;
-pub use walrus_items::{
-    Arg, Error, Export, ExportItem, Function, FunctionKey, FunctionKind, Global, GlobalEntries,
-    GlobalIter, GlobalKind, HeapType, IdHashSet, Import, ImportEntries, ImportIter, ImportKind,
-    ImportedFunction, ItemId, ItemMarks, LocalFunction, LocalId, Memory, MemoryEntries, MemoryIter,
-    ModuleExports, ModuleFunctions, ModuleGlobals, ModuleImports, ModuleLocals, ModuleMemories,
-    ModuleTables, ModuleTags, ModuleTypes, Operator, Result, Table, TableEntries, TableIter, Tag,
-    TagEntries, TagIter, TagKind, TypeId, ValType,
-};
-pub use walrus_parts::{
-    AbstractHeapType, ArenaIter, Args, ArrayType, BlockType, CodeTransform, CompositeType,
-    ConstExpr, ConstOp, CustomSection, DataId, DataKey, ElementId, ElementKey, ErrorKind, ExportId,
-    FieldType, FunctionBuilder, FunctionId, FunctionType, GlobalId, GlobalKey, GroupIds, Id,
-    IdsToIndices, ImportId, IndicesToIds, InstrLocId, InstrSeqBuilder, Local, Marks, MemoryId,
-    MemoryKey, NewType, RawCustomSection, RefType, Roots, StorageType, StructType, TableId,
-    TableKey, TagId, TagKey, Type, TypeKey, UntypedCustomSectionId, Value,
-};
-pub use walrus_producers::{ModuleProducers, ProducerField, ProducerValue};
+pub use walrus_items::Arg;
+pub use walrus_items::Data;
+pub use walrus_items::DataEntries;
+pub use walrus_items::DataIter;
+pub use walrus_items::Error;
+pub use walrus_items::Export;
+pub use walrus_items::ExportItem;
+pub use walrus_items::Function;
+pub use walrus_items::FunctionKey;
+pub use walrus_items::FunctionKind;
+pub use walrus_items::Global;
+pub use walrus_items::GlobalEntries;
+pub use walrus_items::GlobalIter;
+pub use walrus_items::GlobalKind;
+pub use walrus_items::HeapType;
+pub use walrus_items::IdHashSet;
+pub use walrus_items::Import;
+pub use walrus_items::ImportEntries;
+pub use walrus_items::ImportIter;
+pub use walrus_items::ImportKind;
+pub use walrus_items::ImportedFunction;
+pub use walrus_items::ItemId;
+pub use walrus_items::ItemMarks;
+pub use walrus_items::LocalFunction;
+pub use walrus_items::LocalId;
+pub use walrus_items::Memory;
+pub use walrus_items::MemoryEntries;
+pub use walrus_items::MemoryIter;
+pub use walrus_items::ModuleData;
+pub use walrus_items::ModuleExports;
+pub use walrus_items::ModuleFunctions;
+pub use walrus_items::ModuleGlobals;
+pub use walrus_items::ModuleImports;
+pub use walrus_items::ModuleLocals;
+pub use walrus_items::ModuleMemories;
+pub use walrus_items::ModuleTables;
+pub use walrus_items::ModuleTags;
+pub use walrus_items::ModuleTypes;
+pub use walrus_items::Operator;
+pub use walrus_items::Result;
+pub use walrus_items::Table;
+pub use walrus_items::TableEntries;
+pub use walrus_items::TableIter;
+pub use walrus_items::Tag;
+pub use walrus_items::TagEntries;
+pub use walrus_items::TagIter;
+pub use walrus_items::TagKind;
+pub use walrus_items::TypeId;
+pub use walrus_items::ValType;
+pub use walrus_parts::AbstractHeapType;
+pub use walrus_parts::ArenaIter;
+pub use walrus_parts::Args;
+pub use walrus_parts::ArrayType;
+pub use walrus_parts::BlockType;
+pub use walrus_parts::CodeTransform;
+pub use walrus_parts::CompositeType;
+pub use walrus_parts::ConstExpr;
+pub use walrus_parts::ConstOp;
+pub use walrus_parts::CustomSection;
+pub use walrus_parts::DataId;
+pub use walrus_parts::DataKey;
+pub use walrus_parts::DataKind;
+pub use walrus_parts::ElementId;
+pub use walrus_parts::ElementKey;
+pub use walrus_parts::ErrorKind;
+pub use walrus_parts::ExportId;
+pub use walrus_parts::FieldType;
+pub use walrus_parts::FunctionBuilder;
+pub use walrus_parts::FunctionId;
+pub use walrus_parts::FunctionType;
+pub use walrus_parts::GlobalId;
+pub use walrus_parts::GlobalKey;
+pub use walrus_parts::GroupIds;
+pub use walrus_parts::Id;
+pub use walrus_parts::IdsToIndices;
+pub use walrus_parts::ImportId;
+pub use walrus_parts::IndicesToIds;
+pub use walrus_parts::InstrLocId;
+pub use walrus_parts::InstrSeqBuilder;
+pub use walrus_parts::Local;
+pub use walrus_parts::Marks;
+pub use walrus_parts::MemoryId;
+pub use walrus_parts::MemoryKey;
+pub use walrus_parts::NewType;
+pub use walrus_parts::RawCustomSection;
+pub use walrus_parts::RefType;
+pub use walrus_parts::Roots;
+pub use walrus_parts::StorageType;
+pub use walrus_parts::StructType;
+pub use walrus_parts::TableId;
+pub use walrus_parts::TableKey;
+pub use walrus_parts::TagId;
+pub use walrus_parts::TagKey;
+pub use walrus_parts::Type;
+pub use walrus_parts::TypeKey;
+pub use walrus_parts::UntypedCustomSectionId;
+pub use walrus_parts::Value;
+pub use walrus_producers::ModuleProducers;
+pub use walrus_producers::ProducerField;
+pub use walrus_producers::ProducerValue;

@@ -10,8 +10,8 @@ use std::alloc::Global;
 use walrus_contents::Contents;
 use walrus_ir::{FunctionId, ModuleLocals, ModuleTypes};
 use walrus_items::{
-    ModuleExports, ModuleFunctions, ModuleGlobals, ModuleImports, ModuleMemories, ModuleTables,
-    ModuleTags,
+    ModuleData, ModuleExports, ModuleFunctions, ModuleGlobals, ModuleImports, ModuleMemories,
+    ModuleTables, ModuleTags,
 };
 use walrus_parts::Result;
 use walrus_producers::ModuleProducers;
@@ -37,6 +37,8 @@ pub struct Module {
     pub memories: ModuleMemories,
     /// The tags.
     pub tags: ModuleTags,
+    /// The data segments.
+    pub data_: ModuleData,
     /// The start function, if there is one.
     pub start: Option<FunctionId>,
     /// The producers. They are kept and not written so far.
@@ -79,6 +81,7 @@ impl Module {
             start: contents.start,
             memories: contents.memories,
             tags: contents.tags,
+            data_: contents.data_,
             producers: contents.producers,
             customs: ModuleCustomSections::<SectionEntry>::new(alloc),
             config,

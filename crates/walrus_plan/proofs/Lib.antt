@@ -1,5 +1,6 @@
 pub mod BroughtBy
 pub mod BySize
+pub mod Counted
 pub mod Matching
 pub mod OrderByImport
 pub mod OrdersSpaces

@@ -1,16 +1,17 @@
 -- Where imports and items name each other, what imports bring, by rising import, and then what the module defines, is the order of the plan, space
 -- by space.
-use Rattle.std.proofs.Common.{ℕ, List, ◌++◌, map, subst}
-use Rattle.std.specs.Prelude.{AllPairs}
-use Rattle.walrus_base.specs.Arena.{entries, items}
-use Rattle.walrus_types.specs.Operators.{Space, Functions, Tables, Memories, Tags, Globals}
+use Rattle.std.proofs.Common.{ℕ, List, ◌++◌, map, refl, subst}
+use Rattle.std.specs.Prelude.{AllPairs, Option, Some, None, IsSome, option_map}
+use Rattle.walrus_base.specs.Arena.{entries, item_at, items}
+use Rattle.walrus_types.specs.Operators.{Space, Functions, Tables, Memories, Tags, Globals, DataSegments}
+use Rattle.walrus_items.specs.Data.{data_segments}
 use Rattle.walrus_items.specs.Globals.{GlobalValue, globals}
 use Rattle.walrus_items.specs.Memories.{MemoryValue, memories}
 use Rattle.walrus_items.specs.Tables.{TableValue, tables}
 use Rattle.walrus_items.specs.Tags.{TagValue, tags}
 use Rattle.walrus_items.specs.Functions.{functions}
 use Rattle.walrus_items.specs.Imports.{imports}
-use Rattle.walrus_contents.specs.View.{parts_view}
+use Rattle.walrus_contents.specs.View.{data_of, parts_view}
 use Rattle.walrus_contents.specs.declared.parts.Parts.{Parts}
 use Rattle.walrus_model.specs.Abstract.{Abstract}
 use Rattle.walrus_model.specs.Dead.{HasDead}
@@ -18,12 +19,29 @@ use Rattle.walrus_model.specs.Order.{ByImport}
 use Rattle.walrus_model.specs.Ordered.{Ordered}
 use Rattle.walrus_model.specs.Spaces.{look}
 use Rattle.walrus_model.specs.WellMade.{ImportsMatch}
+use Rattle.walrus_model.proofs.Arenas.{entries_rise}
+use Rattle.walrus_model.proofs.Orders.{ordered_entries}
+use Rattle.walrus_model.proofs.Standing.{was_some}
 use Rattle.walrus_plan.specs.Brought.{own_places, places_brought}
 use Rattle.walrus_plan.specs.Sizes.{IsOrder}
 use Rattle.walrus_plan.proofs.BroughtBy.{brought_numbers}
 use Rattle.walrus_plan.proofs.OrderByImport.{ListsOwn, OrdersSpace, whole_ordered, whole_pairs}
 use Rattle.walrus_plan.proofs.OrdersSpaces.{functions_order, globals_listed, globals_order, imports_listed, memories_listed, memories_order, tables_listed, tables_order, tags_listed, tags_order}
 use Rattle.walrus_plan.proofs.OwnFunctions.{functions_listed}
+
+-- what stands in the slots stands in what is seen of them
+seen_some : {A B : Type 0} (f : A → B) (o : Option A) → IsSome o → IsSome (option_map f o)
+seen_some f (Some x) h = refl
+seen_some f None h = h
+
+seen_ordered : {A B : Type 0} (f : A → B) (slots : List (Option A)) → Ordered (λ i. option_map f (item_at slots i)) (map (λ e. e.0) (entries slots))
+seen_ordered f slots =
+    let o = ordered_entries slots in
+    record {
+      differ = o.differ;
+      chosen = λ i at. seen_some f (item_at slots i) (o.chosen i at);
+      all = λ i live. o.all i (was_some f (item_at slots i) live);
+    }
 
 module _ (p : Parts) (paired : ImportsMatch (parts_view p)) where
   abbrev V : Abstract
@@ -55,3 +73,7 @@ module _ (p : Parts) (paired : ImportsMatch (parts_view p)) where
   -- of functions those with a body, in the order of their sizes
   pub functions_planned : (HasDead V → ⊥) → (own : List ℕ) → IsOrder (functions p.funcs.now) own → IsInOrder Functions (places_brought Functions (items (imports p.imports.now)) ++ own)
   functions_planned there own sorted = behind_brought Functions own (functions_order V) (functions_listed p own sorted there)
+
+  -- no import brings a data segment
+  pub data_planned : IsInOrder DataSegments (map (λ e. e.0) (entries (data_segments p.data_.now)))
+  data_planned = (seen_ordered data_of (data_segments p.data_.now), entries_rise (data_segments p.data_.now))

@@ -1,4 +1,5 @@
 pub mod Brought
+pub mod Count
 pub mod Local
 pub mod Matched
 pub mod Origins

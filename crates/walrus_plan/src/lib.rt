@@ -2,6 +2,7 @@
 #![tactic(auto)]
 
 mod by_import;
+mod count;
 mod matched;
 mod origins;
 mod plan;

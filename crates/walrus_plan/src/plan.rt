@@ -9,6 +9,7 @@ ghost use Rattle.walrus_types.specs.Operators.{Space, Types, Functions, Tables, 
 ghost use Rattle.walrus_items.specs.Functions.{functions};
 ghost use Rattle.walrus_items.specs.Imports.{imports};
 ghost use Rattle.walrus_contents.specs.View.{parts_view};
+ghost use Rattle.walrus_items.specs.Data.{data_segments};
 ghost use Rattle.walrus_items.specs.Globals.{globals, global_import};
 ghost use Rattle.walrus_items.specs.Memories.{memories};
 ghost use Rattle.walrus_items.specs.Tables.{tables};
@@ -30,9 +31,10 @@ use std::alloc::Global;
 use std::cmp::Reverse;
 use walrus_contents::Parts;
 use walrus_ir::{
-    FunctionId, GlobalId, IdsToIndices, MemoryId, ModuleTypes, Numbering, TableId, TagId, TypeId,
+    DataId, FunctionId, GlobalId, IdsToIndices, MemoryId, ModuleTypes, Numbering, TableId, TagId,
+    TypeId,
 };
-use walrus_items::{GlobalKind, ModuleFunctions};
+use walrus_items::{GlobalKind, ModuleData, ModuleFunctions};
 use walrus_parts::{Error, Result};
 
 /// For each index space the ids of the items in the order in which they are written, so that each one's place in it is its index: what
@@ -53,6 +55,8 @@ pub struct Plan {
     pub tags: Vec<TagId>,
     /// The globals, the module's own by rising id.
     pub globals: Vec<GlobalId>,
+    /// The data segments, by rising id.
+    pub data_: Vec<DataId>,
 }
 
 impl Plan {
@@ -77,6 +81,8 @@ impl Plan {
         ensures globals { IfOk result (λ plan. map place plan.globals.items
             ≡ places_brought Globals (items (imports parts.entry.imports.now))
             ++ own_places (λ x. x.imported_by) (entries (globals parts.entry.globals.now))) }
+        ensures data_segments { IfOk result (λ plan. map place plan.data_.items
+            ≡ map (λ e. e.0) (entries (data_segments parts.entry.data_.now))) }
         ensures plan { IfOk result (λ plan. (HasDead (parts_view parts.entry) → ⊥)
             → ImportsMatch (parts_view parts.entry)
             → IsPlan (parts_view parts.entry) (places plan)) }
@@ -92,6 +98,7 @@ impl Plan {
             memories: memories_by_import(alloc, parts.imports, parts.memories)?,
             tags: tags_by_import(alloc, parts.imports, parts.tags)?,
             globals: globals_by_import(alloc, parts.imports, parts.globals)?,
+            data_: data_in_order(alloc, parts.data_)?,
         })
     }
 
@@ -112,7 +119,7 @@ impl Plan {
             tags: Numbering::along(alloc, self.tags.as_slice())?,
             globals: Numbering::along(alloc, self.globals.as_slice())?,
             elements: Numbering::new(alloc),
-            data_: Numbering::new(alloc),
+            data_: Numbering::along(alloc, self.data_.as_slice())?,
         })
     }
 }
@@ -178,6 +185,19 @@ fn types_in_order(alloc: Global, types: &ModuleTypes) -> Result<Vec<TypeId>>
     Ok(ids)
 }
 
+// The data segments, by rising id.
+fn data_in_order(alloc: Global, segments: &ModuleData) -> Result<Vec<DataId>>
+    ensures value { IfOk result (λ ids. map place ids.items
+        ≡ map (λ e. e.0) (entries (data_segments segments.now))) }
+    ensures fails { IsOkUnless result out_of_memory }
+{
+    let mut ids = Vec::with_capacity(alloc, segments.len())?;
+    for (id, _segment) in segments.iter_entries() {
+        ids.push(id)?;
+    }
+    Ok(ids)
+}
+
 // Refused where a space has more items than there are indices.
 fn check_counts(plan: &Plan) -> Result<()>
     ensures few { OnOk result ((space : Space) → length (places plan.now space) < 2 ^ 32) }
@@ -190,6 +210,7 @@ fn check_counts(plan: &Plan) -> Result<()>
         || plan.memories.len() > most
         || plan.tags.len() > most
         || plan.globals.len() > most
+        || plan.data_.len() > most
     {
         return Err(Error::TooLarge);
     }

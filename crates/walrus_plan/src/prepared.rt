@@ -5,6 +5,7 @@ ghost use Rattle.walrus_model.specs.Dead.{HasDead};
 ghost use Rattle.walrus_plan.specs.Prepared.{IsPrepared};
 ghost use Rattle.walrus_plan.specs.Refusals.{RefusesPlan};
 
+use crate::count::count_of;
 use crate::matched::check_matched;
 use crate::plan::Plan;
 use crate::reads::are_reads_in_order;
@@ -21,6 +22,9 @@ pub struct Prepared {
     pub plan: Plan,
     /// The index of each of them.
     pub indices: IdsToIndices,
+    /// How many data segments there are, where that has to be said ahead of the bodies: a segment is passive, or a body names one ("Binary
+    /// Format > Modules > Data Count Section").
+    pub data_count: Option<u32>,
 }
 
 /// The plan of these parts, in which nothing dead is named, and the indices of their items.
@@ -45,5 +49,10 @@ pub fn prepare(alloc: Global, parts: Parts<'_>) -> Result<Prepared>
     }
     let plan = Plan::new(alloc, parts)?;
     let indices = plan.indices(alloc)?;
-    Ok(Prepared { plan, indices })
+    let data_count = count_of(parts, plan.data_.len());
+    Ok(Prepared {
+        plan,
+        indices,
+        data_count,
+    })
 }

@@ -23,7 +23,7 @@ use Rattle.walrus_parts.specs.declared.function_kind.FunctionKind.{FunctionKind}
 use Rattle.walrus_parts.specs.declared.function_kind.FunctionKind.TheVariants as variants
 use Rattle.walrus_parts.specs.declared.function_kind.FunctionKind.TheVariants.{Local}
 use Rattle.walrus_model.specs.Abstract as abstract
-use Rattle.walrus_model.specs.Abstract.{Abstract, Name, TypeDef, Function, ImportedFunction, Import, Body, Subject, TheModule, AnItem, ALocal}
+use Rattle.walrus_model.specs.Abstract.{Abstract, Name, TypeDef, Function, ImportedFunction, Import, Memory, Body, Subject, TheModule, AnItem, ALocal}
 use Rattle.walrus_model.specs.Carried.{Carries}
 use Rattle.walrus_bodies.specs.declared.features.Features.{Features}
 use Rattle.walrus_rules.specs.Chain.{AreFoundOrAdded, NoMore, handlers_by, AddsHandlers, NoFunction, AndThose, IsWholeBody, ParsedAs}
@@ -51,13 +51,14 @@ use Rattle.walrus_reading.specs.Taken.{HasTaken}
 use Rattle.walrus_reading.proofs.AllHeld.{Fits, all_fit}
 use Rattle.walrus_reading.proofs.Held.{HeldBody, HeldFunction, exported}
 use Rattle.walrus_model.proofs.Supported.{supported}
-use Rattle.walrus_contents.specs.View.{body, kind_of, kind_handlers, handlers_at, function, contents_view, global_of, import_of as import_of_value, memory_of, table_of, tag_of}
-use Rattle.walrus_model.proofs.PipelineSame.{global_stays, import_stays, memory_stays, start_stays, table_stays, tag_stays}
+use Rattle.walrus_contents.specs.View.{body, kind_of, kind_handlers, handlers_at, function, contents_view, data_of, global_of, kept_data, import_of as import_of_value, memory_of, table_of, tag_of}
+use Rattle.walrus_model.proofs.PipelineSame.{data_stays, global_stays, import_stays, memory_stays, start_stays, table_stays, tag_stays}
 use Rattle.walrus_reading.specs.Held.{HoldsGlobal, HoldsImport, HoldsMemory, HoldsTable, HoldsTag}
 use Rattle.walrus_reading.specs.Placed.{AllPlaced}
 use Rattle.walrus_items.specs.Imports.{imports}
 use Rattle.walrus_items.specs.Globals.{globals}
-use Rattle.walrus_items.specs.Memories.{memories}
+use Rattle.walrus_items.specs.Data.{DataValue}
+use Rattle.walrus_items.specs.Memories.{MemoryValue, memories}
 use Rattle.walrus_items.specs.Tables.{tables}
 use Rattle.walrus_items.specs.Tags.{tags}
 use Rattle.walrus_contents.specs.declared.parts.Contents.{Contents}
@@ -268,6 +269,14 @@ seen_there see R give k (x ∷ xs) [] h i = absurd h
 seen_there see R give k (x ∷ xs) (s ∷ slots) h zero = let g = give k x s h.0 in ap (option_map see) g.1.0 ∙ ap Some g.1.1
 seen_there see R give k (x ∷ xs) (s ∷ slots) h (suc i) = seen_there see R give (k + 1) xs slots h.1 i
 
+-- a memory without segments keeps none
+none_kept : (k : ℕ) (ys : List Memory) (slots : List (Option MemoryValue)) → AllPlaced HoldsMemory k ys slots → (i d : ℕ) → kept_data (item_at slots i) d ≡ false
+none_kept k [] [] h i d = refl
+none_kept k [] (s ∷ slots) h i d = absurd h
+none_kept k (y ∷ ys) [] h i d = absurd h
+none_kept k (y ∷ ys) (s ∷ slots) h zero d = ap (λ (o : Option MemoryValue). kept_data o d) h.0.is ∙ ap (λ (f : ℕ → Bool). f d) h.0.segments
+none_kept k (y ∷ ys) (s ∷ slots) h (suc i) d = none_kept (k + 1) ys slots h.1 i d
+
 -- ---- bodies are whole
 
 module _ (moved : ℕ → ℕ → ℕ) (all : ModuleLocals) (c : Features) (r : wire.Module) (i : ℕ) (p : ℕ × Said) (b : wire.Body) (g : LocalFunction)
@@ -464,7 +473,7 @@ module _ (c : Features) (r : wire.Module) (x : Contents) (many : length r.bodies
       tags = carried_there _ _ M.tags v.tags (seen_there tag_of HoldsTag (λ n t s k. (k.value, (k.is, k.read))) 0 (tags_of (supported r)) (tags x.tags) h.tags) (λ i t. sym (tag_stays (moving moved) (λ s n. refl) (λ n. refl) t));
       globals = carried_there _ _ M.globals v.globals (seen_there global_of HoldsGlobal (λ n g s k. (k.value, (k.is, k.read))) 0 (globals_of (supported r)) (globals x.globals) h.globals) (λ i g. sym (global_stays (moving moved) (λ s n. refl) (λ n. refl) g));
       elements = no_items _ _;
-      data_segments = no_items _ _;
+      data_segments = carried_there _ _ M.data_segments v.data_segments (λ i. ap (λ (l : List (Option DataValue)). option_map data_of (item_at l i)) h.no_data) (λ i d. sym (data_stays (moving moved) (λ s n. refl) (λ n. refl) d));
       imports_apart = λ i j k l e. e;
       apart = λ space no i j k l e. e;
       exports = exported c (supported r) x h ∙ sym (map-itself (renamed_export (moving moved)) _ (λ e. refl));
@@ -474,7 +483,7 @@ module _ (c : Features) (r : wire.Module) (x : Contents) (many : length r.bodies
     in_place = λ y. refl;
     imports_in_place = λ i. refl;
     table_segments = λ table segment. refl;
-    memory_segments = λ memory segment. refl;
+    memory_segments = λ memory segment. none_kept 0 (memories_of (supported r)) (memories x.memories) h.memories memory segment;
     section_roots = refl;
     customs = refl;
     producers = put_in;

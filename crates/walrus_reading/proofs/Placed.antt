@@ -15,6 +15,7 @@ use Rattle.walrus_types.specs.declared.locals.Local.{Local}
 use Rattle.walrus_types.specs.declared.value.ValType.{ValType as DeclaredValType}
 use Rattle.walrus_bodies.specs.BodyRead.{new_locals}
 use Rattle.walrus_bodies.specs.declared.features.Features.{Features}
+use Rattle.walrus_items.specs.Data.{DataValue}
 use Rattle.walrus_items.specs.Exports.{ExportValue, exports}
 use Rattle.walrus_items.specs.Functions.{FunctionValue, functions}
 use Rattle.walrus_parts.specs.declared.function_kind.FunctionKind.TheVariants as variants
@@ -135,6 +136,10 @@ own_import n a x h = ap (λ (v : ImportValue). v.id) (some_inj x h.value h.is) �
 own_imported : (n : ℕ) (a : Function) (x : FunctionValue) → HoldsImportedFunction n a (Some x) → x.id ≡ n
 own_imported n a x h = ap (λ (v : FunctionValue). v.id) (some_inj x h.value h.is) ∙ h.own_id
 
+no_own : (slots : List (Option DataValue)) → slots ≡ [] → (i : ℕ) (x : DataValue) → item_at slots i ≡ Some x → x.id ≡ i
+no_own [] e i x at = absurd cc
+no_own (s ∷ slots) e i x at = absurd cc
+
 from_zero : (n i : ℕ) → n ≡ 0 + i → n ≡ i
 from_zero n i e = omega (arith, e)
 
@@ -163,4 +168,5 @@ own_ids c r m t = record {
   memories = λ i x e. from_zero x.id i (placed_own (λ (v : MemoryValue). v.id) HoldsMemory own_memory 0 (memories_of r) (memories m.memories) t.memories i x e);
   tags = λ i x e. from_zero x.id i (placed_own (λ (v : TagValue). v.id) HoldsTag own_tag 0 (tags_of r) (tags m.tags) t.tags i x e);
   globals = λ i x e. from_zero x.id i (placed_own (λ (v : GlobalValue). v.id) HoldsGlobal own_global 0 (globals_of r) (globals m.globals) t.globals i x e);
+  data_segments = no_own _ t.no_data;
 }

@@ -12,6 +12,7 @@ use Rattle.walrus_bodies.specs.Body.{Context, context}
 use Rattle.walrus_bodies.specs.FunctionTypes.{is_function_at}
 use Rattle.walrus_bodies.specs.declared.features.Features.{Features}
 use Rattle.walrus_types.specs.Locals.{locals}
+use Rattle.walrus_items.specs.Data.{data_segments}
 use Rattle.walrus_items.specs.Exports.{exports}
 use Rattle.walrus_items.specs.Functions.{FunctionValue, functions}
 use Rattle.walrus_groups.specs.Groups.{types_from}
@@ -66,8 +67,8 @@ module _ (c : Features) (r : wire.Module) (m b : Contents) (held : HoldsImports 
       → AreTaken (context_with c r) (types_of r) (zip r.functions r.bodies) (locals m.locals) (functions b.funcs) (functions m.funcs)
       → imports m.imports ≡ imports b.imports → AddsPlaced HoldsTable (map table_of r.tables) (tables b.tables) (tables m.tables) → AddsPlaced HoldsMemory (map memory_of r.memories) (memories b.memories) (memories m.memories)
       → AddsPlaced HoldsTag (map tag_of r.tags) (tags b.tags) (tags m.tags) → AddsPlaced HoldsGlobal (map global_of r.globals) (globals b.globals) (globals m.globals) → AllPlaced HoldsExport 0 r.exports (exports m.exports)
-      → option_map place m.start ≡ r.start → HasTaken c r m
-  sections_taken many typed unnamed taken same_imports with_tables with_memories with_tags with_globals exported started =
+      → option_map place m.start ≡ r.start → data_segments m.data_ ≡ [] → HasTaken c r m
+  sections_taken many typed unnamed taken same_imports with_tables with_memories with_tags with_globals exported started no_data =
       let s = saids_of (context_with c r) (types_of r) r.functions r.bodies taken.said many taken.read in
       record {
         bodies = s.0;
@@ -87,4 +88,5 @@ module _ (c : Features) (r : wire.Module) (m b : Contents) (held : HoldsImports 
         memories = placed_more HoldsMemory (imported imported_memory 0 r.imports) (map memory_of r.memories) (memories b.memories) (memories m.memories) held.memories with_memories;
         tags = placed_more HoldsTag (imported imported_tag 0 r.imports) (map tag_of r.tags) (tags b.tags) (tags m.tags) held.tags with_tags;
         globals = placed_more HoldsGlobal (imported imported_global 0 r.imports) (map global_of r.globals) (globals b.globals) (globals m.globals) held.globals with_globals;
+        no_data = no_data;
       }

@@ -29,6 +29,7 @@ pub record HoldsImports (raw : List entries.Import) (m : Contents) : Type 0 wher
 pub record SameOthers (old new : Contents) : Type 0 where
   pub types : new.types ≡ old.types
   pub locals : new.locals ≡ old.locals
+  pub data_ : new.data_ ≡ old.data_
   pub exports : new.exports ≡ old.exports
   pub producers : new.producers ≡ old.producers
 

@@ -15,6 +15,7 @@ use Rattle.walrus_model.specs.Supported.{IsSupported}
 use Rattle.std.specs.List.{AllZip}
 use Rattle.walrus_items.specs.Functions.{ModuleFunctions, functions}
 use Rattle.walrus_items.specs.Imports.{imports}
+use Rattle.walrus_items.specs.Data.{data_segments}
 use Rattle.walrus_items.specs.Globals.{globals}
 use Rattle.walrus_items.specs.Memories.{memories}
 use Rattle.walrus_items.specs.Tables.{tables}
@@ -75,6 +76,7 @@ pub record ItemsAtOwnIds (m : Contents) : Type 0 where
   pub memories : AtOwnIds (λ x. x.id) (memories m.memories)
   pub tags : AtOwnIds (λ x. x.id) (tags m.tags)
   pub globals : AtOwnIds (λ x. x.id) (globals m.globals)
+  pub data_segments : AtOwnIds (λ x. x.id) (data_segments m.data_)
 
 -- ---- for the functions inside
 

@@ -29,6 +29,7 @@ use Rattle.walrus_parts.specs.declared.function_kind.FunctionKind.TheVariants.{L
 use Rattle.walrus_groups.specs.Groups.{types_from}
 use Rattle.walrus_model.specs.Reads.{ReadsBodyWith}
 use Rattle.walrus_items.specs.Imports.{imports}
+use Rattle.walrus_items.specs.Data.{data_segments}
 use Rattle.walrus_items.specs.Globals.{globals}
 use Rattle.walrus_items.specs.Memories.{memories}
 use Rattle.walrus_items.specs.Tables.{tables}
@@ -132,6 +133,7 @@ pub record HasTaken (features : Features) (r : wire.Module) (m : Contents) : Typ
   pub memories : AllPlaced HoldsMemory 0 (memories_of r) (memories m.memories)
   pub tags : AllPlaced HoldsTag 0 (tags_of r) (tags m.tags)
   pub globals : AllPlaced HoldsGlobal 0 (globals_of r) (globals m.globals)
+  pub no_data : data_segments m.data_ ≡ []
 
 -- taken in: the module holds the sections; refused: the bodies aren't read, or memory ran out
 abbrev pub TakesSections : Features → wire.Module → Result Contents Error → Type 0

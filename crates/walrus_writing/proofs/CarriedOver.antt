@@ -24,8 +24,10 @@ use Rattle.walrus_contents.specs.declared.parts.Parts.{Parts}
 use Rattle.walrus_contents.proofs.Lookups.{heads, mapped_some, then_some}
 use Rattle.walrus_constants.specs.Laws.{AgreesWith}
 use Rattle.walrus_constants.specs.Named.{named_global, named_table}
+use Rattle.walrus_constants.specs.Segments.{named_data}
 use Rattle.walrus_constants.proofs.Items.{global_renamed, table_renamed}
-use Rattle.walrus_model.specs.Abstract.{Abstract, Body, Export, Function, Global, Memory, Origin, Table, Tag}
+use Rattle.walrus_constants.proofs.Segments.{data_renamed}
+use Rattle.walrus_model.specs.Abstract.{Abstract, Body, DataSegment, Export, Function, Global, Memory, Origin, Table, Tag}
 use Rattle.walrus_model.specs.Carried.{Carried}
 use Rattle.walrus_model.specs.Imported.{brought, import_number}
 use Rattle.walrus_model.specs.Live.{IsLive}
@@ -33,9 +35,9 @@ use Rattle.walrus_model.specs.Names.{body_of, body_of_function}
 use Rattle.walrus_model.specs.Ordered.{StandsFor}
 use Rattle.walrus_model.specs.Out.{IsTheSegment}
 use Rattle.walrus_model.specs.Plan.{IsPlan, IsWrittenAlong, Plan}
-use Rattle.walrus_model.specs.Renaming.{Renaming, renamed_export, renamed_global, renamed_memory, renamed_origin, renamed_table, renamed_tag}
+use Rattle.walrus_model.specs.Renaming.{Renaming, renamed_data, renamed_export, renamed_global, renamed_memory, renamed_origin, renamed_table, renamed_tag}
 use Rattle.walrus_model.specs.Same.{SameType}
-use Rattle.walrus_model.specs.Sections.{export_of, global_of, memory_of, space_of, table_of, tag_of, types_of, body_with}
+use Rattle.walrus_model.specs.Sections.{data_of, export_of, global_of, memory_of, space_of, table_of, tag_of, types_of, body_with}
 use Rattle.walrus_model.specs.Spaces.{SameThing, Thing, look}
 use Rattle.walrus_model.proofs.AlongRecords.{stand_along}
 use Rattle.walrus_model.proofs.ImportedZip.{written_both}
@@ -58,7 +60,7 @@ use Rattle.walrus_writing.proofs.ImportsCarried.{brought_numbered, import_index,
 use Rattle.walrus_writing.proofs.NamedTypes.{def_parts, each_place, same_in_group, group_renamed}
 use Rattle.walrus_writing.proofs.Parted.{body_among, body_behind, functions_brought, stand_among}
 use Rattle.walrus_rules.proofs.OneSections.{later_none}
-use Rattle.walrus_writing.proofs.SameBodies.{uses_all, names_no_data, locals_rise}
+use Rattle.walrus_writing.proofs.SameBodies.{uses_all, locals_rise}
 use Rattle.walrus_writing.proofs.TypesEntered.{types_apart}
 use Rattle.walrus_writing.proofs.WrittenAs.{laid_of, module_said, number_is, renaming_of}
 
@@ -186,6 +188,11 @@ module _ {p : Parts} {features : Features} (r : Records p features) where
   same_global : (i : ℕ) (x w : Global) → Contains (r.own Globals) i → before.globals i ≡ Some x → named_global r.names x ≡ Some w → w ≡ renamed_global renaming x
   same_global i x w within at e = sym (global_renamed renaming r.names agrees x w (r.defined.globals i x within at) e)
 
+  -- ---- data segments
+
+  same_data : (i : ℕ) (x w : DataSegment) → before.data_segments i ≡ Some x → named_data r.names x ≡ Some w → w ≡ renamed_data renaming x
+  same_data i x w at e = sym (data_renamed renaming r.names agrees x w e)
+
   -- ---- imports
 
   abbrev order : List ℕ
@@ -225,7 +232,13 @@ module _ {p : Parts} {features : Features} (r : Records p features) where
       (subst (λ (ws : List Global). AllZip (StandsFor (SameThing renaming Globals) before.globals) (r.own Globals) ws) (map-itself (λ (w : Global). w) (map global_of r.globals) (λ w. refl))
       (stand_among (SameThing renaming Globals) before.globals (named_global r.names) (λ (w : Global). w) (r.own Globals) same_global (map global_of r.globals) r.globals_are))
   written_along Elements = nothing_along renaming before after r.plan Elements r.is_plan (λ i. refl) (λ j. refl)
-  written_along DataSegments = nothing_along renaming before after r.plan DataSegments r.is_plan (λ i. refl) (λ j. refl)
+  written_along DataSegments = record {
+    written = map data_of r.data_segments;
+    reads = λ j. refl;
+    stand =
+        subst (λ (ws : List DataSegment). AllZip (StandsFor (SameThing renaming DataSegments) before.data_segments) (r.plan DataSegments) ws) (map-itself (λ (w : DataSegment). w) (map data_of r.data_segments) (λ w. refl))
+        (stand_along (SameThing renaming DataSegments) before.data_segments (named_data r.names) (λ (w : DataSegment). w) same_data (r.plan DataSegments) (map data_of r.data_segments) r.data_segments_are);
+  }
 
   pub carried_over : Carried (IsLive before) (IsTheSegment None) renaming before after
   carried_over =
@@ -253,14 +266,9 @@ module _ {p : Parts} {features : Features} (r : Records p features) where
       let z = zip_left (IsRow r) (r.own Functions) (new_functions r) behind.0 g.0 (all_rows r) g.1 in
       record { i = z.0; new = g.0; row = z.2; is = some_inj b _ (sym at ∙ ap body_of_function (g.1 ∙ ap (λ (h : Function). Some h) z.2.new_is)) }
 
-  -- each declared local is used, and no data segment is named
+  -- each declared local is used
   pub used : (f : ℕ) (b : Body) → body_of after f ≡ Some b → UsesAll b
   used f b e = let c = came_from f b e in subst UsesAll (sym c.is) (uses_all r c.i c.row.t c.row.bytes c.row.has c.row.typed c.row.locals_at)
-
-  pub no_data : (f : ℕ) (b : Body) (d : ℕ) → body_of after f ≡ Some b → Contains (names_of b.operators) (DataSegments, d) → ⊥
-  no_data f b d e at =
-      let c = came_from f b e in
-      names_no_data r c.i c.row.t c.row.bytes c.row.has c.row.typed c.row.locals_at d (subst (λ (z : Body). Contains (names_of z.operators) (DataSegments, d)) c.is at)
 
   -- a body in memory
   pub record Held (f : ℕ) (b : Body) : Type 0 where

@@ -1,38 +1,29 @@
 -- What the spelling of a module's records is: the one spelling of what the module is written as.
-use Rattle.std.proofs.Common.{◌≡◌, ℕ, List, refl, sym, ◌∙◌, inl, inr, arith}
-use Rattle.std.specs.Prelude.{Option, Some, None}
+use Rattle.std.proofs.Common.{ℕ, List, length, sym, ◌∙◌, arith}
 use Rattle.std.proofs.lemmas.List.Elements.{All-nil}
 use Rattle.walrus_bodies.specs.declared.features.Features.{Features}
 use Rattle.walrus_contents.specs.View.{parts_view}
 use Rattle.walrus_contents.specs.declared.parts.Parts.{Parts}
-use Rattle.walrus_model.specs.Abstract.{Abstract, Body}
+use Rattle.walrus_model.specs.Abstract.{Abstract}
 use Rattle.walrus_model.specs.Config.{Config}
 use Rattle.walrus_model.specs.Declared.{NothingUndeclared}
-use Rattle.walrus_model.specs.Names.{body_of}
 use Rattle.walrus_rules.specs.Pinned.{IsWrittenAs}
 use Rattle.walrus_rules.specs.Refused.{WritesUnfit}
-use Rattle.walrus_rules.specs.Spelling.{IsSpelling, IsSpelledAs, NeedsCount, NamesData}
+use Rattle.walrus_rules.specs.Spelling.{IsSpelling, IsSpelledAs}
 use Rattle.walrus_rules.proofs.OneSpelling.{as_told}
 use Rattle.walrus_rules.proofs.WrittenReads.{written_reads}
 use Rattle.walrus_writing.specs.Emitted.{IsPlain, IsEmitted}
 use Rattle.walrus_writing.specs.Records.{Records, Spells, DoesNotFit, text_of}
 use Rattle.walrus_writing.proofs.CarriedOver as carried
+use Rattle.walrus_writing.proofs.CountCarried.{count_carried}
 use Rattle.walrus_writing.proofs.TextStands.{all_bodies_stand, as_many_texts, sections_stand}
 use Rattle.walrus_writing.proofs.TypesEntered.{as_many_functions}
-use Rattle.walrus_writing.proofs.WrittenAs.{module_said}
+use Rattle.walrus_writing.proofs.WrittenAs.{module_said, renaming_of}
 use Rattle.walrus_writing.proofs.WrittenLemmas.{written_as_said}
 
 -- ---- the text
 
 module _ {p : Parts} {features : Features} (r : Records p features) where
-  no_passive : (o : Option Body) (d : ℕ) → ((b : Body) → o ≡ Some b → NamesData (Some b) d → ⊥) → NamesData o d → ⊥
-  no_passive (Some b) d law at = law b refl at
-  no_passive None d law at = at
-
-  counts_none : NeedsCount (module_said r) → ⊥
-  counts_none (inl (d, is)) = is
-  counts_none (inr (f, (d, at))) = no_passive (body_of (module_said r) f) d (λ b e. carried.no_data r f b d e) at
-
   -- the text is the one spelling of what it says
   pub spelling : IsSpelling (module_said r) (text_of r)
   spelling = record {
@@ -43,7 +34,7 @@ module _ {p : Parts} {features : Features} (r : Records p features) where
     used = carried.used r;
     as_many_bodies = as_many_texts r ∙ sym (as_many_functions r);
     elements = All-nil _;
-    data_count = counts_none;
+    data_count = count_carried (renaming_of r) (parts_view p) (module_said r) (carried.carried_over r) (length r.data_segments) r.data_count r.counted;
     names = record {
       module_name = tt;
       items = λ space. ((λ i j d less at. absurd (omega (arith, at))), All-nil _);

@@ -15,7 +15,7 @@ use Rattle.walrus_code.specs.Names.{Lookup, named_val, named_ops}
 use Rattle.walrus_code.specs.declared.error.IrError.{IrError}
 use Rattle.walrus_code.specs.declared.error.IrError.TheVariants as Ir
 use Rattle.walrus_code.specs.declared.function.LocalFunction.{LocalFunction}
-use Rattle.walrus_types.specs.Operators.{Item, Types, Functions, Tables, Memories, Globals, Tags, Op, type_item, names_of, locals_of}
+use Rattle.walrus_types.specs.Operators.{Item, Types, Functions, Tables, Memories, Globals, Tags, DataSegments, Op, type_item, names_of, locals_of}
 use Rattle.walrus_types.specs.Shape.{place_in}
 use Rattle.walrus_bodies.specs.declared.features.Features.{Features}
 use Rattle.walrus_functions.specs.DeclaredLocals.{AreDeclared}
@@ -27,6 +27,9 @@ use Rattle.walrus_items.specs.Functions.{FunctionValue, functions, local_at}
 use Rattle.walrus_parts.specs.declared.kinds.ExportItem.{ExportItem}
 use Rattle.walrus_parts.specs.declared.kinds.ExportItem.TheVariants as exports_as
 use Rattle.walrus_constants.specs.Named.{named_global, named_table}
+use Rattle.walrus_constants.specs.Segments.{named_data}
+use Rattle.walrus_constants.proofs.SegmentsNamed.{data_named}
+use Rattle.walrus_items.specs.Data.{DataValue, data_segments}
 use Rattle.walrus_items.specs.Globals.{GlobalValue, globals}
 use Rattle.walrus_items.specs.Tables.{TableValue, tables}
 use Rattle.walrus_items.specs.Tags.{TagValue, tags}
@@ -37,9 +40,9 @@ use Rattle.walrus_model.specs.Abstract.{Abstract}
 use Rattle.walrus_model.specs.Dead.{HasDead}
 use Rattle.walrus_model.specs.Live.{IsLive}
 use Rattle.walrus_model.specs.Names.{body_of_function}
-use Rattle.walrus_model.specs.Refers.{named_by, type_names, function_names, local_names, table_names, tag_names, global_names}
+use Rattle.walrus_model.specs.Refers.{named_by, type_names, function_names, local_names, table_names, tag_names, global_names, data_names}
 use Rattle.walrus_contents.specs.There.{AreLive}
-use Rattle.walrus_contents.specs.View.{body, export_of, function, global_of, kind_of, parts_view, table_of, tag_of}
+use Rattle.walrus_contents.specs.View.{body, data_of, export_of, function, global_of, kind_of, parts_view, table_of, tag_of}
 use Rattle.walrus_contents.specs.declared.parts.Parts.{Parts}
 use Rattle.walrus_contents.proofs.Lookups.{still_some}
 use Rattle.walrus_contents.proofs.Slots.{item_seen}
@@ -241,6 +244,13 @@ module _ (p : Parts) (none_dead : HasDead (parts_view p) → ⊥) (names : Looku
       (λ g has.
       let at = item_seen (globals p.globals.now) g has in
       global_named names (global_of g) (λ y c. item_named y (there.written (Globals, at.0) y (subst (λ (o : Option GlobalValue). Contains (named_by global_names (option_map global_of o)) y) (sym at.1) c))))
+
+  pub data_indexed : All (λ o. IsSome o) (map (λ d. named_data names (data_of d)) (items (data_segments p.data_.now)))
+  data_indexed =
+      each_there (λ d. named_data names (data_of d)) (items (data_segments p.data_.now))
+      (λ d has.
+      let at = item_seen (data_segments p.data_.now) d has in
+      data_named names (data_of d) (λ y c. item_named y (there.written (DataSegments, at.0) y (subst (λ (o : Option DataValue). Contains (named_by data_names (option_map data_of o)) y) (sym at.1) c))))
 
   export_named : (x : ExportItem) (name : List ℕ) → IsSome (names (exported x).0 (exported x).1) → IsSome (export_with_index names (record { name = name; item = exported x }))
   export_named (exports_as.Function f) name h = still_some (λ index. record { name = name; kind = kinds.Function; index = index }) (names Functions (place f)) h

@@ -1,7 +1,9 @@
 pub mod Bare
 pub mod BodyTypes
 pub mod CarriedOver
+pub mod CountCarried
 pub mod Counted
+pub mod DataRecords
 pub mod Emitted
 pub mod Emitting
 pub mod FunctionsWritten

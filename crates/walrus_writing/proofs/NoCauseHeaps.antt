@@ -16,10 +16,10 @@ use Rattle.walrus_groups.specs.Named.{each, named_vals, named_storage, named_fie
 use Rattle.walrus_contents.specs.View.{parts_view}
 use Rattle.walrus_contents.specs.declared.parts.Parts.{Parts}
 use Rattle.walrus_contents.proofs.Lookups.{got_map, mapped_some, mapped_append}
-use Rattle.walrus_model.specs.Abstract.{Abstract, Body, Function, Global, Table, FunctionKind, LocalFunction, ImportedFunction, Uninitialised}
+use Rattle.walrus_model.specs.Abstract.{Abstract, Body, DataKind, PassiveData, ActiveData, DataSegment, Function, Global, Table, FunctionKind, LocalFunction, ImportedFunction, Uninitialised}
 use Rattle.walrus_model.specs.Config.{Config}
 use Rattle.walrus_model.specs.Refers.{used_locals}
-use Rattle.walrus_model.specs.WellMade.{heaps_by, heaps_in, consts_by, consts_in, option_consts, op_heaps, body_heaps, kind_heaps}
+use Rattle.walrus_model.specs.WellMade.{heaps_by, heaps_in, consts_by, consts_in, data_kind_consts, option_consts, op_heaps, body_heaps, kind_heaps}
 use Rattle.walrus_model.proofs.Lists.{Contains-none, Contains-uncons}
 use Rattle.walrus_model.proofs.Standing.{got_in, some_inj}
 use Rattle.walrus_rules.specs.Features.{features_of}
@@ -31,6 +31,7 @@ use Rattle.walrus_constants.specs.Written.{IsUnspelled, ExactHeap, NoOperator}
 use Rattle.walrus_code.specs.Results.{heap_is_exact, val_is_exact}
 use Rattle.walrus_writing.specs.Globals as globals
 use Rattle.walrus_writing.specs.Records.{Records}
+use Rattle.walrus_writing.specs.Segments.{KindIsUnspelled, UnspelledOffset}
 use Rattle.walrus_writing.specs.Tables as tables
 use Rattle.walrus_model.proofs.Indices.{planned_named}
 use Rattle.walrus_writing.proofs.NoCauseBodies.{formed}
@@ -233,6 +234,17 @@ module _ (c : Config) (p : Parts) (r : Records p (features_of c)) where
   global_spelled i None at = none_spelled
   global_spelled i (Some g) at = initialiser_spelled g.initialiser (λ ops is u. r.globals_spelled i g at (globals.UnspelledInitialiser ops is u))
 
+  offset_spelled : (k : DataKind) → (KindIsUnspelled k → ⊥) → Spelled (data_kind_consts k)
+  offset_spelled PassiveData h = none_spelled
+  offset_spelled (ActiveData memory offset) h = λ ops at. ⊎_elim
+      (λ (e : offset ≡ ops). λ unspelled. h (UnspelledOffset memory offset refl (subst IsUnspelled (sym e) unspelled)))
+      (λ none. absurd (Contains-none ops none))
+      (Contains-uncons offset ops [] at)
+
+  segment_spelled : (i : ℕ) (o : Option DataSegment) → V.data_segments i ≡ o → Spelled (consts_by (λ d. data_kind_consts d.kind) o)
+  segment_spelled i None at = none_spelled
+  segment_spelled i (Some d) at = offset_spelled d.kind (r.data_segments_spelled i d at)
+
   const_spelled : (x : Item) → Spelled (consts_in V x)
   const_spelled (Types, i) = none_spelled
   const_spelled (Functions, i) = none_spelled
@@ -241,7 +253,7 @@ module _ (c : Config) (p : Parts) (r : Records p (features_of c)) where
   const_spelled (Tags, i) = none_spelled
   const_spelled (Globals, i) = global_spelled i (V.globals i) refl
   const_spelled (Elements, i) = none_spelled
-  const_spelled (DataSegments, i) = none_spelled
+  const_spelled (DataSegments, i) = segment_spelled i (V.data_segments i) refl
 
   pub const_not_exact : (x : Item) (ops : List Op) (h : HeapType ℕ) → Contains (consts_in V x) ops → Contains (flat_map op_heaps ops) h → (IsNotExact h → ⊥) → ⊥
   const_not_exact x ops h at has not = const_spelled x ops at (ExactHeap h has not)

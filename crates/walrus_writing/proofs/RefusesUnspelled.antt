@@ -18,9 +18,10 @@ use Rattle.walrus_functions.specs.Handlers.{params_of}
 use Rattle.walrus_functions.specs.Laws as laws
 use Rattle.walrus_functions.proofs.LawWritable.{ill_formed}
 use Rattle.walrus_groups.specs.Indexed.{HasExact}
+use Rattle.walrus_items.specs.Data.{DataValue, data_segments}
 use Rattle.walrus_items.specs.Globals.{GlobalValue, globals}
 use Rattle.walrus_items.specs.Tables.{TableValue, tables}
-use Rattle.walrus_contents.specs.View.{body, global_of, parts_view, table_of}
+use Rattle.walrus_contents.specs.View.{body, data_of, global_of, parts_view, table_of}
 use Rattle.walrus_contents.specs.declared.parts.Parts.{Parts}
 use Rattle.walrus_contents.proofs.Slots.{item_seen}
 use Rattle.walrus_model.specs.Abstract as abstract
@@ -28,7 +29,7 @@ use Rattle.walrus_model.specs.Config.{Config}
 use Rattle.walrus_model.specs.Dead.{HasDead}
 use Rattle.walrus_model.specs.Rules.{IsFunctionComp}
 use Rattle.walrus_model.specs.Spaces.{Thing, look}
-use Rattle.walrus_model.specs.WellMade.{consts_by, consts_in, heaps_by, option_consts}
+use Rattle.walrus_model.specs.WellMade.{consts_by, consts_in, data_kind_consts, heaps_by, option_consts}
 use Rattle.walrus_model.proofs.Lists.{Contains-head}
 use Rattle.walrus_model.proofs.Standing.{none_there}
 use Rattle.walrus_parts.specs.declared.error.Error.{Error}
@@ -39,7 +40,8 @@ use Rattle.walrus_rules.specs.WellMade.{IsWellFormed}
 use Rattle.walrus_writing.specs.Parts.{function_seen, source}
 use Rattle.walrus_writing.specs.Globals as globals_spelled
 use Rattle.walrus_writing.specs.Imported.{ImportIsExact, RefusesImports, is_exact_thing}
-use Rattle.walrus_writing.specs.Refusals.{HasBody, HasUnspellable, AnImport, ABody, AType, ATable, AGlobal, RefusesItems}
+use Rattle.walrus_writing.specs.Refusals.{HasBody, HasUnspellable, AnImport, ABody, AType, ATable, AGlobal, ASegment, RefusesItems}
+use Rattle.walrus_writing.specs.Segments.{DataIsUnspelled, UnspelledOffset}
 use Rattle.walrus_writing.specs.Tables as tables_spelled
 
 -- ---- function types
@@ -127,6 +129,13 @@ module _ (c : Config) (p : Parts) where
       (subst (λ (o : Option GlobalValue). Contains (consts_by (λ (x : abstract.Global). option_consts x.initialiser) (option_map global_of o)) ops) (sym seen.1) (subst (λ (i : Option (List Op)). Contains (option_consts i) ops) (sym is) (Contains-head ops [])))
       unspelled
 
+  segment_unspelled : (d : DataValue) → Contains (items (data_segments p.data_.now)) d → DataIsUnspelled (data_of d) → HasUnspelled c V
+  segment_unspelled d among (UnspelledOffset memory offset is unspelled) =
+      let seen = item_seen (data_segments p.data_.now) d among in
+      const_unspelled (DataSegments, seen.0) offset
+      (subst (λ (o : Option DataValue). Contains (consts_by (λ (x : abstract.DataSegment). data_kind_consts x.kind) (option_map data_of o)) offset) (sym seen.1) (subst (λ (k : abstract.DataKind). Contains (data_kind_consts k) offset) (sym is) (Contains-head offset [])))
+      unspelled
+
   -- the type of an imported item
   thing_exact : (s : Space) (n : ℕ) (thing : Thing s) → look V s n ≡ Some thing → is_exact_thing s thing ≡ true → HasUnspelled c V
   thing_exact Tables n t at e =
@@ -153,6 +162,7 @@ module _ (c : Config) (p : Parts) where
   unspelled lives (AType type_exact) = exact type_exact
   unspelled lives (ATable t among is) = table_unspelled t among is
   unspelled lives (AGlobal g among is) = global_unspelled g among is
+  unspelled lives (ASegment d among is) = segment_unspelled d among is
 
 -- ---- imports that aren't written
 

@@ -5,12 +5,14 @@ use Rattle.std.specs.Prelude.{Option, All, Err, option_and_then, option_map}
 use Rattle.std.specs.Global.{Vec}
 use Rattle.std.specs.List.{AllZip}
 use Rattle.std.specs.Str.{IsUtf8}
+use Rattle.std.proofs.lemmas.List.{length-map}
 use Rattle.std.proofs.lemmas.List.Elements.{All-map, All-nil}
 use Rattle.wasm_frames.specs.Record as wire
 use Rattle.wasm_frames.specs.Spelling.{body_bytes}
 use Rattle.wasm_forms.specs.Spelling.{number_bytes}
 use Rattle.wasm_forms.specs.Writing.{FitsLength}
-use Rattle.wasm_entries.specs.Record.{export_entry, global_entry, group, import_entry, table_entry}
+use Rattle.wasm_entries.specs.Record.{data_entry, export_entry, global_entry, group, import_entry, table_entry}
+use Rattle.wasm_entries.specs.declared.record.RawData.{RawData}
 use Rattle.wasm_entries.specs.declared.record.RawExport.{RawExport}
 use Rattle.wasm_entries.specs.declared.record.RawGlobal.{RawGlobal}
 use Rattle.wasm_entries.specs.declared.record.RawImport.{RawImport}
@@ -18,7 +20,7 @@ use Rattle.wasm_entries.specs.declared.record.RawLimits.{RawLimits}
 use Rattle.wasm_entries.specs.declared.record.RawSub.{RawSub}
 use Rattle.wasm_entries.specs.declared.record.RawTable.{RawTable}
 use Rattle.wasm_entries.specs.Spelling as spelling
-use Rattle.wasm_entries.specs.Spelling.{GlobalStands, TableStands}
+use Rattle.wasm_entries.specs.Spelling.{DataStands, GlobalStands, TableStands}
 use Rattle.wasm_entries.specs.TypeSpelling.{GroupFits, group_bytes, LimitsFit, LimitsStand, limits_bytes}
 use Rattle.wasm_writer.specs.Spelling.{SectionFits, tag_bytes}
 use Rattle.wasm_writer.proofs.Listed.{fits_none}
@@ -28,7 +30,7 @@ use Rattle.wasm_forms.specs.declared.error.WireError.TheVariants as Wire
 use Rattle.walrus_base.specs.Arena.{entries as entries_in, item_at, items}
 use Rattle.walrus_base.specs.Id.{place}
 use Rattle.walrus_types.specs.ModuleTypes.{type_slots}
-use Rattle.walrus_types.specs.Operators.{Space, Functions, Tables, Memories, Tags, Globals}
+use Rattle.walrus_types.specs.Operators.{Space, Functions, Tables, Memories, Tags, Globals, DataSegments}
 use Rattle.walrus_code.specs.Names.{Lookup}
 use Rattle.walrus_bodies.specs.declared.features.Features.{Features}
 use Rattle.walrus_groups.specs.Indexed.{AreIndexed}
@@ -36,14 +38,17 @@ use Rattle.walrus_groups.specs.Named.{named_def}
 use Rattle.walrus_items.specs.Exports.{exports}
 use Rattle.walrus_items.specs.Imports.{imports}
 use Rattle.walrus_constants.specs.Named.{named_global, named_table}
+use Rattle.walrus_constants.specs.Segments.{named_data}
+use Rattle.walrus_items.specs.Data.{DataValue, data_segments}
 use Rattle.walrus_items.specs.Globals.{GlobalValue, globals}
 use Rattle.walrus_items.specs.Memories.{MemoryValue, memories}
 use Rattle.walrus_items.specs.Tables.{TableValue, tables}
 use Rattle.walrus_items.specs.Tags.{TagValue, tags}
-use Rattle.walrus_contents.specs.View.{export_of, global_of, memory_of, parts_view, table_of, tag_of}
+use Rattle.walrus_contents.specs.View.{data_of, export_of, global_of, memory_of, parts_view, table_of, tag_of}
 use Rattle.walrus_contents.specs.declared.parts.Parts.{Parts}
+use Rattle.walrus_contents.proofs.Lookups.{as_long}
 use Rattle.walrus_contents.proofs.Slots.{stands_at}
-use Rattle.walrus_model.specs.Abstract.{Memory}
+use Rattle.walrus_model.specs.Abstract.{DataSegment, Memory}
 use Rattle.walrus_model.specs.Plan.{AreNumbered, IsPlan}
 use Rattle.walrus_model.specs.WellMade.{ImportsMatch}
 use Rattle.walrus_model.specs.Sections as said
@@ -52,6 +57,7 @@ use Rattle.walrus_parts.specs.Errors.{error_of_wire}
 use Rattle.walrus_parts.specs.declared.error.Error.{Error}
 use Rattle.walrus_parts.specs.declared.error.Error.TheVariants as Parts_error
 use Rattle.walrus_rules.specs.Examples.{empty_text}
+use Rattle.walrus_rules.specs.Spelling.{IsCount}
 use Rattle.walrus_rules.proofs.OneSections.{laid, later, later_none}
 use Rattle.walrus_writing.specs.Parts.{HasBytes, export_with_index, memory_limits, tag_index, type_index, unplaced}
 use Rattle.walrus_plan.specs.Brought.{import_numbers, own_of, own_places, places_brought}
@@ -59,13 +65,15 @@ use Rattle.walrus_writing.specs.Imported.{IsEntryAt}
 use Rattle.walrus_plan.specs.Places.{places, places_own}
 use Rattle.walrus_writing.specs.Records.{Records, Spells, sections_with, text_of}
 use Rattle.walrus_writing.specs.Globals.{IsSpelledGlobal, RefusesGlobals}
+use Rattle.walrus_writing.specs.Segments.{IsSpelledData, RefusesData}
+use Rattle.walrus_writing.proofs.DataRecords.{all_own, no_import}
 use Rattle.walrus_plan.specs.Reads.{ReadsInOrder}
-use Rattle.walrus_writing.specs.Refusals.{ABody, AType, ATable, AGlobal, RefusesBodies, RefusesItems, RefusesTypes}
+use Rattle.walrus_writing.specs.Refusals.{ABody, AType, ATable, AGlobal, ASegment, RefusesBodies, RefusesItems, RefusesTypes}
 use Rattle.walrus_writing.specs.Tables.{IsSpelledTable, RefusesTables}
 use Rattle.walrus_plan.specs.declared.plan.Plan.{Plan}
 use Rattle.walrus_writing.proofs.OwnPlaces.{defined_own, parted_own, seen_by_own}
 use Rattle.walrus_writing.proofs.Sections.{all_sections, bytes_same, each_section, plain}
-use Rattle.walrus_writing.proofs.Spelled.{globals_all_spelled, tables_all_spelled}
+use Rattle.walrus_writing.proofs.Spelled.{globals_all_spelled, segments_all_spelled, tables_all_spelled}
 use Rattle.walrus_writing.proofs.SpellsLemmas.{zip_seen}
 use Rattle.walrus_writing.proofs.TextStands.{bodies_same}
 
@@ -92,6 +100,11 @@ module _ (p : Parts) (features : Features) (X : Type 0) where
   globals_refused (Parts_error.Memory m) r = tt
   globals_refused Parts_error.NotWritable r = AGlobal r.0 r.1 r.2
   globals_refused _ r = absurd r
+
+  pub data_refused : (e : Error) → RefusesData (items (data_segments p.data_.now)) e → RefusesItems {X = X} p features (Err e)
+  data_refused (Parts_error.Memory m) r = tt
+  data_refused Parts_error.NotWritable r = ASegment r.0 r.1 r.2
+  data_refused _ r = absurd r
 
 -- ---- the records
 
@@ -126,7 +139,7 @@ none_fit = record {
   customs = All-nil _;
 }
 
-module _ (p : Parts) (features : Features) (names : Lookup) (plan : Plan) (raws : List (Vec RawSub)) (raw_imports : List RawImport) (raw_functions : List ℕ) (raw_tables : List RawTable) (raw_memories : List RawLimits) (raw_tags : List ℕ) (raw_globals : List RawGlobal) (exported : List RawExport) (bodies : List (Vec ℕ))
+module _ (p : Parts) (features : Features) (names : Lookup) (plan : Plan) (raws : List (Vec RawSub)) (raw_imports : List RawImport) (raw_functions : List ℕ) (raw_tables : List RawTable) (raw_memories : List RawLimits) (raw_tags : List ℕ) (raw_globals : List RawGlobal) (exported : List RawExport) (bodies : List (Vec ℕ)) (raw_segments : List RawData) (count : Option ℕ)
     (matched : ImportsMatch (parts_view p)) (reads : ReadsInOrder (parts_view p))
     (is_plan : IsPlan (parts_view p) (places plan)) (numbered : AreNumbered names (places plan)) (few : (s : Space) → length (places plan s) < 2 ^ 32)
     (types : map place plan.types.items ≡ map (λ e. e.0) (entries_in (type_slots p.types.now)))
@@ -150,7 +163,30 @@ module _ (p : Parts) (features : Features) (names : Lookup) (plan : Plan) (raws 
     (exports_are : map (λ e. Some (export_entry e)) exported ≡ map (λ v. export_with_index names (export_of v)) (items (exports p.exports.now)))
     (texts : All (λ e. IsUtf8 e.name.now) exported)
     (started : Option ℕ) (start_is : option_map (λ (i : ℕ). Some i) started ≡ option_map (names Functions) (parts_view p).start)
-    (bodies_are : AllZip (λ id bytes. HasBytes p names features (place id) bytes.items) plan.own_functions.items bodies) where
+    (bodies_are : AllZip (λ id bytes. HasBytes p names features (place id) bytes.items) plan.own_functions.items bodies)
+    (data_rise : map place plan.data_.items ≡ map (λ e. e.0) (entries_in (data_segments p.data_.now)))
+    (segments_are : map (λ d. Some (said.data_of (data_entry d))) raw_segments ≡ map (λ d. named_data names (data_of d)) (items (data_segments p.data_.now)))
+    (segments_stand : All (λ d. DataStands (data_entry d)) raw_segments)
+    (segments_spelled : All IsSpelledData (items (data_segments p.data_.now)))
+    (counted : IsCount (parts_view p) (length (places plan DataSegments)) count) where
+  -- as many records as segments
+  pub as_many_segments : length (places plan DataSegments) ≡ length (map data_entry raw_segments)
+  as_many_segments =
+      ap length data_rise
+      ∙ length-map (entries_in (data_segments p.data_.now)) (λ (e : ℕ × DataValue). e.0)
+      ∙ sym (length-map (entries_in (data_segments p.data_.now)) (λ (e : ℕ × DataValue). e.1))
+      ∙ sym (as_long (λ (d : RawData). Some (said.data_of (data_entry d))) (λ (d : DataValue). named_data names (data_of d)) raw_segments (items (data_segments p.data_.now)) segments_are)
+      ∙ sym (length-map raw_segments data_entry)
+
+  -- the segments of the plan have these records
+  pub segments_along : map (λ (d : DataSegment). Some d) (map said.data_of (map data_entry raw_segments)) ≡ map (λ i. option_and_then (named_data names) ((parts_view p).data_segments i)) (map place plan.data_.items)
+  segments_along =
+      made_twice said.data_of data_entry raw_segments ∙ segments_are
+      ∙ ap (map (λ (d : DataValue). named_data names (data_of d))) (sym (all_own (items (data_segments p.data_.now))))
+      ∙ sym (seen_by_own no_import data_of (named_data names) (data_segments p.data_.now))
+      ∙ ap (λ (es : List (ℕ × DataValue)). map (λ i. option_and_then (named_data names) ((parts_view p).data_segments i)) (map (λ (e : ℕ × DataValue). e.0) es)) (all_own (entries_in (data_segments p.data_.now)))
+      ∙ ap (map (λ i. option_and_then (named_data names) ((parts_view p).data_segments i))) (sym data_rise)
+
   abbrev pub records_of : Records p features
   records_of = record {
     names = names;
@@ -193,15 +229,25 @@ module _ (p : Parts) (features : Features) (names : Lookup) (plan : Plan) (raws 
     texts = All-map (λ (e : entries.Export). IsUtf8 e.name) export_entry exported texts;
     start = started;
     start_is = start_is;
+    data_segments = map data_entry raw_segments;
+    data_segments_are = segments_along;
+    data_segments_stand = All-map DataStands data_entry raw_segments segments_stand;
+    data_segments_spelled = segments_all_spelled p matched names (map import_entry raw_imports) imports_are segments_spelled;
+    data_count = count;
+    counted = subst (λ (n : ℕ). IsCount (parts_view p) n count) as_many_segments counted;
   }
 
   -- the module of these sections
-  module _ (m : wire.Module) (code : List wire.Body) (sections : m ≡ sections_with (map group raws) (map import_entry raw_imports) raw_functions (map table_entry raw_tables) raw_memories raw_tags (map global_entry raw_globals) (map export_entry exported) started code) (codes : code ≡ map (λ (v : Vec ℕ). unplaced v.items) bodies) where
+  module _ (m : wire.Module) (code : List wire.Body) (sections : m ≡ sections_with (map group raws) (map import_entry raw_imports) raw_functions (map table_entry raw_tables) raw_memories raw_tags (map global_entry raw_globals) (map export_entry exported) started count code (map data_entry raw_segments)) (codes : code ≡ map (λ (v : Vec ℕ). unplaced v.items) bodies) where
+    abbrev with_rest : Option ℕ → Option ℕ → List wire.Body → wire.Module
+    with_rest start data_count all = sections_with (map group raws) (map import_entry raw_imports) raw_functions (map table_entry raw_tables) raw_memories raw_tags (map global_entry raw_globals) (map export_entry exported) start data_count all (map data_entry raw_segments)
+
     module_is : m ≡ laid (text_of records_of)
     module_is =
         sections
-        ∙ ap (λ (o : Option ℕ). sections_with (map group raws) (map import_entry raw_imports) raw_functions (map table_entry raw_tables) raw_memories raw_tags (map global_entry raw_globals) (map export_entry exported) o code) (sym (later_none started))
-        ∙ ap (sections_with (map group raws) (map import_entry raw_imports) raw_functions (map table_entry raw_tables) raw_memories raw_tags (map global_entry raw_globals) (map export_entry exported) (later started None))
+        ∙ ap (λ (o : Option ℕ). with_rest o count code) (sym (later_none started))
+        ∙ ap (λ (o : Option ℕ). with_rest (later started None) o code) (sym (later_none count))
+        ∙ ap (with_rest (later started None) (later count None))
         (codes ∙ sym (map-map unplaced (λ (v : Vec ℕ). v.items) bodies) ∙ sym (bodies_same p names features (map place plan.own_functions.items) (map (λ (v : Vec ℕ). v.items) bodies) records_of.bodies_are))
 
     pub records_written : (bytes : List ℕ) → bytes ≡ module_bytes m → ModuleFits m → Spells p features bytes

@@ -236,12 +236,3 @@ module _ {p : Parts} {features : Features} (r : Records p features) (i t : ℕ) 
       let at : x ≡ length parameters + k.0 = k.1 in
       let below : k.0 < length order = omega (arith, high, range, many, as_many, at) in
       uses_at x k.0 at below
-
-  -- no data segment is named
-  pub names_no_data : (d : ℕ) → Contains (names_of new.operators) (DataSegments, d) → ⊥
-  names_no_data d at =
-      let x = Contains-map_back (renamed ren) (names_of (body_of b.local)) (DataSegments, d) (subst (λ l. Contains l (DataSegments, d)) (ap names_of operators_renamed ∙ ops_follow ren (ren.locals i) (body_of b.local)) at) in
-      let there = names_found r.names (index_in S b.written.order) S.ops (ops_of b.written.texts) b.written.named x.0 x.1 in
-      let space : x.0.0 ≡ DataSegments = ap (λ (z : Item). z.0) x.2 in
-      let named = some_of (r.names DataSegments x.0.1) (subst (λ (s : Space). IsSome (r.names s x.0.1)) space there) in
-      none_there (live_to (parts_view p) DataSegments x.0.1 (planned_live r.numbered r.is_plan DataSegments x.0.1 named.0 named.1))

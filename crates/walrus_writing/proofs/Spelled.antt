@@ -8,6 +8,7 @@ use Rattle.walrus_base.specs.Arena.{entries, item_at, items}
 use Rattle.walrus_types.specs.Operators.{Tables, Globals, Item}
 use Rattle.walrus_code.specs.Names.{Lookup}
 use Rattle.walrus_items.specs.Imports.{ImportValue, imports}
+use Rattle.walrus_items.specs.Data.{DataValue, data_segments}
 use Rattle.walrus_items.specs.Globals.{GlobalValue, globals}
 use Rattle.walrus_items.specs.Tables.{TableValue, tables}
 use Rattle.walrus_contents.specs.View as seen
@@ -15,7 +16,7 @@ use Rattle.walrus_contents.specs.View.{parts_view}
 use Rattle.walrus_contents.specs.declared.parts.Parts.{Parts}
 use Rattle.walrus_contents.proofs.Lookups.{mapped_some}
 use Rattle.walrus_contents.proofs.Slots.{entry_in}
-use Rattle.walrus_model.specs.Abstract.{Abstract, Global, Import, Table}
+use Rattle.walrus_model.specs.Abstract.{Abstract, DataSegment, Global, Import, Table}
 use Rattle.walrus_model.specs.Spaces.{Thing, look}
 use Rattle.walrus_model.specs.WellMade.{ImportsMatch, import_in, import_of, origin_import}
 use Rattle.walrus_model.proofs.Lists.{Contains-head, Contains-map, Contains-none, Contains-tail, Contains-uncons}
@@ -23,6 +24,8 @@ use Rattle.walrus_model.proofs.Standing.{got_where, none_there, some_inj, zip_ri
 use Rattle.walrus_plan.specs.Brought.{import_numbers, own_of}
 use Rattle.walrus_writing.specs.Globals.{GlobalIsUnspelled, IsSpelledGlobal}
 use Rattle.walrus_writing.specs.Globals as global_causes
+use Rattle.walrus_writing.specs.Segments.{DataIsUnspelled, IsSpelledData}
+use Rattle.walrus_writing.proofs.DataRecords.{all_own, no_import}
 use Rattle.walrus_writing.specs.Imported.{IsEntryAt, is_exact_thing}
 use Rattle.walrus_plan.specs.Local.{is_own}
 use Rattle.walrus_writing.specs.Tables.{IsSpelledTable, TableIsUnspelled}
@@ -99,6 +102,14 @@ module _ (p : Parts) (matched : ImportsMatch (parts_view p)) (names : Lookup) (w
   tables_all_spelled own n t at =
       let v = mapped_some seen.table_of (item_at (tables p.tables.now) n) t at in
       subst (λ (u : Table). TableIsUnspelled u → ⊥) (sym v.2) (table_spelled n v.0 v.1 v.0.imported_by refl own)
+
+  -- ---- data segments, which no import brings
+
+  pub segments_all_spelled : All IsSpelledData (items (data_segments p.data_.now)) → (i : ℕ) (d : DataSegment) → V.data_segments i ≡ Some d → DataIsUnspelled d → ⊥
+  segments_all_spelled all n d at =
+      let v = mapped_some seen.data_of (item_at (data_segments p.data_.now) n) d at in
+      subst (λ (u : DataSegment). DataIsUnspelled u → ⊥) (sym v.2)
+      (each_passing (λ (x : DataValue). is_own (no_import x)) IsSpelledData (data_segments p.data_.now) (subst (All IsSpelledData) (sym (all_own (items (data_segments p.data_.now)))) all) n v.0 v.1 refl)
 
   -- ---- globals
 

@@ -1,13 +1,14 @@
 -- The text that records make has as many bodies as functions, and all its entries stand.
 use Rattle.wasm_entries.specs.Record as entries
-use Rattle.std.proofs.Common.{◌≡◌, ℕ, List, [], ◌∷◌, length, map, refl, sym, ap, ap₂, subst, arith, suc}
+use Rattle.std.proofs.Common.{◌≡◌, ℕ, ◌<◌, ◌^◌, List, [], ◌∷◌, length, map, refl, sym, ap, ap₂, subst, arith, suc}
 use Rattle.std.specs.Prelude.{All, IfSome, Option, None, Some, option_and_then, option_map}
 use Rattle.std.specs.List.{AllByRecursion, AllZip}
 use Rattle.std.specs.Str.{IsUtf8}
+use Rattle.std.proofs.lemmas.List.{length-map}
 use Rattle.std.proofs.lemmas.List.Elements.{All-nil, All-from_recursion, recursion_from_All}
 use Rattle.wasm_entries.specs.Spelling.{IsIndex, ExportStands}
 use Rattle.wasm_writer.specs.Spelling.{SectionStands}
-use Rattle.walrus_types.specs.Operators.{Space, Types, Functions, Tags}
+use Rattle.walrus_types.specs.Operators.{Space, Types, Functions, Tags, DataSegments}
 use Rattle.walrus_model.proofs.Standing.{some_inj}
 use Rattle.walrus_rules.proofs.OneSections.{later_none}
 use Rattle.walrus_bodies.specs.declared.features.Features.{Features}
@@ -15,9 +16,11 @@ use Rattle.walrus_code.specs.Names.{Lookup}
 use Rattle.walrus_contents.specs.View.{parts_view}
 use Rattle.walrus_contents.specs.declared.parts.Parts.{Parts}
 use Rattle.walrus_contents.proofs.Lookups.{heads, then_some}
-use Rattle.walrus_model.specs.Abstract.{Abstract, Export, FunctionKind, ImportedFunction, LocalFunction, Uninitialised}
+use Rattle.walrus_model.specs.Abstract.{Abstract, DataSegment, Export, FunctionKind, ImportedFunction, LocalFunction, Uninitialised}
+use Rattle.walrus_constants.specs.Segments.{named_data}
+use Rattle.walrus_model.specs.Sections.{data_of}
 use Rattle.walrus_model.proofs.Indices.{planned_below}
-use Rattle.walrus_rules.specs.Spelling.{BodyStands}
+use Rattle.walrus_rules.specs.Spelling.{BodyStands, IsCount}
 use Rattle.walrus_rules.specs.Text.{sections_of}
 use Rattle.walrus_rules.specs.Text as text
 use Rattle.walrus_plan.specs.Brought.{import_numbers}
@@ -104,6 +107,14 @@ module _ {p : Parts} {features : Features} (r : Records p features) where
   start_stands (Some j) (Some i) e = is_index Functions i j (sym (some_inj (Some j) (r.names Functions i) e))
   start_stands (Some j) None e = absurd (cc)
 
+  -- there are fewer segments than indices
+  few_segments : length r.data_segments < 2 ^ 32
+  few_segments = omega (arith, r.few DataSegments, length-map r.data_segments data_of, length-map (map data_of r.data_segments) (λ (d : DataSegment). Some d), ap length r.data_segments_are, length-map (r.plan DataSegments) (λ i. option_and_then (named_data r.names) (V.data_segments i)))
+
+  count_stands : (o : Option ℕ) → IsCount V (length r.data_segments) o → IfSome o IsIndex
+  count_stands None none = tt
+  count_stands (Some count) is = let same : count ≡ length r.data_segments = is.1 in omega (arith, few_segments, same)
+
   pub sections_stand : All SectionStands (sections_of (text_of r))
   sections_stand = all_sections (text_of r) SectionStands (record {
     types = r.types_stand;
@@ -116,8 +127,8 @@ module _ {p : Parts} {features : Features} (r : Records p features) where
     exports = All-from_recursion ExportStands r.exports (exports_stand r.exports V.exports r.exports_are (recursion_from_All (λ (e : entries.Export). IsUtf8 e.name) r.exports r.texts));
     start = subst (λ (o : Option ℕ). IfSome o IsIndex) (sym (later_none r.start)) (start_stands r.start V.start r.start_is);
     elements = All-nil _;
-    data_count = tt;
+    data_count = subst (λ (o : Option ℕ). IfSome o IsIndex) (sym (later_none r.data_count)) (count_stands r.data_count r.counted);
     bodies = tt;
-    data_segments = All-nil _;
+    data_segments = r.data_segments_stand;
     customs = All-nil _;
   })

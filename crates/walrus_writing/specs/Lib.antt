@@ -4,4 +4,5 @@ pub mod Imported
 pub mod Parts
 pub mod Records
 pub mod Refusals
+pub mod Segments
 pub mod Tables

@@ -2,6 +2,7 @@
 #![tactic(auto)]
 
 mod bodies;
+mod data;
 mod globals;
 mod imported;
 mod records;

@@ -14,7 +14,7 @@ ghost use Rattle.walrus_items.specs.Memories.{memories, memory_value};
 ghost use Rattle.walrus_items.specs.Tags.{tags, tag_value};
 ghost use Rattle.walrus_contents.specs.View.{export_of, memory_of, parts_view, tag_of};
 ghost use Rattle.walrus_parts.specs.Errors.{out_of_memory};
-ghost use Rattle.wasm_entries.specs.Record.{group, export_entry, global_entry, import_entry, table_entry};
+ghost use Rattle.wasm_entries.specs.Record.{data_entry, group, export_entry, global_entry, import_entry, table_entry};
 ghost use Rattle.wasm_entries.specs.TypeSpelling.{IsBelow, LimitsStand};
 ghost use Rattle.wasm_frames.specs.Record.{body_record, sections};
 ghost use Rattle.walrus_plan.specs.Brought.{own_of};
@@ -33,7 +33,8 @@ use walrus_items::{
 use walrus_parts::{Error, Result};
 use walrus_plan::tag_import;
 use wasm_wire::{
-    Raw, RawBody, RawExport, RawExportKind, RawGlobal, RawGroup, RawImport, RawLimits, RawTable,
+    Raw, RawBody, RawData, RawExport, RawExportKind, RawGlobal, RawGroup, RawImport, RawLimits,
+    RawTable,
 };
 
 // The groups of the type section.
@@ -275,12 +276,15 @@ pub fn raw_module<'a>(
     globals: Vec<RawGlobal>,
     exports: Vec<RawExport<'a>>,
     start: Option<u32>,
+    data_count: Option<u32>,
     bodies: Vec<RawBody<'a>>,
+    data_segments: Vec<RawData<'a>>,
 ) -> Raw<'a>
     ensures { sections result ≡ sections_with (map group types.items)
         (map import_entry imports.entry.items) functions.items
         (map table_entry tables.items) memories.items tags.items (map global_entry globals.items)
-        (map export_entry exports.entry.items) start (map body_record bodies.entry.items) }
+        (map export_entry exports.entry.items) start data_count
+        (map body_record bodies.entry.items) (map data_entry data_segments.entry.items) }
 {
     Raw {
         order: Vec::new(alloc),
@@ -294,9 +298,9 @@ pub fn raw_module<'a>(
         exports,
         start,
         elements: Vec::new(alloc),
-        data_count: None,
+        data_count,
         bodies,
-        data_: Vec::new(alloc),
+        data_: data_segments,
         customs: Vec::new(alloc),
     }
 }

@@ -10,6 +10,7 @@ ghost use Rattle.walrus_writing.specs.Records.{Spells};
 ghost use Rattle.walrus_writing.specs.Refusals.{RefusesItems};
 
 use crate::bodies::{Indexed, body_bytes};
+use crate::data::raw_data;
 use crate::globals::raw_globals;
 use crate::imported::raw_imports;
 use crate::records::{
@@ -32,7 +33,7 @@ use wasm_wire::written_module;
 /// a cause of its own: `TwoIndices` where an import names an item that the module defines, or two imports name one; `NoIndex` where an item
 /// says to be brought by an import that isn't there or names another item, the initialiser of a table reads a global of the module, that of a
 /// global itself or a later one, or a type names one of a later group or a later supertype; `NotWritable` where a body isn't well formed, an
-/// exact heap type is written, an initialiser has no operator, or `ref.func` names a function that isn't exported; `TooLarge` where a count
+/// exact heap type is written, an initialiser or an offset has no operator, or `ref.func` names a function that isn't exported; `TooLarge` where a count
 /// or a size passes 32 bits; and `Memory`.
 pub fn write_parts(alloc: Global, parts: Parts<'_>, features: &Features) -> Result<Vec<u8>>
     ensures written { (c : Config) → IsPlain c features.now
@@ -78,8 +79,21 @@ fn write_prepared(
     let globals = raw_globals(alloc, parts.globals, indices)?;
     let exports = raw_exports(alloc, parts.exports, indices)?;
     let start = raw_start(parts.start, indices);
+    let data_segments = raw_data(alloc, parts.data_, indices)?;
     let raw = raw_module(
-        alloc, types, imports, functions, tables, memories, tags, globals, exports, start, code,
+        alloc,
+        types,
+        imports,
+        functions,
+        tables,
+        memories,
+        tags,
+        globals,
+        exports,
+        start,
+        prepared.data_count,
+        code,
+        data_segments,
     );
     let bytes = written_module(alloc, &raw)?;
     Ok(bytes)

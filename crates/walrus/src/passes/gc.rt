@@ -2,7 +2,8 @@
 
 ghost use Rattle.std.specs.Prelude.{◌≡◌, IfErr, OnErr, OnOk};
 ghost use Rattle.walrus_types.specs.ModuleTypes.{type_names, type_slots};
-ghost use Rattle.walrus_types.specs.Operators.{Item, Functions, Globals, Memories, Tables, Tags, Types};
+ghost use Rattle.walrus_types.specs.Operators.{Item, DataSegments, Functions, Globals, Memories, Tables, Tags, Types};
+ghost use Rattle.walrus_items.specs.Data.{data_segments};
 ghost use Rattle.walrus_items.specs.Globals.{globals};
 ghost use Rattle.walrus_items.specs.Memories.{memories};
 ghost use Rattle.walrus_items.specs.Tables.{tables};
@@ -40,6 +41,8 @@ pub fn run(alloc: Global, module: &mut Module) -> Result<()>
         (tags «module».old.tags) (tags «module».new.tags)) }
     ensures globals { OnOk result (KeepsOnly (λ i. Kept (view «module».old) (Globals, i))
         (globals «module».old.globals) (globals «module».new.globals)) }
+    ensures data_segments { OnOk result (KeepsOnly (λ i. Kept (view «module».old) (DataSegments, i))
+        (data_segments «module».old.data_) (data_segments «module».new.data_)) }
     ensures imports { OnOk result (KeepsOnly (IsImportOf (Kept (view «module».old)) (view «module».old))
         (imports «module».old.imports) (imports «module».new.imports)) }
     ensures type_names { OnOk result (KeepsOnly (λ t. Kept (view «module».old) (Types, t))
@@ -69,5 +72,6 @@ pub fn run(alloc: Global, module: &mut Module) -> Result<()>
     module.memories.keep_only(&marks.memories);
     module.tags.keep_only(&marks.tags);
     module.globals.keep_only(&marks.globals);
+    module.data_.keep_only(&marks.data_);
     Ok(())
 }

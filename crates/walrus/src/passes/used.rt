@@ -1,6 +1,6 @@
 //! What a module uses: all that its roots reach.
 
-ghost use Rattle.std.specs.Prelude.{ℕ, ◌≡◌, ◌↔◌, ◌⊎◌, [], ◌∷◌, IfErr, IfOk, IsTrue, MatchResult, OnOk, map, not};
+ghost use Rattle.std.specs.Prelude.{ℕ, ◌≡◌, ◌↔◌, ◌⊎◌, [], ◌∷◌, true, IfErr, IfOk, IsTrue, MatchResult, OnOk, map, not};
 ghost use Rattle.walrus_base.specs.Arena.{IsLive as IsLiveAt};
 ghost use Rattle.walrus_base.specs.Id.{place};
 ghost use Rattle.walrus_base.specs.IdSet.{has_id};
@@ -11,12 +11,12 @@ ghost use Rattle.walrus_module.specs.View.{view};
 ghost use Rattle.walrus_types.specs.ModuleTypes.{type_slots};
 ghost use Rattle.walrus_types.specs.Operators.{type_item};
 ghost use Rattle.walrus_types.specs.TypeSlots.{group_at};
-ghost use Rattle.walrus_contents.specs.Named.{group_names, items_in, own_names};
+ghost use Rattle.walrus_contents.specs.Named.{NamesItself, group_names, items_in};
 ghost use Rattle.walrus_contents.specs.There.{IsRefusal, IsSound};
 ghost use Rattle.walrus_contents.specs.View.{parts_view};
-ghost use Rattle.walrus.specs.Marked.{HoldsMarked, MarksAreKept, MarksKept, ReachesSound, ReachesUnsound};
+ghost use Rattle.walrus.specs.Marked.{HoldsMarked, MarksAreKept, MarksKept, MarksFirst, MarksSpare, ReachesSound, ReachesUnsound};
 ghost use Rattle.walrus.specs.MarkedItems.{HasPlace, HavePlaces, has_mark};
-ghost use Rattle.walrus.specs.Used.{Enters, Followed, Follows, NamesDead, Notes};
+ghost use Rattle.walrus.specs.Used.{Enters, EntersAll, Followed, Follows, NamesDead, Notes, OneDead};
 
 use crate::passes::marks::MarkedItems;
 use std::alloc::{AllocError, Global};
@@ -28,7 +28,8 @@ use walrus_module::{
     ModuleTypes, Result, TableKey, TagKey, TypeId, TypeKey,
 };
 
-/// The items that the roots of a module reach, by kind. Its roots are its exports and its start function so far.
+/// The items that the roots of a module reach, by kind. Its roots are its exports, its start function and its active data segments so
+/// far.
 #[derive(Drop)]
 pub struct Used {
     /// The tables.
@@ -104,6 +105,7 @@ pub(crate) fn marked(alloc: Global, module: &Module) -> Result<MarkedItems>
         memories: &module.memories,
         tags: &module.tags,
         globals: &module.globals,
+        data_: &module.data_,
         exports: &module.exports,
         start: module.start,
         producers: &module.producers,
@@ -113,6 +115,44 @@ pub(crate) fn marked(alloc: Global, module: &Module) -> Result<MarkedItems>
 
 // The same over the parts of a module.
 fn search(alloc: Global, parts: Parts<'_>) -> Result<MarkedItems>
+    ensures { MatchResult result
+        (λ marks. MarksAreKept (parts_view parts.entry) marks × ReachesSound (parts_view parts.entry))
+        (IsRefusal (ReachesUnsound (parts_view parts.entry))) }
+{
+    let mut marks = reached(alloc, parts)?;
+    mark_spare_memory(parts, &mut marks);
+    Ok(marks)
+}
+
+// Marks the first memory where a data segment is marked and no memory is. What that memory keeps isn't followed.
+fn mark_spare_memory(parts: Parts<'_>, marks: &mut MarkedItems)
+    requires { HavePlaces (parts_view parts) marks.old }
+    ensures { MarksSpare (parts_view parts.entry) marks.old marks.new }
+{
+    if has_marks(&marks.data_) && !has_marks(&marks.memories) {
+        mark_first_memory(parts, marks);
+    }
+}
+
+// Whether any item is marked.
+fn has_marks<K>(marks: &Marks<K>) -> bool
+    ensures { IsTrue result ↔ ((p : ℕ) × (is_marked marks.now p ≡ true)) }
+{
+    marks.iter().next().is_some()
+}
+
+// Marks the first memory, if there is one.
+fn mark_first_memory(parts: Parts<'_>, marks: &mut MarkedItems)
+    requires { HavePlaces (parts_view parts) marks.old }
+    ensures { MarksFirst (parts_view parts.entry) marks.old marks.new }
+{
+    if let Some((id, _memory)) = parts.memories.iter_entries().next() {
+        marks.mark(ItemId::Memory(id));
+    }
+}
+
+// The items that the roots reach, marked. Refused as [`Used::new`] is.
+fn reached(alloc: Global, parts: Parts<'_>) -> Result<MarkedItems>
     ensures { MatchResult result (Followed (parts_view parts.entry))
         (IsRefusal (ReachesUnsound (parts_view parts.entry))) }
 {
@@ -160,11 +200,11 @@ fn follow_item(
     requires live { IsLive (parts_view parts) (item_of item) }
     requires places { HavePlaces (parts_view parts) marks.old }
     ensures { MatchResult result
-        (λ _. IsSound (parts_view parts.entry) (item_of item) × Enters (parts_view parts.entry)
-        (own_names (parts_view parts.entry) (item_of item)) marks.old marks.new (items_in found.old)
+        (λ _. IsSound (parts_view parts.entry) (item_of item) × EntersAll (parts_view parts.entry)
+        (NamesItself (parts_view parts.entry) (item_of item)) marks.old marks.new (items_in found.old)
         (items_in found.new))
         (IsRefusal ((IsSound (parts_view parts.entry) (item_of item) → ⊥)
-        ⊎ NamesDead (parts_view parts.entry) (own_names (parts_view parts.entry) (item_of item)))) }
+        ⊎ OneDead (parts_view parts.entry) (NamesItself (parts_view parts.entry) (item_of item)))) }
 {
     named.clear();
     push_item_names(alloc, parts, item, named)?;

@@ -1,8 +1,13 @@
-use Rattle.std.proofs.Common.{subst}
+use Rattle.std.proofs.Common.{ℕ, arith, subst}
 use Rattle.std.specs.Bool.{OnFalse}
+use Rattle.std.proofs.lemmas.List.{length-map}
 use Rattle.std.proofs.lemmas.Result.{err_from_is_err_and}
+use Rattle.walrus_base.specs.Id.{place}
 use Rattle.walrus_types.specs.ModuleTypes.{type_slots}
+use Rattle.walrus_types.specs.Operators.{DataSegments}
 use Rattle.walrus_groups.specs.Indexed.{IsOutOfOrder}
+use Rattle.walrus_contents.specs.View.{parts_view}
+use Rattle.walrus_rules.specs.Spelling.{IsCount}
 use Rattle.walrus_plan.specs.Places.{places}
 use Rattle.walrus_plan.proofs.RefusesIndex.{out_of_order}
 use Rattle.walrus_plan.proofs.RefusesPlanned.{counts_refused, unmatched_refused}
@@ -22,6 +27,9 @@ returns-then-not-are_in_order-clause-refused c =
 
 pub indices-requires : goal.indices-requires
 indices-requires c = record { distinct = λ s. ((c.in_ok-plan.ensures.plan c.requires.there c.in_ok-check_matched.ensures).holds s).differ }
+
+pub count_of-data_count-requires : goal.count_of-data_count-requires
+count_of-data_count-requires c = record { few = omega (arith, c.in_ok-indices.ensures.few DataSegments, length-map c.in_ok-plan.plan.data_.items place, c.len.ensures) }
 
 pub returns-in_err-indices-clause-refused : goal.returns-in_err-indices-clause-refused
 returns-in_err-indices-clause-refused c =
@@ -47,4 +55,7 @@ returns-clause-prepared c =
       memories = plan.memories;
       tags = plan.tags;
       globals = plan.globals;
+      data_segments = plan.data_segments;
+      data_count = subst (λ (n : ℕ). IsCount (parts_view c.args.parts) n c.count_of-data_count.result)
+          (omega (arith, c.len.ensures, length-map c.in_ok-plan.plan.data_.items place)) c.count_of-data_count.ensures;
     }

@@ -18,6 +18,7 @@ use Rattle.walrus_types.specs.declared.module_types.ModuleTypes.{ModuleTypes}
 use Rattle.walrus_code.specs.Indices.{ids_at}
 use Rattle.walrus_groups.specs.Groups.{types_from, AreDeclared}
 use Rattle.walrus_producers.specs.Seen.{producers}
+use Rattle.walrus_items.specs.Data.{data_segments}
 use Rattle.walrus_items.specs.Exports.{exports}
 use Rattle.walrus_items.specs.Functions.{functions}
 use Rattle.walrus_items.specs.Globals.{globals}
@@ -44,7 +45,7 @@ add_types-requires-clause-declared c =
 pub add_imports-requires-clause-none : goal.add_imports-requires-clause-none
 add_imports-requires-clause-none c =
     let n = c.in_ok-contents.ensures.empty in
-    record { imports = n.imports; tables = n.tables; memories = n.memories; tags = n.tags; globals = n.globals }
+    record { imports = n.imports; tables = n.tables; memories = n.memories; tags = n.tags; globals = n.globals; data_segments = n.data_segments }
 
 pub add_imports-requires-clause-no_functions : goal.add_imports-requires-clause-no_functions
 add_imports-requires-clause-no_functions c = c.in_ok-contents.ensures.empty.functions
@@ -137,7 +138,7 @@ returns-clause-taken c =
     (subst (λ (l : List ℕ). AddsPlaced HoldsTag (map tag_of l) (tags b.tags) (tags c.add_tags.new.all)) c.deref-7.ensures.value c.in_ok-add_tags.ensures.added)
     (subst (λ (l : List RawGlobal). AddsPlaced HoldsGlobal (map global_of (map global_entry l)) (globals b.globals) (globals c.add_globals.new.all)) c.deref-8.ensures.value c.in_ok-add_globals.ensures.added)
     (subst (λ (l : List RawExport). AllPlaced HoldsExport 0 (map export_entry l) (exports c.add_exports.new.all)) c.deref-9.ensures.value c.in_ok-add_exports.ensures.added)
-    (c.start_named-contents.ensures ∙ all.start)
+    (c.start_named-contents.ensures ∙ all.start) (ap data_segments c.in_ok-add_imports.ensures.others.data_ ∙ c.in_ok-contents.ensures.empty.data_segments)
 
 pub returns-clause-located : goal.returns-clause-located
 returns-clause-located c =

@@ -2,14 +2,13 @@ use Rattle.std.proofs.Common.{◌⊎◌, ◌<◌, length, arith}
 use Rattle.std.proofs.lemmas.List.{length-map}
 use Rattle.std.proofs.lemmas.Result.{err_from_is_err_and}
 use Rattle.walrus_code.specs.Code.{item_of}
-use Rattle.walrus.specs.Used.{NamesDead}
+use Rattle.walrus.specs.Used.{OneDead}
 use Rattle.walrus.specs.Marked.{ReachesUnsound}
-use Rattle.walrus_contents.specs.Named.{items_in, own_names}
-use Rattle.walrus_contents.specs.View.{lent, parts_view}
+use Rattle.walrus_contents.specs.Named.{NamesItself, items_in}
+use Rattle.walrus_contents.specs.View.{parts_view}
 use Rattle.walrus_contents.specs.There.{IsSound}
 use Rattle.walrus.proofs.Followed.{follows_end, follows_more, item_found, next_item, stays, unsound_by}
 use Rattle.walrus_contents.proofs.NamedLemmas.{refusal_map}
-use Rattle.walrus.proofs.ReachedLemmas.{own_referred, refers_split}
 use Rattle.walrus.proofs.passes.used.follow.Goals as goal
 use Rattle.walrus.proofs.passes.used.follow.Goals.{else-loop-taken-test, then-loop-taken-test+then-taken-len}
 
@@ -34,8 +33,8 @@ returns-in_err-follow_item c =
     let id = c.index-item.result.now in
     let x = item_of id in
     let lt : n < length f = omega (arith, c.loop-taken.found.ok.0) in
-    rw (p.1, p.2) (refusal_map ((IsSound v x → ⊥) ⊎ NamesDead v (own_names v x)) (ReachesUnsound v)
-    (unsound_by v n c.loop-taken.marks (items_in c.loop-taken.found) c.loop-taken.invariant x (next_item f n id lt c.index-item.ensures) (item_found f n id lt c.index-item.ensures) (own_names v x) (own_referred (lent parts) x) (refers_split (lent parts) x))
+    rw (p.1, p.2) (refusal_map ((IsSound v x → ⊥) ⊎ OneDead v (NamesItself v x)) (ReachesUnsound v)
+    (unsound_by v n c.loop-taken.marks (items_in c.loop-taken.found) c.loop-taken.invariant x (next_item f n id lt c.index-item.ensures) (item_found f n id lt c.index-item.ensures))
     c.in_err-follow_item.field-0.0 c.in_err-follow_item.ensures)
 
 pub loop-taken-preserved : goal.loop-taken-preserved
@@ -50,9 +49,9 @@ loop-taken-preserved c =
     let before = items_in c.loop-taken.found in
     let after = items_in c.follow_item.new.found in
     let entered = c.in_ok-follow_item.ensures in
-    follows_more v n c.loop-taken.marks before c.loop-taken.invariant x (next_item f n id lt c.index-item.ensures) (item_found f n id lt c.index-item.ensures) (own_names v x) (own_referred (lent parts) x) (refers_split (lent parts) x)
+    follows_more v n c.loop-taken.marks before c.loop-taken.invariant x (next_item f n id lt c.index-item.ensures) (item_found f n id lt c.index-item.ensures)
     c.follow_item.new.marks after
-    (stays v (own_names v x) c.loop-taken.marks c.follow_item.new.marks before after n (omega (arith, lt, length-map f item_of)) entered.1) entered.0 entered.1
+    (stays v (NamesItself v x) c.loop-taken.marks c.follow_item.new.marks before after n (omega (arith, lt, length-map f item_of)) entered.1) entered.0 entered.1
 
 pub returns : goal.returns
 returns c =

@@ -3,7 +3,7 @@ use Rattle.std.specs.Prelude.{nat_eq}
 use Rattle.std.specs.List.{IsDistinct}
 use Rattle.std.proofs.lemmas.List.{length-map}
 use Rattle.walrus_base.specs.Id.{place}
-use Rattle.walrus_types.specs.Operators.{Types, Functions, Tables, Memories, Tags, Globals}
+use Rattle.walrus_types.specs.Operators.{Types, Functions, Tables, Memories, Tags, Globals, DataSegments}
 use Rattle.walrus_plan.proofs.plan.Plan.indices.Goals as goal
 
 pub along-requires : goal.along-requires
@@ -40,4 +40,10 @@ pub along-requires-6 : goal.along-requires-6
 along-requires-6 c = record {
   distinct = subst (λ ids. IsDistinct nat_eq (map place ids)) (sym c.as_slice-6.ensures.value) (c.requires.distinct Globals);
   room = omega (arith, c.in_ok-check_counts.ensures.few Globals, length-map c.args.self.now.globals.items place, ap length c.as_slice-6.ensures.value);
+}
+
+pub along-requires-7 : goal.along-requires-7
+along-requires-7 c = record {
+  distinct = subst (λ ids. IsDistinct nat_eq (map place ids)) (sym c.as_slice-7.ensures.value) (c.requires.distinct DataSegments);
+  room = omega (arith, c.in_ok-check_counts.ensures.few DataSegments, length-map c.args.self.now.data_.items place, ap length c.as_slice-7.ensures.value);
 }

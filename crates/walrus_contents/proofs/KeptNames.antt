@@ -1,0 +1,88 @@
+-- What an item keeps beside what is written in it, and how that and what is written come together.
+use Rattle.std.proofs.Common.{◌≡◌, inl, inr, ℕ, Bool, List, [], ◌++◌, map, Some, sym, ap, ◌∙◌, subst, ⊎_elim}
+use Rattle.std.specs.Prelude.{◌↔◌, Contains, IsTrue}
+use Rattle.std.specs.Global.{Vec}
+use Rattle.std.proofs.lemmas.Cmp.{nat_cmp_total}
+use Rattle.std.proofs.lemmas.List.{append-nil}
+use Rattle.std.proofs.lemmas.List.Elements.{Contains-append_cases, Contains-append_left, Contains-append_right}
+use Rattle.std.proofs.lemmas.Map.Lookups.{exact_unsigned}
+use Rattle.std.proofs.lemmas.Map.Views.{btree_set_contains_iff}
+use Rattle.walrus_base.specs.Arena.{item_at}
+use Rattle.walrus_base.specs.IdSet.{has_id, ids_in}
+use Rattle.walrus_base.specs.declared.keys.DataKey.{DataKey}
+use Rattle.walrus_base.specs.declared.set.IdHashSet.{IdHashSet}
+use Rattle.walrus_types.specs.Operators.{Functions, Memories, DataSegments, Item, type_item}
+use Rattle.walrus_code.specs.declared.items.ItemId.{ItemId}
+use Rattle.walrus_items.specs.Functions.{FunctionValue, functions}
+use Rattle.walrus_items.specs.Memories.{MemoryValue, memories}
+use Rattle.walrus_model.specs.Abstract.{Abstract}
+use Rattle.walrus_model.specs.Refers.{KeepsToo}
+use Rattle.walrus_model.proofs.Lists.{Contains-map, Contains-none}
+use Rattle.walrus_model.proofs.Reach.{Contains-unmap}
+use Rattle.walrus_contents.specs.Named.{NamesItself, Puts, PutsAll, items_in, own_written}
+use Rattle.walrus_contents.specs.View.{contents_view, handlers_at, kept_data, kind_handlers}
+use Rattle.walrus_contents.specs.declared.parts.Contents.{Contents}
+use Rattle.walrus_contents.proofs.NamedLemmas.{two_rows}
+
+-- where nothing is put, just nothing is named
+pub puts_none : (ids : Vec ItemId) (P : Item → Type 0) → ((x : Item) → P x → ⊥) → PutsAll ids ids P
+puts_none ids P none = record {
+  added = [];
+  behind = sym (append-nil (items_in ids));
+  are = λ x. (λ c. absurd (Contains-none x c), λ h. absurd (none x h));
+}
+
+-- what is written in an item, and behind it what it keeps beside that
+pub puts_both : (v : Abstract) (x : Item) (old now new : Vec ItemId) → Puts old now (own_written v x) → PutsAll now new (KeepsToo v x) → PutsAll old new (NamesItself v x)
+puts_both v x old now new own kept = record {
+  added = own_written v x ++ kept.added;
+  behind = two_rows (items_in old) (items_in now) (items_in new) (own_written v x) kept.added own kept.behind;
+  are = λ y. (
+    (λ c. ⊎_elim (λ h. inl h) (λ h. inr ((kept.are y).0 h)) (Contains-append_cases (own_written v x) kept.added y c)),
+    (λ h. ⊎_elim (λ o. Contains-append_left (own_written v x) kept.added y o) (λ k. Contains-append_right (own_written v x) kept.added y ((kept.are y).1 k)) h),
+  );
+}
+
+-- ---- the data segments of a set
+
+abbrev pub segment_item : ℕ → Item
+segment_item d = (DataSegments, d)
+
+-- the segments of the set are just those that it has
+pub set_items : (set : IdHashSet DataKey) (y : Item) → Contains (map segment_item (ids_in set)) y ↔ ((d : ℕ) × IsTrue (has_id set d) × (y ≡ (DataSegments, d)))
+set_items set y = (
+  (λ c.
+      let from = Contains-unmap segment_item (ids_in set) y c in
+      (from.0, (btree_set_contains_iff nat_cmp_total exact_unsigned set.places from.0).1 from.1, sym from.2)),
+  (λ h. subst (λ (z : Item). Contains (map segment_item (ids_in set)) z) (sym h.2)
+      (Contains-map segment_item h.0 (ids_in set) ((btree_set_contains_iff nat_cmp_total exact_unsigned set.places h.0).0 h.1))),
+)
+
+module _ (c : Contents) where
+  abbrev v : Abstract
+  v = contents_view c
+
+  -- ---- what each kind keeps
+
+  pub function_keeps : (i : ℕ) (f : FunctionValue) (old new : Vec ItemId) → item_at (functions c.funcs) i ≡ Some f
+      → Puts old new (map type_item (kind_handlers f.kind)) → PutsAll old new (KeepsToo v (Functions, i))
+  function_keeps i f old new is puts =
+      let same : v.handler_types i ≡ kind_handlers f.kind = ap handlers_at is in
+      record {
+        added = map type_item (v.handler_types i);
+        behind = subst (λ (ts : List ℕ). Puts old new (map type_item ts)) (sym same) puts;
+        are = λ y. (
+          (λ c. let from = Contains-unmap type_item (v.handler_types i) y c in (from.0, from.1, sym from.2)),
+          (λ h. subst (λ (z : Item). Contains (map type_item (v.handler_types i)) z) (sym h.2) (Contains-map type_item h.0 (v.handler_types i) h.1)),
+        );
+      }
+
+  pub memory_keeps : (i : ℕ) (m : MemoryValue) (set : IdHashSet DataKey) (old new : Vec ItemId) → item_at (memories c.memories) i ≡ Some m → m.segments ≡ has_id set
+      → Puts old new (map segment_item (ids_in set)) → PutsAll old new (KeepsToo v (Memories, i))
+  memory_keeps i m set old new is same puts =
+      let has : v.memory_segments i ≡ has_id set = ap kept_data is ∙ same in
+      record {
+        added = map segment_item (ids_in set);
+        behind = puts;
+        are = λ y. subst (λ (s : ℕ → Bool). Contains (map segment_item (ids_in set)) y ↔ ((d : ℕ) × IsTrue (s d) × (y ≡ (DataSegments, d)))) (sym has) (set_items set y);
+      }
