@@ -14,7 +14,7 @@ use Rattle.walrus_model.specs.Refers.{Refers}
 use Rattle.walrus_model.specs.Roots.{IsRoot}
 use Rattle.walrus.specs.Marked.{ReachesUnsound}
 use Rattle.walrus.specs.Used.{Agrees, Enters, EntersAll, Followed, Follows, IsOf, NamesDead, OneDead}
-use Rattle.walrus_contents.specs.Named.{NamesItself, group_names}
+use Rattle.walrus_contents.specs.Named.{NamesItself}
 use Rattle.walrus_contents.specs.There.{IsRefusal, IsSound}
 use Rattle.walrus_model.proofs.Lists.{Contains-none}
 use Rattle.walrus_contents.proofs.Groups.{group_is_written, own_refers, refers_split}

@@ -1,12 +1,12 @@
 -- The memory that stays where data is reached and no memory is: what marks it.
-use Rattle.std.proofs.Common.{◌≡◌, ℕ, ◌<◌, ◌≢◌, ◌⊎◌, inl, inr, ⊎_elim, true, List, [], ◌∷◌, Option, Some, None, sym, ap, ◌∙◌, subst}
-use Rattle.std.specs.Prelude.{IsSome, option_map}
+use Rattle.std.proofs.Common.{◌≡◌, ℕ, ◌≢◌, ◌⊎◌, inl, inr, ⊎_elim, true, List, [], ◌∷◌, sym, ap, ◌∙◌}
+use Rattle.std.specs.Prelude.{option_map}
 use Rattle.std.proofs.lemmas.Bool.{cases_order}
 use Rattle.walrus_base.specs.Arena.{entries, item_at}
-use Rattle.walrus_types.specs.Operators.{DataSegments, Memories, Item}
+use Rattle.walrus_types.specs.Operators.{DataSegments, Memories}
 use Rattle.walrus_items.specs.Memories.{MemoryValue, memories}
-use Rattle.walrus_model.specs.Abstract.{Abstract, Memory}
-use Rattle.walrus_model.specs.Kept.{IsFirstMemory, Kept}
+use Rattle.walrus_model.specs.Abstract.{Abstract}
+use Rattle.walrus_model.specs.Kept.{IsFirstMemory}
 use Rattle.walrus_contents.specs.View.{contents_view, memory_of}
 use Rattle.walrus_contents.specs.declared.parts.Contents.{Contents}
 use Rattle.walrus_contents.proofs.LiveLemmas.{seen_there}

@@ -1,7 +1,7 @@
 -- Bytes that are accepted frame sections that keep the rules, and the other way round.
 use Rattle.wasm_frames.specs.Record as wire
 use Rattle.std.proofs.Common.{sym, ap₂, ◌≡◌, ℕ, List, [], length, map, refl, ap, subst, ◌∙◌}
-use Rattle.std.specs.Prelude.{codes, flat_map, zip}
+use Rattle.std.specs.Prelude.{All, codes, flat_map, zip}
 use Rattle.std.specs.List.{AllZip}
 use Rattle.wasm_frames.proofs.Modules.{one_record_lem}
 use Rattle.wasm_payloads.specs.Names.{Names}
@@ -10,7 +10,7 @@ use Rattle.walrus_bodies.specs.declared.features.Features.{Features}
 use Rattle.walrus_model.specs.Config.{Config}
 use Rattle.walrus_model.specs.Declared.{NothingUndeclared}
 use Rattle.walrus_model.specs.Producers.{produced}
-use Rattle.walrus_model.specs.Reads.{ReadsBodyWith}
+use Rattle.walrus_model.specs.Reads.{declared, ReadsBodyWith}
 use Rattle.walrus_model.specs.Sections as sections
 use Rattle.walrus_model.specs.Supported.{IsSupported}
 use Rattle.walrus_model.proofs.ReadOnce.{bodies_once}
@@ -29,6 +29,10 @@ use Rattle.walrus_parts.specs.declared.error.Error.{Error}
 use Rattle.walrus_parts.specs.declared.error.Error.TheVariants as Parts
 use Rattle.walrus_reading.specs.Parsed.{IsReadWith, IsParsed, TakenFrom, AreModule, RefusesModule, RefusesBytes}
 use Rattle.walrus_reading.specs.Taken.{HasTaken}
+use Rattle.walrus_reading.specs.Stays.{DataStays}
+use Rattle.wasm_wire.specs.Rules.{Rules}
+use Rattle.walrus_reading.proofs.KeptSegments.{none_past}
+use Rattle.walrus_reading.proofs.Numbered.{stay}
 use Rattle.walrus_reading.proofs.Carrying.{parsed}
 use Rattle.walrus_reading.proofs.NoHandlers.{no_handlers}
 use Rattle.walrus_reading.proofs.References.{references_read, references_seen}
@@ -40,19 +44,23 @@ none_named = by_supported (λ s. AllZip (Names (has_function s)) (payloads (code
 none_produced : (s : wire.Module) → IsSupported s → AllZip Fields (payloads (codes "producers") s) []
 none_produced = by_supported (λ s. AllZip Fields (payloads (codes "producers") s) []) (λ s. tt)
 
+-- the memories of active data are declared
+data_stay : (s : wire.Module) → Rules s → All (DataStays (declared s)) s.data_segments
+data_stay s h = (stay (declared s) s refl h.indices).data_segments
+
 module _ (config : Config) (c : Features) (with : IsReadWith config c) (bytes : List ℕ) where
   -- ---- what was taken in was parsed
 
   module _ (m : Contents) (put_in : (contents_view m).producers ≡ produced []) where
-    in_memory : (s : wire.Module) → IsSupported s → length s.bodies ≡ length s.functions → (taken : HasTaken c s m) → ParsedAs config (module_of s taken.bodies [] []) (contents_view m)
-    in_memory = by_supported (λ s. length s.bodies ≡ length s.functions → (taken : HasTaken c s m) → ParsedAs config (module_of s taken.bodies [] []) (contents_view m))
-        (λ s many taken. parsed c s m many taken config with.no_names (no_handlers c (supported s) taken.bodies (ap (λ (f : Features). f.legacy_exceptions) with.features_are ∙ with.no_handlers) taken.read) put_in)
+    in_memory : (s : wire.Module) → IsSupported s → length s.bodies ≡ length s.functions → All (DataStays (declared s)) s.data_segments → (taken : HasTaken c s m) → ParsedAs config (module_of s taken.bodies [] []) (contents_view m)
+    in_memory = by_supported (λ s. length s.bodies ≡ length s.functions → All (DataStays (declared s)) s.data_segments → (taken : HasTaken c s m) → ParsedAs config (module_of s taken.bodies [] []) (contents_view m))
+        (λ s many stay taken. parsed c s m many taken config with.no_names (no_handlers c (supported s) taken.bodies (ap (λ (f : Features). f.legacy_exceptions) with.features_are ∙ with.no_handlers) taken.read) (none_past (supported s) stay) put_in)
 
     pub is_parsed : NothingUndeclared (contents_view m) → TakenFrom c bytes m → IsParsed config bytes (contents_view m)
     is_parsed declared t =
         let s : wire.Module = t.sections in
         let only : OnlyRecords s = ((agree c s t.taken.bodies t.taken.read).0 t.rules).0 in
-        let made : ParsedAs config (module_of s t.taken.bodies [] []) (contents_view m) = in_memory s t.supported only.as_many_bodies t.taken in
+        let made : ParsedAs config (module_of s t.taken.bodies [] []) (contents_view m) = in_memory s t.supported only.as_many_bodies (data_stay s t.rules) t.taken in
         let reads : Reads config bytes (module_of s t.taken.bodies [] []) = record {
           sections = s;
           framed = t.framed;
@@ -107,5 +115,5 @@ module _ (config : Config) (c : Features) (with : IsReadWith config c) (bytes : 
       let one : a.bodies ≡ t.taken.bodies = bodies_once c s (zip s.functions s.bodies) a.bodies t.taken.bodies read t.taken.read in
       let there : NothingUndeclared (sections.module_of s t.taken.bodies) = subst NothingUndeclared (ap₂ sections.module_of same one) a.references in
       let names = (module_of s t.taken.bodies [] []).named in
-      references_seen config (module_of s t.taken.bodies [] []) (contents_view m) (in_memory m put_in s t.supported t.rules.as_many_bodies t.taken)
+      references_seen config (module_of s t.taken.bodies [] []) (contents_view m) (in_memory m put_in s t.supported t.rules.as_many_bodies (data_stay s t.rules) t.taken)
       (declared_beside (sections.module_of s t.taken.bodies) [] names there) h.0 h.1

@@ -21,7 +21,7 @@ use Rattle.walrus_model.specs.Abstract.{Import}
 use Rattle.walrus_model.specs.Sections.{imported, imported_function, imported_global, imported_memory, imported_table, imported_tag, imports_after, item_after}
 use Rattle.walrus_contents.specs.View.{HoldsNoOthers}
 use Rattle.walrus_contents.specs.declared.parts.Contents.{Contents}
-use Rattle.walrus_reading.specs.Held.{HoldsGlobal, HoldsImport, HoldsImportedFunction, HoldsMemory, HoldsTable, HoldsTag}
+use Rattle.walrus_reading.specs.Held.{HoldsGlobal, HoldsImport, HoldsImportedFunction, HoldsMemory, HoldsTable, HoldsTag, none_kept}
 use Rattle.walrus_reading.specs.Imported.{AddsImport, Brings, HoldsImports, SameOthers, next_import, next_item}
 use Rattle.walrus_reading.specs.Placed.{AddsPlaced, AllPlaced}
 use Rattle.walrus_reading.proofs.Rows.{adds_one, placed_length, placed_more}
@@ -66,7 +66,7 @@ module _ {K T X : Type 0} (R : ℕ → X → Option T → Type 0) where
 next_here : (xs : List entries.Import) (m : Contents) (d : RawDesc) → HoldsImports xs m → next_item m d ≡ item_after xs d
 next_here xs m (descs.Function ty) h = ap (λ (n : ℕ). (Functions, n)) (sym (placed_length HoldsImportedFunction 0 (imported imported_function 0 xs) (functions m.funcs) h.functions))
 next_here xs m (descs.Table ty) h = ap (λ (n : ℕ). (Tables, n)) (sym (placed_length HoldsTable 0 (imported imported_table 0 xs) (tables m.tables) h.tables))
-next_here xs m (descs.Memory l) h = ap (λ (n : ℕ). (Memories, n)) (sym (placed_length HoldsMemory 0 (imported imported_memory 0 xs) (memories m.memories) h.memories))
+next_here xs m (descs.Memory l) h = ap (λ (n : ℕ). (Memories, n)) (sym (placed_length (HoldsMemory none_kept) 0 (imported imported_memory 0 xs) (memories m.memories) h.memories))
 next_here xs m (descs.Global ty) h = ap (λ (n : ℕ). (Globals, n)) (sym (placed_length HoldsGlobal 0 (imported imported_global 0 xs) (globals m.globals) h.globals))
 next_here xs m (descs.Tag ty) h = ap (λ (n : ℕ). (Tags, n)) (sym (placed_length HoldsTag 0 (imported imported_tag 0 xs) (tags m.tags) h.tags))
 
@@ -83,8 +83,8 @@ held_next xs x old new h a =
           (placed_more HoldsImportedFunction (imported imported_function 0 xs) (option_to_list (imported_function (length xs) x.desc)) (functions old.funcs) (functions new.funcs) h.functions b.functions);
       tables = subst (λ l. AllPlaced HoldsTable 0 l (tables new.tables)) (sym (imported_next imported_table xs x))
           (placed_more HoldsTable (imported imported_table 0 xs) (option_to_list (imported_table (length xs) x.desc)) (tables old.tables) (tables new.tables) h.tables b.tables);
-      memories = subst (λ l. AllPlaced HoldsMemory 0 l (memories new.memories)) (sym (imported_next imported_memory xs x))
-          (placed_more HoldsMemory (imported imported_memory 0 xs) (option_to_list (imported_memory (length xs) x.desc)) (memories old.memories) (memories new.memories) h.memories b.memories);
+      memories = subst (λ l. AllPlaced (HoldsMemory none_kept) 0 l (memories new.memories)) (sym (imported_next imported_memory xs x))
+          (placed_more (HoldsMemory none_kept) (imported imported_memory 0 xs) (option_to_list (imported_memory (length xs) x.desc)) (memories old.memories) (memories new.memories) h.memories b.memories);
       tags = subst (λ l. AllPlaced HoldsTag 0 l (tags new.tags)) (sym (imported_next imported_tag xs x))
           (placed_more HoldsTag (imported imported_tag 0 xs) (option_to_list (imported_tag (length xs) x.desc)) (tags old.tags) (tags new.tags) h.tags b.tags);
       globals = subst (λ l. AllPlaced HoldsGlobal 0 l (globals new.globals)) (sym (imported_next imported_global xs x))

@@ -1,5 +1,5 @@
 -- A module in memory that took in the sections is made of the module that was read.
-use Rattle.std.proofs.Common.{◌≡◌, ℕ, zero, suc, ◌+◌, ◌<◌, Bool, true, false, List, [], ◌∷◌, ◌++◌, length, length-append, map, refl, sym, ap, ap₂, subst, ◌∙◌, arith, inl, inr, eqb-true}
+use Rattle.std.proofs.Common.{◌≡◌, ℕ, zero, suc, ◌+◌, ◌<◌, ◌≤◌, Bool, true, false, List, [], ◌∷◌, ◌++◌, length, length-append, map, refl, sym, ap, ap₂, subst, ◌∙◌, arith, inl, inr, eqb-true}
 use Rattle.std.proofs.lemmas.Bool.{eqb-false}
 use Rattle.std.specs.Prelude.{Option, Some, None, IsSome, Contains, slice_get, option_map, ◌==◌, if◌then◌else◌}
 use Rattle.std.specs.List.{AllZip, range_with_len}
@@ -23,7 +23,7 @@ use Rattle.walrus_parts.specs.declared.function_kind.FunctionKind.{FunctionKind}
 use Rattle.walrus_parts.specs.declared.function_kind.FunctionKind.TheVariants as variants
 use Rattle.walrus_parts.specs.declared.function_kind.FunctionKind.TheVariants.{Local}
 use Rattle.walrus_model.specs.Abstract as abstract
-use Rattle.walrus_model.specs.Abstract.{Abstract, Name, TypeDef, Function, ImportedFunction, Import, Memory, Body, Subject, TheModule, AnItem, ALocal}
+use Rattle.walrus_model.specs.Abstract.{Abstract, Name, TypeDef, Function, ImportedFunction, Import, Body, Subject, TheModule, AnItem, ALocal}
 use Rattle.walrus_model.specs.Carried.{Carries}
 use Rattle.walrus_bodies.specs.declared.features.Features.{Features}
 use Rattle.walrus_rules.specs.Chain.{AreFoundOrAdded, NoMore, handlers_by, AddsHandlers, NoFunction, AndThose, IsWholeBody, ParsedAs}
@@ -31,7 +31,7 @@ use Rattle.walrus_rules.specs.Namings.{is_in_range}
 use Rattle.walrus_rules.specs.Sections.{items_of, module_of}
 use Rattle.walrus_reading.proofs.DeclaredLocals.{counts}
 use Rattle.walrus_model.specs.Reads.{arity, ReadsBodyWith}
-use Rattle.walrus_model.specs.Sections.{Said, function_with, functions_of, body_with, imports_after, types_of, globals_of, memories_of, tables_of, tags_of}
+use Rattle.walrus_model.specs.Sections.{Said, function_with, functions_of, body_with, imports_after, types_of, globals_of, memories_of, tables_of, tags_of, data_segments_of}
 use Rattle.walrus_model.specs.Kept.{IsImportOf}
 use Rattle.walrus_model.specs.Live.{IsLive}
 use Rattle.walrus_model.specs.WellMade.{import_in, import_of, kind_import, origin_import}
@@ -51,14 +51,15 @@ use Rattle.walrus_reading.specs.Taken.{HasTaken}
 use Rattle.walrus_reading.proofs.AllHeld.{Fits, all_fit}
 use Rattle.walrus_reading.proofs.Held.{HeldBody, HeldFunction, exported}
 use Rattle.walrus_model.proofs.Supported.{supported}
-use Rattle.walrus_contents.specs.View.{body, kind_of, kind_handlers, handlers_at, function, contents_view, data_of, global_of, kept_data, import_of as import_of_value, memory_of, table_of, tag_of}
+use Rattle.walrus_contents.specs.View.{body, kind_of, kind_handlers, handlers_at, function, contents_view, data_of, global_of, import_of as import_of_value, memory_of, table_of, tag_of}
 use Rattle.walrus_model.proofs.PipelineSame.{data_stays, global_stays, import_stays, memory_stays, start_stays, table_stays, tag_stays}
-use Rattle.walrus_reading.specs.Held.{HoldsGlobal, HoldsImport, HoldsMemory, HoldsTable, HoldsTag}
+use Rattle.walrus_reading.specs.Held.{HoldsData, HoldsGlobal, HoldsImport, HoldsMemory, HoldsTable, HoldsTag, kept_of}
 use Rattle.walrus_reading.specs.Placed.{AllPlaced}
+use Rattle.walrus_reading.proofs.KeptSegments.{kept_seen}
 use Rattle.walrus_items.specs.Imports.{imports}
 use Rattle.walrus_items.specs.Globals.{globals}
-use Rattle.walrus_items.specs.Data.{DataValue}
-use Rattle.walrus_items.specs.Memories.{MemoryValue, memories}
+use Rattle.walrus_items.specs.Data.{data_segments}
+use Rattle.walrus_items.specs.Memories.{memories}
 use Rattle.walrus_items.specs.Tables.{tables}
 use Rattle.walrus_items.specs.Tags.{tags}
 use Rattle.walrus_contents.specs.declared.parts.Contents.{Contents}
@@ -269,14 +270,6 @@ seen_there see R give k (x ∷ xs) [] h i = absurd h
 seen_there see R give k (x ∷ xs) (s ∷ slots) h zero = let g = give k x s h.0 in ap (option_map see) g.1.0 ∙ ap Some g.1.1
 seen_there see R give k (x ∷ xs) (s ∷ slots) h (suc i) = seen_there see R give (k + 1) xs slots h.1 i
 
--- a memory without segments keeps none
-none_kept : (k : ℕ) (ys : List Memory) (slots : List (Option MemoryValue)) → AllPlaced HoldsMemory k ys slots → (i d : ℕ) → kept_data (item_at slots i) d ≡ false
-none_kept k [] [] h i d = refl
-none_kept k [] (s ∷ slots) h i d = absurd h
-none_kept k (y ∷ ys) [] h i d = absurd h
-none_kept k (y ∷ ys) (s ∷ slots) h zero d = ap (λ (o : Option MemoryValue). kept_data o d) h.0.is ∙ ap (λ (f : ℕ → Bool). f d) h.0.segments
-none_kept k (y ∷ ys) (s ∷ slots) h (suc i) d = none_kept (k + 1) ys slots h.1 i d
-
 -- ---- bodies are whole
 
 module _ (moved : ℕ → ℕ → ℕ) (all : ModuleLocals) (c : Features) (r : wire.Module) (i : ℕ) (p : ℕ × Said) (b : wire.Body) (g : LocalFunction)
@@ -345,7 +338,7 @@ named_live m (Types, k) p e = absurd (cc)
 named_live m (Elements, k) p e = absurd (cc)
 named_live m (DataSegments, k) p e = absurd (cc)
 
--- ---- the whole
+-- ---- the whole, where the memories that data is active in are there
 
 module _ (c : Features) (r : wire.Module) (x : Contents) (many : length r.bodies ≡ length r.functions) (h : HasTaken c (supported r) x) where
   abbrev all : ModuleLocals
@@ -430,6 +423,9 @@ module _ (c : Features) (r : wire.Module) (x : Contents) (many : length r.bodies
       whole_at c (supported r) all moved f a b k.said k.slot k.fits (ap further k.same) (ap (λ (g : Function). body_of_kind g.kind) one ∙ s.2)
       (sym (ap (λ (o : Option FunctionValue). body_of_function (option_map (function all) o)) k.at) ∙ is)
 
+  from_zero : (n : ℕ) → 0 + n ≡ n
+  from_zero n = omega arith
+
   -- ---- nothing is named
 
   either_none : (t : Bool) → ◌≡◌ {A = List Name} (if t then [] else []) []
@@ -446,8 +442,9 @@ module _ (c : Features) (r : wire.Module) (x : Contents) (many : length r.bodies
         ∙ ap (λ names. or_else (last_name names) None) (unnamed y))
 
   -- ---- all of it; the producers of the module in memory are given
-  pub parsed : (config : Config) → config.synthetic_names ≡ false → ((f : ℕ) (b : Body) → body_of M f ≡ Some b → handlers_of M b ≡ []) → v.producers ≡ produced [] → ParsedAs config M v
-  parsed config own_names none put_in = record {
+  pub parsed : (config : Config) → config.synthetic_names ≡ false → ((f : ℕ) (b : Body) → body_of M f ≡ Some b → handlers_of M b ≡ []) → ((memory segment : ℕ) → length (memories_of r) ≤ memory → kept_of (data_segments_of r) memory segment ≡ false)
+      → v.producers ≡ produced [] → ParsedAs config M v
+  parsed config own_names none inside put_in = record {
     types = types;
     functions = length said;
     all_types = types;
@@ -469,11 +466,11 @@ module _ (c : Features) (r : wire.Module) (x : Contents) (many : length r.bodies
       };
       functions = record { same = function_carried; onto = λ j live. inl (j, function_there j live, refl) };
       tables = carried_there _ _ M.tables v.tables (seen_there table_of HoldsTable (λ n t s k. (k.value, (k.is, k.read))) 0 (tables_of (supported r)) (tables x.tables) h.tables) (λ i t. sym (table_stays (moving moved) (λ s n. refl) (λ n. refl) t));
-      memories = carried_there _ _ M.memories v.memories (seen_there memory_of HoldsMemory (λ n y s k. (k.value, (k.is, k.read))) 0 (memories_of (supported r)) (memories x.memories) h.memories) (λ i y. sym (memory_stays (moving moved) (λ s n. refl) (λ n. refl) y));
+      memories = carried_there _ _ M.memories v.memories (seen_there memory_of (HoldsMemory (kept_of (data_segments_of r))) (λ n y s k. (k.value, (k.is, k.read))) 0 (memories_of (supported r)) (memories x.memories) h.memories) (λ i y. sym (memory_stays (moving moved) (λ s n. refl) (λ n. refl) y));
       tags = carried_there _ _ M.tags v.tags (seen_there tag_of HoldsTag (λ n t s k. (k.value, (k.is, k.read))) 0 (tags_of (supported r)) (tags x.tags) h.tags) (λ i t. sym (tag_stays (moving moved) (λ s n. refl) (λ n. refl) t));
       globals = carried_there _ _ M.globals v.globals (seen_there global_of HoldsGlobal (λ n g s k. (k.value, (k.is, k.read))) 0 (globals_of (supported r)) (globals x.globals) h.globals) (λ i g. sym (global_stays (moving moved) (λ s n. refl) (λ n. refl) g));
       elements = no_items _ _;
-      data_segments = carried_there _ _ M.data_segments v.data_segments (λ i. ap (λ (l : List (Option DataValue)). option_map data_of (item_at l i)) h.no_data) (λ i d. sym (data_stays (moving moved) (λ s n. refl) (λ n. refl) d));
+      data_segments = carried_there _ _ M.data_segments v.data_segments (seen_there data_of HoldsData (λ n d s k. (k.value, (k.is, k.read))) 0 (data_segments_of (supported r)) (data_segments x.data_) h.data_segments) (λ i d. sym (data_stays (moving moved) (λ s n. refl) (λ n. refl) d));
       imports_apart = λ i j k l e. e;
       apart = λ space no i j k l e. e;
       exports = exported c (supported r) x h ∙ sym (map-itself (renamed_export (moving moved)) _ (λ e. refl));
@@ -483,7 +480,7 @@ module _ (c : Features) (r : wire.Module) (x : Contents) (many : length r.bodies
     in_place = λ y. refl;
     imports_in_place = λ i. refl;
     table_segments = λ table segment. refl;
-    memory_segments = λ memory segment. none_kept 0 (memories_of (supported r)) (memories x.memories) h.memories memory segment;
+    memory_segments = λ memory segment. kept_seen (kept_of (data_segments_of r)) 0 (memories_of (supported r)) (memories x.memories) h.memories memory segment (λ past. ap (λ (n : ℕ). kept_of (data_segments_of r) n segment) (from_zero memory) ∙ inside memory segment past) ∙ ap (λ (n : ℕ). kept_of (data_segments_of r) n segment) (from_zero memory);
     section_roots = refl;
     customs = refl;
     producers = put_in;

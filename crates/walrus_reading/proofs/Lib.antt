@@ -5,6 +5,7 @@ pub mod Brought
 pub mod Carrying
 pub mod DeclaredLocals
 pub mod Held
+pub mod KeptSegments
 pub mod Locating
 pub mod NarrowRules
 pub mod NoHandlers

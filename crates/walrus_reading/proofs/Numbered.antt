@@ -33,7 +33,7 @@ use Rattle.walrus_items.specs.Memories.{memories}
 use Rattle.walrus_items.specs.Tables.{tables}
 use Rattle.walrus_items.specs.Tags.{tags}
 use Rattle.walrus_contents.specs.declared.parts.Contents.{Contents}
-use Rattle.walrus_reading.specs.Held.{HoldsGlobal, HoldsImportedFunction, HoldsMemory, HoldsTable, HoldsTag}
+use Rattle.walrus_reading.specs.Held.{HoldsGlobal, HoldsImportedFunction, HoldsMemory, HoldsTable, HoldsTag, none_kept}
 use Rattle.walrus_reading.specs.Imported.{HoldsImports}
 use Rattle.walrus_reading.specs.Placed.{AllPlaced}
 use Rattle.walrus_reading.specs.Stays.{AllStay, AreNumbered, DescStays}
@@ -115,7 +115,7 @@ module _ (r : wire.Module) (m : Contents) (h : HoldsImports r.imports m) (first 
   tables_counted at same = counted HoldsTable (imported imported_table 0 r.imports) (tables m.tables) table_of r.tables first own h.tables at same
 
   pub memories_counted : first ≡ length (memories m.memories) → own ≡ length r.memories → first + own ≡ length (memories_of r)
-  memories_counted at same = counted HoldsMemory (imported imported_memory 0 r.imports) (memories m.memories) memory_of r.memories first own h.memories at same
+  memories_counted at same = counted (HoldsMemory none_kept) (imported imported_memory 0 r.imports) (memories m.memories) memory_of r.memories first own h.memories at same
 
   pub tags_counted : first ≡ length (tags m.tags) → own ≡ length r.tags → first + own ≡ length (tags_of r)
   tags_counted at same = counted HoldsTag (imported imported_tag 0 r.imports) (tags m.tags) tag_of r.tags first own h.tags at same
@@ -123,13 +123,13 @@ module _ (r : wire.Module) (m : Contents) (h : HoldsImports r.imports m) (first 
   pub globals_counted : first ≡ length (globals m.globals) → own ≡ length r.globals → first + own ≡ length (globals_of r)
   globals_counted at same = counted HoldsGlobal (imported imported_global 0 r.imports) (globals m.globals) global_of r.globals first own h.globals at same
 
--- segments aren't there so far
-module _ (r : wire.Module) (only : IsSupported r) where
-  pub no_elements : [] ≡ range_with_len 0 (length (elements_of r))
-  no_elements = sym (ap (λ (l : List entries.Element). range_with_len 0 (length (map element_of l))) only.elements)
+-- element segments aren't there so far
+pub no_elements : (r : wire.Module) → IsSupported r → [] ≡ range_with_len 0 (length (elements_of r))
+no_elements r only = sym (ap (λ (l : List entries.Element). range_with_len 0 (length (map element_of l))) only.elements)
 
-  pub no_data : [] ≡ range_with_len 0 (unwrap_or r.data_count 0)
-  no_data = sym (ap (λ (o : Option ℕ). range_with_len 0 (unwrap_or o 0)) only.data_count)
+-- no import brings data segments
+pub data_counted : (own count : ℕ) → own ≡ count → 0 + own ≡ count
+data_counted own count e = omega (arith, e)
 
 -- ---- what sections name
 

@@ -39,7 +39,7 @@ placed_own own R give k (a ∷ xs) [] h i x e = absurd h
 placed_own {A} {T} own R give k (a ∷ xs) (s ∷ slots) h zero x e = give k a x (subst (λ (o : Option T). R k a o) e h.0) ∙ nothing_more k
 placed_own own R give k (a ∷ xs) (s ∷ slots) h (suc i) x e = placed_own own R give (k + 1) xs slots h.1 i x e ∙ one_later k i
 
-map_twice : {X Y A : Type 0} (f : X → Y) (g : Y → A) (xs : List X) → map g (map f xs) ≡ map (λ x. g (f x)) xs
+pub map_twice : {X Y A : Type 0} (f : X → Y) (g : Y → A) (xs : List X) → map g (map f xs) ≡ map (λ x. g (f x)) xs
 map_twice f g [] = refl
 map_twice f g (x ∷ xs) = ap (λ l. g (f x) ∷ l) (map_twice f g xs)
 

@@ -16,7 +16,7 @@ use Rattle.wasm_entries.specs.declared.record.RawExportKind.{RawExportKind}
 use Rattle.wasm_entries.specs.declared.record.RawExportKind.TheVariants as kinds
 use Rattle.wasm_entries.specs.Record as entries
 use Rattle.wasm_frames.specs.Record as wire
-use Rattle.wasm_wire.specs.Indices.{HeapHolds, ValueHolds, ConstHolds, ExpressionHolds, InitialHolds, TableHolds, GlobalHolds, DescHolds, IndicesHold, StartExists, count_of, with_globals}
+use Rattle.wasm_wire.specs.Indices.{HeapHolds, ValueHolds, ConstHolds, ExpressionHolds, DataModeHolds, InitialHolds, TableHolds, GlobalHolds, DescHolds, IndicesHold, StartExists, count_of, with_globals}
 use Rattle.wasm_wire.specs.declared.rules.counts.Counts.{Counts}
 use Rattle.walrus_base.specs.Types.{HeapType, Concrete, RefType, ValType, Ref}
 use Rattle.walrus_types.specs.Operators.{Space, Types, Functions, Globals, Arg, Index, Number, Byte, Heap, Op}
@@ -26,7 +26,7 @@ use Rattle.walrus_constants.specs.Named.{named_const_op, named_initialiser}
 use Rattle.walrus_model.specs.Abstract.{Global, Table}
 use Rattle.walrus_model.specs.Constants.{const_of, consts_of, plain}
 use Rattle.walrus_model.specs.Sections.{global_of, space_of, table_of}
-use Rattle.walrus_reading.specs.Stays.{AllStay, AreNumbered, ConstStays, DescStays, GlobalStays, RefStays, TableStays, ValStays}
+use Rattle.walrus_reading.specs.Stays.{AllStay, AreNumbered, ConstStays, DescStays, GlobalStays, ModeStays, RefStays, TableStays, ValStays}
 
 module _ (names : Lookup) where
   -- ---- an operator, by what its arguments look up to
@@ -123,6 +123,10 @@ module _ (names : Lookup) where
         ap₂ (λ (o : Option (ValType ℕ)) (i : Option (List Op)). o >>= λ value. (i >>= λ found. Some (Some found)) >>= λ initialiser. Some (let found : Global = record { origin = x.origin; ty = record { value = value; mutable = x.ty.mutable; shared = x.ty.shared }; initialiser = initialiser } in found))
         (val_stays c.types a.types g.ty.value h.0) (expression_stays (with_globals c n) (fewer c n le a) g.initial h.1)
 
+    mode_stays : (m : entries.DataMode) → DataModeHolds c m → ModeStays names m
+    mode_stays (entries.ActiveData memory offset) h = (a.memories memory h.0, expression_stays c a offset h.1)
+    mode_stays entries.PassiveData h = tt
+
     kind_stays : (k : RawExportKind) (n : ℕ) → n < count_of c k → names (space_of k) n ≡ Some n
     kind_stays kinds.Function n lt = a.functions n lt
     kind_stays kinds.Table n lt = a.tables n lt
@@ -143,4 +147,5 @@ module _ (names : Lookup) where
       globals = λ i d lt. global_stays (c.imported_globals + i) (get_or m.globals i d) (omega (arith, count, lt)) (h.globals i d lt);
       exports = λ i d lt. kind_stays (get_or m.exports i d).kind (get_or m.exports i d).index (h.exports i d lt);
       start = start_stays m.start h.start;
+      data_segments = λ i d lt. mode_stays (get_or m.data_segments i d).mode (h.data_segments i d lt);
     }

@@ -1,25 +1,37 @@
 -- What a slot holds of an item that was read: the item as the sections say it, under the slot's own id, and nothing that they don't say: no
--- name, and no segment that is kept as long as the item is.
-use Rattle.std.specs.Prelude.{ℕ, true, Option, Some, None, IfSome, ◌≡◌}
+-- name, and no segments that are kept as long as the item is but the data segments that are active in a memory.
+use Rattle.std.specs.Prelude.{ℕ, Bool, true, false, List, Option, Some, None, IfSome, slice_get, ◌≡◌, ⊤}
 use Rattle.walrus_types.specs.declared.locals.ModuleLocals.{ModuleLocals}
 use Rattle.walrus_items.specs.Functions.{FunctionValue}
 use Rattle.walrus_items.specs.Imports.{ImportValue}
+use Rattle.walrus_items.specs.Data.{DataValue}
 use Rattle.walrus_items.specs.Added.{no_segments}
 use Rattle.walrus_items.specs.Globals.{GlobalValue}
 use Rattle.walrus_items.specs.Memories.{MemoryValue}
 use Rattle.walrus_items.specs.Tables.{TableValue}
 use Rattle.walrus_items.specs.Tags.{TagValue}
-use Rattle.walrus_model.specs.Abstract.{Function, Global, Import, Memory, Table, Tag}
+use Rattle.walrus_model.specs.Abstract.{DataSegment, Function, Global, Import, Memory, Table, Tag}
+use Rattle.walrus_model.specs.Sections.{is_on_memory, passes}
 use Rattle.walrus_constants.specs.Short.{is_short}
+use Rattle.walrus_parts.specs.declared.segments.DataKind.TheVariants as data_kinds
+use Rattle.walrus_parts.specs.declared.segments.DataKind.{DataKind}
 use Rattle.walrus_contents.specs.View as view
 
--- a slot holds this memory
-pub record HoldsMemory (id : ℕ) (memory : Memory) (slot : Option MemoryValue) : Type 0 where
+-- which of these data segments a memory keeps: those that are active in it
+abbrev pub kept_of : List DataSegment → (memory segment : ℕ) → Bool
+kept_of all memory segment = passes (λ d. is_on_memory memory d.kind) (slice_get all segment)
+
+-- none is
+abbrev pub none_kept : (memory segment : ℕ) → Bool
+none_kept memory segment = false
+
+-- a slot holds this memory, which keeps these data segments
+pub record HoldsMemory (kept : (memory segment : ℕ) → Bool) (id : ℕ) (memory : Memory) (slot : Option MemoryValue) : Type 0 where
   pub value : MemoryValue
   pub is : slot ≡ Some value
   pub own_id : value.id ≡ id
   pub read : view.memory_of value ≡ memory
-  pub segments : value.segments ≡ no_segments
+  pub segments : (segment : ℕ) → value.segments segment ≡ kept id segment
   pub unnamed : value.name ≡ None
 
 -- a slot holds this table, with its initialiser in its shortest form
@@ -47,6 +59,20 @@ pub record HoldsGlobal (id : ℕ) (global : Global) (slot : Option GlobalValue) 
   pub own_id : value.id ≡ id
   pub read : view.global_of value ≡ global
   pub short : IfSome value.initialiser (λ e. is_short e ≡ true)
+  pub unnamed : value.name ≡ None
+
+-- the offset of active data is in its shortest form
+abbrev pub HasShortOffset : DataKind → Type 0
+HasShortOffset (data_kinds.Active memory offset) = is_short offset ≡ true
+HasShortOffset data_kinds.Passive = ⊤
+
+-- a slot holds this data segment, with its offset in its shortest form
+pub record HoldsData (id : ℕ) (segment : DataSegment) (slot : Option DataValue) : Type 0 where
+  pub value : DataValue
+  pub is : slot ≡ Some value
+  pub own_id : value.id ≡ id
+  pub read : view.data_of value ≡ segment
+  pub short : HasShortOffset value.kind
   pub unnamed : value.name ≡ None
 
 -- a slot holds this import, which names the item that it brings

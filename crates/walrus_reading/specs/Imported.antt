@@ -13,7 +13,7 @@ use Rattle.walrus_items.specs.Tags.{tags}
 use Rattle.walrus_model.specs.Abstract.{Import}
 use Rattle.walrus_model.specs.Sections.{imported, imported_function, imported_global, imported_memory, imported_table, imported_tag, imports_after}
 use Rattle.walrus_contents.specs.declared.parts.Contents.{Contents}
-use Rattle.walrus_reading.specs.Held.{HoldsGlobal, HoldsImport, HoldsImportedFunction, HoldsMemory, HoldsTable, HoldsTag}
+use Rattle.walrus_reading.specs.Held.{HoldsGlobal, HoldsImport, HoldsImportedFunction, HoldsMemory, HoldsTable, HoldsTag, none_kept}
 use Rattle.walrus_reading.specs.Placed.{AddsPlaced, AllPlaced}
 
 -- the imports, and in each space what they bring, in their order and without names; nothing else is there
@@ -21,7 +21,7 @@ pub record HoldsImports (raw : List entries.Import) (m : Contents) : Type 0 wher
   pub imports : AllPlaced HoldsImport 0 (imports_after [] raw) (imports m.imports)
   pub functions : AllPlaced HoldsImportedFunction 0 (imported imported_function 0 raw) (functions m.funcs)
   pub tables : AllPlaced HoldsTable 0 (imported imported_table 0 raw) (tables m.tables)
-  pub memories : AllPlaced HoldsMemory 0 (imported imported_memory 0 raw) (memories m.memories)
+  pub memories : AllPlaced (HoldsMemory none_kept) 0 (imported imported_memory 0 raw) (memories m.memories)
   pub tags : AllPlaced HoldsTag 0 (imported imported_tag 0 raw) (tags m.tags)
   pub globals : AllPlaced HoldsGlobal 0 (imported imported_global 0 raw) (globals m.globals)
 
@@ -51,7 +51,7 @@ next_import m x = record { module_name = x.from; name = x.name; item = next_item
 pub record Brings (i : ℕ) (d : RawDesc) (old new : Contents) : Type 0 where
   pub functions : AddsPlaced HoldsImportedFunction (option_to_list (imported_function i d)) (functions old.funcs) (functions new.funcs)
   pub tables : AddsPlaced HoldsTable (option_to_list (imported_table i d)) (tables old.tables) (tables new.tables)
-  pub memories : AddsPlaced HoldsMemory (option_to_list (imported_memory i d)) (memories old.memories) (memories new.memories)
+  pub memories : AddsPlaced (HoldsMemory none_kept) (option_to_list (imported_memory i d)) (memories old.memories) (memories new.memories)
   pub tags : AddsPlaced HoldsTag (option_to_list (imported_tag i d)) (tags old.tags) (tags new.tags)
   pub globals : AddsPlaced HoldsGlobal (option_to_list (imported_global i d)) (globals old.globals) (globals new.globals)
   pub others : SameOthers old new

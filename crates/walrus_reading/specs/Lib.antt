@@ -1,5 +1,6 @@
 pub mod Held
 pub mod Imported
+pub mod Kept
 pub mod Numbers
 pub mod Parsed
 pub mod Placed

@@ -40,6 +40,15 @@ module _ (names : Lookup) where
   abbrev pub GlobalStays : entries.Global → Type 0
   GlobalStays g = named_global names (global_of g) ≡ Some (global_of g)
 
+  -- of active data that of its memory, and those in its offset
+  abbrev pub ModeStays : entries.DataMode → Type 0
+  ModeStays (entries.ActiveData memory offset) = (names Memories memory ≡ Some memory) × ConstStays offset
+  ModeStays entries.PassiveData = ⊤
+
+  -- those in a data segment
+  abbrev pub DataStays : entries.Segment → Type 0
+  DataStays d = ModeStays d.mode
+
   -- those in what an import brings
   abbrev pub DescStays : RawDesc → Type 0
   DescStays (descs.Function t) = TypeStays t
@@ -65,6 +74,7 @@ module _ (names : Lookup) where
     pub globals : All GlobalStays m.globals
     pub exports : All ExportStays m.exports
     pub start : StartStays m.start
+    pub data_segments : All DataStays m.data_segments
 
   -- each of so many items of a space has the place of its index
   pub record AreNumbered (c : Counts) : Type 0 where

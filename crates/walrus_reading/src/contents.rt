@@ -31,6 +31,7 @@ ghost use Rattle.wasm_frames.specs.Record.{body_record, sections};
 use crate::entities::{add_globals, add_memories, add_tables, add_tags};
 use crate::imports::add_imports;
 use crate::numbers::number_items;
+use crate::segments::add_data;
 use std::alloc::{AllocError, Global};
 use std::result;
 use walrus_bodies::{ReadBody, read_body_over};
@@ -80,6 +81,13 @@ pub(crate) fn read_contents(alloc: Global, raw: &Raw<'_>, features: &Features) -
     add_memories(&raw.memories, &mut contents.memories)?;
     add_tags(&raw.tags, &indices, &mut contents.tags)?;
     add_globals(alloc, &raw.globals, &indices, &mut contents.globals)?;
+    add_data(
+        alloc,
+        &raw.data_,
+        &indices,
+        &mut contents.memories,
+        &mut contents.data_,
+    )?;
     add_exports(&raw.exports, &indices, &mut contents.exports)?;
     contents.start = start_named(raw.start, &indices);
     add_own_producer(&mut contents.producers)?;

@@ -13,7 +13,7 @@ ghost use Rattle.walrus_items.specs.Tags.{tags};
 ghost use Rattle.walrus_model.specs.Constants.{consts_of};
 ghost use Rattle.walrus_model.specs.Sections.{global_of, memory_of, ref_of, table_of, tag_of};
 ghost use Rattle.walrus_parts.specs.Errors.{out_of_memory};
-ghost use Rattle.walrus_reading.specs.Held.{HoldsGlobal, HoldsMemory, HoldsTable, HoldsTag};
+ghost use Rattle.walrus_reading.specs.Held.{HoldsGlobal, HoldsMemory, HoldsTable, HoldsTag, none_kept};
 ghost use Rattle.walrus_reading.specs.Placed.{AddsPlaced};
 ghost use Rattle.walrus_reading.specs.Stays.{ConstStays, GlobalStays, RefStays, TableStays, TypeStays, ValStays};
 
@@ -27,7 +27,7 @@ use wasm_wire::{RawConst, RawGlobal, RawLimits, RawRef, RawTable, RawVal};
 
 // A memory of this type, with the next id.
 fn add_memory(limits: RawLimits, all: &mut ModuleMemories) -> Result<()>
-    ensures added { OnOk result (AddsPlaced HoldsMemory (memory_of limits ∷ []) (memories all.old)
+    ensures added { OnOk result (AddsPlaced (HoldsMemory none_kept) (memory_of limits ∷ []) (memories all.old)
         (memories all.new)) }
     ensures fails { IsOkUnless result out_of_memory }
 {
@@ -43,7 +43,7 @@ fn add_memory(limits: RawLimits, all: &mut ModuleMemories) -> Result<()>
 
 /// Adds the memories of a memory section (Binary Format > Modules > Memory Section).
 pub(crate) fn add_memories(raw: &[RawLimits], all: &mut ModuleMemories) -> Result<()>
-    ensures added { OnOk result (AddsPlaced HoldsMemory (map memory_of raw.now) (memories all.old)
+    ensures added { OnOk result (AddsPlaced (HoldsMemory none_kept) (map memory_of raw.now) (memories all.old)
         (memories all.new)) }
     ensures fails { IsOkUnless result out_of_memory }
 {
@@ -102,8 +102,12 @@ pub(crate) fn read_reference(raw: RawRef, indices: &IndicesToIds) -> RefType
     ty
 }
 
-// The constant expression that initialises an item.
-fn read_initialiser(alloc: Global, raw: &[RawConst], indices: &IndicesToIds) -> Result<ConstExpr>
+/// The constant expression that initialises an item, or says where data begins.
+pub(crate) fn read_initialiser(
+    alloc: Global,
+    raw: &[RawConst],
+    indices: &IndicesToIds,
+) -> Result<ConstExpr>
     requires stays { ConstStays (ids_at indices.now) raw.now }
     ensures value { IfOk result (λ expr. const_ops expr ≡ consts_of raw.now) }
     ensures short { IfOk result (λ expr. is_short expr ≡ true) }

@@ -15,7 +15,7 @@ ghost use Rattle.walrus_items.specs.Tags.{tags};
 ghost use Rattle.walrus_model.specs.Sections.{imported_function, imported_global, imported_memory, imported_table, imported_tag};
 ghost use Rattle.walrus_contents.specs.View.{HoldsNoOthers};
 ghost use Rattle.walrus_parts.specs.Errors.{out_of_memory};
-ghost use Rattle.walrus_reading.specs.Held.{HoldsGlobal, HoldsImportedFunction, HoldsMemory, HoldsTable, HoldsTag};
+ghost use Rattle.walrus_reading.specs.Held.{HoldsGlobal, HoldsImportedFunction, HoldsMemory, HoldsTable, HoldsTag, none_kept};
 ghost use Rattle.walrus_reading.specs.Imported.{AddsImport, Brings, HoldsImports, SameOthers, next_item};
 ghost use Rattle.walrus_reading.specs.Placed.{AddsPlaced};
 ghost use Rattle.walrus_reading.specs.Stays.{DescStays, RefStays, TypeStays, ValStays};
@@ -71,7 +71,7 @@ fn import_table(
 // A memory of this type, which the import brings.
 fn import_memory(limits: RawLimits, import: ImportId, all: &mut ModuleMemories) -> Result<MemoryId>
     ensures id { IfOk result (λ id. place id ≡ length (memories all.old)) }
-    ensures added { OnOk result (AddsPlaced HoldsMemory
+    ensures added { OnOk result (AddsPlaced (HoldsMemory none_kept)
         (option_to_list (imported_memory (place «import») (descs.Memory limits)))
         (memories all.old) (memories all.new)) }
     ensures fails { IsOkUnless result out_of_memory }

@@ -7,6 +7,7 @@ mod imports;
 mod law;
 mod module;
 mod numbers;
+mod segments;
 mod supported;
 
 pub use module::read;

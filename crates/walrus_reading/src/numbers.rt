@@ -1,5 +1,5 @@
 //! The indices of what a module holds ("Structure > Modules > Indices"): while a module is read, each item gets the id of its index.
-ghost use Rattle.std.specs.Prelude.{◌≡◌, ◌≢◌, ◌+◌, ◌<◌, ◌^◌, [], length, IfOk, OnOk, IsOkUnless};
+ghost use Rattle.std.specs.Prelude.{◌≡◌, ◌≢◌, ◌+◌, ◌<◌, ◌^◌, [], length, IfOk, OnOk, IsOkUnless, unwrap_or};
 ghost use Rattle.std.specs.List.{range_with_len};
 ghost use Rattle.wasm_frames.specs.Record.{sections};
 ghost use Rattle.wasm_wire.specs.Rules.{Checks};
@@ -61,7 +61,15 @@ pub(crate) fn number_items(
     )?;
     indices.tags = in_place(alloc, contents.tags.next_id().index(), raw.tags.len())?;
     indices.globals = in_place(alloc, contents.globals.next_id().index(), raw.globals.len())?;
+    indices.data_ = in_place(alloc, 0, data_count(raw) as usize)?;
     Ok(())
+}
+
+// How many data segments bodies may name: as many as the data count says, if there is one. The segments come behind the bodies.
+fn data_count(raw: &Raw<'_>) -> u32
+    ensures { result ≡ unwrap_or (sections raw.now).data_count 0 }
+{
+    raw.data_count.unwrap_or(0)
 }
 
 // The indices of the items of a kind: those that imports brought, so many, come first, and those that a section defines behind them.

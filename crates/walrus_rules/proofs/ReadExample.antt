@@ -1,6 +1,6 @@
 -- What the bytes of the two worked modules read as, under any configuration.
 use Rattle.std.proofs.Common.{◌≡◌, true, drop, ℕ, zero, suc, ◌+◌, ◌<◌, List, [], ◌∷◌, length, refl, sym, ap, ◌∙◌, subst, arith, append-nil, ⊎_elim}
-use Rattle.std.specs.Prelude.{AllPairs, slice_get, Option, Some, Contains}
+use Rattle.std.specs.Prelude.{AllPairs, slice_get, Option, Some, None, Contains}
 use Rattle.wasm_forms.specs.Number.{IsU32, number_at, leb_at}
 use Rattle.wasm_forms.specs.Grammar.{Form, Is, at, Vector, U32, row_at, block_at}
 use Rattle.std.specs.Str.{is_utf8}
@@ -253,14 +253,17 @@ two_declare f u = ⊎_elim (λ body. just_ends body.1 f (two_end body.0 body.1 b
 one_declares : NothingUndeclared one_function
 one_declares f u = ⊎_elim (λ body. just_ends body.1 f (one_ends body.0 body.1 body.3) body.4) (λ global. let is = global.4 in absurd (cc)) u.named
 
+no_count : (n : ℕ) {X : Type 0} → ◌≡◌ {A = Option ℕ} None (Some n) → X
+no_count n e = absurd (cc)
+
 pub two_functions_read : (c : Config) → ReadsSoFar c two_functions_bytes two_functions
 two_functions_read c =
-    reads_so_far c two_functions_bytes two_functions_sections (([], just_end) ∷ ([], just_end) ∷ []) two_frames (are_supported two_functions_sections) in_order refl
+    reads_so_far c two_functions_bytes two_functions_sections (([], just_end) ∷ ([], just_end) ∷ []) two_frames (are_supported two_functions_sections) in_order refl (λ n is. no_count n is)
     (body_read c two_functions_sections (locals_from 0 0), (body_read c two_functions_sections (locals_from 0 0), tt)) two_declare
 
 pub one_function_read : (c : Config) → ReadsSoFar c one_function_bytes one_function
 one_function_read c =
-    reads_so_far c one_function_bytes one_function_sections (([], just_end) ∷ []) one_frames (are_supported one_function_sections) in_order refl
+    reads_so_far c one_function_bytes one_function_sections (([], just_end) ∷ []) one_frames (are_supported one_function_sections) in_order refl (λ n is. no_count n is)
     (body_read c one_function_sections (locals_from 0 0), tt) one_declares
 
 -- what the text of the worked row says is this module

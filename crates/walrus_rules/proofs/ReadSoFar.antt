@@ -1,6 +1,6 @@
 -- What is read so far says what its sections say, and nothing is named in it.
 use Rattle.std.proofs.Common.{◌≡◌, ℕ, Bool, true, false, List, [], ◌∷◌, length, map, zip, refl, sym, ap, ◌∙◌, subst}
-use Rattle.std.specs.Prelude.{None, Some, bytes_eq, codes, filter, flat_map, if◌then◌else◌}
+use Rattle.std.specs.Prelude.{bytes_eq, codes, filter, flat_map, if◌then◌else◌}
 use Rattle.std.specs.List.{AllZip}
 use mathlib.Core.Path.{fun_ext}
 use Rattle.wasm_frames.specs.Frames.{Frames}
@@ -34,18 +34,15 @@ none_zipped : {A B : Type 0} (R : A → B → Type 0) (ys : List B) → AllZip R
 none_zipped R [] h = refl
 none_zipped R (y ∷ ys) h = absurd h
 
-no_count : (s : wire.Module) → s.data_count ≡ None → CountHolds s
-no_count s none n is = let no : None ≡ Some n = sym none ∙ is in absurd (cc)
-
 -- sections that hold only what is supported read as what they say
-pub reads_supported : (c : Config) (bytes : List ℕ) (s : wire.Module) (bodies : List Said) → Frames bytes s → IsSupported s → InOrder s.order → length s.bodies ≡ length s.functions
+pub reads_supported : (c : Config) (bytes : List ℕ) (s : wire.Module) (bodies : List Said) → Frames bytes s → IsSupported s → InOrder s.order → length s.bodies ≡ length s.functions → CountHolds s
     → AllZip (ReadsBody c s) (zip s.functions s.bodies) bodies → Reads c bytes (sections.module_of s bodies)
-reads_supported c bytes s bodies framed supported in_order as_many read = record {
+reads_supported c bytes s bodies framed supported in_order as_many counted read = record {
   sections = s;
   framed = framed;
   in_order = in_order;
   as_many_bodies = as_many;
-  data_count = no_count s supported.data_count;
+  data_count = counted;
   bodies = bodies;
   read = read;
   namings = [];
@@ -55,11 +52,11 @@ reads_supported c bytes s bodies framed supported in_order as_many read = record
   is = sym (said_alone s bodies);
 }
 
-pub reads_so_far : (c : Config) (bytes : List ℕ) (s : wire.Module) (bodies : List Said) → Frames bytes s → IsSupported s → InOrder s.order → length s.bodies ≡ length s.functions
+pub reads_so_far : (c : Config) (bytes : List ℕ) (s : wire.Module) (bodies : List Said) → Frames bytes s → IsSupported s → InOrder s.order → length s.bodies ≡ length s.functions → CountHolds s
     → AllZip (ReadsBody c s) (zip s.functions s.bodies) bodies → NothingUndeclared (sections.module_of s bodies) → ReadsSoFar c bytes (sections.module_of s bodies)
 unfolding reads_supported
-reads_so_far c bytes s bodies framed supported in_order as_many read declared = record {
-  reads = reads_supported c bytes s bodies framed supported in_order as_many read;
+reads_so_far c bytes s bodies framed supported in_order as_many counted read declared = record {
+  reads = reads_supported c bytes s bodies framed supported in_order as_many counted read;
   supported = supported;
   declared = declared;
 }

@@ -6,7 +6,7 @@ use std::test::Fail;
 use test_support::{add_bytes, demand};
 
 // Inputs and what they come to, in hexadecimal.
-const ROWS: [(&str, &str); 29] = [
+const ROWS: [(&str, &str); 32] = [
     // the header alone
     ("00 61 73 6D 01 00 00 00", "00 61 73 6D 01 00 00 00"),
     // two empty functions, of which the second is exported
@@ -123,6 +123,21 @@ const ROWS: [(&str, &str); 29] = [
         "00 61 73 6D 01 00 00 00 05 05 01 00 80 80 04 07 05 01 01 6D 02 00",
         "00 61 73 6D 01 00 00 00 05 05 01 00 80 80 04 07 05 01 01 6D 02 00",
     ),
+    // a passive segment that nothing names, and a memory that nothing reaches
+    (
+        "00 61 73 6D 01 00 00 00 05 03 01 00 01 0C 01 01 0B 04 01 01 01 AA",
+        "00 61 73 6D 01 00 00 00",
+    ),
+    // a function that drops a segment, and the memory that stays with data
+    (
+        "00 61 73 6D 01 00 00 00 01 04 01 60 00 00 03 02 01 00 05 03 01 00 01 07 05 01 01 66 00 00 0C 01 01 0A 07 01 05 00 FC 09 00 0B 0B 04 01 01 01 AA",
+        "00 61 73 6D 01 00 00 00 01 04 01 60 00 00 03 02 01 00 05 03 01 00 01 07 05 01 01 66 00 00 0C 01 01 0A 07 01 05 00 FC 09 00 0B 0B 04 01 01 01 AA",
+    ),
+    // an active segment that names its memory, and a data count that isn't due
+    (
+        "00 61 73 6D 01 00 00 00 05 03 01 00 01 0C 01 01 0B 08 01 02 00 41 00 0B 01 AA",
+        "00 61 73 6D 01 00 00 00 05 03 01 00 01 0B 07 01 00 41 00 0B 01 AA",
+    ),
     // a global whose initialiser reads an earlier one
     (
         "00 61 73 6D 01 00 00 00 06 0B 02 7F 00 41 00 0B 7F 00 23 00 0B 07 05 01 01 67 03 01",
@@ -151,7 +166,7 @@ const ROWS: [(&str, &str); 29] = [
 ];
 
 // Inputs that are refused as invalid.
-const INVALID: [&str; 20] = [
+const INVALID: [&str; 21] = [
     // seven bytes of the header
     "00 61 73 6D 01 00 00",
     // the function section before the type section
@@ -184,6 +199,8 @@ const INVALID: [&str; 20] = [
     "00 61 73 6D 01 00 00 00 05 05 01 00 81 80 04",
     // a global whose initialiser reads a later one, one whose initialiser has no operator
     "00 61 73 6D 01 00 00 00 06 0B 02 7F 00 23 01 0B 7F 00 41 00 0B",
+    // a segment whose offset is of 64 bits, in a memory of 32-bit addresses
+    "00 61 73 6D 01 00 00 00 05 03 01 00 01 0C 01 01 0B 08 01 02 00 42 00 0B 01 AA",
     "00 61 73 6D 01 00 00 00 06 04 01 7F 00 0B",
     // a table whose initialiser reads a global of the module
     "00 61 73 6D 01 00 00 00 04 09 01 40 00 70 00 00 23 00 0B 06 06 01 70 00 D0 70 0B",

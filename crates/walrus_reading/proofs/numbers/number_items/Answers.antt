@@ -1,11 +1,12 @@
 use Rattle.std.proofs.Common.{rules, ◌≡◌, ◌∙◌, ◌+◌, ap, length, sym, arith}
+use Rattle.std.specs.Prelude.{unwrap_or}
 use Rattle.std.specs.List.{range_with_len}
 use Rattle.std.proofs.lemmas.List.{length-map}
 use Rattle.wasm_entries.specs.Record.{global_entry, table_entry}
 use Rattle.wasm_frames.specs.Record.{sections}
-use Rattle.walrus_types.specs.Operators.{Types, Elements, DataSegments}
+use Rattle.walrus_types.specs.Operators.{Types, Elements}
 use Rattle.walrus_model.specs.Sections.{function_types, globals_of, memories_of, tables_of, tags_of}
-use Rattle.walrus_reading.proofs.Numbered.{all_named, functions_counted, globals_counted, memories_counted, no_data, no_elements, tables_counted, tags_counted}
+use Rattle.walrus_reading.proofs.Numbered.{all_named, functions_counted, globals_counted, data_counted, memories_counted, no_elements, tables_counted, tags_counted}
 use Rattle.walrus_reading.proofs.numbers.number_items.Goals as goal
 
 pub in_place-requires : goal.in_place-requires
@@ -68,5 +69,5 @@ returns-clause-numbered c =
       tags = c.in_ok-indices-4.ensures.numbers ∙ ap (range_with_len 0) tags;
       globals = c.in_ok-indices-5.ensures.numbers ∙ ap (range_with_len 0) globals;
       elements = c.requires.none Elements (λ (e : Elements ≡ Types). cc) ∙ no_elements (sections c.args.raw.now) c.requires.supported;
-      data_segments = c.requires.none DataSegments (λ (e : DataSegments ≡ Types). cc) ∙ no_data (sections c.args.raw.now) c.requires.supported;
+      data_segments = c.in_ok-indices-6.ensures.numbers ∙ ap (range_with_len 0) (data_counted c.data_count.result (unwrap_or (sections c.args.raw.now).data_count 0) c.data_count.ensures);
     })
