@@ -13,7 +13,7 @@ use Rattle.walrus_base.proofs.Kept.{kept_marked, kept_there, kept_was}
 use Rattle.walrus_base.specs.Types.{sub_names}
 use Rattle.walrus_types.specs.ModuleTypes.{type_slots}
 use Rattle.walrus_types.specs.declared.module_types.ModuleTypes.{ModuleTypes}
-use Rattle.walrus_types.specs.Operators.{Types, Functions, Tables, Memories, Tags, Globals, DataSegments, Item, type_item}
+use Rattle.walrus_types.specs.Operators.{Types, Functions, Tables, Memories, Tags, Globals, Elements, DataSegments, Item, type_item}
 use Rattle.walrus_types.specs.PlaceList.{has}
 use Rattle.walrus_types.specs.TypeDef.{TypeDef}
 use Rattle.walrus_types.specs.Whole.{KeepsGroups}
@@ -27,11 +27,12 @@ use Rattle.walrus_parts.specs.declared.kinds.ImportKind.{ImportKind}
 use Rattle.walrus_parts.specs.declared.kinds.ImportKind.TheVariants as imports
 use Rattle.walrus_parts.specs.declared.marks.ItemMarks.{ItemMarks}
 use Rattle.walrus_items.specs.Data.{data_segments as data_segments_in, ModuleData}
+use Rattle.walrus_items.specs.Elements.{elements as elements_in, ModuleElements}
 use Rattle.walrus_items.specs.Globals.{globals as globals_in, ModuleGlobals}
 use Rattle.walrus_items.specs.Memories.{memories as memories_in, MemoryValue, ModuleMemories}
-use Rattle.walrus_items.specs.Tables.{tables as tables_in, ModuleTables}
+use Rattle.walrus_items.specs.Tables.{tables as tables_in, ModuleTables, TableValue}
 use Rattle.walrus_items.specs.Tags.{tags as tags_in, ModuleTags}
-use Rattle.walrus_contents.specs.View.{contents_view, data_of, global_of, import_of, kept_data, memory_of, table_of, tag_of}
+use Rattle.walrus_contents.specs.View.{contents_view, data_of, element_of, global_of, import_of, kept_data, kept_elements, memory_of, table_of, tag_of}
 use Rattle.walrus_contents.specs.declared.parts.Contents.{Contents}
 use Rattle.walrus_contents.proofs.Lookups.{mapped_some}
 use Rattle.walrus.specs.Marked.{MarksAreKept}
@@ -76,10 +77,6 @@ module _ {X Y : Type 0} (see : ℕ → X → Y) (K : ℕ → Type 0) (old new : 
     kept = λ i h. ap (option_map (see i)) (k.kept i h);
     left = λ i y e. seen_left i (item_at new i) y refl e;
   }
-
--- nothing was there, and nothing is
-nothing_kept : {X : Type 0} (K : ℕ → Type 0) → KeepsOnly {X = X} K (λ i. None) (λ i. None)
-nothing_kept K = record { kept = λ i h. refl; left = λ i x e. absurd (none-some x e) }
 
 -- what is kept of the types keeps its group
 keeps_groups : (old : Contents) (i q : ℕ) (x : TypeDef) → item_at (type_slots old.types) i ≡ Some x → Kept (contents_view old) (Types, i) → has x.group q ≡ true → Kept (contents_view old) (Types, q)
@@ -180,9 +177,9 @@ imports_left held used marked marks new is are = imports_kept held used marked m
 
 -- ---- the whole
 
-module _ (held : Contents) (kept_types : ModuleTypes) (kept_imports : ModuleImports) (kept_funcs : ModuleFunctions) (kept_tables : ModuleTables) (kept_memories : ModuleMemories) (kept_tags : ModuleTags) (kept_globals : ModuleGlobals) (kept_segments : ModuleData) where
+module _ (held : Contents) (kept_types : ModuleTypes) (kept_imports : ModuleImports) (kept_funcs : ModuleFunctions) (kept_tables : ModuleTables) (kept_memories : ModuleMemories) (kept_tags : ModuleTags) (kept_globals : ModuleGlobals) (kept_lists : ModuleElements) (kept_segments : ModuleData) where
   abbrev pub left : Contents
-  left = record held { types = kept_types; imports = kept_imports; funcs = kept_funcs; tables = kept_tables; memories = kept_memories; tags = kept_tags; globals = kept_globals; data_ = kept_segments }
+  left = record held { types = kept_types; imports = kept_imports; funcs = kept_funcs; tables = kept_tables; memories = kept_memories; tags = kept_tags; globals = kept_globals; elements = kept_lists; data_ = kept_segments }
 
   -- what is left of each kind
   pub record AreKept : Type 0 where
@@ -193,6 +190,7 @@ module _ (held : Contents) (kept_types : ModuleTypes) (kept_imports : ModuleImpo
     pub memories : slots.KeepsOnly (λ i. Kept (contents_view held) (Memories, i)) (memories_in held.memories) (memories_in kept_memories)
     pub tags : slots.KeepsOnly (λ i. Kept (contents_view held) (Tags, i)) (tags_in held.tags) (tags_in kept_tags)
     pub globals : slots.KeepsOnly (λ i. Kept (contents_view held) (Globals, i)) (globals_in held.globals) (globals_in kept_globals)
+    pub elements : slots.KeepsOnly (λ i. Kept (contents_view held) (Elements, i)) (elements_in held.elements) (elements_in kept_lists)
     pub data_segments : slots.KeepsOnly (λ i. Kept (contents_view held) (DataSegments, i)) (data_segments_in held.data_) (data_segments_in kept_segments)
 
   pub is_collected : AreKept → Collected (contents_view held) (contents_view left)
@@ -204,14 +202,14 @@ module _ (held : Contents) (kept_types : ModuleTypes) (kept_imports : ModuleImpo
     memories = seen_kept (λ i. memory_of) (λ i. Kept (contents_view held) (Memories, i)) (memories_in held.memories) (memories_in kept_memories) k.memories;
     tags = seen_kept (λ i. tag_of) (λ i. Kept (contents_view held) (Tags, i)) (tags_in held.tags) (tags_in kept_tags) k.tags;
     globals = seen_kept (λ i. global_of) (λ i. Kept (contents_view held) (Globals, i)) (globals_in held.globals) (globals_in kept_globals) k.globals;
-    elements = nothing_kept _;
+    elements = seen_kept (λ i. element_of) (λ i. Kept (contents_view held) (Elements, i)) (elements_in held.elements) (elements_in kept_lists) k.elements;
     data_segments = seen_kept (λ i. data_of) (λ i. Kept (contents_view held) (DataSegments, i)) (data_segments_in held.data_) (data_segments_in kept_segments) k.data_segments;
     exports = refl;
     start = refl;
     customs = refl;
     producers = refl;
     named = λ y h. refl;
-    table_segments = λ table h segment. refl;
+    table_segments = λ table h segment. ap (λ (o : Option TableValue). kept_elements o segment) (k.tables.kept table h);
     memory_segments = λ memory h segment. ap (λ (o : Option MemoryValue). kept_data o segment) (k.memories.kept memory h);
     handler_types = λ i h. ap handlers_at (k.functions.kept i h);
     section_roots = refl;

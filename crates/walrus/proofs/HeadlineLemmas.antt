@@ -12,18 +12,20 @@ use Rattle.walrus_model.specs.Live.{IsLive}
 use Rattle.walrus_model.specs.Names.{body_of, body_of_function, body_of_kind}
 use Rattle.walrus_model.specs.Pipeline.{Collected}
 use Rattle.walrus_model.specs.Refers.{IsUsed}
-use Rattle.walrus_rules.specs.Refused.{Refusal}
-use Rattle.walrus_rules.specs.RunLaws.{AreFineSoFar}
-use Rattle.walrus_rules.specs.SoFar.{RefusesSoFar}
+use Rattle.walrus_rules.specs.Chain.{Leaves}
+use Rattle.walrus_rules.specs.Refused.{Refusal, RefusesToWrite}
+use Rattle.walrus_rules.specs.RunLaws.{AreFineSoFar, IsFewSoFar}
 use Rattle.walrus_rules.proofs.NoCause.{well_no_cause}
 use Rattle.walrus_rules.proofs.Runs.{few_so_far, fine_so_far, too_large_so_far}
 use Rattle.walrus_rules.proofs.StepParsed.{live_v}
 use Rattle.walrus_rules.proofs.StepRead.{read_is_plain, steps_come_out_lem}
+use Rattle.walrus_rules.proofs.WellStays.{collected_well}
 use Rattle.walrus_rules.proofs.WritableParsed.{parsed_is_well}
 use Rattle.walrus_contents.specs.There.{IsSound}
 use Rattle.walrus_reading.specs.Parsed.{IsParsed}
 use Rattle.walrus_writing.specs.Emitted.{IsEmitted, told}
 use Rattle.walrus_module.specs.Flags.{Flags, config_of}
+use Rattle.walrus_module.specs.Left.{LeavesBy}
 use Rattle.walrus_parts.specs.declared.error.Error.{Error}
 use Rattle.walrus_parts.specs.declared.error.Error.TheVariants as error
 use Rattle.walrus.specs.Headline.{ComesTo, ComesOutTooLarge, Answers}
@@ -61,54 +63,67 @@ module _ (c : Config) (bytes : List ℕ) (v : Abstract) (parsed : IsParsed c byt
 -- ---- what comes out
 
 module _ (c : Config) (bytes : List ℕ) (v w : Abstract) (parsed : IsParsed c bytes v) (collected : Collected v w) where
-  are_fine : AreFineSoFar c parsed.module_read v w
-  are_fine = fine_so_far c bytes parsed.module_read v w parsed.reads parsed.holds parsed.parsed collected
+  -- what gc leaves names nothing dead
+  nothing_dead_left : HasDead w → ⊥
+  nothing_dead_left =
+      let m = parsed.module_read in
+      let made = parsed_is_well c bytes m v parsed.reads.reads parsed.holds parsed.parsed in
+      let reached = live_v c m v parsed.parsed (read_is_plain c bytes m parsed.reads.reads) parsed.holds in
+      (well_no_cause c w (collected_well c v w made reached collected)).all_there
 
-  comes_to : (output : List ℕ) → IsEmitted c w output → ComesTo c bytes output
-  comes_to output emitted = record {
-    module_read = parsed.module_read;
-    reads = parsed.reads.reads;
-    holds = parsed.holds;
-    module_left = w;
-    brought = are_fine.brings;
-    module_written = emitted.module_written;
-    written = emitted.written;
-    spelled = emitted.spelled;
-    output_reads = emitted.reads are_fine.left.made are_fine.left.declared;
-    output_holds = emitted.holds are_fine.left.made are_fine.left.declared;
-    out = steps_come_out_lem c bytes parsed.module_read w emitted.module_written parsed.reads.reads parsed.holds are_fine.brings emitted.written;
-  }
+  module _ (u : Abstract) (leaves : Leaves w u) where
+    are_fine : AreFineSoFar c parsed.module_read v w u
+    are_fine = fine_so_far c bytes parsed.module_read v w u parsed.reads parsed.holds parsed.parsed collected leaves
 
-  too_large : RefusesSoFar {X = List ℕ} c w (told (Err error.TooLarge)) → ComesOutTooLarge c bytes
-  too_large large = too_large_so_far c bytes parsed.module_read v w parsed.reads parsed.holds parsed.parsed collected large
+    comes_to : (output : List ℕ) → IsEmitted c u output → ComesTo c bytes output
+    comes_to output emitted = record {
+      module_read = parsed.module_read;
+      reads = parsed.reads.reads;
+      holds = parsed.holds;
+      module_left = u;
+      brought = are_fine.brings;
+      module_written = emitted.module_written;
+      written = emitted.written;
+      spelled = emitted.spelled;
+      output_reads = emitted.reads are_fine.left.made are_fine.left.declared;
+      output_holds = emitted.holds are_fine.left.made are_fine.left.declared;
+      out = steps_come_out_lem c bytes parsed.module_read u emitted.module_written parsed.reads.reads parsed.holds are_fine.brings emitted.written;
+    }
+
+    too_large : RefusesToWrite {X = List ℕ} ⊥ c u (told (Err error.TooLarge)) → ComesOutTooLarge c bytes
+    too_large large = too_large_so_far c bytes parsed.module_read v w u parsed.reads parsed.holds parsed.parsed collected leaves large
+
+    -- nothing else is refused
+    few : {X : Type 0} (result : Result X Refusal) → RefusesToWrite ⊥ c u result → IsFewSoFar result
+    few result refused = few_so_far c u result are_fine.left refused
 
 -- ---- what the whole way answers
 
 module _ {X : Type 0} (c : Config) (view : X → List ℕ) where
-  answers_for : (bytes : List ℕ) (v w : Abstract) (result : Result X Error) → IsParsed c bytes v → Collected v w
-      → IfOk result (λ o. IsEmitted c w (view o)) → RefusesSoFar c w (told result) → Answers c bytes view result
-  answers_for bytes v w (Ok x) parsed collected emitted refused = comes_to c bytes v w parsed collected (view x) emitted
-  answers_for bytes v w (Err (error.Memory e)) parsed collected emitted refused = tt
-  answers_for bytes v w (Err error.TooLarge) parsed collected emitted refused = too_large c bytes v w parsed collected refused
-  answers_for bytes v w (Err error.DeadItem) parsed collected emitted refused = absurd (few_so_far {X = X} c w (told (Err error.DeadItem)) (are_fine c bytes v w parsed collected).left refused)
-  answers_for bytes v w (Err error.NoIndex) parsed collected emitted refused = absurd (few_so_far {X = X} c w (told (Err error.NoIndex)) (are_fine c bytes v w parsed collected).left refused)
-  answers_for bytes v w (Err error.TwoIndices) parsed collected emitted refused = absurd (few_so_far {X = X} c w (told (Err error.TwoIndices)) (are_fine c bytes v w parsed collected).left refused)
-  answers_for bytes v w (Err error.NotWritable) parsed collected emitted refused = absurd (few_so_far {X = X} c w (told (Err error.NotWritable)) (are_fine c bytes v w parsed collected).left refused)
-  answers_for bytes v w (Err (error.Caller text)) parsed collected emitted refused = absurd (few_so_far {X = X} c w (told (Err (error.Caller text))) (are_fine c bytes v w parsed collected).left refused)
-  answers_for bytes v w (Err (error.InvalidWasm kind)) parsed collected emitted refused = absurd refused
-  answers_for bytes v w (Err error.NotFound) parsed collected emitted refused = absurd refused
-  answers_for bytes v w (Err error.SeveralMemories) parsed collected emitted refused = absurd refused
-  answers_for bytes v w (Err error.NoMemory) parsed collected emitted refused = absurd refused
-  answers_for bytes v w (Err error.SeveralFunctionTables) parsed collected emitted refused = absurd refused
-  answers_for bytes v w (Err error.NotExported) parsed collected emitted refused = absurd refused
-  answers_for bytes v w (Err error.NotImported) parsed collected emitted refused = absurd refused
-  answers_for bytes v w (Err error.NotReplaceable) parsed collected emitted refused = absurd refused
+  answers_for : (bytes : List ℕ) (v w u : Abstract) (result : Result X Error) → IsParsed c bytes v → Collected v w → LeavesBy w u (told result)
+      → IfOk result (λ o. IsEmitted c u (view o)) → RefusesToWrite ⊥ c u (told result) → Answers c bytes view result
+  answers_for bytes v w u (Ok x) parsed collected left emitted refused = comes_to c bytes v w parsed collected u left (view x) emitted
+  answers_for bytes v w u (Err (error.Memory e)) parsed collected left emitted refused = tt
+  answers_for bytes v w u (Err error.TooLarge) parsed collected left emitted refused = too_large c bytes v w parsed collected u left refused
+  answers_for bytes v w u (Err error.DeadItem) parsed collected left emitted refused = absurd (nothing_dead_left c bytes v w parsed collected (subst HasDead left refused))
+  answers_for bytes v w u (Err error.NoIndex) parsed collected left emitted refused = absurd (few c bytes v w parsed collected u left {X = X} (told (Err error.NoIndex)) refused)
+  answers_for bytes v w u (Err error.TwoIndices) parsed collected left emitted refused = absurd (few c bytes v w parsed collected u left {X = X} (told (Err error.TwoIndices)) refused)
+  answers_for bytes v w u (Err error.NotWritable) parsed collected left emitted refused = absurd (few c bytes v w parsed collected u left {X = X} (told (Err error.NotWritable)) refused)
+  answers_for bytes v w u (Err (error.Caller text)) parsed collected left emitted refused = absurd refused
+  answers_for bytes v w u (Err (error.InvalidWasm kind)) parsed collected left emitted refused = absurd refused
+  answers_for bytes v w u (Err error.NotFound) parsed collected left emitted refused = absurd refused
+  answers_for bytes v w u (Err error.SeveralMemories) parsed collected left emitted refused = absurd refused
+  answers_for bytes v w u (Err error.NoMemory) parsed collected left emitted refused = absurd refused
+  answers_for bytes v w u (Err error.SeveralFunctionTables) parsed collected left emitted refused = absurd refused
+  answers_for bytes v w u (Err error.NotExported) parsed collected left emitted refused = absurd refused
+  answers_for bytes v w u (Err error.NotImported) parsed collected left emitted refused = absurd refused
+  answers_for bytes v w u (Err error.NotReplaceable) parsed collected left emitted refused = absurd refused
 
   -- what emission answers is the answer for the bytes
-  pub answers : (bytes text : List ℕ) → text ≡ bytes → (v w : Abstract) (result : Result X Error) → IsParsed c text v → Collected v w
-      → IfOk result (λ o. IsEmitted c w (view o)) → RefusesSoFar c w (told result) → Answers c bytes view result
-  answers bytes text same v w result parsed collected emitted refused =
-      subst (λ (b : List ℕ). Answers c b view result) same (answers_for text v w result parsed collected emitted refused)
+  pub answers : (bytes text : List ℕ) → text ≡ bytes → (v w u : Abstract) (result : Result X Error) → IsParsed c text v → Collected v w → LeavesBy w u (told result)
+      → IfOk result (λ o. IsEmitted c u (view o)) → RefusesToWrite ⊥ c u (told result) → Answers c bytes view result
+  answers bytes text same v w u result parsed collected left emitted refused =
+      subst (λ (b : List ℕ). Answers c b view result) same (answers_for text v w u result parsed collected left emitted refused)
 
   gc_refused : (bytes : List ℕ) (v : Abstract) (e : Error) → IsParsed c bytes v → IsRefusal (ReachesUnsound v) e → Answers c bytes view (Err e)
   gc_refused bytes v (error.Memory m) parsed h = tt
@@ -124,9 +139,10 @@ module _ {X : Type 0} (c : Config) (view : X → List ℕ) where
       (subst (λ (b : List ℕ). Answers c b view (Err e)) same (gc_refused text v e parsed refused))
 
 -- the same as emission says it of the flags that the module keeps
-pub answers_kept : {X : Type 0} (view : X → List ℕ) (f g : Flags) → g ≡ f → (bytes text : List ℕ) → text ≡ bytes → (v w : Abstract) (result : Result X Error)
-    → IsParsed (config_of f) text v → Collected v w → IfOk result (λ o. IsEmitted (config_of g) w (view o)) → RefusesSoFar (config_of g) w (told result) → Answers (config_of f) bytes view result
-answers_kept view f g keeps bytes text same v w result parsed collected emitted refused =
-    answers (config_of f) view bytes text same v w result parsed collected
-    (subst (λ (h : Flags). IfOk result (λ o. IsEmitted (config_of h) w (view o))) keeps emitted)
-    (subst (λ (h : Flags). RefusesSoFar (config_of h) w (told result)) keeps refused)
+pub answers_kept : {X : Type 0} (view : X → List ℕ) (f g : Flags) → g ≡ f → (bytes text : List ℕ) → text ≡ bytes → (v w u : Abstract) (result : Result X Error)
+    → IsParsed (config_of f) text v → Collected v w → LeavesBy w u (told result)
+    → IfOk result (λ o. IsEmitted (config_of g) u (view o)) → RefusesToWrite ⊥ (config_of g) u (told result) → Answers (config_of f) bytes view result
+answers_kept view f g keeps bytes text same v w u result parsed collected left emitted refused =
+    answers (config_of f) view bytes text same v w u result parsed collected left
+    (subst (λ (h : Flags). IfOk result (λ o. IsEmitted (config_of h) u (view o))) keeps emitted)
+    (subst (λ (h : Flags). RefusesToWrite ⊥ (config_of h) u (told result)) keeps refused)

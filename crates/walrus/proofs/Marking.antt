@@ -15,12 +15,13 @@ use Rattle.walrus_types.specs.Operators.{Types, Functions, Tables, Memories, Tag
 use Rattle.walrus_types.specs.PlaceList.{has}
 use Rattle.walrus_types.proofs.Noted.{or_left}
 use Rattle.walrus_items.specs.Data.{data_segments}
+use Rattle.walrus_items.specs.Elements.{elements}
 use Rattle.walrus_items.specs.Functions.{functions}
 use Rattle.walrus_items.specs.Globals.{globals}
 use Rattle.walrus_items.specs.Memories.{memories}
 use Rattle.walrus_items.specs.Tables.{tables}
 use Rattle.walrus_items.specs.Tags.{tags}
-use Rattle.walrus_contents.specs.View.{contents_view, data_of, function, global_of, memory_of, table_of, tag_of}
+use Rattle.walrus_contents.specs.View.{contents_view, data_of, element_of, function, global_of, memory_of, table_of, tag_of}
 use Rattle.walrus_contents.specs.declared.parts.Contents.{Contents}
 use Rattle.walrus_contents.proofs.LiveLemmas.{was_there}
 use Rattle.walrus.specs.MarkedItems.{HavePlaces}
@@ -40,15 +41,15 @@ enough n xs e i h = subst (λ (k : ℕ). i < k) (sym e) (below xs i h)
 pub places_made : (c : Contents) (m : MarkedItems) → mark_places m.types ≡ length (type_slots c.types) → mark_places m.funcs ≡ length (functions c.funcs)
     → mark_places m.tables ≡ length (tables c.tables) → mark_places m.memories ≡ length (memories c.memories)
     → mark_places m.tags ≡ length (tags c.tags) → mark_places m.globals ≡ length (globals c.globals)
-    → mark_places m.data_ ≡ length (data_segments c.data_) → HavePlaces (contents_view c) m
-places_made c m et ef eb em ea eg ed (Types, i) live = enough (mark_places m.types) (type_slots c.types) et i live
-places_made c m et ef eb em ea eg ed (Functions, i) live = enough (mark_places m.funcs) (functions c.funcs) ef i (was_there (function c.locals) (item_at (functions c.funcs) i) live)
-places_made c m et ef eb em ea eg ed (Tables, i) live = enough (mark_places m.tables) (tables c.tables) eb i (was_there table_of (item_at (tables c.tables) i) live)
-places_made c m et ef eb em ea eg ed (Memories, i) live = enough (mark_places m.memories) (memories c.memories) em i (was_there memory_of (item_at (memories c.memories) i) live)
-places_made c m et ef eb em ea eg ed (Tags, i) live = enough (mark_places m.tags) (tags c.tags) ea i (was_there tag_of (item_at (tags c.tags) i) live)
-places_made c m et ef eb em ea eg ed (Globals, i) live = enough (mark_places m.globals) (globals c.globals) eg i (was_there global_of (item_at (globals c.globals) i) live)
-places_made c m et ef eb em ea eg ed (Elements, i) live = absurd (false≢true live)
-places_made c m et ef eb em ea eg ed (DataSegments, i) live = enough (mark_places m.data_) (data_segments c.data_) ed i (was_there data_of (item_at (data_segments c.data_) i) live)
+    → mark_places m.elements ≡ length (elements c.elements) → mark_places m.data_ ≡ length (data_segments c.data_) → HavePlaces (contents_view c) m
+places_made c m et ef eb em ea eg ee ed (Types, i) live = enough (mark_places m.types) (type_slots c.types) et i live
+places_made c m et ef eb em ea eg ee ed (Functions, i) live = enough (mark_places m.funcs) (functions c.funcs) ef i (was_there (function c.locals) (item_at (functions c.funcs) i) live)
+places_made c m et ef eb em ea eg ee ed (Tables, i) live = enough (mark_places m.tables) (tables c.tables) eb i (was_there table_of (item_at (tables c.tables) i) live)
+places_made c m et ef eb em ea eg ee ed (Memories, i) live = enough (mark_places m.memories) (memories c.memories) em i (was_there memory_of (item_at (memories c.memories) i) live)
+places_made c m et ef eb em ea eg ee ed (Tags, i) live = enough (mark_places m.tags) (tags c.tags) ea i (was_there tag_of (item_at (tags c.tags) i) live)
+places_made c m et ef eb em ea eg ee ed (Globals, i) live = enough (mark_places m.globals) (globals c.globals) eg i (was_there global_of (item_at (globals c.globals) i) live)
+places_made c m et ef eb em ea eg ee ed (Elements, i) live = enough (mark_places m.elements) (elements c.elements) ee i (was_there element_of (item_at (elements c.elements) i) live)
+places_made c m et ef eb em ea eg ee ed (DataSegments, i) live = enough (mark_places m.data_) (data_segments c.data_) ed i (was_there data_of (item_at (data_segments c.data_) i) live)
 
 -- ---- the places that are marked, as a list
 

@@ -2,19 +2,21 @@
 use Rattle.std.proofs.Common.{◌≡◌, ℕ, ⊎_elim, Bool, true, false, sym, ap, ◌∙◌, subst, refl}
 use Rattle.std.specs.Prelude.{◌↔◌, Contains, option_map, Result, Ok, Err, IfOk, IfErr, OnOk, MatchResult}
 use Rattle.std.proofs.lemmas.Bool.{false≢true}
-use Rattle.std.proofs.lemmas.Option.{none-some}
 use Rattle.walrus_base.specs.Arena.{item_at, items}
 use Rattle.walrus_types.specs.Operators.{Types, Functions, Tables, Memories, Tags, Globals, Elements, DataSegments, Item, function_item}
 use Rattle.walrus_parts.specs.Kinds.{exported}
 use Rattle.walrus_parts.specs.declared.segments.DataKind.TheVariants.{Active, Passive}
 use Rattle.walrus_parts.specs.declared.segments.DataKind.{DataKind}
+use Rattle.walrus_parts.specs.declared.segments.ElementKind.TheVariants as element_kinds
+use Rattle.walrus_parts.specs.declared.segments.ElementKind.{ElementKind}
 use Rattle.walrus_items.specs.Data.{data_segments, is_passive_data}
+use Rattle.walrus_items.specs.Elements.{elements}
 use Rattle.walrus_items.specs.Exports.{ExportValue, exports}
 use Rattle.walrus_model.specs.Abstract as abstract
-use Rattle.walrus_model.specs.Roots.{IsRoot, IsRootData, exported as is_exported, start, data_segment, element_segment, asked_for}
+use Rattle.walrus_model.specs.Roots.{IsRoot, IsRootData, IsRootElement, exported as is_exported, start, data_segment, element_segment, asked_for}
 use Rattle.walrus_model.proofs.Lists.{Contains-map, Contains-none}
 use Rattle.walrus_model.proofs.Reach.{Contains-unmap}
-use Rattle.walrus_contents.specs.View.{contents_view, data_kind_of, data_of}
+use Rattle.walrus_contents.specs.View.{contents_view, data_kind_of, data_of, element_kind_of, element_of}
 use Rattle.walrus_contents.specs.declared.parts.Contents.{Contents}
 use Rattle.walrus_module.specs.View.{export_of}
 use Rattle.walrus_parts.specs.declared.error.Error.{Error}
@@ -23,9 +25,9 @@ use Rattle.walrus_base.specs.Marks.{is_marked}
 use Rattle.walrus_base.specs.declared.marks.Marks.{Marks}
 use Rattle.walrus_base.specs.declared.set.IdHashSet.{IdHashSet}
 use Rattle.walrus.specs.Marked.{HoldsMarked, MarksAreKept, MarksKept, ReachesSound, ReachesUnsound}
-use Rattle.walrus_contents.specs.Named.{active_names, export_names, root_names, start_names}
+use Rattle.walrus_contents.specs.Named.{active_names, are_passive, export_names, root_elements, root_names, start_names}
 use Rattle.walrus_contents.proofs.Lookups.{mapped_some}
-use Rattle.walrus_contents.proofs.RootNames.{active_is_root, active_named, export_is_root, named_active, named_start, root_cases, start_is_root, start_named}
+use Rattle.walrus_contents.proofs.RootNames.{active_is_root, active_named, element_is_root, export_is_root, named_active, named_root_element, named_start, root_cases, root_element_named, start_is_root, start_named}
 use Rattle.walrus.specs.Used.{IsRefusal}
 use Rattle.walrus.specs.declared.passes.marks.MarkedItems.{MarkedItems}
 use Rattle.walrus.specs.declared.passes.used.Used.{Used}
@@ -34,7 +36,7 @@ module _ (held : Contents) where
   abbrev v : abstract.Abstract
   v = contents_view held
 
-  -- ---- the roots are what the exports name, the start function, and the active data segments
+  -- ---- the roots are what the exports name, the start function, the active data segments, and the active and the declared element segments
 
   active_kind : (k : DataKind) → IsRootData (data_kind_of k) → is_passive_data k ≡ false
   active_kind (Active memory offset) h = refl
@@ -43,6 +45,16 @@ module _ (held : Contents) where
   root_kind : (k : DataKind) → is_passive_data k ≡ false → IsRootData (data_kind_of k)
   root_kind (Active memory offset) e = tt
   root_kind Passive e = absurd (false≢true (sym e))
+
+  lasting_kind : (k : ElementKind) → IsRootElement (element_kind_of k) → are_passive k ≡ false
+  lasting_kind (element_kinds.Active table offset) h = refl
+  lasting_kind element_kinds.Declared h = refl
+  lasting_kind element_kinds.Passive h = absurd h
+
+  root_element_kind : (k : ElementKind) → are_passive k ≡ false → IsRootElement (element_kind_of k)
+  root_element_kind (element_kinds.Active table offset) e = tt
+  root_element_kind element_kinds.Declared e = tt
+  root_element_kind element_kinds.Passive e = absurd (false≢true (sym e))
 
   root_named : (x : Item) → IsRoot v x → Contains (root_names held) x
   root_named x (is_exported e at is) =
@@ -55,7 +67,10 @@ module _ (held : Contents) where
       let from = mapped_some data_of (item_at (data_segments held.data_) i) d at in
       let active = active_kind from.0.kind (subst (λ (s : abstract.DataSegment). IsRootData s.kind) from.2 kind) in
       subst (λ (y : Item). Contains (root_names held) y) (sym is) (active_is_root held (DataSegments, i) (active_named held.data_ i from.0 from.1 active))
-  root_named x (element_segment i e at kind is) = absurd (none-some e at)
+  root_named x (element_segment i e at kind is) =
+      let from = mapped_some element_of (item_at (elements held.elements) i) e at in
+      let lasting = lasting_kind from.0.kind (subst (λ (s : abstract.Element). IsRootElement s.kind) from.2 kind) in
+      subst (λ (y : Item). Contains (root_names held) y) (sym is) (element_is_root held (Elements, i) (root_element_named held.elements i from.0 from.1 lasting))
   root_named x (asked_for at) = absurd (Contains-none x at)
 
   export_root : (x : Item) → Contains (export_names held.exports) x → IsRoot v x
@@ -71,8 +86,13 @@ module _ (held : Contents) where
       let from = named_active held.data_ x c in
       data_segment from.0 (data_of from.1) (ap (option_map data_of) from.2) (root_kind from.1.kind from.3) from.4
 
+  element_root : (x : Item) → Contains (root_elements held.elements) x → IsRoot v x
+  element_root x c =
+      let from = named_root_element held.elements x c in
+      element_segment from.0 (element_of from.1) (ap (option_map element_of) from.2) (root_element_kind from.1.kind from.3) from.4
+
   named_root : (x : Item) → Contains (root_names held) x → IsRoot v x
-  named_root x c = ⊎_elim (export_root x) (λ h. ⊎_elim (start_root x) (active_root x) h) (root_cases held x c)
+  named_root x c = ⊎_elim (export_root x) (λ h. ⊎_elim (start_root x) (λ later. ⊎_elim (active_root x) (element_root x) later) h) (root_cases held x c)
 
   pub roots_are : (x : Item) → IsRoot v x ↔ Contains (root_names held) x
   roots_are x = (root_named x, named_root x)

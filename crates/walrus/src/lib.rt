@@ -15,13 +15,14 @@ pub use walrus_ir::{
 };
 pub use walrus_module::{
     AbstractHeapType, Arg, Args, ArrayType, BlockType, CodeTransform, CompositeType, ConstExpr,
-    ConstOp, CustomSection, Data, DataId, DataKind, ElementId, Error, ErrorKind, Export, ExportId,
-    ExportItem, FieldType, Function, FunctionBuilder, FunctionId, FunctionKind, FunctionType,
-    Global, GlobalId, GlobalKind, GroupIds, HeapType, Id, IdHashSet, IdsToIndices, Import,
-    ImportId, ImportKind, ImportedFunction, IndicesToIds, InstrLocId, InstrSeqBuilder, ItemId,
-    ItemMarks, Local, LocalFunction, LocalId, Marks, Memory, MemoryId, Module, ModuleConfig,
-    ModuleCustomSections, ModuleData, ModuleExports, ModuleFunctions, ModuleGlobals, ModuleImports,
-    ModuleLocals, ModuleMemories, ModuleTables, ModuleTags, ModuleTypes, NewType, Operator,
-    RawCustomSection, RefType, Result, Roots, SectionEntry, StorageType, StructType, Table,
-    TableId, Tag, TagId, TagKind, Type, TypeId, UntypedCustomSectionId, ValType, Value,
+    ConstOp, CustomSection, Data, DataId, DataKind, Element, ElementId, ElementItems, ElementKind,
+    Error, ErrorKind, Export, ExportId, ExportItem, FieldType, Function, FunctionBuilder,
+    FunctionId, FunctionKind, FunctionType, Global, GlobalId, GlobalKind, GroupIds, HeapType, Id,
+    IdHashSet, IdsToIndices, Import, ImportId, ImportKind, ImportedFunction, IndicesToIds,
+    InstrLocId, InstrSeqBuilder, ItemId, ItemMarks, Local, LocalFunction, LocalId, Marks, Memory,
+    MemoryId, Module, ModuleConfig, ModuleCustomSections, ModuleData, ModuleElements,
+    ModuleExports, ModuleFunctions, ModuleGlobals, ModuleImports, ModuleLocals, ModuleMemories,
+    ModuleTables, ModuleTags, ModuleTypes, NewType, Operator, RawCustomSection, RefType, Result,
+    Roots, SectionEntry, StorageType, StructType, Table, TableId, Tag, TagId, TagKind, Type,
+    TypeId, UntypedCustomSectionId, ValType, Value,
 };

@@ -1,4 +1,4 @@
--- The functions that ref.func names, and those of them that nothing exports.
+-- The functions that ref.func names, those that exports and segments declare, and those that are named and not declared.
 use Rattle.std.proofs.Common.{◌≡◌, ◌<◌, ◌==◌, ◌||◌, ◌⊎◌, ◌+◌, ℕ, zero, suc, Bool, true, false, List, [], ◌∷◌, length, map, drop, get_or, inl, inr, refl, sym, ap, ◌∙◌, ⊎_elim, subst, eqb-true, eq-eqb, drop-cons, add-one, zero-add, arith}
 use Rattle.std.specs.Prelude.{filter_map, flat_map, filter, not, Contains, AllPairs, IsSome, Option, Some, None, option_map, slice_index_or, Result, Ok, Err, IfOk, if◌then◌else◌}
 use Rattle.std.specs.List.{AllByRecursion, cons_option}
@@ -14,30 +14,33 @@ use Rattle.walrus_types.proofs.ShapesEnd.{has_contained}
 use Rattle.walrus_code.specs.declared.function.LocalFunction.{LocalFunction}
 use Rattle.walrus_items.specs.Exports.{ExportValue, exports}
 use Rattle.walrus_parts.specs.Kinds.{exported}
-use Rattle.walrus_parts.specs.Items.{is_item}
-use Rattle.walrus_parts.proofs.ItemLemmas.{is_item-same, same-is_item}
+use Rattle.walrus_items.specs.Elements.{ElementValue, elements}
 use Rattle.walrus_items.specs.Functions.{FunctionValue, functions}
 use Rattle.walrus_items.specs.Globals.{GlobalValue, globals}
 use Rattle.walrus_parts.specs.declared.function_kind.FunctionKind.{FunctionKind}
 use Rattle.walrus_parts.specs.declared.function_kind.FunctionKind.TheVariants as kind
+use Rattle.walrus_parts.specs.declared.segments.ElementItems.{ElementItems}
+use Rattle.walrus_parts.specs.declared.segments.ElementItems.TheVariants as element_contents
 use Rattle.walrus_model.specs.Abstract.{Abstract, Body, Export}
 use Rattle.walrus_model.specs.Abstract as abstract
-use Rattle.walrus_model.specs.Declared.{ref_func, AreUndeclared, IsRefInBody, IsRefInGlobal, IsUndeclared, NothingUndeclared}
+use Rattle.walrus_model.specs.Declared.{ref_func, AreUndeclared, IsRefInBody, IsRefInGlobal, IsUndeclared, Lists}
 use Rattle.walrus_model.specs.Live.{IsLive}
 use Rattle.walrus_model.specs.Names.{body_of as body_in, body_of_function}
 use Rattle.walrus_model.proofs.Lists.{Contains-head, Contains-tail, Contains-uncons, Contains-none, Contains-map}
+use Rattle.walrus_model.proofs.Reach.{Contains-unmap}
 use Rattle.walrus_model.proofs.Standing.{some_inj}
 use Rattle.walrus_model.proofs.TypeRules.{Contains-flat_map}
 use Rattle.walrus_contents.proofs.Filters.{from_filter, in_filter}
 use Rattle.walrus_contents.proofs.Lookups.{mapped_some}
 use Rattle.walrus_contents.proofs.Slots.{entry_in, item_seen}
 use Rattle.walrus_contents.specs.declared.parts.Contents.{Contents}
-use Rattle.walrus_contents.specs.View.{export_of, body, kind_of, function, global_of, contents_view}
+use Rattle.walrus_contents.specs.View.{export_of, body, kind_of, element_items_of, element_of, function, global_of, contents_view}
 use Rattle.walrus_types.specs.ConstOps.{value_op}
 use Rattle.walrus_types.specs.PlaceList.{has}
+use Rattle.walrus_types.specs.declared.const_expr.ConstExpr.{ConstExpr}
 use Rattle.walrus_types.specs.declared.const_expr.Value.{Value}
 use Rattle.walrus_types.specs.declared.const_expr.Value.TheVariants as constant
-use Rattle.walrus_contents.specs.References.{HasUndeclared, is_exported, arg_ref, args_ref, op_ref, kind_refs, init_refs, function_refs, global_refs, named_refs}
+use Rattle.walrus_contents.specs.References.{arg_ref, args_ref, op_ref, kind_refs, init_refs, function_refs, global_refs, named_refs, declared_refs, export_refs, function_number, listed_in, listed_refs, only_ref}
 
 -- a constant isn't ref.func
 pub value_refs : (v : Value) → filter_map op_ref (value_op v ∷ []) ≡ []
@@ -47,40 +50,21 @@ value_refs (constant.F32 bits) = refl
 value_refs (constant.F64 bits) = refl
 value_refs (constant.V128 bytes) = refl
 
+-- nor does one stand alone as ref.func does
+pub value_alone : (v : Value) → only_ref (value_op v ∷ []) ≡ None
+value_alone (constant.I32 n) = refl
+value_alone (constant.I64 n) = refl
+value_alone (constant.F32 bits) = refl
+value_alone (constant.F64 bits) = refl
+value_alone (constant.V128 bytes) = refl
+
+-- an expression that is one that names none so
+pub no_ref : (e x : ConstExpr) → e ≡ x → only_ref (const_ops x) ≡ None → None ≡ only_ref (const_ops e)
+no_ref e x is none = sym (ap (λ (y : ConstExpr). only_ref (const_ops y)) is ∙ none)
+
 -- each of these places is below n, or still to come
 abbrev pub Bounds : List ℕ → List ℕ → ℕ → Type 0
 Bounds all left n = (f : ℕ) → has all f ≡ true → (f < n) ⊎ (has left f ≡ true)
-
--- ---- exports
-
--- an export that leads to the function
-pub exported_at : (es : List ExportValue) (f : ℕ) → is_exported es f ≡ true → (e : Export) × Contains (map export_of es) e × (e.item ≡ function_item f)
-exported_at [] f h = absurd (cc)
-exported_at (e ∷ es) f h = by_test (λ k. exported_at es f k) (is_item (exported e.item) (function_item f)) refl h
-  where
-    later : ((x : Export) × Contains (map export_of es) x × (x.item ≡ function_item f)) → (x : Export) × Contains (map export_of (e ∷ es)) x × (x.item ≡ function_item f)
-    later (x, at, is) = (x, Contains-tail (export_of e) x (map export_of es) at, is)
-
-    by_test : (is_exported es f ≡ true → (x : Export) × Contains (map export_of es) x × (x.item ≡ function_item f)) → (b : Bool) → is_item (exported e.item) (function_item f) ≡ b → (b || is_exported es f) ≡ true → (x : Export) × Contains (map export_of (e ∷ es)) x × (x.item ≡ function_item f)
-    by_test rest true is h = (export_of e, Contains-head (export_of e) (map export_of es), is_item-same (exported e.item) (function_item f) is)
-    by_test rest false is h = later (rest h)
-
-either_false : (b c : Bool) → (b || c) ≡ false → (b ≡ false) × (c ≡ false)
-either_false true c e = absurd (cc)
-either_false false c e = (refl, e)
-
-not_same : (x y : Item) → x ≡ y → is_item x y ≡ false → ⊥
-not_same x y e differs = false≢true (sym differs ∙ same-is_item x y e)
-
--- no export leads to it
-pub none_exported : (es : List ExportValue) (f : ℕ) → is_exported es f ≡ false → (e : Export) → Contains (map export_of es) e → e.item ≡ function_item f → ⊥
-none_exported [] f h e at is = Contains-none e at
-none_exported (x ∷ es) f h e at is =
-    let both = either_false (is_item (exported x.item) (function_item f)) (is_exported es f) h in
-    ⊎_elim
-    (λ (eq : export_of x ≡ e). not_same (exported x.item) (function_item f) (ap (λ (y : Export). y.item) eq ∙ is) both.0)
-    (λ d. none_exported es f both.1 e d is)
-    (Contains-uncons (export_of x) e (map export_of es) at)
 
 -- ---- marks of places
 
@@ -154,6 +138,33 @@ from_flat f (x ∷ xs) y at = ⊎_elim
     (λ later. let r = from_flat f xs y later in (r.0, Contains-tail x r.0 xs r.1, r.2))
     (Contains-append_cases (f x) (flat_map f xs) y at)
 
+module _ {X : Type 0} (g : X → Option ℕ) where
+  from_filter_map : (xs : List X) (f : ℕ) → Contains (filter_map g xs) f → (x : X) × Contains xs x × (g x ≡ Some f)
+  from_filter_map [] f at = absurd (Contains-none f at)
+  from_filter_map (x ∷ xs) f at = by (g x) refl at (from_filter_map xs f)
+    where
+      by : (r : Option ℕ) → g x ≡ r → Contains (cons_option r (filter_map g xs)) f → (Contains (filter_map g xs) f → (y : X) × Contains xs y × (g y ≡ Some f)) → (y : X) × Contains (x ∷ xs) y × (g y ≡ Some f)
+      by None e at rest = let r = rest at in (r.0, Contains-tail x r.0 xs r.1, r.2)
+      by (Some n) e at rest = ⊎_elim
+          (λ (same : n ≡ f). (x, Contains-head x xs, e ∙ ap (λ (k : ℕ). Some k) same))
+          (λ later. let r = rest later in (r.0, Contains-tail x r.0 xs r.1, r.2))
+          (Contains-uncons n f (filter_map g xs) at)
+
+  in_filter_map : (xs : List X) (x : X) (f : ℕ) → Contains xs x → g x ≡ Some f → Contains (filter_map g xs) f
+  in_filter_map [] x f at is = absurd (Contains-none x at)
+  in_filter_map (y ∷ xs) x f at is = ⊎_elim
+      (λ (same : y ≡ x). here (g y) (ap g same ∙ is))
+      (λ later. past (g y) (in_filter_map xs x f later is))
+      (Contains-uncons y x xs at)
+    where
+      here : (r : Option ℕ) → r ≡ Some f → Contains (cons_option r (filter_map g xs)) f
+      here None e = absurd (cc)
+      here (Some n) e = subst (λ (k : ℕ). Contains (k ∷ filter_map g xs) f) (sym (some_inj n f e)) (Contains-head f (filter_map g xs))
+
+      past : (r : Option ℕ) → Contains (filter_map g xs) f → Contains (cons_option r (filter_map g xs)) f
+      past None at = at
+      past (Some n) at = Contains-tail n f (filter_map g xs) at
+
 -- ---- operators
 
 arg_is : (a : Arg) (f : ℕ) → arg_ref a ≡ Some f → a ≡ Index (function_item f)
@@ -195,26 +206,51 @@ op_is o f h = by_test (o.op == 0xD2) refl h
     by_test false is h = absurd cc
 
 ops_name : (os : List Op) (f : ℕ) → Contains (filter_map op_ref os) f → Contains os (ref_func f)
-ops_name [] f at = absurd (Contains-none f at)
-ops_name (o ∷ os) f at = by (op_ref o) refl at (ops_name os f)
-  where
-    by : (r : Option ℕ) → op_ref o ≡ r → Contains (cons_option r (filter_map op_ref os)) f → (Contains (filter_map op_ref os) f → Contains os (ref_func f)) → Contains (o ∷ os) (ref_func f)
-    by None e at rest = Contains-tail o (ref_func f) os (rest at)
-    by (Some g) e at rest = ⊎_elim
-        (λ (same : g ≡ f). subst (λ (x : Op). Contains (o ∷ os) x) (op_is o f (e ∙ ap (λ (k : ℕ). Some k) same)) (Contains-head o os))
-        (λ later. Contains-tail o (ref_func f) os (rest later))
-        (Contains-uncons g f (filter_map op_ref os) at)
+ops_name os f at = let r = from_filter_map op_ref os f at in subst (λ (o : Op). Contains os o) (op_is r.0 f r.2) r.1
 
 ops_named : (os : List Op) (f : ℕ) → Contains os (ref_func f) → Contains (filter_map op_ref os) f
-ops_named [] f at = absurd (Contains-none (ref_func f) at)
-ops_named (o ∷ os) f at = ⊎_elim
-    (λ (same : o ≡ ref_func f). subst (λ (x : Op). Contains (filter_map op_ref (x ∷ os)) f) (sym same) (Contains-head f (filter_map op_ref os)))
-    (λ later. by (op_ref o) refl (ops_named os f later))
-    (Contains-uncons o (ref_func f) os at)
-  where
-    by : (r : Option ℕ) → op_ref o ≡ r → Contains (filter_map op_ref os) f → Contains (cons_option r (filter_map op_ref os)) f
-    by None e at = at
-    by (Some g) e at = Contains-tail g f (filter_map op_ref os) at
+ops_named os f at = in_filter_map op_ref os (ref_func f) f at refl
+
+only_is : (os : List Op) (f : ℕ) → only_ref os ≡ Some f → os ≡ ref_func f ∷ []
+only_is [] f h = absurd cc
+only_is (o ∷ []) f h = ap (λ (x : Op). x ∷ []) (op_is o f h)
+only_is (o ∷ other ∷ rest) f h = absurd cc
+
+-- ---- exports
+
+number_is : (x : Item) (f : ℕ) → function_number x ≡ Some f → x ≡ function_item f
+number_is (Functions, g) f h = ap function_item (some_inj g f h)
+number_is (Types, i) f h = absurd cc
+number_is (Tables, i) f h = absurd cc
+number_is (Memories, i) f h = absurd cc
+number_is (Tags, i) f h = absurd cc
+number_is (Globals, i) f h = absurd cc
+number_is (Elements, i) f h = absurd cc
+number_is (DataSegments, i) f h = absurd cc
+
+-- an export leads to each of these functions
+ref_exported : (es : List ExportValue) (f : ℕ) → Contains (export_refs es) f → (e : Export) × Contains (map export_of es) e × (e.item ≡ function_item f)
+ref_exported es f at =
+    let r = from_filter_map (λ (e : ExportValue). function_number (exported e.item)) es f at in
+    (export_of r.0, Contains-map export_of r.0 es r.1, number_is (exported r.0.item) f r.2)
+
+-- and each that an export leads to is one of them
+exported_ref : (es : List ExportValue) (f : ℕ) (e : Export) → Contains (map export_of es) e → e.item ≡ function_item f → Contains (export_refs es) f
+exported_ref es f e at is =
+    let r = Contains-unmap export_of es e at in
+    in_filter_map (λ (x : ExportValue). function_number (exported x.item)) es r.0 f r.1 (ap function_number (ap (λ (y : Export). y.item) r.2 ∙ is))
+
+-- ---- what a segment lists
+
+ref_listed : (held : ElementItems) (f : ℕ) → Contains (listed_in held) f → Lists (element_items_of held) f
+ref_listed (element_contents.Functions fs) f at = at
+ref_listed (element_contents.Expressions ty es) f at =
+    let r = from_filter_map only_ref (map const_ops es.items) f at in
+    subst (λ (ops : List Op). Contains (map const_ops es.items) ops) (only_is r.0 f r.2) r.1
+
+listed_ref : (held : ElementItems) (f : ℕ) → Lists (element_items_of held) f → Contains (listed_in held) f
+listed_ref (element_contents.Functions fs) f at = at
+listed_ref (element_contents.Expressions ty es) f at = in_filter_map only_ref (map const_ops es.items) (ref_func f ∷ []) f at refl
 
 -- ---- results
 
@@ -294,48 +330,75 @@ module _ (c : Contents) where
   has_name f (inl r) = Contains-append_left (function_refs (items (functions c.funcs))) (global_refs (items (globals c.globals))) f (in_body f r)
   has_name f (inr r) = Contains-append_right (function_refs (items (functions c.funcs))) (global_refs (items (globals c.globals))) f (in_global f r)
 
+  -- ---- what is declared
+
+  -- a function is listed where a segment of the module lists it
+  listed_there : (f : ℕ) → Contains (listed_refs (items (elements c.elements))) f → (i : ℕ) × (e : abstract.Element) × (V.elements i ≡ Some e) × Lists e.items f
+  listed_there f at =
+      let q = from_flat (λ (e : ElementValue). listed_in e.items) (items (elements c.elements)) f at in
+      let s = item_seen (elements c.elements) q.0 q.1 in
+      (s.0, element_of q.0, ap (option_map element_of) s.1, ref_listed q.0.items f q.2)
+
+  there_listed : (f i : ℕ) (e : abstract.Element) → V.elements i ≡ Some e → Lists e.items f → Contains (listed_refs (items (elements c.elements))) f
+  there_listed f i e is at =
+      let s = mapped_some element_of (item_at (elements c.elements) i) e is in
+      Contains-flat_map (λ (x : ElementValue). listed_in x.items) (items (elements c.elements)) s.0 f (item_in (elements c.elements) i s.0 s.1)
+      (listed_ref s.0.items f (subst (λ (x : abstract.Element). Lists x.items f) s.2 at))
+
+  abbrev D : List ℕ
+  D = declared_refs (items (exports c.exports)) (items (elements c.elements))
+
+  export_declares : (f : ℕ) (e : Export) → Contains V.exports e → e.item ≡ function_item f → Contains D f
+  export_declares f e at is = Contains-append_left (export_refs (items (exports c.exports))) (listed_refs (items (elements c.elements))) f (exported_ref (items (exports c.exports)) f e at is)
+
+  segment_declares : (f i : ℕ) (e : abstract.Element) → V.elements i ≡ Some e → Lists e.items f → Contains D f
+  segment_declares f i e is at = Contains-append_right (export_refs (items (exports c.exports))) (listed_refs (items (elements c.elements))) f (there_listed f i e is at)
+
+  -- what is undeclared isn't among what is declared
+  undeclared_not : (f : ℕ) → IsUndeclared (IsLive V) V f → Contains D f → ⊥
+  undeclared_not f u at = ⊎_elim
+      (λ at_export. let x = ref_exported (items (exports c.exports)) f at_export in u.not_exported x.0 x.1 x.2)
+      (λ at_segment. let x = listed_there f at_segment in u.not_listed x.0 x.1 (subst (λ (o : Option abstract.Element). IsSome o) (sym x.2) refl) x.2 x.3)
+      (Contains-append_cases (export_refs (items (exports c.exports))) (listed_refs (items (elements c.elements))) f at)
+
   negated : (b : Bool) → not b ≡ true → b ≡ false
   negated true e = absurd (false≢true e)
   negated false e = refl
 
-  -- what is marked, where that is what is named, but for what is exported
-  pub undeclared : (bs : List Bool) (holds : ℕ → Bool) (named fs : List ℕ) → named ≡ N → ((f : ℕ) → slice_index_or bs f false ≡ has named f)
-      → ((f : ℕ) → holds f ≡ is_exported (items (exports c.exports)) f) → fs ≡ filter (λ f. not (holds f)) (marked_from 0 bs) → AreUndeclared (IsLive V) V fs
-  undeclared bs holds named fs names marks exported is = subst (λ (xs : List ℕ). AreUndeclared (IsLive V) V xs) (sym is) (record {
-    rising = AllPairs-filter (λ i j. i < j) (λ f. not (holds f)) (marked_from 0 bs) (marks_rise bs 0);
-    are = λ f. (told f, found f);
-  })
-    where
-      told : (f : ℕ) → Contains (filter (λ f. not (holds f)) (marked_from 0 bs)) f → IsUndeclared (IsLive V) V f
-      told f at =
-          let q = from_filter (λ f. not (holds f)) (marked_from 0 bs) f at in
-          let m = from_marked bs 0 f q.0 in
-          let same : f ≡ m.0 = m.1 ∙ zero-add m.0 in
-          let marked : slice_index_or bs f false ≡ true = subst (λ (k : ℕ). slice_index_or bs k false ≡ true) (sym same) m.2 in
-          let at_all : Contains N f = subst (λ (xs : List ℕ). Contains xs f) names (contained_has named f (sym (marks f) ∙ marked)) in
-          record {
-            named = is_named f at_all;
-            not_exported = none_exported (items (exports c.exports)) f (sym (exported f) ∙ negated (holds f) q.1);
-            not_listed = λ i e live is at. absurd cc;
-          }
+  module _ (bs : List Bool) (holds : ℕ → Bool) (named declared : List ℕ) (names : named ≡ N) (declares : declared ≡ D)
+      (marks : (f : ℕ) → slice_index_or bs f false ≡ has named f) (held : (f : ℕ) → holds f ≡ has declared f) where
+    abbrev left : List ℕ
+    left = filter (λ f. not (holds f)) (marked_from 0 bs)
 
-      found : (f : ℕ) → IsUndeclared (IsLive V) V f → Contains (filter (λ f. not (holds f)) (marked_from 0 bs)) f
-      found f u =
-          let at : Contains named f = subst (λ (xs : List ℕ). Contains xs f) (sym names) (has_name f u.named) in
-          let marked : slice_index_or bs f false ≡ true = marks f ∙ has_contained named f at in
-          in_filter (λ f. not (holds f)) (marked_from 0 bs) f (in_marked bs 0 f f (sym (zero-add f)) marked) (by (holds f) refl)
-        where
-          by : (b : Bool) → holds f ≡ b → not (holds f) ≡ true
-          by false e = ap not e
-          by true e = let x = exported_at (items (exports c.exports)) f (sym (exported f) ∙ e) in absurd (u.not_exported x.0 x.1 x.2)
+    not_held : (f : ℕ) → not (holds f) ≡ true → Contains D f → ⊥
+    not_held f passes at = false≢true (sym (negated (holds f) passes) ∙ held f ∙ has_contained declared f (subst (λ (xs : List ℕ). Contains xs f) (sym declares) at))
 
--- ---- whether there are any
+    told : (f : ℕ) → Contains left f → IsUndeclared (IsLive V) V f
+    told f at =
+        let q = from_filter (λ f. not (holds f)) (marked_from 0 bs) f at in
+        let m = from_marked bs 0 f q.0 in
+        let same : f ≡ m.0 = m.1 ∙ zero-add m.0 in
+        let marked : slice_index_or bs f false ≡ true = subst (λ (k : ℕ). slice_index_or bs k false ≡ true) (sym same) m.2 in
+        let at_all : Contains N f = subst (λ (xs : List ℕ). Contains xs f) names (contained_has named f (sym (marks f) ∙ marked)) in
+        record {
+          named = is_named f at_all;
+          not_exported = λ e at is. not_held f q.1 (export_declares f e at is);
+          not_listed = λ i e live is at. not_held f q.1 (segment_declares f i e is at);
+        }
 
-module _ {X : Type 0} (value : X → ℕ) (v : Abstract) where
-  pub none_undeclared : (xs : List X) → AreUndeclared (IsLive v) v (map value xs) → length xs ≡ 0 → NothingUndeclared v
-  none_undeclared [] are e f u = Contains-none f ((are.are f).1 u)
-  none_undeclared (x ∷ xs) are e f u = absurd (omega (arith, e))
+    found : (f : ℕ) → IsUndeclared (IsLive V) V f → Contains left f
+    found f u =
+        let at : Contains named f = subst (λ (xs : List ℕ). Contains xs f) (sym names) (has_name f u.named) in
+        let marked : slice_index_or bs f false ≡ true = marks f ∙ has_contained named f at in
+        in_filter (λ f. not (holds f)) (marked_from 0 bs) f (in_marked bs 0 f f (sym (zero-add f)) marked) (by (holds f) refl)
+      where
+        by : (b : Bool) → holds f ≡ b → not (holds f) ≡ true
+        by false e = ap not e
+        by true e = absurd (undeclared_not f u (subst (λ (xs : List ℕ). Contains xs f) declares (contained_has declared f (sym (held f) ∙ e))))
 
-  pub some_undeclared : (xs : List X) → AreUndeclared (IsLive v) v (map value xs) → (length xs ≡ 0 → ⊥) → HasUndeclared v
-  some_undeclared [] are differs = absurd (differs refl)
-  some_undeclared (x ∷ xs) are differs = (value x, (are.are (value x)).0 (Contains-head (value x) (map value xs)))
+    -- what is marked, where that is what is named, but for what is declared
+    pub undeclared : (fs : List ℕ) → fs ≡ left → AreUndeclared (IsLive V) V fs
+    undeclared fs is = subst (λ (xs : List ℕ). AreUndeclared (IsLive V) V xs) (sym is) (record {
+      rising = AllPairs-filter (λ i j. i < j) (λ f. not (holds f)) (marked_from 0 bs) (marks_rise bs 0);
+      are = λ f. (told f, found f);
+    })

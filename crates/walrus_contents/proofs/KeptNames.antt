@@ -10,17 +10,19 @@ use Rattle.std.proofs.lemmas.Map.Views.{btree_set_contains_iff}
 use Rattle.walrus_base.specs.Arena.{item_at}
 use Rattle.walrus_base.specs.IdSet.{has_id, ids_in}
 use Rattle.walrus_base.specs.declared.keys.DataKey.{DataKey}
+use Rattle.walrus_base.specs.declared.keys.ElementKey.{ElementKey}
 use Rattle.walrus_base.specs.declared.set.IdHashSet.{IdHashSet}
-use Rattle.walrus_types.specs.Operators.{Functions, Memories, DataSegments, Item, type_item}
+use Rattle.walrus_types.specs.Operators.{Space, Functions, Tables, Memories, Elements, DataSegments, Item, type_item}
 use Rattle.walrus_code.specs.declared.items.ItemId.{ItemId}
 use Rattle.walrus_items.specs.Functions.{FunctionValue, functions}
 use Rattle.walrus_items.specs.Memories.{MemoryValue, memories}
+use Rattle.walrus_items.specs.Tables.{TableValue, tables}
 use Rattle.walrus_model.specs.Abstract.{Abstract}
 use Rattle.walrus_model.specs.Refers.{KeepsToo}
 use Rattle.walrus_model.proofs.Lists.{Contains-map, Contains-none}
 use Rattle.walrus_model.proofs.Reach.{Contains-unmap}
 use Rattle.walrus_contents.specs.Named.{NamesItself, Puts, PutsAll, items_in, own_written}
-use Rattle.walrus_contents.specs.View.{contents_view, handlers_at, kept_data, kind_handlers}
+use Rattle.walrus_contents.specs.View.{contents_view, handlers_at, kept_data, kept_elements, kind_handlers}
 use Rattle.walrus_contents.specs.declared.parts.Contents.{Contents}
 use Rattle.walrus_contents.proofs.NamedLemmas.{two_rows}
 
@@ -43,20 +45,29 @@ puts_both v x old now new own kept = record {
   );
 }
 
--- ---- the data segments of a set
+-- ---- the segments of a set
 
-abbrev pub segment_item : ℕ → Item
-segment_item d = (DataSegments, d)
+abbrev pub segment_item : Space → ℕ → Item
+segment_item space n = (space, n)
 
--- the segments of the set are just those that it has
-pub set_items : (set : IdHashSet DataKey) (y : Item) → Contains (map segment_item (ids_in set)) y ↔ ((d : ℕ) × IsTrue (has_id set d) × (y ≡ (DataSegments, d)))
-set_items set y = (
-  (λ c.
-      let from = Contains-unmap segment_item (ids_in set) y c in
-      (from.0, (btree_set_contains_iff nat_cmp_total exact_unsigned set.places from.0).1 from.1, sym from.2)),
-  (λ h. subst (λ (z : Item). Contains (map segment_item (ids_in set)) z) (sym h.2)
-      (Contains-map segment_item h.0 (ids_in set) ((btree_set_contains_iff nat_cmp_total exact_unsigned set.places h.0).0 h.1))),
-)
+module _ {K : Type 0} (space : Space) (set : IdHashSet K) where
+  -- the segments of the set, as items of their index space
+  abbrev pub held_items : List Item
+  held_items = map (segment_item space) (ids_in set)
+
+  -- they are just those that it has
+  pub set_items : (y : Item) → Contains held_items y ↔ ((n : ℕ) × IsTrue (has_id set n) × (y ≡ (space, n)))
+  set_items y = (
+    (λ c.
+        let from = Contains-unmap (segment_item space) (ids_in set) y c in
+        (from.0, (btree_set_contains_iff nat_cmp_total exact_unsigned set.places from.0).1 from.1, sym from.2)),
+    (λ h. subst (λ (z : Item). Contains held_items z) (sym h.2)
+        (Contains-map (segment_item space) h.0 (ids_in set) ((btree_set_contains_iff nat_cmp_total exact_unsigned set.places h.0).0 h.1))),
+  )
+
+  -- and so just those that something says it keeps
+  kept_items : (keeps : ℕ → Bool) → keeps ≡ has_id set → (y : Item) → Contains held_items y ↔ ((n : ℕ) × IsTrue (keeps n) × (y ≡ (space, n)))
+  kept_items keeps same y = subst (λ (s : ℕ → Bool). Contains held_items y ↔ ((n : ℕ) × IsTrue (s n) × (y ≡ (space, n)))) (sym same) (set_items y)
 
 module _ (c : Contents) where
   abbrev v : Abstract
@@ -77,12 +88,12 @@ module _ (c : Contents) where
         );
       }
 
+  pub table_keeps : (i : ℕ) (t : TableValue) (set : IdHashSet ElementKey) (old new : Vec ItemId) → item_at (tables c.tables) i ≡ Some t → t.segments ≡ has_id set
+      → Puts old new (held_items Elements set) → PutsAll old new (KeepsToo v (Tables, i))
+  table_keeps i t set old new is same puts =
+      record { added = held_items Elements set; behind = puts; are = kept_items Elements set (v.table_segments i) (ap kept_elements is ∙ same) }
+
   pub memory_keeps : (i : ℕ) (m : MemoryValue) (set : IdHashSet DataKey) (old new : Vec ItemId) → item_at (memories c.memories) i ≡ Some m → m.segments ≡ has_id set
-      → Puts old new (map segment_item (ids_in set)) → PutsAll old new (KeepsToo v (Memories, i))
+      → Puts old new (held_items DataSegments set) → PutsAll old new (KeepsToo v (Memories, i))
   memory_keeps i m set old new is same puts =
-      let has : v.memory_segments i ≡ has_id set = ap kept_data is ∙ same in
-      record {
-        added = map segment_item (ids_in set);
-        behind = puts;
-        are = λ y. subst (λ (s : ℕ → Bool). Contains (map segment_item (ids_in set)) y ↔ ((d : ℕ) × IsTrue (s d) × (y ≡ (DataSegments, d)))) (sym has) (set_items set y);
-      }
+      record { added = held_items DataSegments set; behind = puts; are = kept_items DataSegments set (v.memory_segments i) (ap kept_data is ∙ same) }

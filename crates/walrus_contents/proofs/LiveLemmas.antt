@@ -1,6 +1,5 @@
 -- Where each item is whole, and what is exported is there, nothing that is named is missing; and where nothing is, all is there.
 use Rattle.std.proofs.Common.{◌≡◌, ℕ, ◌<◌, ◌+◌, List, ◌∷◌, length, map, take, get_or, Some, None, sym, ap, ◌∙◌, subst, refl, ⊎_elim}
-use Rattle.std.proofs.lemmas.Bool.{false≢true}
 use Rattle.std.specs.Prelude.{Option, IsSome, Contains, option_map, Result, MatchResult}
 use Rattle.walrus_base.specs.Arena.{item_at, items}
 use Rattle.walrus_types.specs.Operators.{Space, Types, Functions, Tables, Memories, Tags, Globals, Elements, DataSegments, Item}
@@ -8,6 +7,7 @@ use Rattle.walrus_code.specs.Code.{item_of}
 use Rattle.walrus_code.specs.declared.items.ItemId.{ItemId}
 use Rattle.walrus_parts.specs.Kinds.{exported, imported}
 use Rattle.walrus_items.specs.Data.{DataValue}
+use Rattle.walrus_items.specs.Elements.{ElementValue}
 use Rattle.walrus_items.specs.Exports.{ExportValue, exports}
 use Rattle.walrus_model.specs.Abstract as abstract
 use Rattle.walrus_model.specs.Abstract.{Abstract}
@@ -18,15 +18,15 @@ use Rattle.walrus_model.specs.Refers.{named_by, written_in, type_names, function
 use Rattle.walrus_model.proofs.Lists.{Contains-map, Contains-none}
 use Rattle.walrus_model.proofs.Reach.{Contains-unmap}
 use Rattle.walrus_parts.specs.declared.error.Error.{Error}
-use Rattle.walrus_contents.specs.Named.{active_names, export_names, own_written, root_names, start_names}
+use Rattle.walrus_contents.specs.Named.{active_names, export_names, own_written, root_elements, root_names, start_names}
 use Rattle.walrus_contents.specs.There.{AreLive, AreWhole, ImportsAreLive, IsRefusal, IsSound, IsThere, IsUnsound, IsWhole, NoBody, NoLocal, OneIsDead}
 use Rattle.walrus_items.specs.Imports.{ImportValue}
-use Rattle.walrus_contents.specs.View.{contents_view, data_of, export_of, import_of}
+use Rattle.walrus_contents.specs.View.{contents_view, data_of, element_of, export_of, import_of}
 use Rattle.walrus_contents.specs.declared.parts.Contents.{Contents}
 use Rattle.walrus_contents.proofs.Groups.{GroupsAreWhole, own_is_written, written_split}
 use Rattle.walrus_contents.proofs.Lookups.{mapped_some}
 use Rattle.walrus_contents.proofs.NamedLemmas.{among, result_map, row_more, same_some, some_none}
-use Rattle.walrus_contents.proofs.RootNames.{export_is_root, named_active, named_start, root_cases, start_is_root, start_named}
+use Rattle.walrus_contents.proofs.RootNames.{export_is_root, named_active, named_root_element, named_start, root_cases, start_is_root, start_named}
 use Rattle.walrus_contents.proofs.Walked.{Walked, next_there, walk_goes}
 
 -- what something is written in is there
@@ -132,10 +132,18 @@ module _ (c : Contents) where
       let from = named_active c.data_ x at in
       subst (λ (y : Item). IsLive V y) (sym from.4) (subst (λ (o : Option DataValue). IsSome (option_map data_of o)) (sym from.2) refl)
 
+  root_element_live : (x : Item) → Contains (root_elements c.elements) x → IsLive V x
+  root_element_live x at =
+      let from = named_root_element c.elements x at in
+      subst (λ (y : Item). IsLive V y) (sym from.4) (subst (λ (o : Option ElementValue). IsSome (option_map element_of o)) (sym from.2) refl)
+
   pub roots_dead : OneIsDead V (root_names c) → HasDead V
   roots_dead dead = ⊎_elim
       (λ h. exports_dead dead.0 h dead.1.1)
-      (λ others. ⊎_elim (λ h. start_dead dead.0 h dead.1.1) (λ h. absurd (dead.1.1 (active_live dead.0 h))) others)
+      (λ others. ⊎_elim
+      (λ h. start_dead dead.0 h dead.1.1)
+      (λ segments. absurd (dead.1.1 (⊎_elim (λ h. active_live dead.0 h) (λ h. root_element_live dead.0 h) segments)))
+      others)
       (root_cases c dead.0 dead.1.0)
 
   -- what the check has found before it comes to the functions
@@ -146,6 +154,7 @@ module _ (c : Contents) where
     pub tables : AreWhole V Tables
     pub tags : AreWhole V Tags
     pub globals : AreWhole V Globals
+    pub elements : AreWhole V Elements
     pub data_segments : AreWhole V DataSegments
 
   module _ (k : Checked) (fs : AreWhole V Functions) where
@@ -156,7 +165,7 @@ module _ (c : Contents) where
     whole_at (Memories, i) live = memories_whole V i live
     whole_at (Tags, i) live = k.tags i live
     whole_at (Globals, i) live = k.globals i live
-    whole_at (Elements, i) live = absurd (false≢true live)
+    whole_at (Elements, i) live = k.elements i live
     whole_at (DataSegments, i) live = k.data_segments i live
 
     all_there : IsThere V

@@ -1,5 +1,5 @@
 -- What an item of a module in memory names, and what has to be there so that it can be told.
-use Rattle.std.specs.Prelude.{◌≡◌, ◌↔◌, ◌⊎◌, ℕ, not, List, [], ◌++◌, filter, map, Option, None, IsSome, Contains, ⊤}
+use Rattle.std.specs.Prelude.{◌≡◌, ◌↔◌, ◌⊎◌, ℕ, Bool, true, false, not, List, [], ◌++◌, filter, map, Option, None, IsSome, Contains, ⊤}
 use Rattle.std.specs.Global.{Vec}
 use Rattle.std.specs.Option.{option_to_list}
 use Rattle.walrus_base.specs.Arena.{entries, item_at, items}
@@ -16,9 +16,12 @@ use Rattle.walrus_code.specs.declared.items.ItemId.{ItemId}
 use Rattle.walrus_functions.specs.EmittedBody.{types_of as local_types}
 use Rattle.walrus_parts.specs.Kinds.{exported}
 use Rattle.walrus_items.specs.Data.{data_segments, is_passive_data, ModuleData}
+use Rattle.walrus_items.specs.Elements.{elements, ModuleElements}
 use Rattle.walrus_items.specs.Exports.{exports, ModuleExports}
 use Rattle.walrus_parts.specs.declared.function_kind.FunctionKind.{FunctionKind}
 use Rattle.walrus_parts.specs.declared.function_kind.FunctionKind.TheVariants.{Import, Local, Uninitialized}
+use Rattle.walrus_parts.specs.declared.segments.ElementKind.TheVariants as element_kinds
+use Rattle.walrus_parts.specs.declared.segments.ElementKind.{ElementKind}
 use Rattle.walrus_model.specs.Abstract.{Abstract, TypeDef}
 use Rattle.walrus_model.specs.Refers.{KeepsToo, named_by, written_in}
 use Rattle.walrus_contents.specs.declared.parts.Contents.{Contents}
@@ -79,9 +82,19 @@ start_names start = map (λ f. function_item (place f)) (option_to_list start)
 abbrev pub active_names : ModuleData → List Item
 active_names all = map (λ e. (DataSegments, e.0)) (filter (λ e. not (is_passive_data e.1.kind)) (entries (data_segments all)))
 
--- the roots: what the exports name, then the start function, and then the active data segments
+abbrev pub are_passive : ElementKind → Bool
+are_passive element_kinds.Passive = true
+are_passive element_kinds.Declared = false
+are_passive (element_kinds.Active table offset) = false
+
+-- the active and the declared element segments, which are roots
+abbrev pub root_elements : ModuleElements → List Item
+root_elements all = map (λ e. (Elements, e.0)) (filter (λ e. not (are_passive e.1.kind)) (entries (elements all)))
+
+-- the roots: what the exports name, then the start function, the active data segments, and then the active and the declared element
+-- segments
 abbrev pub root_names : Contents → List Item
-root_names c = export_names c.exports ++ start_names c.start ++ active_names c.data_
+root_names c = export_names c.exports ++ start_names c.start ++ active_names c.data_ ++ root_elements c.elements
 
 -- the type of the local at a place, if one is there
 abbrev pub type_at : ModuleLocals → ℕ → Option (ValType ℕ)

@@ -1,23 +1,20 @@
--- Functions that ref.func names ("Instructions > Reference Instructions"). Each has to be exported so far, since a segment that declares it
--- can't be written yet ("Validation > Modules": the context's references).
-use Rattle.std.specs.Prelude.{ℕ, Bool, List, [], ◌∷◌, ◌++◌, Option, Some, None, filter_map, flat_map, option_map, ◌==◌, if◌then◌else◌}
-use Rattle.std.specs.List.{list_any}
+-- Functions that ref.func names ("Instructions > Reference Instructions"), and those that are declared: by an export, or in a segment of
+-- elements ("Validation > Modules": the context's references).
+use Rattle.std.specs.Prelude.{ℕ, List, [], ◌∷◌, ◌++◌, Option, Some, None, filter_map, flat_map, option_map, ◌==◌, if◌then◌else◌, map}
 use Rattle.wasm_opcodes.specs.declared.one_byte.TheConstants.{REF_FUNC}
+use Rattle.walrus_base.specs.Id.{place}
 use Rattle.walrus_code.specs.Function.{body_of}
 use Rattle.walrus_types.specs.ConstOps.{const_ops}
-use Rattle.walrus_types.specs.Operators.{Types, Functions, Tables, Memories, Tags, Globals, Elements, DataSegments, Arg, Index, Label, Local, Number, Count, Byte, S32, S64, Bits32, Bits64, Value, Heap, Block, Access, Op, function_item}
+use Rattle.walrus_types.specs.Operators.{Types, Functions, Tables, Memories, Tags, Globals, Elements, DataSegments, Arg, Index, Label, Local, Number, Count, Byte, S32, S64, Bits32, Bits64, Value, Heap, Block, Access, Item, Op}
+use Rattle.walrus_items.specs.Elements.{ElementValue}
 use Rattle.walrus_items.specs.Functions.{FunctionValue}
+use Rattle.walrus_parts.specs.Kinds.{exported}
 use Rattle.walrus_parts.specs.declared.function_kind.FunctionKind.{FunctionKind}
 use Rattle.walrus_parts.specs.declared.function_kind.FunctionKind.TheVariants as kind
+use Rattle.walrus_parts.specs.declared.segments.ElementItems.{ElementItems}
+use Rattle.walrus_parts.specs.declared.segments.ElementItems.TheVariants as element_contents
 use Rattle.walrus_items.specs.Globals.{GlobalValue}
-use Rattle.walrus_items.specs.Exports.{ExportValue, exports_item}
-use Rattle.walrus_model.specs.Abstract.{Abstract}
-use Rattle.walrus_model.specs.Declared.{IsUndeclared}
-use Rattle.walrus_model.specs.Live.{IsLive}
-
--- an export leads to the function at this place
-abbrev pub is_exported : List ExportValue → ℕ → Bool
-is_exported exports f = list_any (exports_item (function_item f)) exports
+use Rattle.walrus_items.specs.Exports.{ExportValue}
 
 -- the function that the argument names
 abbrev pub arg_ref : Arg → Option ℕ
@@ -73,6 +70,37 @@ global_refs globals = flat_map (λ g. init_refs (option_map const_ops g.initiali
 abbrev pub named_refs : List FunctionValue → List GlobalValue → List ℕ
 named_refs funcs globals = function_refs funcs ++ global_refs globals
 
--- ref.func names a function that isn't exported: a segment would have to declare it
-abbrev pub HasUndeclared : Abstract → Type 0
-HasUndeclared v = (f : ℕ) × IsUndeclared (IsLive v) v f
+-- ---- what is declared
+
+-- the item, if it is a function
+abbrev pub function_number : Item → Option ℕ
+function_number (Functions, f) = Some f
+function_number (Types, i) = None
+function_number (Tables, i) = None
+function_number (Memories, i) = None
+function_number (Tags, i) = None
+function_number (Globals, i) = None
+function_number (Elements, i) = None
+function_number (DataSegments, i) = None
+
+-- the functions that are exported
+abbrev pub export_refs : List ExportValue → List ℕ
+export_refs exports = filter_map (λ e. function_number (exported e.item)) exports
+
+-- the function that ref.func names, which stands alone
+abbrev pub only_ref : List Op → Option ℕ
+only_ref [] = None
+only_ref (op ∷ []) = op_ref op
+only_ref (op ∷ other ∷ rest) = None
+
+-- the functions that a segment lists
+abbrev pub listed_in : ElementItems → List ℕ
+listed_in (element_contents.Functions fs) = map place fs.items
+listed_in (element_contents.Expressions ty es) = filter_map only_ref (map const_ops es.items)
+
+abbrev pub listed_refs : List ElementValue → List ℕ
+listed_refs elements = flat_map (λ e. listed_in e.items) elements
+
+-- those that are exported, then those that segments list
+abbrev pub declared_refs : List ExportValue → List ElementValue → List ℕ
+declared_refs exports elements = export_refs exports ++ listed_refs elements

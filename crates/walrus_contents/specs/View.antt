@@ -1,5 +1,5 @@
 -- The parts of a module in memory as an abstract module: the number of an item is the place of its id. What isn't kept so far is absent:
--- element segments, and so that a table holds one, custom sections, names.
+-- custom sections and names.
 use Rattle.std.specs.Prelude.{ℕ, Bool, false, ◌&&◌, not, List, [], map, filter, length, Option, Some, None, option_map, ◌≡◌}
 use Rattle.std.specs.List.{range_with_len}
 use Rattle.walrus_base.specs.Arena.{item_at, items}
@@ -9,6 +9,7 @@ use Rattle.walrus_types.specs.ModuleTypes.{type_names, type_slots}
 use Rattle.walrus_types.specs.ConstOps.{const_ops}
 use Rattle.walrus_types.specs.Operators.{Op, locals_of}
 use Rattle.walrus_types.specs.PlaceList.{has}
+use Rattle.walrus_types.specs.Value.{ref_type}
 use Rattle.walrus_types.specs.declared.locals.ModuleLocals.{ModuleLocals}
 use Rattle.walrus_types.specs.declared.module_types.ModuleTypes.{ModuleTypes}
 use Rattle.walrus_code.specs.Function.{body_of}
@@ -23,7 +24,12 @@ use Rattle.walrus_parts.specs.declared.function_kind.FunctionKind.TheVariants as
 use Rattle.walrus_parts.specs.declared.function_kind.FunctionKind.{FunctionKind}
 use Rattle.walrus_parts.specs.declared.segments.DataKind.TheVariants.{Active, Passive}
 use Rattle.walrus_parts.specs.declared.segments.DataKind.{DataKind}
+use Rattle.walrus_parts.specs.declared.segments.ElementItems.TheVariants as element_contents
+use Rattle.walrus_parts.specs.declared.segments.ElementItems.{ElementItems}
+use Rattle.walrus_parts.specs.declared.segments.ElementKind.TheVariants as element_kinds
+use Rattle.walrus_parts.specs.declared.segments.ElementKind.{ElementKind}
 use Rattle.walrus_items.specs.Data.{DataValue, data_segments, ModuleData}
+use Rattle.walrus_items.specs.Elements.{ElementValue, elements, ModuleElements}
 use Rattle.walrus_items.specs.Globals.{GlobalValue, globals, ModuleGlobals}
 use Rattle.walrus_items.specs.Memories.{MemoryValue, memories, ModuleMemories}
 use Rattle.walrus_items.specs.Tables.{TableValue, tables, ModuleTables}
@@ -126,6 +132,30 @@ global_of g = record { origin = origin_of g.imported_by; ty = record { value = g
 abbrev pub globals_of : ModuleGlobals → ℕ → Option abstract.Global
 globals_of all i = option_map global_of (item_at (globals all) i)
 
+-- ---- element segments
+
+-- how a segment is used
+abbrev pub element_kind_of : ElementKind → abstract.ElementKind
+element_kind_of (element_kinds.Active table offset) = abstract.ActiveElements (place table) (const_ops offset)
+element_kind_of element_kinds.Passive = abstract.PassiveElements
+element_kind_of element_kinds.Declared = abstract.DeclaredElements
+
+-- what it holds
+abbrev pub element_items_of : ElementItems → abstract.ElementItems
+element_items_of (element_contents.Functions fs) = abstract.ListedFunctions (map place fs.items)
+element_items_of (element_contents.Expressions ty es) = abstract.Expressions (ref_type ty) (map const_ops es.items)
+
+abbrev pub element_of : ElementValue → abstract.Element
+element_of e = record { kind = element_kind_of e.kind; items = element_items_of e.items }
+
+abbrev pub elements_of : ModuleElements → ℕ → Option abstract.Element
+elements_of all i = option_map element_of (item_at (elements all) i)
+
+-- the segments in the set of a table, if one is there
+abbrev pub kept_elements : Option TableValue → ℕ → Bool
+kept_elements None e = false
+kept_elements (Some t) e = t.segments e
+
 -- ---- data segments
 
 -- how a segment is used
@@ -157,6 +187,7 @@ lent p = record {
   memories = p.memories.now;
   tags = p.tags.now;
   globals = p.globals.now;
+  elements = p.elements.now;
   data_ = p.data_.now;
   exports = p.exports.now;
   start = p.start;
@@ -173,14 +204,14 @@ contents_view c = record {
   memories = memories_of c.memories;
   tags = tags_of c.tags;
   globals = globals_of c.globals;
-  elements = λ i. None;
+  elements = elements_of c.elements;
   data_segments = data_segments_of c.data_;
   exports = exports_of c.exports;
   start = option_map place c.start;
   customs = [];
   producers = producers c.producers;
   named = λ x. [];
-  table_segments = λ t e. false;
+  table_segments = λ t e. kept_elements (item_at (tables c.tables) t) e;
   memory_segments = λ y d. kept_data (item_at (memories c.memories) y) d;
   handler_types = λ f. handlers_at (item_at (functions c.funcs) f);
   section_roots = [];
@@ -198,6 +229,7 @@ pub record HoldsNoOthers (c : Contents) : Type 0 where
   pub memories : memories c.memories ≡ []
   pub tags : tags c.tags ≡ []
   pub globals : globals c.globals ≡ []
+  pub elements : elements c.elements ≡ []
   pub data_segments : data_segments c.data_ ≡ []
 
 -- they hold nothing, dropped items included
@@ -211,6 +243,7 @@ pub record HoldsNothing (c : Contents) : Type 0 where
   pub memories : memories c.memories ≡ []
   pub tags : tags c.tags ≡ []
   pub globals : globals c.globals ≡ []
+  pub elements : elements c.elements ≡ []
   pub data_segments : data_segments c.data_ ≡ []
   pub exports : exports c.exports ≡ []
   pub start : c.start ≡ None

@@ -1,26 +1,31 @@
-//! What tables, tags, globals and data segments name, and the constant expressions that initialise them
+//! What tables, tags, globals and segments name, and the constant expressions that initialise them
 //! (Valid > Instructions > Expressions > Constant Expressions).
 
-ghost use Rattle.std.specs.Prelude.{◌≡◌, map, option_map, OnOk};
+ghost use Rattle.std.specs.Prelude.{◌≡◌, flat_map, map, option_map, OnOk};
 ghost use Rattle.std.specs.Option.{option_to_list};
 ghost use Rattle.walrus_code.specs.Code.{item_of};
 ghost use Rattle.walrus_items.specs.Data.{data_value};
+ghost use Rattle.walrus_items.specs.Elements.{element_value};
 ghost use Rattle.walrus_items.specs.Globals.{global_init, global_value};
 ghost use Rattle.walrus_items.specs.Tables.{table_value};
 ghost use Rattle.walrus_items.specs.Tags.{tag_value};
-ghost use Rattle.walrus_model.specs.Refers.{data_kind_names, data_names, global_names, named_by, table_names, tag_names};
+ghost use Rattle.walrus_model.specs.Refers.{data_kind_names, data_names, element_item_names, element_kind_names, element_names, global_names, named_by, table_names, tag_names};
 ghost use Rattle.walrus_types.specs.ConstOps.{const_op, const_ops};
-ghost use Rattle.walrus_types.specs.Operators.{names_of, op_names, type_item};
+ghost use Rattle.walrus_types.specs.Operators.{function_item, names_of, op_names, type_item};
 ghost use Rattle.walrus_types.specs.Value.{heap_type};
 ghost use Rattle.walrus_base.specs.Types.{heap_names};
 ghost use Rattle.walrus_base.specs.Id.{place};
 ghost use Rattle.walrus_contents.specs.Named.{Puts};
-ghost use Rattle.walrus_contents.specs.View.{data_kind_of, data_of, global_of, table_of, tag_of};
+ghost use Rattle.walrus_contents.specs.View.{data_kind_of, data_of, element_items_of, element_kind_of, element_of, global_of, table_of, tag_of};
 
 use crate::names::{push_heap_type, push_value_type};
 use std::alloc::AllocError;
 use std::result;
-use walrus_items::{Data, DataKind, Global, GlobalKind, HeapType, ItemId, Table, Tag, TypeId};
+use walrus_base::FunctionId;
+use walrus_items::{
+    Data, DataKind, Element, ElementItems, ElementKind, Global, GlobalKind, HeapType, ItemId,
+    Table, Tag, TypeId,
+};
 use walrus_types::{ConstExpr, ConstOp};
 
 // Puts what a table names behind `to`: the concrete type of its elements, and what its initialiser names, if no import brings it.
@@ -79,6 +84,53 @@ fn push_kind_names(kind: &GlobalKind, to: &mut Vec<ItemId>) -> result::Result<()
     }
 }
 
+// The same for an element segment: of an active one its table, and what its offset names, and then what it holds.
+pub(crate) fn push_element_names(
+    segment: &Element,
+    to: &mut Vec<ItemId>,
+) -> result::Result<(), AllocError>
+    ensures { OnOk result (Puts to.old to.new (element_names (element_of (element_value segment.now)))) }
+{
+    push_mode_names(&segment.kind, to)?;
+    push_held_names(&segment.items, to)
+}
+
+// The same for how an element segment is used.
+fn push_mode_names(kind: &ElementKind, to: &mut Vec<ItemId>) -> result::Result<(), AllocError>
+    ensures { OnOk result (Puts to.old to.new (element_kind_names (element_kind_of kind.now))) }
+{
+    match kind {
+        ElementKind::Active { table, offset } => {
+            to.push(ItemId::Table(*table))?;
+            push_const_names(offset, to)
+        }
+        ElementKind::Passive | ElementKind::Declared => Ok(()),
+    }
+}
+
+// The same for what it holds: its functions, or the concrete type of its expressions and what these name.
+fn push_held_names(items: &ElementItems, to: &mut Vec<ItemId>) -> result::Result<(), AllocError>
+    ensures { OnOk result (Puts to.old to.new (element_item_names (element_items_of items.now))) }
+{
+    match items {
+        ElementItems::Functions(functions) => push_function_ids(functions.as_slice(), to),
+        ElementItems::Expressions(ty, expressions) => {
+            push_heap_type(ty.heap_type, to)?;
+            push_all_consts(expressions.as_slice(), to)
+        }
+    }
+}
+
+// The same for functions.
+fn push_function_ids(ids: &[FunctionId], to: &mut Vec<ItemId>) -> result::Result<(), AllocError>
+    ensures { OnOk result (Puts to.old to.new (map function_item (map place ids.now))) }
+{
+    for id in ids {
+        to.push(ItemId::Function(*id))?;
+    }
+    Ok(())
+}
+
 // The same for a data segment: of an active one its memory, and what its offset names.
 pub(crate) fn push_data_names(
     segment: &Data,
@@ -114,6 +166,16 @@ fn push_const_names(expr: &ConstExpr, to: &mut Vec<ItemId>) -> result::Result<()
         ConstExpr::RefFunc(id) => Ok(to.push(ItemId::Function(*id))?),
         ConstExpr::Extended(operators) => push_const_ops(operators.as_slice(), to),
     }
+}
+
+// The same for constant expressions.
+fn push_all_consts(all: &[ConstExpr], to: &mut Vec<ItemId>) -> result::Result<(), AllocError>
+    ensures { OnOk result (Puts to.old to.new (flat_map names_of (map const_ops all.now))) }
+{
+    for expr in all {
+        push_const_names(expr, to)?;
+    }
+    Ok(())
 }
 
 // The same for operators of constant expressions.

@@ -10,4 +10,4 @@ mod references;
 pub use live::check_live;
 pub use names::{push_item_names, push_root_names, push_written_names};
 pub use parts::{Contents, Parts, is_live};
-pub use references::{are_references_declared, undeclared_functions};
+pub use references::undeclared_functions;

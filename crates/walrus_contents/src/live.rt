@@ -4,7 +4,7 @@ ghost use Rattle.walrus_code.specs.Code.{item_of};
 ghost use Rattle.walrus_model.specs.Dead.{HasDead};
 ghost use Rattle.walrus_model.specs.Live.{IsLive};
 ghost use Rattle.walrus_parts.specs.Kinds.{imported};
-ghost use Rattle.walrus_types.specs.Operators.{DataSegments, Functions, Globals, Tables, Tags, Types};
+ghost use Rattle.walrus_types.specs.Operators.{DataSegments, Elements, Functions, Globals, Tables, Tags, Types};
 ghost use Rattle.walrus_contents.specs.There.{AreLive, AreWhole, ImportsAreLive, IsRefusal, IsWhole, OneIsDead};
 ghost use Rattle.walrus_contents.specs.View.{parts_view};
 
@@ -27,6 +27,7 @@ pub fn check_live(alloc: Global, parts: Parts<'_>) -> Result<()>
     check_tables(alloc, parts, &mut named)?;
     check_tags(alloc, parts, &mut named)?;
     check_globals(alloc, parts, &mut named)?;
+    check_elements(alloc, parts, &mut named)?;
     check_data(alloc, parts, &mut named)?;
     check_functions(alloc, parts, &mut named)
 }
@@ -95,6 +96,17 @@ fn check_globals(alloc: Global, parts: Parts<'_>, named: &mut Vec<ItemId>) -> Re
 {
     for (id, _global) in parts.globals.iter_entries() {
         check_item(alloc, parts, ItemId::Global(id), named)?;
+    }
+    Ok(())
+}
+
+// The same for what element segments name.
+fn check_elements(alloc: Global, parts: Parts<'_>, named: &mut Vec<ItemId>) -> Result<()>
+    ensures { MatchResult result (λ _. AreWhole (parts_view parts.entry) Elements)
+        (IsRefusal (HasDead (parts_view parts.entry))) }
+{
+    for (id, _segment) in parts.elements.iter_entries() {
+        check_item(alloc, parts, ItemId::Element(id), named)?;
     }
     Ok(())
 }

@@ -12,29 +12,33 @@ ghost use Rattle.walrus_model.specs.Live.{IsLive};
 ghost use Rattle.walrus_model.specs.Refers.{KeepsToo, body_names, function_names, kind_names, named_by};
 ghost use Rattle.walrus_contents.specs.View.{body, function as function_of, kind_handlers, kind_of, lent, parts_view, types_of};
 ghost use Rattle.walrus_types.specs.ModuleTypes.{type_slots};
-ghost use Rattle.walrus_types.specs.Operators.{DataSegments, locals_of, names_of, type_item};
+ghost use Rattle.walrus_types.specs.Operators.{DataSegments, Elements, locals_of, names_of, type_item};
 ghost use Rattle.walrus_types.specs.Value.{heap_type, val_type};
 ghost use Rattle.walrus_contents.specs.There.{IsRefusal, IsSound, IsUnsound};
-ghost use Rattle.walrus_contents.specs.Named.{AreThere, IsReady, IsUnready, NamesItself, OneIsMissing, Puts, PutsAll, active_names, export_names, local_type_names, own_type_names, own_written, root_names, start_names, type_at};
+ghost use Rattle.walrus_contents.specs.Named.{AreThere, IsReady, IsUnready, NamesItself, OneIsMissing, Puts, PutsAll, active_names, are_passive, export_names, local_type_names, own_type_names, own_written, root_elements, root_names, start_names, type_at};
 
-use crate::initialisers::{push_data_names, push_global_names, push_table_names, push_tag_names};
+use crate::initialisers::{
+    push_data_names, push_element_names, push_global_names, push_table_names, push_tag_names,
+};
 use crate::parts::Parts;
 use std::alloc::{AllocError, Global};
 use std::result;
-use walrus_base::{DataKey, FunctionId, IdHashSet};
+use walrus_base::{DataKey, ElementKey, FunctionId, IdHashSet};
 use walrus_items::{
-    Error, Function, FunctionKind, HeapType, ItemId, LocalFunction, LocalId, ModuleData,
-    ModuleExports, ModuleFunctions, ModuleLocals, ModuleTypes, Result, TypeId, ValType,
+    ElementKind, Error, Function, FunctionKind, HeapType, ItemId, LocalFunction, LocalId,
+    ModuleData, ModuleElements, ModuleExports, ModuleFunctions, ModuleLocals, ModuleTypes, Result,
+    TypeId, ValType,
 };
 
-/// Puts the roots behind `to`: what the exports name, in order, then the start function, and then the active data segments by
-/// rising id.
+/// Puts the roots behind `to`: what the exports name, in order, then the start function, the active data segments by rising id, and
+/// then the active and the declared element segments by rising id.
 pub fn push_root_names(parts: Parts<'_>, to: &mut Vec<ItemId>) -> result::Result<(), AllocError>
     ensures { OnOk result (Puts to.old to.new (root_names (lent parts.entry))) }
 {
     push_export_names(parts.exports, to)?;
     push_start_name(parts.start, to)?;
-    push_active_data(parts.data_, to)
+    push_active_data(parts.data_, to)?;
+    push_root_elements(parts.elements, to)
 }
 
 // The same for the active data segments.
@@ -47,6 +51,31 @@ fn push_active_data(segments: &ModuleData, to: &mut Vec<ItemId>) -> result::Resu
         }
     }
     Ok(())
+}
+
+// The same for the active and the declared element segments.
+fn push_root_elements(
+    segments: &ModuleElements,
+    to: &mut Vec<ItemId>,
+) -> result::Result<(), AllocError>
+    ensures { OnOk result (Puts to.old to.new (root_elements segments.now)) }
+{
+    for (id, segment) in segments.iter_entries() {
+        if !is_passive(&segment.kind) {
+            to.push(ItemId::Element(id))?;
+        }
+    }
+    Ok(())
+}
+
+// Whether elements of this kind are copied by operators alone.
+fn is_passive(kind: &ElementKind) -> bool
+    ensures { result ≡ are_passive kind.now }
+{
+    match kind {
+        ElementKind::Passive => true,
+        ElementKind::Declared | ElementKind::Active { .. } => false,
+    }
 }
 
 // The same for the start function, if there is one.
@@ -76,7 +105,7 @@ fn push_export_names(
 }
 
 /// Puts all that a live item refers to behind `to`, but the members of a type's group: what is written in it, and then what it keeps
-/// beside that, a function the types of its legacy handlers, a memory the data segments in its set. Refused as
+/// beside that, a function the types of its legacy handlers, a table or a memory the segments in its set. Refused as
 /// [`push_written_names`] is.
 pub fn push_item_names(
     alloc: Global,
@@ -116,12 +145,13 @@ pub fn push_written_names(
         ItemId::Tag(id) => Ok(push_tag_names(parts.tags.get(id), to)?),
         ItemId::Global(id) => Ok(push_global_names(parts.globals.get(id), to)?),
         ItemId::Data(id) => Ok(push_data_names(parts.data_.get(id), to)?),
-        ItemId::Memory(_) | ItemId::Element(_) => Ok(()),
+        ItemId::Element(id) => Ok(push_element_names(parts.elements.get(id), to)?),
+        ItemId::Memory(_) => Ok(()),
     }
 }
 
-// Puts what a live item keeps beside that behind `to`: a function the types of its legacy handlers, a memory the data segments in
-// its set.
+// Puts what a live item keeps beside that behind `to`: a function the types of its legacy handlers, a table or a memory the
+// segments in its set.
 fn push_kept_names(
     parts: Parts<'_>,
     item: ItemId,
@@ -132,14 +162,27 @@ fn push_kept_names(
 {
     match item {
         ItemId::Function(id) => push_handler_types(&parts.funcs.get(id).kind, to),
+        ItemId::Table(id) => push_element_ids(&parts.tables.get(id).elem_segments, to),
         ItemId::Memory(id) => push_data_ids(&parts.memories.get(id).data_segments, to),
         ItemId::Type(_)
-        | ItemId::Table(_)
         | ItemId::Tag(_)
         | ItemId::Global(_)
         | ItemId::Element(_)
         | ItemId::Data(_) => Ok(()),
     }
+}
+
+// The element segments of a set, by rising id.
+fn push_element_ids(
+    kept: &IdHashSet<ElementKey>,
+    to: &mut Vec<ItemId>,
+) -> result::Result<(), AllocError>
+    ensures { OnOk result (Puts to.old to.new (map (λ e. (Elements, e)) (ids_in kept.now))) }
+{
+    'ids: for id in kept.iter() {
+        to.push(ItemId::Element(id))?;
+    }
+    Ok(())
 }
 
 // The data segments of a set, by rising id.

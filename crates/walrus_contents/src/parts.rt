@@ -8,8 +8,8 @@ ghost use Rattle.walrus_contents.specs.View.{HoldsNothing, contents_view, parts_
 use std::alloc::Global;
 use walrus_base::FunctionId;
 use walrus_items::{
-    ItemId, ModuleData, ModuleExports, ModuleFunctions, ModuleGlobals, ModuleImports, ModuleLocals,
-    ModuleMemories, ModuleTables, ModuleTags, ModuleTypes, Result,
+    ItemId, ModuleData, ModuleElements, ModuleExports, ModuleFunctions, ModuleGlobals,
+    ModuleImports, ModuleLocals, ModuleMemories, ModuleTables, ModuleTags, ModuleTypes, Result,
 };
 use walrus_producers::ModuleProducers;
 
@@ -32,6 +32,8 @@ pub struct Parts<'a> {
     pub tags: &'a ModuleTags,
     /// The globals.
     pub globals: &'a ModuleGlobals,
+    /// The element segments.
+    pub elements: &'a ModuleElements,
     /// The data segments.
     pub data_: &'a ModuleData,
     /// The exports.
@@ -61,6 +63,8 @@ pub struct Contents {
     pub tags: ModuleTags,
     /// The globals.
     pub globals: ModuleGlobals,
+    /// The element segments.
+    pub elements: ModuleElements,
     /// The data segments.
     pub data_: ModuleData,
     /// The exports.
@@ -86,6 +90,7 @@ impl Contents {
             memories: ModuleMemories::new(alloc),
             tags: ModuleTags::new(alloc)?,
             globals: ModuleGlobals::new(alloc),
+            elements: ModuleElements::new(alloc),
             data_: ModuleData::new(alloc),
             exports: ModuleExports::new(alloc),
             start: None,
@@ -106,6 +111,7 @@ impl Contents {
             memories: &self.memories,
             tags: &self.tags,
             globals: &self.globals,
+            elements: &self.elements,
             data_: &self.data_,
             exports: &self.exports,
             start: self.start,
@@ -114,7 +120,7 @@ impl Contents {
     }
 }
 
-/// Whether the item is there. A module has no element segments so far.
+/// Whether the item is there.
 pub fn is_live(parts: Parts<'_>, item: ItemId) -> bool
     ensures { IsTrue result ↔ IsLive (parts_view parts.entry) (item_of item) }
 {
@@ -126,6 +132,6 @@ pub fn is_live(parts: Parts<'_>, item: ItemId) -> bool
         ItemId::Tag(id) => parts.tags.contains(id),
         ItemId::Global(id) => parts.globals.contains(id),
         ItemId::Data(id) => parts.data_.contains(id),
-        ItemId::Element(_) => false,
+        ItemId::Element(id) => parts.elements.contains(id),
     }
 }

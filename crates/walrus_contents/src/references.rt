@@ -2,58 +2,30 @@
 ghost use Rattle.std.specs.Prelude.{◌≡◌, ◌≤◌, ◌<◌, ◌++◌, ◌||◌, ◌==◌, ℕ, true, not, false, filter, filter_map, map, option_map, IfOk, IsOkUnless, OnOk};
 ghost use Rattle.walrus_base.specs.Arena.{items};
 ghost use Rattle.walrus_base.specs.Id.{place};
-ghost use Rattle.walrus_base.specs.IdSet.{has_id};
 ghost use Rattle.walrus_base.specs.Marks.{is_marked, mark_places, places_marked};
 ghost use Rattle.walrus_code.specs.Code.{arg_of, op_of};
 ghost use Rattle.walrus_code.specs.Function.{body_of};
 ghost use Rattle.walrus_items.specs.Functions.{functions};
 ghost use Rattle.walrus_items.specs.Globals.{global_init, globals};
+ghost use Rattle.walrus_items.specs.Elements.{elements};
 ghost use Rattle.walrus_items.specs.Exports.{exports};
-ghost use Rattle.walrus_parts.specs.Kinds.{exported};
-ghost use Rattle.walrus_parts.specs.Items.{is_item};
 ghost use Rattle.walrus_types.specs.ConstOps.{const_op, const_ops};
 ghost use Rattle.walrus_types.specs.PlaceList.{has};
-ghost use Rattle.walrus_types.specs.Operators.{function_item};
 ghost use Rattle.walrus_parts.specs.Errors.{out_of_memory};
-ghost use Rattle.walrus_model.specs.Declared.{AreUndeclared, NothingUndeclared};
+ghost use Rattle.walrus_model.specs.Declared.{AreUndeclared};
 ghost use Rattle.walrus_model.specs.Live.{IsLive};
-ghost use Rattle.walrus_contents.specs.References.{HasUndeclared, is_exported, arg_ref, args_ref, op_ref, kind_refs, function_refs, init_refs, global_refs, named_refs};
+ghost use Rattle.walrus_contents.specs.References.{arg_ref, args_ref, op_ref, kind_refs, function_refs, init_refs, global_refs, named_refs, declared_refs, export_refs, listed_in, listed_refs, only_ref};
 ghost use Rattle.walrus_contents.specs.View.{parts_view};
 
 use crate::parts::Parts;
 use std::alloc::{AllocError, Global};
 use walrus_base::{FunctionId, Marks};
 use walrus_items::{
-    Arg, Error, ExportItem, FunctionKey, FunctionKind, GlobalKind, IdHashSet, LocalFunction,
-    ModuleExports, ModuleFunctions, ModuleGlobals, Operator, Result,
+    Arg, ElementItems, Error, ExportItem, FunctionKey, FunctionKind, GlobalKind, LocalFunction,
+    ModuleElements, ModuleExports, ModuleFunctions, ModuleGlobals, Operator, Result,
 };
 use walrus_types::{ConstExpr, ConstOp};
 use wasm_opcodes::one_byte::REF_FUNC;
-
-// The functions that are exported.
-fn exported_functions(alloc: Global, all: &ModuleExports) -> Result<IdHashSet<FunctionKey>>
-    ensures marks { IfOk result (λ marks. (f : ℕ) → has_id marks f
-        ≡ is_exported (items (exports all.now)) f) }
-    ensures fails { IsOkUnless result out_of_memory }
-{
-    let mut marks = IdHashSet::new(alloc);
-    for export in all.iter() {
-        mark_function(export.item, &mut marks)?;
-    }
-    Ok(marks)
-}
-
-// Marks what is exported, if it is a function.
-fn mark_function(item: ExportItem, marks: &mut IdHashSet<FunctionKey>) -> Result<()>
-    ensures marks { OnOk result ((f : ℕ) → has_id marks.new f
-        ≡ (is_item (exported item) (function_item f) || has_id marks.old f)) }
-    ensures fails { IsOkUnless result out_of_memory }
-{
-    if let ExportItem::Function(id) = item {
-        marks.insert(id)?;
-    }
-    Ok(())
-}
 
 // The function that the argument names.
 fn arg_ref(arg: &Arg) -> Option<FunctionId>
@@ -245,45 +217,125 @@ fn marks_of(alloc: Global, ids: &[FunctionId]) -> Result<Marks<FunctionKey>>
     Ok(marks)
 }
 
-// The ids that are marked and aren't in the set, by rising place.
+// Puts the functions that are exported behind `to`, in order.
+fn push_exported(all: &ModuleExports, to: &mut Vec<FunctionId>) -> Result<()>
+    ensures puts { OnOk result (map place to.new.items ≡ map place to.old.items
+        ++ export_refs (items (exports all.now))) }
+    ensures fails { IsOkUnless result out_of_memory }
+{
+    for export in all.iter() {
+        if let ExportItem::Function(exported) = export.item {
+            to.push(exported)?;
+        }
+    }
+    Ok(())
+}
+
+// The function that `ref.func` names, which stands alone in the constant expression.
+fn only_ref(expr: &ConstExpr) -> Option<FunctionId>
+    ensures { option_map place result ≡ only_ref (const_ops expr.now) }
+{
+    match expr {
+        ConstExpr::RefFunc(id) => Some(*id),
+        ConstExpr::Extended(operators) => match operators.as_slice() {
+            [operator] => const_ref(operator),
+            _ => None,
+        },
+        ConstExpr::Value(_) | ConstExpr::Global(_) | ConstExpr::RefNull(_) => None,
+    }
+}
+
+// Puts these functions behind `to`, in order.
+fn push_ids(ids: &[FunctionId], to: &mut Vec<FunctionId>) -> Result<()>
+    ensures puts { OnOk result (map place to.new.items ≡ map place to.old.items ++ map place ids.now) }
+    ensures fails { IsOkUnless result out_of_memory }
+{
+    for id in ids {
+        to.push(*id)?;
+    }
+    Ok(())
+}
+
+// The same for those that `ref.func` alone names in expressions.
+fn push_only_refs(expressions: &[ConstExpr], to: &mut Vec<FunctionId>) -> Result<()>
+    ensures puts { OnOk result (map place to.new.items ≡ map place to.old.items
+        ++ filter_map only_ref (map const_ops expressions.now)) }
+    ensures fails { IsOkUnless result out_of_memory }
+{
+    for expression in expressions {
+        if let Some(id) = only_ref(expression) {
+            to.push(id)?;
+        }
+    }
+    Ok(())
+}
+
+// The same for those that a segment of elements lists.
+fn push_listed(held: &ElementItems, to: &mut Vec<FunctionId>) -> Result<()>
+    ensures puts { OnOk result (map place to.new.items ≡ map place to.old.items ++ listed_in held.now) }
+    ensures fails { IsOkUnless result out_of_memory }
+{
+    match held {
+        ElementItems::Functions(functions) => push_ids(functions.as_slice(), to),
+        ElementItems::Expressions(_, expressions) => push_only_refs(expressions.as_slice(), to),
+    }
+}
+
+// The same for all segments.
+fn push_all_listed(all: &ModuleElements, to: &mut Vec<FunctionId>) -> Result<()>
+    ensures puts { OnOk result (map place to.new.items ≡ map place to.old.items
+        ++ listed_refs (items (elements all.now))) }
+    ensures fails { IsOkUnless result out_of_memory }
+{
+    for segment in all.iter() {
+        push_listed(&segment.items, to)?;
+    }
+    Ok(())
+}
+
+// The functions that are exported, and those that segments list.
+fn declared_functions(alloc: Global, parts: Parts<'_>) -> Result<Vec<FunctionId>>
+    ensures names { IfOk result (λ declared. map place declared.items
+        ≡ declared_refs (items (exports parts.entry.exports.now))
+        (items (elements parts.entry.elements.now))) }
+    ensures fails { IsOkUnless result out_of_memory }
+{
+    let mut declared = Vec::new(alloc);
+    push_exported(parts.exports, &mut declared)?;
+    push_all_listed(parts.elements, &mut declared)?;
+    Ok(declared)
+}
+
+// The ids that are marked, but for those that are marked beside, by rising place.
 fn marked_without(
     alloc: Global,
     marks: &Marks<FunctionKey>,
-    without: &IdHashSet<FunctionKey>,
+    without: &Marks<FunctionKey>,
 ) -> Result<Vec<FunctionId>>
     ensures are { IfOk result (λ found. map place found.items
-        ≡ filter (λ f. not (has_id without.now f)) (places_marked marks.now)) }
+        ≡ filter (λ f. not (is_marked without.now f)) (places_marked marks.now)) }
     ensures fails { IsOkUnless result out_of_memory }
 {
     let mut found = Vec::new(alloc);
     'ids: for id in marks.iter() {
-        if !without.contains(id) {
+        if !without.is_marked(id) {
             found.push(id)?;
         }
     }
     Ok(found)
 }
 
-/// The functions that `ref.func` names in a body or in the initialiser of a global and that nothing exports, by rising id, those that
-/// aren't there included: segments, which can declare functions too, aren't handled so far. `Memory` is the only error.
+/// The functions that `ref.func` names in a body or in the initialiser of a global and that nothing declares, neither an export nor a
+/// segment of elements, by rising id, those that aren't there included. It takes time and memory by the largest id that is named or
+/// declared. `Memory` is the only error.
 pub fn undeclared_functions(alloc: Global, parts: Parts<'_>) -> Result<Vec<FunctionId>>
     ensures undeclared { IfOk result (λ ids. AreUndeclared (IsLive (parts_view parts.entry))
         (parts_view parts.entry) (map place ids.items)) }
     ensures fails { IsOkUnless result out_of_memory }
 {
     let named = named_functions(alloc, parts)?;
-    let exported = exported_functions(alloc, parts.exports)?;
-    let marks = marks_of(alloc, named.as_slice())?;
-    marked_without(alloc, &marks, &exported)
-}
-
-/// Whether each function that `ref.func` names in a body or in the initialiser of a global is exported, so that nothing is
-/// undeclared: segments, which can declare functions too, aren't handled so far. `Memory` is the only error.
-pub fn are_references_declared(alloc: Global, parts: Parts<'_>) -> Result<bool>
-    ensures declared { IfOk result (λ declared. declared ≡ true → NothingUndeclared
-        (parts_view parts.entry)) }
-    ensures undeclared { IfOk result (λ declared. declared ≡ false → HasUndeclared (parts_view parts.entry)) }
-    ensures fails { IsOkUnless result out_of_memory }
-{
-    Ok(undeclared_functions(alloc, parts)?.is_empty())
+    let declared = declared_functions(alloc, parts)?;
+    let named_marks = marks_of(alloc, named.as_slice())?;
+    let declared_marks = marks_of(alloc, declared.as_slice())?;
+    marked_without(alloc, &named_marks, &declared_marks)
 }

@@ -6,6 +6,8 @@ mod data;
 #[cfg(test)]
 mod edited;
 #[cfg(test)]
+mod elements;
+#[cfg(test)]
 mod imported;
 #[cfg(test)]
 mod parts;

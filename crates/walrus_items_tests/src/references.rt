@@ -4,7 +4,7 @@ use std::alloc::{AllocError, Global};
 use std::test::Fail;
 use test_support::{demand, first_id, second_id};
 use walrus_base::FunctionId;
-use walrus_contents::{Contents, are_references_declared, undeclared_functions};
+use walrus_contents::{Contents, undeclared_functions};
 use walrus_ir::{Arg, Args, LocalFunction, Operator};
 use wasm_opcodes::one_byte::{DROP, REF_FUNC};
 
@@ -57,7 +57,10 @@ fn is_second_undeclared(alloc: Global, contents: &Contents) -> bool {
 }
 
 fn are_all_declared(alloc: Global, contents: &Contents) -> bool {
-    are_references_declared(alloc, contents.parts()).ok() == Some(true)
+    match undeclared_functions(alloc, contents.parts()) {
+        Ok(ids) => ids.is_empty(),
+        Err(_) => false,
+    }
 }
 
 fn exports_function(contents: &mut Contents, function: FunctionId) -> bool {

@@ -1,35 +1,18 @@
--- Sections that hold only what is supported are their types, imports, functions, tables, memories, tags, globals, exports, start function, data count,
--- bodies and data segments.
-use Rattle.std.proofs.Common.{◌≡◌, [], refl, sym, ap, ◌∙◌, subst}
+-- Sections that hold only what is supported are all their sections but custom sections.
+use Rattle.std.proofs.Common.{◌≡◌, [], refl, sym, ap, subst}
 use Rattle.wasm_frames.specs.Record as wire
 use Rattle.walrus_model.specs.Supported.{IsSupported}
 
 -- what is supported of these sections
 abbrev pub supported : wire.Module → wire.Module
-supported s = record wire.no_sections {
-  order = s.order;
-  types = s.types;
-  imports = s.imports;
-  functions = s.functions;
-  tables = s.tables;
-  memories = s.memories;
-  tags = s.tags;
-  globals = s.globals;
-  exports = s.exports;
-  start = s.start;
-  data_count = s.data_count;
-  bodies = s.bodies;
-  data_segments = s.data_segments;
-}
+supported s = record s { customs = [] }
 
 pub all_supported : (s : wire.Module) → IsSupported s → s ≡ supported s
-all_supported s h =
-    ap (λ x. record s { elements = x }) h.elements
-    ∙ ap (λ x. record s { elements = []; customs = x }) h.customs
+all_supported s h = ap (λ x. record s { customs = x }) h.customs
 
 -- and what is supported of sections is supported
 pub are_supported : (s : wire.Module) → IsSupported (supported s)
-are_supported s = record { elements = refl; customs = refl }
+are_supported s = record { customs = refl }
 
 -- what is so of all that is supported is so of sections that hold nothing else
 pub by_supported : (P : wire.Module → Type 0) → ((s : wire.Module) → P (supported s)) → (s : wire.Module) → IsSupported s → P s

@@ -2,6 +2,7 @@ pub mod Customs
 pub mod Entry
 pub mod Flags
 pub mod Imported
+pub mod Left
 pub mod LendsSection
 pub mod Meaning
 pub mod Raws

@@ -2,7 +2,7 @@
 use Rattle.std.specs.Prelude.{[], ◌≡◌}
 use Rattle.walrus_model.specs.Abstract.{Abstract}
 use Rattle.walrus_module.specs.Customs.{sections}
-pub use Rattle.walrus_contents.specs.View.{types_of, is_declared, body, kind_of, kind_handlers, handlers_at, function, functions_of, export_of, exports_of, imports_of, tables_of, memories_of, tags_of, globals_of, data_segments_of, parts_view}
+pub use Rattle.walrus_contents.specs.View.{types_of, is_declared, body, kind_of, kind_handlers, handlers_at, function, functions_of, export_of, exports_of, imports_of, tables_of, memories_of, tags_of, globals_of, elements_of, data_segments_of, parts_view}
 use Rattle.walrus_contents.specs.View.{HoldsNothing, contents_view}
 use Rattle.walrus_contents.specs.declared.parts.Contents.{Contents}
 use Rattle.walrus_module.specs.declared.module.Module.{Module}
@@ -19,6 +19,7 @@ module _ {V : Type 0} {O : V → Type 0} where
     memories = m.memories;
     tags = m.tags;
     globals = m.globals;
+    elements = m.elements;
     data_ = m.data_;
     exports = m.exports;
     start = m.start;

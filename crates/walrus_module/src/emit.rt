@@ -1,36 +1,68 @@
 //! Writing a module as bytes.
-ghost use Rattle.std.specs.Prelude.{◌≡◌, IfOk};
+ghost use Rattle.std.specs.Prelude.{◌≡◌, IfOk, IsOkUnless, OnErr, OnOk};
 ghost use Rattle.walrus_contents.specs.View.{parts_view};
-ghost use Rattle.walrus_rules.specs.SoFar.{RefusesSoFar};
+ghost use Rattle.walrus_items.specs.Elements.{elements};
+ghost use Rattle.walrus_model.specs.Declared.{NothingUndeclared};
+ghost use Rattle.walrus_parts.specs.Errors.{out_of_memory};
+ghost use Rattle.walrus_rules.specs.Chain.{Leaves};
+ghost use Rattle.walrus_rules.specs.Refused.{RefusesToWrite};
 ghost use Rattle.walrus_module.specs.Flags.{config_of};
+ghost use Rattle.walrus_module.specs.Left.{AddsDeclared, ChangesElements, LeavesBy};
 ghost use Rattle.walrus_module.specs.Settings.{settings};
 ghost use Rattle.walrus_module.specs.View.{view};
 ghost use Rattle.walrus_writing.specs.Emitted.{IsEmitted, told};
 
 use crate::module::Module;
 use std::alloc::Global;
-use walrus_contents::Parts;
+use walrus_contents::{Parts, check_live, undeclared_functions};
+use walrus_items::{ElementItems, ElementKind};
 use walrus_parts::Result;
 use walrus_writing::write_parts;
 
 impl Module {
-    /// The module's bytes. The module stays as it is.
+    /// The module's bytes. The module gets one element segment, unnamed and behind all others, that declares the functions that `ref.func`
+    /// names in a body or in the initialiser of a global and that nothing declares, if there are any (Valid > Modules: the context's references);
+    /// all else stays as it is. So a second emission adds nothing, and writes the same bytes.
     ///
     /// # Errors
     ///
-    /// Those of [`write_parts`], each with a cause of its own: `DeadItem` where an item or a local is named that isn't there, or a function has
-    /// neither an import nor a body; `TwoIndices` where an import names an item that the module defines, or two imports name one; `NoIndex`
-    /// where an item says to be brought by an import that isn't there or names another item, or an initialiser or a type names what gets its
-    /// index later; `NotWritable` where no bytes spell a body, a type or an initialiser; `TooLarge` where a count or a size passes 32 bits;
-    /// and `Memory`.
+    /// Each with a cause of its own: `DeadItem` where an item or a local is named that isn't there, or a function has neither an import nor a
+    /// body; then no segment is added. Behind that those of [`write_parts`]: `TwoIndices` where an import names an item that the module defines,
+    /// or two imports name one; `NoIndex` where an item says to be brought by an import that isn't there or names another item, or an initialiser
+    /// or a type names what gets its index later; `NotWritable` where no bytes spell a body, a type, an initialiser or a segment; `TooLarge` where
+    /// a count or a size passes 32 bits. And `Memory`.
     pub fn emit_wasm(&mut self, alloc: Global) -> Result<Vec<u8>>
-        ensures unchanged { self.new ≡ self.old }
+        ensures left { LeavesBy (view self.old) (view self.new) (told result) }
+        ensures segments { AddsDeclared (elements self.old.elements) (elements self.new.elements) }
+        ensures others { ChangesElements self.old self.new }
+        ensures settled { NothingUndeclared (view self.old) → self.new ≡ self.old }
         ensures emitted { IfOk result (λ bytes. IsEmitted (config_of (settings self.old))
-            (view self.old) bytes.items) }
-        ensures refused { RefusesSoFar (config_of (settings self.old)) (view self.old) (told result) }
+            (view self.new) bytes.items) }
+        ensures refused { RefusesToWrite ⊥ (config_of (settings self.old)) (view self.new) (told result) }
     {
+        check_live(alloc, self.parts())?;
+        self.declare_references(alloc)?;
         let features = self.config.features();
         write_parts(alloc, self.parts(), &features)
+    }
+
+    // Adds the segment that declares what `ref.func` names and nothing declares, if there is any such function. Want of memory is the only
+    // refusal; then the module stays as it is.
+    fn declare_references(&mut self, alloc: Global) -> Result<()>
+        ensures left { OnOk result (Leaves (view self.old) (view self.new)) }
+        ensures segments { AddsDeclared (elements self.old.elements) (elements self.new.elements) }
+        ensures others { ChangesElements self.old self.new }
+        ensures settled { NothingUndeclared (view self.old) → self.new ≡ self.old }
+        ensures unchanged { OnErr result (view self.new ≡ view self.old) }
+        ensures fails { IsOkUnless result out_of_memory }
+    {
+        let functions = undeclared_functions(alloc, self.parts())?;
+        if functions.is_empty() {
+            return Ok(());
+        }
+        let items = ElementItems::Functions(functions);
+        self.elements.add(ElementKind::Declared, items)?;
+        Ok(())
     }
 
     // The parts of which the module's sections are written.
@@ -46,6 +78,7 @@ impl Module {
             memories: &self.memories,
             tags: &self.tags,
             globals: &self.globals,
+            elements: &self.elements,
             data_: &self.data_,
             exports: &self.exports,
             start: self.start,

@@ -10,8 +10,8 @@ use std::alloc::Global;
 use walrus_contents::Contents;
 use walrus_ir::{FunctionId, ModuleLocals, ModuleTypes};
 use walrus_items::{
-    ModuleData, ModuleExports, ModuleFunctions, ModuleGlobals, ModuleImports, ModuleMemories,
-    ModuleTables, ModuleTags,
+    ModuleData, ModuleElements, ModuleExports, ModuleFunctions, ModuleGlobals, ModuleImports,
+    ModuleMemories, ModuleTables, ModuleTags,
 };
 use walrus_parts::Result;
 use walrus_producers::ModuleProducers;
@@ -37,6 +37,8 @@ pub struct Module {
     pub memories: ModuleMemories,
     /// The tags.
     pub tags: ModuleTags,
+    /// The element segments.
+    pub elements: ModuleElements,
     /// The data segments.
     pub data_: ModuleData,
     /// The start function, if there is one.
@@ -81,6 +83,7 @@ impl Module {
             start: contents.start,
             memories: contents.memories,
             tags: contents.tags,
+            elements: contents.elements,
             data_: contents.data_,
             producers: contents.producers,
             customs: ModuleCustomSections::<SectionEntry>::new(alloc),

@@ -3,15 +3,16 @@
 use Rattle.std.proofs.Common.{ℕ, List, ◌++◌, map, refl, subst}
 use Rattle.std.specs.Prelude.{AllPairs, Option, Some, None, IsSome, option_map}
 use Rattle.walrus_base.specs.Arena.{entries, item_at, items}
-use Rattle.walrus_types.specs.Operators.{Space, Functions, Tables, Memories, Tags, Globals, DataSegments}
+use Rattle.walrus_types.specs.Operators.{Space, Functions, Tables, Memories, Tags, Globals, Elements, DataSegments}
 use Rattle.walrus_items.specs.Data.{data_segments}
+use Rattle.walrus_items.specs.Elements.{elements}
 use Rattle.walrus_items.specs.Globals.{GlobalValue, globals}
 use Rattle.walrus_items.specs.Memories.{MemoryValue, memories}
 use Rattle.walrus_items.specs.Tables.{TableValue, tables}
 use Rattle.walrus_items.specs.Tags.{TagValue, tags}
 use Rattle.walrus_items.specs.Functions.{functions}
 use Rattle.walrus_items.specs.Imports.{imports}
-use Rattle.walrus_contents.specs.View.{data_of, parts_view}
+use Rattle.walrus_contents.specs.View.{data_of, element_of, parts_view}
 use Rattle.walrus_contents.specs.declared.parts.Parts.{Parts}
 use Rattle.walrus_model.specs.Abstract.{Abstract}
 use Rattle.walrus_model.specs.Dead.{HasDead}
@@ -74,6 +75,9 @@ module _ (p : Parts) (paired : ImportsMatch (parts_view p)) where
   pub functions_planned : (HasDead V → ⊥) → (own : List ℕ) → IsOrder (functions p.funcs.now) own → IsInOrder Functions (places_brought Functions (items (imports p.imports.now)) ++ own)
   functions_planned there own sorted = behind_brought Functions own (functions_order V) (functions_listed p own sorted there)
 
-  -- no import brings a data segment
+  -- no import brings a segment
+  pub elements_planned : IsInOrder Elements (map (λ e. e.0) (entries (elements p.elements.now)))
+  elements_planned = (seen_ordered element_of (elements p.elements.now), entries_rise (elements p.elements.now))
+
   pub data_planned : IsInOrder DataSegments (map (λ e. e.0) (entries (data_segments p.data_.now)))
   data_planned = (seen_ordered data_of (data_segments p.data_.now), entries_rise (data_segments p.data_.now))

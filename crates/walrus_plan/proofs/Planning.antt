@@ -7,24 +7,24 @@ use Rattle.walrus_types.specs.Operators.{Space, Types, Functions, Tables, Memori
 use Rattle.walrus_items.specs.Functions.{functions}
 use Rattle.walrus_items.specs.Imports.{imports}
 use Rattle.walrus_items.specs.Data.{data_segments}
+use Rattle.walrus_items.specs.Elements.{elements}
 use Rattle.walrus_items.specs.Globals.{GlobalValue, globals}
 use Rattle.walrus_items.specs.Memories.{MemoryValue, memories}
 use Rattle.walrus_items.specs.Tables.{TableValue, tables}
 use Rattle.walrus_items.specs.Tags.{TagValue, tags}
 use Rattle.walrus_contents.specs.View.{parts_view}
 use Rattle.walrus_contents.specs.declared.parts.Parts.{Parts}
-use Rattle.walrus_model.specs.Abstract.{Abstract, Element}
+use Rattle.walrus_model.specs.Abstract.{Abstract}
 use Rattle.walrus_model.specs.Dead.{HasDead}
-use Rattle.walrus_model.specs.Order.{ByImport}
 use Rattle.walrus_model.specs.Plan.{IsPlan}
 use Rattle.walrus_model.specs.WellMade.{ImportsMatch}
-use Rattle.walrus_model.proofs.Arenas.{entries_rise, no_pairs, ordered_nothing}
+use Rattle.walrus_model.proofs.Arenas.{entries_rise}
 use Rattle.walrus_model.proofs.Orders.{ordered_entries}
 use Rattle.walrus_plan.specs.Brought.{own_places, places_brought}
 use Rattle.walrus_plan.specs.Places.{places}
 use Rattle.walrus_plan.specs.Sizes.{IsOrder}
 use Rattle.walrus_plan.specs.declared.plan.Plan.{Plan}
-use Rattle.walrus_plan.proofs.PlannedByImport.{IsInOrder, data_planned, functions_planned, globals_planned, memories_planned, tables_planned, tags_planned}
+use Rattle.walrus_plan.proofs.PlannedByImport.{IsInOrder, data_planned, elements_planned, functions_planned, globals_planned, memories_planned, tables_planned, tags_planned}
 
 module _ (p : Parts) where
   abbrev V : Abstract
@@ -40,6 +40,7 @@ module _ (p : Parts) where
       (all_memories : map place plan.memories.items ≡ brought Memories ++ own_places (λ (m : MemoryValue). m.imported_by) (entries (memories p.memories.now)))
       (all_tags : map place plan.tags.items ≡ brought Tags ++ own_places (λ (t : TagValue). t.imported_by) (entries (tags p.tags.now)))
       (all_globals : map place plan.globals.items ≡ brought Globals ++ own_places (λ (g : GlobalValue). g.imported_by) (entries (globals p.globals.now)))
+      (all_elements : map place plan.elements.items ≡ map (λ e. e.0) (entries (elements p.elements.now)))
       (all_data : map place plan.data_.items ≡ map (λ e. e.0) (entries (data_segments p.data_.now)))
       (there : HasDead V → ⊥) (paired : ImportsMatch V) where
     in_order : (s : Space) → IsInOrder p paired s (places plan s)
@@ -49,7 +50,7 @@ module _ (p : Parts) where
     in_order Memories = subst (IsInOrder p paired Memories) (sym all_memories) (memories_planned p paired)
     in_order Tags = subst (IsInOrder p paired Tags) (sym all_tags) (tags_planned p paired)
     in_order Globals = subst (IsInOrder p paired Globals) (sym all_globals) (globals_planned p paired)
-    in_order Elements = (ordered_nothing Element, no_pairs (ByImport V Elements))
+    in_order Elements = subst (IsInOrder p paired Elements) (sym all_elements) (elements_planned p paired)
     in_order DataSegments = subst (IsInOrder p paired DataSegments) (sym all_data) (data_planned p paired)
 
     pub plan_is : IsPlan V (places plan)

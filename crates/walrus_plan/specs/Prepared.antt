@@ -8,6 +8,7 @@ use Rattle.walrus_code.specs.Indices.{index_of}
 use Rattle.walrus_groups.specs.Indexed.{AreInOrder}
 use Rattle.walrus_items.specs.Functions.{functions}
 use Rattle.walrus_items.specs.Data.{data_segments}
+use Rattle.walrus_items.specs.Elements.{elements}
 use Rattle.walrus_items.specs.Globals.{globals}
 use Rattle.walrus_items.specs.Imports.{imports}
 use Rattle.walrus_items.specs.Memories.{memories}
@@ -41,5 +42,6 @@ pub record IsPrepared (p : Parts) (prepared : Prepared) : Type 0 where
   pub memories : map place prepared.plan.memories.items ≡ places_brought Memories (items (imports p.imports.now)) ++ own_places (λ x. x.imported_by) (entries (memories p.memories.now))
   pub tags : map place prepared.plan.tags.items ≡ places_brought Tags (items (imports p.imports.now)) ++ own_places (λ x. x.imported_by) (entries (tags p.tags.now))
   pub globals : map place prepared.plan.globals.items ≡ places_brought Globals (items (imports p.imports.now)) ++ own_places (λ x. x.imported_by) (entries (globals p.globals.now))
+  pub elements : map place prepared.plan.elements.items ≡ map (λ e. e.0) (entries (elements p.elements.now))
   pub data_segments : map place prepared.plan.data_.items ≡ map (λ e. e.0) (entries (data_segments p.data_.now))
   pub data_count : IsCount (parts_view p) (length (places prepared.plan DataSegments)) prepared.data_count

@@ -10,6 +10,7 @@ ghost use Rattle.walrus_items.specs.Functions.{functions};
 ghost use Rattle.walrus_items.specs.Imports.{imports};
 ghost use Rattle.walrus_contents.specs.View.{parts_view};
 ghost use Rattle.walrus_items.specs.Data.{data_segments};
+ghost use Rattle.walrus_items.specs.Elements.{elements};
 ghost use Rattle.walrus_items.specs.Globals.{globals, global_import};
 ghost use Rattle.walrus_items.specs.Memories.{memories};
 ghost use Rattle.walrus_items.specs.Tables.{tables};
@@ -31,10 +32,10 @@ use std::alloc::Global;
 use std::cmp::Reverse;
 use walrus_contents::Parts;
 use walrus_ir::{
-    DataId, FunctionId, GlobalId, IdsToIndices, MemoryId, ModuleTypes, Numbering, TableId, TagId,
-    TypeId,
+    DataId, ElementId, FunctionId, GlobalId, IdsToIndices, MemoryId, ModuleTypes, Numbering,
+    TableId, TagId, TypeId,
 };
-use walrus_items::{GlobalKind, ModuleData, ModuleFunctions};
+use walrus_items::{GlobalKind, ModuleData, ModuleElements, ModuleFunctions};
 use walrus_parts::{Error, Result};
 
 /// For each index space the ids of the items in the order in which they are written, so that each one's place in it is its index: what
@@ -55,6 +56,8 @@ pub struct Plan {
     pub tags: Vec<TagId>,
     /// The globals, the module's own by rising id.
     pub globals: Vec<GlobalId>,
+    /// The element segments, by rising id.
+    pub elements: Vec<ElementId>,
     /// The data segments, by rising id.
     pub data_: Vec<DataId>,
 }
@@ -81,6 +84,8 @@ impl Plan {
         ensures globals { IfOk result (λ plan. map place plan.globals.items
             ≡ places_brought Globals (items (imports parts.entry.imports.now))
             ++ own_places (λ x. x.imported_by) (entries (globals parts.entry.globals.now))) }
+        ensures elements { IfOk result (λ plan. map place plan.elements.items
+            ≡ map (λ e. e.0) (entries (elements parts.entry.elements.now))) }
         ensures data_segments { IfOk result (λ plan. map place plan.data_.items
             ≡ map (λ e. e.0) (entries (data_segments parts.entry.data_.now))) }
         ensures plan { IfOk result (λ plan. (HasDead (parts_view parts.entry) → ⊥)
@@ -98,6 +103,7 @@ impl Plan {
             memories: memories_by_import(alloc, parts.imports, parts.memories)?,
             tags: tags_by_import(alloc, parts.imports, parts.tags)?,
             globals: globals_by_import(alloc, parts.imports, parts.globals)?,
+            elements: elements_in_order(alloc, parts.elements)?,
             data_: data_in_order(alloc, parts.data_)?,
         })
     }
@@ -118,7 +124,7 @@ impl Plan {
             memories: Numbering::along(alloc, self.memories.as_slice())?,
             tags: Numbering::along(alloc, self.tags.as_slice())?,
             globals: Numbering::along(alloc, self.globals.as_slice())?,
-            elements: Numbering::new(alloc),
+            elements: Numbering::along(alloc, self.elements.as_slice())?,
             data_: Numbering::along(alloc, self.data_.as_slice())?,
         })
     }
@@ -185,6 +191,19 @@ fn types_in_order(alloc: Global, types: &ModuleTypes) -> Result<Vec<TypeId>>
     Ok(ids)
 }
 
+// The element segments, by rising id.
+fn elements_in_order(alloc: Global, segments: &ModuleElements) -> Result<Vec<ElementId>>
+    ensures value { IfOk result (λ order. map place order.items
+        ≡ map (λ e. e.0) (entries (elements segments.now))) }
+    ensures fails { IsOkUnless result out_of_memory }
+{
+    let mut order = Vec::with_capacity(alloc, segments.len())?;
+    for (id, _segment) in segments.iter_entries() {
+        order.push(id)?;
+    }
+    Ok(order)
+}
+
 // The data segments, by rising id.
 fn data_in_order(alloc: Global, segments: &ModuleData) -> Result<Vec<DataId>>
     ensures value { IfOk result (λ ids. map place ids.items
@@ -210,6 +229,7 @@ fn check_counts(plan: &Plan) -> Result<()>
         || plan.memories.len() > most
         || plan.tags.len() > most
         || plan.globals.len() > most
+        || plan.elements.len() > most
         || plan.data_.len() > most
     {
         return Err(Error::TooLarge);

@@ -65,7 +65,7 @@ module _ {K T X : Type 0} (R : ℕ → X → Option T → Type 0) where
 -- the number of what is brought next, in the sections and in the module
 next_here : (xs : List entries.Import) (m : Contents) (d : RawDesc) → HoldsImports xs m → next_item m d ≡ item_after xs d
 next_here xs m (descs.Function ty) h = ap (λ (n : ℕ). (Functions, n)) (sym (placed_length HoldsImportedFunction 0 (imported imported_function 0 xs) (functions m.funcs) h.functions))
-next_here xs m (descs.Table ty) h = ap (λ (n : ℕ). (Tables, n)) (sym (placed_length HoldsTable 0 (imported imported_table 0 xs) (tables m.tables) h.tables))
+next_here xs m (descs.Table ty) h = ap (λ (n : ℕ). (Tables, n)) (sym (placed_length (HoldsTable none_kept) 0 (imported imported_table 0 xs) (tables m.tables) h.tables))
 next_here xs m (descs.Memory l) h = ap (λ (n : ℕ). (Memories, n)) (sym (placed_length (HoldsMemory none_kept) 0 (imported imported_memory 0 xs) (memories m.memories) h.memories))
 next_here xs m (descs.Global ty) h = ap (λ (n : ℕ). (Globals, n)) (sym (placed_length HoldsGlobal 0 (imported imported_global 0 xs) (globals m.globals) h.globals))
 next_here xs m (descs.Tag ty) h = ap (λ (n : ℕ). (Tags, n)) (sym (placed_length HoldsTag 0 (imported imported_tag 0 xs) (tags m.tags) h.tags))
@@ -81,8 +81,8 @@ held_next xs x old new h a =
       imports = subst (λ l. AllPlaced HoldsImport 0 l (imports new.imports)) next (placed_more HoldsImport (imports_after [] xs) (next_import old x ∷ []) (imports old.imports) (imports new.imports) h.imports a.imports);
       functions = subst (λ l. AllPlaced HoldsImportedFunction 0 l (functions new.funcs)) (sym (imported_next imported_function xs x))
           (placed_more HoldsImportedFunction (imported imported_function 0 xs) (option_to_list (imported_function (length xs) x.desc)) (functions old.funcs) (functions new.funcs) h.functions b.functions);
-      tables = subst (λ l. AllPlaced HoldsTable 0 l (tables new.tables)) (sym (imported_next imported_table xs x))
-          (placed_more HoldsTable (imported imported_table 0 xs) (option_to_list (imported_table (length xs) x.desc)) (tables old.tables) (tables new.tables) h.tables b.tables);
+      tables = subst (λ l. AllPlaced (HoldsTable none_kept) 0 l (tables new.tables)) (sym (imported_next imported_table xs x))
+          (placed_more (HoldsTable none_kept) (imported imported_table 0 xs) (option_to_list (imported_table (length xs) x.desc)) (tables old.tables) (tables new.tables) h.tables b.tables);
       memories = subst (λ l. AllPlaced (HoldsMemory none_kept) 0 l (memories new.memories)) (sym (imported_next imported_memory xs x))
           (placed_more (HoldsMemory none_kept) (imported imported_memory 0 xs) (option_to_list (imported_memory (length xs) x.desc)) (memories old.memories) (memories new.memories) h.memories b.memories);
       tags = subst (λ l. AllPlaced HoldsTag 0 l (tags new.tags)) (sym (imported_next imported_tag xs x))
@@ -94,7 +94,7 @@ held_next xs x old new h a =
 -- ---- the loop over them
 
 same_then : (first old new : Contents) → SameOthers first old → SameOthers old new → SameOthers first new
-same_then first old new a b = record { types = b.types ∙ a.types; locals = b.locals ∙ a.locals; data_ = b.data_ ∙ a.data_; exports = b.exports ∙ a.exports; producers = b.producers ∙ a.producers }
+same_then first old new a b = record { types = b.types ∙ a.types; locals = b.locals ∙ a.locals; elements = b.elements ∙ a.elements; data_ = b.data_ ∙ a.data_; exports = b.exports ∙ a.exports; producers = b.producers ∙ a.producers }
 
 -- those so far, and all else as it was
 pub record ImportedSoFar (raw : List RawImport) (i : ℕ) (first m : Contents) : Type 0 where

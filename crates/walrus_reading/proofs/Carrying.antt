@@ -31,7 +31,7 @@ use Rattle.walrus_rules.specs.Namings.{is_in_range}
 use Rattle.walrus_rules.specs.Sections.{items_of, module_of}
 use Rattle.walrus_reading.proofs.DeclaredLocals.{counts}
 use Rattle.walrus_model.specs.Reads.{arity, ReadsBodyWith}
-use Rattle.walrus_model.specs.Sections.{Said, function_with, functions_of, body_with, imports_after, types_of, globals_of, memories_of, tables_of, tags_of, data_segments_of}
+use Rattle.walrus_model.specs.Sections.{Said, function_with, functions_of, body_with, imports_after, types_of, globals_of, memories_of, tables_of, tags_of, elements_of, data_segments_of}
 use Rattle.walrus_model.specs.Kept.{IsImportOf}
 use Rattle.walrus_model.specs.Live.{IsLive}
 use Rattle.walrus_model.specs.WellMade.{import_in, import_of, kind_import, origin_import}
@@ -51,14 +51,15 @@ use Rattle.walrus_reading.specs.Taken.{HasTaken}
 use Rattle.walrus_reading.proofs.AllHeld.{Fits, all_fit}
 use Rattle.walrus_reading.proofs.Held.{HeldBody, HeldFunction, exported}
 use Rattle.walrus_model.proofs.Supported.{supported}
-use Rattle.walrus_contents.specs.View.{body, kind_of, kind_handlers, handlers_at, function, contents_view, data_of, global_of, import_of as import_of_value, memory_of, table_of, tag_of}
-use Rattle.walrus_model.proofs.PipelineSame.{data_stays, global_stays, import_stays, memory_stays, start_stays, table_stays, tag_stays}
-use Rattle.walrus_reading.specs.Held.{HoldsData, HoldsGlobal, HoldsImport, HoldsMemory, HoldsTable, HoldsTag, kept_of}
+use Rattle.walrus_contents.specs.View.{body, kind_of, kind_handlers, handlers_at, function, contents_view, data_of, element_of, global_of, import_of as import_of_value, memory_of, table_of, tag_of}
+use Rattle.walrus_model.proofs.PipelineSame.{data_stays, element_stays, global_stays, import_stays, memory_stays, start_stays, table_stays, tag_stays}
+use Rattle.walrus_reading.specs.Held.{HoldsData, HoldsElement, HoldsGlobal, HoldsImport, HoldsMemory, HoldsTable, HoldsTag, memory_keeps, table_keeps}
 use Rattle.walrus_reading.specs.Placed.{AllPlaced}
-use Rattle.walrus_reading.proofs.KeptSegments.{kept_seen}
+use Rattle.walrus_reading.proofs.KeptSegments.{kept_seen, tables_seen}
 use Rattle.walrus_items.specs.Imports.{imports}
 use Rattle.walrus_items.specs.Globals.{globals}
 use Rattle.walrus_items.specs.Data.{data_segments}
+use Rattle.walrus_items.specs.Elements.{elements}
 use Rattle.walrus_items.specs.Memories.{memories}
 use Rattle.walrus_items.specs.Tables.{tables}
 use Rattle.walrus_items.specs.Tags.{tags}
@@ -247,9 +248,6 @@ was_some : {A B : Type 0} (f : A → B) (o : Option A) → IsSome (option_map f 
 was_some f (Some x) h = refl
 was_some f None h = absurd (none_there h)
 
-no_items : {X : Type 0} (A : ℕ → Type 0) (S : ℕ → X → X → Type 0) → Carries (λ i. IsSome {T = X} None) A (λ i. i) S (λ i. None) (λ i. None)
-no_items A S = record { same = λ i h. absurd (none_there h); onto = λ j h. absurd (none_there h) }
-
 both_same : {X : Type 0} (S : X → X → Type 0) (o : Option X) → IsSome o → ((x : X) → S x x) → BothAnd S o o
 both_same S (Some x) h all = all x
 both_same S None h all = absurd (none_there h)
@@ -338,7 +336,7 @@ named_live m (Types, k) p e = absurd (cc)
 named_live m (Elements, k) p e = absurd (cc)
 named_live m (DataSegments, k) p e = absurd (cc)
 
--- ---- the whole, where the memories that data is active in are there
+-- ---- the whole, where the tables and memories that segments are active in are there
 
 module _ (c : Features) (r : wire.Module) (x : Contents) (many : length r.bodies ≡ length r.functions) (h : HasTaken c (supported r) x) where
   abbrev all : ModuleLocals
@@ -442,9 +440,10 @@ module _ (c : Features) (r : wire.Module) (x : Contents) (many : length r.bodies
         ∙ ap (λ names. or_else (last_name names) None) (unnamed y))
 
   -- ---- all of it; the producers of the module in memory are given
-  pub parsed : (config : Config) → config.synthetic_names ≡ false → ((f : ℕ) (b : Body) → body_of M f ≡ Some b → handlers_of M b ≡ []) → ((memory segment : ℕ) → length (memories_of r) ≤ memory → kept_of (data_segments_of r) memory segment ≡ false)
+  pub parsed : (config : Config) → config.synthetic_names ≡ false → ((f : ℕ) (b : Body) → body_of M f ≡ Some b → handlers_of M b ≡ []) → ((table segment : ℕ) → length (tables_of r) ≤ table → table_keeps (elements_of r) table segment ≡ false)
+      → ((memory segment : ℕ) → length (memories_of r) ≤ memory → memory_keeps (data_segments_of r) memory segment ≡ false)
       → v.producers ≡ produced [] → ParsedAs config M v
-  parsed config own_names none inside put_in = record {
+  parsed config own_names none on_tables on_memories put_in = record {
     types = types;
     functions = length said;
     all_types = types;
@@ -465,11 +464,11 @@ module _ (c : Features) (r : wire.Module) (x : Contents) (many : length r.bodies
         onto = λ j live. inl (j, import_live j (subst (λ (o : Option Import). IsSome o) (import_seen j) live), refl);
       };
       functions = record { same = function_carried; onto = λ j live. inl (j, function_there j live, refl) };
-      tables = carried_there _ _ M.tables v.tables (seen_there table_of HoldsTable (λ n t s k. (k.value, (k.is, k.read))) 0 (tables_of (supported r)) (tables x.tables) h.tables) (λ i t. sym (table_stays (moving moved) (λ s n. refl) (λ n. refl) t));
-      memories = carried_there _ _ M.memories v.memories (seen_there memory_of (HoldsMemory (kept_of (data_segments_of r))) (λ n y s k. (k.value, (k.is, k.read))) 0 (memories_of (supported r)) (memories x.memories) h.memories) (λ i y. sym (memory_stays (moving moved) (λ s n. refl) (λ n. refl) y));
+      tables = carried_there _ _ M.tables v.tables (seen_there table_of (HoldsTable (table_keeps (elements_of r))) (λ n t s k. (k.value, (k.is, k.read))) 0 (tables_of (supported r)) (tables x.tables) h.tables) (λ i t. sym (table_stays (moving moved) (λ s n. refl) (λ n. refl) t));
+      memories = carried_there _ _ M.memories v.memories (seen_there memory_of (HoldsMemory (memory_keeps (data_segments_of r))) (λ n y s k. (k.value, (k.is, k.read))) 0 (memories_of (supported r)) (memories x.memories) h.memories) (λ i y. sym (memory_stays (moving moved) (λ s n. refl) (λ n. refl) y));
       tags = carried_there _ _ M.tags v.tags (seen_there tag_of HoldsTag (λ n t s k. (k.value, (k.is, k.read))) 0 (tags_of (supported r)) (tags x.tags) h.tags) (λ i t. sym (tag_stays (moving moved) (λ s n. refl) (λ n. refl) t));
       globals = carried_there _ _ M.globals v.globals (seen_there global_of HoldsGlobal (λ n g s k. (k.value, (k.is, k.read))) 0 (globals_of (supported r)) (globals x.globals) h.globals) (λ i g. sym (global_stays (moving moved) (λ s n. refl) (λ n. refl) g));
-      elements = no_items _ _;
+      elements = carried_there _ _ M.elements v.elements (seen_there element_of HoldsElement (λ n e s k. (k.value, (k.is, k.read))) 0 (elements_of (supported r)) (elements x.elements) h.elements) (λ i e. sym (element_stays (moving moved) (λ s n. refl) (λ n. refl) e));
       data_segments = carried_there _ _ M.data_segments v.data_segments (seen_there data_of HoldsData (λ n d s k. (k.value, (k.is, k.read))) 0 (data_segments_of (supported r)) (data_segments x.data_) h.data_segments) (λ i d. sym (data_stays (moving moved) (λ s n. refl) (λ n. refl) d));
       imports_apart = λ i j k l e. e;
       apart = λ space no i j k l e. e;
@@ -479,8 +478,8 @@ module _ (c : Features) (r : wire.Module) (x : Contents) (many : length r.bodies
     bodies = whole_bodies;
     in_place = λ y. refl;
     imports_in_place = λ i. refl;
-    table_segments = λ table segment. refl;
-    memory_segments = λ memory segment. kept_seen (kept_of (data_segments_of r)) 0 (memories_of (supported r)) (memories x.memories) h.memories memory segment (λ past. ap (λ (n : ℕ). kept_of (data_segments_of r) n segment) (from_zero memory) ∙ inside memory segment past) ∙ ap (λ (n : ℕ). kept_of (data_segments_of r) n segment) (from_zero memory);
+    table_segments = λ table segment. tables_seen (table_keeps (elements_of r)) 0 (tables_of (supported r)) (tables x.tables) h.tables table segment (λ past. ap (λ (n : ℕ). table_keeps (elements_of r) n segment) (from_zero table) ∙ on_tables table segment past) ∙ ap (λ (n : ℕ). table_keeps (elements_of r) n segment) (from_zero table);
+    memory_segments = λ memory segment. kept_seen (memory_keeps (data_segments_of r)) 0 (memories_of (supported r)) (memories x.memories) h.memories memory segment (λ past. ap (λ (n : ℕ). memory_keeps (data_segments_of r) n segment) (from_zero memory) ∙ on_memories memory segment past) ∙ ap (λ (n : ℕ). memory_keeps (data_segments_of r) n segment) (from_zero memory);
     section_roots = refl;
     customs = refl;
     producers = put_in;

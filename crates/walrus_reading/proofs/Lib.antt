@@ -12,7 +12,6 @@ pub mod NoHandlers
 pub mod Numbered
 pub mod Parsing
 pub mod Placed
-pub mod References
 pub mod Refusals
 pub mod Rooms
 pub mod Rows

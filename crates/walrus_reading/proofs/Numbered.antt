@@ -22,7 +22,6 @@ use Rattle.walrus_groups.specs.Reading.{TypesInPlace}
 use Rattle.walrus_model.specs.Abstract as abstract
 use Rattle.walrus_model.specs.Reads.{below, declared}
 use Rattle.walrus_model.specs.Sections.{element_of, elements_of, function_types, global_of, globals_of, global_type_of, imported, imported_function, imported_global, imported_memory, imported_table, imported_tag, imported_type, memory_of, memories_of, memory_type_of, table_of, tables_of, table_type_of, tag_of, tags_of}
-use Rattle.walrus_model.specs.Supported.{IsSupported}
 use Rattle.walrus_contents.proofs.Lookups.{as_long}
 use Rattle.walrus_contents.proofs.Steps.{own_index}
 use Rattle.walrus_contents.proofs.Taking.{get_own, get_past}
@@ -112,7 +111,7 @@ module _ (r : wire.Module) (m : Contents) (h : HoldsImports r.imports m) (first 
       omega (arith, at, placed_length HoldsImportedFunction 0 brought (functions m.funcs) h.functions, same, length-append (imported imported_type 0 r.imports) r.functions, types_many 0 r.imports)
 
   pub tables_counted : first ≡ length (tables m.tables) → own ≡ length r.tables → first + own ≡ length (tables_of r)
-  tables_counted at same = counted HoldsTable (imported imported_table 0 r.imports) (tables m.tables) table_of r.tables first own h.tables at same
+  tables_counted at same = counted (HoldsTable none_kept) (imported imported_table 0 r.imports) (tables m.tables) table_of r.tables first own h.tables at same
 
   pub memories_counted : first ≡ length (memories m.memories) → own ≡ length r.memories → first + own ≡ length (memories_of r)
   memories_counted at same = counted (HoldsMemory none_kept) (imported imported_memory 0 r.imports) (memories m.memories) memory_of r.memories first own h.memories at same
@@ -123,11 +122,11 @@ module _ (r : wire.Module) (m : Contents) (h : HoldsImports r.imports m) (first 
   pub globals_counted : first ≡ length (globals m.globals) → own ≡ length r.globals → first + own ≡ length (globals_of r)
   globals_counted at same = counted HoldsGlobal (imported imported_global 0 r.imports) (globals m.globals) global_of r.globals first own h.globals at same
 
--- element segments aren't there so far
-pub no_elements : (r : wire.Module) → IsSupported r → [] ≡ range_with_len 0 (length (elements_of r))
-no_elements r only = sym (ap (λ (l : List entries.Element). range_with_len 0 (length (map element_of l))) only.elements)
+-- no import brings element segments
+pub elements_counted : (r : wire.Module) (own : ℕ) → own ≡ length r.elements → 0 + own ≡ length (elements_of r)
+elements_counted r own e = omega (arith, e, length-map r.elements element_of)
 
--- no import brings data segments
+-- nor data segments
 pub data_counted : (own count : ℕ) → own ≡ count → 0 + own ≡ count
 data_counted own count e = omega (arith, e)
 

@@ -16,6 +16,7 @@ use Rattle.walrus_types.specs.declared.value.ValType.{ValType as DeclaredValType
 use Rattle.walrus_bodies.specs.BodyRead.{new_locals}
 use Rattle.walrus_bodies.specs.declared.features.Features.{Features}
 use Rattle.walrus_items.specs.Data.{DataValue, data_segments}
+use Rattle.walrus_items.specs.Elements.{ElementValue, elements}
 use Rattle.walrus_items.specs.Exports.{ExportValue, exports}
 use Rattle.walrus_items.specs.Functions.{FunctionValue, functions}
 use Rattle.walrus_parts.specs.declared.function_kind.FunctionKind.TheVariants as variants
@@ -24,9 +25,9 @@ use Rattle.walrus_items.specs.Globals.{GlobalValue, globals}
 use Rattle.walrus_items.specs.Memories.{MemoryValue, memories}
 use Rattle.walrus_items.specs.Tables.{TableValue, tables}
 use Rattle.walrus_items.specs.Tags.{TagValue, tags}
-use Rattle.walrus_model.specs.Abstract.{DataSegment, Function, Global, Import, Memory, Table, Tag}
-use Rattle.walrus_model.specs.Sections.{Said, imported, imported_function, imports_after, types_of, data_segments_of, globals_of, memories_of, tables_of, tags_of}
-use Rattle.walrus_reading.specs.Held.{HoldsData, HoldsGlobal, HoldsImport, HoldsImportedFunction, HoldsMemory, HoldsTable, HoldsTag, kept_of}
+use Rattle.walrus_model.specs.Abstract.{DataSegment, Element, Function, Global, Import, Memory, Table, Tag}
+use Rattle.walrus_model.specs.Sections.{Said, imported, imported_function, imports_after, types_of, data_segments_of, elements_of, globals_of, memories_of, tables_of, tags_of}
+use Rattle.walrus_reading.specs.Held.{HoldsData, HoldsElement, HoldsGlobal, HoldsImport, HoldsImportedFunction, HoldsMemory, HoldsTable, HoldsTag, memory_keeps, table_keeps}
 use Rattle.walrus_model.proofs.Standing.{some_inj}
 use Rattle.walrus_contents.specs.declared.parts.Contents.{Contents}
 use Rattle.walrus_contents.proofs.Lookups.{heads}
@@ -121,8 +122,8 @@ own_export n e x h = ap (λ (v : ExportValue). v.id) (some_inj x h.value h.is) �
 own_memory : (kept : ℕ → ℕ → Bool) (n : ℕ) (a : Memory) (x : MemoryValue) → HoldsMemory kept n a (Some x) → x.id ≡ n
 own_memory kept n a x h = ap (λ (v : MemoryValue). v.id) (some_inj x h.value h.is) ∙ h.own_id
 
-own_table : (n : ℕ) (a : Table) (x : TableValue) → HoldsTable n a (Some x) → x.id ≡ n
-own_table n a x h = ap (λ (v : TableValue). v.id) (some_inj x h.value h.is) ∙ h.own_id
+own_table : (kept : ℕ → ℕ → Bool) (n : ℕ) (a : Table) (x : TableValue) → HoldsTable kept n a (Some x) → x.id ≡ n
+own_table kept n a x h = ap (λ (v : TableValue). v.id) (some_inj x h.value h.is) ∙ h.own_id
 
 own_tag : (n : ℕ) (a : Tag) (x : TagValue) → HoldsTag n a (Some x) → x.id ≡ n
 own_tag n a x h = ap (λ (v : TagValue). v.id) (some_inj x h.value h.is) ∙ h.own_id
@@ -135,6 +136,9 @@ own_import n a x h = ap (λ (v : ImportValue). v.id) (some_inj x h.value h.is) �
 
 own_imported : (n : ℕ) (a : Function) (x : FunctionValue) → HoldsImportedFunction n a (Some x) → x.id ≡ n
 own_imported n a x h = ap (λ (v : FunctionValue). v.id) (some_inj x h.value h.is) ∙ h.own_id
+
+own_element : (n : ℕ) (a : Element) (x : ElementValue) → HoldsElement n a (Some x) → x.id ≡ n
+own_element n a x h = ap (λ (v : ElementValue). v.id) (some_inj x h.value h.is) ∙ h.own_id
 
 own_data : (n : ℕ) (a : DataSegment) (x : DataValue) → HoldsData n a (Some x) → x.id ≡ n
 own_data n a x h = ap (λ (v : DataValue). v.id) (some_inj x h.value h.is) ∙ h.own_id
@@ -163,9 +167,10 @@ own_ids c r m t = record {
   exports = λ i x e. from_zero x.id i (placed_own (λ (v : ExportValue). v.id) HoldsExport own_export 0 r.exports (exports m.exports) t.exports i x e);
   locals = λ i x e. from_zero (local_place x) i (placed_own local_place HoldsLocal own_local 0 (flat_map (locals_said (types_of r)) (zip r.functions t.bodies)) (locals m.locals) t.locals i x e);
   imports = λ i x e. from_zero x.id i (placed_own (λ (v : ImportValue). v.id) HoldsImport own_import 0 (imports_after [] r.imports) (imports m.imports) t.imports i x e);
-  tables = λ i x e. from_zero x.id i (placed_own (λ (v : TableValue). v.id) HoldsTable own_table 0 (tables_of r) (tables m.tables) t.tables i x e);
-  memories = λ i x e. from_zero x.id i (placed_own (λ (v : MemoryValue). v.id) (HoldsMemory (kept_of (data_segments_of r))) (own_memory (kept_of (data_segments_of r))) 0 (memories_of r) (memories m.memories) t.memories i x e);
+  tables = λ i x e. from_zero x.id i (placed_own (λ (v : TableValue). v.id) (HoldsTable (table_keeps (elements_of r))) (own_table (table_keeps (elements_of r))) 0 (tables_of r) (tables m.tables) t.tables i x e);
+  memories = λ i x e. from_zero x.id i (placed_own (λ (v : MemoryValue). v.id) (HoldsMemory (memory_keeps (data_segments_of r))) (own_memory (memory_keeps (data_segments_of r))) 0 (memories_of r) (memories m.memories) t.memories i x e);
   tags = λ i x e. from_zero x.id i (placed_own (λ (v : TagValue). v.id) HoldsTag own_tag 0 (tags_of r) (tags m.tags) t.tags i x e);
   globals = λ i x e. from_zero x.id i (placed_own (λ (v : GlobalValue). v.id) HoldsGlobal own_global 0 (globals_of r) (globals m.globals) t.globals i x e);
+  elements = λ i x e. from_zero x.id i (placed_own (λ (v : ElementValue). v.id) HoldsElement own_element 0 (elements_of r) (elements m.elements) t.elements i x e);
   data_segments = λ i x e. from_zero x.id i (placed_own (λ (v : DataValue). v.id) HoldsData own_data 0 (data_segments_of r) (data_segments m.data_) t.data_segments i x e);
 }

@@ -1,4 +1,4 @@
--- A module has fewer than 2 ^ 32 items of each kind: each takes two bytes or more of a section of fewer bytes.
+-- A module has fewer than 2 ^ 32 items of each kind: each takes a byte or more of a section of fewer bytes, two or more where imports bring some too.
 use Rattle.std.proofs.Common.{◌≡◌, ℕ, ◌+◌, ◌≤◌, ◌<◌, ◌^◌, List, [], ◌∷◌, ◌++◌, length, map, ap, arith, length-append}
 use Rattle.std.specs.Prelude.{Option, Some, None, option_to_list, zip}
 use Rattle.std.specs.List.{AllZip}
@@ -13,8 +13,8 @@ use Rattle.wasm_frames.specs.Record.{Body, Module}
 use Rattle.walrus_bodies.specs.Body.{declarations}
 use Rattle.walrus_bodies.specs.declared.features.Features.{Features}
 use Rattle.walrus_model.specs.Reads.{ReadsBodyWith}
-use Rattle.walrus_model.specs.Sections.{Said, global_of, imported, imported_global, imported_memory, imported_table, imported_tag, imported_type, memory_of, table_of, tag_of}
-use Rattle.walrus_rules.proofs.LeastLengths.{few_globals, few_imports, few_memories, few_tables, few_tags, number_long, vector_long}
+use Rattle.walrus_model.specs.Sections.{Said, element_of, global_of, imported, imported_global, imported_memory, imported_table, imported_tag, imported_type, memory_of, table_of, tag_of}
+use Rattle.walrus_rules.proofs.LeastLengths.{few_elements, few_globals, few_imports, few_memories, few_tables, few_tags, number_long, vector_long}
 use Rattle.walrus_rules.proofs.SectionRows.{rows}
 use Rattle.walrus_reading.specs.Numbers.{FitsIndices, HasRoomFor}
 
@@ -42,6 +42,7 @@ fits_indices bytes m f h room =
       memories = both_few imported_memory m.imports memory_of m.memories (2 ^ 32) imports (few_memories m.memories r.memories);
       tags = both_few imported_tag m.imports tag_of m.tags (2 ^ 32) imports (few_tags m.tags r.tags);
       globals = both_few imported_global m.imports global_of m.globals (2 ^ 32) imports (few_globals m.globals r.globals);
+      elements = omega (arith, length-map m.elements element_of, few_elements m.elements r.elements);
     }
 
 -- ---- a function whose body is read takes two bytes or more

@@ -1,6 +1,6 @@
 -- Where each item has the place of its index, what the rules on indices hold of looks up to itself.
 use Rattle.std.proofs.Common.{◌≡◌, ℕ, ◌+◌, ◌<◌, ◌≤◌, List, [], ◌∷◌, map, length, get_or, Option, Some, None, refl, ap, ap₂, arith}
-use Rattle.std.specs.Prelude.{option_and_then, option_map}
+use Rattle.std.specs.Prelude.{option_and_then, option_map, unwrap_or}
 use Rattle.std.proofs.lemmas.List.Elements.{All-head, All-tail}
 use Rattle.wasm_forms.specs.Reading.{◌>>=◌}
 use Rattle.wasm_forms.specs.declared.types.RawHeap.{RawHeap}
@@ -16,7 +16,7 @@ use Rattle.wasm_entries.specs.declared.record.RawExportKind.{RawExportKind}
 use Rattle.wasm_entries.specs.declared.record.RawExportKind.TheVariants as kinds
 use Rattle.wasm_entries.specs.Record as entries
 use Rattle.wasm_frames.specs.Record as wire
-use Rattle.wasm_wire.specs.Indices.{HeapHolds, ValueHolds, ConstHolds, ExpressionHolds, DataModeHolds, InitialHolds, TableHolds, GlobalHolds, DescHolds, IndicesHold, StartExists, count_of, with_globals}
+use Rattle.wasm_wire.specs.Indices.{HeapHolds, ValueHolds, ConstHolds, ExpressionHolds, ElementHolds, ElementModeHolds, ItemsHold, DataModeHolds, InitialHolds, TableHolds, GlobalHolds, DescHolds, IndicesHold, StartExists, count_of, with_globals}
 use Rattle.wasm_wire.specs.declared.rules.counts.Counts.{Counts}
 use Rattle.walrus_base.specs.Types.{HeapType, Concrete, RefType, ValType, Ref}
 use Rattle.walrus_types.specs.Operators.{Space, Types, Functions, Globals, Arg, Index, Number, Byte, Heap, Op}
@@ -26,7 +26,7 @@ use Rattle.walrus_constants.specs.Named.{named_const_op, named_initialiser}
 use Rattle.walrus_model.specs.Abstract.{Global, Table}
 use Rattle.walrus_model.specs.Constants.{const_of, consts_of, plain}
 use Rattle.walrus_model.specs.Sections.{global_of, space_of, table_of}
-use Rattle.walrus_reading.specs.Stays.{AllStay, AreNumbered, ConstStays, DescStays, GlobalStays, ModeStays, RefStays, TableStays, ValStays}
+use Rattle.walrus_reading.specs.Stays.{AllStay, AreNumbered, ConstStays, DescStays, ElementStays, GlobalStays, ItemsStay, ModeStays, PlaceStays, RefStays, TableStays, ValStays}
 
 module _ (names : Lookup) where
   -- ---- an operator, by what its arguments look up to
@@ -123,6 +123,18 @@ module _ (names : Lookup) where
         ap₂ (λ (o : Option (ValType ℕ)) (i : Option (List Op)). o >>= λ value. (i >>= λ found. Some (Some found)) >>= λ initialiser. Some (let found : Global = record { origin = x.origin; ty = record { value = value; mutable = x.ty.mutable; shared = x.ty.shared }; initialiser = initialiser } in found))
         (val_stays c.types a.types g.ty.value h.0) (expression_stays (with_globals c n) (fewer c n le a) g.initial h.1)
 
+    place_stays : (m : entries.ElementMode) → ElementModeHolds c m → PlaceStays names m
+    place_stays (entries.ActiveElements table offset) h = (a.tables (unwrap_or table 0) h.0, expression_stays c a offset h.1)
+    place_stays entries.PassiveElements h = tt
+    place_stays entries.DeclaredElements h = tt
+
+    items_stay : (xs : entries.Items) → ItemsHold c xs → ItemsStay names xs
+    items_stay (entries.Functions fs) h = λ i d lt. a.functions (get_or fs i d) (h i d lt)
+    items_stay (entries.Expressions ty es) h = (ref_stays c.types a.types ty h.0, λ i d lt. expression_stays c a (get_or es i d) (h.1 i d lt))
+
+    element_stays : (e : entries.Element) → ElementHolds c e → ElementStays names e
+    element_stays e h = (place_stays e.mode h.0, items_stay e.items h.1)
+
     mode_stays : (m : entries.DataMode) → DataModeHolds c m → ModeStays names m
     mode_stays (entries.ActiveData memory offset) h = (a.memories memory h.0, expression_stays c a offset h.1)
     mode_stays entries.PassiveData h = tt
@@ -147,5 +159,6 @@ module _ (names : Lookup) where
       globals = λ i d lt. global_stays (c.imported_globals + i) (get_or m.globals i d) (omega (arith, count, lt)) (h.globals i d lt);
       exports = λ i d lt. kind_stays (get_or m.exports i d).kind (get_or m.exports i d).index (h.exports i d lt);
       start = start_stays m.start h.start;
+      elements = λ i d lt. element_stays (get_or m.elements i d) (h.elements i d lt);
       data_segments = λ i d lt. mode_stays (get_or m.data_segments i d).mode (h.data_segments i d lt);
     }

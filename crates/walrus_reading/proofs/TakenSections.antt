@@ -13,18 +13,19 @@ use Rattle.walrus_bodies.specs.FunctionTypes.{is_function_at}
 use Rattle.walrus_bodies.specs.declared.features.Features.{Features}
 use Rattle.walrus_types.specs.Locals.{locals}
 use Rattle.walrus_items.specs.Data.{data_segments}
+use Rattle.walrus_items.specs.Elements.{elements}
 use Rattle.walrus_items.specs.Exports.{exports}
 use Rattle.walrus_items.specs.Functions.{FunctionValue, functions}
 use Rattle.walrus_groups.specs.Groups.{types_from}
 use Rattle.walrus_model.specs.Reads.{declared, is_function, context_with}
-use Rattle.walrus_model.specs.Sections.{Said, data_segments_of, global_of, imported, imported_global, imports_after, imported_table, imported_tag, memories_of, table_of, tag_of, types_of}
+use Rattle.walrus_model.specs.Sections.{Said, data_segments_of, elements_of, global_of, imported, imported_global, imports_after, imported_tag, memories_of, tables_of, tag_of, types_of}
 use Rattle.walrus_items.specs.Imports.{imports}
 use Rattle.walrus_items.specs.Globals.{globals}
 use Rattle.walrus_items.specs.Memories.{memories}
 use Rattle.walrus_items.specs.Tables.{tables}
 use Rattle.walrus_items.specs.Tags.{tags}
 use Rattle.walrus_contents.specs.declared.parts.Contents.{Contents}
-use Rattle.walrus_reading.specs.Held.{HoldsData, HoldsGlobal, HoldsImport, HoldsMemory, HoldsTable, HoldsTag, kept_of}
+use Rattle.walrus_reading.specs.Held.{HoldsData, HoldsElement, HoldsGlobal, HoldsImport, HoldsMemory, HoldsTable, HoldsTag, memory_keeps, table_keeps}
 use Rattle.walrus_reading.specs.Imported.{HoldsImports}
 use Rattle.walrus_reading.specs.Placed.{AddsPlaced, AllPlaced}
 use Rattle.walrus_reading.specs.Taken.{AddsFunctions, AreTaken, HasTaken, HoldsExport, HoldsLocal, TakesFunctions, TakesSections, locals_said}
@@ -61,15 +62,15 @@ module _ (c : Features) (r : wire.Module) (indices : IndicesToIds) (ts : ModuleT
     pub sections_refused : (e : Error) → TakesFunctions (context (ids_at indices) (is_function_at ts) c) (item_at (type_slots ts)) (zip fs bs) all old new (Err e) → TakesSections c r (Err e)
     sections_refused e h = refused e (under_sections (Err e) h)
 
--- what is added behind imports, and then the data segments, which memories keep, is all that the module holds
+-- what is added behind imports, and then the segments, which tables and memories keep, is all that the module holds
 module _ (c : Features) (r : wire.Module) (m b : Contents) (held : HoldsImports r.imports b) where
   pub sections_taken : length r.bodies ≡ length r.functions → type_slots m.types ≡ map Some (types_from 0 r.types) → All (λ name. name ≡ Some None) (type_names m.types)
       → AreTaken (context_with c r) (types_of r) (zip r.functions r.bodies) (locals m.locals) (functions b.funcs) (functions m.funcs)
-      → imports m.imports ≡ imports b.imports → AddsPlaced HoldsTable (map table_of r.tables) (tables b.tables) (tables m.tables)
-      → AllPlaced (HoldsMemory (kept_of (data_segments_of r))) 0 (memories_of r) (memories m.memories)
+      → imports m.imports ≡ imports b.imports → AllPlaced (HoldsTable (table_keeps (elements_of r))) 0 (tables_of r) (tables m.tables)
+      → AllPlaced (HoldsMemory (memory_keeps (data_segments_of r))) 0 (memories_of r) (memories m.memories)
       → AddsPlaced HoldsTag (map tag_of r.tags) (tags b.tags) (tags m.tags) → AddsPlaced HoldsGlobal (map global_of r.globals) (globals b.globals) (globals m.globals) → AllPlaced HoldsExport 0 r.exports (exports m.exports)
-      → option_map place m.start ≡ r.start → AllPlaced HoldsData 0 (data_segments_of r) (data_segments m.data_) → HasTaken c r m
-  sections_taken many typed unnamed taken same_imports with_tables with_memories with_tags with_globals exported started with_data =
+      → option_map place m.start ≡ r.start → AllPlaced HoldsElement 0 (elements_of r) (elements m.elements) → AllPlaced HoldsData 0 (data_segments_of r) (data_segments m.data_) → HasTaken c r m
+  sections_taken many typed unnamed taken same_imports with_tables with_memories with_tags with_globals exported started with_elements with_data =
       let s = saids_of (context_with c r) (types_of r) r.functions r.bodies taken.said many taken.read in
       record {
         bodies = s.0;
@@ -85,9 +86,10 @@ module _ (c : Features) (r : wire.Module) (m b : Contents) (held : HoldsImports 
         exports = exported;
         start = started;
         imports = subst (λ l. AllPlaced HoldsImport 0 (imports_after [] r.imports) l) (sym same_imports) held.imports;
-        tables = placed_more HoldsTable (imported imported_table 0 r.imports) (map table_of r.tables) (tables b.tables) (tables m.tables) held.tables with_tables;
+        tables = with_tables;
         memories = with_memories;
         tags = placed_more HoldsTag (imported imported_tag 0 r.imports) (map tag_of r.tags) (tags b.tags) (tags m.tags) held.tags with_tags;
         globals = placed_more HoldsGlobal (imported imported_global 0 r.imports) (map global_of r.globals) (globals b.globals) (globals m.globals) held.globals with_globals;
+        elements = with_elements;
         data_segments = with_data;
       }

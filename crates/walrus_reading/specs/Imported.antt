@@ -20,7 +20,7 @@ use Rattle.walrus_reading.specs.Placed.{AddsPlaced, AllPlaced}
 pub record HoldsImports (raw : List entries.Import) (m : Contents) : Type 0 where
   pub imports : AllPlaced HoldsImport 0 (imports_after [] raw) (imports m.imports)
   pub functions : AllPlaced HoldsImportedFunction 0 (imported imported_function 0 raw) (functions m.funcs)
-  pub tables : AllPlaced HoldsTable 0 (imported imported_table 0 raw) (tables m.tables)
+  pub tables : AllPlaced (HoldsTable none_kept) 0 (imported imported_table 0 raw) (tables m.tables)
   pub memories : AllPlaced (HoldsMemory none_kept) 0 (imported imported_memory 0 raw) (memories m.memories)
   pub tags : AllPlaced HoldsTag 0 (imported imported_tag 0 raw) (tags m.tags)
   pub globals : AllPlaced HoldsGlobal 0 (imported imported_global 0 raw) (globals m.globals)
@@ -29,6 +29,7 @@ pub record HoldsImports (raw : List entries.Import) (m : Contents) : Type 0 wher
 pub record SameOthers (old new : Contents) : Type 0 where
   pub types : new.types ≡ old.types
   pub locals : new.locals ≡ old.locals
+  pub elements : new.elements ≡ old.elements
   pub data_ : new.data_ ≡ old.data_
   pub exports : new.exports ≡ old.exports
   pub producers : new.producers ≡ old.producers
@@ -50,7 +51,7 @@ next_import m x = record { module_name = x.from; name = x.name; item = next_item
 -- what the import of this number brings stands behind the others of its space
 pub record Brings (i : ℕ) (d : RawDesc) (old new : Contents) : Type 0 where
   pub functions : AddsPlaced HoldsImportedFunction (option_to_list (imported_function i d)) (functions old.funcs) (functions new.funcs)
-  pub tables : AddsPlaced HoldsTable (option_to_list (imported_table i d)) (tables old.tables) (tables new.tables)
+  pub tables : AddsPlaced (HoldsTable none_kept) (option_to_list (imported_table i d)) (tables old.tables) (tables new.tables)
   pub memories : AddsPlaced (HoldsMemory none_kept) (option_to_list (imported_memory i d)) (memories old.memories) (memories new.memories)
   pub tags : AddsPlaced HoldsTag (option_to_list (imported_tag i d)) (tags old.tags) (tags new.tags)
   pub globals : AddsPlaced HoldsGlobal (option_to_list (imported_global i d)) (globals old.globals) (globals new.globals)

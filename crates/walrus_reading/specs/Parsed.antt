@@ -3,19 +3,19 @@ use Rattle.wasm_frames.specs.Record as wire
 use Rattle.std.specs.Prelude.{ℕ, Bool, List, false, zip, ◌≡◌, ⊤}
 use Rattle.walrus_model.specs.Abstract.{Abstract}
 use Rattle.walrus_model.specs.Config.{Config}
-use Rattle.walrus_model.specs.Declared.{NothingUndeclared}
 use Rattle.walrus_rules.specs.Chain.{ParsedAs}
 use Rattle.walrus_rules.specs.Features.{features_of}
 use Rattle.walrus_rules.specs.SoFar.{ReadsSoFar, AcceptsSoFar}
 use Rattle.walrus_model.specs.Reads.{ReadsBodyWith}
 use Rattle.walrus_bodies.specs.declared.features.Features.{Features}
-use Rattle.walrus_model.specs.Sections.{Said, module_of}
+use Rattle.walrus_model.specs.Sections.{Said}
 use Rattle.walrus_model.specs.Rules.{Holds}
 use Rattle.walrus_model.specs.Supported.{IsSupported}
 use Rattle.std.specs.List.{AllZip}
 use Rattle.walrus_items.specs.Functions.{ModuleFunctions, functions}
 use Rattle.walrus_items.specs.Imports.{imports}
 use Rattle.walrus_items.specs.Data.{data_segments}
+use Rattle.walrus_items.specs.Elements.{elements}
 use Rattle.walrus_items.specs.Globals.{globals}
 use Rattle.walrus_items.specs.Memories.{memories}
 use Rattle.walrus_items.specs.Tables.{tables}
@@ -76,11 +76,12 @@ pub record ItemsAtOwnIds (m : Contents) : Type 0 where
   pub memories : AtOwnIds (λ x. x.id) (memories m.memories)
   pub tags : AtOwnIds (λ x. x.id) (tags m.tags)
   pub globals : AtOwnIds (λ x. x.id) (globals m.globals)
+  pub elements : AtOwnIds (λ x. x.id) (elements m.elements)
   pub data_segments : AtOwnIds (λ x. x.id) (data_segments m.data_)
 
 -- ---- for the functions inside
 
--- the bytes frame sections that keep the rules, each body is read, and each function that ref.func names is exported
+-- the bytes frame sections that keep the rules, and each body is read
 pub record AreModule (features : Features) (bytes : List ℕ) : Type 0 where
   pub sections : wire.Module
   pub framed : Frames bytes sections
@@ -88,7 +89,6 @@ pub record AreModule (features : Features) (bytes : List ℕ) : Type 0 where
   pub rules : Rules sections
   pub bodies : List Said
   pub read : AllZip (ReadsBodyWith features sections) (zip sections.functions sections.bodies) bodies
-  pub references : NothingUndeclared (module_of sections bodies)
 
 -- refused for want of memory, or since the bytes are no module
 abbrev pub RefusesModule : Features → List ℕ → Error → Type 0

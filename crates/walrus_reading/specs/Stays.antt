@@ -1,5 +1,5 @@
 -- That each index in what was read is declared, and leads to an item whose place has that number: while a module is read no item is deleted.
-use Rattle.std.specs.Prelude.{ℕ, ◌+◌, ◌<◌, length, All, Option, Some, option_and_then, ◌≡◌, ⊤}
+use Rattle.std.specs.Prelude.{ℕ, ◌+◌, ◌<◌, length, All, Option, Some, option_and_then, unwrap_or, ◌≡◌, ⊤}
 use Rattle.wasm_forms.specs.declared.types.RawRef.{RawRef}
 use Rattle.wasm_forms.specs.declared.types.RawVal.{RawVal}
 use Rattle.wasm_entries.specs.declared.record.RawDesc.{RawDesc}
@@ -40,6 +40,25 @@ module _ (names : Lookup) where
   abbrev pub GlobalStays : entries.Global → Type 0
   GlobalStays g = named_global names (global_of g) ≡ Some (global_of g)
 
+  -- the index of a function
+  abbrev pub FunctionStays : ℕ → Type 0
+  FunctionStays f = names Functions f ≡ Some f
+
+  -- of active elements that of their table, which is table 0 where none is named, and those in their offset
+  abbrev pub PlaceStays : entries.ElementMode → Type 0
+  PlaceStays (entries.ActiveElements table offset) = (names Tables (unwrap_or table 0) ≡ Some (unwrap_or table 0)) × ConstStays offset
+  PlaceStays entries.PassiveElements = ⊤
+  PlaceStays entries.DeclaredElements = ⊤
+
+  -- those in what a segment of elements lists
+  abbrev pub ItemsStay : entries.Items → Type 0
+  ItemsStay (entries.Functions fs) = All FunctionStays fs
+  ItemsStay (entries.Expressions ty es) = RefStays ty × All ConstStays es
+
+  -- those in an element segment
+  abbrev pub ElementStays : entries.Element → Type 0
+  ElementStays e = PlaceStays e.mode × ItemsStay e.items
+
   -- of active data that of its memory, and those in its offset
   abbrev pub ModeStays : entries.DataMode → Type 0
   ModeStays (entries.ActiveData memory offset) = (names Memories memory ≡ Some memory) × ConstStays offset
@@ -74,6 +93,7 @@ module _ (names : Lookup) where
     pub globals : All GlobalStays m.globals
     pub exports : All ExportStays m.exports
     pub start : StartStays m.start
+    pub elements : All ElementStays m.elements
     pub data_segments : All DataStays m.data_segments
 
   -- each of so many items of a space has the place of its index

@@ -30,13 +30,14 @@ use Rattle.walrus_groups.specs.Groups.{types_from}
 use Rattle.walrus_model.specs.Reads.{ReadsBodyWith}
 use Rattle.walrus_items.specs.Imports.{imports}
 use Rattle.walrus_items.specs.Data.{data_segments}
+use Rattle.walrus_items.specs.Elements.{elements}
 use Rattle.walrus_items.specs.Globals.{globals}
 use Rattle.walrus_items.specs.Memories.{memories}
 use Rattle.walrus_items.specs.Tables.{tables}
 use Rattle.walrus_items.specs.Tags.{tags}
 use Rattle.walrus_model.specs.Abstract.{Function}
-use Rattle.walrus_model.specs.Sections.{Said, imported, imported_function, imports_after, types_of, export_of, tables_of, memories_of, tags_of, globals_of, data_segments_of}
-use Rattle.walrus_reading.specs.Held.{HoldsData, HoldsGlobal, HoldsImport, HoldsImportedFunction, HoldsMemory, HoldsTable, HoldsTag, kept_of}
+use Rattle.walrus_model.specs.Sections.{Said, imported, imported_function, imports_after, types_of, export_of, tables_of, memories_of, tags_of, globals_of, elements_of, data_segments_of}
+use Rattle.walrus_reading.specs.Held.{HoldsData, HoldsElement, HoldsGlobal, HoldsImport, HoldsImportedFunction, HoldsMemory, HoldsTable, HoldsTag, memory_keeps, table_keeps}
 use Rattle.walrus_contents.specs.View as view
 use Rattle.walrus_contents.specs.declared.parts.Contents.{Contents}
 use Rattle.walrus_reading.specs.Placed.{AddsPlaced, AllPlaced}
@@ -129,10 +130,11 @@ pub record HasTaken (features : Features) (r : wire.Module) (m : Contents) : Typ
   pub exports : AllPlaced HoldsExport 0 r.exports (exports m.exports)
   pub start : option_map place m.start ≡ r.start
   pub imports : AllPlaced HoldsImport 0 (imports_after [] r.imports) (imports m.imports)
-  pub tables : AllPlaced HoldsTable 0 (tables_of r) (tables m.tables)
-  pub memories : AllPlaced (HoldsMemory (kept_of (data_segments_of r))) 0 (memories_of r) (memories m.memories)
+  pub tables : AllPlaced (HoldsTable (table_keeps (elements_of r))) 0 (tables_of r) (tables m.tables)
+  pub memories : AllPlaced (HoldsMemory (memory_keeps (data_segments_of r))) 0 (memories_of r) (memories m.memories)
   pub tags : AllPlaced HoldsTag 0 (tags_of r) (tags m.tags)
   pub globals : AllPlaced HoldsGlobal 0 (globals_of r) (globals m.globals)
+  pub elements : AllPlaced HoldsElement 0 (elements_of r) (elements m.elements)
   pub data_segments : AllPlaced HoldsData 0 (data_segments_of r) (data_segments m.data_)
 
 -- taken in: the module holds the sections; refused: the bodies aren't read, or memory ran out

@@ -22,12 +22,12 @@ ghost use Rattle.walrus_reading.specs.Numbers.{FitsIndices};
 ghost use Rattle.walrus_reading.specs.Placed.{AllPlaced};
 ghost use Rattle.walrus_reading.specs.Taken.{AddLocated, AddsExport, AddsLocalsOf, AddsLocated, AreLocatedIn, HoldsExport, IsPlace, TakesFunction, TakesFunctions, TakesSections, context_under, types_under};
 ghost use Rattle.walrus_model.specs.Sections.{space_of};
-ghost use Rattle.walrus_model.specs.Supported.{IsSupported};
 ghost use Rattle.walrus_reading.specs.Sections.{Rules};
 ghost use Rattle.walrus_parts.specs.Errors.{out_of_memory};
 ghost use Rattle.wasm_entries.specs.Record.{group, export_entry};
 ghost use Rattle.wasm_frames.specs.Record.{body_record, sections};
 
+use crate::elements::add_elements;
 use crate::entities::{add_globals, add_memories, add_tables, add_tags};
 use crate::imports::add_imports;
 use crate::numbers::number_items;
@@ -53,7 +53,6 @@ use wasm_wire::{Raw, RawBody, RawExport, RawExportKind, RawGroup};
 /// `InvalidWasm` exactly where a body isn't read, and `Memory`.
 pub(crate) fn read_contents(alloc: Global, raw: &Raw<'_>, features: &Features) -> Result<Contents>
     requires rules { Rules (sections raw.now) }
-    requires supported { IsSupported (sections raw.now) }
     requires room { FitsIndices (sections raw.now) }
     ensures taken { TakesSections features.now (sections raw.now) result }
     ensures located { IfOk result (λ m. AreLocatedIn (sections raw.now) (functions m.funcs)) }
@@ -81,6 +80,13 @@ pub(crate) fn read_contents(alloc: Global, raw: &Raw<'_>, features: &Features) -
     add_memories(&raw.memories, &mut contents.memories)?;
     add_tags(&raw.tags, &indices, &mut contents.tags)?;
     add_globals(alloc, &raw.globals, &indices, &mut contents.globals)?;
+    add_elements(
+        alloc,
+        &raw.elements,
+        &indices,
+        &mut contents.tables,
+        &mut contents.elements,
+    )?;
     add_data(
         alloc,
         &raw.data_,

@@ -102,7 +102,7 @@ pub(crate) fn read_reference(raw: RawRef, indices: &IndicesToIds) -> RefType
     ty
 }
 
-/// The constant expression that initialises an item, or says where data begins.
+/// The constant expression that initialises an item, or says where a segment begins.
 pub(crate) fn read_initialiser(
     alloc: Global,
     raw: &[RawConst],
@@ -142,8 +142,8 @@ fn add_table(
     all: &mut ModuleTables,
 ) -> Result<()>
     requires stays { TableStays (ids_at indices.now) (table_entry raw.now) }
-    ensures added { OnOk result (AddsPlaced HoldsTable (table_of (table_entry raw.now) ∷ []) (tables all.old)
-        (tables all.new)) }
+    ensures added { OnOk result (AddsPlaced (HoldsTable none_kept) (table_of (table_entry raw.now) ∷ [])
+        (tables all.old) (tables all.new)) }
     ensures fails { IsOkUnless result out_of_memory }
 {
     let limits = raw.ty.limits;
@@ -167,7 +167,7 @@ pub(crate) fn add_tables(
     all: &mut ModuleTables,
 ) -> Result<()>
     requires stay { All (TableStays (ids_at indices.now)) (map table_entry raw.now) }
-    ensures added { OnOk result (AddsPlaced HoldsTable (map table_of (map table_entry raw.now))
+    ensures added { OnOk result (AddsPlaced (HoldsTable none_kept) (map table_of (map table_entry raw.now))
         (tables all.old) (tables all.new)) }
     ensures fails { IsOkUnless result out_of_memory }
 {

@@ -58,7 +58,7 @@ fn import_table(
 ) -> Result<TableId>
     requires stays { RefStays (ids_at indices.now) ty.element }
     ensures id { IfOk result (λ id. place id ≡ length (tables all.old)) }
-    ensures added { OnOk result (AddsPlaced HoldsTable
+    ensures added { OnOk result (AddsPlaced (HoldsTable none_kept)
         (option_to_list (imported_table (place «import») (descs.Table ty)))
         (tables all.old) (tables all.new)) }
     ensures fails { IsOkUnless result out_of_memory }

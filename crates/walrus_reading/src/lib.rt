@@ -2,6 +2,7 @@
 #![tactic(auto)]
 
 mod contents;
+mod elements;
 mod entities;
 mod imports;
 mod law;

@@ -8,9 +8,9 @@ use crate::contents::read_contents;
 use crate::numbers::check_room;
 use crate::supported::check_supported;
 use std::alloc::Global;
-use walrus_contents::{Contents, are_references_declared};
+use walrus_contents::Contents;
 use walrus_ir::Features;
-use walrus_parts::{Error, ErrorKind, Result};
+use walrus_parts::Result;
 use wasm_wire::{check, read_module};
 
 /// What the module holds that the bytes are ("Binary Format > Modules"). Its bodies may use all proposals that are read so far, or the
@@ -38,9 +38,5 @@ pub fn read(alloc: Global, bytes: &[u8], only_stable: bool) -> Result<Contents>
     check_supported(&raw)?;
     check_room(&raw)?;
     let contents = read_contents(alloc, &raw, &features)?;
-    if are_references_declared(alloc, contents.parts())? {
-        Ok(contents)
-    } else {
-        Err(Error::InvalidWasm(ErrorKind::InvalidWasm))
-    }
+    Ok(contents)
 }

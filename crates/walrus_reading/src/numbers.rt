@@ -7,7 +7,6 @@ ghost use Rattle.walrus_types.specs.Operators.{Space, Types};
 ghost use Rattle.walrus_code.specs.Indices.{ids_at, places_in, places_of};
 ghost use Rattle.walrus_groups.specs.Groups.{types_from};
 ghost use Rattle.walrus_model.specs.Reads.{declared};
-ghost use Rattle.walrus_model.specs.Supported.{IsSupported};
 ghost use Rattle.walrus_parts.specs.Errors.{out_of_memory};
 ghost use Rattle.walrus_reading.specs.Imported.{HoldsImports};
 ghost use Rattle.walrus_reading.specs.Numbers.{FitsIndices, HasRoomFor};
@@ -43,7 +42,6 @@ pub(crate) fn number_items(
     contents: &Contents,
     indices: &mut IndicesToIds,
 ) -> Result<()>
-    requires supported { IsSupported (sections raw.now) }
     requires room { FitsIndices (sections raw.now) }
     requires held { HoldsImports (sections raw.now).imports contents.now }
     requires types { places_in indices.old Types
@@ -61,6 +59,7 @@ pub(crate) fn number_items(
     )?;
     indices.tags = in_place(alloc, contents.tags.next_id().index(), raw.tags.len())?;
     indices.globals = in_place(alloc, contents.globals.next_id().index(), raw.globals.len())?;
+    indices.elements = in_place(alloc, 0, raw.elements.len())?;
     indices.data_ = in_place(alloc, 0, data_count(raw) as usize)?;
     Ok(())
 }

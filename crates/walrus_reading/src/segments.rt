@@ -10,10 +10,10 @@ ghost use Rattle.walrus_items.specs.Data.{data_segments};
 ghost use Rattle.walrus_items.specs.Memories.{memories};
 ghost use Rattle.walrus_model.specs.Abstract.{ActiveData};
 ghost use Rattle.walrus_model.specs.Constants.{consts_of};
-ghost use Rattle.walrus_model.specs.Sections.{data_kind, data_of, is_on_memory};
+ghost use Rattle.walrus_model.specs.Sections.{data_kind, data_of};
 ghost use Rattle.walrus_parts.specs.Errors.{out_of_memory};
 ghost use Rattle.walrus_reading.specs.Held.{HasShortOffset, HoldsData};
-ghost use Rattle.walrus_reading.specs.Kept.{IsOnLive, keep_all, kept_from};
+ghost use Rattle.walrus_reading.specs.Kept.{IsOnLive, all_data_kept, data_kept, kept_from, memory_keeping};
 ghost use Rattle.walrus_reading.specs.Placed.{AddsPlaced};
 ghost use Rattle.walrus_reading.specs.Stays.{ConstStays, DataStays, ModeStays};
 
@@ -60,8 +60,8 @@ fn read_kind(alloc: Global, raw: &RawDataMode, indices: &IndicesToIds) -> Result
 // The memory keeps the segment from now on.
 fn keep(memory: MemoryId, segment: DataId, all: &mut ModuleMemories) -> Result<()>
     requires there { IsLive (memories all.old) (place memory) }
-    ensures kept { OnOk result (memories all.new ≡ kept_from 0 (λ y. place memory == y) (place segment)
-        (memories all.old)) }
+    ensures kept { OnOk result (memories all.new ≡ kept_from memory_keeping 0 (λ y. place memory == y)
+        (place segment) (memories all.old)) }
     ensures fails { IsOkUnless result out_of_memory }
 {
     all.get_mut(memory).data_segments.insert(segment)?;
@@ -71,8 +71,8 @@ fn keep(memory: MemoryId, segment: DataId, all: &mut ModuleMemories) -> Result<(
 // The memory that a segment of this kind is active in keeps it from now on.
 fn keep_active(kind: &DataKind, segment: DataId, all: &mut ModuleMemories) -> Result<()>
     requires there { IsOnLive (memories all.old) (data_kind_of kind.now) }
-    ensures kept { OnOk result (memories all.new ≡ kept_from 0 (λ y. is_on_memory y (data_kind_of kind.now))
-        (place segment) (memories all.old)) }
+    ensures kept { OnOk result (memories all.new
+        ≡ data_kept (data_kind_of kind.now) (place segment) (memories all.old)) }
     ensures fails { IsOkUnless result out_of_memory }
 {
     match kind {
@@ -93,8 +93,7 @@ fn add_segment(
     requires there { IsOnLive (memories within.old) (data_kind (data_entry raw.now).mode) }
     ensures added { OnOk result (AddsPlaced HoldsData (data_of (data_entry raw.now) ∷ [])
         (data_segments all.old) (data_segments all.new)) }
-    ensures kept { OnOk result (memories within.new
-        ≡ kept_from 0 (λ y. is_on_memory y (data_kind (data_entry raw.now).mode))
+    ensures kept { OnOk result (memories within.new ≡ data_kept (data_kind (data_entry raw.now).mode)
         (length (data_segments all.old)) (memories within.old)) }
     ensures fails { IsOkUnless result out_of_memory }
 {
@@ -118,7 +117,7 @@ pub(crate) fn add_data(
     requires there { All (λ d. IsOnLive (memories within.old) (data_kind d.mode)) (map data_entry raw.now) }
     ensures added { OnOk result (AddsPlaced HoldsData (map data_of (map data_entry raw.now))
         (data_segments all.old) (data_segments all.new)) }
-    ensures kept { OnOk result (memories within.new ≡ keep_all (length (data_segments all.old))
+    ensures kept { OnOk result (memories within.new ≡ all_data_kept (length (data_segments all.old))
         (map data_of (map data_entry raw.now)) (memories within.old)) }
     ensures fails { IsOkUnless result out_of_memory }
 {

@@ -1,5 +1,4 @@
-//! Whether sections hold only what is supported so far: types, imports, functions with bodies, tables, memories, tags, globals,
-//! exports, the start function, the data count and data segments.
+//! Whether sections hold only what is supported so far: all but custom sections.
 //! This is the one place that refuses the rest.
 ghost use Rattle.std.specs.Prelude.{◌≡◌};
 ghost use Rattle.wasm_frames.specs.Record.{sections};
@@ -9,12 +8,11 @@ ghost use Rattle.walrus_reading.specs.SupportedOnly.{holds_supported};
 
 use wasm_wire::{Raw, WireError};
 
-// Whether there are types, imports, functions, tables, memories, tags, globals, exports, bodies, a start function, a data count and
-// data segments alone.
+// Whether there are no custom sections.
 fn holds_supported(raw: &Raw<'_>) -> bool
     ensures { result ≡ holds_supported (sections raw.now) }
 {
-    raw.elements.is_empty() && raw.customs.is_empty()
+    raw.customs.is_empty()
 }
 
 /// Whether the sections hold only what is supported so far.

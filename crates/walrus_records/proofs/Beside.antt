@@ -1,9 +1,8 @@
--- Names and producers bear on no rule, and declare nothing.
+-- Names and producers bear on no rule.
 use Rattle.std.proofs.Common.{List, [], ◌∷◌, Bool}
 use Rattle.std.specs.Prelude.{Contains}
 use Rattle.walrus_types.specs.Operators.{Types, Functions, Tables, Memories, Tags, Globals, Elements, DataSegments, Item, Op}
 use Rattle.walrus_model.specs.Abstract.{Abstract, Name, Subject, ProducerField}
-use Rattle.walrus_model.specs.Declared.{NothingUndeclared}
 use Rattle.walrus_model.specs.Live.{IsLive}
 use Rattle.walrus_model.specs.Refers.{written_in}
 use Rattle.walrus_model.specs.Rules.{Holds, OffsetHolds}
@@ -57,6 +56,3 @@ module _ (a : Abstract) (p : List ProducerField) (n : Subject → List Name) whe
     };
     locals = h.locals;
   }
-
-  pub declared_beside : NothingUndeclared a → NothingUndeclared b
-  declared_beside h f u = h f (record { named = u.named; not_exported = u.not_exported; not_listed = u.not_listed })

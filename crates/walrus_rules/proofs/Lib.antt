@@ -103,8 +103,6 @@ pub mod WrittenBodies
 pub mod FitsTold
 pub mod TextFits
 pub mod FitsLimits
-pub mod DeclaredStays
-pub mod ReadSegments
 pub mod ReadSoFar
 pub mod Runs
 pub mod ReadExample

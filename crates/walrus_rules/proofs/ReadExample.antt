@@ -33,9 +33,7 @@ use Rattle.walrus_rules.proofs.Worked.{one_spelled}
 use Rattle.walrus_model.specs.Sections.{body_with}
 use Rattle.walrus_model.proofs.Supported.{are_supported}
 use Rattle.walrus_model.specs.Abstract.{Body}
-use Rattle.walrus_model.specs.Declared.{ref_func, NothingUndeclared}
 use Rattle.walrus_model.specs.Names.{body_of}
-use Rattle.walrus_model.proofs.Lists.{Contains-uncons, Contains-none}
 use Rattle.walrus_types.specs.Operators.{Op}
 use Rattle.walrus_model.specs.Examples.{no_values, export_f, empty_body, just_end, two_functions_sections, one_function_sections, two_functions, one_function}
 
@@ -224,47 +222,18 @@ in_order =
     (All-cons (StandsBefore 7) 10 [] (stands 7 11 7 10 (omega arith) refl refl) (All-nil (StandsBefore 7)))
     (AllPairs-cons StandsBefore 10 [] (All-nil (StandsBefore 10)) (λ i j d less at. absurd (omega arith)))))
 
--- ---- no function is named by ref.func
-
-one_alone : (x y : Op) → Contains (x ∷ []) y → x ≡ y
-one_alone x y at = ⊎_elim (λ e. e) (λ none. absurd (Contains-none y none)) (Contains-uncons x y [] at)
-
-just_ends : (b : Body) (f : ℕ) → b.operators ≡ just_end → Contains b.operators (ref_func f) → ⊥
-just_ends b f is at = differ 0x0B 0xD2 (ap (λ (o : Op). o.op) (one_alone (record { op = 0x0B; args = [] }) (ref_func f) (subst (λ (ops : List Op). Contains ops (ref_func f)) is at))) refl refl
-  where
-    differ : (n m : ℕ) → n ≡ m → n ≡ 0x0B → m ≡ 0xD2 → ⊥
-    differ n m same p q = omega arith
-
-ended : (b : Body) → Some (body_with [] ([], just_end)) ≡ Some b → b.operators ≡ just_end
-ended b e = let same : body_with [] ([], just_end) ≡ b = cc in ap (λ (c : Body). c.operators) (sym same)
-
-two_end : (i : ℕ) (b : Body) → body_of two_functions i ≡ Some b → b.operators ≡ just_end
-two_end zero b e = ended b e
-two_end (suc zero) b e = ended b e
-two_end (suc (suc i)) b e = absurd (cc)
-
-one_ends : (i : ℕ) (b : Body) → body_of one_function i ≡ Some b → b.operators ≡ just_end
-one_ends zero b e = ended b e
-one_ends (suc i) b e = absurd (cc)
-
-two_declare : NothingUndeclared two_functions
-two_declare f u = ⊎_elim (λ body. just_ends body.1 f (two_end body.0 body.1 body.3) body.4) (λ global. let is = global.4 in absurd (cc)) u.named
-
-one_declares : NothingUndeclared one_function
-one_declares f u = ⊎_elim (λ body. just_ends body.1 f (one_ends body.0 body.1 body.3) body.4) (λ global. let is = global.4 in absurd (cc)) u.named
-
 no_count : (n : ℕ) {X : Type 0} → ◌≡◌ {A = Option ℕ} None (Some n) → X
 no_count n e = absurd (cc)
 
 pub two_functions_read : (c : Config) → ReadsSoFar c two_functions_bytes two_functions
 two_functions_read c =
     reads_so_far c two_functions_bytes two_functions_sections (([], just_end) ∷ ([], just_end) ∷ []) two_frames (are_supported two_functions_sections) in_order refl (λ n is. no_count n is)
-    (body_read c two_functions_sections (locals_from 0 0), (body_read c two_functions_sections (locals_from 0 0), tt)) two_declare
+    (body_read c two_functions_sections (locals_from 0 0), (body_read c two_functions_sections (locals_from 0 0), tt))
 
 pub one_function_read : (c : Config) → ReadsSoFar c one_function_bytes one_function
 one_function_read c =
     reads_so_far c one_function_bytes one_function_sections (([], just_end) ∷ []) one_frames (are_supported one_function_sections) in_order refl (λ n is. no_count n is)
-    (body_read c one_function_sections (locals_from 0 0), tt) one_declares
+    (body_read c one_function_sections (locals_from 0 0), tt)
 
 -- what the text of the worked row says is this module
 pub same_modules : worked.one_function ≡ one_function

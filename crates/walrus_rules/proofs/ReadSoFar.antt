@@ -10,7 +10,6 @@ use Rattle.wasm_payloads.specs.Names.{Named, Names}
 use Rattle.wasm_payloads.specs.Producers.{Field, Fields}
 use Rattle.walrus_model.specs.Abstract.{Abstract, Name, ProducerField, Subject}
 use Rattle.walrus_model.specs.Config.{Config}
-use Rattle.walrus_model.specs.Declared.{NothingUndeclared}
 use Rattle.walrus_model.specs.Sections as sections
 use Rattle.walrus_model.specs.Sections.{Said}
 use Rattle.walrus_model.specs.Supported.{IsSupported}
@@ -53,12 +52,11 @@ reads_supported c bytes s bodies framed supported in_order as_many counted read 
 }
 
 pub reads_so_far : (c : Config) (bytes : List ℕ) (s : wire.Module) (bodies : List Said) → Frames bytes s → IsSupported s → InOrder s.order → length s.bodies ≡ length s.functions → CountHolds s
-    → AllZip (ReadsBody c s) (zip s.functions s.bodies) bodies → NothingUndeclared (sections.module_of s bodies) → ReadsSoFar c bytes (sections.module_of s bodies)
+    → AllZip (ReadsBody c s) (zip s.functions s.bodies) bodies → ReadsSoFar c bytes (sections.module_of s bodies)
 unfolding reads_supported
-reads_so_far c bytes s bodies framed supported in_order as_many counted read declared = record {
+reads_so_far c bytes s bodies framed supported in_order as_many counted read = record {
   reads = reads_supported c bytes s bodies framed supported in_order as_many counted read;
   supported = supported;
-  declared = declared;
 }
 
 -- and back

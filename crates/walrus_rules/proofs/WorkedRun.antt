@@ -36,7 +36,7 @@ use Rattle.walrus_rules.proofs.NeedsBase.{no_item, one_carried, no_items, given,
 use Rattle.walrus_rules.proofs.NotBoth.{not_both}
 use Rattle.walrus_rules.proofs.OneOutput.{one_output}
 use Rattle.walrus_rules.proofs.ReadExample.{two_functions_read, one_function_read, same_modules}
-use Rattle.walrus_rules.proofs.Runs.{output_so_far}
+use Rattle.walrus_rules.proofs.Runs.{leaves_itself, output_so_far}
 use Rattle.walrus_rules.proofs.SpelledFits.{spelled_fits}
 use Rattle.walrus_rules.proofs.Worked.{one_spelled}
 use Rattle.walrus_rules.proofs.WorkedWritten.{the_type, the_body, the_function, same_type, no_ref, no_local}
@@ -381,7 +381,7 @@ row_fits c = let ss = sections_of one_spelled.text in λ i s less. spelled_fits 
 
 comes_to_one : (c : Config) → c.writes_names ≡ false → c.writes_producers ≡ false → ComesTo c two_functions_bytes one_function_bytes
 comes_to_one c names producers =
-    output_so_far c two_functions_bytes one_function_bytes two_functions (parsed c) (left c) (two_functions_read c) two_functions_hold (two_parsed c) (two_collected c)
+    output_so_far c two_functions_bytes one_function_bytes two_functions (parsed c) (left c) (left c) (two_functions_read c) two_functions_hold (two_parsed c) (two_collected c) (leaves_itself (left c) (names_none c))
     (record { module_written = one_function; written = left_written c names producers; spelled = one_spelled; fits = row_fits c })
 
 pub row_runs : (c : Config) → c.writes_names ≡ false → c.writes_producers ≡ false → RowRuns c

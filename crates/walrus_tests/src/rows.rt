@@ -6,7 +6,7 @@ use std::test::Fail;
 use test_support::{add_bytes, demand};
 
 // Inputs and what they come to, in hexadecimal.
-const ROWS: [(&str, &str); 32] = [
+const ROWS: [(&str, &str); 36] = [
     // the header alone
     ("00 61 73 6D 01 00 00 00", "00 61 73 6D 01 00 00 00"),
     // two empty functions, of which the second is exported
@@ -53,6 +53,11 @@ const ROWS: [(&str, &str); 32] = [
     (
         "00 61 73 6D 01 00 00 00 01 04 01 60 00 00 03 02 01 00 07 05 01 01 66 00 00 0A 07 01 05 00 D2 00 1A 0B",
         "00 61 73 6D 01 00 00 00 01 04 01 60 00 00 03 02 01 00 07 05 01 01 66 00 00 0A 07 01 05 00 D2 00 1A 0B",
+    ),
+    // a reference to a function that nothing declares
+    (
+        "00 61 73 6D 01 00 00 00 01 04 01 60 00 00 03 03 02 00 00 07 05 01 01 66 00 00 0A 0A 02 05 00 D2 01 1A 0B 02 00 0B",
+        "00 61 73 6D 01 00 00 00 01 04 01 60 00 00 03 03 02 00 00 07 05 01 01 66 00 00 09 05 01 03 00 01 01 0A 0A 02 05 00 D2 01 1A 0B 02 00 0B",
     ),
     // of two imported functions the second is exported
     (
@@ -123,6 +128,21 @@ const ROWS: [(&str, &str); 32] = [
         "00 61 73 6D 01 00 00 00 05 05 01 00 80 80 04 07 05 01 01 6D 02 00",
         "00 61 73 6D 01 00 00 00 05 05 01 00 80 80 04 07 05 01 01 6D 02 00",
     ),
+    // an active segment, and with it its table and its function
+    (
+        "00 61 73 6D 01 00 00 00 01 04 01 60 00 00 03 02 01 00 04 04 01 70 00 01 09 07 01 00 41 00 0B 01 00 0A 04 01 02 00 0B",
+        "00 61 73 6D 01 00 00 00 01 04 01 60 00 00 03 02 01 00 04 04 01 70 00 01 09 07 01 00 41 00 0B 01 00 0A 04 01 02 00 0B",
+    ),
+    // one in a table that an import brings
+    (
+        "00 61 73 6D 01 00 00 00 01 04 01 60 00 00 02 09 01 01 6D 01 74 01 70 00 01 03 02 01 00 09 07 01 00 41 00 0B 01 00 0A 04 01 02 00 0B",
+        "00 61 73 6D 01 00 00 00 01 04 01 60 00 00 02 09 01 01 6D 01 74 01 70 00 01 03 02 01 00 09 07 01 00 41 00 0B 01 00 0A 04 01 02 00 0B",
+    ),
+    // one that names table 0, and whose functions are expressions
+    (
+        "00 61 73 6D 01 00 00 00 01 04 01 60 00 00 02 09 01 01 6D 01 74 01 70 00 01 03 02 01 00 09 0B 01 06 00 41 00 0B 70 01 D2 00 0B 0A 04 01 02 00 0B",
+        "00 61 73 6D 01 00 00 00 01 04 01 60 00 00 02 09 01 01 6D 01 74 01 70 00 01 03 02 01 00 09 09 01 04 41 00 0B 01 D2 00 0B 0A 04 01 02 00 0B",
+    ),
     // a passive segment that nothing names, and a memory that nothing reaches
     (
         "00 61 73 6D 01 00 00 00 05 03 01 00 01 0C 01 01 0B 04 01 01 01 AA",
@@ -166,7 +186,7 @@ const ROWS: [(&str, &str); 32] = [
 ];
 
 // Inputs that are refused as invalid.
-const INVALID: [&str; 21] = [
+const INVALID: [&str; 22] = [
     // seven bytes of the header
     "00 61 73 6D 01 00 00",
     // the function section before the type section
@@ -199,6 +219,8 @@ const INVALID: [&str; 21] = [
     "00 61 73 6D 01 00 00 00 05 05 01 00 81 80 04",
     // a global whose initialiser reads a later one, one whose initialiser has no operator
     "00 61 73 6D 01 00 00 00 06 0B 02 7F 00 23 01 0B 7F 00 41 00 0B",
+    // a segment of elements that is active in no table that is there
+    "00 61 73 6D 01 00 00 00 01 04 01 60 00 00 03 02 01 00 09 07 01 00 41 00 0B 01 00 0A 04 01 02 00 0B",
     // a segment whose offset is of 64 bits, in a memory of 32-bit addresses
     "00 61 73 6D 01 00 00 00 05 03 01 00 01 0C 01 01 0B 08 01 02 00 42 00 0B 01 AA",
     "00 61 73 6D 01 00 00 00 06 04 01 7F 00 0B",

@@ -8,7 +8,7 @@ use Rattle.std.specs.Prelude.{Option, Some, None, IsSome, Contains, filter_map, 
 use Rattle.std.specs.List.{AllZip}
 use Rattle.walrus_base.specs.Id.{place}
 use Rattle.walrus_base.specs.Types.{ValType}
-use Rattle.walrus_types.specs.Operators.{Space, Types, Functions, Tables, Memories, Tags, Globals, Elements, DataSegments, locals_of, names_of}
+use Rattle.walrus_types.specs.Operators.{Space, Types, Functions, Tables, Memories, Tags, Globals, Elements, DataSegments, locals_of}
 use Rattle.walrus_types.specs.TypeDef.{TypeDef}
 use Rattle.walrus_code.specs.Function.{body_of as ops_in}
 use Rattle.walrus_code.specs.Names.{Lookup}
@@ -24,28 +24,28 @@ use Rattle.walrus_contents.specs.declared.parts.Parts.{Parts}
 use Rattle.walrus_contents.proofs.Lookups.{heads, mapped_some, then_some}
 use Rattle.walrus_constants.specs.Laws.{AgreesWith}
 use Rattle.walrus_constants.specs.Named.{named_global, named_table}
-use Rattle.walrus_constants.specs.Segments.{named_data}
+use Rattle.walrus_constants.specs.Segments.{named_data, named_element}
 use Rattle.walrus_constants.proofs.Items.{global_renamed, table_renamed}
-use Rattle.walrus_constants.proofs.Segments.{data_renamed}
-use Rattle.walrus_model.specs.Abstract.{Abstract, Body, DataSegment, Export, Function, Global, Memory, Origin, Table, Tag}
+use Rattle.walrus_constants.proofs.Segments.{data_renamed, element_renamed}
+use Rattle.walrus_model.specs.Abstract.{Abstract, Body, DataSegment, Element, Export, Function, Global, Memory, Origin, Table, Tag}
 use Rattle.walrus_model.specs.Carried.{Carried}
 use Rattle.walrus_model.specs.Imported.{brought, import_number}
 use Rattle.walrus_model.specs.Live.{IsLive}
 use Rattle.walrus_model.specs.Names.{body_of, body_of_function}
 use Rattle.walrus_model.specs.Ordered.{StandsFor}
 use Rattle.walrus_model.specs.Out.{IsTheSegment}
-use Rattle.walrus_model.specs.Plan.{IsPlan, IsWrittenAlong, Plan}
-use Rattle.walrus_model.specs.Renaming.{Renaming, renamed_data, renamed_export, renamed_global, renamed_memory, renamed_origin, renamed_table, renamed_tag}
+use Rattle.walrus_model.specs.Plan.{IsWrittenAlong}
+use Rattle.walrus_model.specs.Renaming.{Renaming, renamed_data, renamed_element, renamed_export, renamed_global, renamed_memory, renamed_origin, renamed_table, renamed_tag}
 use Rattle.walrus_model.specs.Same.{SameType}
-use Rattle.walrus_model.specs.Sections.{data_of, export_of, global_of, memory_of, space_of, table_of, tag_of, types_of, body_with}
+use Rattle.walrus_model.specs.Sections.{data_of, element_of, export_of, global_of, memory_of, space_of, table_of, tag_of, types_of, body_with}
 use Rattle.walrus_model.specs.Spaces.{SameThing, Thing, look}
 use Rattle.walrus_model.proofs.AlongRecords.{stand_along}
 use Rattle.walrus_model.proofs.ImportedZip.{written_both}
 use Rattle.walrus_model.proofs.Indices.{planned_named}
-use Rattle.walrus_model.proofs.Lists.{Contains-head, map-itself}
+use Rattle.walrus_model.proofs.Lists.{map-itself}
 use Rattle.walrus_model.proofs.Planned.{planned_apart, planned_carries}
 use Rattle.walrus_model.proofs.Spaces.{carried_from}
-use Rattle.walrus_model.proofs.Standing.{got_where, none_there, some_inj, zip_left, zip_right}
+use Rattle.walrus_model.proofs.Standing.{got_where, some_inj, zip_left, zip_right}
 use Rattle.walrus_rules.specs.Pinned.{HasType, IsDeclared, BeginsBefore, GoesBefore}
 use Rattle.walrus_rules.specs.Spelling.{UsesAll}
 use Rattle.walrus_rules.specs.Text.{said}
@@ -110,22 +110,6 @@ module _ (names : Lookup) (ren : Renaming) (agrees : (space : Space) (i j : ℕ)
   same_start None (Some i) e = absurd (cc)
   same_start (Some j) None e = absurd (cc)
 
--- ---- a space that has nothing
-
-no_place : {X : Type 0} (o : Option X) → o ≡ None → IsSome o → ⊥
-no_place None e h = none_there h
-no_place (Some x) e h = absurd (cc)
-
-nothing_along : (r : Renaming) (v n : Abstract) (plan : Plan) (s : Space) → IsPlan v plan → ((i : ℕ) → look v s i ≡ None) → ((j : ℕ) → look n s j ≡ None) → IsWrittenAlong r v n plan s
-nothing_along r v n plan s is_plan before after = by (plan s) (λ i at. no_place (look v s i) (before i) ((is_plan.holds s).chosen i at)) refl
-  where
-    stands : (order : List ℕ) → ((i : ℕ) → Contains order i → ⊥) → AllZip (StandsFor (SameThing r s) (look v s)) order []
-    stands [] none = tt
-    stands (i ∷ is) none = absurd (none i (Contains-head i is))
-
-    by : (order : List ℕ) → ((i : ℕ) → Contains order i → ⊥) → order ≡ plan s → IsWrittenAlong r v n plan s
-    by order none same = record { written = []; reads = after; stand = subst (λ (o : List ℕ). AllZip (StandsFor (SameThing r s) (look v s)) o []) same (stands order none) }
-
 -- ---- bodies
 
 some_function : (o : Option Function) (b : Body) → body_of_function o ≡ Some b → (g : Function) × (o ≡ Some g)
@@ -188,7 +172,10 @@ module _ {p : Parts} {features : Features} (r : Records p features) where
   same_global : (i : ℕ) (x w : Global) → Contains (r.own Globals) i → before.globals i ≡ Some x → named_global r.names x ≡ Some w → w ≡ renamed_global renaming x
   same_global i x w within at e = sym (global_renamed renaming r.names agrees x w (r.defined.globals i x within at) e)
 
-  -- ---- data segments
+  -- ---- segments
+
+  same_element : (i : ℕ) (x w : Element) → before.elements i ≡ Some x → named_element r.names x ≡ Some w → w ≡ renamed_element renaming x
+  same_element i x w at e = sym (element_renamed renaming r.names agrees x w e)
 
   same_data : (i : ℕ) (x w : DataSegment) → before.data_segments i ≡ Some x → named_data r.names x ≡ Some w → w ≡ renamed_data renaming x
   same_data i x w at e = sym (data_renamed renaming r.names agrees x w e)
@@ -231,7 +218,13 @@ module _ {p : Parts} {features : Features} (r : Records p features) where
   written_along Globals = behind_imports Globals (map global_of r.globals) (λ j. refl)
       (subst (λ (ws : List Global). AllZip (StandsFor (SameThing renaming Globals) before.globals) (r.own Globals) ws) (map-itself (λ (w : Global). w) (map global_of r.globals) (λ w. refl))
       (stand_among (SameThing renaming Globals) before.globals (named_global r.names) (λ (w : Global). w) (r.own Globals) same_global (map global_of r.globals) r.globals_are))
-  written_along Elements = nothing_along renaming before after r.plan Elements r.is_plan (λ i. refl) (λ j. refl)
+  written_along Elements = record {
+    written = map element_of r.elements;
+    reads = λ j. refl;
+    stand =
+        subst (λ (ws : List Element). AllZip (StandsFor (SameThing renaming Elements) before.elements) (r.plan Elements) ws) (map-itself (λ (w : Element). w) (map element_of r.elements) (λ w. refl))
+        (stand_along (SameThing renaming Elements) before.elements (named_element r.names) (λ (w : Element). w) same_element (r.plan Elements) (map element_of r.elements) r.elements_are);
+  }
   written_along DataSegments = record {
     written = map data_of r.data_segments;
     reads = λ j. refl;

@@ -15,6 +15,7 @@ use Rattle.walrus_rules.proofs.WrittenReads.{written_reads}
 use Rattle.walrus_writing.specs.Emitted.{IsPlain, IsEmitted}
 use Rattle.walrus_writing.specs.Records.{Records, Spells, DoesNotFit, text_of}
 use Rattle.walrus_writing.proofs.CarriedOver as carried
+use Rattle.walrus_writing.proofs.ChosenFlags.{flags_chosen}
 use Rattle.walrus_writing.proofs.CountCarried.{count_carried}
 use Rattle.walrus_writing.proofs.TextStands.{all_bodies_stand, as_many_texts, sections_stand}
 use Rattle.walrus_writing.proofs.TypesEntered.{as_many_functions}
@@ -33,7 +34,7 @@ module _ {p : Parts} {features : Features} (r : Records p features) where
     bodies = all_bodies_stand r;
     used = carried.used r;
     as_many_bodies = as_many_texts r ∙ sym (as_many_functions r);
-    elements = All-nil _;
+    elements = flags_chosen r;
     data_count = count_carried (renaming_of r) (parts_view p) (module_said r) (carried.carried_over r) (length r.data_segments) r.data_count r.counted;
     names = record {
       module_name = tt;
@@ -47,7 +48,7 @@ module _ {p : Parts} {features : Features} (r : Records p features) where
     others = All-nil _;
   }
 
--- ---- what emission promises, where ref.func names only what is declared: a segment that declares it can't be written so far
+-- ---- what emission promises, where ref.func names only what is declared: no segment is added that would declare it
 
 module _ (c : Config) (p : Parts) (features : Features) (plain : IsPlain c features) (declared : NothingUndeclared (parts_view p)) where
   written : (r : Records p features) → IsWrittenAs c (parts_view p) (module_said r)

@@ -15,7 +15,7 @@ use Rattle.walrus_code.specs.Names.{Lookup, named_val, named_ops}
 use Rattle.walrus_code.specs.declared.error.IrError.{IrError}
 use Rattle.walrus_code.specs.declared.error.IrError.TheVariants as Ir
 use Rattle.walrus_code.specs.declared.function.LocalFunction.{LocalFunction}
-use Rattle.walrus_types.specs.Operators.{Item, Types, Functions, Tables, Memories, Globals, Tags, DataSegments, Op, type_item, names_of, locals_of}
+use Rattle.walrus_types.specs.Operators.{Item, Types, Functions, Tables, Memories, Globals, Tags, Elements, DataSegments, Op, type_item, names_of, locals_of}
 use Rattle.walrus_types.specs.Shape.{place_in}
 use Rattle.walrus_bodies.specs.declared.features.Features.{Features}
 use Rattle.walrus_functions.specs.DeclaredLocals.{AreDeclared}
@@ -27,9 +27,10 @@ use Rattle.walrus_items.specs.Functions.{FunctionValue, functions, local_at}
 use Rattle.walrus_parts.specs.declared.kinds.ExportItem.{ExportItem}
 use Rattle.walrus_parts.specs.declared.kinds.ExportItem.TheVariants as exports_as
 use Rattle.walrus_constants.specs.Named.{named_global, named_table}
-use Rattle.walrus_constants.specs.Segments.{named_data}
-use Rattle.walrus_constants.proofs.SegmentsNamed.{data_named}
+use Rattle.walrus_constants.specs.Segments.{named_data, named_element}
+use Rattle.walrus_constants.proofs.SegmentsNamed.{data_named, element_named}
 use Rattle.walrus_items.specs.Data.{DataValue, data_segments}
+use Rattle.walrus_items.specs.Elements.{ElementValue, elements}
 use Rattle.walrus_items.specs.Globals.{GlobalValue, globals}
 use Rattle.walrus_items.specs.Tables.{TableValue, tables}
 use Rattle.walrus_items.specs.Tags.{TagValue, tags}
@@ -40,9 +41,9 @@ use Rattle.walrus_model.specs.Abstract.{Abstract}
 use Rattle.walrus_model.specs.Dead.{HasDead}
 use Rattle.walrus_model.specs.Live.{IsLive}
 use Rattle.walrus_model.specs.Names.{body_of_function}
-use Rattle.walrus_model.specs.Refers.{named_by, type_names, function_names, local_names, table_names, tag_names, global_names, data_names}
+use Rattle.walrus_model.specs.Refers.{named_by, type_names, function_names, local_names, table_names, tag_names, global_names, element_names, data_names}
 use Rattle.walrus_contents.specs.There.{AreLive}
-use Rattle.walrus_contents.specs.View.{body, data_of, export_of, function, global_of, kind_of, parts_view, table_of, tag_of}
+use Rattle.walrus_contents.specs.View.{body, data_of, element_of, export_of, function, global_of, kind_of, parts_view, table_of, tag_of}
 use Rattle.walrus_contents.specs.declared.parts.Parts.{Parts}
 use Rattle.walrus_contents.proofs.Lookups.{still_some}
 use Rattle.walrus_contents.proofs.Slots.{item_seen}
@@ -244,6 +245,13 @@ module _ (p : Parts) (none_dead : HasDead (parts_view p) → ⊥) (names : Looku
       (λ g has.
       let at = item_seen (globals p.globals.now) g has in
       global_named names (global_of g) (λ y c. item_named y (there.written (Globals, at.0) y (subst (λ (o : Option GlobalValue). Contains (named_by global_names (option_map global_of o)) y) (sym at.1) c))))
+
+  pub elements_indexed : All (λ o. IsSome o) (map (λ e. named_element names (element_of e)) (items (elements p.elements.now)))
+  elements_indexed =
+      each_there (λ e. named_element names (element_of e)) (items (elements p.elements.now))
+      (λ e has.
+      let at = item_seen (elements p.elements.now) e has in
+      element_named names (element_of e) (λ y c. item_named y (there.written (Elements, at.0) y (subst (λ (o : Option ElementValue). Contains (named_by element_names (option_map element_of o)) y) (sym at.1) c))))
 
   pub data_indexed : All (λ o. IsSome o) (map (λ d. named_data names (data_of d)) (items (data_segments p.data_.now)))
   data_indexed =

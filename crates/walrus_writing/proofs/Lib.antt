@@ -1,9 +1,11 @@
 pub mod Bare
 pub mod BodyTypes
 pub mod CarriedOver
+pub mod ChosenFlags
 pub mod CountCarried
 pub mod Counted
 pub mod DataRecords
+pub mod ElementRecords
 pub mod Emitted
 pub mod Emitting
 pub mod FunctionsWritten

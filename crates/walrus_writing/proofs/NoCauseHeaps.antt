@@ -1,7 +1,8 @@
 -- No exact heap type stands in what is written.
-use Rattle.std.proofs.Common.{◌≡◌, ℕ, true, ⊎_elim, List, [], ◌∷◌, ◌++◌, map, refl, sym, ap, ap₂, ◌∙◌, subst, Some, None}
+use Rattle.std.proofs.Common.{◌≡◌, ℕ, true, inl, inr, ⊎_elim, List, [], ◌∷◌, ◌++◌, map, refl, sym, ap, ap₂, ◌∙◌, subst, Some, None}
 use Rattle.std.specs.Prelude.{Option, IsSome, Contains, flat_map, option_map, slice_get}
 use Rattle.std.specs.List.{AllByRecursion}
+use Rattle.std.proofs.lemmas.List.Elements.{Contains-append_cases}
 use Rattle.wasm_forms.specs.Reading.{◌>>=◌}
 use Rattle.wasm_forms.proofs.Bind.{some_same, bind_some}
 use Rattle.walrus_base.specs.Types.{HeapType, OfHeap, Concrete, Exact, ValType, I32, I64, F32, F64, V128, Ref, StorageType, Unpacked, I8, I16, FieldType, CompType, Func, Struct, Array, IsNotExact, val_heaps, storage_heaps, field_heaps, comp_heaps}
@@ -16,10 +17,10 @@ use Rattle.walrus_groups.specs.Named.{each, named_vals, named_storage, named_fie
 use Rattle.walrus_contents.specs.View.{parts_view}
 use Rattle.walrus_contents.specs.declared.parts.Parts.{Parts}
 use Rattle.walrus_contents.proofs.Lookups.{got_map, mapped_some, mapped_append}
-use Rattle.walrus_model.specs.Abstract.{Abstract, Body, DataKind, PassiveData, ActiveData, DataSegment, Function, Global, Table, FunctionKind, LocalFunction, ImportedFunction, Uninitialised}
+use Rattle.walrus_model.specs.Abstract.{Abstract, Body, DataKind, PassiveData, ActiveData, DataSegment, ElementKind, PassiveElements, DeclaredElements, ActiveElements, ElementItems, ListedFunctions, Expressions, Element, Function, Global, Table, FunctionKind, LocalFunction, ImportedFunction, Uninitialised}
 use Rattle.walrus_model.specs.Config.{Config}
 use Rattle.walrus_model.specs.Refers.{used_locals}
-use Rattle.walrus_model.specs.WellMade.{heaps_by, heaps_in, consts_by, consts_in, data_kind_consts, option_consts, op_heaps, body_heaps, kind_heaps}
+use Rattle.walrus_model.specs.WellMade.{heaps_by, heaps_in, consts_by, consts_in, data_kind_consts, element_kind_consts, element_item_consts, element_item_heaps, option_consts, op_heaps, body_heaps, kind_heaps}
 use Rattle.walrus_model.proofs.Lists.{Contains-none, Contains-uncons}
 use Rattle.walrus_model.proofs.Standing.{got_in, some_inj}
 use Rattle.walrus_rules.specs.Features.{features_of}
@@ -29,6 +30,7 @@ use Rattle.walrus_rules.proofs.PlainTypes.{Plain, plain_append, plain_left, plai
 use Rattle.walrus_rules.proofs.TextShaped.{all_append}
 use Rattle.walrus_constants.specs.Written.{IsUnspelled, ExactHeap, NoOperator}
 use Rattle.walrus_code.specs.Results.{heap_is_exact, val_is_exact}
+use Rattle.walrus_writing.specs.Elements as elements
 use Rattle.walrus_writing.specs.Globals as globals
 use Rattle.walrus_writing.specs.Records.{Records}
 use Rattle.walrus_writing.specs.Segments.{KindIsUnspelled, UnspelledOffset}
@@ -200,6 +202,14 @@ module _ (c : Config) (p : Parts) (r : Records p (features_of c)) where
   global_plain i None at = tt
   global_plain i (Some g) at = val_plain g.ty.value (λ exact. r.globals_spelled i g at (globals.ExactValue exact))
 
+  held_plain : (x : ElementItems) → (elements.ItemsAreUnspelled x → ⊥) → Plain (element_item_heaps x)
+  held_plain (ListedFunctions fs) h = tt
+  held_plain (Expressions ty es) h = (heap_plain ty.heap (λ exact. h (elements.ExactItems ty es refl exact)), tt)
+
+  element_plain : (i : ℕ) (o : Option Element) → V.elements i ≡ o → Plain (heaps_by (λ (e : Element). element_item_heaps e.items) o)
+  element_plain i None at = tt
+  element_plain i (Some e) at = held_plain e.items (λ is. r.elements_spelled i e at (inr is))
+
   item_plain : (x : Item) → Plain (heaps_in V x)
   item_plain (Types, i) = types_are_plain (V.types i) (type_plain i)
   item_plain (Functions, i) = function_plain i (V.functions i) refl
@@ -207,7 +217,7 @@ module _ (c : Config) (p : Parts) (r : Records p (features_of c)) where
   item_plain (Memories, i) = tt
   item_plain (Tags, i) = tt
   item_plain (Globals, i) = global_plain i (V.globals i) refl
-  item_plain (Elements, i) = tt
+  item_plain (Elements, i) = element_plain i (V.elements i) refl
   item_plain (DataSegments, i) = tt
 
   pub not_exact : (x : Item) (h : HeapType ℕ) → Contains (heaps_in V x) h → IsNotExact h
@@ -241,6 +251,28 @@ module _ (c : Config) (p : Parts) (r : Records p (features_of c)) where
       (λ none. absurd (Contains-none ops none))
       (Contains-uncons offset ops [] at)
 
+  element_offset_spelled : (k : ElementKind) → (elements.KindIsUnspelled k → ⊥) → Spelled (element_kind_consts k)
+  element_offset_spelled PassiveElements h = none_spelled
+  element_offset_spelled DeclaredElements h = none_spelled
+  element_offset_spelled (ActiveElements table offset) h = λ ops at. ⊎_elim
+      (λ (e : offset ≡ ops). λ unspelled. h (elements.UnspelledOffset table offset refl (subst IsUnspelled (sym e) unspelled)))
+      (λ none. absurd (Contains-none ops none))
+      (Contains-uncons offset ops [] at)
+
+  held_spelled : (x : ElementItems) → (elements.ItemsAreUnspelled x → ⊥) → Spelled (element_item_consts x)
+  held_spelled (ListedFunctions fs) h = none_spelled
+  held_spelled (Expressions ty es) h = λ ops at unspelled. h (elements.UnspelledItem ty es ops refl at unspelled)
+
+  both_spelled : (xs ys : List (List Op)) → Spelled xs → Spelled ys → Spelled (xs ++ ys)
+  both_spelled xs ys first second = λ ops at. ⊎_elim (first ops) (second ops) (Contains-append_cases xs ys ops at)
+
+  element_spelled : (i : ℕ) (o : Option Element) → V.elements i ≡ o → Spelled (consts_by (λ e. element_kind_consts e.kind ++ element_item_consts e.items) o)
+  element_spelled i None at = none_spelled
+  element_spelled i (Some e) at =
+      both_spelled (element_kind_consts e.kind) (element_item_consts e.items)
+      (element_offset_spelled e.kind (λ is. r.elements_spelled i e at (inl is)))
+      (held_spelled e.items (λ is. r.elements_spelled i e at (inr is)))
+
   segment_spelled : (i : ℕ) (o : Option DataSegment) → V.data_segments i ≡ o → Spelled (consts_by (λ d. data_kind_consts d.kind) o)
   segment_spelled i None at = none_spelled
   segment_spelled i (Some d) at = offset_spelled d.kind (r.data_segments_spelled i d at)
@@ -252,7 +284,7 @@ module _ (c : Config) (p : Parts) (r : Records p (features_of c)) where
   const_spelled (Memories, i) = none_spelled
   const_spelled (Tags, i) = none_spelled
   const_spelled (Globals, i) = global_spelled i (V.globals i) refl
-  const_spelled (Elements, i) = none_spelled
+  const_spelled (Elements, i) = element_spelled i (V.elements i) refl
   const_spelled (DataSegments, i) = segment_spelled i (V.data_segments i) refl
 
   pub const_not_exact : (x : Item) (ops : List Op) (h : HeapType ℕ) → Contains (consts_in V x) ops → Contains (flat_map op_heaps ops) h → (IsNotExact h → ⊥) → ⊥

@@ -1,22 +1,19 @@
 -- Each refusal to write comes with its cause, and where all is written, there is none.
-use Rattle.std.proofs.Common.{ℕ, List, sym, subst, inl}
+use Rattle.std.proofs.Common.{ℕ, List, sym, subst}
 use Rattle.std.specs.Prelude.{IfOk, Result, Ok, Err}
 use Rattle.walrus_bodies.specs.declared.features.Features.{Features}
 use Rattle.walrus_groups.specs.Indexed.{AreInOrder}
 use Rattle.walrus_types.specs.ModuleTypes.{type_slots}
-use Rattle.walrus_contents.specs.There.{IsRefusal}
 use Rattle.walrus_contents.specs.View.{parts_view}
 use Rattle.walrus_contents.specs.declared.parts.Parts.{Parts}
 use Rattle.walrus_model.specs.Abstract.{Abstract}
 use Rattle.walrus_model.specs.Config.{Config}
 use Rattle.walrus_model.specs.Dead.{HasDead}
-use Rattle.walrus_model.specs.Declared.{NothingUndeclared}
 use Rattle.walrus_model.specs.WellMade.{ImportsMatch}
 use Rattle.walrus_parts.specs.declared.error.Error.{Error}
-use Rattle.walrus_parts.specs.declared.error.Error.TheVariants.{Memory, DeadItem, NoIndex, NotWritable, TooLarge, TwoIndices}
+use Rattle.walrus_parts.specs.declared.error.Error.TheVariants.{Memory, NoIndex, NotWritable, TooLarge, TwoIndices}
 use Rattle.walrus_rules.specs.Features.{features_of}
-use Rattle.walrus_rules.specs.Refused.{PassesLimits}
-use Rattle.walrus_rules.specs.SoFar.{HasUndeclared, RefusesSoFar}
+use Rattle.walrus_rules.specs.Refused.{PassesLimits, RefusesToWrite}
 use Rattle.walrus_rules.proofs.NoCause.{two}
 use Rattle.walrus_writing.specs.Emitted.{IsPlain, told}
 use Rattle.walrus_plan.specs.Reads.{ReadsInOrder}
@@ -30,14 +27,8 @@ use Rattle.walrus_writing.proofs.RefusesUnspelled.{unspelled}
 
 -- ---- before items are written
 
--- something is named that isn't there
-pub dead_refused : (X : Type 0) (c : Config) (v : Abstract) (e : Error) → IsRefusal (HasDead v) e → RefusesSoFar {X = X} c v (told {X = X} (Err e))
-dead_refused X c v (Memory m) r = tt
-dead_refused X c v DeadItem r = r
-dead_refused X c v _ r = absurd r
-
 -- they have no plan
-pub plan_refused : (X : Type 0) (c : Config) (p : Parts) (e : Error) → RefusesPlan p e → RefusesSoFar {X = X} c (parts_view p) (told {X = X} (Err e))
+pub plan_refused : (X : Type 0) (c : Config) (p : Parts) (e : Error) → RefusesPlan p e → RefusesToWrite {X = X} ⊥ c (parts_view p) (told {X = X} (Err e))
 plan_refused X c p (Memory m) r = tt
 plan_refused X c p TwoIndices r = r
 plan_refused X c p NoIndex r = r
@@ -46,7 +37,7 @@ plan_refused X c p _ r = absurd r
 
 -- ---- items
 
-module _ (c : Config) (p : Parts) (lives : HasDead (parts_view p) → ⊥) (declared : NothingUndeclared (parts_view p)) (matched : ImportsMatch (parts_view p)) (before : ReadsInOrder (parts_view p)) (ordered : AreInOrder (type_slots p.types.now)) where
+module _ (c : Config) (p : Parts) (lives : HasDead (parts_view p) → ⊥) (matched : ImportsMatch (parts_view p)) (before : ReadsInOrder (parts_view p)) (ordered : AreInOrder (type_slots p.types.now)) where
   abbrev V : Abstract
   V = parts_view p
 
@@ -55,14 +46,11 @@ module _ (c : Config) (p : Parts) (lives : HasDead (parts_view p) → ⊥) (decl
   Sizes features = (DoesNotFit p features → PassesLimits c V) × ((bytes : List ℕ) → Spells p features bytes → PassesLimits c V → ⊥)
 
   abbrev Refuses : {X : Type 0} → (X → List ℕ) → Result X Error → Features → Type 0
-  Refuses view result features = Sizes features → IfOk result (λ x. Spells p features (view x)) → RefusesItems p features result → RefusesSoFar c V (told result)
-
-  undeclared_none : HasUndeclared V → ⊥
-  undeclared_none (f, undeclared) = declared f undeclared
+  Refuses view result features = Sizes features → IfOk result (λ x. Spells p features (view x)) → RefusesItems p features result → RefusesToWrite ⊥ c V (told result)
 
   items_with : {X : Type 0} (view : X → List ℕ) (result : Result X Error) → Refuses view result (features_of c)
-  items_with view (Ok x) sizes spells r = (no_cause c p spells.records lives ordered (sizes.1 (view x) spells), undeclared_none)
-  items_with view (Err NotWritable) sizes spells r = inl (unspelled c p lives r)
+  items_with view (Ok x) sizes spells r = no_cause c p spells.records lives ordered (sizes.1 (view x) spells)
+  items_with view (Err NotWritable) sizes spells r = unspelled c p lives r
   items_with view (Err TooLarge) sizes spells r = (two V matched, lacks_none p matched before ordered, λ sayable. passes c p sizes.0 r)
   items_with view (Err (Memory m)) sizes spells r = tt
   items_with view (Err _) sizes spells r = absurd r

@@ -1,6 +1,6 @@
--- A body that can't be written isn't well formed; an exact heap type, one of an imported item among them, and an initialiser that no bytes
--- spell are those of the module seen.
-use Rattle.std.proofs.Common.{◌≡◌, ℕ, true, List, [], ◌∷◌, refl, sym, subst, Some}
+-- A body that can't be written isn't well formed; an exact heap type, one of an imported item among them, and a constant expression that no
+-- bytes spell are those of the module seen.
+use Rattle.std.proofs.Common.{◌≡◌, ℕ, true, List, [], ◌∷◌, ◌++◌, inl, inr, refl, sym, subst, Some}
 use Rattle.std.specs.Prelude.{Option, Contains, option_map, Err}
 use Rattle.walrus_base.specs.Arena.{item_at, items}
 use Rattle.walrus_base.specs.Id.{place}
@@ -19,9 +19,10 @@ use Rattle.walrus_functions.specs.Laws as laws
 use Rattle.walrus_functions.proofs.LawWritable.{ill_formed}
 use Rattle.walrus_groups.specs.Indexed.{HasExact}
 use Rattle.walrus_items.specs.Data.{DataValue, data_segments}
+use Rattle.walrus_items.specs.Elements.{ElementValue, elements}
 use Rattle.walrus_items.specs.Globals.{GlobalValue, globals}
 use Rattle.walrus_items.specs.Tables.{TableValue, tables}
-use Rattle.walrus_contents.specs.View.{body, data_of, global_of, parts_view, table_of}
+use Rattle.walrus_contents.specs.View.{body, data_of, element_of, global_of, parts_view, table_of}
 use Rattle.walrus_contents.specs.declared.parts.Parts.{Parts}
 use Rattle.walrus_contents.proofs.Slots.{item_seen}
 use Rattle.walrus_model.specs.Abstract as abstract
@@ -29,8 +30,8 @@ use Rattle.walrus_model.specs.Config.{Config}
 use Rattle.walrus_model.specs.Dead.{HasDead}
 use Rattle.walrus_model.specs.Rules.{IsFunctionComp}
 use Rattle.walrus_model.specs.Spaces.{Thing, look}
-use Rattle.walrus_model.specs.WellMade.{consts_by, consts_in, data_kind_consts, heaps_by, option_consts}
-use Rattle.walrus_model.proofs.Lists.{Contains-head}
+use Rattle.walrus_model.specs.WellMade.{consts_by, consts_in, data_kind_consts, element_kind_consts, element_item_consts, element_item_heaps, heaps_by, option_consts}
+use Rattle.walrus_model.proofs.Lists.{Contains-append_1, Contains-append_2, Contains-head}
 use Rattle.walrus_model.proofs.Standing.{none_there}
 use Rattle.walrus_parts.specs.declared.error.Error.{Error}
 use Rattle.walrus_parts.specs.declared.error.Error.TheVariants as errors
@@ -38,9 +39,10 @@ use Rattle.walrus_rules.specs.Features.{features_of}
 use Rattle.walrus_rules.specs.Refused.{HasUnspelled, EmptyConstant, ExactConstant, ExactType, IllFormed}
 use Rattle.walrus_rules.specs.WellMade.{IsWellFormed}
 use Rattle.walrus_writing.specs.Parts.{function_seen, source}
+use Rattle.walrus_writing.specs.Elements as elements_spelled
 use Rattle.walrus_writing.specs.Globals as globals_spelled
 use Rattle.walrus_writing.specs.Imported.{ImportIsExact, RefusesImports, is_exact_thing}
-use Rattle.walrus_writing.specs.Refusals.{HasBody, HasUnspellable, AnImport, ABody, AType, ATable, AGlobal, ASegment, RefusesItems}
+use Rattle.walrus_writing.specs.Refusals.{HasBody, HasUnspellable, AnImport, ABody, AType, ATable, AGlobal, AnElement, ASegment, RefusesItems}
 use Rattle.walrus_writing.specs.Segments.{DataIsUnspelled, UnspelledOffset}
 use Rattle.walrus_writing.specs.Tables as tables_spelled
 
@@ -129,6 +131,28 @@ module _ (c : Config) (p : Parts) where
       (subst (λ (o : Option GlobalValue). Contains (consts_by (λ (x : abstract.Global). option_consts x.initialiser) (option_map global_of o)) ops) (sym seen.1) (subst (λ (i : Option (List Op)). Contains (option_consts i) ops) (sym is) (Contains-head ops [])))
       unspelled
 
+  -- a segment of elements with one, or with an exact heap type
+  element_const : (e : ElementValue) → Contains (items (elements p.elements.now)) e → (ops : List Op) → Contains (element_kind_consts (element_of e).kind ++ element_item_consts (element_of e).items) ops → IsUnspelled ops → HasUnspelled c V
+  element_const e among ops at =
+      let seen = item_seen (elements p.elements.now) e among in
+      const_unspelled (Elements, seen.0) ops
+      (subst (λ (o : Option ElementValue). Contains (consts_by (λ (x : abstract.Element). element_kind_consts x.kind ++ element_item_consts x.items) (option_map element_of o)) ops) (sym seen.1) at)
+
+  element_unspelled : (e : ElementValue) → Contains (items (elements p.elements.now)) e → elements_spelled.ElementIsUnspelled (element_of e) → HasUnspelled c V
+  element_unspelled e among (inl (elements_spelled.UnspelledOffset table offset is unspelled)) =
+      element_const e among offset
+      (Contains-append_1 offset (element_kind_consts (element_of e).kind) (element_item_consts (element_of e).items) (subst (λ (k : abstract.ElementKind). Contains (element_kind_consts k) offset) (sym is) (Contains-head offset [])))
+      unspelled
+  element_unspelled e among (inr (elements_spelled.ExactItems ty es is at)) =
+      let seen = item_seen (elements p.elements.now) e among in
+      ExactType (Elements, seen.0) ty.heap
+      (subst (λ (o : Option ElementValue). Contains (heaps_by (λ (x : abstract.Element). element_item_heaps x.items) (option_map element_of o)) ty.heap) (sym seen.1) (subst (λ (x : abstract.ElementItems). Contains (element_item_heaps x) ty.heap) (sym is) (Contains-head ty.heap [])))
+      (exact_heap ty.heap at)
+  element_unspelled e among (inr (elements_spelled.UnspelledItem ty es ops is at unspelled)) =
+      element_const e among ops
+      (Contains-append_2 ops (element_kind_consts (element_of e).kind) (element_item_consts (element_of e).items) (subst (λ (x : abstract.ElementItems). Contains (element_item_consts x) ops) (sym is) at))
+      unspelled
+
   segment_unspelled : (d : DataValue) → Contains (items (data_segments p.data_.now)) d → DataIsUnspelled (data_of d) → HasUnspelled c V
   segment_unspelled d among (UnspelledOffset memory offset is unspelled) =
       let seen = item_seen (data_segments p.data_.now) d among in
@@ -162,6 +186,7 @@ module _ (c : Config) (p : Parts) where
   unspelled lives (AType type_exact) = exact type_exact
   unspelled lives (ATable t among is) = table_unspelled t among is
   unspelled lives (AGlobal g among is) = global_unspelled g among is
+  unspelled lives (AnElement e among is) = element_unspelled e among is
   unspelled lives (ASegment d among is) = segment_unspelled d among is
 
 -- ---- imports that aren't written

@@ -11,8 +11,9 @@ use Rattle.wasm_frames.specs.Record as wire
 use Rattle.wasm_frames.specs.Spelling.{body_bytes}
 use Rattle.wasm_forms.specs.Spelling.{number_bytes}
 use Rattle.wasm_forms.specs.Writing.{FitsLength}
-use Rattle.wasm_entries.specs.Record.{data_entry, export_entry, global_entry, group, import_entry, table_entry}
+use Rattle.wasm_entries.specs.Record.{data_entry, element_entry, export_entry, global_entry, group, import_entry, table_entry}
 use Rattle.wasm_entries.specs.declared.record.RawData.{RawData}
+use Rattle.wasm_entries.specs.declared.record.RawElement.{RawElement}
 use Rattle.wasm_entries.specs.declared.record.RawExport.{RawExport}
 use Rattle.wasm_entries.specs.declared.record.RawGlobal.{RawGlobal}
 use Rattle.wasm_entries.specs.declared.record.RawImport.{RawImport}
@@ -20,7 +21,7 @@ use Rattle.wasm_entries.specs.declared.record.RawLimits.{RawLimits}
 use Rattle.wasm_entries.specs.declared.record.RawSub.{RawSub}
 use Rattle.wasm_entries.specs.declared.record.RawTable.{RawTable}
 use Rattle.wasm_entries.specs.Spelling as spelling
-use Rattle.wasm_entries.specs.Spelling.{DataStands, GlobalStands, TableStands}
+use Rattle.wasm_entries.specs.Spelling.{DataStands, ElementStands, GlobalStands, TableStands}
 use Rattle.wasm_entries.specs.TypeSpelling.{GroupFits, group_bytes, LimitsFit, LimitsStand, limits_bytes}
 use Rattle.wasm_writer.specs.Spelling.{SectionFits, tag_bytes}
 use Rattle.wasm_writer.proofs.Listed.{fits_none}
@@ -38,17 +39,18 @@ use Rattle.walrus_groups.specs.Named.{named_def}
 use Rattle.walrus_items.specs.Exports.{exports}
 use Rattle.walrus_items.specs.Imports.{imports}
 use Rattle.walrus_constants.specs.Named.{named_global, named_table}
-use Rattle.walrus_constants.specs.Segments.{named_data}
+use Rattle.walrus_constants.specs.Segments.{named_data, named_element}
 use Rattle.walrus_items.specs.Data.{DataValue, data_segments}
+use Rattle.walrus_items.specs.Elements.{elements}
 use Rattle.walrus_items.specs.Globals.{GlobalValue, globals}
 use Rattle.walrus_items.specs.Memories.{MemoryValue, memories}
 use Rattle.walrus_items.specs.Tables.{TableValue, tables}
 use Rattle.walrus_items.specs.Tags.{TagValue, tags}
-use Rattle.walrus_contents.specs.View.{data_of, export_of, global_of, memory_of, parts_view, table_of, tag_of}
+use Rattle.walrus_contents.specs.View.{data_of, element_of, export_of, global_of, memory_of, parts_view, table_of, tag_of}
 use Rattle.walrus_contents.specs.declared.parts.Parts.{Parts}
 use Rattle.walrus_contents.proofs.Lookups.{as_long}
 use Rattle.walrus_contents.proofs.Slots.{stands_at}
-use Rattle.walrus_model.specs.Abstract.{DataSegment, Memory}
+use Rattle.walrus_model.specs.Abstract.{DataSegment, Element, Memory}
 use Rattle.walrus_model.specs.Plan.{AreNumbered, IsPlan}
 use Rattle.walrus_model.specs.WellMade.{ImportsMatch}
 use Rattle.walrus_model.specs.Sections as said
@@ -64,16 +66,17 @@ use Rattle.walrus_plan.specs.Brought.{import_numbers, own_of, own_places, places
 use Rattle.walrus_writing.specs.Imported.{IsEntryAt}
 use Rattle.walrus_plan.specs.Places.{places, places_own}
 use Rattle.walrus_writing.specs.Records.{Records, Spells, sections_with, text_of}
+use Rattle.walrus_writing.specs.Elements.{ChoosesFlag, IsSpelledElement, RefusesElements}
 use Rattle.walrus_writing.specs.Globals.{IsSpelledGlobal, RefusesGlobals}
 use Rattle.walrus_writing.specs.Segments.{IsSpelledData, RefusesData}
-use Rattle.walrus_writing.proofs.DataRecords.{all_own, no_import}
+use Rattle.walrus_writing.proofs.DataRecords.{all_own}
 use Rattle.walrus_plan.specs.Reads.{ReadsInOrder}
-use Rattle.walrus_writing.specs.Refusals.{ABody, AType, ATable, AGlobal, ASegment, RefusesBodies, RefusesItems, RefusesTypes}
+use Rattle.walrus_writing.specs.Refusals.{ABody, AType, ATable, AGlobal, AnElement, ASegment, RefusesBodies, RefusesItems, RefusesTypes}
 use Rattle.walrus_writing.specs.Tables.{IsSpelledTable, RefusesTables}
 use Rattle.walrus_plan.specs.declared.plan.Plan.{Plan}
 use Rattle.walrus_writing.proofs.OwnPlaces.{defined_own, parted_own, seen_by_own}
 use Rattle.walrus_writing.proofs.Sections.{all_sections, bytes_same, each_section, plain}
-use Rattle.walrus_writing.proofs.Spelled.{globals_all_spelled, segments_all_spelled, tables_all_spelled}
+use Rattle.walrus_writing.proofs.Spelled.{elements_all_spelled, globals_all_spelled, segments_all_spelled, tables_all_spelled}
 use Rattle.walrus_writing.proofs.SpellsLemmas.{zip_seen}
 use Rattle.walrus_writing.proofs.TextStands.{bodies_same}
 
@@ -101,6 +104,11 @@ module _ (p : Parts) (features : Features) (X : Type 0) where
   globals_refused Parts_error.NotWritable r = AGlobal r.0 r.1 r.2
   globals_refused _ r = absurd r
 
+  pub elements_refused : (e : Error) → RefusesElements (items (elements p.elements.now)) e → RefusesItems {X = X} p features (Err e)
+  elements_refused (Parts_error.Memory m) r = tt
+  elements_refused Parts_error.NotWritable r = AnElement r.0 r.1 r.2
+  elements_refused _ r = absurd r
+
   pub data_refused : (e : Error) → RefusesData (items (data_segments p.data_.now)) e → RefusesItems {X = X} p features (Err e)
   data_refused (Parts_error.Memory m) r = tt
   data_refused Parts_error.NotWritable r = ASegment r.0 r.1 r.2
@@ -119,6 +127,13 @@ by_places {T} f slots =
     map-map (λ i. option_and_then f (item_at slots i)) (λ (e : ℕ × T). e.0) (entries_in slots)
     ∙ map-same_on (λ (e : ℕ × T). option_and_then f (item_at slots e.0)) (λ (e : ℕ × T). f e.1) (entries_in slots) (λ e at. ap (option_and_then f) (stands_at slots e at))
     ∙ sym (map-map f (λ (e : ℕ × T). e.1) (entries_in slots))
+
+-- so it is of what is seen of them
+pub seen_by_places : {T X W : Type 0} (seen_as : T → X) (f : X → Option W) (slots : List (Option T)) → map (λ i. option_and_then f (option_map seen_as (item_at slots i))) (map (λ e. e.0) (entries_in slots)) ≡ map (λ t. f (seen_as t)) (items slots)
+seen_by_places {T} {X} {W} seen_as f slots =
+    ap (λ (es : List (ℕ × T)). map (λ i. option_and_then f (option_map seen_as (item_at slots i))) (map (λ (e : ℕ × T). e.0) es)) (sym (all_own (entries_in slots)))
+    ∙ seen_by_own (λ (t : T). None) seen_as f slots
+    ∙ ap (map (λ (t : T). f (seen_as t))) (all_own (items slots))
 
 -- sections that list nothing fit
 none_fit : EachSection SectionFits (laid (plain empty_text))
@@ -139,7 +154,7 @@ none_fit = record {
   customs = All-nil _;
 }
 
-module _ (p : Parts) (features : Features) (names : Lookup) (plan : Plan) (raws : List (Vec RawSub)) (raw_imports : List RawImport) (raw_functions : List ℕ) (raw_tables : List RawTable) (raw_memories : List RawLimits) (raw_tags : List ℕ) (raw_globals : List RawGlobal) (exported : List RawExport) (bodies : List (Vec ℕ)) (raw_segments : List RawData) (count : Option ℕ)
+module _ (p : Parts) (features : Features) (names : Lookup) (plan : Plan) (raws : List (Vec RawSub)) (raw_imports : List RawImport) (raw_functions : List ℕ) (raw_tables : List RawTable) (raw_memories : List RawLimits) (raw_tags : List ℕ) (raw_globals : List RawGlobal) (exported : List RawExport) (bodies : List (Vec ℕ)) (raw_elements : List RawElement) (raw_segments : List RawData) (count : Option ℕ)
     (matched : ImportsMatch (parts_view p)) (reads : ReadsInOrder (parts_view p))
     (is_plan : IsPlan (parts_view p) (places plan)) (numbered : AreNumbered names (places plan)) (few : (s : Space) → length (places plan s) < 2 ^ 32)
     (types : map place plan.types.items ≡ map (λ e. e.0) (entries_in (type_slots p.types.now)))
@@ -164,6 +179,11 @@ module _ (p : Parts) (features : Features) (names : Lookup) (plan : Plan) (raws 
     (texts : All (λ e. IsUtf8 e.name.now) exported)
     (started : Option ℕ) (start_is : option_map (λ (i : ℕ). Some i) started ≡ option_map (names Functions) (parts_view p).start)
     (bodies_are : AllZip (λ id bytes. HasBytes p names features (place id) bytes.items) plan.own_functions.items bodies)
+    (elements_rise : map place plan.elements.items ≡ map (λ e. e.0) (entries_in (elements p.elements.now)))
+    (elements_are : map (λ e. Some (said.element_of (element_entry e))) raw_elements ≡ map (λ e. named_element names (element_of e)) (items (elements p.elements.now)))
+    (elements_stand : All (λ e. ElementStands (element_entry e)) raw_elements)
+    (elements_chosen : All (λ e. ChoosesFlag names (parts_view p).tables (element_entry e)) raw_elements)
+    (elements_spelled : All IsSpelledElement (items (elements p.elements.now)))
     (data_rise : map place plan.data_.items ≡ map (λ e. e.0) (entries_in (data_segments p.data_.now)))
     (segments_are : map (λ d. Some (said.data_of (data_entry d))) raw_segments ≡ map (λ d. named_data names (data_of d)) (items (data_segments p.data_.now)))
     (segments_stand : All (λ d. DataStands (data_entry d)) raw_segments)
@@ -182,10 +202,14 @@ module _ (p : Parts) (features : Features) (names : Lookup) (plan : Plan) (raws 
   pub segments_along : map (λ (d : DataSegment). Some d) (map said.data_of (map data_entry raw_segments)) ≡ map (λ i. option_and_then (named_data names) ((parts_view p).data_segments i)) (map place plan.data_.items)
   segments_along =
       made_twice said.data_of data_entry raw_segments ∙ segments_are
-      ∙ ap (map (λ (d : DataValue). named_data names (data_of d))) (sym (all_own (items (data_segments p.data_.now))))
-      ∙ sym (seen_by_own no_import data_of (named_data names) (data_segments p.data_.now))
-      ∙ ap (λ (es : List (ℕ × DataValue)). map (λ i. option_and_then (named_data names) ((parts_view p).data_segments i)) (map (λ (e : ℕ × DataValue). e.0) es)) (all_own (entries_in (data_segments p.data_.now)))
+      ∙ sym (seen_by_places data_of (named_data names) (data_segments p.data_.now))
       ∙ ap (map (λ i. option_and_then (named_data names) ((parts_view p).data_segments i))) (sym data_rise)
+
+  pub elements_along : map (λ (e : Element). Some e) (map said.element_of (map element_entry raw_elements)) ≡ map (λ i. option_and_then (named_element names) ((parts_view p).elements i)) (map place plan.elements.items)
+  elements_along =
+      made_twice said.element_of element_entry raw_elements ∙ elements_are
+      ∙ sym (seen_by_places element_of (named_element names) (elements p.elements.now))
+      ∙ ap (map (λ i. option_and_then (named_element names) ((parts_view p).elements i))) (sym elements_rise)
 
   abbrev pub records_of : Records p features
   records_of = record {
@@ -229,6 +253,11 @@ module _ (p : Parts) (features : Features) (names : Lookup) (plan : Plan) (raws 
     texts = All-map (λ (e : entries.Export). IsUtf8 e.name) export_entry exported texts;
     start = started;
     start_is = start_is;
+    elements = map element_entry raw_elements;
+    elements_are = elements_along;
+    elements_stand = All-map ElementStands element_entry raw_elements elements_stand;
+    elements_chosen = All-map (ChoosesFlag names (parts_view p).tables) element_entry raw_elements elements_chosen;
+    elements_spelled = elements_all_spelled p matched names (map import_entry raw_imports) imports_are elements_spelled;
     data_segments = map data_entry raw_segments;
     data_segments_are = segments_along;
     data_segments_stand = All-map DataStands data_entry raw_segments segments_stand;
@@ -238,9 +267,9 @@ module _ (p : Parts) (features : Features) (names : Lookup) (plan : Plan) (raws 
   }
 
   -- the module of these sections
-  module _ (m : wire.Module) (code : List wire.Body) (sections : m ≡ sections_with (map group raws) (map import_entry raw_imports) raw_functions (map table_entry raw_tables) raw_memories raw_tags (map global_entry raw_globals) (map export_entry exported) started count code (map data_entry raw_segments)) (codes : code ≡ map (λ (v : Vec ℕ). unplaced v.items) bodies) where
+  module _ (m : wire.Module) (code : List wire.Body) (sections : m ≡ sections_with (map group raws) (map import_entry raw_imports) raw_functions (map table_entry raw_tables) raw_memories raw_tags (map global_entry raw_globals) (map export_entry exported) started (map element_entry raw_elements) count code (map data_entry raw_segments)) (codes : code ≡ map (λ (v : Vec ℕ). unplaced v.items) bodies) where
     abbrev with_rest : Option ℕ → Option ℕ → List wire.Body → wire.Module
-    with_rest start data_count all = sections_with (map group raws) (map import_entry raw_imports) raw_functions (map table_entry raw_tables) raw_memories raw_tags (map global_entry raw_globals) (map export_entry exported) start data_count all (map data_entry raw_segments)
+    with_rest start data_count all = sections_with (map group raws) (map import_entry raw_imports) raw_functions (map table_entry raw_tables) raw_memories raw_tags (map global_entry raw_globals) (map export_entry exported) start (map element_entry raw_elements) data_count all (map data_entry raw_segments)
 
     module_is : m ≡ laid (text_of records_of)
     module_is =

@@ -1,4 +1,5 @@
--- Bytes spell each table and each global: the module's own as they are written, and those that imports bring as these are described.
+-- Bytes spell each table and each global: the module's own as they are written, and those that imports bring as these are described. They
+-- spell each segment.
 use Rattle.wasm_entries.specs.Record as wire
 use Rattle.std.proofs.Common.{◌≡◌, ⊎_elim, ℕ, Bool, true, false, List, [], ◌∷◌, cond, refl, sym, ap, ◌∙◌, subst, Some, None}
 use Rattle.std.specs.Prelude.{Option, All, Contains, filter, option_map}
@@ -8,7 +9,8 @@ use Rattle.walrus_base.specs.Arena.{entries, item_at, items}
 use Rattle.walrus_types.specs.Operators.{Tables, Globals, Item}
 use Rattle.walrus_code.specs.Names.{Lookup}
 use Rattle.walrus_items.specs.Imports.{ImportValue, imports}
-use Rattle.walrus_items.specs.Data.{DataValue, data_segments}
+use Rattle.walrus_items.specs.Data.{data_segments}
+use Rattle.walrus_items.specs.Elements.{elements}
 use Rattle.walrus_items.specs.Globals.{GlobalValue, globals}
 use Rattle.walrus_items.specs.Tables.{TableValue, tables}
 use Rattle.walrus_contents.specs.View as seen
@@ -16,16 +18,16 @@ use Rattle.walrus_contents.specs.View.{parts_view}
 use Rattle.walrus_contents.specs.declared.parts.Parts.{Parts}
 use Rattle.walrus_contents.proofs.Lookups.{mapped_some}
 use Rattle.walrus_contents.proofs.Slots.{entry_in}
-use Rattle.walrus_model.specs.Abstract.{Abstract, DataSegment, Global, Import, Table}
+use Rattle.walrus_model.specs.Abstract.{Abstract, DataSegment, Element, Global, Import, Table}
 use Rattle.walrus_model.specs.Spaces.{Thing, look}
 use Rattle.walrus_model.specs.WellMade.{ImportsMatch, import_in, import_of, origin_import}
 use Rattle.walrus_model.proofs.Lists.{Contains-head, Contains-map, Contains-none, Contains-tail, Contains-uncons}
 use Rattle.walrus_model.proofs.Standing.{got_where, none_there, some_inj, zip_right}
 use Rattle.walrus_plan.specs.Brought.{import_numbers, own_of}
+use Rattle.walrus_writing.specs.Elements.{ElementIsUnspelled, IsSpelledElement}
 use Rattle.walrus_writing.specs.Globals.{GlobalIsUnspelled, IsSpelledGlobal}
 use Rattle.walrus_writing.specs.Globals as global_causes
 use Rattle.walrus_writing.specs.Segments.{DataIsUnspelled, IsSpelledData}
-use Rattle.walrus_writing.proofs.DataRecords.{all_own, no_import}
 use Rattle.walrus_writing.specs.Imported.{IsEntryAt, is_exact_thing}
 use Rattle.walrus_plan.specs.Local.{is_own}
 use Rattle.walrus_writing.specs.Tables.{IsSpelledTable, TableIsUnspelled}
@@ -57,6 +59,10 @@ module _ {X : Type 0} (test : X → Bool) where
   each_passing P slots all i x at e =
       All-contains P (filter test (items slots)) x all
       (among_passing (items slots) x e (Contains-map (λ (d : ℕ × X). d.1) (i, x) (entries slots) (entry_in slots i x at)))
+
+-- what holds of all holds of each that is there
+each_there : {X : Type 0} (P : X → Type 0) (slots : List (Option X)) → All P (items slots) → (i : ℕ) (x : X) → item_at slots i ≡ Some x → P x
+each_there {X} P slots all i x at = All-contains P (items slots) x all (Contains-map (λ (d : ℕ × X). d.1) (i, x) (entries slots) (entry_in slots i x at))
 
 -- ---- what imports bring
 
@@ -103,13 +109,17 @@ module _ (p : Parts) (matched : ImportsMatch (parts_view p)) (names : Lookup) (w
       let v = mapped_some seen.table_of (item_at (tables p.tables.now) n) t at in
       subst (λ (u : Table). TableIsUnspelled u → ⊥) (sym v.2) (table_spelled n v.0 v.1 v.0.imported_by refl own)
 
-  -- ---- data segments, which no import brings
+  -- ---- segments, which no import brings
+
+  pub elements_all_spelled : All IsSpelledElement (items (elements p.elements.now)) → (i : ℕ) (e : Element) → V.elements i ≡ Some e → ElementIsUnspelled e → ⊥
+  elements_all_spelled all n e at =
+      let v = mapped_some seen.element_of (item_at (elements p.elements.now) n) e at in
+      subst (λ (u : Element). ElementIsUnspelled u → ⊥) (sym v.2) (each_there IsSpelledElement (elements p.elements.now) all n v.0 v.1)
 
   pub segments_all_spelled : All IsSpelledData (items (data_segments p.data_.now)) → (i : ℕ) (d : DataSegment) → V.data_segments i ≡ Some d → DataIsUnspelled d → ⊥
   segments_all_spelled all n d at =
       let v = mapped_some seen.data_of (item_at (data_segments p.data_.now) n) d at in
-      subst (λ (u : DataSegment). DataIsUnspelled u → ⊥) (sym v.2)
-      (each_passing (λ (x : DataValue). is_own (no_import x)) IsSpelledData (data_segments p.data_.now) (subst (All IsSpelledData) (sym (all_own (items (data_segments p.data_.now)))) all) n v.0 v.1 refl)
+      subst (λ (u : DataSegment). DataIsUnspelled u → ⊥) (sym v.2) (each_there IsSpelledData (data_segments p.data_.now) all n v.0 v.1)
 
   -- ---- globals
 

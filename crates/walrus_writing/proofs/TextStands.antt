@@ -126,7 +126,7 @@ module _ {p : Parts} {features : Features} (r : Records p features) where
     globals = r.globals_stand;
     exports = All-from_recursion ExportStands r.exports (exports_stand r.exports V.exports r.exports_are (recursion_from_All (λ (e : entries.Export). IsUtf8 e.name) r.exports r.texts));
     start = subst (λ (o : Option ℕ). IfSome o IsIndex) (sym (later_none r.start)) (start_stands r.start V.start r.start_is);
-    elements = All-nil _;
+    elements = r.elements_stand;
     data_count = subst (λ (o : Option ℕ). IfSome o IsIndex) (sym (later_none r.data_count)) (count_stands r.data_count r.counted);
     bodies = tt;
     data_segments = r.data_segments_stand;

@@ -1,3 +1,4 @@
+pub mod Elements
 pub mod Emitted
 pub mod Globals
 pub mod Imported

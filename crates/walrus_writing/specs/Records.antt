@@ -6,27 +6,28 @@ use Rattle.std.specs.Prelude.{ℕ, List, [], ◌∷◌, ◌++◌, Option, Some, 
 use Rattle.std.specs.List.{AllZip}
 use Rattle.std.specs.Str.{IsUtf8}
 use Rattle.wasm_entries.specs.Record.{Group}
-use Rattle.wasm_entries.specs.Spelling.{DataStands, GlobalStands, TableStands}
+use Rattle.wasm_entries.specs.Spelling.{DataStands, ElementStands, GlobalStands, TableStands}
 use Rattle.wasm_entries.specs.TypeSpelling.{GroupStands, LimitsStand}
 use Rattle.wasm_writer.specs.Spelling.{SectionFits}
-use Rattle.walrus_types.specs.Operators.{Space, Types, Functions, Tables, Memories, Tags, Globals, DataSegments}
+use Rattle.walrus_types.specs.Operators.{Space, Types, Functions, Tables, Memories, Tags, Globals, Elements, DataSegments}
 use Rattle.walrus_code.specs.Names.{Lookup}
 use Rattle.walrus_bodies.specs.declared.features.Features.{Features}
 use Rattle.walrus_groups.specs.Groups.{types_from}
 use Rattle.walrus_groups.specs.Named.{named_def}
 use Rattle.walrus_constants.specs.Named.{named_global, named_table}
-use Rattle.walrus_constants.specs.Segments.{named_data}
+use Rattle.walrus_constants.specs.Segments.{named_data, named_element}
 use Rattle.walrus_contents.specs.View.{parts_view}
 use Rattle.walrus_contents.specs.declared.parts.Parts.{Parts}
-use Rattle.walrus_model.specs.Abstract.{Abstract, DataSegment, Defined, Global, Memory, Table, Tag}
+use Rattle.walrus_model.specs.Abstract.{Abstract, DataSegment, Defined, Element, Global, Memory, Table, Tag}
 use Rattle.walrus_model.specs.Imported.{import_number}
 use Rattle.walrus_model.specs.Plan.{AreNumbered, IsPlan, Plan}
-use Rattle.walrus_model.specs.Sections.{data_of, global_of, table_of}
+use Rattle.walrus_model.specs.Sections.{data_of, element_of, global_of, table_of}
 use Rattle.walrus_model.specs.Spaces.{Thing, look}
 use Rattle.walrus_model.specs.WellMade.{ImportsMatch}
 use Rattle.walrus_rules.specs.Examples.{empty_text}
 use Rattle.walrus_rules.specs.Spelling.{IsCount, written_as}
 use Rattle.walrus_rules.specs.Text.{BodyText, Text, sections_of}
+use Rattle.walrus_writing.specs.Elements.{ChoosesFlag, ElementIsUnspelled}
 use Rattle.walrus_writing.specs.Globals.{GlobalIsUnspelled}
 use Rattle.walrus_plan.specs.Brought.{import_numbers}
 use Rattle.walrus_writing.specs.Imported.{IsEntryAt}
@@ -87,6 +88,11 @@ pub record Records (p : Parts) (features : Features) : Type 0 where
   pub texts : All (λ e. IsUtf8 e.name) exports
   pub start : Option ℕ
   pub start_is : option_map Some start ≡ option_map (names Functions) (parts_view p).start
+  pub elements : List entries.Element
+  pub elements_are : AreRecords (parts_view p) plan Elements (named_element names) (map element_of elements)
+  pub elements_stand : All ElementStands elements
+  pub elements_chosen : All (ChoosesFlag names (parts_view p).tables) elements
+  pub elements_spelled : (i : ℕ) (e : Element) → (parts_view p).elements i ≡ Some e → ElementIsUnspelled e → ⊥
   pub data_segments : List entries.Segment
   pub data_segments_are : AreRecords (parts_view p) plan DataSegments (named_data names) (map data_of data_segments)
   pub data_segments_stand : All DataStands data_segments
@@ -113,14 +119,15 @@ text_of {p} {features} r = record empty_text {
   globals = r.globals;
   exports = r.exports;
   start = r.start;
+  elements = r.elements;
   data_count = r.data_count;
   data_segments = r.data_segments;
   bodies = texts_in p r.names features (r.own Functions) r.bodies r.bodies_are;
 }
 
 -- a module of these sections
-abbrev pub sections_with : List Group → List entries.Import → List ℕ → List entries.Table → List RawLimits → List ℕ → List entries.Global → List entries.Export → Option ℕ → Option ℕ → List wire.Body → List entries.Segment → wire.Module
-sections_with types imports functions tables memories tags globals exports start data_count bodies data_segments = record wire.no_sections { types = types; imports = imports; functions = functions; tables = tables; memories = memories; tags = tags; globals = globals; exports = exports; start = start; data_count = data_count; bodies = bodies; data_segments = data_segments }
+abbrev pub sections_with : List Group → List entries.Import → List ℕ → List entries.Table → List RawLimits → List ℕ → List entries.Global → List entries.Export → Option ℕ → List entries.Element → Option ℕ → List wire.Body → List entries.Segment → wire.Module
+sections_with types imports functions tables memories tags globals exports start elements data_count bodies data_segments = record wire.no_sections { types = types; imports = imports; functions = functions; tables = tables; memories = memories; tags = tags; globals = globals; exports = exports; start = start; elements = elements; data_count = data_count; bodies = bodies; data_segments = data_segments }
 
 -- the bytes are those of the text, which fits
 pub record Spells (p : Parts) (features : Features) (bytes : List ℕ) : Type 0 where

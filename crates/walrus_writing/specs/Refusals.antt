@@ -9,9 +9,11 @@ use Rattle.walrus_bodies.specs.declared.features.Features.{Features}
 use Rattle.walrus_functions.specs.EmittedBody.{Source, CantBeWritten, HasTooManyLocals}
 use Rattle.walrus_groups.specs.Indexed.{HasExact}
 use Rattle.walrus_items.specs.Data.{DataValue, data_segments}
+use Rattle.walrus_items.specs.Elements.{ElementValue, elements}
 use Rattle.walrus_items.specs.Globals.{GlobalValue, globals}
 use Rattle.walrus_items.specs.Tables.{TableValue, tables}
-use Rattle.walrus_contents.specs.View.{data_of, global_of, parts_view, table_of}
+use Rattle.walrus_contents.specs.View.{data_of, element_of, global_of, parts_view, table_of}
+use Rattle.walrus_writing.specs.Elements.{ElementIsUnspelled}
 use Rattle.walrus_writing.specs.Globals.{GlobalIsUnspelled}
 use Rattle.walrus_writing.specs.Imported.{ImportIsExact}
 use Rattle.walrus_writing.specs.Segments.{DataIsUnspelled}
@@ -31,14 +33,15 @@ HasBody p features P = (names : Lookup) × ((number : ℕ) × ((local : LocalFun
 abbrev pub PassesLimits : Parts → Features → Type 0
 PassesLimits p features = HasBody p features HasTooManyLocals ⊎ DoesNotFit p features
 
--- what no bytes spell: a body, an exact heap type in a type, the type of an imported item, a table, a global, or a data
--- segment
+-- what no bytes spell: a body, an exact heap type in a type, the type of an imported item, a table, a global, or a segment of elements or
+-- of data
 pub data HasUnspellable (p : Parts) (features : Features) : Type 0 where
   AnImport : (i : ℕ) (x : Import) → (parts_view p).imports i ≡ Some x → ImportIsExact (parts_view p) x → HasUnspellable p features
   ABody : HasBody p features CantBeWritten → HasUnspellable p features
   AType : HasExact (items (type_slots p.types.now)) → HasUnspellable p features
   ATable : (t : TableValue) → Contains (items (tables p.tables.now)) t → TableIsUnspelled (table_of t) → HasUnspellable p features
   AGlobal : (g : GlobalValue) → Contains (items (globals p.globals.now)) g → GlobalIsUnspelled (global_of g) → HasUnspellable p features
+  AnElement : (e : ElementValue) → Contains (items (elements p.elements.now)) e → ElementIsUnspelled (element_of e) → HasUnspellable p features
   ASegment : (d : DataValue) → Contains (items (data_segments p.data_.now)) d → DataIsUnspelled (data_of d) → HasUnspellable p features
 
 -- items that name nothing dead and have a plan: each refusal comes with its cause

@@ -3,6 +3,7 @@
 
 mod bodies;
 mod data;
+mod elements;
 mod globals;
 mod imported;
 mod records;

@@ -14,7 +14,7 @@ ghost use Rattle.walrus_items.specs.Memories.{memories, memory_value};
 ghost use Rattle.walrus_items.specs.Tags.{tags, tag_value};
 ghost use Rattle.walrus_contents.specs.View.{export_of, memory_of, parts_view, tag_of};
 ghost use Rattle.walrus_parts.specs.Errors.{out_of_memory};
-ghost use Rattle.wasm_entries.specs.Record.{data_entry, group, export_entry, global_entry, import_entry, table_entry};
+ghost use Rattle.wasm_entries.specs.Record.{data_entry, element_entry, group, export_entry, global_entry, import_entry, table_entry};
 ghost use Rattle.wasm_entries.specs.TypeSpelling.{IsBelow, LimitsStand};
 ghost use Rattle.wasm_frames.specs.Record.{body_record, sections};
 ghost use Rattle.walrus_plan.specs.Brought.{own_of};
@@ -33,8 +33,8 @@ use walrus_items::{
 use walrus_parts::{Error, Result};
 use walrus_plan::tag_import;
 use wasm_wire::{
-    Raw, RawBody, RawData, RawExport, RawExportKind, RawGlobal, RawGroup, RawImport, RawLimits,
-    RawTable,
+    Raw, RawBody, RawData, RawElement, RawExport, RawExportKind, RawGlobal, RawGroup, RawImport,
+    RawLimits, RawTable,
 };
 
 // The groups of the type section.
@@ -276,6 +276,7 @@ pub fn raw_module<'a>(
     globals: Vec<RawGlobal>,
     exports: Vec<RawExport<'a>>,
     start: Option<u32>,
+    elements: Vec<RawElement>,
     data_count: Option<u32>,
     bodies: Vec<RawBody<'a>>,
     data_segments: Vec<RawData<'a>>,
@@ -283,7 +284,7 @@ pub fn raw_module<'a>(
     ensures { sections result ≡ sections_with (map group types.items)
         (map import_entry imports.entry.items) functions.items
         (map table_entry tables.items) memories.items tags.items (map global_entry globals.items)
-        (map export_entry exports.entry.items) start data_count
+        (map export_entry exports.entry.items) start (map element_entry elements.items) data_count
         (map body_record bodies.entry.items) (map data_entry data_segments.entry.items) }
 {
     Raw {
@@ -297,7 +298,7 @@ pub fn raw_module<'a>(
         globals,
         exports,
         start,
-        elements: Vec::new(alloc),
+        elements,
         data_count,
         bodies,
         data_: data_segments,

@@ -25,8 +25,8 @@ use walrus_items::{ModuleTables, Table};
 use walrus_parts::Error;
 use wasm_wire::{RawConst, RawLimits, RawRef, RawTable, RawTableType, RawVal};
 
-// The type of a table's elements.
-fn raw_element(ty: RefType, indices: &IdsToIndices) -> Result<RawRef, IrError>
+/// The type of the elements of a table, or of what a segment holds.
+pub(crate) fn raw_reference(ty: RefType, indices: &IdsToIndices) -> Result<RawRef, IrError>
     ensures indexed { IndexesIn said.ref_of result (heap_is_exact (ref_type ty).heap)
         (named_ref (index_of indices.now) (ref_type ty)) }
     ensures spelled { IfOk result (λ raw. HeapStands raw.heap) }
@@ -52,7 +52,7 @@ pub fn raw_table_type(table: &Table, indices: &IdsToIndices) -> Result<RawTableT
     ensures spelled { IfOk result (λ raw. TableTypeStands raw) }
     ensures memory { NeedsNoMemory result }
 {
-    let element = raw_element(table.element_ty, indices)?;
+    let element = raw_reference(table.element_ty, indices)?;
     let limits = RawLimits {
         minimum: pages_of(table.initial),
         maximum: limit_of(table.maximum),

@@ -2,7 +2,8 @@
 ghost use Rattle.std.specs.Prelude.{IfOk};
 ghost use Rattle.walrus_model.specs.Config.{Config};
 ghost use Rattle.walrus_model.specs.Dead.{HasDead};
-ghost use Rattle.walrus_rules.specs.SoFar.{RefusesSoFar};
+ghost use Rattle.walrus_model.specs.Declared.{NothingUndeclared};
+ghost use Rattle.walrus_rules.specs.Refused.{RefusesToWrite};
 ghost use Rattle.walrus_contents.specs.View.{parts_view};
 ghost use Rattle.walrus_writing.specs.Emitted.{IsEmitted, IsPlain, told};
 ghost use Rattle.walrus_plan.specs.Prepared.{IsPrepared};
@@ -11,6 +12,7 @@ ghost use Rattle.walrus_writing.specs.Refusals.{RefusesItems};
 
 use crate::bodies::{Indexed, body_bytes};
 use crate::data::raw_data;
+use crate::elements::raw_elements;
 use crate::globals::raw_globals;
 use crate::imported::raw_imports;
 use crate::records::{
@@ -19,32 +21,30 @@ use crate::records::{
 };
 use crate::tables::raw_tables;
 use std::alloc::Global;
-use walrus_contents::{Parts, are_references_declared, check_live};
+use walrus_contents::Parts;
 use walrus_ir::Features;
-use walrus_parts::{Error, Result};
+use walrus_parts::Result;
 use walrus_plan::{Prepared, prepare};
 use wasm_wire::written_module;
 
-/// The bytes of a module of these parts, whose bodies may use these proposals; neither names nor producers are written.
+/// The bytes of a module of these parts, in which nothing dead is named and nothing is undeclared, and whose bodies may use these proposals;
+/// neither names nor producers are written.
 ///
 /// # Errors
 ///
-/// `DeadItem` exactly where something that isn't there is named, or a function has neither an import nor a body. Behind that, each with
-/// a cause of its own: `TwoIndices` where an import names an item that the module defines, or two imports name one; `NoIndex` where an item
-/// says to be brought by an import that isn't there or names another item, the initialiser of a table reads a global of the module, that of a
-/// global itself or a later one, or a type names one of a later group or a later supertype; `NotWritable` where a body isn't well formed, an
-/// exact heap type is written, an initialiser or an offset has no operator, or `ref.func` names a function that isn't exported; `TooLarge` where a count
-/// or a size passes 32 bits; and `Memory`.
+/// Each with a cause of its own: `TwoIndices` where an import names an item that the module defines, or two imports name one; `NoIndex` where an
+/// item says to be brought by an import that isn't there or names another item, the initialiser of a table reads a global of the module, that
+/// of a global itself or a later one, or a type names one of a later group or a later supertype; `NotWritable` where a body isn't well formed, an
+/// exact heap type is written, or an initialiser, an offset or an item of a segment has no operator; `TooLarge` where a count or a size passes 32
+/// bits; and `Memory`.
 pub fn write_parts(alloc: Global, parts: Parts<'_>, features: &Features) -> Result<Vec<u8>>
+    requires there { HasDead (parts_view parts) → ⊥ }
+    requires declared { NothingUndeclared (parts_view parts) }
     ensures written { (c : Config) → IsPlain c features.now
         → IfOk result (λ bytes. IsEmitted c (parts_view parts.entry) bytes.items) }
-    ensures refused { (c : Config) → IsPlain c features.now → RefusesSoFar c (parts_view parts.entry)
+    ensures refused { (c : Config) → IsPlain c features.now → RefusesToWrite ⊥ c (parts_view parts.entry)
         (told result) }
 {
-    check_live(alloc, parts)?;
-    if !are_references_declared(alloc, parts)? {
-        return Err(Error::NotWritable);
-    }
     let prepared = prepare(alloc, parts)?;
     write_prepared(alloc, parts, &prepared, features)
 }
@@ -79,6 +79,7 @@ fn write_prepared(
     let globals = raw_globals(alloc, parts.globals, indices)?;
     let exports = raw_exports(alloc, parts.exports, indices)?;
     let start = raw_start(parts.start, indices);
+    let elements = raw_elements(alloc, parts.elements, parts.tables, indices)?;
     let data_segments = raw_data(alloc, parts.data_, indices)?;
     let raw = raw_module(
         alloc,
@@ -91,6 +92,7 @@ fn write_prepared(
         globals,
         exports,
         start,
+        elements,
         prepared.data_count,
         code,
         data_segments,

@@ -2,8 +2,9 @@
 
 ghost use Rattle.std.specs.Prelude.{◌≡◌, IfErr, OnErr, OnOk};
 ghost use Rattle.walrus_types.specs.ModuleTypes.{type_names, type_slots};
-ghost use Rattle.walrus_types.specs.Operators.{Item, DataSegments, Functions, Globals, Memories, Tables, Tags, Types};
+ghost use Rattle.walrus_types.specs.Operators.{Item, DataSegments, Elements, Functions, Globals, Memories, Tables, Tags, Types};
 ghost use Rattle.walrus_items.specs.Data.{data_segments};
+ghost use Rattle.walrus_items.specs.Elements.{elements};
 ghost use Rattle.walrus_items.specs.Globals.{globals};
 ghost use Rattle.walrus_items.specs.Memories.{memories};
 ghost use Rattle.walrus_items.specs.Tables.{tables};
@@ -41,6 +42,8 @@ pub fn run(alloc: Global, module: &mut Module) -> Result<()>
         (tags «module».old.tags) (tags «module».new.tags)) }
     ensures globals { OnOk result (KeepsOnly (λ i. Kept (view «module».old) (Globals, i))
         (globals «module».old.globals) (globals «module».new.globals)) }
+    ensures elements { OnOk result (KeepsOnly (λ i. Kept (view «module».old) (Elements, i))
+        (elements «module».old.elements) (elements «module».new.elements)) }
     ensures data_segments { OnOk result (KeepsOnly (λ i. Kept (view «module».old) (DataSegments, i))
         (data_segments «module».old.data_) (data_segments «module».new.data_)) }
     ensures imports { OnOk result (KeepsOnly (IsImportOf (Kept (view «module».old)) (view «module».old))
@@ -72,6 +75,7 @@ pub fn run(alloc: Global, module: &mut Module) -> Result<()>
     module.memories.keep_only(&marks.memories);
     module.tags.keep_only(&marks.tags);
     module.globals.keep_only(&marks.globals);
+    module.elements.keep_only(&marks.elements);
     module.data_.keep_only(&marks.data_);
     Ok(())
 }

@@ -12,7 +12,7 @@ use walrus_module::{
     DataKey, ElementKey, FunctionKey, GlobalKey, ItemId, MemoryKey, TableKey, TagKey, TypeKey,
 };
 
-/// Marks of the items of a module, by kind, made at once for all of them. There are no element segments so far.
+/// Marks of the items of a module, by kind, made at once for all of them.
 #[derive(Drop)]
 pub struct MarkedItems {
     pub(crate) types: Marks<TypeKey>,
@@ -38,7 +38,7 @@ impl MarkedItems {
             memories: Marks::new(alloc, parts.memories.next_id().index())?,
             tags: Marks::new(alloc, parts.tags.next_id().index())?,
             globals: Marks::new(alloc, parts.globals.next_id().index())?,
-            elements: Marks::new(alloc, 0)?,
+            elements: Marks::new(alloc, parts.elements.next_id().index())?,
             data_: Marks::new(alloc, parts.data_.next_id().index())?,
         })
     }

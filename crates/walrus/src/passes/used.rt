@@ -28,8 +28,8 @@ use walrus_module::{
     ModuleTypes, Result, TableKey, TagKey, TypeId, TypeKey,
 };
 
-/// The items that the roots of a module reach, by kind. Its roots are its exports, its start function and its active data segments so
-/// far.
+/// The items that the roots of a module reach, by kind. Its roots are its exports, its start function, its active segments of data and of
+/// elements, and its declared ones.
 #[derive(Drop)]
 pub struct Used {
     /// The tables.
@@ -105,6 +105,7 @@ pub(crate) fn marked(alloc: Global, module: &Module) -> Result<MarkedItems>
         memories: &module.memories,
         tags: &module.tags,
         globals: &module.globals,
+        elements: &module.elements,
         data_: &module.data_,
         exports: &module.exports,
         start: module.start,

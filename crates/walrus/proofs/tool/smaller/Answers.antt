@@ -9,4 +9,4 @@ returns-in_err-run c = answers_gc (config_of (flags c.args.config.now)) (λ outp
 pub returns : goal.returns
 returns c =
     let keeps = c.in_ok-run.ensures.others.3 ∙ c.in_ok-module.ensures.configured in
-    answers_kept (λ output. output.items) _ _ keeps _ _ c.deref.ensures.value _ _ c.emit_wasm.result c.in_ok-module.ensures.found c.in_ok-run.ensures.collected c.emit_wasm.ensures.emitted c.emit_wasm.ensures.refused
+    answers_kept (λ output. output.items) _ _ keeps _ _ c.deref.ensures.value _ _ _ c.emit_wasm.result c.in_ok-module.ensures.found c.in_ok-run.ensures.collected c.emit_wasm.ensures.left c.emit_wasm.ensures.emitted c.emit_wasm.ensures.refused

@@ -47,6 +47,11 @@ returns-in_err-check_globals c =
     let p = err_from_is_err_and c.from_residual-in_err-check_globals.result c.from_residual-in_err-check_globals.ensures.1 in
     rw (p.1, p.2) c.in_err-check_globals.ensures
 
+pub returns-in_err-check_elements : goal.returns-in_err-check_elements
+returns-in_err-check_elements c =
+    let p = err_from_is_err_and c.from_residual-in_err-check_elements.result c.from_residual-in_err-check_elements.ensures.1 in
+    rw (p.1, p.2) c.in_err-check_elements.ensures
+
 pub returns-in_err-check_data : goal.returns-in_err-check_data
 returns-in_err-check_data c =
     let p = err_from_is_err_and c.from_residual-in_err-check_data.result c.from_residual-in_err-check_data.ensures.1 in
@@ -65,5 +70,6 @@ returns c =
       tables = c.in_ok-check_tables.ensures;
       tags = c.in_ok-check_tags.ensures;
       globals = c.in_ok-check_globals.ensures;
+      elements = c.in_ok-check_elements.ensures;
       data_segments = c.in_ok-check_data.ensures;
     }) c.check_functions.result c.check_functions.ensures

@@ -2,8 +2,7 @@ use Rattle.std.proofs.Common.{◌≡◌, ◌∙◌, List, ap, map}
 use Rattle.std.specs.Prelude.{filter, not}
 use Rattle.std.specs.Global.{Vec}
 use Rattle.walrus_base.specs.Id.{place}
-use Rattle.walrus_base.specs.IdSet.{has_id}
-use Rattle.walrus_base.specs.Marks.{places_marked}
+use Rattle.walrus_base.specs.Marks.{is_marked, places_marked}
 use Rattle.walrus_base.specs.declared.id.Id.{Id}
 use Rattle.walrus_base.specs.declared.keys.FunctionKey.{FunctionKey}
 use Rattle.walrus_model.specs.Declared.{AreUndeclared}
@@ -14,9 +13,12 @@ use Rattle.walrus_contents.proofs.references.undeclared_functions.Goals as goal
 
 pub returns-clause-undeclared : goal.returns-clause-undeclared
 returns-clause-undeclared c =
-    let holds = has_id c.in_ok-exported.exported in
-    let marks = c.in_ok-marks.marks in
+    let marks = c.in_ok-named_marks.named_marks in
+    let holds = is_marked c.in_ok-declared_marks.declared_marks in
     let view = parts_view c.args.parts in
+    let same : (ids : List (Id FunctionKey)) (all : List (Id FunctionKey)) → ids ≡ all → map place ids ≡ map place all = λ ids all e. ap (λ (xs : List (Id FunctionKey)). map place xs) e in
     if_ok (λ (ids : Vec (Id FunctionKey)). map place ids.items ≡ filter (λ f. not (holds f)) (places_marked marks)) (λ (ids : Vec (Id FunctionKey)). AreUndeclared (IsLive view) view (map place ids.items)) c.marked_without.result
-    (λ ids is. undeclared (lent c.args.parts) marks.marks.items holds (map place c.as_slice.result.now) (map place ids.items) (ap (λ (named : List (Id FunctionKey)). map place named) c.as_slice.ensures.value ∙ c.in_ok-named.ensures.names) c.in_ok-marks.ensures.marks c.in_ok-exported.ensures.marks is)
+    (λ ids is. undeclared (lent c.args.parts) marks.marks.items holds (map place c.as_slice.result.now) (map place c.as_slice-2.result.now)
+    (same _ _ c.as_slice.ensures.value ∙ c.in_ok-named.ensures.names) (same _ _ c.as_slice-2.ensures.value ∙ c.in_ok-declared.ensures.names)
+    c.in_ok-named_marks.ensures.marks c.in_ok-declared_marks.ensures.marks (map place ids.items) is)
     c.marked_without.ensures.are

@@ -1,9 +1,9 @@
 use Rattle.std.proofs.Common.{arith}
 use Rattle.std.proofs.lemmas.List.{length-map}
 use Rattle.walrus_base.specs.Id.{place}
-use Rattle.walrus_types.specs.Operators.{Types, Functions, Tables, Memories, Tags, Globals, DataSegments}
+use Rattle.walrus_types.specs.Operators.{Types, Functions, Tables, Memories, Tags, Globals, Elements, DataSegments}
 use Rattle.walrus_plan.proofs.plan.check_counts.Goals as goal
-use Rattle.walrus_plan.proofs.plan.check_counts.Goals.{then-len-most-via-then-len-most, then-len-most-via-else-len-most+then-len-most-2, then-len-most-via-else-len-most+else-len-most-2+then-len-most-3, then-len-most-via-else-len-most+else-len-most-2+else-len-most-3+then-len-most-4, then-len-most-via-else-len-most+else-len-most-2+else-len-most-3+else-len-most-4+then-len-most-5, then-len-most-via-else-len-most+else-len-most-2+else-len-most-3+else-len-most-4+else-len-most-5+then-len-most-6, then-len-most-via-else-len-most+else-len-most-2+else-len-most-3+else-len-most-4+else-len-most-5+else-len-most-6+then-len-most-7}
+use Rattle.walrus_plan.proofs.plan.check_counts.Goals.{then-len-most-via-then-len-most, then-len-most-via-else-len-most+then-len-most-2, then-len-most-via-else-len-most+else-len-most-2+then-len-most-3, then-len-most-via-else-len-most+else-len-most-2+else-len-most-3+then-len-most-4, then-len-most-via-else-len-most+else-len-most-2+else-len-most-3+else-len-most-4+then-len-most-5, then-len-most-via-else-len-most+else-len-most-2+else-len-most-3+else-len-most-4+else-len-most-5+then-len-most-6, then-len-most-via-else-len-most+else-len-most-2+else-len-most-3+else-len-most-4+else-len-most-5+else-len-most-6+then-len-most-7, then-len-most-via-else-len-most+else-len-most-2+else-len-most-3+else-len-most-4+else-len-most-5+else-len-most-6+else-len-most-7+then-len-most-8}
 
 pub returns-then-len-most-clause-fails : goal.returns-then-len-most-clause-fails
 returns-then-len-most-clause-fails c =
@@ -15,5 +15,6 @@ returns-then-len-most-clause-fails c =
       | then-len-most-via-else-len-most+else-len-most-2+else-len-most-3+then-len-most-4 w ↦ (Memories, omega (arith, w.if-len-most-4.true, w.len-else-len-most-3.ensures, length-map p.memories.items place))
       | then-len-most-via-else-len-most+else-len-most-2+else-len-most-3+else-len-most-4+then-len-most-5 w ↦ (Tags, omega (arith, w.if-len-most-5.true, w.len-else-len-most-4.ensures, length-map p.tags.items place))
       | then-len-most-via-else-len-most+else-len-most-2+else-len-most-3+else-len-most-4+else-len-most-5+then-len-most-6 w ↦ (Globals, omega (arith, w.if-len-most-6.true, w.len-else-len-most-5.ensures, length-map p.globals.items place))
-      | then-len-most-via-else-len-most+else-len-most-2+else-len-most-3+else-len-most-4+else-len-most-5+else-len-most-6+then-len-most-7 w ↦ (DataSegments, omega (arith, w.if-len-most-7.true, w.len-else-len-most-6.ensures, length-map p.data_.items place))
+      | then-len-most-via-else-len-most+else-len-most-2+else-len-most-3+else-len-most-4+else-len-most-5+else-len-most-6+then-len-most-7 w ↦ (Elements, omega (arith, w.if-len-most-7.true, w.len-else-len-most-6.ensures, length-map p.elements.items place))
+      | then-len-most-via-else-len-most+else-len-most-2+else-len-most-3+else-len-most-4+else-len-most-5+else-len-most-6+else-len-most-7+then-len-most-8 w ↦ (DataSegments, omega (arith, w.if-len-most-8.true, w.len-else-len-most-7.ensures, length-map p.data_.items place))
     ]

@@ -55,6 +55,7 @@ returns-clause-prepared c =
       memories = plan.memories;
       tags = plan.tags;
       globals = plan.globals;
+      elements = plan.elements;
       data_segments = plan.data_segments;
       data_count = subst (λ (n : ℕ). IsCount (parts_view c.args.parts) n c.count_of-data_count.result)
           (omega (arith, c.len.ensures, length-map c.in_ok-plan.plan.data_.items place)) c.count_of-data_count.ensures;

@@ -5,13 +5,14 @@ use Rattle.std.specs.Prelude.{All, Some, None, Ok}
 use Rattle.std.proofs.lemmas.List.{length-map}
 use Rattle.std.proofs.lemmas.Result.{err_from_is_err_and}
 use Rattle.wasm_entries.specs.declared.record.RawData.{RawData}
+use Rattle.wasm_entries.specs.declared.record.RawElement.{RawElement}
 use Rattle.wasm_entries.specs.declared.record.RawExport.{RawExport}
 use Rattle.wasm_entries.specs.declared.record.RawGlobal.{RawGlobal}
 use Rattle.wasm_entries.specs.declared.record.RawImport.{RawImport}
 use Rattle.wasm_entries.specs.declared.record.RawLimits.{RawLimits}
 use Rattle.wasm_entries.specs.declared.record.RawSub.{RawSub}
 use Rattle.wasm_entries.specs.declared.record.RawTable.{RawTable}
-use Rattle.wasm_entries.specs.Record.{Import, data_entry, export_entry, global_entry, group, import_entry, table_entry}
+use Rattle.wasm_entries.specs.Record.{Import, data_entry, element_entry, export_entry, global_entry, group, import_entry, table_entry}
 use Rattle.wasm_frames.specs.Record.{body_record, sections}
 use Rattle.walrus_types.specs.Locals.{locals}
 use Rattle.walrus_types.specs.ModuleTypes.{type_names, type_slots}
@@ -20,6 +21,7 @@ use Rattle.walrus_code.specs.Indices.{ids_at}
 use Rattle.walrus_groups.specs.Groups.{types_from, AreDeclared}
 use Rattle.walrus_producers.specs.Seen.{producers}
 use Rattle.walrus_items.specs.Data.{data_segments}
+use Rattle.walrus_items.specs.Elements.{elements}
 use Rattle.walrus_items.specs.Exports.{exports}
 use Rattle.walrus_items.specs.Functions.{functions}
 use Rattle.walrus_items.specs.Globals.{globals}
@@ -27,14 +29,14 @@ use Rattle.walrus_items.specs.Memories.{memories}
 use Rattle.walrus_items.specs.Tables.{tables}
 use Rattle.walrus_items.specs.Tags.{tags}
 use Rattle.walrus_model.specs.Producers.{produced}
-use Rattle.walrus_model.specs.Sections.{data_of, global_of, memory_of, table_of, tag_of}
+use Rattle.walrus_model.specs.Sections.{data_of, element_of, global_of, memory_of, table_of, tag_of}
 use Rattle.walrus_records.proofs.TypesRefer.{types_declared}
-use Rattle.walrus_reading.specs.Held.{HoldsData, HoldsGlobal, HoldsMemory, HoldsTable, HoldsTag, none_kept}
+use Rattle.walrus_reading.specs.Held.{HoldsData, HoldsElement, HoldsGlobal, HoldsMemory, HoldsTable, HoldsTag, none_kept}
 use Rattle.walrus_reading.specs.Imported.{HoldsImports}
 use Rattle.walrus_reading.specs.Placed.{AddsPlaced, AllPlaced}
-use Rattle.walrus_reading.specs.Stays.{AllStay, DataStays, DescStays, ExportStays, GlobalStays, TableStays, TypeStays}
+use Rattle.walrus_reading.specs.Stays.{AllStay, DataStays, DescStays, ElementStays, ExportStays, GlobalStays, TableStays, TypeStays}
 use Rattle.walrus_reading.specs.Taken.{HoldsExport}
-use Rattle.walrus_reading.proofs.KeptSegments.{data_on_live, memories_kept}
+use Rattle.walrus_reading.proofs.KeptSegments.{data_on_live, elements_on_live, memories_kept, tables_kept}
 use Rattle.walrus_reading.proofs.Locating.{located_in}
 use Rattle.walrus_reading.proofs.Numbered.{imports_stay, stay}
 use Rattle.walrus_reading.proofs.Rows.{placed_first}
@@ -48,7 +50,7 @@ add_types-requires-clause-declared c =
 pub add_imports-requires-clause-none : goal.add_imports-requires-clause-none
 add_imports-requires-clause-none c =
     let n = c.in_ok-contents.ensures.empty in
-    record { imports = n.imports; tables = n.tables; memories = n.memories; tags = n.tags; globals = n.globals; data_segments = n.data_segments }
+    record { imports = n.imports; tables = n.tables; memories = n.memories; tags = n.tags; globals = n.globals; elements = n.elements; data_segments = n.data_segments }
 
 pub add_imports-requires-clause-no_functions : goal.add_imports-requires-clause-no_functions
 add_imports-requires-clause-no_functions c = c.in_ok-contents.ensures.empty.functions
@@ -114,11 +116,28 @@ add_globals-requires c =
     let all : AllStay names (sections c.args.raw.now) = stay names (sections c.args.raw.now) c.in_ok-number_items.ensures.numbered c.requires.rules.indices in
     record { stay = subst (λ (l : List RawGlobal). All (GlobalStays names) (map global_entry l)) (sym c.deref-8.ensures.value) all.globals }
 
+pub add_elements-requires-clause-stay : goal.add_elements-requires-clause-stay
+add_elements-requires-clause-stay c =
+    let names = ids_at c.number_items.new.indices in
+    let all : AllStay names (sections c.args.raw.now) = stay names (sections c.args.raw.now) c.in_ok-number_items.ensures.numbered c.requires.rules.indices in
+    subst (λ (l : List RawElement). All (ElementStays names) (map element_entry l)) (sym c.deref-9.ensures.value) all.elements
+
+pub add_elements-requires-clause-there : goal.add_elements-requires-clause-there
+add_elements-requires-clause-there c =
+    let s = sections c.args.raw.now in
+    let b = c.add_imports.new.contents in
+    let names = ids_at c.number_items.new.indices in
+    let all : AllStay names s = stay names s c.in_ok-number_items.ensures.numbered c.requires.rules.indices in
+    let held : HoldsImports s.imports b = subst (λ (l : List RawImport). HoldsImports (map import_entry l) b) c.deref-2.ensures.value c.in_ok-add_imports.ensures.held in
+    elements_on_live s (tables b.tables) (tables c.add_tables.new.all) held.tables
+    (subst (λ (l : List RawTable). AddsPlaced (HoldsTable none_kept) (map table_of (map table_entry l)) (tables b.tables) (tables c.add_tables.new.all)) c.deref-5.ensures.value c.in_ok-add_tables.ensures.added)
+    names c.in_ok-number_items.ensures.numbered (map element_entry c.deref-9.result.now) (ap (map element_entry) c.deref-9.ensures.value) all.elements
+
 pub add_data-requires-clause-stay : goal.add_data-requires-clause-stay
 add_data-requires-clause-stay c =
     let names = ids_at c.number_items.new.indices in
     let all : AllStay names (sections c.args.raw.now) = stay names (sections c.args.raw.now) c.in_ok-number_items.ensures.numbered c.requires.rules.indices in
-    subst (λ (l : List RawData). All (DataStays names) (map data_entry l)) (sym c.deref-9.ensures.value) all.data_segments
+    subst (λ (l : List RawData). All (DataStays names) (map data_entry l)) (sym c.deref-10.ensures.value) all.data_segments
 
 pub add_data-requires-clause-there : goal.add_data-requires-clause-there
 add_data-requires-clause-there c =
@@ -129,7 +148,7 @@ add_data-requires-clause-there c =
     let held : HoldsImports s.imports b = subst (λ (l : List RawImport). HoldsImports (map import_entry l) b) c.deref-2.ensures.value c.in_ok-add_imports.ensures.held in
     data_on_live s (memories b.memories) (memories c.add_memories.new.all) held.memories
     (subst (λ (l : List RawLimits). AddsPlaced (HoldsMemory none_kept) (map memory_of l) (memories b.memories) (memories c.add_memories.new.all)) c.deref-6.ensures.value c.in_ok-add_memories.ensures.added)
-    names c.in_ok-number_items.ensures.numbered (map data_entry c.deref-9.result.now) (ap (map data_entry) c.deref-9.ensures.value) all.data_segments
+    names c.in_ok-number_items.ensures.numbered (map data_entry c.deref-10.result.now) (ap (map data_entry) c.deref-10.ensures.value) all.data_segments
 
 pub add_exports-requires-clause-none : goal.add_exports-requires-clause-none
 add_exports-requires-clause-none c = ap exports c.in_ok-add_imports.ensures.others.exports ∙ c.in_ok-contents.ensures.empty.exports
@@ -138,7 +157,7 @@ pub add_exports-requires-clause-declared : goal.add_exports-requires-clause-decl
 add_exports-requires-clause-declared c =
     let names = ids_at c.number_items.new.indices in
     let all : AllStay names (sections c.args.raw.now) = stay names (sections c.args.raw.now) c.in_ok-number_items.ensures.numbered c.requires.rules.indices in
-    subst (λ (l : List RawExport). All (ExportStays names) (map export_entry l)) (sym c.deref-10.ensures.value) all.exports
+    subst (λ (l : List RawExport). All (ExportStays names) (map export_entry l)) (sym c.deref-11.ensures.value) all.exports
 
 pub returns-clause-taken : goal.returns-clause-taken
 returns-clause-taken c =
@@ -147,6 +166,7 @@ returns-clause-taken c =
     let typed : type_slots b.types ≡ map Some (types_from 0 (map group c.args.raw.now.types.items)) =
     ap type_slots c.in_ok-add_imports.ensures.others.types ∙ c.in_ok-add_types.ensures.added ∙ ap (λ (l : List (Vec RawSub)). map Some (types_from 0 (map group l))) c.deref.ensures.value in
     let all : AllStay (ids_at c.number_items.new.indices) s = stay (ids_at c.number_items.new.indices) s c.in_ok-number_items.ensures.numbered c.requires.rules.indices in
+    let no_elements : elements b.elements ≡ [] = ap elements c.in_ok-add_imports.ensures.others.elements ∙ c.in_ok-contents.ensures.empty.elements in
     let none : data_segments b.data_ ≡ [] = ap data_segments c.in_ok-add_imports.ensures.others.data_ ∙ c.in_ok-contents.ensures.empty.data_segments in
     let held : HoldsImports s.imports b = subst (λ (l : List RawImport). HoldsImports (map import_entry l) b) c.deref-2.ensures.value c.in_ok-add_imports.ensures.held in
     sections_taken c.args.features.now s _ b held
@@ -155,16 +175,20 @@ returns-clause-taken c =
     c.deref-3.result.now (map body_record c.deref-4.result.now) c.deref-3.ensures.value (ap (map body_record) c.deref-4.ensures.value)
     c.add_functions.new.all (functions b.funcs) (functions c.add_functions.new.funcs) (Ok tt) c.in_ok-add_functions.ensures.taken)
     refl
-    (subst (λ (l : List RawTable). AddsPlaced HoldsTable (map table_of (map table_entry l)) (tables b.tables) (tables c.add_tables.new.all)) c.deref-5.ensures.value c.in_ok-add_tables.ensures.added)
+    (tables_kept s (tables b.tables) (tables c.add_tables.new.all) held.tables
+    (subst (λ (l : List RawTable). AddsPlaced (HoldsTable none_kept) (map table_of (map table_entry l)) (tables b.tables) (tables c.add_tables.new.all)) c.deref-5.ensures.value c.in_ok-add_tables.ensures.added)
+    (length (elements b.elements)) (map element_entry c.deref-9.result.now) (tables c.add_elements.new.within) (ap length no_elements) (ap (map element_entry) c.deref-9.ensures.value) c.in_ok-add_elements.ensures.kept)
     (memories_kept s (memories b.memories) (memories c.add_memories.new.all) held.memories
     (subst (λ (l : List RawLimits). AddsPlaced (HoldsMemory none_kept) (map memory_of l) (memories b.memories) (memories c.add_memories.new.all)) c.deref-6.ensures.value c.in_ok-add_memories.ensures.added)
-    (length (data_segments b.data_)) (map data_entry c.deref-9.result.now) (memories c.add_data.new.within) (ap length none) (ap (map data_entry) c.deref-9.ensures.value) c.in_ok-add_data.ensures.kept)
+    (length (data_segments b.data_)) (map data_entry c.deref-10.result.now) (memories c.add_data.new.within) (ap length none) (ap (map data_entry) c.deref-10.ensures.value) c.in_ok-add_data.ensures.kept)
     (subst (λ (l : List ℕ). AddsPlaced HoldsTag (map tag_of l) (tags b.tags) (tags c.add_tags.new.all)) c.deref-7.ensures.value c.in_ok-add_tags.ensures.added)
     (subst (λ (l : List RawGlobal). AddsPlaced HoldsGlobal (map global_of (map global_entry l)) (globals b.globals) (globals c.add_globals.new.all)) c.deref-8.ensures.value c.in_ok-add_globals.ensures.added)
-    (subst (λ (l : List RawExport). AllPlaced HoldsExport 0 (map export_entry l) (exports c.add_exports.new.all)) c.deref-10.ensures.value c.in_ok-add_exports.ensures.added)
+    (subst (λ (l : List RawExport). AllPlaced HoldsExport 0 (map export_entry l) (exports c.add_exports.new.all)) c.deref-11.ensures.value c.in_ok-add_exports.ensures.added)
     (c.start_named-contents.ensures ∙ all.start)
+    (placed_first HoldsElement (map element_of s.elements) (elements b.elements) (elements c.add_elements.new.all) no_elements
+    (subst (λ (l : List RawElement). AddsPlaced HoldsElement (map element_of (map element_entry l)) (elements b.elements) (elements c.add_elements.new.all)) c.deref-9.ensures.value c.in_ok-add_elements.ensures.added))
     (placed_first HoldsData (map data_of s.data_segments) (data_segments b.data_) (data_segments c.add_data.new.all) none
-    (subst (λ (l : List RawData). AddsPlaced HoldsData (map data_of (map data_entry l)) (data_segments b.data_) (data_segments c.add_data.new.all)) c.deref-9.ensures.value c.in_ok-add_data.ensures.added))
+    (subst (λ (l : List RawData). AddsPlaced HoldsData (map data_of (map data_entry l)) (data_segments b.data_) (data_segments c.add_data.new.all)) c.deref-10.ensures.value c.in_ok-add_data.ensures.added))
 
 pub returns-clause-located : goal.returns-clause-located
 returns-clause-located c =

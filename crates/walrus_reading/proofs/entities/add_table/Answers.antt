@@ -4,7 +4,7 @@ use Rattle.walrus_code.specs.Indices.{ids_at}
 use Rattle.walrus_items.specs.Tables.{tables}
 use Rattle.walrus_model.specs.Abstract.{Defined}
 use Rattle.walrus_model.specs.Sections.{limits_of}
-use Rattle.walrus_reading.specs.Held.{HoldsTable}
+use Rattle.walrus_reading.specs.Held.{HoldsTable, none_kept}
 use Rattle.walrus_reading.proofs.Rows.{adds_one}
 use Rattle.walrus_reading.proofs.Stays.{element_stays}
 use Rattle.walrus_reading.proofs.entities.add_table.Goals as goal
@@ -14,7 +14,7 @@ read_reference-element-requires c = record { stays = element_stays (ids_at c.arg
 
 pub returns-clause-added : goal.returns-clause-added
 returns-clause-added c =
-    adds_one HoldsTable _ _ (tables c.args.all.now) (tables c.add_local_with_init.new.self) c.in_ok-add_local_with_init.ensures.1
+    adds_one (HoldsTable none_kept) _ _ (tables c.args.all.now) (tables c.add_local_with_init.new.self) c.in_ok-add_local_with_init.ensures.1
     (record {
       value = _;
       is = refl;
@@ -22,6 +22,6 @@ returns-clause-added c =
       short = c.in_ok-initial.ensures.short;
       read = ap₂ (λ element initial. record { origin = Defined; ty = record { limits = limits_of c.args.raw.now.ty.limits; element = element }; initialiser = initial })
           c.read_reference-element.ensures c.in_ok-initial.ensures.value;
-      segments = refl;
+      segments = λ e. refl;
       unnamed = refl;
     })

@@ -1,10 +1,7 @@
-use Rattle.std.proofs.Common.{subst}
 use Rattle.std.proofs.lemmas.Result.{err_from_is_err_and}
 use Rattle.wasm_frames.specs.Record.{sections}
-use Rattle.walrus_model.specs.Declared.{NothingUndeclared}
-use Rattle.walrus_contents.specs.References.{HasUndeclared}
-use Rattle.walrus_reading.specs.Parsed.{TakenFrom, features_so_far}
-use Rattle.walrus_reading.proofs.Accepting.{is_parsed, references_refused, refused_bytes}
+use Rattle.walrus_reading.specs.Parsed.{features_so_far}
+use Rattle.walrus_reading.proofs.Accepting.{is_parsed, refused_bytes}
 use Rattle.walrus_reading.proofs.NarrowRules.{narrow_rules}
 use Rattle.walrus_reading.proofs.Placed.{own_ids}
 use Rattle.walrus_reading.proofs.Refusals.{frames_refused, rules_refused, supported_refused, room_refused, bodies_refused}
@@ -43,8 +40,8 @@ returns-in_err-contents-clause-refused c = λ config with.
     rw (p.1, p.2) (refused_bytes config (features_so_far c.args.only_stable) with c.args.bytes.now _
     (bodies_refused (features_so_far c.args.only_stable) c.args.bytes.now (sections c.in_ok-raw.raw) _ c.in_ok-raw.ensures.found c.in_err-contents.ensures.taken))
 
-pub returns-then-branch-clause-taken : goal.returns-then-branch-clause-taken
-returns-then-branch-clause-taken c = record {
+pub returns-clause-taken : goal.returns-clause-taken
+returns-clause-taken c = record {
   sections = sections c.in_ok-raw.raw;
   framed = c.in_ok-raw.ensures.found;
   supported = c.in_ok-check_supported.ensures;
@@ -52,22 +49,9 @@ returns-then-branch-clause-taken c = record {
   taken = c.in_ok-contents.ensures.taken;
 }
 
-pub returns-then-branch-clause-own_ids : goal.returns-then-branch-clause-own_ids
-returns-then-branch-clause-own_ids c = own_ids (features_so_far c.args.only_stable) (sections c.in_ok-raw.raw) c.in_ok-contents.contents c.in_ok-contents.ensures.taken
+pub returns-clause-own_ids : goal.returns-clause-own_ids
+returns-clause-own_ids c = own_ids (features_so_far c.args.only_stable) (sections c.in_ok-raw.raw) c.in_ok-contents.contents c.in_ok-contents.ensures.taken
 
-pub returns-then-branch-clause-found : goal.returns-then-branch-clause-found
-returns-then-branch-clause-found c = λ config with.
-    is_parsed config (features_so_far c.args.only_stable) with c.args.bytes.now c.in_ok-contents.contents c.in_ok-contents.ensures.produced
-    (subst NothingUndeclared c.parts.ensures (c.in_ok-are_references_declared.ensures.declared c.if-branch.true)) (returns-then-branch-clause-taken c)
-
-pub returns-clause-refused : goal.returns-clause-refused
-returns-clause-refused c = λ config with.
-    let t : TakenFrom (features_so_far c.args.only_stable) c.args.bytes.now c.in_ok-contents.contents = record {
-      sections = sections c.in_ok-raw.raw;
-      framed = c.in_ok-raw.ensures.found;
-      supported = c.in_ok-check_supported.ensures;
-      rules = c.in_ok-check.ensures;
-      taken = c.in_ok-contents.ensures.taken;
-    } in
-    references_refused config (features_so_far c.args.only_stable) with c.args.bytes.now c.in_ok-contents.contents c.in_ok-contents.ensures.produced t
-    (subst HasUndeclared c.parts.ensures (c.in_ok-are_references_declared.ensures.undeclared c.if-branch.false))
+pub returns-clause-found : goal.returns-clause-found
+returns-clause-found c = λ config with.
+    is_parsed config (features_so_far c.args.only_stable) with c.args.bytes.now c.in_ok-contents.contents c.in_ok-contents.ensures.produced (returns-clause-taken c)

@@ -2,11 +2,10 @@ use Rattle.std.proofs.Common.{rules, ◌≡◌, ◌∙◌, ◌+◌, ap, length, 
 use Rattle.std.specs.Prelude.{unwrap_or}
 use Rattle.std.specs.List.{range_with_len}
 use Rattle.std.proofs.lemmas.List.{length-map}
-use Rattle.wasm_entries.specs.Record.{global_entry, table_entry}
+use Rattle.wasm_entries.specs.Record.{element_entry, global_entry, table_entry}
 use Rattle.wasm_frames.specs.Record.{sections}
-use Rattle.walrus_types.specs.Operators.{Types, Elements}
-use Rattle.walrus_model.specs.Sections.{function_types, globals_of, memories_of, tables_of, tags_of}
-use Rattle.walrus_reading.proofs.Numbered.{all_named, functions_counted, globals_counted, data_counted, memories_counted, no_elements, tables_counted, tags_counted}
+use Rattle.walrus_model.specs.Sections.{elements_of, function_types, globals_of, memories_of, tables_of, tags_of}
+use Rattle.walrus_reading.proofs.Numbered.{all_named, functions_counted, globals_counted, data_counted, elements_counted, memories_counted, tables_counted, tags_counted}
 use Rattle.walrus_reading.proofs.numbers.number_items.Goals as goal
 
 pub in_place-requires : goal.in_place-requires
@@ -44,6 +43,13 @@ in_place-requires-5 c =
     globals_counted (sections c.args.raw.now) c.args.contents.now c.requires.held c.index-5.result c.len-5.result (c.index-5.ensures ∙ c.next_id-5.ensures) (globals_long ∙ sym (length-map c.args.raw.now.globals.items global_entry)) in
     record { room = omega (arith, globals, c.requires.room.globals) }
 
+pub in_place-requires-6 : goal.in_place-requires-6
+in_place-requires-6 c =
+    let elements_long : c.len-6.result ≡ length c.args.raw.now.elements.items = search rules in
+    let elements : 0 + c.len-6.result ≡ length (elements_of (sections c.args.raw.now)) =
+    elements_counted (sections c.args.raw.now) c.len-6.result (elements_long ∙ sym (length-map c.args.raw.now.elements.items element_entry)) in
+    record { room = omega (arith, elements, c.requires.room.elements) }
+
 pub returns-clause-numbered : goal.returns-clause-numbered
 returns-clause-numbered c =
     let functions_long : c.len.result ≡ length c.args.raw.now.functions.items = search rules in
@@ -61,6 +67,9 @@ returns-clause-numbered c =
     let globals_long : c.len-5.result ≡ length c.args.raw.now.globals.items = search rules in
     let globals : c.index-5.result + c.len-5.result ≡ length (globals_of (sections c.args.raw.now)) =
     globals_counted (sections c.args.raw.now) c.args.contents.now c.requires.held c.index-5.result c.len-5.result (c.index-5.ensures ∙ c.next_id-5.ensures) (globals_long ∙ sym (length-map c.args.raw.now.globals.items global_entry)) in
+    let elements_long : c.len-6.result ≡ length c.args.raw.now.elements.items = search rules in
+    let elements : 0 + c.len-6.result ≡ length (elements_of (sections c.args.raw.now)) =
+    elements_counted (sections c.args.raw.now) c.len-6.result (elements_long ∙ sym (length-map c.args.raw.now.elements.items element_entry)) in
     all_named (sections c.args.raw.now) _ (record {
       types = c.requires.types;
       functions = c.in_ok-indices.ensures.numbers ∙ ap (range_with_len 0) functions;
@@ -68,6 +77,6 @@ returns-clause-numbered c =
       memories = c.in_ok-indices-3.ensures.numbers ∙ ap (range_with_len 0) memories;
       tags = c.in_ok-indices-4.ensures.numbers ∙ ap (range_with_len 0) tags;
       globals = c.in_ok-indices-5.ensures.numbers ∙ ap (range_with_len 0) globals;
-      elements = c.requires.none Elements (λ (e : Elements ≡ Types). cc) ∙ no_elements (sections c.args.raw.now) c.requires.supported;
-      data_segments = c.in_ok-indices-6.ensures.numbers ∙ ap (range_with_len 0) (data_counted c.data_count.result (unwrap_or (sections c.args.raw.now).data_count 0) c.data_count.ensures);
+      elements = c.in_ok-indices-6.ensures.numbers ∙ ap (range_with_len 0) elements;
+      data_segments = c.in_ok-indices-7.ensures.numbers ∙ ap (range_with_len 0) (data_counted c.data_count.result (unwrap_or (sections c.args.raw.now).data_count 0) c.data_count.ensures);
     })

@@ -5,9 +5,9 @@ use Rattle.walrus_items.specs.Data.{data_segments}
 use Rattle.walrus_items.specs.Memories.{memories}
 use Rattle.walrus_model.specs.Sections.{data_kind, data_of}
 use Rattle.walrus_reading.specs.Held.{HoldsData}
-use Rattle.walrus_reading.specs.Kept.{IsOnLive, keep_all}
+use Rattle.walrus_reading.specs.Kept.{all_data_kept, IsOnLive, memory_keeping}
 use Rattle.walrus_reading.specs.Stays.{DataStays}
-use Rattle.walrus_reading.proofs.KeptSegments.{added_many, kept_one_more, kept_to_end, on_live_after}
+use Rattle.walrus_reading.proofs.KeptSegments.{added_many, kept_one_more, kept_to_end, on_live_after, on_memory}
 use Rattle.walrus_reading.proofs.Rows.{all_twice, map_twice, none_yet, one_seen, seen_all}
 use Rattle.walrus_reading.proofs.segments.add_data.Goals as goal
 
@@ -28,7 +28,7 @@ pub loop-entry-preserved : goal.loop-entry-preserved
 loop-entry-preserved c = (
   one_seen HoldsData (λ e. data_of (data_entry e)) c.args.raw.now c.loop-entry.entry-index c.entry-item.result (data_segments c.args.all.now) (data_segments c.loop-entry.all) (data_segments c.add_segment.new.all)
       c.loop-entry-test.true c.entry-item.is c.loop-entry.invariant.0 c.in_ok-add_segment.ensures.added,
-  kept_one_more (λ e. data_of (data_entry e)) c.args.raw.now (length (data_segments c.args.all.now)) (memories c.args.within.now) c.loop-entry.entry-index c.entry-item.result (length (data_segments c.loop-entry.all))
+  kept_one_more memory_keeping on_memory (λ e. data_of (data_entry e)) c.args.raw.now (length (data_segments c.args.all.now)) (memories c.args.within.now) c.loop-entry.entry-index c.entry-item.result (length (data_segments c.loop-entry.all))
       (memories c.loop-entry.within) (memories c.add_segment.new.within) c.loop-entry-test.true c.entry-item.is c.loop-entry.invariant.1
       (added_many HoldsData (map (λ e. data_of (data_entry e)) (take c.loop-entry.entry-index c.args.raw.now)) (data_segments c.args.all.now) (data_segments c.loop-entry.all) c.loop-entry.invariant.0) c.in_ok-add_segment.ensures.kept,
 )
@@ -39,5 +39,5 @@ returns-clause-added c =
 
 pub returns-clause-kept : goal.returns-clause-kept
 returns-clause-kept c =
-    kept_to_end (λ e. data_of (data_entry e)) c.args.raw.now (length (data_segments c.args.all.now)) (memories c.args.within.now) c.loop-entry.entry-index (memories c.loop-entry.within) c.loop-entry-test.false c.loop-entry.invariant.1
-    ∙ ap (λ l. keep_all (length (data_segments c.args.all.now)) l (memories c.args.within.now)) (sym (map_twice data_entry data_of c.args.raw.now))
+    kept_to_end memory_keeping on_memory (λ e. data_of (data_entry e)) c.args.raw.now (length (data_segments c.args.all.now)) (memories c.args.within.now) c.loop-entry.entry-index (memories c.loop-entry.within) c.loop-entry-test.false c.loop-entry.invariant.1
+    ∙ ap (λ l. all_data_kept (length (data_segments c.args.all.now)) l (memories c.args.within.now)) (sym (map_twice data_entry data_of c.args.raw.now))

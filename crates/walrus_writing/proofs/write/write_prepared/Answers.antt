@@ -17,10 +17,10 @@ use Rattle.walrus_writing.specs.Parts.{type_index, HasBytes, tag_index, unplaced
 use Rattle.walrus_plan.specs.Places.{places}
 use Rattle.walrus_rules.proofs.Matches.{imports_live}
 use Rattle.walrus_writing.proofs.ImportsIndexed.{imports_indexed, written_indexed}
-use Rattle.walrus_writing.proofs.Indexed.{ids_indexed, ids_typed, no_type_lacks, exports_indexed, data_indexed, globals_indexed, start_indexed, tables_indexed, tags_indexed}
+use Rattle.walrus_writing.proofs.Indexed.{ids_indexed, ids_typed, no_type_lacks, exports_indexed, data_indexed, elements_indexed, globals_indexed, start_indexed, tables_indexed, tags_indexed}
 use Rattle.walrus_writing.proofs.OwnPlaces.{own_indexed}
 use Rattle.walrus_writing.proofs.RefusesUnspelled.{imports_refused}
-use Rattle.walrus_writing.proofs.Refusing.{types_refused, bodies_refused, data_refused, globals_refused, tables_refused, records_written, records_refused}
+use Rattle.walrus_writing.proofs.Refusing.{types_refused, bodies_refused, data_refused, elements_refused, globals_refused, tables_refused, records_written, records_refused}
 use Rattle.walrus_writing.proofs.write.write_prepared.Goals as goal
 
 pub raw_types-requires : goal.raw_types-requires
@@ -83,6 +83,16 @@ raw_exports-requires c = record {
   indexed = exports_indexed c.args.parts c.requires.there (index_of c.args.prepared.now.indices) (places c.args.prepared.now.plan) c.requires.planned.is_plan c.requires.planned.numbered;
 }
 
+pub raw_elements-requires : goal.raw_elements-requires
+raw_elements-requires c = record {
+  indexed = elements_indexed c.args.parts c.requires.there (index_of c.args.prepared.now.indices) (places c.args.prepared.now.plan) c.requires.planned.is_plan c.requires.planned.numbered;
+}
+
+pub returns-in_err-elements-clause-refused : goal.returns-in_err-elements-clause-refused
+returns-in_err-elements-clause-refused c =
+    let p = err_from_is_err_and c.from_residual-in_err-elements.result c.from_residual-in_err-elements.ensures.1 in
+    rw (p.1, p.2) (elements_refused c.args.parts c.args.features.now (Vec ℕ) _ c.in_err-elements.ensures.fails)
+
 pub raw_data-requires : goal.raw_data-requires
 raw_data-requires c = record {
   indexed = data_indexed c.args.parts c.requires.there (index_of c.args.prepared.now.indices) (places c.args.prepared.now.plan) c.requires.planned.is_plan c.requires.planned.numbered;
@@ -108,7 +118,7 @@ returns-in_err-bytes-clause-refused c =
     let names = index_of c.args.prepared.now.indices in
     let plan = c.requires.planned in
     let p = err_from_is_err_and c.from_residual-in_err-bytes.result c.from_residual-in_err-bytes.ensures.1 in
-    rw (p.1, p.2) (records_refused c.args.parts c.args.features.now names c.args.prepared.now.plan c.in_ok-types.types.items c.in_ok-imports.imports.items c.in_ok-functions.functions.items c.in_ok-tables.tables.items c.in_ok-memories.memories.items c.in_ok-tags.tags.items c.in_ok-globals.globals.items c.in_ok-exports.exports.items c.in_ok-bodies.bodies.items c.in_ok-data_segments.data_segments.items c.args.prepared.now.data_count
+    rw (p.1, p.2) (records_refused c.args.parts c.args.features.now names c.args.prepared.now.plan c.in_ok-types.types.items c.in_ok-imports.imports.items c.in_ok-functions.functions.items c.in_ok-tables.tables.items c.in_ok-memories.memories.items c.in_ok-tags.tags.items c.in_ok-globals.globals.items c.in_ok-exports.exports.items c.in_ok-bodies.bodies.items c.in_ok-elements.elements.items c.in_ok-data_segments.data_segments.items c.args.prepared.now.data_count
     plan.matched plan.reads plan.is_plan plan.numbered plan.few
     plan.types plan.functions plan.tables plan.memories plan.tags plan.globals
     c.in_ok-types.ensures.value c.in_ok-imports.ensures.value
@@ -119,6 +129,7 @@ returns-in_err-bytes-clause-refused c =
     c.in_ok-exports.ensures.value c.in_ok-exports.ensures.text
     c.raw_start-start.result (ap (option_map (λ (i : ℕ). Some i)) c.raw_start-start.ensures ∙ start_indexed c.args.parts c.requires.there names (places c.args.prepared.now.plan) plan.is_plan plan.numbered)
     (subst (λ ids. AllZip (λ id bytes. HasBytes c.args.parts names c.args.features.now (place id) bytes.items) ids c.in_ok-bodies.bodies.items) c.as_slice-order.ensures.value c.in_ok-bodies.ensures.value)
+    plan.elements c.in_ok-elements.ensures.value c.in_ok-elements.ensures.stand c.in_ok-elements.ensures.chosen c.in_ok-elements.ensures.spelled
     plan.data_segments c.in_ok-data_segments.ensures.value c.in_ok-data_segments.ensures.stand c.in_ok-data_segments.ensures.spelled plan.data_count
     _ _ c.raw_module-raw.ensures (c.in_ok-code.ensures.value ∙ ap (map (λ (v : Vec ℕ). unplaced v.items)) c.as_slice.ensures.value) (Vec ℕ) _ c.in_err-bytes.ensures)
 
@@ -126,7 +137,7 @@ pub returns-clause-spells : goal.returns-clause-spells
 returns-clause-spells c =
     let names = index_of c.args.prepared.now.indices in
     let plan = c.requires.planned in
-    records_written c.args.parts c.args.features.now names c.args.prepared.now.plan c.in_ok-types.types.items c.in_ok-imports.imports.items c.in_ok-functions.functions.items c.in_ok-tables.tables.items c.in_ok-memories.memories.items c.in_ok-tags.tags.items c.in_ok-globals.globals.items c.in_ok-exports.exports.items c.in_ok-bodies.bodies.items c.in_ok-data_segments.data_segments.items c.args.prepared.now.data_count
+    records_written c.args.parts c.args.features.now names c.args.prepared.now.plan c.in_ok-types.types.items c.in_ok-imports.imports.items c.in_ok-functions.functions.items c.in_ok-tables.tables.items c.in_ok-memories.memories.items c.in_ok-tags.tags.items c.in_ok-globals.globals.items c.in_ok-exports.exports.items c.in_ok-bodies.bodies.items c.in_ok-elements.elements.items c.in_ok-data_segments.data_segments.items c.args.prepared.now.data_count
     plan.matched plan.reads plan.is_plan plan.numbered plan.few
     plan.types plan.functions plan.tables plan.memories plan.tags plan.globals
     c.in_ok-types.ensures.value c.in_ok-imports.ensures.value
@@ -137,5 +148,6 @@ returns-clause-spells c =
     c.in_ok-exports.ensures.value c.in_ok-exports.ensures.text
     c.raw_start-start.result (ap (option_map (λ (i : ℕ). Some i)) c.raw_start-start.ensures ∙ start_indexed c.args.parts c.requires.there names (places c.args.prepared.now.plan) plan.is_plan plan.numbered)
     (subst (λ ids. AllZip (λ id bytes. HasBytes c.args.parts names c.args.features.now (place id) bytes.items) ids c.in_ok-bodies.bodies.items) c.as_slice-order.ensures.value c.in_ok-bodies.ensures.value)
+    plan.elements c.in_ok-elements.ensures.value c.in_ok-elements.ensures.stand c.in_ok-elements.ensures.chosen c.in_ok-elements.ensures.spelled
     plan.data_segments c.in_ok-data_segments.ensures.value c.in_ok-data_segments.ensures.stand c.in_ok-data_segments.ensures.spelled plan.data_count
     _ _ c.raw_module-raw.ensures (c.in_ok-code.ensures.value ∙ ap (map (λ (v : Vec ℕ). unplaced v.items)) c.as_slice.ensures.value) c.in_ok-bytes.bytes.items c.in_ok-bytes.ensures.0 c.in_ok-bytes.ensures.1

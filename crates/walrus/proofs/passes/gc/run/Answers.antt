@@ -1,8 +1,9 @@
 use Rattle.walrus_types.specs.ModuleTypes.{type_names, type_slots}
 use Rattle.std.proofs.Common.{refl}
 use Rattle.walrus_base.specs.Marks.{is_marked}
-use Rattle.walrus_types.specs.Operators.{DataSegments, Functions, Globals, Memories, Tables, Tags, Types}
+use Rattle.walrus_types.specs.Operators.{DataSegments, Elements, Functions, Globals, Memories, Tables, Tags, Types}
 use Rattle.walrus_items.specs.Data.{data_segments}
+use Rattle.walrus_items.specs.Elements.{elements}
 use Rattle.walrus_items.specs.Globals.{globals}
 use Rattle.walrus_items.specs.Memories.{memories}
 use Rattle.walrus_items.specs.Tables.{tables}
@@ -56,10 +57,15 @@ returns-clause-globals g c =
     let old = c.args.module.now in
     keeps_only (is_marked c.in_ok-marks.marks.globals) (λ i. Kept (view old) (Globals, i)) (λ i. c.in_ok-marks.ensures.kept (Globals, i)) (globals old.globals) (globals c.keep_only-7.new.self) c.keep_only-7.ensures
 
+pub returns-clause-elements : goal.returns-clause-elements
+returns-clause-elements g c =
+    let old = c.args.module.now in
+    keeps_only (is_marked c.in_ok-marks.marks.elements) (λ i. Kept (view old) (Elements, i)) (λ i. c.in_ok-marks.ensures.kept (Elements, i)) (elements old.elements) (elements c.keep_only-8.new.self) c.keep_only-8.ensures
+
 pub returns-clause-data_segments : goal.returns-clause-data_segments
 returns-clause-data_segments g c =
     let old = c.args.module.now in
-    keeps_only (is_marked c.in_ok-marks.marks.data_) (λ i. Kept (view old) (DataSegments, i)) (λ i. c.in_ok-marks.ensures.kept (DataSegments, i)) (data_segments old.data_) (data_segments c.keep_only-8.new.self) c.keep_only-8.ensures
+    keeps_only (is_marked c.in_ok-marks.marks.data_) (λ i. Kept (view old) (DataSegments, i)) (λ i. c.in_ok-marks.ensures.kept (DataSegments, i)) (data_segments old.data_) (data_segments c.keep_only-9.new.self) c.keep_only-9.ensures
 
 pub returns-clause-imports : goal.returns-clause-imports
 returns-clause-imports g c =
@@ -70,7 +76,7 @@ returns-clause-imports g c =
 pub returns-clause-collected : goal.returns-clause-collected
 returns-clause-collected g c =
     let old = c.args.module.now in
-    is_collected (contents_of old) c.keep_only-2.new.self c.keep_only-3.new.self c.keep_only.new.self c.keep_only-4.new.self c.keep_only-5.new.self c.keep_only-6.new.self c.keep_only-7.new.self c.keep_only-8.new.self (record {
+    is_collected (contents_of old) c.keep_only-2.new.self c.keep_only-3.new.self c.keep_only.new.self c.keep_only-4.new.self c.keep_only-5.new.self c.keep_only-6.new.self c.keep_only-7.new.self c.keep_only-8.new.self c.keep_only-9.new.self (record {
       types = returns-clause-types g c;
       imports = returns-clause-imports g c;
       functions = returns-clause-functions g c;
@@ -78,13 +84,14 @@ returns-clause-collected g c =
       memories = returns-clause-memories g c;
       tags = returns-clause-tags g c;
       globals = returns-clause-globals g c;
+      elements = returns-clause-elements g c;
       data_segments = returns-clause-data_segments g c;
     })
 
 pub returns-clause-settled : goal.returns-clause-settled
 returns-clause-settled g c =
     let old = c.args.module.now in
-    (stays_collected_lem (view old) (contents_view (left (contents_of old) c.keep_only-2.new.self c.keep_only-3.new.self c.keep_only.new.self c.keep_only-4.new.self c.keep_only-5.new.self c.keep_only-6.new.self c.keep_only-7.new.self c.keep_only-8.new.self)) (returns-clause-collected g c)).items
+    (stays_collected_lem (view old) (contents_view (left (contents_of old) c.keep_only-2.new.self c.keep_only-3.new.self c.keep_only.new.self c.keep_only-4.new.self c.keep_only-5.new.self c.keep_only-6.new.self c.keep_only-7.new.self c.keep_only-8.new.self c.keep_only-9.new.self)) (returns-clause-collected g c)).items
 
 pub returns-clause-own_ids : goal.returns-clause-own_ids
 returns-clause-own_ids g c = λ own. record {
@@ -96,5 +103,6 @@ returns-clause-own_ids g c = λ own. record {
   memories = λ i x here. own.memories i x ((returns-clause-memories g c).left i x here).1;
   tags = λ i x here. own.tags i x ((returns-clause-tags g c).left i x here).1;
   globals = λ i x here. own.globals i x ((returns-clause-globals g c).left i x here).1;
+  elements = λ i x here. own.elements i x ((returns-clause-elements g c).left i x here).1;
   data_segments = λ i x here. own.data_segments i x ((returns-clause-data_segments g c).left i x here).1;
 }

@@ -3,7 +3,7 @@ use Rattle.std.specs.Prelude.{nat_eq}
 use Rattle.std.specs.List.{IsDistinct}
 use Rattle.std.proofs.lemmas.List.{length-map}
 use Rattle.walrus_base.specs.Id.{place}
-use Rattle.walrus_types.specs.Operators.{Types, Functions, Tables, Memories, Tags, Globals, DataSegments}
+use Rattle.walrus_types.specs.Operators.{Types, Functions, Tables, Memories, Tags, Globals, Elements, DataSegments}
 use Rattle.walrus_plan.proofs.plan.Plan.indices.Goals as goal
 
 pub along-requires : goal.along-requires
@@ -44,6 +44,12 @@ along-requires-6 c = record {
 
 pub along-requires-7 : goal.along-requires-7
 along-requires-7 c = record {
-  distinct = subst (λ ids. IsDistinct nat_eq (map place ids)) (sym c.as_slice-7.ensures.value) (c.requires.distinct DataSegments);
-  room = omega (arith, c.in_ok-check_counts.ensures.few DataSegments, length-map c.args.self.now.data_.items place, ap length c.as_slice-7.ensures.value);
+  distinct = subst (λ ids. IsDistinct nat_eq (map place ids)) (sym c.as_slice-7.ensures.value) (c.requires.distinct Elements);
+  room = omega (arith, c.in_ok-check_counts.ensures.few Elements, length-map c.args.self.now.elements.items place, ap length c.as_slice-7.ensures.value);
+}
+
+pub along-requires-8 : goal.along-requires-8
+along-requires-8 c = record {
+  distinct = subst (λ ids. IsDistinct nat_eq (map place ids)) (sym c.as_slice-8.ensures.value) (c.requires.distinct DataSegments);
+  room = omega (arith, c.in_ok-check_counts.ensures.few DataSegments, length-map c.args.self.now.data_.items place, ap length c.as_slice-8.ensures.value);
 }

@@ -21,8 +21,9 @@ returns-clause-plan c = λ there paired.
       memories = c.in_ok-memories_by_import.field-0;
       tags = c.in_ok-tags_by_import.field-0;
       globals = c.in_ok-globals_by_import.field-0;
+      elements = c.in_ok-elements_in_order.field-0;
       data_ = c.in_ok-data_in_order.field-0;
     })
     c.in_ok-types_in_order.ensures.value c.in_ok-own_functions.ensures.value
     (c.in_ok-functions.ensures.value ∙ ap (λ ids. places_brought Functions (items (imports c.args.parts.imports.now)) ++ map place ids) c.as_slice.ensures.value)
-    c.in_ok-tables_by_import.ensures.value c.in_ok-memories_by_import.ensures.value c.in_ok-tags_by_import.ensures.value c.in_ok-globals_by_import.ensures.value c.in_ok-data_in_order.ensures.value there paired
+    c.in_ok-tables_by_import.ensures.value c.in_ok-memories_by_import.ensures.value c.in_ok-tags_by_import.ensures.value c.in_ok-globals_by_import.ensures.value c.in_ok-elements_in_order.ensures.value c.in_ok-data_in_order.ensures.value there paired

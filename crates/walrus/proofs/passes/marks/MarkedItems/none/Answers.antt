@@ -20,4 +20,5 @@ returns-clause-places c = places_made (lent c.args.parts) (record {
     (c.in_ok-new-4.ensures.places ∙ c.index-4.ensures ∙ c.next_id-4.ensures)
     (c.in_ok-new-5.ensures.places ∙ c.index-5.ensures ∙ c.next_id-5.ensures)
     (c.in_ok-new-6.ensures.places ∙ c.index-6.ensures ∙ c.next_id-6.ensures)
-    (c.in_ok-new-8.ensures.places ∙ c.index-7.ensures ∙ c.next_id-7.ensures)
+    (c.in_ok-new-7.ensures.places ∙ c.index-7.ensures ∙ c.next_id-7.ensures)
+    (c.in_ok-new-8.ensures.places ∙ c.index-8.ensures ∙ c.next_id-8.ensures)

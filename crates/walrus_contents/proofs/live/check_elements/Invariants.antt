@@ -1,0 +1,13 @@
+use Rattle.walrus_types.specs.Operators.{Elements}
+use Rattle.walrus_items.specs.Elements.{elements, element_entries_left}
+use Rattle.walrus_contents.specs.There.{IsWhole}
+use Rattle.walrus_contents.specs.View.{parts_view}
+use Rattle.walrus_contents.proofs.Walked.{Walked}
+use Rattle.walrus_contents.proofs.live.check_elements.Given as goal
+
+-- the segments that aren't left are whole
+abbrev pub invariant-loop-id : goal.invariant-loop-id
+invariant-loop-id l =
+    (goal.iterator-loop-id).can_next l.id-iterator
+    × (goal.iterator-loop-id).is_finite l.id-iterator
+    × Walked (λ i. IsWhole (parts_view l.parts) (Elements, i)) (elements l.parts.elements.now) (element_entries_left l.id-iterator)

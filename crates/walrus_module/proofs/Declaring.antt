@@ -1,0 +1,171 @@
+-- The segment that declares what `ref.func` names: what a module is left as with it, and what emission answers then.
+use Rattle.std.proofs.Common.{◌≡◌, ℕ, zero, suc, ◌<◌, false, true, List, [], ◌∷◌, ◌++◌, map, length, refl, sym, ap, ◌∙◌, subst, arith, inl, inr, ⊎_elim}
+use Rattle.std.specs.Prelude.{Option, Some, None, IsSome, option_map, Contains, Result, Ok, Err}
+use Rattle.std.specs.Global.{Vec}
+use Rattle.walrus_base.specs.Arena.{item_at}
+use Rattle.walrus_base.specs.Id.{place}
+use Rattle.walrus_base.specs.declared.id.Id.{Id}
+use Rattle.walrus_base.specs.declared.keys.FunctionKey.{FunctionKey}
+use Rattle.walrus_types.specs.Operators.{Types, Functions, Tables, Memories, Tags, Globals, Elements, DataSegments, Item, function_item}
+use Rattle.walrus_parts.specs.declared.error.Error.{Error}
+use Rattle.walrus_parts.specs.declared.error.Error.TheVariants as error
+use Rattle.walrus_parts.specs.declared.segments.ElementItems.TheVariants as element_contents
+use Rattle.walrus_parts.specs.declared.segments.ElementKind.TheVariants as element_kinds
+use Rattle.walrus_items.specs.Elements.{ElementValue}
+use Rattle.walrus_contents.specs.There.{IsRefusal}
+use Rattle.walrus_contents.specs.View.{element_of}
+use Rattle.walrus_model.specs.Abstract.{Abstract, AnItem, Element}
+use Rattle.walrus_model.specs.Config.{Config}
+use Rattle.walrus_model.specs.Dead.{HasDead}
+use Rattle.walrus_model.specs.Declared.{AreUndeclared, NothingUndeclared}
+use Rattle.walrus_model.specs.Live.{IsLive}
+use Rattle.walrus_model.specs.Names.{own_name}
+use Rattle.walrus_model.specs.Refers.{named_by, written_in, element_names}
+use Rattle.walrus_model.proofs.Lists.{Contains-head}
+use Rattle.walrus_model.proofs.Living.{AllLive, all_live, none_dead}
+use Rattle.walrus_model.proofs.PipelineOps.{from_map}
+use Rattle.walrus_rules.specs.Chain.{AddsSegment, HasSegment, Leaves}
+use Rattle.walrus_rules.specs.Refused.{Refusal, Memory, DeadItem, NoIndex, TwoIndices, TooLarge, NotWritable, Caller, Another, RefusesToWrite}
+use Rattle.walrus_rules.proofs.SegmentStep.{live_too, live_undeclared, the_segment}
+use Rattle.walrus_rules.proofs.StepLeaves.{Between, between, is_segment, nothing_undeclared}
+use Rattle.walrus_writing.specs.Emitted.{told}
+use Rattle.walrus_module.specs.Left.{AddsDeclared, AndOne, LeavesBy}
+
+-- ---- slots with one more behind
+
+module _ {X : Type 0} where
+  item_last : (xs : List (Option X)) (o : Option X) (n : ℕ) → n ≡ length xs → item_at (xs ++ o ∷ []) n ≡ o
+  item_last [] o zero e = refl
+  item_last [] o (suc n) e = absurd (omega (arith, e))
+  item_last (x ∷ xs) o zero e = absurd (omega (arith, e))
+  item_last (x ∷ xs) o (suc n) e = item_last xs o n (omega (arith, e))
+
+  item_front : (xs : List (Option X)) (o : Option X) (n : ℕ) → (n ≡ length xs → ⊥) → item_at (xs ++ o ∷ []) n ≡ item_at xs n
+  item_front [] o zero away = absurd (away refl)
+  item_front [] o (suc n) away = refl
+  item_front (x ∷ xs) o zero away = refl
+  item_front (x ∷ xs) o (suc n) away = item_front xs o n (λ (e : n ≡ length xs). away (omega (arith, e)))
+
+  seen_within : {Y : Type 0} (seen : X → Y) (xs : List (Option X)) (n : ℕ) → IsSome (option_map seen (item_at xs n)) → n < length xs
+  seen_within seen [] n h = absurd (let no : false ≡ true = h in cc)
+  seen_within seen (x ∷ xs) zero h = omega arith
+  seen_within seen (x ∷ xs) (suc n) h = let lt : n < length xs = seen_within seen xs n h in omega (arith, lt)
+
+-- ---- whether there are any functions
+
+module _ {X : Type 0} (value : X → ℕ) (v : Abstract) where
+  -- where there are none, nothing is added
+  pub none_leaves : (xs : List X) → AreUndeclared (IsLive v) v (map value xs) → length xs ≡ 0 → Leaves v v
+  none_leaves [] are e = record { functions = []; undeclared = are; added = refl }
+  none_leaves (x ∷ xs) are e = absurd (omega (arith, e))
+
+  -- where nothing is undeclared, there are none
+  pub settled_none : (xs : List X) → AreUndeclared (IsLive v) v (map value xs) → NothingUndeclared v → length xs ≡ 0
+  settled_none [] are nothing = refl
+  settled_none (x ∷ xs) are nothing = absurd (nothing (value x) ((are.are (value x)).0 (Contains-head (value x) (map value xs))))
+
+  some_mapped : (xs : List X) → (length xs ≡ 0 → ⊥) → map value xs ≡ [] → ⊥
+  some_mapped [] some e = some refl
+  some_mapped (x ∷ xs) some e = cc
+
+adds : (v u : Abstract) (fs : List ℕ) → (fs ≡ [] → ⊥) → HasSegment v u fs → u ≡ record v { elements = u.elements } → AddsSegment v u fs
+adds v u [] some s same = absurd (some refl)
+adds v u (f ∷ fs) some s same = (s, same)
+
+-- ---- the module with the segment
+
+abbrev pub declaring : ℕ → Vec (Id FunctionKey) → ElementValue
+declaring id functions = record { id = id; kind = element_kinds.Declared; items = element_contents.Functions functions; name = None }
+
+module _ (old new : List (Option ElementValue)) (functions : Vec (Id FunctionKey)) (id : ℕ) (here : id ≡ length old) (is : new ≡ old ++ Some (declaring id functions) ∷ []) where
+  -- the one segment behind all others
+  pub one_declared : AddsDeclared old new
+  one_declared = AndOne functions (is ∙ ap (λ (n : ℕ). old ++ Some (declaring n functions) ∷ []) here)
+
+  module _ (v : Abstract) (was : (i : ℕ) → v.elements i ≡ option_map element_of (item_at old i)) (unnamed : own_name v (AnItem (Elements, id)) ≡ None) where
+    abbrev with_it : Abstract
+    with_it = record v { elements = λ i. option_map element_of (item_at new i) }
+
+    has_segment : HasSegment v (record v { elements = λ i. option_map element_of (item_at new i) }) (map place functions.items)
+    has_segment = record {
+      id = id;
+      is = ap (λ (slots : List (Option ElementValue)). option_map element_of (item_at slots id)) is ∙ ap (option_map element_of) (item_last old (Some (declaring id functions)) id here);
+      last = λ i there. let lt : i < length old = seen_within element_of old i (subst IsSome (was i) there) in omega (arith, here, lt);
+      unnamed = unnamed;
+      others = λ i away. ap (λ (slots : List (Option ElementValue)). option_map element_of (item_at slots i)) is
+          ∙ ap (option_map element_of) (item_front old (Some (declaring id functions)) i (λ (e : i ≡ length old). away (e ∙ sym here))) ∙ sym (was i);
+    }
+
+    -- what is left with it
+    pub one_leaves : AreUndeclared (IsLive v) v (map place functions.items) → (length functions.items ≡ 0 → ⊥) → Leaves v (record v { elements = λ i. option_map element_of (item_at new i) })
+    one_leaves are some = record { functions = map place functions.items; undeclared = are; added = adds v with_it (map place functions.items) (some_mapped place v functions.items some) has_segment refl }
+
+-- ---- what is left names nothing dead, and nothing in it is undeclared
+
+module _ (v : Abstract) (elements : ℕ → Option Element) (fs : List ℕ) (b : Between v (record v { elements = elements }) fs) (are : AreUndeclared (IsLive v) v fs) (alive : AllLive v) where
+  abbrev u : Abstract
+  u = record v { elements = elements }
+
+  segment_lives : (i : ℕ) (y : Item) → b.segment ≡ Some i → Contains (named_by element_names (elements i)) y → IsLive u y
+  segment_lives i y is at =
+      let names : Contains (map function_item fs) y = subst (λ (o : Option Element). Contains (named_by element_names o) y) (the_segment v elements fs b are i is) at in
+      let f = from_map function_item y fs names in
+      subst (IsLive u) f.2 (live_too v elements fs b are (Functions, f.0) (live_undeclared v alive.written f.0 ((are.are f.0).0 f.1)))
+
+  written_lives : (x y : Item) → Contains (written_in u x) y → IsLive u y
+  written_lives (Types, i) y at = live_too v elements fs b are y (alive.written (Types, i) y at)
+  written_lives (Functions, i) y at = live_too v elements fs b are y (alive.written (Functions, i) y at)
+  written_lives (Tables, i) y at = live_too v elements fs b are y (alive.written (Tables, i) y at)
+  written_lives (Memories, i) y at = live_too v elements fs b are y (alive.written (Memories, i) y at)
+  written_lives (Tags, i) y at = live_too v elements fs b are y (alive.written (Tags, i) y at)
+  written_lives (Globals, i) y at = live_too v elements fs b are y (alive.written (Globals, i) y at)
+  written_lives (Elements, i) y at = ⊎_elim
+      (λ is. segment_lives i y is at)
+      (λ other. live_too v elements fs b are y (alive.written (Elements, i) y (subst (λ (o : Option Element). Contains (named_by element_names o) y) (b.others i other) at)))
+      (is_segment b.segment i)
+  written_lives (DataSegments, i) y at = live_too v elements fs b are y (alive.written (DataSegments, i) y at)
+
+  all_live_with : AllLive (record v { elements = elements })
+  all_live_with = record {
+    written = written_lives;
+    locals = alive.locals;
+    exports = λ e at. live_too v elements fs b are e.item (alive.exports e at);
+    start = alive.start;
+    imports = λ i x at. live_too v elements fs b are x.item (alive.imports i x at);
+    made = alive.made;
+  }
+
+module _ (v u : Abstract) (leaves : Leaves v u) where
+  stands_between : Between v (record v { elements = u.elements }) leaves.functions
+  stands_between = let b = between v u leaves in subst (λ (x : Abstract). Between v x leaves.functions) b.same b
+
+  pub leaves_none_dead : (HasDead v → ⊥) → HasDead u → ⊥
+  leaves_none_dead alive = none_dead u (subst AllLive (sym (between v u leaves).same) (all_live_with v u.elements leaves.functions stands_between leaves.undeclared (all_live v alive)))
+
+  pub leaves_nothing : NothingUndeclared u
+  leaves_nothing = subst NothingUndeclared (sym (between v u leaves).same) (nothing_undeclared v u.elements leaves.functions stands_between leaves.undeclared)
+
+-- ---- what emission answers
+
+-- something is named that isn't there: nothing is added
+pub dead_leaves : (X : Type 0) (v : Abstract) (e : Error) → IsRefusal (HasDead v) e → LeavesBy {X = X} v v (told {X = X} (Err e))
+dead_leaves X v (error.Memory m) r = inr refl
+dead_leaves X v error.DeadItem r = refl
+dead_leaves X v _ r = absurd r
+
+pub dead_refused : (X : Type 0) (c : Config) (v : Abstract) (e : Error) → IsRefusal (HasDead v) e → RefusesToWrite {X = X} ⊥ c v (told {X = X} (Err e))
+dead_refused X c v (error.Memory m) r = tt
+dead_refused X c v error.DeadItem r = r
+dead_refused X c v _ r = absurd r
+
+-- what is written, or refused for another cause, has the segment
+pub written_leaves : {X : Type 0} (c : Config) (v u : Abstract) (result : Result X Refusal) → Leaves v u → (HasDead u → ⊥) → RefusesToWrite ⊥ c u result → LeavesBy v u result
+written_leaves c v u (Ok x) leaves alive r = leaves
+written_leaves c v u (Err Memory) leaves alive r = inl leaves
+written_leaves c v u (Err DeadItem) leaves alive r = absurd (alive r)
+written_leaves c v u (Err TwoIndices) leaves alive r = leaves
+written_leaves c v u (Err NoIndex) leaves alive r = leaves
+written_leaves c v u (Err NotWritable) leaves alive r = leaves
+written_leaves c v u (Err TooLarge) leaves alive r = leaves
+written_leaves c v u (Err Caller) leaves alive r = leaves
+written_leaves c v u (Err Another) leaves alive r = leaves
