@@ -8,6 +8,7 @@ KIND: small    many functions of a few operators each
       bodies   functions of some hundred to some thousand operators: locals, constants, calls, blocks, branches, loads, stores
       entries  types, imports, globals, exports, segments of elements and of data in equal parts, and no code
       group    function types in one group, of which an exported function has the last, so that the group stays whole
+      tables   tables, each with an active segment of one function, so that all of them stay
 Of the first five every function is exported or called by one that is, so nothing of it is dropped.
 """
 import sys
@@ -85,11 +86,11 @@ def mixed_bodies(size):
     return bodies
 
 
-def entries_until(size, entry_of):
+def entries_until(size, entry_of, beside=0):
     entries, total = [], 0
     while total < size:
         entries.append(entry_of(len(entries)))
-        total += len(entries[-1])
+        total += len(entries[-1]) + beside
     return unsigned(len(entries)) + b"".join(entries), len(entries)
 
 
@@ -105,6 +106,19 @@ def group_sections(size):
         (3, b"\x01" + unsigned(type_count - 1)),
         (7, b"\x01" + sized(b"f") + b"\x00\x00"),
         (10, b"\x01" + sized(b"\x00\x00\x0B")),
+    ]
+
+
+def table_sections(size):
+    # each table takes three bytes, and its segment eight and those of its index
+    segments, count = entries_until(
+        size, lambda i: b"\x02" + unsigned(i) + b"\x41\x00\x0B\x00\x01\x00", beside=3)
+    return [
+        (1, b"\x01\x60\x00\x00"),
+        (3, b"\x01\x00"),
+        (4, unsigned(count) + b"\x70\x00\x01" * count),
+        (9, segments),
+        (10, b"\x01" + sized(b"\x00\x0B")),
     ]
 
 
@@ -138,7 +152,7 @@ def code_sections(kind, size):
 
 def main():
     kind, size = sys.argv[1], int(float(sys.argv[2]) * 1_000_000)
-    apart = {"entries": entry_sections, "group": group_sections}
+    apart = {"entries": entry_sections, "group": group_sections, "tables": table_sections}
     sections = apart[kind](size) if kind in apart else code_sections(kind, size)
     sys.stdout.buffer.write(b"\x00asm\x01\x00\x00\x00" + b"".join(section(*s) for s in sections))
 

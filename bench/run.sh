@@ -1,6 +1,7 @@
 #!/usr/bin/env bash
 # Runs the built program on made modules and prints a table: time, bytes a second, peak memory, memory a byte of input,
-# beside `cat` of the same file. bench/run.sh [MEGABYTES..], 1 10 100 where none are given. No part of the gate.
+# beside `cat` of the same file. bench/run.sh [MEGABYTES..], 1 10 100 where none are given; KINDS="group tables" measures other kinds of
+# modules than small, mixed and huge (bench/make.py). No part of the gate.
 set -eu
 here=$(cd "$(dirname "$0")" && pwd)
 [ "${1-}" = --told ] || exec "$here/../tests/still.sh" 15 "bench/run.sh: measuring" "$here/run.sh" --told "$@"
@@ -31,7 +32,7 @@ PY
 
 printf '%-6s %6s %12s %9s %9s %9s %10s %9s %6s\n' kind MB bytes seconds cat MB/s peak-MB mem/byte status
 for megabytes in "$@"; do
-  for kind in small mixed huge; do
+  for kind in ${KINDS:-small mixed huge}; do
     python3 "$here/make.py" "$kind" "$megabytes" > "$files/in.wasm"
     size=$(stat -c %s "$files/in.wasm")
     read -r seconds peak status < <(measure "$files/in.wasm" "$files/out.wasm" "$program" --no-producers)

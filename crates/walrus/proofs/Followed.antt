@@ -1,7 +1,7 @@
 -- How the search for used items goes on, and what it has found at its end.
 use Rattle.std.proofs.Common.{◌≡◌, ℕ, ◌+◌, ◌<◌, ◌≤◌, ◌⊎◌, inl, inr, ⊎_elim, List, [], ◌∷◌, ◌++◌, get_or, length, map, take, sym, ap, ◌∙◌, subst, arith}
-use Rattle.std.specs.Prelude.{◌↔◌, Contains, Result, MatchResult}
-use Rattle.std.proofs.lemmas.List.{get_or-map, length-map, take-append-le, take_all, take_more}
+use Rattle.std.specs.Prelude.{◌↔◌, Contains, Result, Ok, Err, MatchResult, vec_capacity, vec_len}
+use Rattle.std.proofs.lemmas.List.{length-map, take-append-le, take_all, take_more}
 use Rattle.std.proofs.lemmas.List.Elements.{Contains-push_cases, Contains-append_left, Contains-append_cases}
 use Rattle.walrus_types.specs.Operators.{Item}
 use Rattle.walrus_code.specs.Code.{item_of}
@@ -12,45 +12,66 @@ use Rattle.walrus_model.specs.Live.{IsLive}
 use Rattle.walrus_model.specs.Reached.{Reached, root, step}
 use Rattle.walrus_model.specs.Refers.{Refers}
 use Rattle.walrus_model.specs.Roots.{IsRoot}
-use Rattle.walrus.specs.Marked.{ReachesUnsound}
-use Rattle.walrus.specs.Used.{Agrees, Enters, EntersAll, Followed, Follows, IsOf, NamesDead, OneDead}
 use Rattle.walrus_contents.specs.Named.{NamesItself}
 use Rattle.walrus_contents.specs.There.{IsRefusal, IsSound}
 use Rattle.walrus_model.proofs.Lists.{Contains-none}
 use Rattle.walrus_contents.proofs.Groups.{group_is_written, own_refers, refers_split}
-use Rattle.walrus.specs.MarkedItems.{AreUnmarked, HavePlaces}
+use Rattle.walrus_contents.proofs.NamedLemmas.{among}
+use Rattle.walrus.specs.Marked.{ReachesUnsound}
+use Rattle.walrus.specs.MarkedItems.{HavePlaces, has_mark}
+use Rattle.walrus.specs.Used.{Enters, EntersAll, Follows, Found, IsDead, IsOf, NamesDead, OneDead}
+use Rattle.walrus.specs.Worklist.{IsRoomForLive, Keeps, Takes, entered_items}
 use Rattle.walrus.specs.declared.passes.marks.MarkedItems.{MarkedItems}
-use Rattle.walrus.proofs.Entered.{have_places, nothing_agrees}
-use Rattle.walrus_contents.proofs.NamedLemmas.{among, result_map}
+use Rattle.walrus.specs.declared.passes.worklist.Worklist.{Worklist}
 
--- ---- the items by their ids
-
-pub next_item : (f : List ItemId) (n : ℕ) (x : ItemId) → n < length f → x ≡ get_or f n x → take (n + 1) (map item_of f) ≡ take n (map item_of f) ++ item_of x ∷ []
-next_item f n x lt is =
-    take_more (map item_of f) n (item_of x) (omega (arith, length-map f item_of))
-    ∙ ap (λ (y : Item). take n (map item_of f) ++ y ∷ []) (get_or-map item_of f n x (item_of x) lt ∙ ap item_of (sym is))
-
-pub item_found : (f : List ItemId) (n : ℕ) (x : ItemId) → n < length f → x ≡ get_or f n x → Contains (map item_of f) (item_of x)
-item_found f n x lt is = subst (λ (y : ItemId). Contains (map item_of f) (item_of y)) (sym is) (among item_of f n x lt)
+-- ---- refusals
 
 pub dead_among : (v : Abstract) (xs : List ItemId) (i : ℕ) (d : ItemId) → i < length xs → (IsLive v (item_of (get_or xs i d)) → ⊥) → NamesDead v (map item_of xs)
 dead_among v xs i d lt dead = (item_of (get_or xs i d), among item_of xs i d lt, dead)
 
--- all that an item names itself was put, and entered
-pub item_entered : {T : Type 0} (v : Abstract) (x : Item) (put added : List Item) (u u' : MarkedItems) (f f' : List Item) (r : Result T Error)
-    → put ≡ added → ((y : Item) → Contains added y ↔ NamesItself v x y) → IsSound v x
-    → MatchResult r (λ _. Enters v put u u' f f') (IsRefusal (NamesDead v put))
-    → MatchResult r (λ _. IsSound v x × EntersAll v (NamesItself v x) u u' f f') (IsRefusal ((IsSound v x → ⊥) ⊎ OneDead v (NamesItself v x)))
-item_entered v x put added u u' f f' r same are sound h = result_map
-    (Enters v put u u' f f') (IsSound v x × EntersAll v (NamesItself v x) u u' f f')
-    (NamesDead v put) ((IsSound v x → ⊥) ⊎ OneDead v (NamesItself v x))
-    (λ e. (sound, record { named = added; are = are; enters = subst (λ (names : List Item). Enters v names u u' f f') same e }))
-    (λ dead. inr (dead.0, (are dead.0).0 (subst (λ (names : List Item). Contains names dead.0) same dead.1), dead.2))
-    r h
+-- what isn't there, for another reason
+pub dead_map : (P Q : Type 0) → (P → Q) → (e : Error) → IsDead P e → IsDead Q e
+dead_map P Q f e dead = (dead.0, f dead.1)
 
--- those in front stay
-pub stays : (v : Abstract) (P : Item → Type 0) (u u' : MarkedItems) (f f' : List Item) (n : ℕ) → n < length f → EntersAll v P u u' f f' → take (n + 1) f' ≡ take (n + 1) f
-stays v P u u' f f' n lt all = ap (λ (t : List Item). take (n + 1) t) all.enters.grows ∙ take-append-le (n + 1) f all.enters.rest (omega arith)
+-- it is refused, where memory may be wanting too
+pub refused_dead : (P Q : Type 0) → (P → Q) → (e : Error) → IsDead P e → IsRefusal Q e
+refused_dead P Q f e dead = subst (λ (r : Error). IsRefusal Q r) (sym dead.0) (f dead.1)
+
+-- all that an item names itself was put, and entered
+module _ {T : Type 0} (v : Abstract) (x : Item) (put added : List Item) (old new : Worklist) (same : put ≡ added) (are : (y : Item) → Contains added y ↔ NamesItself v x y) where
+  pub item_entered : IsSound v x → (r : Result T Error) → MatchResult r (λ _. Enters v put old new) (IsDead (NamesDead v put))
+      → MatchResult r (λ _. IsSound v x × EntersAll v (NamesItself v x) old new) (IsRefusal ((IsSound v x → ⊥) ⊎ OneDead v (NamesItself v x)))
+  item_entered sound (Ok _) e = (sound, record { named = added; are = are; enters = subst (λ (names : List Item). Enters v names old new) same e })
+  item_entered sound (Err e) dead = refused_dead (NamesDead v put) _ (λ d. inr (d.0, (are d.0).0 (subst (λ (names : List Item). Contains names d.0) same d.1), d.2)) e dead
+
+-- ---- what is taken
+
+pub none_taken : (list : Worklist) → entered_items list ≡ [] → list.taken ≡ 0
+none_taken list nothing =
+    let none : length (entered_items list) ≡ 0 = ap length nothing in
+    let counted : list.taken ≤ vec_len list.entered = list.counted in
+    omega (arith, none, counted, length-map list.entered.items item_of, list.entered.ok.0)
+
+module _ (x : Item) (old mid : Worklist) (t : Takes x old mid) where
+  pub taken_more : take (old.taken + 1) (entered_items old) ≡ take old.taken (entered_items old) ++ x ∷ []
+  taken_more = take_more (entered_items old) old.taken x t.waits ∙ ap (λ (y : Item). take old.taken (entered_items old) ++ y ∷ []) t.is
+
+  pub taken_in : Contains (entered_items old) x
+  taken_in = (old.taken, t.waits, t.is)
+
+  same_items : entered_items mid ≡ entered_items old
+  same_items = ap (λ ids. map item_of ids.items) t.entered
+
+  pub keeps_taken : (v : Abstract) → Keeps v old → Keeps v mid
+  keeps_taken v kept = record {
+    agrees = λ y. (
+      λ h. subst (λ (ys : List Item). Contains ys y) (sym same_items) ((kept.agrees y).0 (ap (λ (m : MarkedItems). has_mark m y) (sym t.marks) ∙ h)),
+      λ c. ap (λ (m : MarkedItems). has_mark m y) t.marks ∙ (kept.agrees y).1 (subst (λ (ys : List Item). Contains ys y) same_items c),
+    );
+    live = λ y c. kept.live y (subst (λ (ys : List Item). Contains ys y) same_items c);
+    places = subst (λ (m : MarkedItems). HavePlaces v m) (sym t.marks) kept.places;
+    room = subst (λ ids. IsRoomForLive v (vec_capacity ids)) (sym t.entered) kept.room;
+  }
 
 module _ (v : Abstract) where
   -- a root isn't there
@@ -63,72 +84,95 @@ module _ (v : Abstract) where
   of_reached named are x (inr g) = step g.0 x (are g.0 g.1) (inl (group_is_written v g.0 x g.2))
 
   -- the first turn
-  pub follows_init : (u0 u1 : MarkedItems) (roots f : List Item) → AreUnmarked u0 → HavePlaces v u0 → Enters v roots u0 u1 [] f → ((x : Item) → IsRoot v x ↔ Contains roots x) → Follows v u1 f 0
-  follows_init u0 u1 roots f unmarked have e are = record {
-    agrees = e.agrees none;
-    places = have_places v u0 u1 e.places have;
-    live = λ x c. e.live x (named x c);
+  pub follows_init : (none list : Worklist) (roots : List Item) → entered_items none ≡ [] → list.taken ≡ 0 → Enters v roots none list → ((x : Item) → IsRoot v x ↔ Contains roots x) → Follows v list
+  follows_init none list roots nothing_in first e are = record {
+    kept = e.kept;
     reached = λ x c. of_reached roots (λ y h. root y ((are y).1 h)) x (named x c);
-    rooted = λ x r. e.entered none x ((are x).0 r);
-    groups = e.groups none (λ x y c. absurd (Contains-none x c));
+    rooted = λ x r. e.entered x ((are x).0 r);
+    groups = e.groups (λ x y c. absurd (Contains-none x (subst (λ (t : List Item). Contains t x) nothing_in c)));
     sound = λ x c. absurd (nothing x c);
     closed = λ x y c r. absurd (nothing x c);
   } where
-    none : Agrees u0 []
-    none = nothing_agrees u0 unmarked
+    named : (x : Item) → Contains (entered_items list) x → IsOf v roots x
+    named x c = e.named_only x (subst (λ (t : List Item). Contains t x) (e.grows ∙ ap (λ (t : List Item). t ++ e.rest) nothing_in) c)
 
-    named : (x : Item) → Contains f x → IsOf v roots x
-    named x c = e.named_only x (subst (λ (t : List Item). Contains t x) e.grows c)
+    nothing : (x : Item) → Contains (take list.taken (entered_items list)) x → ⊥
+    nothing x c = Contains-none x (subst (λ (n : ℕ). Contains (take n (entered_items list)) x) first c)
 
-    nothing : (x : Item) → Contains (take 0 f) x → ⊥
-    nothing x c = let lt : c.0 < 0 = c.1 in omega arith
-
-  module _ (n : ℕ) (u : MarkedItems) (f : List Item) (s : Follows v u f n) where
+  module _ (list : Worklist) (s : Follows v list) where
     -- ---- a turn
-    module _ (x : Item) (next : take (n + 1) f ≡ take n f ++ x ∷ []) (at : Contains f x) where
+    module _ (x : Item) (mid : Worklist) (t : Takes x list mid) where
+      abbrev f : List Item
+      f = entered_items list
+
+      at : Contains f x
+      at = taken_in x list mid t
+
       -- it isn't sound, or what it names isn't there
       pub unsound_by : (IsSound v x → ⊥) ⊎ OneDead v (NamesItself v x) → ReachesUnsound v
       unsound_by (inl not_sound) = (x, s.reached x at, not_sound)
       unsound_by (inr dead) = (dead.0, step x dead.0 (s.reached x at) (own_refers v x dead.0 dead.1), λ sound. dead.2 sound.live)
 
-      pub follows_more : (u' : MarkedItems) (f' : List Item) (same : take (n + 1) f' ≡ take (n + 1) f) → IsSound v x → EntersAll v (NamesItself v x) u u' f f' → Follows v u' f' (n + 1)
-      follows_more u' f' same is_sound entered = record {
-        agrees = e.agrees s.agrees;
-        places = have_places v u u' e.places s.places;
-        live = λ y c. ⊎_elim (λ h. s.live y h) (λ h. e.live y (e.named_only y h)) (cases y c);
-        reached = λ y c. ⊎_elim (λ h. s.reached y h) (λ h. of_reached entered.named (λ z m. step x z (s.reached x at) (own_refers v x z ((entered.are z).0 m))) y (e.named_only y h)) (cases y c);
+      pub follows_more : (new : Worklist) → IsSound v x → EntersAll v (NamesItself v x) mid new → Follows v new
+      follows_more new is_sound all = record {
+        kept = e.kept;
+        reached = λ y c. ⊎_elim (λ h. s.reached y h) (λ h. of_reached all.named (λ z m. step x z (s.reached x at) (own_refers v x z ((all.are z).0 m))) y (e.named_only y h)) (cases y c);
         rooted = λ y r. still y (s.rooted y r);
-        groups = e.groups s.agrees s.groups;
-        sound = λ y c. ⊎_elim (λ h. s.sound y h) (λ (same : x ≡ y). subst (λ (z : Item). IsSound v z) same is_sound) (taken y c);
+        groups = e.groups (λ y z c g. subst (λ (ys : List Item). Contains ys z) (sym same) (s.groups y z (subst (λ (ys : List Item). Contains ys y) same c) g));
+        sound = λ y c. ⊎_elim (λ h. s.sound y h) (λ (is : x ≡ y). subst (λ (z : Item). IsSound v z) is is_sound) (taken y c);
         closed = λ y z c r. ⊎_elim
             (λ h. still z (s.closed y z h r))
-            (λ (same : x ≡ y). ⊎_elim (λ g. still z (s.groups x z at g)) (λ own. e.entered s.agrees z ((entered.are z).1 own)) (refers_split v x z (subst (λ (w : Item). Refers v w z) (sym same) r)))
+            (λ (is : x ≡ y). ⊎_elim (λ g. still z (s.groups x z at g)) (λ own. e.entered z ((all.are z).1 own)) (refers_split v x z (subst (λ (w : Item). Refers v w z) (sym is) r)))
             (taken y c);
       } where
-        e : Enters v entered.named u u' f f'
-        e = entered.enters
+        e : Enters v all.named mid new
+        e = all.enters
 
-        still : (y : Item) → Contains f y → Contains f' y
-        still y c = subst (λ (t : List Item). Contains t y) (sym e.grows) (Contains-append_left f e.rest y c)
+        same : entered_items mid ≡ f
+        same = same_items x list mid t
 
-        cases : (y : Item) → Contains f' y → Contains f y ⊎ Contains e.rest y
-        cases y c = Contains-append_cases f e.rest y (subst (λ (t : List Item). Contains t y) e.grows c)
+        grows : entered_items new ≡ f ++ e.rest
+        grows = e.grows ∙ ap (λ (ys : List Item). ys ++ e.rest) same
 
-        taken : (y : Item) → Contains (take (n + 1) f') y → Contains (take n f) y ⊎ (x ≡ y)
-        taken y c = Contains-push_cases (take n f) x y (subst (λ (t : List Item). Contains t y) (same ∙ next) c)
+        still : (y : Item) → Contains f y → Contains (entered_items new) y
+        still y c = subst (λ (ys : List Item). Contains ys y) (sym grows) (Contains-append_left f e.rest y c)
+
+        cases : (y : Item) → Contains (entered_items new) y → Contains f y ⊎ Contains e.rest y
+        cases y c = Contains-append_cases f e.rest y (subst (λ (ys : List Item). Contains ys y) grows c)
+
+        in_front : take (list.taken + 1) (entered_items new) ≡ take list.taken f ++ x ∷ []
+        in_front =
+            let waits : list.taken < length f = t.waits in
+            ap (take (list.taken + 1)) grows ∙ take-append-le (list.taken + 1) f e.rest (omega (arith, waits)) ∙ taken_more x list mid t
+
+        taken : (y : Item) → Contains (take new.taken (entered_items new)) y → Contains (take list.taken f) y ⊎ (x ≡ y)
+        taken y c = Contains-push_cases (take list.taken f) x y (subst (λ (ys : List Item). Contains ys y)
+            (ap (λ (n : ℕ). take n (entered_items new)) (e.taken ∙ t.taken) ∙ in_front) c)
 
     -- ---- the end
-    module _ (all : length f ≤ n) where
-      in_taken : (x : Item) → Contains f x → Contains (take n f) x
-      in_taken x c = subst (λ (t : List Item). Contains t x) (sym (take_all n f all)) c
+    module _ (all : vec_len list.entered ≤ list.taken) where
+      many : length (entered_items list) ≡ vec_len list.entered
+      many = length-map list.entered.items item_of ∙ sym list.entered.ok.0
 
-      entered_all : (x : Item) → Reached v x → Contains f x
+      all_taken : length (entered_items list) ≤ list.taken
+      all_taken = omega (arith, all, many)
+
+      in_taken : (x : Item) → Contains (entered_items list) x → Contains (take list.taken (entered_items list)) x
+      in_taken x c = subst (λ (t : List Item). Contains t x) (sym (take_all list.taken (entered_items list) all_taken)) c
+
+      entered_all : (x : Item) → Reached v x → Contains (entered_items list) x
       entered_all x (root _ r) = s.rooted x r
       entered_all y (step x _ h r) = s.closed x y (in_taken x (entered_all x h)) r
 
-      pub follows_end : Followed v u
-      follows_end = record {
-        marked = λ x. (λ h. s.reached x ((s.agrees x).0 h), λ h. (s.agrees x).1 (entered_all x h));
+      pub found_all : Found v list.marks list.taken
+      found_all = record {
+        marked = λ x. (λ h. s.reached x ((s.kept.agrees x).0 h), λ h. (s.kept.agrees x).1 (entered_all x h));
+        count = record {
+          items = entered_items list;
+          count = (let counted = list.counted in omega (arith, all, many, counted));
+          once = list.once;
+          are = λ x. (s.reached x, entered_all x);
+        };
         sound = λ x h. s.sound x (in_taken x (entered_all x h));
-        places = s.places;
+        places = s.kept.places;
       }

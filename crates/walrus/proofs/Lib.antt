@@ -6,3 +6,4 @@ pub mod ReachedLemmas
 pub mod CollectedLemmas
 pub mod Marking
 pub mod Spare
+pub mod Room

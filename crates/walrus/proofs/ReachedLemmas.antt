@@ -1,5 +1,5 @@
 -- What a search for used items finds is what the abstract module says is reached, kept and sound.
-use Rattle.std.proofs.Common.{◌≡◌, ℕ, ⊎_elim, Bool, true, false, sym, ap, ◌∙◌, subst, refl}
+use Rattle.std.proofs.Common.{◌≡◌, ℕ, ◌≤◌, ⊎_elim, Bool, true, false, sym, ap, ◌∙◌, subst, refl}
 use Rattle.std.specs.Prelude.{◌↔◌, Contains, option_map, Result, Ok, Err, IfOk, IfErr, OnOk, MatchResult}
 use Rattle.std.proofs.lemmas.Bool.{false≢true}
 use Rattle.walrus_base.specs.Arena.{item_at, items}
@@ -13,6 +13,7 @@ use Rattle.walrus_items.specs.Data.{data_segments, is_passive_data}
 use Rattle.walrus_items.specs.Elements.{elements}
 use Rattle.walrus_items.specs.Exports.{ExportValue, exports}
 use Rattle.walrus_model.specs.Abstract as abstract
+use Rattle.walrus_model.specs.Kept.{ReachedCount}
 use Rattle.walrus_model.specs.Roots.{IsRoot, IsRootData, IsRootElement, exported as is_exported, start, data_segment, element_segment, asked_for}
 use Rattle.walrus_model.proofs.Lists.{Contains-map, Contains-none}
 use Rattle.walrus_model.proofs.Reach.{Contains-unmap}
@@ -24,13 +25,15 @@ use Rattle.walrus_base.specs.IdSet.{has_id}
 use Rattle.walrus_base.specs.Marks.{is_marked}
 use Rattle.walrus_base.specs.declared.marks.Marks.{Marks}
 use Rattle.walrus_base.specs.declared.set.IdHashSet.{IdHashSet}
-use Rattle.walrus.specs.Marked.{HoldsMarked, MarksAreKept, MarksKept, ReachesSound, ReachesUnsound}
+use Rattle.walrus.specs.LiveCount.{live_count}
+use Rattle.walrus.specs.Marked.{Finds, HoldsMarked, MarksAreKept, MarksKept, ReachesSound, ReachesUnsound}
 use Rattle.walrus_contents.specs.Named.{active_names, are_passive, export_names, root_elements, root_names, start_names}
 use Rattle.walrus_contents.proofs.Lookups.{mapped_some}
 use Rattle.walrus_contents.proofs.RootNames.{active_is_root, active_named, element_is_root, export_is_root, named_active, named_root_element, named_start, root_cases, root_element_named, start_is_root, start_named}
 use Rattle.walrus.specs.Used.{IsRefusal}
 use Rattle.walrus.specs.declared.passes.marks.MarkedItems.{MarkedItems}
 use Rattle.walrus.specs.declared.passes.used.Used.{Used}
+use Rattle.walrus.proofs.Room.{room_for_live}
 
 module _ (held : Contents) where
   abbrev v : abstract.Abstract
@@ -100,20 +103,29 @@ module _ (held : Contents) where
 -- ---- the clauses of the search
 
 module _ (v : abstract.Abstract) where
-  abbrev Found : Result MarkedItems Error → Type 0
-  Found r = MatchResult r (λ marks. MarksAreKept v marks × ReachesSound v) (IsRefusal (ReachesUnsound v))
+  abbrev IsFound : Result (MarkedItems × ℕ) Error → Type 0
+  IsFound r = MatchResult r (λ found. Finds v found.0 found.1) (IsRefusal (ReachesUnsound v))
 
-  pub kept_by : (r : Result MarkedItems Error) → Found r → IfOk r (MarksAreKept v)
-  kept_by (Ok marks) f = f.0
+  pub kept_by : (r : Result (MarkedItems × ℕ) Error) → IsFound r → IfOk r (λ found. MarksAreKept v found.0)
+  kept_by (Ok found) f = f.kept
   kept_by (Err e) f = tt
 
-  pub sound_by : (r : Result MarkedItems Error) → Found r → OnOk r (ReachesSound v)
-  sound_by (Ok marks) f = f.1
+  pub counted_by : (r : Result (MarkedItems × ℕ) Error) → IsFound r → IfOk r (λ found. ReachedCount v found.1)
+  counted_by (Ok found) f = f.count
+  counted_by (Err e) f = tt
+
+  pub sound_by : (r : Result (MarkedItems × ℕ) Error) → IsFound r → OnOk r (ReachesSound v)
+  sound_by (Ok found) f = f.sound
   sound_by (Err e) f = tt
 
-  pub refused_by : (r : Result MarkedItems Error) → Found r → IfErr r (IsRefusal (ReachesUnsound v))
-  refused_by (Ok marks) f = tt
+  pub refused_by : (r : Result (MarkedItems × ℕ) Error) → IsFound r → IfErr r (IsRefusal (ReachesUnsound v))
+  refused_by (Ok found) f = tt
   refused_by (Err e) h = h
+
+-- those reached are no more than those that are live
+pub at_most_live : (held : Contents) (n : ℕ) → ReachedCount (contents_view held) n → ReachesSound (contents_view held) → n ≤ live_count held
+at_most_live held n counts sound = subst (λ (k : ℕ). k ≤ live_count held) counts.count
+    (room_for_live held counts.items counts.once (λ x c. (sound x ((counts.are x).0 c)).live))
 
 -- the sets of what is marked are those of what is kept
 pub sets_kept : (v : abstract.Abstract) (marks : MarkedItems) (used : Used) → MarksAreKept v marks → HoldsMarked marks used → MarksKept v used

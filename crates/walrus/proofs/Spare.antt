@@ -12,9 +12,9 @@ use Rattle.walrus_contents.specs.declared.parts.Contents.{Contents}
 use Rattle.walrus_contents.proofs.LiveLemmas.{seen_there}
 use Rattle.walrus_contents.proofs.NamedLemmas.{some_none}
 use Rattle.walrus_contents.proofs.Slots.{first_there, none_there}
-use Rattle.walrus.specs.Marked.{IsFirst, MarksAreKept, MarksFirst, MarksSpare}
+use Rattle.walrus.specs.Marked.{Finds, IsFirst, MarksAreKept, MarksFirst, MarksSpare}
 use Rattle.walrus.specs.MarkedItems.{AddsMark, has_mark}
-use Rattle.walrus.specs.Used.{Followed}
+use Rattle.walrus.specs.Used.{Found}
 use Rattle.walrus.specs.declared.passes.marks.MarkedItems.{MarkedItems}
 use Rattle.walrus.proofs.Entered.{same_or_other_item}
 
@@ -59,28 +59,32 @@ module _ (v : Abstract) where
 
   -- ---- what is kept
 
-  pub spare_kept : (old new : MarkedItems) → Followed v old → MarksSpare v old new → MarksAreKept v new
-  spare_kept old new followed spare x = (
+  spare_kept : (old new : MarkedItems) (count : ℕ) → Found v old count → MarksSpare v old new → MarksAreKept v new
+  spare_kept old new count found spare x = (
     λ h. ⊎_elim
-        (λ was. inl ((followed.marked x).0 was))
+        (λ was. inl ((found.marked x).0 was))
         (λ s. inr (record {
           segment = s.0.segment;
-          data_is_reached = (followed.marked (DataSegments, s.0.segment)).0 s.0.data_is;
-          no_memory_is = λ j reached. s.0.no_memory_is j ((followed.marked (Memories, j)).1 reached);
+          data_is_reached = (found.marked (DataSegments, s.0.segment)).0 s.0.data_is;
+          no_memory_is = λ j reached. s.0.no_memory_is j ((found.marked (Memories, j)).1 reached);
           memory = s.1.memory;
           is = s.1.is;
           first = s.1.first;
         }))
         ((spare x).0 h),
     λ kept. (spare x).1 (⊎_elim
-        (λ reached. inl ((followed.marked x).1 reached))
+        (λ reached. inl ((found.marked x).1 reached))
         (λ s. inr (
           record {
             segment = s.segment;
-            data_is = (followed.marked (DataSegments, s.segment)).1 s.data_is_reached;
-            no_memory_is = λ j marked. s.no_memory_is j ((followed.marked (Memories, j)).0 marked);
+            data_is = (found.marked (DataSegments, s.segment)).1 s.data_is_reached;
+            no_memory_is = λ j marked. s.no_memory_is j ((found.marked (Memories, j)).0 marked);
           },
           record { memory = s.memory; is = s.is; first = s.first },
         ))
         kept),
   )
+
+  -- the spare memory isn't counted
+  pub finds_spare : (old new : MarkedItems) (count : ℕ) → Found v old count → MarksSpare v old new → Finds v new count
+  finds_spare old new count found spare = record { kept = spare_kept old new count found spare; count = found.count; sound = found.sound }

@@ -9,3 +9,5 @@ pub mod Collected
 pub mod Headline
 pub mod Marked
 pub mod MarkedItems
+pub mod LiveCount
+pub mod Worklist

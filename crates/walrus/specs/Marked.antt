@@ -3,7 +3,7 @@ use Rattle.std.specs.Prelude.{ℕ, ◌≡◌, ◌↔◌, ◌⊎◌, true}
 use Rattle.walrus_base.specs.IdSet.{HasId}
 use Rattle.walrus_types.specs.Operators.{Types, Functions, Tables, Memories, Tags, Globals, Elements, DataSegments, Item}
 use Rattle.walrus_model.specs.Abstract.{Abstract}
-use Rattle.walrus_model.specs.Kept.{IsFirstMemory, Kept}
+use Rattle.walrus_model.specs.Kept.{IsFirstMemory, Kept, ReachedCount}
 use Rattle.walrus_model.specs.Reached.{Reached}
 use Rattle.walrus_contents.specs.There.{IsSound}
 use Rattle.walrus.specs.MarkedItems.{has_mark}
@@ -62,3 +62,9 @@ ReachesSound v = (x : Item) → Reached v x → IsSound v x
 -- something reached isn't sound
 abbrev pub ReachesUnsound : Abstract → Type 0
 ReachesUnsound v = (x : Item) × Reached v x × (IsSound v x → ⊥)
+
+-- what a search finds: the marks of what is kept, and of how many items reached; what is reached is sound
+pub record Finds (v : Abstract) (marks : MarkedItems) (n : ℕ) : Type 0 where
+  pub kept : MarksAreKept v marks
+  pub count : ReachedCount v n
+  pub sound : ReachesSound v

@@ -3,5 +3,6 @@
 pub mod gc;
 mod marks;
 pub mod used;
+mod worklist;
 
 pub use used::Used;

@@ -6,8 +6,6 @@ mod data;
 #[cfg(test)]
 mod edited;
 #[cfg(test)]
-mod elements;
-#[cfg(test)]
 mod imported;
 #[cfg(test)]
 mod parts;

@@ -1,6 +1,6 @@
 //! Element and data segments.
 
-use std::alloc::Global;
+use std::alloc::{AllocError, Global};
 use std::test::Fail;
 use test_support::{demand, first_id, second_id};
 use walrus_base::{DataId, DataKey, ElementId, ElementKey, Marks};
@@ -11,11 +11,19 @@ fn seven() -> ConstExpr {
     ConstExpr::Value(Value::I32(7))
 }
 
-fn externref() -> RefType {
+fn nullable(heap: AbstractHeapType) -> RefType {
     RefType {
         nullable: true,
-        heap_type: HeapType::Abstract(AbstractHeapType::Extern),
+        heap_type: HeapType::Abstract(heap),
     }
+}
+
+fn externref() -> RefType {
+    nullable(AbstractHeapType::Extern)
+}
+
+fn funcref() -> RefType {
+    nullable(AbstractHeapType::Func)
 }
 
 // Whether the segment is copied to 7 of the second table.
@@ -57,6 +65,99 @@ fn is_cloned(alloc: Global, element: &Element) -> bool {
         return false;
     };
     is_at_seven(alloc, &kind) && is_one_null(&items)
+}
+
+fn is_same_kind(one: &ElementKind, other: &ElementKind) -> bool {
+    match (one, other) {
+        (ElementKind::Passive, ElementKind::Passive) => true,
+        (ElementKind::Declared, ElementKind::Declared) => true,
+        (
+            ElementKind::Active { table, offset },
+            ElementKind::Active {
+                table: in_table,
+                offset: at,
+            },
+        ) => table == in_table && offset == at,
+        _ => false,
+    }
+}
+
+fn are_same_items(some: &ElementItems, others: &ElementItems) -> bool {
+    match (some, others) {
+        (ElementItems::Functions(all), ElementItems::Functions(more)) => {
+            all.as_slice() == more.as_slice()
+        }
+        (ElementItems::Expressions(ty, all), ElementItems::Expressions(by, more)) => {
+            ty == by && all.as_slice() == more.as_slice()
+        }
+        _ => false,
+    }
+}
+
+fn clones_kind(alloc: Global, kind: &ElementKind) -> bool {
+    match kind.try_clone(alloc) {
+        Ok(copy) => is_same_kind(&copy, kind),
+        Err(_) => false,
+    }
+}
+
+fn clones_items(alloc: Global, items: &ElementItems) -> bool {
+    match items.try_clone(alloc) {
+        Ok(copy) => are_same_items(&copy, items),
+        Err(_) => false,
+    }
+}
+
+// The second function, the first, and the second again.
+fn three_functions(alloc: Global) -> Result<ElementItems, AllocError> {
+    let mut all = Vec::new(alloc);
+    all.push(second_id(alloc))?;
+    all.push(first_id(alloc))?;
+    all.push(second_id(alloc))?;
+    Ok(ElementItems::Functions(all))
+}
+
+// A function, and no function.
+fn two_expressions(alloc: Global) -> Result<ElementItems, AllocError> {
+    let mut all = Vec::new(alloc);
+    all.push(ConstExpr::RefFunc(second_id(alloc)))?;
+    all.push(ConstExpr::RefNull(funcref()))?;
+    Ok(ElementItems::Expressions(funcref(), all))
+}
+
+fn clones_each_kind(alloc: Global) -> bool {
+    let active = ElementKind::Active {
+        table: second_id(alloc),
+        offset: seven(),
+    };
+    clones_kind(alloc, &ElementKind::Passive)
+        && clones_kind(alloc, &ElementKind::Declared)
+        && clones_kind(alloc, &active)
+}
+
+#[test]
+fn kinds_of_elements_are_cloned(rt: HostRuntime) -> Result<(), Fail> {
+    demand(
+        clones_each_kind(rt.alloc()),
+        "passive, declared and active segments",
+    )
+}
+
+fn clones_each(alloc: Global, functions: &ElementItems, expressions: &ElementItems) -> bool {
+    clones_items(alloc, functions)
+        && clones_items(alloc, expressions)
+        && clones_items(alloc, &ElementItems::Functions(Vec::new(alloc)))
+        && !are_same_items(functions, expressions)
+}
+
+#[test]
+fn items_of_elements_are_cloned(rt: HostRuntime) -> Result<(), Fail> {
+    let functions = three_functions(rt.alloc())?;
+    let expressions = two_expressions(rt.alloc())?;
+    demand(
+        clones_each(rt.alloc(), &functions, &expressions),
+        "functions and expressions",
+    )
 }
 
 fn is_active_element(alloc: Global, elements: &mut ModuleElements) -> bool {

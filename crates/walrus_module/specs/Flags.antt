@@ -44,12 +44,12 @@ abbrev pub with_dwarf : Bool → Flags → Flags
 with_dwarf true f = record f { generate_dwarf = true; preserve_code_transform = true }
 with_dwarf false f = record f { generate_dwarf = false }
 
--- What the flags come to so far: names and producers are neither read nor written, legacy exceptions aren't read.
+-- What the flags come to so far: names and producers are neither read nor written.
 abbrev pub config_of : Flags → Config
 config_of f = record {
   writes_names = false;
   synthetic_names = false;
   writes_producers = false;
-  legacy_exceptions = false;
+  legacy_exceptions = f.legacy_exceptions;
   only_stable_features = f.only_stable_features;
 }

@@ -13,7 +13,7 @@ pub struct ModuleConfig {
     generate_synthetic_names: bool,
     strict_validate: bool,
     generate_producers_section: bool,
-    pub(crate) only_stable_features: bool,
+    only_stable_features: bool,
     legacy_exceptions: bool,
     preserve_code_transform: bool,
 }
@@ -121,7 +121,7 @@ impl ModuleConfig {
         ensures { result ≡ features_of (config_of (flags self.now)) }
     {
         Features {
-            legacy_exceptions: false,
+            legacy_exceptions: self.legacy_exceptions,
             only_stable: self.only_stable_features,
         }
     }

@@ -52,7 +52,8 @@ pub struct Module {
 
 impl Module {
     ghost use Rattle.walrus_module.specs.Flags.{flags, defaults, config_of};
-    ghost use Rattle.walrus_reading.specs.Parsed.{AreLocated, IsParsed, ItemsAtOwnIds, RefusesBytes, TakenFrom, features_so_far};
+    ghost use Rattle.walrus_reading.specs.Parsed.{AreLocated, IsParsed, ItemsAtOwnIds, RefusesBytes, TakenFrom};
+    ghost use Rattle.walrus_rules.specs.Features.{features_of};
     ghost use Rattle.walrus_module.specs.Settings.{settings};
     ghost use Rattle.walrus_module.specs.View.{HasNoCustoms, IsEmpty, contents_of, view};
 
@@ -96,7 +97,8 @@ impl Module {
         ensures found { IfOk result (λ m. IsParsed (config_of defaults) bytes.now (view m)) }
         ensures refused { IfErr result (RefusesBytes (config_of defaults) bytes.now) }
         ensures configured { IfOk result (λ m. settings m ≡ defaults) }
-        ensures taken { IfOk result (λ m. TakenFrom (features_so_far false) bytes.now (contents_of m)) }
+        ensures taken { IfOk result (λ m. TakenFrom (features_of (config_of defaults)) bytes.now
+            (contents_of m)) }
         ensures own_ids { IfOk result (λ m. ItemsAtOwnIds (contents_of m)) }
         ensures located { IfOk result (λ m. AreLocated bytes.now m.funcs) }
         ensures no_customs { IfOk result (λ m. HasNoCustoms m) }
@@ -113,8 +115,8 @@ impl Module {
         ensures found { IfOk result (λ m. IsParsed (config_of (flags config.now)) bytes.now (view m)) }
         ensures refused { IfErr result (RefusesBytes (config_of (flags config.now)) bytes.now) }
         ensures configured { IfOk result (λ m. settings m ≡ flags config.now) }
-        ensures taken { IfOk result (λ m. TakenFrom (features_so_far (flags config.now).only_stable_features)
-            bytes.now (contents_of m)) }
+        ensures taken { IfOk result (λ m. TakenFrom (features_of (config_of (flags config.now))) bytes.now
+            (contents_of m)) }
         ensures own_ids { IfOk result (λ m. ItemsAtOwnIds (contents_of m)) }
         ensures located { IfOk result (λ m. AreLocated bytes.now m.funcs) }
         ensures no_customs { IfOk result (λ m. HasNoCustoms m) }

@@ -3,7 +3,8 @@ ghost use Rattle.std.specs.Prelude.{◌≡◌, IfOk, IfErr};
 ghost use Rattle.walrus_module.specs.Flags.{flags, config_of};
 ghost use Rattle.walrus_module.specs.Settings.{settings};
 ghost use Rattle.walrus_module.specs.View.{HasNoCustoms, contents_of, view};
-ghost use Rattle.walrus_reading.specs.Parsed.{AreLocated, IsParsed, ItemsAtOwnIds, RefusesBytes, TakenFrom, features_so_far};
+ghost use Rattle.walrus_reading.specs.Parsed.{AreLocated, IsParsed, ItemsAtOwnIds, RefusesBytes, TakenFrom};
+ghost use Rattle.walrus_rules.specs.Features.{features_of};
 
 use crate::config::ModuleConfig;
 use crate::module::Module;
@@ -21,13 +22,13 @@ impl ModuleConfig {
         ensures found { IfOk result (λ m. IsParsed (config_of (flags self.now)) bytes.now (view m)) }
         ensures refused { IfErr result (RefusesBytes (config_of (flags self.now)) bytes.now) }
         ensures configured { IfOk result (λ m. settings m ≡ flags self.now) }
-        ensures taken { IfOk result (λ m. TakenFrom (features_so_far (flags self.now).only_stable_features)
-            bytes.now (contents_of m)) }
+        ensures taken { IfOk result (λ m. TakenFrom (features_of (config_of (flags self.now))) bytes.now
+            (contents_of m)) }
         ensures own_ids { IfOk result (λ m. ItemsAtOwnIds (contents_of m)) }
         ensures located { IfOk result (λ m. AreLocated bytes.now m.funcs) }
         ensures no_customs { IfOk result (λ m. HasNoCustoms m) }
     {
-        let contents = read(alloc, bytes, self.only_stable_features)?;
+        let contents = read(alloc, bytes, self.features())?;
         Ok(Module::holding(alloc, contents, self.clone()?))
     }
 }

@@ -1,6 +1,6 @@
 -- Bytes that are accepted frame sections that keep the rules, and the other way round.
 use Rattle.wasm_frames.specs.Record as wire
-use Rattle.std.proofs.Common.{sym, ◌≡◌, ℕ, List, [], length, refl, ap, subst, ◌∙◌}
+use Rattle.std.proofs.Common.{sym, ◌≡◌, ℕ, List, [], length, refl, subst}
 use Rattle.std.specs.Prelude.{codes, zip}
 use Rattle.std.specs.List.{AllZip}
 use Rattle.wasm_payloads.specs.Names.{Names}
@@ -28,7 +28,6 @@ use Rattle.wasm_wire.specs.Rules.{Rules}
 use Rattle.walrus_reading.proofs.KeptSegments.{no_elements_past, none_past}
 use Rattle.walrus_reading.proofs.Numbered.{stay}
 use Rattle.walrus_reading.proofs.Carrying.{parsed}
-use Rattle.walrus_reading.proofs.NoHandlers.{no_handlers}
 
 -- where no custom sections are supported, none says names or producers
 none_named : (s : wire.Module) → IsSupported s → AllZip (Names (has_function s)) (payloads (codes "name") s) []
@@ -47,7 +46,7 @@ module _ (config : Config) (c : Features) (with : IsReadWith config c) (bytes : 
   module _ (m : Contents) (put_in : (contents_view m).producers ≡ produced []) where
     in_memory : (s : wire.Module) → IsSupported s → length s.bodies ≡ length s.functions → AllStay (declared s) s → (taken : HasTaken c s m) → ParsedAs config (module_of s taken.bodies [] []) (contents_view m)
     in_memory = by_supported (λ s. length s.bodies ≡ length s.functions → AllStay (declared s) s → (taken : HasTaken c s m) → ParsedAs config (module_of s taken.bodies [] []) (contents_view m))
-        (λ s many stay taken. parsed c s m many taken config with.no_names (no_handlers c (supported s) taken.bodies (ap (λ (f : Features). f.legacy_exceptions) with.features_are ∙ with.no_handlers) taken.read) (no_elements_past (supported s) stay.elements) (none_past (supported s) stay.data_segments) put_in)
+        (λ s many stay taken. parsed c s m many taken config with.no_names (no_elements_past (supported s) stay.elements) (none_past (supported s) stay.data_segments) put_in)
 
     pub is_parsed : TakenFrom c bytes m → IsParsed config bytes (contents_view m)
     is_parsed t =

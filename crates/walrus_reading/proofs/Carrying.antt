@@ -1,7 +1,8 @@
 -- A module in memory that took in the sections is made of the module that was read.
-use Rattle.std.proofs.Common.{◌≡◌, ℕ, zero, suc, ◌+◌, ◌<◌, ◌≤◌, Bool, true, false, List, [], ◌∷◌, ◌++◌, length, length-append, map, refl, sym, ap, ap₂, subst, ◌∙◌, arith, inl, inr, eqb-true}
+use Rattle.std.proofs.Common.{◌≡◌, ℕ, zero, suc, ◌+◌, ◌<◌, ◌≤◌, Bool, true, false, List, [], ◌∷◌, ◌++◌, length, length-append, map, refl, sym, ap, ap₂, subst, ◌∙◌, arith, inl, inr, ◌⊎◌, eqb-true}
 use Rattle.std.proofs.lemmas.Bool.{eqb-false}
-use Rattle.std.specs.Prelude.{Option, Some, None, IsSome, Contains, slice_get, option_map, ◌==◌, if◌then◌else◌}
+use borrow.Author.Tests.{ltb-true, ltb-false}
+use Rattle.std.specs.Prelude.{Option, Some, None, IsSome, Contains, slice_get, option_map, nat_lt, zip, ◌==◌, if◌then◌else◌}
 use Rattle.std.specs.List.{AllZip, range_with_len}
 use Rattle.walrus_base.specs.Arena.{item_at}
 use Rattle.walrus_base.specs.Id.{place}
@@ -20,24 +21,22 @@ use Rattle.walrus_functions.specs.Laws.{moved_arg, moved_op}
 use Rattle.walrus_parts.specs.FunctionKinds.{kind_type}
 use Rattle.walrus_items.specs.Functions.{FunctionValue, functions}
 use Rattle.walrus_parts.specs.declared.function_kind.FunctionKind.{FunctionKind}
-use Rattle.walrus_parts.specs.declared.function_kind.FunctionKind.TheVariants as variants
 use Rattle.walrus_parts.specs.declared.function_kind.FunctionKind.TheVariants.{Local}
 use Rattle.walrus_model.specs.Abstract as abstract
-use Rattle.walrus_model.specs.Abstract.{Abstract, Name, TypeDef, Function, ImportedFunction, Import, Body, Subject, TheModule, AnItem, ALocal}
+use Rattle.walrus_model.specs.Abstract.{Abstract, Name, TypeDef, Function, Import, Body, Subject, TheModule, AnItem, ALocal}
 use Rattle.walrus_model.specs.Carried.{Carries}
 use Rattle.walrus_bodies.specs.declared.features.Features.{Features}
-use Rattle.walrus_rules.specs.Chain.{AreFoundOrAdded, NoMore, handlers_by, AddsHandlers, NoFunction, AndThose, IsWholeBody, ParsedAs}
+use Rattle.walrus_rules.specs.Chain.{AddsHandlers, IsBehind, IsWholeBody, ParsedAs}
 use Rattle.walrus_rules.specs.Namings.{is_in_range}
 use Rattle.walrus_rules.specs.Sections.{items_of, module_of}
 use Rattle.walrus_reading.proofs.DeclaredLocals.{counts}
 use Rattle.walrus_model.specs.Reads.{arity, ReadsBodyWith}
-use Rattle.walrus_model.specs.Sections.{Said, function_with, functions_of, body_with, imports_after, types_of, globals_of, memories_of, tables_of, tags_of, elements_of, data_segments_of}
+use Rattle.walrus_model.specs.Sections.{Said, function_with, functions_of, body_with, imported, imported_function, imports_after, types_of, globals_of, memories_of, tables_of, tags_of, elements_of, data_segments_of}
 use Rattle.walrus_model.specs.Kept.{IsImportOf}
 use Rattle.walrus_model.specs.Live.{IsLive}
 use Rattle.walrus_model.specs.WellMade.{import_in, import_of, kind_import, origin_import}
 use Rattle.walrus_rules.proofs.TextImports.{imports_match}
 use Rattle.walrus_model.specs.Config.{Config}
-use Rattle.walrus_model.specs.Handlers.{handlers_of}
 use Rattle.walrus_model.specs.Names.{body_of, body_of_function, body_of_kind, name_of, names_that_count, synthetic_name, last_name, or_else}
 use Rattle.walrus_model.specs.Producers.{produced}
 use Rattle.walrus_model.proofs.Follow.{used_follow}
@@ -47,14 +46,17 @@ use Rattle.walrus_model.specs.Same.{SameType, SameBody, SameFunction, SameKind, 
 use Rattle.walrus_types.specs.Shape.{Seen, Own, Other, in_its_group, others_through, place_in}
 use Rattle.walrus_model.proofs.Lists.{map-itself, map-same}
 use Rattle.walrus_model.proofs.TypeMaps.{sub-itself, val-itself, heap-itself}
-use Rattle.walrus_reading.specs.Taken.{HasTaken}
-use Rattle.walrus_reading.proofs.AllHeld.{Fits, all_fit}
-use Rattle.walrus_reading.proofs.Held.{HeldBody, HeldFunction, exported}
+use Rattle.walrus_reading.specs.Taken.{HasTaken, tag_types_of}
+use Rattle.walrus_reading.proofs.AllHeld.{Fits, all_fit, all_imported}
+use Rattle.walrus_reading.proofs.ChainHandlers.{HasHandlers, by_numbers, imported_turn, own_turn}
+use Rattle.walrus_reading.proofs.FoundTypes.{all_grown}
+use Rattle.walrus_reading.proofs.Held.{HeldBody, HeldFunction, exported, in_front}
+use Rattle.walrus_reading.proofs.Rows.{in_turn_append}
 use Rattle.walrus_model.proofs.Supported.{supported}
-use Rattle.walrus_contents.specs.View.{body, kind_of, kind_handlers, handlers_at, function, contents_view, data_of, element_of, global_of, import_of as import_of_value, memory_of, table_of, tag_of}
+use Rattle.walrus_contents.specs.View.{body, kind_of, handlers_at, function, contents_view, data_of, element_of, global_of, import_of as import_of_value, memory_of, table_of, tag_of}
 use Rattle.walrus_model.proofs.PipelineSame.{data_stays, element_stays, global_stays, import_stays, memory_stays, start_stays, table_stays, tag_stays}
 use Rattle.walrus_reading.specs.Held.{HoldsData, HoldsElement, HoldsGlobal, HoldsImport, HoldsMemory, HoldsTable, HoldsTag, memory_keeps, table_keeps}
-use Rattle.walrus_reading.specs.Placed.{AllPlaced}
+use Rattle.walrus_reading.specs.Placed.{AllPlaced, InTurn}
 use Rattle.walrus_reading.proofs.KeptSegments.{kept_seen, tables_seen}
 use Rattle.walrus_items.specs.Imports.{imports}
 use Rattle.walrus_items.specs.Globals.{globals}
@@ -66,7 +68,7 @@ use Rattle.walrus_items.specs.Tags.{tags}
 use Rattle.walrus_contents.specs.declared.parts.Contents.{Contents}
 use Rattle.walrus_contents.proofs.Lookups.{there}
 use Rattle.walrus_reading.proofs.Parsing.{used_below}
-use Rattle.walrus_contents.proofs.Steps.{type_there, zip_length}
+use Rattle.walrus_contents.proofs.Steps.{item_there, zip_length}
 use Rattle.wasm_frames.specs.Record as wire
 use Rattle.walrus_model.proofs.Standing.{none_there, some_inj, some_of, got_in}
 
@@ -175,12 +177,6 @@ module _ (moved : ℕ → ℕ → ℕ) where
 
 -- ---- slot by slot
 
--- an imported function has no handlers
-import_none : (all : ModuleLocals) (k : FunctionKind) (p : ℕ) → kind_of all k ≡ ImportedFunction p → kind_handlers k ≡ []
-import_none all (variants.Import i) p e = refl
-import_none all (variants.Local f) p e = absurd (cc)
-import_none all (variants.Uninitialized ty) p e = absurd (cc)
-
 module _ (c : Features) (r : wire.Module) (all : ModuleLocals) where
   abbrev Fit : Function → Option FunctionValue → Type 0
   Fit g slot = Fits c r all g slot
@@ -215,16 +211,12 @@ module _ (c : Features) (r : wire.Module) (all : ModuleLocals) where
       let found = held_at gs slots h.1 i (omega arith) in
       record { said = found.said; got = found.got; slot = found.slot; at = found.at; fits = found.fits; same = found.same }
 
-  no_handlers : (g : Function) (slot : Option FunctionValue) → Fit g slot → handlers_at slot ≡ []
-  no_handlers g slot (inl b) = ap handlers_at b.is ∙ import_none all b.value.kind b.by.0 (ap (λ (f : Function). f.kind) b.read ∙ b.by.1)
-  no_handlers g slot (inr o) = ap handlers_at o.holds.is ∙ ap kind_handlers o.holds.kind ∙ ap (map place) o.holds.body.handlers
-
-  none_handled : (gs : List Function) (slots : List (Option FunctionValue)) (i : ℕ) → AllZip Fit gs slots → handlers_at (item_at slots i) ≡ []
-  none_handled [] [] i h = refl
-  none_handled [] (s ∷ slots) i h = absurd h
-  none_handled (g ∷ gs) [] i h = absurd h
-  none_handled (g ∷ gs) (s ∷ slots) zero h = no_handlers g s h.0
-  none_handled (g ∷ gs) (s ∷ slots) (suc i) h = none_handled gs slots i h.1
+  past_handled : (gs : List Function) (slots : List (Option FunctionValue)) (i : ℕ) → AllZip Fit gs slots → length gs ≤ i → handlers_at (item_at slots i) ≡ []
+  past_handled [] [] i h le = refl
+  past_handled [] (s ∷ slots) i h le = absurd h
+  past_handled (g ∷ gs) [] i h le = absurd h
+  past_handled (g ∷ gs) (s ∷ slots) zero h le = absurd (omega (arith, le))
+  past_handled (g ∷ gs) (s ∷ slots) (suc i) h le = past_handled gs slots i h.1 (omega (arith, le))
 
   carried : (moved : ℕ → ℕ → ℕ) (i : ℕ) (g : Function) (slot : Option FunctionValue) (fits : Fit g slot) → moved i ≡ (λ n. first_of g slot fits + n) → BothAnd (SameFunction (moving moved) i) (Some g) (option_map (function all) slot)
   carried moved i g slot (inl b) at =
@@ -380,8 +372,22 @@ module _ (c : Features) (r : wire.Module) (x : Contents) (many : length r.bodies
       let as_many : length said ≡ length slots = zip_length (Fits c (supported r) all) said slots fit in
       there said i (omega (arith, lt, as_many))
 
-  type_at : (i : ℕ) → v.types i ≡ types_of r i
-  type_at i = type_there r x.types h.types i
+  -- ---- types: those that were read, and behind them those that were added
+
+  type_at : (i : ℕ) → v.types i ≡ slice_get h.types i
+  type_at i = ap (λ (l : List (Option TypeDef)). item_at l i) h.have_types ∙ item_there h.types i
+
+  type_stays : (i : ℕ) → i < length types → v.types i ≡ types_of r i
+  type_stays i lt =
+      let grown = all_grown (types_of r) (tag_types_of (supported r)) (zip r.functions h.bodies) h.functions.own.added types h.types h.handlers in
+      type_at i ∙ ap (λ (l : List TypeDef). slice_get l i) grown.1 ∙ in_front types grown.0 i lt
+
+  type_carried : (i : ℕ) → IsSome (M.types i) → BothAnd (SameType (λ k. k) i) (M.types i) (v.types i)
+  type_carried i live = subst (λ o. BothAnd (SameType (λ k. k) i) (types_of r i) o) (sym (type_stays i (got_within types i live))) (both_types i (types_of r i) live)
+
+  type_onto : (j : ℕ) (t : Bool) → nat_lt j (length types) ≡ t → IsSome (v.types j) → ((i : ℕ) × IsSome (M.types i) × (i ≡ j)) ⊎ IsBehind (length types) (Types, j)
+  type_onto j true lt live = inl (j, subst (λ o. IsSome o) (type_stays j (ltb-true j (length types) lt)) live, refl)
+  type_onto j false ge live = inr (refl, ltb-false j (length types) ge)
 
   -- ---- imports
 
@@ -393,23 +399,22 @@ module _ (c : Features) (r : wire.Module) (x : Contents) (many : length r.bodies
       let y = some_of (M.imports i) some in
       (y.0, y.1, named_live M y.0.item i ((imports_match (supported r) h.bodies [] []).imports i y.0 y.1))
 
-  -- ---- no handlers
+  from_zero : (n : ℕ) → 0 + n ≡ n
+  from_zero n = omega arith
 
-  handled : (f : ℕ) → v.handler_types f ≡ []
-  handled f = none_handled c (supported r) all said slots f fit
+  -- ---- handlers
 
-  module _ (none : (f : ℕ) (b : Body) → body_of M f ≡ Some b → handlers_of M b ≡ []) where
-    no_handler : (f : ℕ) (o : Option Body) → body_of M f ≡ o → handlers_by M o ≡ []
-    no_handler f None e = refl
-    no_handler f (Some b) e = none f b e
+  all_handlers : InTurn (HasHandlers M) said slots types h.types
+  all_handlers =
+      let brought : List Function = imported imported_function 0 r.imports in
+      let own : List Function = map (function_with r) (zip r.functions h.bodies) in
+      subst (λ (l : List (Option FunctionValue)). InTurn (HasHandlers M) (brought ++ own) l types h.types) (sym h.functions.own.behind)
+      (in_turn_append (HasHandlers M) brought h.functions.front own h.functions.own.added types types h.types
+      (imported_turn M all 0 brought h.functions.front types (all_imported 0 r.imports) h.functions.brings)
+      (own_turn (supported r) h.bodies (zip r.functions h.bodies) h.functions.own.added types h.types h.handlers))
 
-    adds : (fs : List ℕ) → AddsHandlers M v.handler_types fs types types
-    adds [] = NoFunction types
-    adds (f ∷ fs) =
-        let found : AreFoundOrAdded (handlers_by M (body_of M f)) types types (v.handler_types f) =
-        subst (λ ks. AreFoundOrAdded ks types types (v.handler_types f)) (sym (no_handler f (body_of M f) refl))
-        (subst (λ ps. AreFoundOrAdded [] types types ps) (sym (handled f)) (NoMore types)) in
-        AndThose f fs types types types found (adds fs)
+  adds : AddsHandlers M v.handler_types (range_with_len 0 (length said)) types h.types
+  adds = by_numbers M v.handler_types said slots 0 types h.types (λ i. ap (body_of M) (from_zero i)) (λ i. ap v.handler_types (from_zero i)) all_handlers
 
   -- ---- bodies
 
@@ -420,9 +425,6 @@ module _ (c : Features) (r : wire.Module) (x : Contents) (many : length r.bodies
       let one : k.said ≡ s.0 = some_inj k.said s.0 (sym k.got ∙ s.1) in
       whole_at c (supported r) all moved f a b k.said k.slot k.fits (ap further k.same) (ap (λ (g : Function). body_of_kind g.kind) one ∙ s.2)
       (sym (ap (λ (o : Option FunctionValue). body_of_function (option_map (function all) o)) k.at) ∙ is)
-
-  from_zero : (n : ℕ) → 0 + n ≡ n
-  from_zero n = omega arith
 
   -- ---- nothing is named
 
@@ -440,24 +442,21 @@ module _ (c : Features) (r : wire.Module) (x : Contents) (many : length r.bodies
         ∙ ap (λ names. or_else (last_name names) None) (unnamed y))
 
   -- ---- all of it; the producers of the module in memory are given
-  pub parsed : (config : Config) → config.synthetic_names ≡ false → ((f : ℕ) (b : Body) → body_of M f ≡ Some b → handlers_of M b ≡ []) → ((table segment : ℕ) → length (tables_of r) ≤ table → table_keeps (elements_of r) table segment ≡ false)
+  pub parsed : (config : Config) → config.synthetic_names ≡ false → ((table segment : ℕ) → length (tables_of r) ≤ table → table_keeps (elements_of r) table segment ≡ false)
       → ((memory segment : ℕ) → length (memories_of r) ≤ memory → memory_keeps (data_segments_of r) memory segment ≡ false)
       → v.producers ≡ produced [] → ParsedAs config M v
-  parsed config own_names none on_tables on_memories put_in = record {
+  parsed config own_names on_tables on_memories put_in = record {
     types = types;
     functions = length said;
-    all_types = types;
+    all_types = h.types;
     types_read = λ i. refl;
     functions_read = λ f. (got_within said f, there said f);
-    handlers = adds none (range_with_len 0 (length said));
+    handlers = adds;
     types_made = type_at;
-    no_handlers = λ f past. handled f;
+    no_handlers = λ f past. past_handled c (supported r) all said slots f fit past;
     renaming = moving moved;
     carried = record {
-      types = record {
-        same = λ i live. subst (λ o. BothAnd (SameType (λ k. k) i) (types_of r i) o) (sym (type_at i)) (both_types i (types_of r i) live);
-        onto = λ j live. inl (j, subst (λ o. IsSome o) (type_at j) live, refl);
-      };
+      types = record { same = type_carried; onto = λ j live. type_onto j (nat_lt j (length types)) refl live };
       imports = record {
         same = λ i live. subst (λ (o : Option Import). BothAnd (λ y z. z ≡ renamed_import (moving moved) y) (M.imports i) o) (sym (import_seen i))
             (both_same (λ y z. z ≡ renamed_import (moving moved) y) (M.imports i) (subst (λ (o : Option Import). IsSome o) (sym live.1) refl) (λ y. sym (import_stays (moving moved) (λ s n. refl) (λ n. refl) y)));

@@ -35,7 +35,6 @@ pub record HeldBody (slots : List (Option (ValType ℕ))) (ty : ℕ) (params : L
   pub parameters : map place f.args.items ≡ range_with_len first (length params)
   pub local_types : (x : ℕ) → x < length (params ++ body.0) → item_at slots (first + x) ≡ slice_get (params ++ body.0) x
   pub operators : body_of f ≡ map (moved_op first) body.1
-  pub handlers : f.handler_types.items ≡ []
 
 pub record HeldFunction (types : ℕ → Option TypeDef) (slots : List (Option (ValType ℕ))) (f : ℕ × Said) (slot : Option FunctionValue) : Type 0 where
   pub value : FunctionValue
@@ -55,7 +54,7 @@ item_some (x ∷ xs) (suc i) = item_some xs i
 past_front : {A : Type 0} (xs : List (Option A)) (ys : List A) (first x : ℕ) → length xs ≡ first → item_at (xs ++ map Some ys) (first + x) ≡ slice_get ys x
 past_front xs ys first x long = ap (λ (n : ℕ). item_at (xs ++ map Some ys) (n + x)) (sym long) ∙ get_or-append-add xs (map Some ys) x None ∙ item_some ys x
 
-in_front : {A : Type 0} (xs ys : List A) (x : ℕ) → x < length xs → slice_get (xs ++ ys) x ≡ slice_get xs x
+pub in_front : {A : Type 0} (xs ys : List A) (x : ℕ) → x < length xs → slice_get (xs ++ ys) x ≡ slice_get xs x
 in_front [] ys x lt = absurd (omega arith)
 in_front (y ∷ xs) ys zero lt = refl
 in_front (y ∷ xs) ys (suc x) lt = in_front xs ys x (omega arith)
@@ -96,7 +95,6 @@ module _ (types : ℕ → Option TypeDef) (all : List (Option (ValType ℕ))) wh
                 ∙ past_front (map Some front) (own ++ row ps) first x (length-map front Some ∙ long)
                 ∙ in_front own (row ps) x lt;
             operators = h.0.body.operators;
-            handlers = h.0.body.handlers;
           };
         },
         each_held (front ++ own) (id + 1) (first + length own) ps slots (is ∙ ap (map Some) (sym (append_assoc front own (row ps)))) (length-append front own ∙ ap (λ (n : ℕ). n + length own) long) h.1,

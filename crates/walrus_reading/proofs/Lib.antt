@@ -3,12 +3,14 @@ pub mod AllHeld
 pub mod BothTests
 pub mod Brought
 pub mod Carrying
+pub mod ChainHandlers
 pub mod DeclaredLocals
+pub mod FoundTypes
+pub mod Grown
 pub mod Held
 pub mod KeptSegments
 pub mod Locating
 pub mod NarrowRules
-pub mod NoHandlers
 pub mod Numbered
 pub mod Parsing
 pub mod Placed
@@ -18,5 +20,7 @@ pub mod Rows
 pub mod Stays
 pub mod StaysByRules
 pub mod SupportedOnly
+pub mod TagTypes
+pub mod TakenBefore
 pub mod TakenBody
 pub mod TakenSections

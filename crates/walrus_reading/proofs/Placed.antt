@@ -1,5 +1,5 @@
 -- What is held place by place: what is added, and that it sits at its own ids.
-use Rattle.std.proofs.Common.{◌≡◌, ℕ, zero, suc, Bool, ◌+◌, ◌<◌, ◌≤◌, List, [], ◌∷◌, ◌++◌, length, map, flat_map, take, get_or, refl, sym, ap, subst, ◌∙◌, arith, append-nil, length-append}
+use Rattle.std.proofs.Common.{◌≡◌, ℕ, zero, suc, Bool, ◌+◌, ◌<◌, ◌≤◌, List, [], ◌∷◌, ◌++◌, length, map, flat_map, take, get_or, refl, sym, ap, subst, ◌∙◌, arith, length-append}
 use Rattle.std.specs.Prelude.{Option, Some, None, zip}
 use Rattle.std.specs.List.{range_with_len}
 use Rattle.std.proofs.lemmas.List.{take_more, take_all, map-append}
@@ -31,10 +31,10 @@ use Rattle.walrus_reading.specs.Held.{HoldsData, HoldsElement, HoldsGlobal, Hold
 use Rattle.walrus_model.proofs.Standing.{some_inj}
 use Rattle.walrus_contents.specs.declared.parts.Contents.{Contents}
 use Rattle.walrus_contents.proofs.Lookups.{heads}
-use Rattle.walrus_reading.proofs.Rows.{adds_both, nothing_more, one_later, placed_own, placed_push}
+use Rattle.walrus_reading.proofs.Rows.{nothing_more, one_later, placed_own, placed_push}
 use Rattle.walrus_reading.specs.Parsed.{ItemsAtOwnIds}
 use Rattle.walrus_reading.specs.Placed.{AllPlaced}
-use Rattle.walrus_reading.specs.Taken.{AddsExport, AddsLocalsOf, HasTaken, HoldsExport, HoldsFunction, HoldsFunctions, HoldsLocal, HoldFunctions, locals_said}
+use Rattle.walrus_reading.specs.Taken.{AddsExport, HasTaken, HoldsExport, HoldsFunction, HoldsFunctions, HoldsLocal, HoldFunctions, locals_said}
 use Rattle.wasm_entries.specs.Record as entries
 use Rattle.wasm_entries.specs.declared.record.RawExport.{RawExport}
 use Rattle.wasm_frames.specs.Record as wire
@@ -48,22 +48,6 @@ new_placed k (i ∷ ids) [] e = absurd cc
 new_placed k (i ∷ ids) (t ∷ types) e =
     let parts = heads (place i) k (map place ids) (range_with_len (k + 1) (length types)) e in
     (record { local = new_local i t; is = refl; own_id = parts.0; typed = refl; unnamed = refl }, new_placed (k + 1) ids types parts.1)
-
-module _ (types : List DeclaredValType) where
-  pub adds_none : (old : List (Option Local)) → AddsLocalsOf (map val_type (take 0 types)) old old
-  adds_none old = ([], (sym (append-nil old), tt))
-
-  pub adds_all : (i : ℕ) (old new : List (Option Local)) → length types ≤ i → AddsLocalsOf (map val_type (take i types)) old new → AddsLocalsOf (map val_type types) old new
-  adds_all i old new le h = subst (λ (l : List DeclaredValType). AddsLocalsOf (map val_type l) old new) (take_all i types le) h
-
--- one more parameter
-pub adds_param : (first old new : List (Option Local)) (params : List DeclaredValType) (i : ℕ) (d : DeclaredValType) (id : Id LocalKey) → i < length params → AddsLocalsOf (map val_type (take i params)) first old
-    → place id ≡ length old → new ≡ old ++ Some (new_local id (get_or params i d)) ∷ [] → AddsLocalsOf (map val_type (take (i + 1) params)) first new
-adds_param first old new params i d id lt before at push =
-    let v : DeclaredValType = get_or params i d in
-    let more : map val_type (take (i + 1) params) ≡ map val_type (take i params) ++ val_type v ∷ [] = ap (map val_type) (take_more params i d lt) ∙ map-append val_type (take i params) (v ∷ []) in
-    let one : AddsLocalsOf (val_type v ∷ []) old new = (Some (new_local id v) ∷ [], (push, (record { local = new_local id v; is = refl; own_id = at; typed = refl; unnamed = refl }, tt))) in
-    subst (λ (l : List (ValType ℕ)). AddsLocalsOf l first new) (sym more) (adds_both HoldsLocal (map val_type (take i params)) (val_type v ∷ []) first old new before one)
 
 -- ---- functions
 

@@ -4,7 +4,7 @@ use Rattle.std.specs.Prelude.{All, Option, Some}
 use Rattle.std.proofs.lemmas.List.{take_more, take_all, map-append}
 use Rattle.walrus_base.specs.Arena.{item_at}
 use Rattle.walrus_contents.proofs.Taking.{mapped_all}
-use Rattle.walrus_reading.specs.Placed.{AddsPlaced, AllPlaced}
+use Rattle.walrus_reading.specs.Placed.{AddsPlaced, AllPlaced, InTurn}
 
 -- ---- what stands
 
@@ -101,3 +101,11 @@ module _ {A B : Type 0} (R : ℕ → A → B → Type 0) where
       → AddsPlaced R (map says (map entry raw)) first all
   all_twice entry says raw i first all le h =
       subst (λ (l : List A). AddsPlaced R l first all) (sym (map_twice entry says raw)) (all_done (λ x. says (entry x)) raw i first all le h)
+
+-- ---- what changes from one to the next
+
+pub in_turn_append : {A B S : Type 0} (R : A → B → S → S → Type 0) (xs : List A) (ys : List B) (us : List A) (vs : List B) (old middle new : S) → InTurn R xs ys old middle → InTurn R us vs middle new → InTurn R (xs ++ us) (ys ++ vs) old new
+in_turn_append {A} {B} {S} R [] [] us vs old middle new h more = subst (λ (s : S). InTurn R us vs s new) h more
+in_turn_append R [] (y ∷ ys) us vs old middle new h more = absurd h
+in_turn_append R (x ∷ xs) [] us vs old middle new h more = absurd h
+in_turn_append R (x ∷ xs) (y ∷ ys) us vs old middle new h more = (h.0, (h.1.0, in_turn_append R xs ys us vs h.0 middle new h.1.1 more))

@@ -1,121 +1,109 @@
 -- A function whose body was read, among the functions and locals of a module.
-use Rattle.std.proofs.Common.{◌≡◌, ℕ, zero, suc, ◌+◌, ◌<◌, ◌≤◌, List, [], ◌∷◌, ◌++◌, length, map, flat_map, take, get_or, refl, sym, ap, ap₂, subst, ◌∙◌, arith, append_assoc, append-nil, length-append}
-use Rattle.std.specs.Prelude.{Option, Some, None, Err, slice_get, zip}
+use Rattle.std.proofs.Common.{◌≡◌, ℕ, ◌+◌, ◌<◌, ◌≤◌, List, [], ◌∷◌, ◌++◌, length, map, flat_map, take, get_or, refl, sym, ap, ap₂, subst, ◌∙◌, arith, append_assoc, append-nil, length-append}
+use Rattle.std.specs.Prelude.{Option, Some, None, Result, Err, zip}
 use Rattle.std.specs.List.{AllZip, range_with_len}
 use Rattle.std.proofs.lemmas.Grind.{flat_map-append}
-use Rattle.std.proofs.lemmas.List.{length-map, get_or-map}
+use Rattle.std.proofs.lemmas.List.{length-map, get_or-map, map-append}
+use Rattle.walrus_base.specs.Arena.{item_at}
 use Rattle.walrus_base.specs.Id.{place}
 use Rattle.walrus_base.specs.Types.{ValType}
 use Rattle.walrus_types.specs.TypeDef.{TypeDef}
 use Rattle.walrus_types.specs.Value.{val_type}
 use Rattle.walrus_types.specs.declared.locals.Local.{Local}
 use Rattle.walrus_types.specs.declared.locals.ModuleLocals.{ModuleLocals}
-use Rattle.walrus_types.specs.declared.value.ValType.{ValType as DeclaredValType}
-use Rattle.walrus_code.specs.Code.{ops_of}
-use Rattle.walrus_code.specs.Function.{function_type}
+use Rattle.walrus_code.specs.Function.{body_of}
 use Rattle.walrus_code.specs.declared.error.IrError.{IrError}
 use Rattle.walrus_code.specs.declared.error.IrError.TheVariants.{Malformed, Memory, NoIndex, NotWritable, TooLarge}
 use Rattle.walrus_code.specs.declared.function.LocalFunction.{LocalFunction}
 use Rattle.walrus_bodies.specs.Body.{Context, BodyReads}
-use Rattle.walrus_bodies.specs.BodyRead.{body_locals, new_locals, BodyIsRead, ReadsBody}
-use Rattle.walrus_bodies.specs.declared.body.ReadBody.{ReadBody}
-use Rattle.walrus_functions.specs.Handlers.{params_of}
+use Rattle.walrus_bodies.specs.BodyRead.{new_locals}
+use Rattle.walrus_functions.specs.Handlers.{handlers_of, params_of}
 use Rattle.walrus_functions.specs.Laws.{moved_op}
-use Rattle.walrus_functions.specs.ReadFunction.{locals_from}
+use Rattle.walrus_functions.specs.ReadFunction.{AddsTypes, FunctionIsRead, ReadsFunction, Slots, locals_from}
 use Rattle.walrus_functions.proofs.LawMoves.{there, back}
 use Rattle.walrus_items.specs.Functions.{FunctionValue}
 use Rattle.walrus_parts.specs.declared.function_kind.FunctionKind.TheVariants as kind
 use Rattle.walrus_model.specs.Sections.{Said}
-use Rattle.walrus_reading.specs.Placed.{AllPlaced}
-use Rattle.walrus_reading.specs.Taken.{AddsLocalsOf, AreTaken, HoldsLocal, IsSaid, IsTaken, SaysUnder, TakesFunction, TakesFunctions, locals_said}
-use Rattle.walrus_reading.proofs.Placed.{held_push, new_placed}
-use Rattle.walrus_reading.proofs.Rows.{adds_both, placed_append, placed_length}
+use Rattle.walrus_contents.specs.View.{handlers_at}
 use Rattle.walrus_contents.proofs.Steps.{zip_push, zip_at, pair_at, pairs_long, pairs_more, pairs_all}
 use Rattle.walrus_parts.specs.Errors.{error_of_ir}
 use Rattle.walrus_parts.specs.declared.error.Error.{Error}
 use Rattle.walrus_parts.specs.declared.error.Error.TheVariants as Parts
+use Rattle.walrus_reading.specs.Placed.{AllPlaced}
+use Rattle.walrus_reading.specs.Taken.{AddsHandlersOf, AddsLocalsOf, AreTaken, HoldsLocal, IsSaid, IsTaken, SaysUnder, TakesFunction, TakesFunctions, locals_said}
+use Rattle.walrus_reading.proofs.Grown.{handlers_moved}
+use Rattle.walrus_reading.proofs.Placed.{held_push, new_placed}
+use Rattle.walrus_reading.proofs.Rows.{in_turn_append, placed_append, placed_length}
 use Rattle.wasm_frames.specs.declared.record.RawBody.{RawBody}
 use Rattle.wasm_frames.specs.Record as wire
 
--- ---- the indices of locals
-
-range_joined : (a n m : ℕ) → range_with_len a n ++ range_with_len (a + n) m ≡ range_with_len a (n + m)
-range_joined a zero m = let e : a + 0 ≡ a = omega arith in let f : m ≡ 0 + m = omega arith in ap (λ (k : ℕ). range_with_len k m) e ∙ ap (range_with_len a) f
-range_joined a (suc n) m =
-    let e : a + suc n ≡ a + 1 + n = omega arith in
-    let f : suc (n + m) ≡ suc n + m = omega arith in
-    ap (λ (l : List ℕ). a ∷ l) (ap (λ (k : ℕ). range_with_len (a + 1) n ++ range_with_len k m) e ∙ range_joined (a + 1) n m) ∙ ap (range_with_len a) f
-
-all_locals : (args : List ℕ) (first n behind m : ℕ) → args ≡ range_with_len first n → behind ≡ first + n → body_locals args behind m ≡ locals_from first (n + m)
-all_locals args first n behind m is at =
-    let look_up : List ℕ → ℕ → Option ℕ = λ l i. slice_get l i in
-    ap look_up (ap₂ (λ (l : List ℕ) (k : ℕ). l ++ range_with_len k m) is at ∙ range_joined first n m)
-
 -- ---- a function that is read
 
-module _ (c : Context) (types : ℕ → Option TypeDef) (f : ℕ × wire.Body) (old middle : List (Option Local)) (args : List ℕ) (params : List DeclaredValType)
-    (takes : params_of (types f.0) ≡ map val_type params) (placed : args ≡ range_with_len (length old) (length params)) (added : AddsLocalsOf (map val_type params) old middle) where
-  arity : length (params_of (types f.0)) ≡ length params
-  arity = ap length takes ∙ length-map params val_type
+module _ (c : Context) (tags : ℕ → Option ℕ) (f : ℕ × wire.Body) (ty : ℕ) (own : ty ≡ f.0) (old_types new_types : Slots) (old new : List (Option Local)) where
+  abbrev types : ℕ → Option TypeDef
+  types = item_at old_types.types
 
-  behind : length middle ≡ length old + length params
-  behind =
-      let whole : length middle ≡ length old + length added.0 = ap length added.1.0 ∙ length-append old added.0 in
-      let many : length params ≡ length added.0 = sym (length-map params val_type) ∙ placed_length HoldsLocal (length old) (map val_type params) added.0 added.1.1 in
-      omega (arith, whole, many)
+  abbrev Reads : ℕ → Result LocalFunction IrError → Type 0
+  Reads t result = ReadsFunction c tags t old_types new_types old new f.1.bytes result
 
-  same_locals : (n : ℕ) → body_locals args (length middle) n ≡ locals_from (length old) (length (params_of (types f.0)) + n)
-  same_locals n = all_locals args (length old) (length params) (length middle) n placed behind ∙ ap (λ (k : ℕ). locals_from (length old) (k + n)) (sym arity)
-
-  pub not_taken : (new all : List (Option Local)) (before after : List (Option FunctionValue)) (e : IrError) → ReadsBody c args middle new f.1.bytes (Err e) → TakesFunction c types f old all before after (Err (error_of_ir e))
-  not_taken new all before after Malformed h = λ said read.
+  pub not_taken : (before after : List (Option FunctionValue)) (e : IrError) → ReadsFunction c tags ty old_types new_types old new f.1.bytes (Err e) → TakesFunction c (item_at old_types.types) tags f old_types new_types old new before after (Err (error_of_ir e))
+  not_taken before after Malformed h = λ said read.
       let count = length (params_of (types f.0)) + length said.0 in
-      let moved : BodyReads c (locals_from (length old) count) f.1.bytes said.0 (map (moved_op (length old)) said.1) = there c (length old) count f.1.bytes said.0 said.1 read in
-      h said.0 (map (moved_op (length old)) said.1) (subst (λ (l : ℕ → Option ℕ). BodyReads c l f.1.bytes said.0 (map (moved_op (length old)) said.1)) (sym (same_locals (length said.0))) moved)
-  not_taken new all before after (Memory m) h = tt
-  not_taken new all before after NoIndex h = absurd h
-  not_taken new all before after NotWritable h = absurd h
-  not_taken new all before after TooLarge h = absurd h
+      (subst (λ t. Reads t (Err Malformed)) own h) said.0 (map (moved_op (length old)) said.1) (there c (length old) count f.1.bytes said.0 said.1 read)
+  not_taken before after (Memory m) h = tt
+  not_taken before after NoIndex h = absurd h
+  not_taken before after NotWritable h = absurd h
+  not_taken before after TooLarge h = absurd h
 
-  module _ (new : List (Option Local)) (body : ReadBody) (is : BodyIsRead c args middle new f.1.bytes body) where
+  module _ (g : LocalFunction) (is : FunctionIsRead c tags f.0 old_types new_types old new f.1.bytes g) where
+    arity : length (params_of (types f.0)) ≡ length is.params
+    arity = ap length (sym is.takes) ∙ length-map is.params val_type
+
     -- the declared locals stand behind the parameters
-    all_added : AddsLocalsOf (params_of (types f.0) ++ map val_type is.types) old new
+    all_added : AddsLocalsOf (params_of (types f.0) ++ map val_type is.declared) old new
     all_added =
-        let declared : AddsLocalsOf (map val_type is.types) middle new = (new_locals body.declared.items is.types, (is.added.added, new_placed (length middle) body.declared.items is.types is.added.places)) in
-        subst (λ (l : List (ValType ℕ)). AddsLocalsOf (l ++ map val_type is.types) old new) (sym takes) (adds_both HoldsLocal (map val_type params) (map val_type is.types) old middle new added declared)
+        let row : map val_type (is.params ++ is.declared) ≡ params_of (types f.0) ++ map val_type is.declared = map-append val_type is.params is.declared ∙ ap (λ (l : List (ValType ℕ)). l ++ map val_type is.declared) is.takes in
+        subst (λ (l : List (ValType ℕ)). AddsLocalsOf l old new) row
+        (new_locals is.ids (is.params ++ is.declared), (is.added.added, new_placed (length old) is.ids (is.params ++ is.declared) is.added.places))
 
-    pub taken : (g : LocalFunction) (id : ℕ) (slot : Option FunctionValue) → slot ≡ Some (record { id = id; kind = kind.Local g; name = None }) → place (function_type g) ≡ f.0 → map place g.args.items ≡ args → ops_of g.operators.items ≡ ops_of body.operators.items
-        → g.handler_types.items ≡ [] → g.name ≡ None → IsTaken c types id old new f slot
-    taken g id slot here of_type with_args with_ops no_handlers unnamed =
-        let count : length (map val_type is.types) ≡ length is.types = length-map is.types val_type in
-        let reach : body_locals args (length middle) (length is.types) ≡ locals_from (length old) (length (params_of (types f.0)) + length (map val_type is.types)) =
-        same_locals (length is.types) ∙ ap (λ (k : ℕ). locals_from (length old) (length (params_of (types f.0)) + k)) (sym count) in
-        let read : BodyReads c (locals_from (length old) (length (params_of (types f.0)) + length (map val_type is.types))) f.1.bytes (map val_type is.types) (ops_of body.operators.items) =
-        subst (λ (l : ℕ → Option ℕ). BodyReads c l f.1.bytes (map val_type is.types) (ops_of body.operators.items)) reach is.reads in
-        let from = back c (length old) (length (params_of (types f.0)) + length (map val_type is.types)) f.1.bytes (map val_type is.types) (ops_of body.operators.items) read in
+    read_there : BodyReads c (locals_from (length old) (length (params_of (types f.0)) + length (map val_type is.declared))) f.1.bytes (map val_type is.declared) (body_of g)
+    read_there =
+        let many : length is.params + length is.declared ≡ length (params_of (types f.0)) + length (map val_type is.declared) = omega (arith, arity, length-map is.declared val_type) in
+        subst (λ (n : ℕ). BodyReads c (locals_from (length old) n) f.1.bytes (map val_type is.declared) (body_of g)) many is.reads
+
+    taken_as : (id : ℕ) (slot : Option FunctionValue) → slot ≡ Some (record { id = id; kind = kind.Local g; name = None }) → IsTaken c (item_at old_types.types) tags id old_types new_types old new f slot
+    taken_as id slot here =
+        let from = back c (length old) (length (params_of (types f.0)) + length (map val_type is.declared)) f.1.bytes (map val_type is.declared) (body_of g) read_there in
+        let needs : handlers_of (item_at old_types.types) tags (body_of g) ≡ handlers_of (item_at old_types.types) tags from.0 =
+        ap (handlers_of (item_at old_types.types) tags) from.1.1 ∙ handlers_moved (item_at old_types.types) tags (length old) from.0 in
         record {
-          said = (map val_type is.types, from.0);
+          said = (map val_type is.declared, from.0);
           read = from.1.0;
           held = record {
             local = g;
             is = here;
             body = record {
-              typed = of_type;
-              parameters = with_args ∙ placed ∙ ap (range_with_len (length old)) (sym arity);
-              operators = with_ops ∙ from.1.1;
-              handlers = no_handlers;
-              unnamed = unnamed;
+              typed = is.own_type;
+              parameters = is.parameters ∙ ap (range_with_len (length old)) (sym arity);
+              operators = from.1.1;
+              unnamed = is.unnamed;
             };
           };
           added = all_added;
+          handlers = subst (λ (o : Option FunctionValue). AddsTypes (handlers_of (item_at old_types.types) tags from.0) old_types new_types (handlers_at o)) (sym here)
+              (subst (λ fs. AddsTypes fs old_types new_types (map place g.handler_types.items)) needs is.handlers);
         }
+
+  pub taken : (g : LocalFunction) → FunctionIsRead c tags ty old_types new_types old new f.1.bytes g → (id : ℕ) (slot : Option FunctionValue) → slot ≡ Some (record { id = id; kind = kind.Local g; name = None })
+      → IsTaken c (item_at old_types.types) tags id old_types new_types old new f slot
+  taken g is id slot here = taken_as g (subst (λ t. FunctionIsRead c tags t old_types new_types old new f.1.bytes g) own is) id slot here
 
 -- ---- one function after another
 
 -- one more function behind those that are taken
-more_taken : (c : Context) (types : ℕ → Option TypeDef) (fs : List (ℕ × wire.Body)) (all new : List (Option Local)) (old slots after : List (Option FunctionValue)) (f : ℕ × wire.Body) (slot : Option FunctionValue)
-    → AreTaken c types fs all old slots → after ≡ slots ++ slot ∷ [] → IsTaken c types (length slots) all new f slot → AreTaken c types (fs ++ f ∷ []) new old after
-more_taken c types fs all new old slots after f slot done push t =
+more_taken : (c : Context) (types : ℕ → Option TypeDef) (tags : ℕ → Option ℕ) (first now next : Slots) (fs : List (ℕ × wire.Body)) (all new : List (Option Local)) (old slots after : List (Option FunctionValue)) (f : ℕ × wire.Body) (slot : Option FunctionValue)
+    → AreTaken c types tags fs all first now old slots → after ≡ slots ++ slot ∷ [] → IsTaken c types tags (length slots) now next all new f slot → AreTaken c types tags (fs ++ f ∷ []) new first next old after
+more_taken c types tags first now next fs all new old slots after f slot done push t =
     let p : ℕ × Said = (f.0, t.said) in
     let own : List (ValType ℕ) = locals_said types p in
     let added : List (Option FunctionValue) = done.functions.added in
@@ -134,9 +122,10 @@ more_taken c types fs all new old slots after f slot done push t =
       };
       locals = subst (λ (l : List (Option Local)). AllPlaced HoldsLocal 0 (flat_map (locals_said types) (done.said ++ p ∷ [])) l) (sym t.added.1.0)
           (subst (λ (ts : List (ValType ℕ)). AllPlaced HoldsLocal 0 ts (all ++ t.added.0)) (sym row) placed);
+      handlers = in_turn_append (AddsHandlersOf types tags) done.said added (p ∷ []) (slot ∷ []) first now next done.handlers (next, (t.handlers, refl));
     }
 
-module _ (c : Context) (types : ℕ → Option TypeDef) (fs : List ℕ) (raw : List RawBody) (many : length raw ≡ length fs) where
+module _ (c : Context) (types : ℕ → Option TypeDef) (tags : ℕ → Option ℕ) (fs : List ℕ) (raw : List RawBody) (many : length raw ≡ length fs) where
   abbrev pairs : List (ℕ × wire.Body)
   pairs = zip fs (map wire.body_record raw)
 
@@ -146,37 +135,37 @@ module _ (c : Context) (types : ℕ → Option TypeDef) (fs : List ℕ) (raw : L
   body_at : (i : ℕ) (e : RawBody) → i < length fs → get_or (map wire.body_record raw) i (wire.body_record e) ≡ wire.body_record (get_or raw i e)
   body_at i e lt = get_or-map wire.body_record raw i e (wire.body_record e) (omega (arith, lt, many))
 
-  pub none_taken : (all : List (Option Local)) (old slots : List (Option FunctionValue)) → all ≡ [] → slots ≡ old → AreTaken c types (take 0 (zip fs (map wire.body_record raw))) all old slots
-  none_taken all old slots no_locals same =
-      subst (λ (l : List (Option Local)). AreTaken c types [] l old slots) (sym no_locals)
-      (record { said = []; read = tt; functions = record { added = []; behind = same ∙ sym (append-nil old); held = tt }; locals = tt })
+  pub none_taken : (first : Slots) (all : List (Option Local)) (old slots : List (Option FunctionValue)) → all ≡ [] → slots ≡ old → AreTaken c types tags (take 0 (zip fs (map wire.body_record raw))) all first first old slots
+  none_taken first all old slots no_locals same =
+      subst (λ (l : List (Option Local)). AreTaken c types tags [] l first first old slots) (sym no_locals)
+      (record { said = []; read = tt; functions = record { added = []; behind = same ∙ sym (append-nil old); held = tt }; locals = tt; handlers = refl })
 
   -- one more function is taken
-  pub one_more : (i : ℕ) (d : ℕ) (e : RawBody) (all new : List (Option Local)) (old before after : List (Option FunctionValue)) → i < length fs
-      → AreTaken c types (take i (zip fs (map wire.body_record raw))) all old before
-      → (slot : Option FunctionValue) → after ≡ before ++ slot ∷ [] → IsTaken c types (length before) all new (get_or fs i d, wire.body_record (get_or raw i e)) slot
-      → AreTaken c types (take (i + 1) (zip fs (map wire.body_record raw))) new old after
-  one_more i d e all new old before after lt done slot push is =
+  pub one_more : (i : ℕ) (d : ℕ) (e : RawBody) (first now next : Slots) (all new : List (Option Local)) (old before after : List (Option FunctionValue)) → i < length fs
+      → AreTaken c types tags (take i (zip fs (map wire.body_record raw))) all first now old before
+      → (slot : Option FunctionValue) → after ≡ before ++ slot ∷ [] → IsTaken c types tags (length before) now next all new (get_or fs i d, wire.body_record (get_or raw i e)) slot
+      → AreTaken c types tags (take (i + 1) (zip fs (map wire.body_record raw))) new first next old after
+  one_more i d e first now next all new old before after lt done slot push is =
       let more : take (i + 1) pairs ≡ take i pairs ++ (get_or fs i d, wire.body_record (get_or raw i e)) ∷ [] =
       pairs_more fs (map wire.body_record raw) i d (wire.body_record e) as_many lt ∙ ap (λ (b : wire.Body). take i pairs ++ (get_or fs i d, b) ∷ []) (body_at i e lt) in
-      subst (λ (l : List (ℕ × wire.Body)). AreTaken c types l new old after) (sym more)
-      (more_taken c types (take i pairs) all new old before after (get_or fs i d, wire.body_record (get_or raw i e)) slot done push is)
+      subst (λ (l : List (ℕ × wire.Body)). AreTaken c types tags l new first next old after) (sym more)
+      (more_taken c types tags first now next (take i pairs) all new old before after (get_or fs i d, wire.body_record (get_or raw i e)) slot done push is)
 
   -- all are
-  pub all_taken : (i : ℕ) (all : List (Option Local)) (old after : List (Option FunctionValue)) → length fs ≤ i → AreTaken c types (take i (zip fs (map wire.body_record raw))) all old after → AreTaken c types (zip fs (map wire.body_record raw)) all old after
-  all_taken i all old after le done = subst (λ (l : List (ℕ × wire.Body)). AreTaken c types l all old after) (pairs_all fs (map wire.body_record raw) i as_many le) done
+  pub all_taken : (i : ℕ) (first now : Slots) (all : List (Option Local)) (old after : List (Option FunctionValue)) → length fs ≤ i → AreTaken c types tags (take i (zip fs (map wire.body_record raw))) all first now old after → AreTaken c types tags (zip fs (map wire.body_record raw)) all first now old after
+  all_taken i first now all old after le done = subst (λ (l : List (ℕ × wire.Body)). AreTaken c types tags l all first now old after) (pairs_all fs (map wire.body_record raw) i as_many le) done
 
   -- one isn't
-  pub one_refused : (i : ℕ) (d : ℕ) (e : RawBody) (old new : List (Option Local)) (others : ModuleLocals) (before after first last : List (Option FunctionValue)) (error : Error) → i < length fs
-      → TakesFunction c types (get_or fs i d, wire.body_record (get_or raw i e)) old new before after (Err error) → TakesFunctions c types (zip fs (map wire.body_record raw)) others first last (Err error)
-  one_refused i d e old new others before after first last (Parts.Memory m) lt h = tt
-  one_refused i d e old new others before after first last (Parts.InvalidWasm kind) lt h = λ saids are.
+  pub one_refused : (i : ℕ) (d : ℕ) (e : RawBody) (now next : Slots) (old new : List (Option Local)) (others : ModuleLocals) (early late : Slots) (before after first last : List (Option FunctionValue)) (error : Error) → i < length fs
+      → TakesFunction c types tags (get_or fs i d, wire.body_record (get_or raw i e)) now next old new before after (Err error) → TakesFunctions c types tags (zip fs (map wire.body_record raw)) others early late first last (Err error)
+  one_refused i d e now next old new others early late before after first last (Parts.Memory m) lt h = tt
+  one_refused i d e now next old new others early late before after first last (Parts.InvalidWasm kind) lt h = λ saids are.
       let long : length pairs ≡ length fs = pairs_long fs (map wire.body_record raw) as_many in
       let at = zip_at (SaysUnder c types) pairs saids i (d, wire.body_record e) are (omega (arith, lt, long)) in
       let here : get_or pairs i (d, wire.body_record e) ≡ (get_or fs i d, wire.body_record (get_or raw i e)) =
       pair_at fs (map wire.body_record raw) i d (wire.body_record e) as_many lt ∙ ap (λ (b : wire.Body). (get_or fs i d, b)) (body_at i e lt) in
       h at.0 (subst (λ (f : ℕ × wire.Body). SaysUnder c types f at.0) here at.1)
-  one_refused i d e old new others before after first last _ lt h = absurd h
+  one_refused i d e now next old new others early late before after first last _ lt h = absurd h
 
 -- ---- what they say
 

@@ -1,9 +1,17 @@
 -- What a module holds of the imports that were read: them, and what each brings to its index space.
-use Rattle.std.specs.Prelude.{ℕ, [], ◌∷◌, List, length, option_to_list, ◌≡◌}
+use Rattle.std.specs.Prelude.{ℕ, [], ◌∷◌, All, List, length, map, None, option_to_list, Some, ◌≡◌}
 use Rattle.wasm_entries.specs.declared.record.RawDesc.{RawDesc}
 use Rattle.wasm_entries.specs.declared.record.RawDesc.TheVariants as descs
 use Rattle.wasm_entries.specs.Record as entries
+use Rattle.wasm_frames.specs.Record as wire
+use Rattle.walrus_types.specs.Locals.{locals}
+use Rattle.walrus_types.specs.ModuleTypes.{type_names, type_slots}
 use Rattle.walrus_types.specs.Operators.{Functions, Tables, Memories, Tags, Globals, Item}
+use Rattle.walrus_groups.specs.Groups.{types_from}
+use Rattle.walrus_producers.specs.Seen.{producers}
+use Rattle.walrus_items.specs.Data.{data_segments}
+use Rattle.walrus_items.specs.Elements.{elements}
+use Rattle.walrus_items.specs.Exports.{exports}
 use Rattle.walrus_items.specs.Functions.{functions}
 use Rattle.walrus_items.specs.Imports.{imports}
 use Rattle.walrus_items.specs.Globals.{globals}
@@ -24,6 +32,17 @@ pub record HoldsImports (raw : List entries.Import) (m : Contents) : Type 0 wher
   pub memories : AllPlaced (HoldsMemory none_kept) 0 (imported imported_memory 0 raw) (memories m.memories)
   pub tags : AllPlaced HoldsTag 0 (imported imported_tag 0 raw) (tags m.tags)
   pub globals : AllPlaced HoldsGlobal 0 (imported imported_global 0 raw) (globals m.globals)
+
+-- the types and what imports bring, and nothing else; no type has a name
+pub record HoldsImported (r : wire.Module) (m : Contents) : Type 0 where
+  pub types : type_slots m.types ≡ map Some (types_from 0 r.types)
+  pub type_names : All (λ name. name ≡ Some None) (type_names m.types)
+  pub brought : HoldsImports r.imports m
+  pub locals : locals m.locals ≡ []
+  pub elements : elements m.elements ≡ []
+  pub data_segments : data_segments m.data_ ≡ []
+  pub exports : exports m.exports ≡ []
+  pub producers : producers m.producers ≡ []
 
 -- all else stays
 pub record SameOthers (old new : Contents) : Type 0 where

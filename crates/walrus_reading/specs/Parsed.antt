@@ -1,6 +1,6 @@
 -- What parsing gives, and when it refuses.
 use Rattle.wasm_frames.specs.Record as wire
-use Rattle.std.specs.Prelude.{ℕ, Bool, List, false, zip, ◌≡◌, ⊤}
+use Rattle.std.specs.Prelude.{ℕ, List, false, zip, ◌≡◌, ⊤}
 use Rattle.walrus_model.specs.Abstract.{Abstract}
 use Rattle.walrus_model.specs.Config.{Config}
 use Rattle.walrus_rules.specs.Chain.{ParsedAs}
@@ -28,14 +28,9 @@ use Rattle.wasm_wire.specs.Rules.{Rules}
 use Rattle.walrus_parts.specs.declared.error.Error.{Error}
 use Rattle.walrus_parts.specs.declared.error.Error.TheVariants.{Memory, InvalidWasm}
 
--- the proposals that bodies may use so far, where wide arithmetic may be refused: legacy exceptions aren't read
-abbrev pub features_so_far : (only_stable : Bool) → Features
-features_so_far only_stable = record { legacy_exceptions = false; only_stable = only_stable }
-
--- a configuration with these features that gives no names: names aren't read so far, and neither are legacy exceptions
+-- a configuration with these features that gives no names: names aren't read so far
 pub record IsReadWith (c : Config) (features : Features) : Type 0 where
   pub features_are : features ≡ features_of c
-  pub no_handlers : c.legacy_exceptions ≡ false
   pub no_names : c.synthetic_names ≡ false
 
 -- the bytes read as a module that keeps the rules, and v is that module in memory

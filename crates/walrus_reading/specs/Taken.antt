@@ -1,28 +1,33 @@
 -- What the fields of a module hold of the sections that were read.
-use Rattle.std.specs.Prelude.{ℕ, ◌+◌, All, List, [], ◌∷◌, ◌++◌, map, flat_map, zip, Option, Some, None, length, drop, ◌≡◌, Result, Ok, Err, option_map}
+use Rattle.std.specs.Prelude.{ℕ, ◌+◌, ◌<◌, All, List, [], ◌∷◌, ◌++◌, map, flat_map, zip, Option, Some, None, length, drop, slice_get, ◌≡◌, Result, Ok, Err, option_map}
 use Rattle.std.specs.List.{AllZip, range_with_len}
 use Rattle.walrus_base.specs.Arena.{item_at}
 use Rattle.walrus_base.specs.Id.{place}
 use Rattle.walrus_base.specs.Types.{ValType}
 use Rattle.walrus_types.specs.Locals.{locals, local_place, local_type}
+use Rattle.walrus_types.specs.Composite.{function_comp}
 use Rattle.walrus_types.specs.ModuleTypes.{type_names, type_slots}
+use Rattle.walrus_types.specs.Operators.{Types}
 use Rattle.walrus_types.specs.TypeDef.{TypeDef}
 use Rattle.walrus_types.specs.Value.{val_type}
 use Rattle.walrus_types.specs.declared.locals.Local.{Local as LocalItem}
 use Rattle.walrus_types.specs.declared.locals.ModuleLocals.{ModuleLocals}
+use Rattle.walrus_types.specs.declared.module_types.ModuleTypes.{ModuleTypes}
 use Rattle.walrus_code.specs.Function.{function_type, body_of}
 use Rattle.walrus_code.specs.declared.function.LocalFunction.{LocalFunction}
 use Rattle.walrus_code.specs.Location.{location, location_at}
 use Rattle.walrus_code.specs.declared.location.InstrLocId.{InstrLocId}
 use Rattle.walrus_bodies.specs.BodyRead.{BodyLocated}
 use Rattle.walrus_bodies.specs.Results.{locations}
-use Rattle.walrus_functions.specs.Handlers.{params_of}
+use Rattle.walrus_functions.specs.Handlers.{handlers_of, params_of}
 use Rattle.walrus_functions.specs.Laws.{moved_op}
-use Rattle.walrus_functions.specs.ReadFunction.{locals_from}
+use Rattle.walrus_functions.specs.ReadFunction.{AddsTypes, Slots, locals_from}
+use Rattle.walrus_functions.specs.Signatures.{tag_places}
 use Rattle.walrus_bodies.specs.Body.{Context, context, BodyReads}
 use Rattle.walrus_bodies.specs.FunctionTypes.{is_function_at}
 use Rattle.walrus_bodies.specs.declared.features.Features.{Features}
 use Rattle.walrus_code.specs.Indices.{ids_at}
+use Rattle.walrus_code.specs.Names.{Lookup}
 use Rattle.walrus_items.specs.Exports.{ExportValue, exports}
 use Rattle.walrus_items.specs.Functions.{FunctionValue, functions}
 use Rattle.walrus_parts.specs.declared.function_kind.FunctionKind.TheVariants.{Local}
@@ -38,9 +43,10 @@ use Rattle.walrus_items.specs.Tags.{tags}
 use Rattle.walrus_model.specs.Abstract.{Function}
 use Rattle.walrus_model.specs.Sections.{Said, imported, imported_function, imports_after, types_of, export_of, tables_of, memories_of, tags_of, globals_of, elements_of, data_segments_of}
 use Rattle.walrus_reading.specs.Held.{HoldsData, HoldsElement, HoldsGlobal, HoldsImport, HoldsImportedFunction, HoldsMemory, HoldsTable, HoldsTag, memory_keeps, table_keeps}
+use Rattle.walrus_rules.specs.Chain.{AreFoundOrAdded}
 use Rattle.walrus_contents.specs.View as view
 use Rattle.walrus_contents.specs.declared.parts.Contents.{Contents}
-use Rattle.walrus_reading.specs.Placed.{AddsPlaced, AllPlaced}
+use Rattle.walrus_reading.specs.Placed.{AddsPlaced, AllPlaced, InTurn}
 use Rattle.walrus_reading.specs.declared.contents.Under.{Under}
 use Rattle.wasm_entries.specs.Record as entries
 use Rattle.wasm_frames.specs.Record as wire
@@ -54,12 +60,11 @@ abbrev pub locals_said : (types : ℕ → Option TypeDef) → ℕ × Said → Li
 locals_said types f = params_of (types f.0) ++ f.1.0
 
 -- A function of this type holds the body that was read: so many parameters are its locals from the first one on, and its operators name its
--- locals there. It has neither handlers nor a name.
+-- locals there. It has no name.
 pub record HoldsBody (first ty arity : ℕ) (body : Said) (f : LocalFunction) : Type 0 where
   pub typed : place (function_type f) ≡ ty
   pub parameters : map place f.args.items ≡ range_with_len first arity
   pub operators : body_of f ≡ map (moved_op first) body.1
-  pub handlers : f.handler_types.items ≡ []
   pub unnamed : f.name ≡ None
 
 -- a slot holds, with this id, a function of this type with the body that was read
@@ -74,6 +79,14 @@ HoldFunctions types id first [] [] = Unit {0}
 HoldFunctions types id first [] (slot ∷ slots) = ⊥
 HoldFunctions types id first (f ∷ fs) [] = ⊥
 HoldFunctions types id first (f ∷ fs) (slot ∷ slots) = HoldsFunction types id first f slot × HoldFunctions types (id + 1) (first + length (locals_said types f)) fs slots
+
+-- the types of the tags, by their places
+abbrev pub tag_types_of : wire.Module → ℕ → Option ℕ
+tag_types_of r tag = option_map (λ t. t.ty) (slice_get (tags_of r) tag)
+
+-- each type that the legacy handlers of a body need is found, or added behind the others, and a slot holds a function with the places of these
+abbrev pub HoldsHandlers : (types : ℕ → Option TypeDef) (tags : ℕ → Option ℕ) → ℕ × Said → Option FunctionValue → (old new : List TypeDef) → Type 0
+HoldsHandlers types tags f slot old new = AreFoundOrAdded (map function_comp (handlers_of types tags f.1.1)) old new (view.handlers_at slot)
 
 -- a slot holds, with this id, a local of this type
 pub record HoldsLocal (id : ℕ) (type : ValType ℕ) (slot : Option LocalItem) : Type 0 where
@@ -119,13 +132,16 @@ abbrev pub AreLocatedIn : wire.Module → List (Option FunctionValue) → Type 0
 AreLocatedIn r slots = AllZip IsLocated r.bodies (drop (length (imported imported_function 0 r.imports)) slots)
 
 -- The module holds these sections, whose bodies say this: the imports, the items of each index space and the exports in their order, the start
--- function, and the locals of all functions, function by function; nothing else. No type has a name.
+-- function, the types that legacy handlers need beside those that were read, and the locals of all functions, both function by function; nothing
+-- else. No type has a name.
 pub record HasTaken (features : Features) (r : wire.Module) (m : Contents) : Type 0 where
   pub bodies : List Said
   pub read : AllZip (ReadsBodyWith features r) (zip r.functions r.bodies) bodies
-  pub types : type_slots m.types ≡ map Some (types_from 0 r.types)
+  pub types : List TypeDef
+  pub have_types : type_slots m.types ≡ map Some types
   pub type_names : All (λ name. name ≡ Some None) (type_names m.types)
   pub functions : HoldsFunctions (types_of r) (imported imported_function 0 r.imports) (zip r.functions bodies) (functions m.funcs)
+  pub handlers : InTurn (HoldsHandlers (types_of r) (tag_types_of r)) (zip r.functions bodies) functions.own.added (types_from 0 r.types) types
   pub locals : AllPlaced HoldsLocal 0 (flat_map (locals_said (types_of r)) (zip r.functions bodies)) (locals m.locals)
   pub exports : AllPlaced HoldsExport 0 r.exports (exports m.exports)
   pub start : option_map place m.start ≡ r.start
@@ -146,12 +162,21 @@ TakesSections features r (Err _) = ⊥
 
 -- ---- for the functions inside
 
--- what a body may name, and the types by their places
-abbrev pub context_under : Under → Context
-context_under u = context (ids_at u.indices.now) (is_function_at u.types.now) u.features.now
+-- what a body may name under these types, and the types of tags by their places
+abbrev pub context_under : Under → ModuleTypes → Context
+context_under u types = context (ids_at u.indices.now) (is_function_at types) u.features.now
 
-abbrev pub types_under : Under → ℕ → Option TypeDef
-types_under u = item_at (type_slots u.types.now)
+abbrev pub tags_under : Under → ℕ → Option ℕ
+tags_under u = tag_places u.tag_types.now
+
+-- the types by their places
+abbrev pub types_in : ModuleTypes → ℕ → Option TypeDef
+types_in types = item_at (type_slots types)
+
+-- what the indices of types lead to is there, and so are the types of tags
+pub record AreThere (names : Lookup) (tags : ℕ → Option ℕ) (slots : List (Option TypeDef)) : Type 0 where
+  pub indexed : (t found : ℕ) → names Types t ≡ Some found → found < length slots
+  pub of_tags : (tag ty : ℕ) → tags tag ≡ Some ty → ty < length slots
 
 -- the bytes of the body of a function of this type say this, as far as the types are known by their places
 abbrev pub SaysUnder : Context → (ℕ → Option TypeDef) → ℕ × wire.Body → Said → Type 0
@@ -165,23 +190,30 @@ AddsLocalsOf types old new = AddsPlaced HoldsLocal types old new
 abbrev pub AddsExport : entries.Export → (old new : List (Option ExportValue)) → Type 0
 AddsExport e old new = (slot : Option ExportValue) × ((new ≡ old ++ slot ∷ []) × HoldsExport (length old) e slot)
 
--- the body is read, a slot holds the function, and its locals are added
-pub record IsTaken (c : Context) (types : ℕ → Option TypeDef) (id : ℕ) (old new : List (Option LocalItem)) (f : ℕ × wire.Body) (slot : Option FunctionValue) : Type 0 where
+-- the types that the handlers of a body need are found or added, and a slot holds a function with their places
+abbrev pub AddsHandlersOf : (types : ℕ → Option TypeDef) (tags : ℕ → Option ℕ) → ℕ × Said → Option FunctionValue → (old new : Slots) → Type 0
+AddsHandlersOf types tags f slot old new = AddsTypes (handlers_of types tags f.1.1) old new (view.handlers_at slot)
+
+-- the body is read, a slot holds the function, its locals are added, and the types of its handlers found or added
+pub record IsTaken (c : Context) (types : ℕ → Option TypeDef) (tags : ℕ → Option ℕ) (id : ℕ) (old_types new_types : Slots) (old new : List (Option LocalItem)) (f : ℕ × wire.Body) (slot : Option FunctionValue) : Type 0 where
   pub said : Said
   pub read : SaysUnder c types f said
   pub held : HoldsFunction types id (length old) (f.0, said) slot
   pub added : AddsLocalsOf (locals_said types (f.0, said)) old new
+  pub handlers : AddsHandlersOf types tags (f.0, said) slot old_types new_types
 
 -- a function's type and what its body says
 abbrev pub IsSaid : Context → (ℕ → Option TypeDef) → ℕ × wire.Body → ℕ × Said → Type 0
 IsSaid c types f said = (said.0 ≡ f.0) × SaysUnder c types f said.1
 
--- the bodies are read, and the functions stand behind the others; their locals are all that there are
-pub record AreTaken (c : Context) (types : ℕ → Option TypeDef) (fs : List (ℕ × wire.Body)) (all : List (Option LocalItem)) (old new : List (Option FunctionValue)) : Type 0 where
+-- the bodies are read, and the functions stand behind the others; their locals are all that there are, and the types of their handlers are found
+-- or added in turn
+pub record AreTaken (c : Context) (types : ℕ → Option TypeDef) (tags : ℕ → Option ℕ) (fs : List (ℕ × wire.Body)) (all : List (Option LocalItem)) (old_types new_types : Slots) (old new : List (Option FunctionValue)) : Type 0 where
   pub said : List (ℕ × Said)
   pub read : AllZip (IsSaid c types) fs said
   pub functions : AddsFunctions types said old new
   pub locals : AllPlaced HoldsLocal 0 (flat_map (locals_said types) said) all
+  pub handlers : InTurn (AddsHandlersOf types tags) said functions.added old_types new_types
 
 -- one more slot holds a function that is located in the body
 abbrev pub AddsLocated : wire.Body → (old new : List (Option FunctionValue)) → Type 0
@@ -192,15 +224,15 @@ abbrev pub AddLocated : List wire.Body → (old new : List (Option FunctionValue
 AddLocated bodies old new = (added : List (Option FunctionValue)) × ((new ≡ old ++ added) × AllZip IsLocated bodies added)
 
 -- one more slot holds the function; refused: its body isn't read, or memory ran out
-abbrev pub TakesFunction : Context → (ℕ → Option TypeDef) → ℕ × wire.Body → (old_locals new_locals : List (Option LocalItem)) → (old new : List (Option FunctionValue)) → Result Unit Error → Type 0
-TakesFunction c types f old_locals new_locals old new (Ok u) = (slot : Option FunctionValue) × ((new ≡ old ++ slot ∷ []) × IsTaken c types (length old) old_locals new_locals f slot)
-TakesFunction c types f old_locals new_locals old new (Err (Memory e)) = Unit {0}
-TakesFunction c types f old_locals new_locals old new (Err (InvalidWasm kind)) = (said : Said) → SaysUnder c types f said → ⊥
-TakesFunction c types f old_locals new_locals old new (Err _) = ⊥
+abbrev pub TakesFunction : Context → (types : ℕ → Option TypeDef) (tags : ℕ → Option ℕ) → ℕ × wire.Body → (old_types new_types : Slots) (old_locals new_locals : List (Option LocalItem)) (old new : List (Option FunctionValue)) → Result Unit Error → Type 0
+TakesFunction c types tags f old_types new_types old_locals new_locals old new (Ok u) = (slot : Option FunctionValue) × ((new ≡ old ++ slot ∷ []) × IsTaken c types tags (length old) old_types new_types old_locals new_locals f slot)
+TakesFunction c types tags f old_types new_types old_locals new_locals old new (Err (Memory e)) = Unit {0}
+TakesFunction c types tags f old_types new_types old_locals new_locals old new (Err (InvalidWasm kind)) = (said : Said) → SaysUnder c types f said → ⊥
+TakesFunction c types tags f old_types new_types old_locals new_locals old new (Err _) = ⊥
 
--- the functions and their locals are added; refused: not all bodies are read, or memory ran out
-abbrev pub TakesFunctions : Context → (ℕ → Option TypeDef) → List (ℕ × wire.Body) → ModuleLocals → (old new : List (Option FunctionValue)) → Result Unit Error → Type 0
-TakesFunctions c types fs all old new (Ok u) = AreTaken c types fs (locals all) old new
-TakesFunctions c types fs all old new (Err (Memory e)) = Unit {0}
-TakesFunctions c types fs all old new (Err (InvalidWasm kind)) = (bodies : List Said) → AllZip (SaysUnder c types) fs bodies → ⊥
-TakesFunctions c types fs all old new (Err _) = ⊥
+-- the functions, their locals and the types of their handlers are added; refused: not all bodies are read, or memory ran out
+abbrev pub TakesFunctions : Context → (types : ℕ → Option TypeDef) (tags : ℕ → Option ℕ) → List (ℕ × wire.Body) → ModuleLocals → (old_types new_types : Slots) (old new : List (Option FunctionValue)) → Result Unit Error → Type 0
+TakesFunctions c types tags fs all old_types new_types old new (Ok u) = AreTaken c types tags fs (locals all) old_types new_types old new
+TakesFunctions c types tags fs all old_types new_types old new (Err (Memory e)) = Unit {0}
+TakesFunctions c types tags fs all old_types new_types old new (Err (InvalidWasm kind)) = (bodies : List Said) → AllZip (SaysUnder c types) fs bodies → ⊥
+TakesFunctions c types tags fs all old_types new_types old new (Err _) = ⊥

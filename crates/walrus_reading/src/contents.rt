@@ -1,26 +1,31 @@
 //! From the records of a module's sections to what a module in memory holds.
-ghost use Rattle.std.specs.Prelude.{true, ◌≡◌, ◌≢◌, ◌++◌, ◌∷◌, ◌<◌, ◌^◌, ℕ, [], length, map, zip, All, IfOk, OnOk, IsOkUnless, Some, None, option_and_then, option_map};
+ghost use Rattle.std.specs.Prelude.{true, ◌≡◌, ◌≢◌, ◌<◌, ℕ, [], length, map, zip, All, IfOk, OnOk, IsOkUnless, Some, None, option_and_then, option_map};
 ghost use Rattle.std.specs.Fn.{FnReturnsAt};
 ghost use Rattle.std.specs.List.{range_with_len};
+ghost use Rattle.walrus_base.specs.Arena.{items};
 ghost use Rattle.walrus_base.specs.Id.{place};
 ghost use Rattle.walrus_types.specs.Locals.{locals};
 ghost use Rattle.walrus_types.specs.ModuleTypes.{type_names, type_slots};
 ghost use Rattle.walrus_types.specs.Operators.{Functions, Space, Types};
-ghost use Rattle.walrus_types.specs.Value.{val_type};
 ghost use Rattle.walrus_code.specs.Indices.{places_in, ids_at};
 ghost use Rattle.walrus_code.specs.Location.{location, location_at};
-ghost use Rattle.walrus_bodies.specs.BodyRead.{ReadsBody, BodyLocated};
+ghost use Rattle.walrus_bodies.specs.BodyRead.{BodyLocated};
 ghost use Rattle.walrus_bodies.specs.Results.{locations};
 ghost use Rattle.walrus_bodies.specs.FunctionTypes.{is_function_at};
+ghost use Rattle.walrus_functions.specs.ReadFunction.{ReadsFunction};
+ghost use Rattle.walrus_functions.specs.Signatures.{slots_of};
 ghost use Rattle.walrus_parts.specs.Kinds.{exported};
 ghost use Rattle.walrus_items.specs.Exports.{exports};
 ghost use Rattle.walrus_items.specs.Functions.{functions};
+ghost use Rattle.walrus_items.specs.Tags.{tags};
 ghost use Rattle.walrus_groups.specs.Groups.{types_from, AreDeclared};
 ghost use Rattle.walrus_model.specs.Producers.{produced};
+ghost use Rattle.walrus_model.specs.Reads.{declared};
 ghost use Rattle.walrus_producers.specs.Seen.{producers};
+ghost use Rattle.walrus_reading.specs.Imported.{HoldsImported};
 ghost use Rattle.walrus_reading.specs.Numbers.{FitsIndices};
 ghost use Rattle.walrus_reading.specs.Placed.{AllPlaced};
-ghost use Rattle.walrus_reading.specs.Taken.{AddLocated, AddsExport, AddsLocalsOf, AddsLocated, AreLocatedIn, HoldsExport, IsPlace, TakesFunction, TakesFunctions, TakesSections, context_under, types_under};
+ghost use Rattle.walrus_reading.specs.Taken.{AddLocated, AddsExport, AddsLocated, AreLocatedIn, AreThere, HoldsExport, IsPlace, TakesFunction, TakesFunctions, TakesSections, context_under, tags_under, types_in};
 ghost use Rattle.walrus_model.specs.Sections.{space_of};
 ghost use Rattle.walrus_reading.specs.Sections.{Rules};
 ghost use Rattle.walrus_parts.specs.Errors.{out_of_memory};
@@ -34,14 +39,13 @@ use crate::numbers::number_items;
 use crate::segments::add_data;
 use std::alloc::{AllocError, Global};
 use std::result;
-use walrus_bodies::{ReadBody, read_body_over};
 use walrus_contents::Contents;
 use walrus_groups::read_types;
 use walrus_ir::{
-    Features, FunctionId, IndicesToIds, InstrLocId, IrError, LocalFunction, LocalId, ModuleLocals,
-    ModuleTypes, ValType,
+    Features, FunctionId, IndicesToIds, InstrLocId, IrError, LocalFunction, ModuleLocals,
+    ModuleTypes, TypeId, read_body,
 };
-use walrus_items::{ExportItem, ModuleExports, ModuleFunctions};
+use walrus_items::{ExportItem, ModuleExports, ModuleFunctions, ModuleTags};
 use walrus_parts::{Error, Result};
 use walrus_producers::ModuleProducers;
 use wasm_wire::{Raw, RawBody, RawExport, RawExportKind, RawGroup};
@@ -58,27 +62,26 @@ pub(crate) fn read_contents(alloc: Global, raw: &Raw<'_>, features: &Features) -
     ensures located { IfOk result (λ m. AreLocatedIn (sections raw.now) (functions m.funcs)) }
     ensures produced { IfOk result (λ m. producers m.producers ≡ produced []) }
 {
-    let mut contents = Contents::new(alloc)?;
     let mut indices = IndicesToIds::new(alloc);
-    add_types(alloc, &raw.types, &mut indices, &mut contents.types)?;
-    add_imports(&raw.imports, &indices, &mut contents)?;
-    number_items(alloc, raw, &contents, &mut indices)?;
+    let mut contents = read_imported(alloc, raw, &mut indices)?;
+    add_tags(&raw.tags, &indices, &mut contents.tags)?;
+    let tag_types = types_of_tags(alloc, &contents.tags)?;
     let under = Under {
         alloc,
         features,
         indices: &indices,
-        types: &contents.types,
+        tag_types: &tag_types,
     };
     add_functions(
         under,
         &raw.functions,
         &raw.bodies,
+        &mut contents.types,
         &mut contents.locals,
         &mut contents.funcs,
     )?;
     add_tables(alloc, &raw.tables, &indices, &mut contents.tables)?;
     add_memories(&raw.memories, &mut contents.memories)?;
-    add_tags(&raw.tags, &indices, &mut contents.tags)?;
     add_globals(alloc, &raw.globals, &indices, &mut contents.globals)?;
     add_elements(
         alloc,
@@ -100,6 +103,22 @@ pub(crate) fn read_contents(alloc: Global, raw: &Raw<'_>, features: &Features) -
     Ok(contents)
 }
 
+// The types, and what imports bring. All indices that sections declare lead to their items then.
+fn read_imported(alloc: Global, raw: &Raw<'_>, indices: &mut IndicesToIds) -> Result<Contents>
+    requires rules { Rules (sections raw.now) }
+    requires room { FitsIndices (sections raw.now) }
+    requires no_indices { (space : Space) → places_in indices.old space ≡ [] }
+    ensures begun { IfOk result (HoldsImported (sections raw.now)) }
+    ensures numbered { OnOk result (ids_at indices.new ≡ declared (sections raw.now)) }
+    ensures fails { IsOkUnless result out_of_memory }
+{
+    let mut contents = Contents::new(alloc)?;
+    add_types(alloc, &raw.types, indices, &mut contents.types)?;
+    add_imports(&raw.imports, indices, &mut contents)?;
+    number_items(alloc, raw, &contents, indices)?;
+    Ok(contents)
+}
+
 // The function that the start section names, if there is one.
 fn start_named(raw: Option<u32>, indices: &IndicesToIds) -> Option<FunctionId>
     ensures { option_map place result ≡ option_and_then (ids_at indices.now Functions) raw }
@@ -116,13 +135,13 @@ fn add_own_producer(made: &mut ModuleProducers) -> Result<()>
     Ok(())
 }
 
-// What bodies are read under: the proposals that they may use, what indices name, and the types.
+// What bodies are read under: the proposals that they may use, what indices name, and the types of tags by their places.
 #[derive(Clone, Copy)]
 struct Under<'a> {
     alloc: Global,
     features: &'a Features,
     indices: &'a IndicesToIds,
-    types: &'a ModuleTypes,
+    tag_types: &'a [TypeId],
 }
 
 // Each type gets the next id and the next index, and no name.
@@ -152,33 +171,32 @@ fn add_types(
     }
 }
 
-// A local for each parameter.
-fn add_params(alloc: Global, params: &[ValType], all: &mut ModuleLocals) -> Result<Vec<LocalId>>
-    ensures args { IfOk result (λ args. map place args.items ≡ range_with_len (length (locals all.old))
-        (length params.now)) }
-    ensures added { OnOk result (AddsLocalsOf (map val_type params.now) (locals all.old) (locals all.new)) }
+// The types of the tags, by their places.
+fn types_of_tags(alloc: Global, all: &ModuleTags) -> Result<Vec<TypeId>>
+    ensures value { IfOk result (λ ids. map place ids.items ≡ map (λ t. t.ty) (items (tags all.now))) }
     ensures fails { IsOkUnless result out_of_memory }
 {
-    let mut args = Vec::with_capacity(alloc, params.len())?;
-    for ty in params {
-        args.push(all.add(*ty)?)?;
+    let mut types = Vec::new(alloc);
+    for tag in all.iter() {
+        types.push(tag.ty)?;
     }
-    Ok(args)
+    Ok(types)
 }
 
 // Reads the body of a function of this type. The function gets the next id; its locals are its parameters, and behind them
-// those that the body declares.
+// those that the body declares. The types of its legacy handlers are found among the types, or added to them.
 fn add_function(
     under: Under<'_>,
     index: u32,
     body: &RawBody<'_>,
+    types: &mut ModuleTypes,
     all: &mut ModuleLocals,
     funcs: &mut ModuleFunctions,
 ) -> Result<()>
     requires declared { ids_at under.indices.now Types index ≡ Some index }
-    requires typed { is_function_at under.types.now index ≡ true }
-    ensures taken { TakesFunction (context_under under.entry) (types_under under.entry)
-        (index, body_record body.now)
+    requires typed { is_function_at types.old index ≡ true }
+    ensures taken { TakesFunction (context_under under.entry types.old) (types_in types.old)
+        (tags_under under.entry) (index, body_record body.now) (slots_of types.old) (slots_of types.new)
         (locals all.old) (locals all.new) (functions funcs.old) (functions funcs.new) result }
     ensures located { OnOk result (AddsLocated (body_record body.now) (functions funcs.old)
         (functions funcs.new)) }
@@ -186,39 +204,41 @@ fn add_function(
     let Some(ty) = under.indices.get_type(index) else {
         unreachable!();
     };
-    let args = add_params(under.alloc, under.types.get(ty).params(), all)?;
     let locate = |place: &usize| -> InstrLocId
         ensures { location result ≡ location_at place.now }
     { InstrLocId::of_place(*place) };
-    let read = read_located(under, body, &args, all, &locate)?;
-    funcs.add_local(LocalFunction::new(under.alloc, ty, args, read.operators))?;
+    let function = read_located(under, ty, body, types, all, &locate)?;
+    funcs.add_local(function)?;
     Ok(())
 }
 
-// Reads a body, each operator of which is located where it stands.
+// Reads the body of a function of this type, each operator of which is located where it stands.
 fn read_located<L: Fn(&usize) -> InstrLocId>(
     under: Under<'_>,
+    ty: TypeId,
     body: &RawBody<'_>,
-    args: &[LocalId],
+    types: &mut ModuleTypes,
     all: &mut ModuleLocals,
     locate: &L,
-) -> result::Result<ReadBody, IrError>
+) -> result::Result<LocalFunction, IrError>
+    requires typed { is_function_at types.old (place ty) ≡ true }
     requires callable { L.IsAlwaysCallable locate.now }
     requires tells { (place : ℕ) (loc : _) → FnReturnsAt L.Fn locate.now place loc → IsPlace place loc }
-    ensures read { ReadsBody (context_under under.entry) (map place args.now) (locals all.old)
-        (locals all.new)
+    ensures read { ReadsFunction (context_under under.entry types.old) (tags_under under.entry) (place ty)
+        (slots_of types.old) (slots_of types.new) (locals all.old) (locals all.new)
         body.now.bytes.now result }
-    ensures located { IfOk result (λ read. BodyLocated IsPlace body.now.start body.now.bytes.now
-        (locations read.operators.items)) }
+    ensures located { IfOk result (λ f. BodyLocated IsPlace body.now.start body.now.bytes.now
+        (locations f.operators.items)) }
 {
-    read_body_over(
+    read_body(
         under.alloc,
         body.bytes,
         body.start,
         under.features,
+        ty,
+        under.tag_types,
         under.indices,
-        under.types,
-        args,
+        types,
         all,
         locate,
     )
@@ -229,22 +249,24 @@ fn add_functions(
     under: Under<'_>,
     of_types: &[u32],
     bodies: &[RawBody<'_>],
+    types: &mut ModuleTypes,
     all: &mut ModuleLocals,
     funcs: &mut ModuleFunctions,
 ) -> Result<()>
     requires no_locals { locals all.old ≡ [] }
     requires as_many { length bodies.now ≡ length of_types.now }
     requires declared { All (λ t. ids_at under.indices.now Types t ≡ Some t) of_types.now }
-    requires typed { All (λ t. is_function_at under.types.now t ≡ true) of_types.now }
-    ensures taken { TakesFunctions (context_under under.entry) (types_under under.entry)
-        (zip of_types.now (map body_record bodies.now)) all.new
-        (functions funcs.old) (functions funcs.new) result }
+    requires typed { All (λ t. is_function_at types.old t ≡ true) of_types.now }
+    requires there { AreThere (ids_at under.indices.now) (tags_under under) (type_slots types.old) }
+    ensures taken { TakesFunctions (context_under under.entry types.old) (types_in types.old)
+        (tags_under under.entry) (zip of_types.now (map body_record bodies.now)) all.new
+        (slots_of types.old) (slots_of types.new) (functions funcs.old) (functions funcs.new) result }
     ensures located { OnOk result (AddLocated (map body_record bodies.now) (functions funcs.old)
         (functions funcs.new)) }
 {
     funcs.reserve(of_types.len())?;
     for place in 0..of_types.len() {
-        add_function(under, of_types[place], &bodies[place], all, funcs)?;
+        add_function(under, of_types[place], &bodies[place], types, all, funcs)?;
     }
     Ok(())
 }

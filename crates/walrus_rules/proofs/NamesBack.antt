@@ -1,9 +1,9 @@
 -- What is spelled of names and producers reads back.
-use Rattle.std.proofs.Common.{◌≡◌, ℕ, zero, suc, ◌+◌, ◌≤◌, ◌<◌, ◌^◌, Bool, true, List, [], ◌∷◌, ◌++◌, length, map, refl, sym, ap, subst, ◌∙◌, arith, length-append, append_assoc, inl, inr}
+use Rattle.std.proofs.Common.{◌≡◌, ℕ, zero, suc, ◌+◌, ◌≤◌, ◌<◌, ◌^◌, Bool, true, List, [], ◌∷◌, ◌++◌, length, map, refl, sym, ap, ap₂, subst, ◌∙◌, arith, length-append, append_assoc, inl, inr}
 use Rattle.std.specs.Prelude.{Option, Some, None, All, flat_map}
 use Rattle.std.specs.List.{AllByRecursion}
 use Rattle.std.specs.Str.{IsUtf8}
-use Rattle.std.proofs.lemmas.List.{append-nil}
+use Rattle.std.proofs.lemmas.List.{append-nil, length-map}
 use Rattle.std.proofs.lemmas.List.Elements.{recursion_from_All}
 use Rattle.wasm_forms.specs.Grammar.{Form, Is, U32, Where, name, ◌then◌}
 use Rattle.wasm_forms.specs.Spelling.{number_bytes, block_bytes, row_bytes, vector_bytes}
@@ -15,11 +15,11 @@ use Rattle.wasm_payloads.specs.declared.naming.NameSpace.TheVariants as spaces
 use Rattle.wasm_payloads.specs.Fault.{Telling, Tells, Behind, Times, Counted}
 use Rattle.wasm_payloads.specs.Names as payload
 use Rattle.wasm_payloads.specs.Names.{Named, ModuleName, ItemName, LocalName, Content, Subsection, Names, part_of}
-use Rattle.wasm_payloads.specs.Producers.{Field, Fields, field, value}
+use Rattle.wasm_payloads.specs.Producers.{Fields, field, value}
+use Rattle.wasm_payloads.specs.Spelling as spelled
 use Rattle.walrus_model.specs.Abstract.{Name, ProducerValue, ProducerField}
-use Rattle.walrus_rules.specs.Namings.{subsection, space_of}
 use Rattle.walrus_rules.specs.Spelling.{NameStands, ValueIsText, FieldIsText}
-use Rattle.walrus_rules.specs.Text.{NameMap, NameText, entry_bytes, map_bytes, function_bytes, part_bytes, module_name_bytes, space_bytes, further_spaces, names_bytes, module_naming, space_namings, function_namings, namings_of, value_bytes, field_bytes}
+use Rattle.walrus_rules.specs.Text.{NameMap, NameText, entry_bytes, map_bytes, function_bytes, part_bytes, module_name_bytes, space_bytes, further_spaces, names_bytes, module_naming, space_namings, function_namings, namings_of, raw_value, raw_field, field_bytes}
 use Rattle.walrus_rules.proofs.SpelledFits.{number_long, block_long, vector_fits, small, behind_less}
 
 -- ---- lengths of parts
@@ -65,11 +65,19 @@ module _ {A B X : Type 0} (f : Form A) (make : A → B) (spell : X → List ℕ)
 
 -- ---- producers
 
-abbrev pub raw_value : ProducerValue → List ℕ × List ℕ
-raw_value v = (v.name, v.version)
+abbrev value_bytes : ProducerValue → List ℕ
+value_bytes v = spelled.value_bytes (raw_value v)
 
-abbrev pub raw_field : ProducerField → Field
-raw_field f = (f.name, map raw_value f.values)
+abbrev said_bytes : ProducerField → List ℕ
+said_bytes f = block_bytes f.name ++ vector_bytes value_bytes f.values
+
+-- values are spelled one by one
+values_said : (vs : List ProducerValue) → row_bytes value_bytes vs ≡ row_bytes spelled.value_bytes (map raw_value vs)
+values_said [] = refl
+values_said (v ∷ vs) = ap (λ r. value_bytes v ++ r) (values_said vs)
+
+field_said : (f : ProducerField) → said_bytes f ≡ field_bytes f
+field_said f = ap (λ vs. block_bytes f.name ++ vs) (ap₂ (λ n vs. number_bytes n ++ vs) (sym (length-map f.values raw_value)) (values_said f.values))
 
 value_long : (v : ProducerValue) → 1 ≤ length (value_bytes v)
 value_long v = both_long (block_bytes v.name) (block_bytes v.version) (blocks_long v.name)
@@ -88,10 +96,10 @@ value_is v h lt = (
 )
 
 field_long : (f : ProducerField) → 1 ≤ length (field_bytes f)
-field_long f = both_long (block_bytes f.name) (vector_bytes value_bytes f.values) (blocks_long f.name)
+field_long f = both_long (block_bytes f.name) (vector_bytes spelled.value_bytes (map raw_value f.values)) (blocks_long f.name)
 
-field_is : (f : ProducerField) → FieldIsText f → length (field_bytes f) < 2 ^ 32 → Is field (field_bytes f) (raw_field f)
-field_is f h lt = (
+said_is : (f : ProducerField) → FieldIsText f → length (said_bytes f) < 2 ^ 32 → Is field (said_bytes f) (raw_field f)
+said_is f h lt = (
   block_bytes f.name,
   (
     vector_bytes value_bytes f.values,
@@ -103,6 +111,9 @@ field_is f h lt = (
     ),
   ),
 )
+
+field_is : (f : ProducerField) → FieldIsText f → length (field_bytes f) < 2 ^ 32 → Is field (field_bytes f) (raw_field f)
+field_is f h lt = subst (λ bytes. Is field bytes (raw_field f)) (field_said f) (said_is f h (subst (λ bytes. length bytes < 2 ^ 32) (sym (field_said f)) lt))
 
 pub fields_back : (fs : List ProducerField) → All FieldIsText fs → length (vector_bytes field_bytes fs) < 2 ^ 32 → Fields (vector_bytes field_bytes fs) (map raw_field fs)
 fields_back fs h lt = (
@@ -186,7 +197,7 @@ module _ (known : ℕ → Bool) where
       one_piece 0 (block_bytes n) (ModuleName n ∷ []) inside
       (inl (n, (block_bytes n, ([], (sym (append-nil (block_bytes n)), name_stands n h (inner_less n (2 ^ 32) inside), (refl, refl))))))
 
-  content_is : (space : NameSpace) (bytes : List ℕ) (told : List Named) (end : Option (List ℕ)) → payload.NameMap (ItemName space) bytes told end → Content known (part_of (subsection (space_of space))) bytes told end
+  content_is : (space : NameSpace) (bytes : List ℕ) (told : List Named) (end : Option (List ℕ)) → payload.NameMap (ItemName space) bytes told end → Content known (part_of (spelled.subsection_of space)) bytes told end
   content_is spaces.Functions bytes told end h = h
   content_is spaces.Types bytes told end h = h
   content_is spaces.Tables bytes told end h = h
@@ -196,12 +207,12 @@ module _ (known : ℕ → Bool) where
   content_is spaces.DataSegments bytes told end h = h
   content_is spaces.Tags bytes told end h = h
 
-  items_piece : (space : NameSpace) (es : NameMap) → AllByRecursion EntryStands es → length (part_bytes (subsection (space_of space)) entry_bytes es) < 2 ^ 32 → Piece (part_bytes (subsection (space_of space)) entry_bytes es) (map (λ e. ItemName space e.0 e.1) es)
+  items_piece : (space : NameSpace) (es : NameMap) → AllByRecursion EntryStands es → length (part_bytes (spelled.subsection_of space) entry_bytes es) < 2 ^ 32 → Piece (part_bytes (spelled.subsection_of space) entry_bytes es) (map (λ e. ItemName space e.0 e.1) es)
   items_piece space [] h lt = no_piece
   items_piece space (e ∷ es) h lt =
       let inside : length (map_bytes (e ∷ es)) < 2 ^ 32 = inner_less (map_bytes (e ∷ es)) (2 ^ 32) (omega (arith, lt)) in
       let tells = map_back (ItemName space) [] (e ∷ es) h inside in
-      one_piece (subsection (space_of space)) (map_bytes (e ∷ es)) (map (λ x. ItemName space x.0 x.1) (e ∷ es)) inside
+      one_piece (spelled.subsection_of space) (map_bytes (e ∷ es)) (map (λ x. ItemName space x.0 x.1) (e ∷ es)) inside
       (content_is space (map_bytes (e ∷ es)) (map (λ x. ItemName space x.0 x.1) (e ∷ es)) (Some [])
       (subst (λ l. payload.NameMap (ItemName space) l (map (λ x. ItemName space x.0 x.1) (e ∷ es)) (Some [])) (append-nil (map_bytes (e ∷ es))) tells))
 

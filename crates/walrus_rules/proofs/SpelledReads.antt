@@ -27,9 +27,9 @@ use Rattle.walrus_rules.specs.OneRun.{Fits}
 use Rattle.walrus_model.specs.Sections.{function_types, is_apart}
 use Rattle.walrus_rules.specs.SpelledLaws.{BodiesNest, SpelledReads}
 use Rattle.walrus_rules.specs.Spelling.{MapStands, IsSpelling, IsSpelledAs, is_dylink, is_other, written_as}
-use Rattle.walrus_rules.specs.Text.{Text, NameMap, NameText, listed, if_some, custom, sections_of, said, said_by, unplaced, names_bytes, field_bytes, namings_of, module_naming, space_namings, function_namings, further_spaces}
+use Rattle.walrus_rules.specs.Text.{Text, NameMap, NameText, listed, if_some, custom, sections_of, said, said_by, unplaced, names_bytes, field_bytes, namings_of, raw_value, raw_field, module_naming, space_namings, function_namings, further_spaces}
 use Rattle.walrus_rules.proofs.BodiesBack.{function_below, BodiesHold, bodies_hold, bodies_back}
-use Rattle.walrus_rules.proofs.NamesBack.{raw_value, raw_field, fields_back, EntryStands, FunctionStands, names_back}
+use Rattle.walrus_rules.proofs.NamesBack.{fields_back, EntryStands, FunctionStands, names_back}
 use Rattle.walrus_rules.proofs.OneList.{All-front, All-back}
 use Rattle.walrus_rules.proofs.OneSections.{laid, more, customs_in}
 use Rattle.walrus_rules.proofs.OneSpelling.{told, as_told}

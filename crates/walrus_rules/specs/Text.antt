@@ -2,7 +2,7 @@
 -- Modules").
 use Rattle.std.specs.Prelude.{ℕ, List, [], ◌∷◌, ◌++◌, map, flat_map, replicate, Option, Some, None, codes}
 use Rattle.wasm_forms.specs.declared.types.RawVal.{RawVal}
-use Rattle.wasm_forms.specs.Spelling.{number_bytes, block_bytes, row_bytes, vector_bytes}
+use Rattle.wasm_forms.specs.Spelling.{row_bytes, vector_bytes}
 use Rattle.wasm_entries.specs.declared.record.RawLimits.{RawLimits}
 use Rattle.wasm_entries.specs.Record.{Group, Import, Table, Global, Export, Element, Segment}
 use Rattle.wasm_frames.specs.Record.{Custom}
@@ -14,11 +14,14 @@ use Rattle.wasm_operators.specs.Spelling.{op_bytes}
 use Rattle.wasm_payloads.specs.declared.naming.NameSpace.{NameSpace}
 use Rattle.wasm_payloads.specs.declared.naming.NameSpace.TheVariants as spaces
 use Rattle.wasm_payloads.specs.Names.{Named, ModuleName, ItemName, LocalName}
+use Rattle.wasm_payloads.specs.Producers.{Field}
+use Rattle.wasm_payloads.specs.Spelling as spelled
+-- names have the one spelling of their payload
+pub use Rattle.wasm_payloads.specs.Spelling.{NameMap, NameText, entry_bytes, map_bytes, function_bytes, part_bytes, module_name_bytes, space_bytes, further_spaces, names_bytes}
 use Rattle.walrus_code.specs.FromRaw.{val_of, ops_of}
 use Rattle.walrus_functions.specs.EmittedBody.{declarations_bytes}
 use Rattle.walrus_model.specs.Abstract.{Abstract, Name, ProducerValue, ProducerField}
 use Rattle.walrus_model.specs.Sections.{Said}
-use Rattle.walrus_rules.specs.Namings.{subsection, space_of}
 use Rattle.walrus_rules.specs.Sections.{module_of}
 
 -- ---- bodies: declarations, each a count and a type, and operators
@@ -38,48 +41,7 @@ said t = (flat_map (λ d. replicate d.0 (val_of d.1)) t.declarations, ops_of t.o
 abbrev pub unplaced : BodyText → wire.Body
 unplaced t = record { start = 0; bytes = text_bytes t }
 
--- ---- names ("Appendix > Custom Sections > Name Section")
-
--- indices, each with its name
-abbrev pub NameMap : Type 0
-NameMap = List (ℕ × Name)
-
--- the subsections: the module's name, the names of the items of each space, and of the locals of functions
-pub record NameText : Type 0 where
-  pub module_name : Option Name
-  pub items : NameSpace → NameMap
-  pub locals : List (ℕ × NameMap)
-
-abbrev pub entry_bytes : ℕ × Name → List ℕ
-entry_bytes e = number_bytes e.0 ++ block_bytes e.1
-
-abbrev pub map_bytes : NameMap → List ℕ
-map_bytes names = vector_bytes entry_bytes names
-
-abbrev pub function_bytes : ℕ × NameMap → List ℕ
-function_bytes f = number_bytes f.0 ++ map_bytes f.1
-
--- a subsection of a list, which isn't written where the list is empty
-abbrev pub part_bytes : {X : Type 0} → (id : ℕ) → (X → List ℕ) → List X → List ℕ
-part_bytes id spell [] = []
-part_bytes id spell (x ∷ xs) = id ∷ block_bytes (vector_bytes spell (x ∷ xs))
-
-abbrev pub module_name_bytes : Option Name → List ℕ
-module_name_bytes None = []
-module_name_bytes (Some name) = 0 ∷ block_bytes (block_bytes name)
-
-abbrev pub space_bytes : NameText → NameSpace → List ℕ
-space_bytes t space = part_bytes (subsection (space_of space)) entry_bytes (t.items space)
-
--- the index spaces by the ids of their subsections, the functions and their locals aside
-abbrev pub further_spaces : List NameSpace
-further_spaces = spaces.Types ∷ spaces.Tables ∷ spaces.Memories ∷ spaces.Globals ∷ spaces.Elements ∷ spaces.DataSegments ∷ spaces.Tags ∷ []
-
--- by rising id: 0, 1, 2, and then 4 to 9 and 11
-abbrev pub names_bytes : NameText → List ℕ
-names_bytes t = module_name_bytes t.module_name ++ space_bytes t spaces.Functions ++ part_bytes 2 function_bytes t.locals ++ row_bytes (space_bytes t) further_spaces
-
--- what it names, in this order
+-- ---- what a name section names, in the order of its one spelling ("Appendix > Custom Sections > Name Section")
 
 abbrev pub module_naming : Option Name → List Named
 module_naming None = []
@@ -96,11 +58,16 @@ namings_of t = module_naming t.module_name ++ space_namings t spaces.Functions +
 
 -- ---- producers (tool-conventions, "Producers Section")
 
-abbrev pub value_bytes : ProducerValue → List ℕ
-value_bytes v = block_bytes v.name ++ block_bytes v.version
+-- a value and a field as their payload has them
+abbrev pub raw_value : ProducerValue → List ℕ × List ℕ
+raw_value v = (v.name, v.version)
 
+abbrev pub raw_field : ProducerField → Field
+raw_field f = (f.name, map raw_value f.values)
+
+-- and in its one spelling
 abbrev pub field_bytes : ProducerField → List ℕ
-field_bytes f = block_bytes f.name ++ vector_bytes value_bytes f.values
+field_bytes f = spelled.field_bytes (raw_field f)
 
 -- ---- the whole
 

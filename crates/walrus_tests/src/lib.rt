@@ -1,4 +1,4 @@
-//! Tests that cross crates: worked modules byte for byte, the words of the program, devices that fail, the library as its users call it, modules that are built.
+//! Tests of the program: worked modules byte for byte, its words, devices that fail.
 #![tactic(auto)]
 
 #[cfg(test)]
@@ -8,10 +8,6 @@ mod devices;
 #[cfg(test)]
 mod failing;
 #[cfg(test)]
-mod library;
-#[cfg(test)]
-mod modules;
-#[cfg(test)]
 mod rows;
 #[cfg(test)]
-mod spaces;
+mod segments;

@@ -5,8 +5,12 @@ use std::alloc::Global;
 use std::test::Fail;
 use test_support::{add_bytes, demand};
 
+// A legacy try with an i32 as result, and a catch of a tag that carries an i32.
+const LEGACY: &str =
+    "00 61 73 6D 01 00 00 00 01 08 02 60 00 00 60 01 7F 00 03 02 01 00 0D 03 01 00 01 07 05 01 01 66 00 00 0A 0C 01 0A 00 06 7F 41 00 07 00 0B 1A 0B";
+
 // Inputs and what they come to, in hexadecimal.
-const ROWS: [(&str, &str); 36] = [
+const ROWS: [(&str, &str); 41] = [
     // the header alone
     ("00 61 73 6D 01 00 00 00", "00 61 73 6D 01 00 00 00"),
     // two empty functions, of which the second is exported
@@ -183,6 +187,31 @@ const ROWS: [(&str, &str); 36] = [
         "00 61 73 6D 01 00 00 00 04 05 01 70 01 01 02 07 05 01 01 74 01 00",
         "00 61 73 6D 01 00 00 00 04 05 01 70 01 01 02 07 05 01 01 74 01 00",
     ),
+    // a legacy handler of a type that isn't there, which is added
+    (
+        LEGACY,
+        "00 61 73 6D 01 00 00 00 01 0D 03 60 00 00 60 01 7F 00 60 01 7F 01 7F 03 02 01 00 0D 03 01 00 01 07 05 01 01 66 00 00 0A 0C 01 0A 00 06 7F 41 00 07 00 0B 1A 0B",
+    ),
+    // the same type once more, which is found
+    (
+        "00 61 73 6D 01 00 00 00 01 0D 03 60 00 00 60 01 7F 00 60 01 7F 01 7F 03 02 01 00 0D 03 01 00 01 07 05 01 01 66 00 00 0A 0C 01 0A 00 06 7F 41 00 07 00 0B 1A 0B",
+        "00 61 73 6D 01 00 00 00 01 0D 03 60 00 00 60 01 7F 00 60 01 7F 01 7F 03 02 01 00 0D 03 01 00 01 07 05 01 01 66 00 00 0A 0C 01 0A 00 06 7F 41 00 07 00 0B 1A 0B",
+    ),
+    // a legacy handler that takes nothing and gives nothing needs no type
+    (
+        "00 61 73 6D 01 00 00 00 01 04 01 60 00 00 03 02 01 00 0D 03 01 00 00 07 05 01 01 66 00 00 0A 09 01 07 00 06 40 07 00 0B 0B",
+        "00 61 73 6D 01 00 00 00 01 04 01 60 00 00 03 02 01 00 0D 03 01 00 00 07 05 01 01 66 00 00 0A 09 01 07 00 06 40 07 00 0B 0B",
+    ),
+    // the same of an imported tag
+    (
+        "00 61 73 6D 01 00 00 00 01 08 02 60 00 00 60 01 7F 00 02 08 01 01 6D 01 74 04 00 01 03 02 01 00 07 05 01 01 66 00 00 0A 0C 01 0A 00 06 7F 41 00 07 00 0B 1A 0B",
+        "00 61 73 6D 01 00 00 00 01 0D 03 60 00 00 60 01 7F 00 60 01 7F 01 7F 02 08 01 01 6D 01 74 04 00 01 03 02 01 00 07 05 01 01 66 00 00 0A 0C 01 0A 00 06 7F 41 00 07 00 0B 1A 0B",
+    ),
+    // a catch_all of two results needs the type of nothing to these
+    (
+        "00 61 73 6D 01 00 00 00 01 0A 02 60 00 00 60 01 7F 02 7F 7F 03 02 01 00 07 05 01 01 66 00 00 0A 12 01 10 00 41 00 06 01 41 00 19 41 00 41 00 0B 1A 1A 0B",
+        "00 61 73 6D 01 00 00 00 01 0F 03 60 00 00 60 01 7F 02 7F 7F 60 00 02 7F 7F 03 02 01 00 07 05 01 01 66 00 00 0A 12 01 10 00 41 00 06 01 41 00 19 41 00 41 00 0B 1A 1A 0B",
+    ),
 ];
 
 // Inputs that are refused as invalid.
@@ -230,12 +259,14 @@ const INVALID: [&str; 22] = [
 
 const TEXT_OF_INVALID: &str = "walrus-gc: The input WebAssembly is invalid\n";
 
-fn comes_out(alloc: Global, words: &[String], input: &str, output: &str) -> bool {
+/// Whether the program makes this output of this input.
+pub fn comes_out(alloc: Global, words: &[String], input: &str, output: &str) -> bool {
     let mut bytes = Vec::new(alloc);
     add_bytes(&mut bytes, input) && passed(alloc, &run(alloc, words, &bytes), output)
 }
 
-fn each_comes_out(alloc: Global, words: &[String], rows: &[(&str, &str)]) -> Result<(), Fail> {
+/// Fails where an input comes to something else than its output.
+pub fn each_comes_out(alloc: Global, words: &[String], rows: &[(&str, &str)]) -> Result<(), Fail> {
     for (input, output) in rows {
         demand(comes_out(alloc, words, input, output), input)?;
     }
@@ -257,7 +288,8 @@ fn is_refused(alloc: Global, words: &[String], input: &str) -> bool {
     add_bytes(&mut bytes, input) && refused(&run(alloc, words, &bytes), 1, TEXT_OF_INVALID)
 }
 
-fn each_is_refused(alloc: Global, words: &[String], rows: &[&str]) -> Result<(), Fail> {
+/// Fails where an input isn't refused as invalid.
+pub fn each_is_refused(alloc: Global, words: &[String], rows: &[&str]) -> Result<(), Fail> {
     for input in rows {
         demand(is_refused(alloc, words, input), input)?;
     }
@@ -274,34 +306,100 @@ fn invalid_rows_are_refused(rt: HostRuntime) -> Result<(), Fail> {
     each_is_refused(rt.alloc(), &words, &INVALID)
 }
 
-// The status for the first bytes of the second row. Those that end where a section does, and that no rule refuses, are modules.
-fn beginning_status(length: usize) -> u8 {
-    if length == 8 || length == 14 { 0 } else { 1 }
+#[test]
+fn legacy_exceptions_are_refused_where_they_are_off(rt: HostRuntime) -> Result<(), Fail> {
+    let mut words = Vec::new(rt.alloc());
+    demand(
+        add_words(rt.alloc(), &mut words, "--no-producers,--no-legacy"),
+        "memory",
+    )?;
+    each_is_refused(rt.alloc(), &words, &[LEGACY])
 }
 
-fn is_beginning_answered(alloc: Global, words: &[String], beginning: &[u8]) -> bool {
-    run(alloc, words, beginning).status == beginning_status(beginning.len())
+// Modules, and how long the two beginnings are that are modules too: they end where a section does, and no rule refuses them.
+const BEGINNINGS: [(&str, usize, usize); 3] = [
+    // two empty functions, of which the second is exported
+    (
+        "00 61 73 6D 01 00 00 00 01 04 01 60 00 00 03 03 02 00 00 07 05 01 01 66 00 01 0A 07 02 02 00 0B 02 00 0B",
+        8,
+        14,
+    ),
+    // a memory and a passive data segment
+    (
+        "00 61 73 6D 01 00 00 00 05 03 01 00 01 0C 01 01 0B 04 01 01 01 AA",
+        8,
+        13,
+    ),
+    // a function that drops a data segment
+    (
+        "00 61 73 6D 01 00 00 00 01 04 01 60 00 00 03 02 01 00 05 03 01 00 01 07 05 01 01 66 00 00 0C 01 01 0A 07 01 05 00 FC 09 00 0B 0B 04 01 01 01 AA",
+        8,
+        14,
+    ),
+];
+
+fn is_beginning_answered(
+    alloc: Global,
+    words: &[String],
+    beginning: &[u8],
+    is_module: bool,
+) -> bool {
+    let outcome = run(alloc, words, beginning);
+    if is_module {
+        outcome.status == 0
+    } else {
+        refused(&outcome, 1, TEXT_OF_INVALID)
+    }
 }
 
-fn each_beginning_is_answered(alloc: Global, words: &[String], whole: &[u8]) -> bool {
+fn each_beginning_is_answered(
+    alloc: Global,
+    words: &[String],
+    whole: &[u8],
+    first: usize,
+    second: usize,
+) -> bool {
     for length in 0..whole.len() {
         let (beginning, _) = whole.split_at(length);
-        if !is_beginning_answered(alloc, words, beginning) {
+        let is_module = length == first || length == second;
+        if !is_beginning_answered(alloc, words, beginning, is_module) {
             return false;
         }
     }
     true
 }
 
+fn are_beginnings_answered(
+    alloc: Global,
+    words: &[String],
+    input: &str,
+    first: usize,
+    second: usize,
+) -> bool {
+    let mut whole = Vec::new(alloc);
+    add_bytes(&mut whole, input) && each_beginning_is_answered(alloc, words, &whole, first, second)
+}
+
+fn each_is_cut_off(
+    alloc: Global,
+    words: &[String],
+    rows: &[(&str, usize, usize)],
+) -> Result<(), Fail> {
+    for (input, first, second) in rows {
+        demand(
+            are_beginnings_answered(alloc, words, input, *first, *second),
+            input,
+        )?;
+    }
+    Ok(())
+}
+
 #[test]
 fn beginnings_are_refused(rt: HostRuntime) -> Result<(), Fail> {
     let mut words = Vec::new(rt.alloc());
-    let mut whole = Vec::new(rt.alloc());
-    let (_, (input, _)) = (ROWS[0], ROWS[1]);
     demand(
-        add_words(rt.alloc(), &mut words, "--no-producers")
-            && add_bytes(&mut whole, input)
-            && each_beginning_is_answered(rt.alloc(), &words, &whole),
-        "the beginnings of a module",
-    )
+        add_words(rt.alloc(), &mut words, "--no-producers"),
+        "memory",
+    )?;
+    each_is_cut_off(rt.alloc(), &words, &BEGINNINGS)
 }

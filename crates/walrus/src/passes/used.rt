@@ -1,31 +1,32 @@
 //! What a module uses: all that its roots reach.
 
-ghost use Rattle.std.specs.Prelude.{ℕ, ◌≡◌, ◌↔◌, ◌⊎◌, [], ◌∷◌, true, IfErr, IfOk, IsTrue, MatchResult, OnOk, map, not};
-ghost use Rattle.walrus_base.specs.Arena.{IsLive as IsLiveAt};
+ghost use Rattle.std.specs.Prelude.{ℕ, ◌≡◌, ◌≤◌, ◌↔◌, ◌⊎◌, [], ◌∷◌, true, IfErr, IfOk, IsTrue, MatchResult, OnOk, map};
 ghost use Rattle.walrus_base.specs.Id.{place};
 ghost use Rattle.walrus_base.specs.IdSet.{has_id};
 ghost use Rattle.walrus_base.specs.Marks.{is_marked};
 ghost use Rattle.walrus_code.specs.Code.{item_of};
+ghost use Rattle.walrus_model.specs.Kept.{ReachedCount};
 ghost use Rattle.walrus_model.specs.Live.{IsLive};
-ghost use Rattle.walrus_module.specs.View.{view};
-ghost use Rattle.walrus_types.specs.ModuleTypes.{type_slots};
-ghost use Rattle.walrus_types.specs.Operators.{type_item};
-ghost use Rattle.walrus_types.specs.TypeSlots.{group_at};
-ghost use Rattle.walrus_contents.specs.Named.{NamesItself, group_names, items_in};
+ghost use Rattle.walrus_module.specs.View.{contents_of, view};
+ghost use Rattle.walrus_types.specs.Operators.{Types};
+ghost use Rattle.walrus_contents.specs.Named.{NamesItself, group_names};
 ghost use Rattle.walrus_contents.specs.There.{IsRefusal, IsSound};
 ghost use Rattle.walrus_contents.specs.View.{parts_view};
-ghost use Rattle.walrus.specs.Marked.{HoldsMarked, MarksAreKept, MarksKept, MarksFirst, MarksSpare, ReachesSound, ReachesUnsound};
-ghost use Rattle.walrus.specs.MarkedItems.{HasPlace, HavePlaces, has_mark};
-ghost use Rattle.walrus.specs.Used.{Enters, EntersAll, Followed, Follows, NamesDead, Notes, OneDead};
+ghost use Rattle.walrus.specs.LiveCount.{live_count};
+ghost use Rattle.walrus.specs.Marked.{Finds, HoldsMarked, MarksAreKept, MarksKept, MarksFirst, MarksSpare, ReachesSound, ReachesUnsound};
+ghost use Rattle.walrus.specs.MarkedItems.{HavePlaces};
+ghost use Rattle.walrus.specs.Used.{Enters, EntersAll, Found, Follows, IsDead, NamesDead, NotesAll, OneDead};
+ghost use Rattle.walrus.specs.Worklist.{Keeps};
 
 use crate::passes::marks::MarkedItems;
+use crate::passes::worklist::Worklist;
 use std::alloc::{AllocError, Global};
 use std::result;
 use walrus_base::Marks;
 use walrus_contents::{Parts, is_live, push_item_names, push_root_names};
 use walrus_module::{
     DataKey, ElementKey, Error, FunctionKey, GlobalKey, IdHashSet, ItemId, MemoryKey, Module,
-    ModuleTypes, Result, TableKey, TagKey, TypeId, TypeKey,
+    Result, TableKey, TagKey, TypeId, TypeKey,
 };
 
 /// The items that the roots of a module reach, by kind. Its roots are its exports, its start function, its active segments of data and of
@@ -62,6 +63,19 @@ impl Used {
         Ok(Used::of(alloc, &marks)?)
     }
 
+    /// The same as [`Used::new`], with the number of items that the roots reach. The memory that stays with data, and that they
+    /// don't reach, is in the set of its kind and isn't counted. Refused as [`Used::new`] is.
+    pub fn counted(alloc: Global, module: &Module) -> Result<(Used, usize)>
+        ensures kept { IfOk result (λ found. MarksKept (view «module».now) found.0) }
+        ensures count { IfOk result (λ found. ReachedCount (view «module».now) found.1) }
+        ensures at_most { IfOk result (λ found. found.1 ≤ live_count (contents_of «module».now)) }
+        ensures sound { OnOk result (ReachesSound (view «module».now)) }
+        ensures refused { IfErr result (IsRefusal (ReachesUnsound (view «module».now))) }
+    {
+        let (marks, count) = marked_and_counted(alloc, module)?;
+        Ok((Used::of(alloc, &marks)?, count))
+    }
+
     // The sets of what is marked.
     fn of(alloc: Global, marks: &MarkedItems) -> result::Result<Used, AllocError>
         ensures { IfOk result (HoldsMarked marks.now) }
@@ -96,6 +110,17 @@ pub(crate) fn marked(alloc: Global, module: &Module) -> Result<MarkedItems>
     ensures sound { OnOk result (ReachesSound (view «module».now)) }
     ensures refused { IfErr result (IsRefusal (ReachesUnsound (view «module».now))) }
 {
+    let (marks, _count) = marked_and_counted(alloc, module)?;
+    Ok(marks)
+}
+
+// The same, with the number of items that the roots reach.
+fn marked_and_counted(alloc: Global, module: &Module) -> Result<(MarkedItems, usize)>
+    ensures kept { IfOk result (λ found. MarksAreKept (view «module».now) found.0) }
+    ensures count { IfOk result (λ found. ReachedCount (view «module».now) found.1) }
+    ensures sound { OnOk result (ReachesSound (view «module».now)) }
+    ensures refused { IfErr result (IsRefusal (ReachesUnsound (view «module».now))) }
+{
     let parts = Parts {
         types: &module.types,
         locals: &module.locals,
@@ -115,14 +140,13 @@ pub(crate) fn marked(alloc: Global, module: &Module) -> Result<MarkedItems>
 }
 
 // The same over the parts of a module.
-fn search(alloc: Global, parts: Parts<'_>) -> Result<MarkedItems>
-    ensures { MatchResult result
-        (λ marks. MarksAreKept (parts_view parts.entry) marks × ReachesSound (parts_view parts.entry))
+fn search(alloc: Global, parts: Parts<'_>) -> Result<(MarkedItems, usize)>
+    ensures { MatchResult result (λ found. Finds (parts_view parts.entry) found.0 found.1)
         (IsRefusal (ReachesUnsound (parts_view parts.entry))) }
 {
-    let mut marks = reached(alloc, parts)?;
+    let (mut marks, count) = reached(alloc, parts)?.marks_and_count();
     mark_spare_memory(parts, &mut marks);
-    Ok(marks)
+    Ok((marks, count))
 }
 
 // Marks the first memory where a data segment is marked and no memory is. What that memory keeps isn't followed.
@@ -152,39 +176,32 @@ fn mark_first_memory(parts: Parts<'_>, marks: &mut MarkedItems)
     }
 }
 
-// The items that the roots reach, marked. Refused as [`Used::new`] is.
-fn reached(alloc: Global, parts: Parts<'_>) -> Result<MarkedItems>
-    ensures { MatchResult result (Followed (parts_view parts.entry))
+// The items that the roots reach, all of them taken. Refused as [`Used::new`] is.
+fn reached(alloc: Global, parts: Parts<'_>) -> Result<Worklist>
+    ensures { MatchResult result (λ list. Found (parts_view parts.entry) list.marks list.taken)
         (IsRefusal (ReachesUnsound (parts_view parts.entry))) }
 {
-    let mut marks = MarkedItems::none(alloc, parts)?;
-    let mut found = Vec::new(alloc);
+    let mut list = Worklist::none(alloc, parts)?;
     let mut roots = Vec::new(alloc);
     push_root_names(parts, &mut roots)?;
-    enter_all(parts, roots.as_slice(), &mut marks, &mut found)?;
-    follow(alloc, parts, &mut marks, &mut found)?;
-    Ok(marks)
+    enter_all(parts, roots.as_slice(), &mut list)?;
+    follow(alloc, parts, &mut list)?;
+    Ok(list)
 }
 
-// Marks what each item entered names, those that are entered on the way too.
-fn follow(
-    alloc: Global,
-    parts: Parts<'_>,
-    marks: &mut MarkedItems,
-    found: &mut Vec<ItemId>,
-) -> Result<()>
-    requires { Follows (parts_view parts) marks.old (items_in found.old) 0 }
-    ensures { MatchResult result
-        (λ _. Followed (parts_view parts.entry) marks.new)
+// Takes each item entered, and enters what it names.
+fn follow(alloc: Global, parts: Parts<'_>, list: &mut Worklist) -> Result<()>
+    requires start { list.old.taken ≡ 0 }
+    requires follows { Follows (parts_view parts) list.old }
+    ensures { MatchResult result (λ _. Found (parts_view parts.entry) list.new.marks list.new.taken)
         (IsRefusal (ReachesUnsound (parts_view parts.entry))) }
 {
     let mut named = Vec::new(alloc);
-    for taken in 0..usize::MAX {
-        if taken >= found.len() {
+    for _turn in 0..usize::MAX {
+        let Some(item) = list.take() else {
             break;
-        }
-        let item = found[taken];
-        follow_item(alloc, parts, item, &mut named, marks, found)?;
+        };
+        follow_item(alloc, parts, item, &mut named, list)?;
     }
     Ok(())
 }
@@ -195,121 +212,79 @@ fn follow_item(
     parts: Parts<'_>,
     item: ItemId,
     named: &mut Vec<ItemId>,
-    marks: &mut MarkedItems,
-    found: &mut Vec<ItemId>,
+    list: &mut Worklist,
 ) -> Result<()>
     requires live { IsLive (parts_view parts) (item_of item) }
-    requires places { HavePlaces (parts_view parts) marks.old }
+    requires kept { Keeps (parts_view parts) list.old }
     ensures { MatchResult result
         (λ _. IsSound (parts_view parts.entry) (item_of item) × EntersAll (parts_view parts.entry)
-        (NamesItself (parts_view parts.entry) (item_of item)) marks.old marks.new (items_in found.old)
-        (items_in found.new))
+        (NamesItself (parts_view parts.entry) (item_of item)) list.old list.new)
         (IsRefusal ((IsSound (parts_view parts.entry) (item_of item) → ⊥)
         ⊎ OneDead (parts_view parts.entry) (NamesItself (parts_view parts.entry) (item_of item)))) }
 {
     named.clear();
     push_item_names(alloc, parts, item, named)?;
-    enter_all(parts, named.as_slice(), marks, found)
+    enter_all(parts, named.as_slice(), list)
 }
 
-// Marks live items, and enters each that wasn't marked, a type with its whole group.
-fn enter_all(
-    parts: Parts<'_>,
-    items: &[ItemId],
-    marks: &mut MarkedItems,
-    found: &mut Vec<ItemId>,
-) -> Result<()>
-    requires { HavePlaces (parts_view parts) marks.old }
+// Enters live items, a type with its whole group, but for those that were entered. Takes no memory.
+fn enter_all(parts: Parts<'_>, items: &[ItemId], list: &mut Worklist) -> Result<()>
+    requires { Keeps (parts_view parts) list.old }
     ensures { MatchResult result
-        (λ _. Enters (parts_view parts.entry) (map item_of items.now) marks.old marks.new (items_in found.old)
-        (items_in found.new))
-        (IsRefusal (NamesDead (parts_view parts.entry) (map item_of items.now))) }
+        (λ _. Enters (parts_view parts.entry) (map item_of items.now) list.old list.new)
+        (IsDead (NamesDead (parts_view parts.entry) (map item_of items.now))) }
 {
     for item in items {
-        enter(parts, *item, marks, found)?;
+        enter(parts, *item, list)?;
     }
     Ok(())
 }
 
 // The same for one item.
-fn enter(
-    parts: Parts<'_>,
-    item: ItemId,
-    marks: &mut MarkedItems,
-    found: &mut Vec<ItemId>,
-) -> Result<()>
-    requires { HavePlaces (parts_view parts) marks.old }
+fn enter(parts: Parts<'_>, item: ItemId, list: &mut Worklist) -> Result<()>
+    requires { Keeps (parts_view parts) list.old }
     ensures { MatchResult result
-        (λ _. Enters (parts_view parts.entry) (item_of item ∷ []) marks.old marks.new (items_in found.old)
-        (items_in found.new))
-        (IsRefusal (IsLive (parts_view parts.entry) (item_of item) → ⊥)) }
+        (λ _. Enters (parts_view parts.entry) (item_of item ∷ []) list.old list.new)
+        (IsDead (IsLive (parts_view parts.entry) (item_of item) → ⊥)) }
 {
     parts.types.groups_are_whole();
     if !is_live(parts, item) {
         return Err(Error::DeadItem);
     }
-    if note(item, marks, found)? {
-        note_group(parts, item, marks, found)?;
+    if list.note(item) {
+        note_group(parts, item, list);
     }
     Ok(())
 }
 
-// Marks the members of a live type's group, and enters each that wasn't marked. No other item has a group.
-fn note_group(
-    parts: Parts<'_>,
-    item: ItemId,
-    marks: &mut MarkedItems,
-    found: &mut Vec<ItemId>,
-) -> result::Result<(), AllocError>
+// Enters the members of a live type's group, but for those that were entered. No other item has a group.
+fn note_group(parts: Parts<'_>, item: ItemId, list: &mut Worklist)
     requires live { IsLive (parts_view parts) (item_of item) }
-    requires places { HavePlaces (parts_view parts) marks.old }
-    ensures { OnOk result (Notes (group_names (parts_view parts.entry) (item_of item)) marks.old marks.new
-        (items_in found.old) (items_in found.new)) }
+    requires kept { Keeps (parts_view parts) list.old }
+    ensures { NotesAll (parts_view parts.entry) (group_names (parts_view parts.entry) (item_of item))
+        list.old list.new }
 {
     match item {
-        ItemId::Type(id) => note_members(parts.types, id, marks, found),
+        ItemId::Type(id) => note_members(parts, id, list),
         ItemId::Function(_)
         | ItemId::Table(_)
         | ItemId::Memory(_)
         | ItemId::Tag(_)
         | ItemId::Global(_)
         | ItemId::Element(_)
-        | ItemId::Data(_) => Ok(()),
+        | ItemId::Data(_) => {}
     }
 }
 
 // The same for a live type.
-fn note_members(
-    types: &ModuleTypes,
-    id: TypeId,
-    marks: &mut MarkedItems,
-    found: &mut Vec<ItemId>,
-) -> result::Result<(), AllocError>
-    requires live { IsLiveAt (type_slots types.now) (place id) }
-    requires places { (p : ℕ) → IsLiveAt (type_slots types.now) p → HasPlace marks.old (type_item p) }
-    ensures { OnOk result (Notes (map type_item (group_at (type_slots types.now) (place id)))
-        marks.old marks.new (items_in found.old) (items_in found.new)) }
+fn note_members(parts: Parts<'_>, id: TypeId, list: &mut Worklist)
+    requires live { IsLive (parts_view parts) (Types, place id) }
+    requires kept { Keeps (parts_view parts) list.old }
+    ensures { NotesAll (parts_view parts.entry) (group_names (parts_view parts.entry) (Types, place id))
+        list.old list.new }
 {
-    types.groups_are_whole();
-    'members: for member in types.group(id) {
-        note(ItemId::Type(member), marks, found)?;
+    parts.types.groups_are_whole();
+    'members: for member in parts.types.group(id) {
+        list.note(ItemId::Type(member));
     }
-    Ok(())
-}
-
-// Marks an item, enters it where it wasn't marked, and answers whether that is so.
-fn note(
-    item: ItemId,
-    marks: &mut MarkedItems,
-    found: &mut Vec<ItemId>,
-) -> result::Result<bool, AllocError>
-    requires { HasPlace marks.old (item_of item) }
-    ensures { IfOk result (λ is_new. (is_new ≡ not (has_mark marks.old (item_of item)))
-        × Notes (item_of item ∷ []) marks.old marks.new (items_in found.old) (items_in found.new)) }
-{
-    let is_new = marks.mark(item);
-    if is_new {
-        found.push(item)?;
-    }
-    Ok(is_new)
 }

@@ -1,4 +1,4 @@
-use Rattle.std.proofs.Common.{Bool, List, Option, Some, ℕ, ap, slice_set, ◌∙◌, ◌+◌, ◌≡◌, arith}
+use Rattle.std.proofs.Common.{Bool, Some, ℕ, ap, slice_set, ◌∙◌, ◌+◌, ◌≡◌, arith}
 use Rattle.std.specs.Prelude.{option_map}
 use Rattle.std.proofs.lemmas.List.{map-set}
 use Rattle.walrus_base.specs.Id.{place}

@@ -1,6 +1,5 @@
 use Rattle.std.proofs.lemmas.Result.{err_from_is_err_and}
 use Rattle.wasm_frames.specs.Record.{sections}
-use Rattle.walrus_reading.specs.Parsed.{features_so_far}
 use Rattle.walrus_reading.proofs.Accepting.{is_parsed, refused_bytes}
 use Rattle.walrus_reading.proofs.NarrowRules.{narrow_rules}
 use Rattle.walrus_reading.proofs.Placed.{own_ids}
@@ -11,22 +10,22 @@ use Rattle.walrus_reading.proofs.module.read.Goals as goal
 pub returns-in_err-raw-clause-refused : goal.returns-in_err-raw-clause-refused
 returns-in_err-raw-clause-refused c = λ config with.
     let p = err_from_is_err_and c.from_residual.result c.from_residual.ensures.1 in
-    rw (p.1, p.2) (refused_bytes config (features_so_far c.args.only_stable) with c.args.bytes.now _ (frames_refused (features_so_far c.args.only_stable) c.args.bytes.now _ c.in_err-raw.ensures.only c.in_err-raw.ensures.not_large))
+    rw (p.1, p.2) (refused_bytes config c.args.features with c.args.bytes.now _ (frames_refused c.args.features c.args.bytes.now _ c.in_err-raw.ensures.only c.in_err-raw.ensures.not_large))
 
 pub returns-in_err-check-clause-refused : goal.returns-in_err-check-clause-refused
 returns-in_err-check-clause-refused c = λ config with.
     let p = err_from_is_err_and c.from_residual-in_err-check.result c.from_residual-in_err-check.ensures.1 in
-    rw (p.1, p.2) (refused_bytes config (features_so_far c.args.only_stable) with c.args.bytes.now _ (rules_refused (features_so_far c.args.only_stable) c.args.bytes.now (sections c.in_ok-raw.raw) _ c.in_ok-raw.ensures.found c.in_err-check.ensures))
+    rw (p.1, p.2) (refused_bytes config c.args.features with c.args.bytes.now _ (rules_refused c.args.features c.args.bytes.now (sections c.in_ok-raw.raw) _ c.in_ok-raw.ensures.found c.in_err-check.ensures))
 
 pub returns-in_err-check_supported-clause-refused : goal.returns-in_err-check_supported-clause-refused
 returns-in_err-check_supported-clause-refused c = λ config with.
     let p = err_from_is_err_and c.from_residual-in_err-check_supported.result c.from_residual-in_err-check_supported.ensures.1 in
-    rw (p.1, p.2) (refused_bytes config (features_so_far c.args.only_stable) with c.args.bytes.now _ (supported_refused (features_so_far c.args.only_stable) c.args.bytes.now (sections c.in_ok-raw.raw) _ c.in_ok-raw.ensures.found c.in_err-check_supported.ensures))
+    rw (p.1, p.2) (refused_bytes config c.args.features with c.args.bytes.now _ (supported_refused c.args.features c.args.bytes.now (sections c.in_ok-raw.raw) _ c.in_ok-raw.ensures.found c.in_err-check_supported.ensures))
 
 pub returns-in_err-check_room-clause-refused : goal.returns-in_err-check_room-clause-refused
 returns-in_err-check_room-clause-refused c = λ config with.
     let p = err_from_is_err_and c.from_residual-in_err-check_room.result c.from_residual-in_err-check_room.ensures.1 in
-    rw (p.1, p.2) (refused_bytes config (features_so_far c.args.only_stable) with c.args.bytes.now _ (room_refused (features_so_far c.args.only_stable) c.args.bytes.now (sections c.in_ok-raw.raw) _ c.in_ok-raw.ensures.found c.in_err-check_room.ensures))
+    rw (p.1, p.2) (refused_bytes config c.args.features with c.args.bytes.now _ (room_refused c.args.features c.args.bytes.now (sections c.in_ok-raw.raw) _ c.in_ok-raw.ensures.found c.in_err-check_room.ensures))
 
 pub read_contents-requires-clause-rules : goal.read_contents-requires-clause-rules
 read_contents-requires-clause-rules c = narrow_rules (sections c.in_ok-raw.raw) c.in_ok-check.ensures
@@ -37,8 +36,8 @@ read_contents-requires-clause-room c = fits_indices c.args.bytes.now (sections c
 pub returns-in_err-contents-clause-refused : goal.returns-in_err-contents-clause-refused
 returns-in_err-contents-clause-refused c = λ config with.
     let p = err_from_is_err_and c.from_residual-in_err-contents.result c.from_residual-in_err-contents.ensures.1 in
-    rw (p.1, p.2) (refused_bytes config (features_so_far c.args.only_stable) with c.args.bytes.now _
-    (bodies_refused (features_so_far c.args.only_stable) c.args.bytes.now (sections c.in_ok-raw.raw) _ c.in_ok-raw.ensures.found c.in_err-contents.ensures.taken))
+    rw (p.1, p.2) (refused_bytes config c.args.features with c.args.bytes.now _
+    (bodies_refused c.args.features c.args.bytes.now (sections c.in_ok-raw.raw) _ c.in_ok-raw.ensures.found c.in_err-contents.ensures.taken))
 
 pub returns-clause-taken : goal.returns-clause-taken
 returns-clause-taken c = record {
@@ -50,8 +49,8 @@ returns-clause-taken c = record {
 }
 
 pub returns-clause-own_ids : goal.returns-clause-own_ids
-returns-clause-own_ids c = own_ids (features_so_far c.args.only_stable) (sections c.in_ok-raw.raw) c.in_ok-contents.contents c.in_ok-contents.ensures.taken
+returns-clause-own_ids c = own_ids c.args.features (sections c.in_ok-raw.raw) c.in_ok-contents.contents c.in_ok-contents.ensures.taken
 
 pub returns-clause-found : goal.returns-clause-found
 returns-clause-found c = λ config with.
-    is_parsed config (features_so_far c.args.only_stable) with c.args.bytes.now c.in_ok-contents.contents c.in_ok-contents.ensures.produced (returns-clause-taken c)
+    is_parsed config c.args.features with c.args.bytes.now c.in_ok-contents.contents c.in_ok-contents.ensures.produced (returns-clause-taken c)

@@ -1,5 +1,4 @@
-use Rattle.std.proofs.Common.{ap₂, refl, ◌∙◌}
-use Rattle.wasm_entries.specs.Record.{data_entry}
+use Rattle.std.proofs.Common.{ap₂, refl}
 use Rattle.walrus_items.specs.Data.{data_segments}
 use Rattle.walrus_model.specs.Abstract.{DataSegment}
 use Rattle.walrus_reading.specs.Held.{HoldsData}

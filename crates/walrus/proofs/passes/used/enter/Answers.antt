@@ -1,12 +1,25 @@
 use Rattle.std.proofs.Common.{rules}
 use Rattle.walrus_code.specs.Code.{item_of}
 use Rattle.walrus_model.specs.Live.{IsLive}
-use Rattle.walrus_contents.specs.Named.{items_in}
 use Rattle.walrus_contents.specs.View.{lent, parts_view}
 use Rattle.walrus_contents.proofs.Groups.{GroupsAreWhole, groups_whole}
-use Rattle.walrus.proofs.Entered.{enters_marked, enters_new}
+use Rattle.walrus.proofs.Entered.{enters_marked, enters_new, has_room, notes_one}
 use Rattle.walrus.proofs.passes.used.enter.Goals as goal
-use Rattle.walrus.proofs.passes.used.enter.Goals.{then-branch+in_ok-note_group, else-branch}
+use Rattle.walrus.proofs.passes.used.enter.Goals.{else-note, then-note}
+
+pub note-requires-clause-room : goal.note-requires-clause-room
+note-requires-clause-room c =
+    let v = parts_view c.args.parts in
+    let x = item_of c.args.item in
+    let live : IsLive v x = search rules in
+    has_room v c.args.list.now c.requires x live
+
+pub note_group-requires-clause-kept : goal.note_group-requires-clause-kept
+note_group-requires-clause-kept c =
+    let v = parts_view c.args.parts in
+    let x = item_of c.args.item in
+    let live : IsLive v x = search rules in
+    (notes_one v x c.args.list.now c.note.new.self c.requires live c.note.ensures.noted).kept
 
 pub returns : goal.returns
 returns c =
@@ -14,11 +27,10 @@ returns c =
     let x = item_of c.args.item in
     let whole : GroupsAreWhole v = groups_whole (lent c.args.parts) c.groups_are_whole.ensures in
     let live : IsLive v x = search rules in
-    let noted = c.in_ok-note.ensures in
-    let old = c.args.marks.now in
-    let mid = c.note.new.marks in
-    let before = items_in c.args.found.now in
-    elim c.if-branch.branch [
-      | then-branch+in_ok-note_group w ↦ rw (w.found-is, w.marks-is) (enters_new v whole x live old mid w.note_group.new.marks before (items_in c.note.new.found) (items_in w.note_group.new.found) noted.1 w.in_ok-note_group.ensures)
-      | else-branch w ↦ rw (w.found-is, w.marks-is) (enters_marked v whole x live old mid before (items_in c.note.new.found) c.in_ok-note.field-0 noted.0 w.if-branch.false noted.1)
+    let old = c.args.list.now in
+    let mid = c.note.new.self in
+    let noted = notes_one v x old mid c.requires live c.note.ensures.noted in
+    elim c.if-note.branch [
+      | then-note w ↦ rw (w.list-is) (enters_new v whole x live old mid w.note_group.new.list noted w.note_group.ensures)
+      | else-note w ↦ rw (w.list-is) (enters_marked v whole x live old mid c.note.result c.requires c.note.ensures.is_new w.if-note.false noted)
     ]

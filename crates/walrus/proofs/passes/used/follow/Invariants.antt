@@ -1,7 +1,8 @@
-use Rattle.walrus_contents.specs.Named.{items_in}
+use Rattle.std.proofs.Common.{◌≡◌}
 use Rattle.walrus_contents.specs.View.{parts_view}
 use Rattle.walrus.specs.Used.{Follows}
 use Rattle.walrus.proofs.passes.used.follow.Given as goal
 
-abbrev pub invariant-loop-taken : goal.invariant-loop-taken
-invariant-loop-taken l = Follows (parts_view l.parts) l.marks (items_in l.found) l.taken
+-- each turn takes one item
+abbrev pub invariant-loop-turn : goal.invariant-loop-turn
+invariant-loop-turn l = Follows (parts_view l.parts) l.list × (l.list.taken ≡ l._turn)

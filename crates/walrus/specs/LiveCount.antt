@@ -1,0 +1,18 @@
+-- How many live items a module's collections hold.
+use Rattle.std.specs.Prelude.{ℕ, ◌+◌, count_by, is_some}
+use Rattle.walrus_types.specs.ModuleTypes.{type_slots}
+use Rattle.walrus_items.specs.Data.{data_segments}
+use Rattle.walrus_items.specs.Elements.{elements}
+use Rattle.walrus_items.specs.Functions.{functions}
+use Rattle.walrus_items.specs.Globals.{globals}
+use Rattle.walrus_items.specs.Memories.{memories}
+use Rattle.walrus_items.specs.Tables.{tables}
+use Rattle.walrus_items.specs.Tags.{tags}
+use Rattle.walrus_contents.specs.declared.parts.Contents.{Contents}
+
+-- those of the eight collections together
+abbrev pub live_count : Contents → ℕ
+live_count c =
+    count_by is_some (type_slots c.types) + count_by is_some (functions c.funcs) + count_by is_some (tables c.tables)
+    + count_by is_some (memories c.memories) + count_by is_some (tags c.tags) + count_by is_some (globals c.globals)
+    + count_by is_some (elements c.elements) + count_by is_some (data_segments c.data_)

@@ -1,0 +1,112 @@
+//! An exported function that a program deletes, or leaves without a body: it is found, and nothing changes.
+
+use std::alloc::Global;
+use std::test::Fail;
+use test_support::{are, demand};
+use walrus::passes::{Used, gc};
+use walrus::{Error, ExportItem, FunctionBuilder, FunctionId, FunctionKind, Module, ModuleConfig};
+
+// What is left of the module where nothing is exported: the function that nothing reaches.
+const UNREACHED: &str = "00 61 73 6D 01 00 00 00 01 04 01 60 00 00 03 02 01 00 0A 04 01 02 00 0B";
+
+// A function that takes and gives nothing and does nothing.
+fn add_function(alloc: Global, module: &mut Module) -> Result<FunctionId, Error> {
+    let builder = FunctionBuilder::new(alloc, &mut module.types, &[], &[])?;
+    let local = builder.local_func(Vec::new(alloc))?;
+    module.funcs.add_local(local)
+}
+
+// An exported function, and one that nothing reaches.
+fn with_exported(alloc: Global) -> Result<(Module, FunctionId, FunctionId), Error> {
+    let mut config = ModuleConfig::new();
+    config.generate_producers_section(false);
+    let mut module = Module::with_config(alloc, config)?;
+    let exported = add_function(alloc, &mut module)?;
+    let unreached = add_function(alloc, &mut module)?;
+    module.exports.add("f", ExportItem::Function(exported))?;
+    Ok((module, exported, unreached))
+}
+
+fn is_dead(answer: Result<(), Error>) -> bool {
+    matches!(answer, Err(Error::DeadItem))
+}
+
+fn is_searched(alloc: Global, module: &Module) -> Result<(), Error> {
+    Used::new(alloc, module)?;
+    Ok(())
+}
+
+fn is_emitted(alloc: Global, module: &mut Module) -> Result<(), Error> {
+    module.emit_wasm(alloc)?;
+    Ok(())
+}
+
+// Whether a search, gc and emission find it dead, each twice.
+fn is_found(alloc: Global, module: &mut Module) -> bool {
+    is_dead(is_searched(alloc, module))
+        && is_dead(gc::run(alloc, module))
+        && is_dead(is_emitted(alloc, module))
+        && is_dead(gc::run(alloc, module))
+        && is_dead(is_emitted(alloc, module))
+}
+
+// Whether the module has its export, the other function and so many functions still.
+fn stands(module: &Module, unreached: FunctionId, count: usize) -> bool {
+    module.exports.len() == 1
+        && module.exports.get_func("f").is_ok()
+        && module.funcs.contains(unreached)
+        && module.funcs.len() == count
+        && module.elements.is_empty()
+}
+
+// Whether the rest is written once the export is gone too.
+fn leaves_the_other(alloc: Global, module: &mut Module) -> bool {
+    if module.exports.remove("f").is_err() {
+        return false;
+    }
+    match module.emit_wasm(alloc) {
+        Ok(bytes) => are(alloc, &bytes, UNREACHED),
+        Err(_) => false,
+    }
+}
+
+fn deleted_is_found(alloc: Global) -> bool {
+    let Ok((mut module, exported, unreached)) = with_exported(alloc) else {
+        return false;
+    };
+    if !module.funcs.contains(exported) {
+        return false;
+    }
+    module.funcs.delete(exported);
+    is_found(alloc, &mut module)
+        && stands(&module, unreached, 1)
+        && leaves_the_other(alloc, &mut module)
+}
+
+#[test]
+fn a_deleted_function_that_is_exported_is_found(rt: HostRuntime) -> Result<(), Fail> {
+    demand(deleted_is_found(rt.alloc()), "DeadItem")
+}
+
+fn lose_body(module: &mut Module, function: FunctionId) -> bool {
+    if !module.funcs.contains(function) {
+        return false;
+    }
+    let ty = module.funcs.get(function).ty();
+    module.funcs.get_mut(function).kind = FunctionKind::Uninitialized(ty);
+    true
+}
+
+fn bodiless_is_found(alloc: Global) -> bool {
+    let Ok((mut module, exported, unreached)) = with_exported(alloc) else {
+        return false;
+    };
+    lose_body(&mut module, exported)
+        && is_found(alloc, &mut module)
+        && stands(&module, unreached, 2)
+}
+
+#[test]
+fn an_exported_function_without_a_body_is_found(rt: HostRuntime) -> Result<(), Fail> {
+    demand(bodiless_is_found(rt.alloc()), "DeadItem")
+}

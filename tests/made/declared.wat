@@ -1,0 +1,12 @@
+(module
+  (type $none (func))
+  (func $first (type $none))
+  (func $listed (type $none))
+  (func $named (type $none))
+  (func $exported (export "f") (type $none))
+  (global $reference (export "g") funcref (ref.func $named))
+  (func (export "run") (result funcref)
+    (drop (ref.func $listed))
+    (drop (ref.func $first))
+    (ref.func $exported))
+  (elem $unnamed func $listed $first))
