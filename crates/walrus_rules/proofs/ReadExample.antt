@@ -31,7 +31,6 @@ use Rattle.walrus_rules.specs.Examples.{two_functions_bytes, one_function_bytes}
 use Rattle.walrus_rules.specs.Spelling.{IsSpelledAs}
 use Rattle.walrus_rules.proofs.Worked.{one_spelled}
 use Rattle.walrus_model.specs.Sections.{body_with}
-use Rattle.walrus_model.proofs.Supported.{are_supported}
 use Rattle.walrus_model.specs.Abstract.{Body}
 use Rattle.walrus_model.specs.Names.{body_of}
 use Rattle.walrus_types.specs.Operators.{Op}
@@ -227,12 +226,12 @@ no_count n e = absurd (cc)
 
 pub two_functions_read : (c : Config) → ReadsSoFar c two_functions_bytes two_functions
 two_functions_read c =
-    reads_so_far c two_functions_bytes two_functions_sections (([], just_end) ∷ ([], just_end) ∷ []) two_frames (are_supported two_functions_sections) in_order refl (λ n is. no_count n is)
+    reads_so_far c two_functions_bytes two_functions_sections (([], just_end) ∷ ([], just_end) ∷ []) two_frames refl in_order refl (λ n is. no_count n is)
     (body_read c two_functions_sections (locals_from 0 0), (body_read c two_functions_sections (locals_from 0 0), tt))
 
 pub one_function_read : (c : Config) → ReadsSoFar c one_function_bytes one_function
 one_function_read c =
-    reads_so_far c one_function_bytes one_function_sections (([], just_end) ∷ []) one_frames (are_supported one_function_sections) in_order refl (λ n is. no_count n is)
+    reads_so_far c one_function_bytes one_function_sections (([], just_end) ∷ []) one_frames refl in_order refl (λ n is. no_count n is)
     (body_read c one_function_sections (locals_from 0 0), tt)
 
 -- what the text of the worked row says is this module

@@ -20,7 +20,7 @@ use Rattle.walrus_rules.specs.WellMade.{IsWellMade}
 use Rattle.walrus_rules.proofs.BroughtWell.{brought_well}
 use Rattle.walrus_rules.proofs.FitsTold.{ok_fits}
 use Rattle.walrus_rules.proofs.NoCause.{well_no_cause}
-pub use Rattle.walrus_rules.proofs.ReadSoFar.{reads_so_far, so_far_says}
+pub use Rattle.walrus_rules.proofs.ReadSoFar.{reads_so_far}
 use Rattle.walrus_rules.proofs.StepParsed.{live_v}
 use Rattle.walrus_rules.proofs.StepRead.{read_is_plain, steps_come_out_lem}
 use Rattle.walrus_rules.proofs.WellStays.{collected_well, leaves_well}
