@@ -1,7 +1,6 @@
 -- Where gc keeps, of each kind of item, what is kept, the abstract module is collected.
-use Rattle.std.proofs.Common.{◌≡◌, ℕ, zero, suc, length, Bool, ◌==◌, inl, inr, ⊎_elim, eqb-true, true, false, List, [], ◌∷◌, map, Option, Some, None, refl, ap, sym, subst, ◌∙◌}
+use Rattle.std.proofs.Common.{◌≡◌, ℕ, zero, suc, length, Bool, inl, inr, true, false, List, [], ◌∷◌, map, Option, Some, None, refl, ap, sym, subst, ◌∙◌}
 use Rattle.std.specs.Prelude.{◌↔◌, Contains, option_map, if◌then◌else◌}
-use Rattle.std.proofs.lemmas.Bool.{false≢true}
 use Rattle.std.proofs.lemmas.Option.{none-some}
 use Rattle.std.proofs.lemmas.List.{length-map}
 use Rattle.std.proofs.lemmas.List.Elements.{Contains-append_left}
@@ -17,7 +16,6 @@ use Rattle.walrus_types.specs.Operators.{Types, Functions, Tables, Memories, Tag
 use Rattle.walrus_types.specs.PlaceList.{has}
 use Rattle.walrus_types.specs.TypeDef.{TypeDef}
 use Rattle.walrus_types.specs.Whole.{KeepsGroups}
-use Rattle.walrus_types.proofs.Noted.{or_cases}
 use Rattle.walrus_items.specs.Functions.{functions, ModuleFunctions}
 use Rattle.walrus_parts.specs.Kinds.{imported}
 use Rattle.walrus_items.specs.Imports.{ImportValue, stays_under, imports as imports_in, ModuleImports}
@@ -36,6 +34,7 @@ use Rattle.walrus_contents.specs.View.{contents_view, data_of, element_of, globa
 use Rattle.walrus_contents.specs.declared.parts.Contents.{Contents}
 use Rattle.walrus_contents.proofs.Lookups.{mapped_some}
 use Rattle.walrus.specs.Marked.{MarksAreKept}
+use Rattle.walrus_contents.proofs.ExportedRefs.{contained_has}
 use Rattle.walrus.specs.MarkedItems.{has_mark}
 use Rattle.walrus.specs.declared.passes.marks.MarkedItems.{MarkedItems}
 use Rattle.walrus_model.specs.Abstract.{Abstract, Import}
@@ -43,7 +42,7 @@ use Rattle.walrus_model.specs.Kept.{IsImportOf, Kept}
 use Rattle.walrus_model.specs.Pipeline.{Collected, KeepsOnly}
 use Rattle.walrus_model.specs.Reached.{step}
 use Rattle.walrus_model.specs.Refers.{named_by, type_names}
-use Rattle.walrus_model.proofs.Lists.{Contains-head, Contains-map, Contains-tail}
+use Rattle.walrus_model.proofs.Lists.{Contains-map}
 use Rattle.walrus_module.specs.View.{function, handlers_at}
 use Rattle.walrus.specs.Collected as slots
 
@@ -58,13 +57,6 @@ keeps_only {X} keeps Q same old new is = subst (λ (s : List (Option X)). slots.
   left = λ i x h. ((same i).0 (kept_marked keeps old i x h), kept_was keeps old i x h);
   places = length-kept_by keeps old;
 })
-
-has_contains : (g : List ℕ) (p : ℕ) → has g p ≡ true → Contains g p
-has_contains [] p h = absurd (false≢true h)
-has_contains (x ∷ g) p h = ⊎_elim
-    (λ here. subst (λ (q : ℕ). Contains (x ∷ g) q) (eqb-true x p here) (Contains-head x g))
-    (λ later. Contains-tail x p g (has_contains g p later))
-    (or_cases (x == p) (has g p) h)
 
 -- the same of what is seen of each slot
 module _ {X Y : Type 0} (see : ℕ → X → Y) (K : ℕ → Type 0) (old new : List (Option X)) (k : slots.KeepsOnly K old new) where
@@ -81,7 +73,7 @@ module _ {X Y : Type 0} (see : ℕ → X → Y) (K : ℕ → Type 0) (old new : 
 -- what is kept of the types keeps its group
 keeps_groups : (old : Contents) (i q : ℕ) (x : TypeDef) → item_at (type_slots old.types) i ≡ Some x → Kept (contents_view old) (Types, i) → has x.group q ≡ true → Kept (contents_view old) (Types, q)
 keeps_groups old i q x at (inl reached) g =
-    let written : Contains (type_names x) (Types, q) = Contains-append_left (map type_item x.group) (map type_item (sub_names x.sub)) (Types, q) (Contains-map type_item q x.group (has_contains x.group q g)) in
+    let written : Contains (type_names x) (Types, q) = Contains-append_left (map type_item x.group) (map type_item (sub_names x.sub)) (Types, q) (Contains-map type_item q x.group (contained_has x.group q g)) in
     inl (step (Types, i) (Types, q) reached (inl (subst (λ (o : Option TypeDef). Contains (named_by type_names o) (Types, q)) (sym at) written)))
 keeps_groups old i q x at (inr spare) g = let apart : Types ≡ Memories = ap (λ (y : Item). y.0) spare.is in absurd (cc)
 

@@ -123,7 +123,7 @@ from_marked (true ∷ bs) s q at = ⊎_elim
 
 -- ---- lists
 
-contained_has : (ns : List ℕ) (p : ℕ) → has ns p ≡ true → Contains ns p
+pub contained_has : (ns : List ℕ) (p : ℕ) → has ns p ≡ true → Contains ns p
 contained_has [] p h = absurd (false≢true h)
 contained_has (n ∷ ns) p h = by (n == p) refl h (contained_has ns p)
   where

@@ -1,9 +1,8 @@
 -- What an item keeps beside what is written in it, and how that and what is written come together.
-use Rattle.std.proofs.Common.{◌≡◌, inl, inr, ℕ, Bool, List, [], ◌++◌, map, Some, sym, ap, ◌∙◌, subst, ⊎_elim}
+use Rattle.std.proofs.Common.{◌≡◌, inl, inr, ℕ, Bool, List, ◌++◌, map, Some, sym, ap, ◌∙◌, subst, ⊎_elim}
 use Rattle.std.specs.Prelude.{◌↔◌, Contains, IsTrue}
 use Rattle.std.specs.Global.{Vec}
 use Rattle.std.proofs.lemmas.Cmp.{nat_cmp_total}
-use Rattle.std.proofs.lemmas.List.{append-nil}
 use Rattle.std.proofs.lemmas.List.Elements.{Contains-append_cases, Contains-append_left, Contains-append_right}
 use Rattle.std.proofs.lemmas.Map.Lookups.{exact_unsigned}
 use Rattle.std.proofs.lemmas.Map.Views.{btree_set_contains_iff}
@@ -19,20 +18,12 @@ use Rattle.walrus_items.specs.Memories.{MemoryValue, memories}
 use Rattle.walrus_items.specs.Tables.{TableValue, tables}
 use Rattle.walrus_model.specs.Abstract.{Abstract}
 use Rattle.walrus_model.specs.Refers.{KeepsToo}
-use Rattle.walrus_model.proofs.Lists.{Contains-map, Contains-none}
+use Rattle.walrus_model.proofs.Lists.{Contains-map}
 use Rattle.walrus_model.proofs.Reach.{Contains-unmap}
 use Rattle.walrus_contents.specs.Named.{NamesItself, Puts, PutsAll, items_in, own_written}
 use Rattle.walrus_contents.specs.View.{contents_view, handlers_at, kept_data, kept_elements, kind_handlers}
 use Rattle.walrus_contents.specs.declared.parts.Contents.{Contents}
 use Rattle.walrus_contents.proofs.NamedLemmas.{two_rows}
-
--- where nothing is put, just nothing is named
-pub puts_none : (ids : Vec ItemId) (P : Item → Type 0) → ((x : Item) → P x → ⊥) → PutsAll ids ids P
-puts_none ids P none = record {
-  added = [];
-  behind = sym (append-nil (items_in ids));
-  are = λ x. (λ c. absurd (Contains-none x c), λ h. absurd (none x h));
-}
 
 -- what is written in an item, and behind it what it keeps beside that
 pub puts_both : (v : Abstract) (x : Item) (old now new : Vec ItemId) → Puts old now (own_written v x) → PutsAll now new (KeepsToo v x) → PutsAll old new (NamesItself v x)

@@ -1,5 +1,5 @@
 -- Where producers sections are the only custom ones, none says names, and none is kept as it is.
-use Rattle.std.proofs.Common.{◌≡◌, Bool, true, false, List, [], ◌∷◌, cond, not, map, refl, ap, ◌∙◌}
+use Rattle.std.proofs.Common.{◌≡◌, Bool, false, List, [], ◌∷◌, cond, not, map, refl, ap, ◌∙◌}
 use Rattle.std.specs.Prelude.{All, bytes_eq, codes, filter}
 use Rattle.std.proofs.lemmas.List.Elements.{All-head, All-tail}
 use Rattle.wasm_frames.specs.Record as wire

@@ -1,6 +1,6 @@
 //! The module in memory.
 
-ghost use Rattle.std.specs.Prelude.{◌≡◌, false, IfOk, IfErr, IsOkUnless};
+ghost use Rattle.std.specs.Prelude.{◌≡◌, IfOk, IfErr, IsOkUnless};
 ghost use Rattle.walrus_parts.specs.Errors.{out_of_memory};
 
 use crate::config::ModuleConfig;

@@ -1,8 +1,7 @@
 -- The locals that a body in memory declares: those that it uses beside its parameters.
-use Rattle.std.proofs.Common.{◌≡◌, ◌≢◌, ℕ, ◌+◌, ◌<◌, ◌||◌, Bool, true, false, List, [], ◌∷◌, length, map, refl, sym, ap, subst, ◌∙◌, arith, ⊎_elim, ◌⊎◌, inl, inr}
-use Rattle.std.specs.Prelude.{AllPairs, Contains, filter, not, ◌==◌, cond}
+use Rattle.std.proofs.Common.{◌≡◌, ◌≢◌, ℕ, ◌+◌, ◌<◌, Bool, true, false, List, [], ◌∷◌, length, map, refl, sym, ap, subst, ◌∙◌, arith, ⊎_elim, ◌⊎◌, inl, inr}
+use Rattle.std.specs.Prelude.{AllPairs, Contains, filter, not, cond}
 use Rattle.std.specs.List.{range_with_len}
-use Rattle.std.proofs.lemmas.Bool.Decides.{Decides-eqb}
 use Rattle.std.proofs.lemmas.List.FromFn.{length-range_with_len, get_or-range_with_len}
 use Rattle.std.proofs.lemmas.List.Kept.{AllPairs-filter}
 use Rattle.walrus_base.specs.Id.{place}
@@ -10,9 +9,11 @@ use Rattle.walrus_types.specs.Locals.{locals}
 use Rattle.walrus_types.specs.Operators.{locals_of}
 use Rattle.walrus_types.specs.PlaceList.{has}
 use Rattle.walrus_types.specs.declared.locals.ModuleLocals.{ModuleLocals}
+use Rattle.walrus_types.proofs.ShapesEnd.{has_contained}
 use Rattle.walrus_code.specs.Function.{body_of}
 use Rattle.walrus_code.specs.declared.function.LocalFunction.{LocalFunction}
 use Rattle.walrus_contents.specs.View.{is_declared, body}
+use Rattle.walrus_contents.proofs.ExportedRefs.{contained_has}
 use Rattle.walrus_contents.proofs.TypeLists.{in_range}
 use Rattle.walrus_model.proofs.Lists.{Contains-head, Contains-tail, Contains-uncons, Contains-none}
 use Rattle.walrus_model.proofs.Standing.{none_there}
@@ -37,29 +38,6 @@ not_true false h e = none_there e
 true_not : (b : Bool) → (b ≡ true → ⊥) → not b ≡ true
 true_not true h = absurd (h refl)
 true_not false h = refl
-
-first_passes : (a b : Bool) → a ≡ true → (a || b) ≡ true
-first_passes true b h = refl
-first_passes false b h = absurd (none_there h)
-
-second_passes : (a b : Bool) → b ≡ true → (a || b) ≡ true
-second_passes true b h = refl
-second_passes false b h = h
-
-has_contained : (ns : List ℕ) (p : ℕ) → Contains ns p → has ns p ≡ true
-has_contained [] p c = absurd (Contains-none p c)
-has_contained (n ∷ ns) p c =
-    ⊎_elim (λ (e : n ≡ p). first_passes (n == p) (has ns p) ((Decides-eqb n p).1 e))
-    (λ (d : Contains ns p). second_passes (n == p) (has ns p) (has_contained ns p d))
-    (Contains-uncons n p ns c)
-
-contained_has : (ns : List ℕ) (p : ℕ) → has ns p ≡ true → Contains ns p
-contained_has [] p h = absurd (none_there h)
-contained_has (n ∷ ns) p h = by (n == p) refl h (contained_has ns p)
-  where
-    by : (t : Bool) → (n == p) ≡ t → (t || has ns p) ≡ true → (has ns p ≡ true → Contains ns p) → Contains (n ∷ ns) p
-    by true e h rest = subst (Contains (n ∷ ns)) ((Decides-eqb n p).0 e) (Contains-head n ns)
-    by false e h rest = Contains-tail n p ns (rest h)
 
 -- ---- what passes a test
 

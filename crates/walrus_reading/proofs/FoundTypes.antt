@@ -1,6 +1,6 @@
 -- Types that are found or added, over slots and over a list of types.
-use Rattle.std.proofs.Common.{◌≡◌, ℕ, Bool, true, false, List, [], ◌∷◌, ◌++◌, map, refl, sym, ap, subst, ◌∙◌, append_assoc, append-nil, eqb-true}
-use Rattle.std.specs.Prelude.{All, Contains, Option, Some, None, ◌==◌, ◌||◌}
+use Rattle.std.proofs.Common.{◌≡◌, ℕ, Bool, true, false, List, [], ◌∷◌, ◌++◌, map, refl, sym, ap, subst, ◌∙◌, append_assoc, append-nil}
+use Rattle.std.specs.Prelude.{All, Option, Some, None}
 use Rattle.std.proofs.lemmas.List.{length-map, map-append}
 use Rattle.std.proofs.lemmas.List.Elements.{All-append, All-from_recursion}
 use Rattle.walrus_base.specs.Types.{CompType, comp_names}
@@ -12,9 +12,9 @@ use Rattle.walrus_types.proofs.ShapesEnd.{has_contained}
 use Rattle.walrus_functions.specs.ReadFunction.{AddsTypes, AndOne, Nothing, Slots, StaysInFront}
 use Rattle.walrus_items.specs.Functions.{FunctionValue}
 use Rattle.walrus_model.specs.Sections.{Said}
-use Rattle.walrus_model.proofs.Lists.{Contains-head, Contains-tail}
 use Rattle.walrus_rules.specs.Chain as chain
 use Rattle.walrus_rules.specs.Chain.{AndThen, AreFoundOrAdded, NoMore}
+use Rattle.walrus_contents.proofs.ExportedRefs.{contained_has}
 use Rattle.walrus_contents.proofs.Steps.{item_there}
 use Rattle.walrus_reading.specs.Placed.{InTurn}
 use Rattle.walrus_reading.specs.Taken.{AddsHandlersOf, HoldsHandlers}
@@ -29,14 +29,6 @@ stays_trans {T} old middle new first next = (first.0 ++ next.0, next.1 ∙ ap (�
 
 -- ---- one type
 
-contained : (ns : List ℕ) (p : ℕ) → has ns p ≡ true → Contains ns p
-contained [] p h = absurd (cc)
-contained (n ∷ ns) p h = by (n == p) refl h (contained ns p)
-  where
-    by : (t : Bool) → (n == p) ≡ t → (t || has ns p) ≡ true → (has ns p ≡ true → Contains ns p) → Contains (n ∷ ns) p
-    by true e h rest = subst (λ (k : ℕ). Contains (n ∷ ns) k) (eqb-true n p e) (Contains-head n ns)
-    by false e h rest = Contains-tail n p ns (rest h)
-
 by_value : (t : Bool) → (t ≡ true → ⊥) → t ≡ false
 by_value true none = absurd (none refl)
 by_value false none = refl
@@ -46,7 +38,7 @@ module _ (f : FunctionType) (ts : List TypeDef) (p : ℕ) where
   in_list h = (sym (item_there ts p) ∙ h.0, λ at. let yes : has (comp_names (function_comp f)) p ≡ true = has_contained (comp_names (function_comp f)) p at in let no : has (comp_names (function_comp f)) p ≡ false = h.1 in absurd (cc))
 
   in_slots : chain.StandsAt (function_comp f) ts p → slots.StandsAt f (map Some ts) p
-  in_slots h = (item_there ts p ∙ h.0, by_value (has (comp_names (function_comp f)) p) (λ yes. h.1 (contained (comp_names (function_comp f)) p yes)))
+  in_slots h = (item_there ts p ∙ h.0, by_value (has (comp_names (function_comp f)) p) (λ yes. h.1 (contained_has (comp_names (function_comp f)) p yes)))
 
 -- a list of types that is found, or one longer
 abbrev pub Grows : (ts : List TypeDef) (new : List (Option TypeDef)) → (List TypeDef → Type 0) → Type 0

@@ -1,6 +1,6 @@
 -- What the bytes of the two worked modules read as, under any configuration.
-use Rattle.std.proofs.Common.{◌≡◌, true, drop, ℕ, zero, suc, ◌+◌, ◌<◌, List, [], ◌∷◌, length, refl, sym, ap, ◌∙◌, subst, arith, append-nil, ⊎_elim}
-use Rattle.std.specs.Prelude.{AllPairs, slice_get, Option, Some, None, Contains}
+use Rattle.std.proofs.Common.{◌≡◌, true, drop, ℕ, ◌+◌, ◌<◌, List, [], ◌∷◌, length, refl, sym, ap, ◌∙◌, subst, arith, append-nil}
+use Rattle.std.specs.Prelude.{AllPairs, slice_get, Option, Some, None}
 use Rattle.wasm_forms.specs.Number.{IsU32, number_at, leb_at}
 use Rattle.wasm_forms.specs.Grammar.{Form, Is, at, Vector, U32, row_at, block_at}
 use Rattle.std.specs.Str.{is_utf8}
@@ -30,9 +30,7 @@ use Rattle.walrus_rules.specs.Examples as worked
 use Rattle.walrus_rules.specs.Examples.{two_functions_bytes, one_function_bytes}
 use Rattle.walrus_rules.specs.Spelling.{IsSpelledAs}
 use Rattle.walrus_rules.proofs.Worked.{one_spelled}
-use Rattle.walrus_model.specs.Sections.{body_with}
 use Rattle.walrus_model.specs.Abstract.{Body}
-use Rattle.walrus_model.specs.Names.{body_of}
 use Rattle.walrus_types.specs.Operators.{Op}
 use Rattle.walrus_model.specs.Examples.{no_values, export_f, empty_body, just_end, two_functions_sections, one_function_sections, two_functions, one_function}
 

@@ -1,5 +1,5 @@
 -- What sections without custom ones read as, and that no names are read so far.
-use Rattle.std.proofs.Common.{◌≡◌, ℕ, Bool, true, false, List, [], ◌∷◌, length, map, zip, refl, sym, ap, subst}
+use Rattle.std.proofs.Common.{◌≡◌, ℕ, Bool, true, false, List, [], length, map, zip, refl, sym, ap, subst}
 use Rattle.std.specs.Prelude.{All, bytes_eq, codes, filter, if◌then◌else◌}
 use Rattle.std.specs.List.{AllZip}
 use Rattle.std.proofs.lemmas.List.Elements.{All-nil}

@@ -9,7 +9,7 @@ use Rattle.walrus_model.specs.Names.{body_of_function, body_of_kind}
 use Rattle.walrus_model.specs.Out.{IsTheSegment}
 use Rattle.walrus_model.specs.Renaming.{Renaming, renamed, renamed_data, renamed_data_kind}
 use Rattle.walrus_model.specs.Same.{BothAnd, SameFunction, SameKind}
-use Rattle.walrus_model.proofs.Lists.{Contains-map, Contains-none}
+use Rattle.walrus_model.proofs.Lists.{Contains-map}
 use Rattle.walrus_model.proofs.OpsFollow.{ops_follow}
 use Rattle.walrus_model.proofs.Reach.{Contains-unmap}
 use Rattle.walrus_rules.specs.Spelling.{IsCount, IsPassive, NamesData, NeedsCount}

@@ -1,13 +1,12 @@
 -- A data segment as a record: what a refusal of its offset says of it, and what its parts say together.
-use Rattle.std.proofs.Common.{◌≡◌, ℕ, List, [], ◌∷◌, ◌++◌, map, refl, sym, ap, ◌∙◌, subst}
-use Rattle.std.specs.Prelude.{Option, Some, None, All, Contains, Ok, Err}
+use Rattle.std.proofs.Common.{◌≡◌, ℕ, List, [], ◌∷◌, refl, sym, ap, ◌∙◌, subst}
+use Rattle.std.specs.Prelude.{Option, Some, None, Contains, Ok, Err}
 use Rattle.std.specs.Global.{Vec}
 use Rattle.wasm_forms.specs.Reading.{◌>>=◌}
 use Rattle.wasm_entries.specs.Record.{data_entry}
 use Rattle.wasm_entries.specs.Spelling.{DataStands, ExpressionStands, IsIndex}
 use Rattle.wasm_entries.specs.declared.record.RawConst.{RawConst}
 use Rattle.wasm_entries.specs.declared.record.RawData.{RawData}
-use Rattle.wasm_entries.specs.declared.record.RawDataMode.{RawDataMode}
 use Rattle.wasm_entries.specs.declared.record.RawDataMode.TheVariants.{Active, Passive}
 use Rattle.walrus_types.specs.Operators.{Memories, Op}
 use Rattle.walrus_code.specs.Names.{Lookup}
@@ -24,7 +23,7 @@ use Rattle.walrus_model.specs.Constants.{consts_of}
 use Rattle.walrus_model.specs.Sections as said
 use Rattle.walrus_parts.specs.Errors.{error_of_ir}
 use Rattle.walrus_plan.specs.Brought.{own_of}
-use Rattle.walrus_writing.specs.Segments.{DataIsUnspelled, IndexesData, IndexesMode, IsSpelledData, KindIsUnspelled, RefusesData, UnspelledOffset}
+use Rattle.walrus_writing.specs.Segments.{IndexesData, IndexesMode, IsSpelledData, KindIsUnspelled, RefusesData, UnspelledOffset}
 use Rattle.walrus_writing.proofs.ItemsLeft.{Written}
 
 module _ (names : Lookup) where

@@ -1,13 +1,13 @@
 -- A body that is written is the same body, under the indices that its items and locals are given.
 use Rattle.std.proofs.Common.{inl, inr, ◌≡◌, ◌⊎◌, ℕ, zero, suc, get_or, None, ◌+◌, ◌<◌, ◌≤◌, Bool, true, false, List, [], ◌∷◌, ◌++◌, length, map, refl, sym, ap, ap₂, subst, ◌∙◌, arith, Some}
-use Rattle.std.specs.Prelude.{◌≢◌, Option, IsSome, Contains, nat_eq, option_map, slice_get, unwrap_or, if◌then◌else◌}
+use Rattle.std.specs.Prelude.{◌≢◌, Option, Contains, nat_eq, option_map, slice_get, unwrap_or, if◌then◌else◌}
 use Rattle.std.specs.List.{AllByRecursion, IsDistinct, range_with_len}
 use Rattle.std.proofs.lemmas.Bool.{ne_eqb}
 use Rattle.std.proofs.lemmas.Bool.Decides.{eqb_tells}
 use Rattle.walrus_base.specs.Arena.{item_at}
 use Rattle.walrus_base.specs.Id.{place}
 use Rattle.walrus_base.specs.Types.{ValType, map_val}
-use Rattle.walrus_types.specs.Operators.{Space, Types, DataSegments, Item, locals_of, names_of}
+use Rattle.walrus_types.specs.Operators.{Types, locals_of}
 use Rattle.walrus_types.specs.Shape.{place_in}
 use Rattle.walrus_code.specs.FromRaw.{ops_of}
 use Rattle.walrus_code.specs.Function.{body_of, function_type}
@@ -15,7 +15,6 @@ use Rattle.walrus_code.specs.Names.{named_val}
 use Rattle.walrus_bodies.specs.declared.features.Features.{Features}
 use Rattle.walrus_functions.specs.EmittedBody.{Source, index_in}
 use Rattle.walrus_functions.specs.Handlers.{params_of}
-use Rattle.walrus_contents.specs.View.{parts_view}
 use Rattle.walrus_contents.specs.declared.parts.Parts.{Parts}
 use Rattle.walrus_model.specs.Abstract.{Body}
 use Rattle.walrus_model.specs.Sections.{types_of, body_with}
@@ -26,16 +25,14 @@ use Rattle.walrus_writing.specs.Parts.{HasBytes, slots_of, source}
 use Rattle.walrus_writing.specs.Records.{Records}
 use Rattle.walrus_writing.proofs.TypesEntered.{params_typed}
 use Rattle.walrus_writing.proofs.BodyTypes.{types_in, typed_by, further_typed, as_many_further}
-use Rattle.walrus_model.proofs.Indices.{found_at, planned_live}
-use Rattle.walrus_model.proofs.Spaces.{live_to}
+use Rattle.walrus_model.proofs.Indices.{found_at}
 use Rattle.walrus_contents.proofs.Lookups.{then_some, mapped_some, got_map, mapped_append, as_long, where_placed, place_range, place_past, Stands, there, range_length}
-use Rattle.walrus_contents.proofs.NamedFound.{locals_found, names_found}
+use Rattle.walrus_contents.proofs.NamedFound.{locals_found}
 use Rattle.walrus_writing.proofs.Renamed.{val_renamed, ops_renamed}
 use Rattle.walrus_writing.proofs.WrittenAs.{laid_of, number_is, renaming_of}
 use Rattle.walrus_model.proofs.Lists.{Contains-map}
-use Rattle.walrus_model.proofs.TakingOver.{Contains-map_back}
-use Rattle.walrus_model.proofs.OpsFollow.{ops_follow, ops_locals_follow}
-use Rattle.walrus_model.proofs.Standing.{got_in, got_where, none_there, some_of, some_inj, stands_at}
+use Rattle.walrus_model.proofs.OpsFollow.{ops_locals_follow}
+use Rattle.walrus_model.proofs.Standing.{got_in, got_where, some_of, some_inj, stands_at}
 use Rattle.walrus_functions.specs.DeclaredLocals.{GoesBefore, IsDeclared}
 use Rattle.walrus_functions.proofs.ApartLemmas.{locals_differ}
 use Rattle.walrus_functions.proofs.LawOrder.{Sorted, sorted_of, turn}

@@ -1,6 +1,6 @@
 //! The items that a search enters, each once, and takes in the order of their entry.
 
-ghost use Rattle.std.specs.Prelude.{◌≡◌, ◌≤◌, ◌≢◌, AllPairs, IfSome, vec_len};
+ghost use Rattle.std.specs.Prelude.{◌≡◌, ◌≤◌, ◌≢◌, ◌^◌, AllPairs, MatchOption, vec_len};
 ghost use Rattle.walrus_contents.specs.Named.{items_in};
 ghost use Rattle.walrus_contents.specs.View.{lent};
 ghost use Rattle.walrus.specs.LiveCount.{live_count};
@@ -22,7 +22,7 @@ pub struct Worklist {
 }
 
 impl Worklist {
-    ghost use Rattle.std.specs.Prelude.{ℕ, ◌<◌, false, [], IfOk, MatchOption, not, vec_capacity};
+    ghost use Rattle.std.specs.Prelude.{ℕ, ◌<◌, false, [], IfOk, not, vec_capacity};
     ghost use Rattle.walrus_code.specs.Code.{item_of};
     ghost use Rattle.walrus_contents.specs.View.{parts_view};
     ghost use Rattle.walrus.specs.MarkedItems.{HasPlace, has_mark};
@@ -90,7 +90,8 @@ impl Worklist {
 
 // How many live items there are, where that fits.
 fn live_items(parts: Parts<'_>) -> Option<usize>
-    ensures { IfSome result (λ count. count ≡ live_count (lent parts.entry)) }
+    ensures { MatchOption result (2 ^ 64 ≤ live_count (lent parts.entry))
+        (λ count. count ≡ live_count (lent parts.entry)) }
 {
     parts
         .types

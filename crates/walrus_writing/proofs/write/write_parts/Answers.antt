@@ -1,7 +1,6 @@
 use Rattle.std.specs.Global.{Vec}
 use Rattle.std.proofs.Common.{ℕ}
 use Rattle.std.proofs.lemmas.Result.{err_from_is_err_and}
-use Rattle.walrus_contents.specs.View.{parts_view}
 use Rattle.walrus_writing.proofs.Emitting.{emitted_ok, unfit, small}
 use Rattle.walrus_writing.proofs.RefusesAll.{items_refused, plan_refused}
 use Rattle.walrus_writing.proofs.write.write_parts.Goals as goal
