@@ -8,4 +8,6 @@ mod library;
 #[cfg(test)]
 mod modules;
 #[cfg(test)]
+mod producers;
+#[cfg(test)]
 mod spaces;

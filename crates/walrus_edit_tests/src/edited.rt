@@ -1,18 +1,16 @@
 //! Modules that a program has edited: what gc and emission answer then, mostly that they can't be written.
 
+use crate::made::bare_module;
 use std::alloc::Global;
 use std::mem::swap;
 use std::test::Fail;
-use test_support::{add_bytes, are, demand};
+use test_support::{add_bytes, demand};
 use walrus::passes::gc;
 use walrus::{
     AbstractHeapType, ConstExpr, Error, ExportItem, FunctionBuilder, FunctionId, GlobalId,
     GlobalKind, HeapType, ImportKind, Module, ModuleConfig, RefType, ValType, Value,
 };
-
-fn empty_module(alloc: Global) -> Result<Module, Error> {
-    Module::with_config(alloc, ModuleConfig::new())
-}
+use walrus_test_support::{is_written, leaves, reference};
 
 // What emission refuses with before gc and behind it, where gc passes.
 fn refusals(alloc: Global, edited: Result<Module, Error>) -> Option<(Error, Error)> {
@@ -55,21 +53,14 @@ fn has_two_indices(alloc: Global, edited: Result<Module, Error>) -> bool {
     )
 }
 
-fn funcref() -> RefType {
-    RefType {
-        nullable: true,
-        heap_type: HeapType::Abstract(AbstractHeapType::Func),
-    }
-}
-
 fn add_global(module: &mut Module, ty: ValType, init: ConstExpr) -> Result<GlobalId, Error> {
     module.globals.add_local(ty, false, false, init)
 }
 
 // An exported table whose initialiser reads a global of the module.
 fn table_reads_own(alloc: Global) -> Result<Module, Error> {
-    let mut module = empty_module(alloc)?;
-    let ty = funcref();
+    let mut module = bare_module(alloc)?;
+    let ty = reference(AbstractHeapType::Func);
     let global = add_global(&mut module, ValType::Ref(ty), ConstExpr::RefNull(ty))?;
     let init = Some(ConstExpr::Global(global));
     let table = module.tables.add_local_with_init(false, 1, None, ty, init)?;
@@ -86,7 +77,7 @@ fn read_later(module: &mut Module, first: GlobalId, second: GlobalId) {
 
 // An exported global whose initialiser reads a later one.
 fn global_reads_later(alloc: Global) -> Result<Module, Error> {
-    let mut module = empty_module(alloc)?;
+    let mut module = bare_module(alloc)?;
     let one = ConstExpr::Value(Value::I32(1));
     let first = add_global(&mut module, ValType::I32, one)?;
     let two = ConstExpr::Value(Value::I32(2));
@@ -98,7 +89,7 @@ fn global_reads_later(alloc: Global) -> Result<Module, Error> {
 
 // An exported global whose initialiser has no operator.
 fn empty_initialiser(alloc: Global) -> Result<Module, Error> {
-    let mut module = empty_module(alloc)?;
+    let mut module = bare_module(alloc)?;
     let none = ConstExpr::Extended(Vec::new(alloc));
     let global = add_global(&mut module, ValType::I32, none)?;
     module.exports.add("g", ExportItem::Global(global))?;
@@ -107,19 +98,23 @@ fn empty_initialiser(alloc: Global) -> Result<Module, Error> {
 
 // An exported global of an exact reference type.
 fn exact_type(alloc: Global) -> Result<Module, Error> {
-    let mut module = empty_module(alloc)?;
+    let mut module = bare_module(alloc)?;
     let ty = RefType {
         nullable: true,
         heap_type: HeapType::Exact(module.types.add(&[], &[])?),
     };
-    let global = add_global(&mut module, ValType::Ref(ty), ConstExpr::RefNull(funcref()))?;
+    let global = add_global(
+        &mut module,
+        ValType::Ref(ty),
+        ConstExpr::RefNull(reference(AbstractHeapType::Func)),
+    )?;
     module.exports.add("g", ExportItem::Global(global))?;
     Ok(module)
 }
 
 // An exported memory of 32-bit addresses and 2^32 pages.
 fn large_memory(alloc: Global) -> Result<Module, Error> {
-    let mut module = empty_module(alloc)?;
+    let mut module = bare_module(alloc)?;
     let memory = module
         .memories
         .add_local(false, false, 4_294_967_296, None, None)?;
@@ -129,7 +124,7 @@ fn large_memory(alloc: Global) -> Result<Module, Error> {
 
 // An imported function that is exported, and that a second import names.
 fn two_imports_name_one(alloc: Global) -> Result<Module, Error> {
-    let mut module = empty_module(alloc)?;
+    let mut module = bare_module(alloc)?;
     let ty = module.types.add(&[], &[])?;
     let (function, _) = module.add_import_func("m", "f", ty)?;
     module
@@ -141,7 +136,7 @@ fn two_imports_name_one(alloc: Global) -> Result<Module, Error> {
 
 // An imported function that is exported, and whose import is deleted.
 fn import_is_deleted(alloc: Global) -> Result<Module, Error> {
-    let mut module = empty_module(alloc)?;
+    let mut module = bare_module(alloc)?;
     let ty = module.types.add(&[], &[])?;
     let (function, import) = module.add_import_func("m", "f", ty)?;
     module.exports.add("f", ExportItem::Function(function))?;
@@ -153,7 +148,7 @@ fn import_is_deleted(alloc: Global) -> Result<Module, Error> {
 
 // An imported function that nothing needs, and whose import is deleted.
 fn unneeded_import_is_deleted(alloc: Global) -> Result<Module, Error> {
-    let mut module = empty_module(alloc)?;
+    let mut module = bare_module(alloc)?;
     let ty = module.types.add(&[], &[])?;
     let (_, import) = module.add_import_func("m", "f", ty)?;
     if module.imports.contains(import) {
@@ -169,10 +164,7 @@ fn is_written_behind_gc(alloc: Global, edited: Result<Module, Error>) -> bool {
     };
     let before = matches!(module.emit_wasm(alloc), Err(Error::NoIndex));
     let kept = gc::run(alloc, &mut module).is_ok();
-    match module.emit_wasm(alloc) {
-        Ok(bytes) => before && kept && are(alloc, bytes.as_slice(), "00 61 73 6D 01 00 00 00"),
-        Err(_) => false,
-    }
+    before && kept && is_written(alloc, &mut module, "00 61 73 6D 01 00 00 00")
 }
 
 // An imported function that is exported, and which another import names than the one that it says.
@@ -197,7 +189,7 @@ fn add_function(alloc: Global, module: &mut Module) -> Result<FunctionId, Error>
 
 // Whether a function of the module that an import names is found under the names of the import, and isn't written.
 fn local_function_is_imported(alloc: Global) -> Result<bool, Error> {
-    let mut module = empty_module(alloc)?;
+    let mut module = bare_module(alloc)?;
     let function = add_function(alloc, &mut module)?;
     let import = module
         .imports
@@ -318,11 +310,7 @@ fn stands_in_its_place(alloc: Global, bytes: &[u8]) -> bool {
     };
     exchange(&mut module, first, &mut other, second)
         && has_id(&module, first, second)
-        && gc::run(alloc, &mut module).is_ok()
-        && match module.emit_wasm(alloc) {
-            Ok(output) => are(alloc, &output, THE_OTHER),
-            Err(_) => false,
-        }
+        && leaves(alloc, &mut module, THE_OTHER)
 }
 
 #[test]

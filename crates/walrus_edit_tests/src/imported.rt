@@ -3,9 +3,10 @@
 use std::test::Fail;
 use test_support::demand;
 use walrus::{
-    AbstractHeapType, FunctionId, FunctionKind, GlobalId, GlobalKind, HeapType, ImportId,
-    ImportKind, MemoryId, Module, ModuleConfig, RefType, TableId, TagId, TagKind, TypeId, ValType,
+    AbstractHeapType, FunctionId, FunctionKind, GlobalId, GlobalKind, ImportId, ImportKind,
+    MemoryId, Module, ModuleConfig, TableId, TagId, TagKind, TypeId, ValType,
 };
+use walrus_test_support::reference;
 
 fn is_import(module: &Module, import: ImportId, kind: ImportKind, name: &str) -> bool {
     if !module.imports.contains(import) {
@@ -35,14 +36,6 @@ fn adds_function(module: &mut Module, ty: TypeId) -> bool {
     is_import(module, import, ImportKind::Function(id), "f") && is_function(module, id, import, ty)
 }
 
-// A nullable reference to any function.
-fn funcref() -> RefType {
-    RefType {
-        nullable: true,
-        heap_type: HeapType::Abstract(AbstractHeapType::Func),
-    }
-}
-
 fn is_table(module: &Module, id: TableId, import: ImportId) -> bool {
     if !module.tables.contains(id) {
         return false;
@@ -52,7 +45,14 @@ fn is_table(module: &Module, id: TableId, import: ImportId) -> bool {
 }
 
 fn adds_table(module: &mut Module) -> bool {
-    let Ok((id, import)) = module.add_import_table("m", "t", false, 1, Some(2), funcref()) else {
+    let Ok((id, import)) = module.add_import_table(
+        "m",
+        "t",
+        false,
+        1,
+        Some(2),
+        reference(AbstractHeapType::Func),
+    ) else {
         return false;
     };
     is_import(module, import, ImportKind::Table(id), "t") && is_table(module, id, import)

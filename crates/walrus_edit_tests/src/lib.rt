@@ -2,12 +2,10 @@
 #![tactic(auto)]
 
 #[cfg(test)]
-mod data;
-#[cfg(test)]
 mod edited;
 #[cfg(test)]
 mod imported;
 #[cfg(test)]
-mod parts;
+mod made;
 #[cfg(test)]
-mod start;
+mod parts;

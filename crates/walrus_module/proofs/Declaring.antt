@@ -7,7 +7,6 @@ use Rattle.walrus_base.specs.Id.{place}
 use Rattle.walrus_base.specs.declared.id.Id.{Id}
 use Rattle.walrus_base.specs.declared.keys.FunctionKey.{FunctionKey}
 use Rattle.walrus_types.specs.Operators.{Types, Functions, Tables, Memories, Tags, Globals, Elements, DataSegments, Item, function_item}
-use Rattle.walrus_parts.specs.declared.error.Error.TheVariants as error
 use Rattle.walrus_parts.specs.declared.segments.ElementItems.TheVariants as element_contents
 use Rattle.walrus_parts.specs.declared.segments.ElementKind.TheVariants as element_kinds
 use Rattle.walrus_items.specs.Elements.{ElementValue}

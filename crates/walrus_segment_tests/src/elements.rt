@@ -1,15 +1,16 @@
 //! Element segments of a module that a program edits: which of them gc keeps, what is found dead, what they declare, and with which
 //! flag they are written.
 
+use crate::made::bare_module;
 use std::alloc::Global;
 use std::test::Fail;
-use test_support::{are, demand};
+use test_support::demand;
 use walrus::passes::gc;
 use walrus::{
     AbstractHeapType, Arg, Args, ConstExpr, ElementId, ElementItems, ElementKind, Error,
-    ExportItem, FunctionBuilder, FunctionId, HeapType, Module, ModuleConfig, Operator, RefType,
-    TableId, Value,
+    ExportItem, FunctionBuilder, FunctionId, Module, Operator, RefType, TableId, Value,
 };
+use walrus_test_support::{add_function, is_written, leaves, listed, reference};
 
 const EMPTY: &str = "00 61 73 6D 01 00 00 00";
 
@@ -59,47 +60,10 @@ const REF_FUNC: u32 = 210;
 
 const DROP: u32 = 26;
 
-fn bare_module(alloc: Global) -> Result<Module, Error> {
-    let mut config = ModuleConfig::new();
-    config.generate_producers_section(false);
-    Module::with_config(alloc, config)
-}
-
-fn reference(heap: AbstractHeapType) -> RefType {
-    RefType {
-        nullable: true,
-        heap_type: HeapType::Abstract(heap),
-    }
-}
-
-fn add_function(alloc: Global, module: &mut Module) -> Result<FunctionId, Error> {
-    let builder = FunctionBuilder::new(alloc, &mut module.types, &[], &[])?;
-    let local = builder.local_func(Vec::new(alloc))?;
-    module.funcs.add_local(local)
-}
-
-fn listed(alloc: Global, function: FunctionId) -> Result<ElementItems, Error> {
-    let mut functions = Vec::new(alloc);
-    functions.push(function)?;
-    Ok(ElementItems::Functions(functions))
-}
-
 fn expression(alloc: Global, ty: RefType, item: ConstExpr) -> Result<ElementItems, Error> {
     let mut items = Vec::new(alloc);
     items.push(item)?;
     Ok(ElementItems::Expressions(ty, items))
-}
-
-fn is_written(alloc: Global, module: &mut Module, expected: &str) -> bool {
-    match module.emit_wasm(alloc) {
-        Ok(bytes) => are(alloc, &bytes, expected),
-        Err(_) => false,
-    }
-}
-
-// Whether gc passes, and leaves what is written so.
-fn leaves(alloc: Global, module: &mut Module, expected: &str) -> bool {
-    gc::run(alloc, module).is_ok() && is_written(alloc, module, expected)
 }
 
 // ---- segments of each kind

@@ -1,7 +1,7 @@
-//! Tests of element segments that a program adds, of the segment that declares, and of dead items beside them.
+//! Tests of element segments that a program adds, and of the segment that declares.
 #![tactic(auto)]
 
 #[cfg(test)]
-mod dead;
-#[cfg(test)]
 mod elements;
+#[cfg(test)]
+mod made;

@@ -1,26 +1,19 @@
 //! An exported function that a program deletes, or leaves without a body: it is found, and nothing changes.
 
+use crate::made::bare_module;
 use std::alloc::Global;
 use std::test::Fail;
-use test_support::{are, demand};
+use test_support::demand;
 use walrus::passes::{Used, gc};
-use walrus::{Error, ExportItem, FunctionBuilder, FunctionId, FunctionKind, Module, ModuleConfig};
+use walrus::{Error, ExportItem, FunctionId, FunctionKind, Module};
+use walrus_test_support::{add_function, is_written};
 
 // What is left of the module where nothing is exported: the function that nothing reaches.
 const UNREACHED: &str = "00 61 73 6D 01 00 00 00 01 04 01 60 00 00 03 02 01 00 0A 04 01 02 00 0B";
 
-// A function that takes and gives nothing and does nothing.
-fn add_function(alloc: Global, module: &mut Module) -> Result<FunctionId, Error> {
-    let builder = FunctionBuilder::new(alloc, &mut module.types, &[], &[])?;
-    let local = builder.local_func(Vec::new(alloc))?;
-    module.funcs.add_local(local)
-}
-
 // An exported function, and one that nothing reaches.
 fn with_exported(alloc: Global) -> Result<(Module, FunctionId, FunctionId), Error> {
-    let mut config = ModuleConfig::new();
-    config.generate_producers_section(false);
-    let mut module = Module::with_config(alloc, config)?;
+    let mut module = bare_module(alloc)?;
     let exported = add_function(alloc, &mut module)?;
     let unreached = add_function(alloc, &mut module)?;
     module.exports.add("f", ExportItem::Function(exported))?;
@@ -64,10 +57,7 @@ fn leaves_the_other(alloc: Global, module: &mut Module) -> bool {
     if module.exports.remove("f").is_err() {
         return false;
     }
-    match module.emit_wasm(alloc) {
-        Ok(bytes) => are(alloc, &bytes, UNREACHED),
-        Err(_) => false,
-    }
+    is_written(alloc, module, UNREACHED)
 }
 
 fn deleted_is_found(alloc: Global) -> bool {

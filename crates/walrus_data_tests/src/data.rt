@@ -1,13 +1,15 @@
 //! Data segments of a module that a program edits: which of them gc keeps, what is found dead, and what is written.
 
+use crate::made::bare_module;
 use std::alloc::Global;
 use std::test::Fail;
-use test_support::{are, demand};
+use test_support::demand;
 use walrus::passes::gc;
 use walrus::{
     Arg, Args, ConstExpr, DataId, DataKind, Error, ExportItem, FunctionBuilder, MemoryId, Module,
-    ModuleConfig, Operator, Value,
+    Operator, Value,
 };
+use walrus_test_support::{is_written, leaves};
 
 const EMPTY: &str = "00 61 73 6D 01 00 00 00";
 
@@ -30,12 +32,6 @@ const SPARE: &str =
 // The operator data.drop, number 9 behind the byte 252.
 const DATA_DROP: u32 = (252 << 16) + 9;
 
-fn bare_module(alloc: Global) -> Result<Module, Error> {
-    let mut config = ModuleConfig::new();
-    config.generate_producers_section(false);
-    Module::with_config(alloc, config)
-}
-
 fn add_memory(module: &mut Module, pages: u64) -> Result<MemoryId, Error> {
     module.memories.add_local(false, false, pages, None, None)
 }
@@ -46,18 +42,6 @@ fn add_segment(alloc: Global, module: &mut Module, kind: DataKind) -> Result<Dat
     value.push(b'a')?;
     value.push(b'b')?;
     module.data_.add(kind, value)
-}
-
-fn is_written(alloc: Global, module: &mut Module, expected: &str) -> bool {
-    match module.emit_wasm(alloc) {
-        Ok(bytes) => are(alloc, &bytes, expected),
-        Err(_) => false,
-    }
-}
-
-// Whether gc passes, and leaves what is written so.
-fn leaves(alloc: Global, module: &mut Module, expected: &str) -> bool {
-    gc::run(alloc, module).is_ok() && is_written(alloc, module, expected)
 }
 
 // ---- active and passive segments

@@ -1,28 +1,20 @@
 //! The start function of a module that a program edits: it stays with all that it calls, and one that was deleted is found.
 
+use crate::made::bare_module;
 use std::alloc::Global;
 use std::test::Fail;
-use test_support::{are, demand};
+use test_support::demand;
 use walrus::passes::gc;
-use walrus::{Error, FunctionBuilder, FunctionId, Module, ModuleConfig};
+use walrus::{Error, FunctionId, Module};
+use walrus_test_support::{add_function, is_written};
 
 // One function, the start function.
 const ONE_START: &str =
     "00 61 73 6D 01 00 00 00 01 04 01 60 00 00 03 02 01 00 08 01 00 0A 04 01 02 00 0B";
 
-// A function that takes and gives nothing and does nothing.
-fn add_function(alloc: Global, module: &mut Module) -> Result<FunctionId, Error> {
-    let mut builder = FunctionBuilder::new(alloc, &mut module.types, &[], &[])?;
-    builder.func_body();
-    let local = builder.local_func(Vec::new(alloc))?;
-    module.funcs.add_local(local)
-}
-
 // Such a module, whose second function is the start function, with the ids of both.
 fn with_start(alloc: Global) -> Result<(Module, FunctionId, FunctionId), Error> {
-    let mut config = ModuleConfig::new();
-    config.generate_producers_section(false);
-    let mut module = Module::with_config(alloc, config)?;
+    let mut module = bare_module(alloc)?;
     let other = add_function(alloc, &mut module)?;
     let start = add_function(alloc, &mut module)?;
     module.start = Some(start);
@@ -37,15 +29,10 @@ fn start_stays(alloc: Global) -> bool {
     if gc::run(alloc, &mut module).is_err() {
         return false;
     }
-    match module.emit_wasm(alloc) {
-        Ok(bytes) => {
-            module.start == Some(start)
-                && module.funcs.contains(start)
-                && !module.funcs.contains(other)
-                && are(alloc, &bytes, ONE_START)
-        }
-        Err(_) => false,
-    }
+    is_written(alloc, &mut module, ONE_START)
+        && module.start == Some(start)
+        && module.funcs.contains(start)
+        && !module.funcs.contains(other)
 }
 
 #[test]
