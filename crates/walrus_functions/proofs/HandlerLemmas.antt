@@ -5,7 +5,7 @@ use Rattle.std.proofs.lemmas.List.{append-nil, take_at}
 use Rattle.std.proofs.Math.Seq.{drop-cons}
 use Rattle.walrus_base.specs.Arena.{item_at}
 use Rattle.walrus_base.specs.Types.{ValType}
-use Rattle.walrus_types.specs.Alone.{FoundOrAdded, Found, Added}
+use Rattle.walrus_types.specs.Alone.{FoundOrAdded}
 use Rattle.walrus_types.specs.Composite.{FunctionType}
 use Rattle.walrus_types.specs.Operators.{BlockType, Arg, Index, Label, Local, Number, Count, Byte, S32, S64, Bits32, Bits64, Value, Heap, Block, Access, Op}
 use Rattle.walrus_types.specs.TypeDef.{TypeDef}

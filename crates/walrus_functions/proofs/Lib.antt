@@ -1,3 +1,4 @@
+mod AmongLemmas
 mod HandlerLemmas
 mod LawSpelled
 mod LawTags

@@ -6,6 +6,7 @@ use Rattle.std.specs.List.{IsDistinct, AllByRecursion, dedup, list_any}
 use Rattle.std.specs.List.Sorted.{IsStrictlySortedBy}
 use Rattle.std.specs.Ordering.{nat_cmp, is_eq, eq_by_cmp}
 use Rattle.std.specs.declared.cmp.Ordering.{Ordering}
+use Rattle.std.specs.declared.cmp.Ordering.TheVariants.{Less}
 use Rattle.std.proofs.lemmas.Bool.{eqb-true}
 use Rattle.std.proofs.lemmas.Cmp.{nat_cmp_total, nat_eq_equiv, on_total}
 use Rattle.std.proofs.lemmas.List.Elements.{All-contains}
@@ -21,7 +22,7 @@ use Rattle.walrus_base.specs.declared.keys.LocalKey.{LocalKey}
 use Rattle.walrus_types.specs.declared.value.ValType.{ValType as DeclaredValType}
 use Rattle.walrus_types.specs.Value.{val_type}
 use Rattle.walrus_functions.specs.DeclaredLocals.{AreDeclared}
-use Rattle.walrus_functions.specs.Declaring.{AreTyped, AreInOrder, typed, same_local}
+use Rattle.walrus_functions.specs.Declaring.{AreOnce, AreTyped, AreInOrder, typed, same_local}
 use Rattle.walrus_functions.proofs.OrderLemmas.{contains_map, from_map, in_declared_order}
 
 eq_nat : (x y : ℕ) → is_eq (nat_cmp x y) ≡ nat_eq x y
@@ -64,20 +65,32 @@ once-distinct (a ∷ ids) h = (go ids h.0, once-distinct ids h.1)
     go [] k = tt
     go (b ∷ bs) k = (ties a b ∙ k.0, go bs k.1)
 
+once-rising : (ids : List Local) → IsStrictlySortedBy by_place ids → IsStrictlySortedBy nat_cmp (map place ids)
+unfolding IsStrictlySortedBy
+once-rising [] h = tt
+once-rising (a ∷ ids) h = (go ids h.0, once-rising ids h.1)
+  where
+    go : (bs : List Local) → AllByRecursion (λ b. by_place a b ≡ Less) bs → AllByRecursion (λ p. nat_cmp (place a) p ≡ Less) (map place bs)
+    go [] k = tt
+    go (b ∷ bs) k = (k.0, go bs k.1)
+
 -- sorted, and with no neighbours alike
-pub once : (old up new : List Local) → IsPermutation old up → IsSorted by_place up → new ≡ dedup same_id up → ((x : ℕ) → Contains (map place new) x ↔ Contains (map place old) x) × IsDistinct nat_eq (map place new)
-once old up new moved sorted is = (
-  λ x. (
-    λ h. let f = from_map place new x h in
-        subst (λ (p : ℕ). Contains (map place old) p) f.1.1 (contains_map place old f.0 (Contains-permutation up old f.0 (IsPermutation-sym old up moved) (Contains-from_dedup same_id up f.0 (subst (λ (ids : List Local). Contains ids f.0) is f.1.0)))),
-    λ h. let f = from_map place old x h in
-        let kept = Any-dedup same_id_laws up f.0 (Contains-permutation old up f.0 moved f.1.0) in
-        let there : Contains (dedup same_id up) kept.1 = (kept.0, kept.2, kept.3) in
-        let same : place kept.1 ≡ x = sym (eqb-true (place f.0) (place kept.1) kept.4) ∙ f.1.1 in
-        subst (λ (p : ℕ). Contains (map place new) p) same (contains_map place new kept.1 (subst (λ (ids : List Local). Contains ids kept.1) (sym is) there)),
-  ),
-  once-distinct new (IsDistinct-from_sorted by_place new (subst (λ (ids : List Local). IsStrictlySortedBy by_place ids) (sym is) (IsStrictlySortedBy-dedup by_place_total ties up sorted))),
-)
+pub once : (old up new : List Local) → IsPermutation old up → IsSorted by_place up → new ≡ dedup same_id up → AreOnce (map place old) (map place new)
+once old up new moved sorted is =
+    let strict = subst (λ (ids : List Local). IsStrictlySortedBy by_place ids) (sym is) (IsStrictlySortedBy-dedup by_place_total ties up sorted) in
+    record {
+      same = λ x. (
+        λ h. let f = from_map place new x h in
+            subst (λ (p : ℕ). Contains (map place old) p) f.1.1 (contains_map place old f.0 (Contains-permutation up old f.0 (IsPermutation-sym old up moved) (Contains-from_dedup same_id up f.0 (subst (λ (ids : List Local). Contains ids f.0) is f.1.0)))),
+        λ h. let f = from_map place old x h in
+            let kept = Any-dedup same_id_laws up f.0 (Contains-permutation old up f.0 moved f.1.0) in
+            let there : Contains (dedup same_id up) kept.1 = (kept.0, kept.2, kept.3) in
+            let same : place kept.1 ≡ x = sym (eqb-true (place f.0) (place kept.1) kept.4) ∙ f.1.1 in
+            subst (λ (p : ℕ). Contains (map place new) p) same (contains_map place new kept.1 (subst (λ (ids : List Local). Contains ids kept.1) (sym is) there)),
+      );
+      distinct = once-distinct new (IsDistinct-from_sorted by_place new strict);
+      rising = once-rising new strict;
+    }
 
 -- the same locals
 pub typed-same : (slots : List (Option (ValType ℕ))) (is_parameter : ℕ → Bool) (used more : List ℕ) (found : List (ℕ × ValType ℕ)) → ((x : ℕ) → Contains used x ↔ Contains more x) → AreTyped slots used is_parameter found → AreTyped slots more is_parameter found
@@ -123,7 +136,7 @@ none-typed slots is_parameter found is = subst (λ (es : List (ℕ × DeclaredVa
 
 -- ---- the locals in their order
 
-pub ordered_ids : {X E : Type 0} (view : X → List ℕ) (result : Result X E) (slots : List (Option (ValType ℕ))) (used : List ℕ) (is_parameter : ℕ → Bool) (found : List (ℕ × DeclaredValType)) (keys : List (ℕ × ℕ × ℕ)) → IfOk result (λ x. view x ≡ map (λ key. key.2) keys) → AreTyped slots used is_parameter (map typed found) → (order : AreInOrder found keys) → ((v w : DeclaredValType) → val_type v ≡ val_type w → order.lowest v ≡ order.lowest w) → IfOk result (λ x. (parameters : List ℕ) → ((p : ℕ) → is_parameter p ≡ list_any (nat_eq p) parameters) → AreDeclared slots used parameters (view x))
-ordered_ids view (Ok x) slots used is_parameter found keys are typed_so order alike = λ parameters taken.
-    subst (λ (xs : List ℕ). AreDeclared slots used parameters xs) (sym are) (in_declared_order slots used parameters is_parameter taken found keys typed_so order alike)
-ordered_ids view (Err e) slots used is_parameter found keys are typed_so order alike = tt
+pub ordered_ids : {X E : Type 0} (view : X → List ℕ) (result : Result X E) (slots : List (Option (ValType ℕ))) (once : List ℕ) (is_parameter : ℕ → Bool) (found : List (ℕ × DeclaredValType)) (keys : List (ℕ × ℕ × ℕ)) → IfOk result (λ x. view x ≡ map (λ key. key.2) keys) → AreTyped slots once is_parameter (map typed found) → (order : AreInOrder found keys) → ((v w : DeclaredValType) → val_type v ≡ val_type w → order.lowest v ≡ order.lowest w) → IfOk result (λ x. (used parameters : List ℕ) → AreOnce used once → ((p : ℕ) → is_parameter p ≡ list_any (nat_eq p) parameters) → AreDeclared slots used parameters (view x))
+ordered_ids view (Ok x) slots once is_parameter found keys are typed_so order alike = λ used parameters named taken.
+    subst (λ (xs : List ℕ). AreDeclared slots used parameters xs) (sym are) (in_declared_order slots used parameters is_parameter taken found keys (typed-same slots is_parameter once used (map typed found) named.same typed_so) order alike)
+ordered_ids view (Err e) slots once is_parameter found keys are typed_so order alike = tt

@@ -1,5 +1,5 @@
 -- The body of a function as it is written.
-use Rattle.std.proofs.Common.{◌≡◌, ℕ, ◌<◌, ◌^◌, inl, inr, true, false, List, [], ◌∷◌, ◌++◌, length, map, Option, Some, None, Result, Ok, Err, IsErrAnd, IfOk, refl, sym, ap, ◌∙◌, subst, arith}
+use Rattle.std.proofs.Common.{◌≡◌, ℕ, ◌<◌, ◌^◌, inl, inr, Bool, true, false, List, [], ◌∷◌, ◌++◌, length, map, Option, Some, None, Result, Ok, Err, IsErrAnd, IfOk, refl, sym, ap, ◌∙◌, subst, arith}
 use Rattle.std.specs.Prelude.{All, Contains, IsSome, nat_eq}
 use Rattle.std.specs.List.{IsDistinct, AllByRecursion}
 use Rattle.std.proofs.lemmas.Bool.Decides.{Decides-eqb}
@@ -24,7 +24,7 @@ use Rattle.walrus_bodies.specs.Features.{are_allowed}
 use Rattle.walrus_bodies.specs.Emitting.{OperatorsWritten, IsNotWritable}
 use Rattle.walrus_bodies.proofs.EmitLemmas.{row_stands}
 use Rattle.walrus_functions.specs.Declaring.{spread}
-use Rattle.walrus_functions.specs.EmittedBody.{FitsType, Source, Declares, index_in, BodyWritten, EmitsBody, declarations_bytes}
+use Rattle.walrus_functions.specs.EmittedBody.{FitsType, Source, Declares, index_in, is_used, BodyWritten, EmitsBody, declarations_bytes}
 use Rattle.walrus_functions.specs.Writing.{HasSignature, FindsDeclared, LocalsDeclared, DeclaresLocals, WritesBehind}
 use Rattle.walrus_functions.proofs.ApartLemmas.{grouped, locals_differ}
 use Rattle.walrus_functions.proofs.CountLemmas.{how_many, how_many_are, as_many, declarations_stand, read_back}
@@ -82,12 +82,16 @@ module _ (s : Source) where
           let count = as_many s.names written.groups ds written.indexed in
           omega (arith, groups, count, many, few)
 
-      module _ (fits : FitsType s.def s.slots s.parameters) (blocks : blocks_hold s.is_function_type s.ops ≡ true) (few : length order < 2 ^ 32) (locals : ℕ → Option ℕ) (numbered : (x : ℕ) → locals x ≡ index_in s order x) where
+      module _ (fits : FitsType s.def s.slots s.parameters) (blocks : blocks_hold s.is_function_type s.ops ≡ true) (few : length order < 2 ^ 32) (locals : ℕ → Option ℕ) (numbered : (x : ℕ) → locals x ≡ index_in s order x) (all : List ℕ) (listed : all ≡ s.parameters ++ order) (marks : List Bool) (uses : marks ≡ map (is_used s) all) where
         same_locals : locals ≡ index_in s order
         same_locals = fun_ext numbered
 
-        body_written : (bytes places : List ℕ) (numbers : ℕ → Option ℕ) → numbers ≡ locals → OperatorsWritten s.names locals s.features s.ops (declarations_bytes ds) bytes places → BodyWritten s bytes places numbers
-        body_written bytes places numbers same w =
+        -- what is known of the locals is these
+        abbrev pub Knows : (ℕ → Option ℕ) → List ℕ → List Bool → Type 0
+        Knows numbers ids used = (numbers ≡ locals) × (ids ≡ all) × (used ≡ marks)
+
+        body_written : (bytes places : List ℕ) (numbers : ℕ → Option ℕ) (ids : List ℕ) (used : List Bool) → Knows numbers ids used → OperatorsWritten s.names locals s.features s.ops (declarations_bytes ds) bytes places → BodyWritten s bytes places numbers ids used
+        body_written bytes places numbers ids used same w =
             let count = how_many_are s.names written.groups ds written.indexed in
             let few_counted : how_many ds < 2 ^ 32 = omega (arith, count, many, few) in
             let stands = declarations_stand ds (few_declarations few) few_counted written.indexed.stand in
@@ -97,7 +101,9 @@ module _ (s : Source) where
               blocks = blocks;
               order = order;
               declared = declared;
-              numbered = λ x. ap (λ (l : ℕ → Option ℕ). l x) same ∙ numbered x;
+              numbered = λ x. ap (λ (l : ℕ → Option ℕ). l x) same.0 ∙ numbered x;
+              listed = same.1 ∙ listed;
+              uses = same.2 ∙ uses ∙ ap (map (is_used s)) (sym same.1);
               groups = written.groups;
               grouped = grouped s.slots (locals_of s.ops) s.parameters order written.types written.groups declared.sorted written.typed written.runs;
               declarations = ds;
@@ -136,34 +142,34 @@ module _ (s : Source) where
             }
 
         -- the whole
-        pub emitted : {X : Type 0} (bytes places : X → List ℕ) (numbers : X → ℕ → Option ℕ) (result : Result X IrError) → IfOk result (λ x. numbers x ≡ locals) → WritesBehind s.names locals s.features s.ops ds bytes places result → EmitsBody s bytes places numbers result
-        emitted bytes places numbers (Ok x) same w = body_written (bytes x) (places x) (numbers x) same w
-        emitted bytes places numbers (Err NoIndex) same w = inl (order, (declared, subst (λ (l : ℕ → Option ℕ). named_ops s.names l s.ops ≡ None) same_locals w))
-        emitted bytes places numbers (Err NotWritable) same w = inl (order, (declared, subst (λ (l : ℕ → Option ℕ). IsNotWritable s.names l s.features s.ops) same_locals w))
-        emitted bytes places numbers (Err (Memory e)) same w = tt
-        emitted bytes places numbers (Err Malformed) same w = w
-        emitted bytes places numbers (Err TooLarge) same w = absurd w
+        pub emitted : {X : Type 0} (bytes places : X → List ℕ) (numbers : X → ℕ → Option ℕ) (ids : X → List ℕ) (used : X → List Bool) (result : Result X IrError) → IfOk result (λ x. Knows (numbers x) (ids x) (used x)) → WritesBehind s.names locals s.features s.ops ds bytes places result → EmitsBody s bytes places numbers ids used result
+        emitted bytes places numbers ids used (Ok x) same w = body_written (bytes x) (places x) (numbers x) (ids x) (used x) same w
+        emitted bytes places numbers ids used (Err NoIndex) same w = inl (order, (declared, subst (λ (l : ℕ → Option ℕ). named_ops s.names l s.ops ≡ None) same_locals w))
+        emitted bytes places numbers ids used (Err NotWritable) same w = inl (order, (declared, subst (λ (l : ℕ → Option ℕ). IsNotWritable s.names l s.features s.ops) same_locals w))
+        emitted bytes places numbers ids used (Err (Memory e)) same w = tt
+        emitted bytes places numbers ids used (Err Malformed) same w = w
+        emitted bytes places numbers ids used (Err TooLarge) same w = absurd w
 
-    not_declared : {X Y : Type 0} (bytes places : X → List ℕ) (numbers : X → ℕ → Option ℕ) (view : Y → List (ℕ × RawVal)) (e : IrError) → DeclaresLocals s.names s.slots order view (Err e) → EmitsBody s bytes places numbers (Err e)
-    not_declared bytes places numbers view NoIndex h = inr (h.0, (h.1.0, ((declared.which h.0).0 h.1.1.0, h.1.1.1, h.1.1.2)))
-    not_declared bytes places numbers view NotWritable h = inr (inr (inr (h.0, (h.1.0, ((declared.which h.0).0 h.1.1.0, h.1.1.1, h.1.1.2)))))
-    not_declared bytes places numbers view (Memory m) h = tt
-    not_declared bytes places numbers view Malformed h = h
-    not_declared bytes places numbers view TooLarge h = absurd h
+    not_declared : {X Y : Type 0} (bytes places : X → List ℕ) (numbers : X → ℕ → Option ℕ) (ids : X → List ℕ) (used : X → List Bool) (view : Y → List (ℕ × RawVal)) (e : IrError) → DeclaresLocals s.names s.slots order view (Err e) → EmitsBody s bytes places numbers ids used (Err e)
+    not_declared bytes places numbers ids used view NoIndex h = inr (h.0, (h.1.0, ((declared.which h.0).0 h.1.1.0, h.1.1.1, h.1.1.2)))
+    not_declared bytes places numbers ids used view NotWritable h = inr (inr (inr (h.0, (h.1.0, ((declared.which h.0).0 h.1.1.0, h.1.1.1, h.1.1.2)))))
+    not_declared bytes places numbers ids used view (Memory m) h = tt
+    not_declared bytes places numbers ids used view Malformed h = h
+    not_declared bytes places numbers ids used view TooLarge h = absurd h
 
     -- a local can't be declared
-    pub refused_declared : {X Y : Type 0} (bytes places : X → List ℕ) (numbers : X → ℕ → Option ℕ) (view : Y → List (ℕ × RawVal)) (result : Result X IrError) (e : IrError) → IsErrAnd result (λ x. x ≡ e) → DeclaresLocals s.names s.slots order view (Err e) → EmitsBody s bytes places numbers result
-    refused_declared bytes places numbers view (Ok x) e failed h = absurd failed
-    refused_declared bytes places numbers view (Err x) e failed h = subst (λ (d : IrError). EmitsBody s bytes places numbers (Err d)) (sym failed) (not_declared bytes places numbers view e h)
+    pub refused_declared : {X Y : Type 0} (bytes places : X → List ℕ) (numbers : X → ℕ → Option ℕ) (ids : X → List ℕ) (used : X → List Bool) (view : Y → List (ℕ × RawVal)) (result : Result X IrError) (e : IrError) → IsErrAnd result (λ x. x ≡ e) → DeclaresLocals s.names s.slots order view (Err e) → EmitsBody s bytes places numbers ids used result
+    refused_declared bytes places numbers ids used view (Ok x) e failed h = absurd failed
+    refused_declared bytes places numbers ids used view (Err x) e failed h = subst (λ (d : IrError). EmitsBody s bytes places numbers ids used (Err d)) (sym failed) (not_declared bytes places numbers ids used view e h)
 
-  not_found : {X Y : Type 0} (bytes places : X → List ℕ) (numbers : X → ℕ → Option ℕ) (view : Y → List ℕ) (e : IrError) → FindsDeclared s.slots (locals_of s.ops) s.parameters view (Err e) → EmitsBody s bytes places numbers (Err e)
-  not_found bytes places numbers view NoIndex h = absurd h
-  not_found bytes places numbers view NotWritable h = inr (inr (inl (λ fits. h (IsDistinct-from_AllPairs Decides-eqb s.parameters fits.distinct))))
-  not_found bytes places numbers view (Memory m) h = tt
-  not_found bytes places numbers view Malformed h = h
-  not_found bytes places numbers view TooLarge h = absurd h
+  not_found : {X Y : Type 0} (bytes places : X → List ℕ) (numbers : X → ℕ → Option ℕ) (ids : X → List ℕ) (used : X → List Bool) (view : Y → List ℕ) (e : IrError) → FindsDeclared s.slots (locals_of s.ops) s.parameters view (Err e) → EmitsBody s bytes places numbers ids used (Err e)
+  not_found bytes places numbers ids used view NoIndex h = absurd h
+  not_found bytes places numbers ids used view NotWritable h = inr (inr (inl (λ fits. h (IsDistinct-from_AllPairs Decides-eqb s.parameters fits.distinct))))
+  not_found bytes places numbers ids used view (Memory m) h = tt
+  not_found bytes places numbers ids used view Malformed h = h
+  not_found bytes places numbers ids used view TooLarge h = absurd h
 
   -- a parameter stands there twice
-  pub refused_found : {X Y : Type 0} (bytes places : X → List ℕ) (numbers : X → ℕ → Option ℕ) (view : Y → List ℕ) (result : Result X IrError) (e : IrError) → IsErrAnd result (λ x. x ≡ e) → FindsDeclared s.slots (locals_of s.ops) s.parameters view (Err e) → EmitsBody s bytes places numbers result
-  refused_found bytes places numbers view (Ok x) e failed h = absurd failed
-  refused_found bytes places numbers view (Err x) e failed h = subst (λ (d : IrError). EmitsBody s bytes places numbers (Err d)) (sym failed) (not_found bytes places numbers view e h)
+  pub refused_found : {X Y : Type 0} (bytes places : X → List ℕ) (numbers : X → ℕ → Option ℕ) (ids : X → List ℕ) (used : X → List Bool) (view : Y → List ℕ) (result : Result X IrError) (e : IrError) → IsErrAnd result (λ x. x ≡ e) → FindsDeclared s.slots (locals_of s.ops) s.parameters view (Err e) → EmitsBody s bytes places numbers ids used result
+  refused_found bytes places numbers ids used view (Ok x) e failed h = absurd failed
+  refused_found bytes places numbers ids used view (Err x) e failed h = subst (λ (d : IrError). EmitsBody s bytes places numbers ids used (Err d)) (sym failed) (not_found bytes places numbers ids used view e h)

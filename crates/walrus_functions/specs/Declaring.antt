@@ -32,6 +32,14 @@ abbrev pub AreTypes : List (Option (ValType ℕ)) → List ℕ → Option (List 
 AreTypes slots places (Some types) = map (item_at slots) places ≡ map Some types
 AreTypes slots places None = (types : List (ValType ℕ)) → map (item_at slots) places ≡ map Some types → ⊥
 
+-- ---- the locals that operators name
+
+-- these are the locals that stand in a list, each once, by rising place
+pub record AreOnce (named once : List ℕ) : Type 0 where
+  pub same : (x : ℕ) → Contains once x ↔ Contains named x
+  pub distinct : IsDistinct nat_eq once
+  pub rising : IsStrictlySortedBy nat_cmp once
+
 -- ---- the locals that are declared, each use of one with its type
 
 -- a local with its type

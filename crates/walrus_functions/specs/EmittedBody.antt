@@ -1,5 +1,6 @@
 -- What is answered where the body of a function is written ("Binary Format > Modules > Code Section").
-use Rattle.std.specs.Prelude.{◌≡◌, ◌≢◌, ◌<◌, ◌≤◌, ◌^◌, ◌⊎◌, ℕ, Bool, true, false, List, ◌++◌, length, map, option_map, Option, Some, None, AllPairs, Result, Ok, Err}
+use Rattle.std.specs.Prelude.{◌≡◌, ◌≢◌, ◌<◌, ◌≤◌, ◌^◌, ◌⊎◌, ℕ, Bool, true, false, List, ◌++◌, length, map, option_map, Option, Some, None, AllPairs, Result, Ok, Err, nat_eq}
+use Rattle.std.specs.List.{list_any}
 use Rattle.wasm_forms.specs.declared.types.RawVal.{RawVal}
 use Rattle.wasm_forms.specs.Grammar.{Is}
 use Rattle.wasm_forms.specs.Spelling.{number_bytes, row_bytes, vector_bytes}
@@ -102,15 +103,22 @@ module _ (s : Source) where
   abbrev pub index_in : List ℕ → ℕ → Option ℕ
   index_in order x = place_in (s.parameters ++ order) x
 
+  -- whether its operators name the local
+  abbrev pub is_used : ℕ → Bool
+  is_used x = list_any (nat_eq x) (locals_of s.ops)
+
   -- The bytes are the one spelling of the body over indices: its declarations, one for each type, and its operators, whose first bytes
   -- have these places. They read as what the indices in them lead to, under all look-ups under which they lead to something; so as the
-  -- same body again under look-ups to which the indices lead back. And these are the indices of its locals.
-  pub record BodyWritten (bytes places : List ℕ) (numbers : ℕ → Option ℕ) : Type 0 where
+  -- same body again under look-ups to which the indices lead back. And these are the indices of its locals, its locals by their indices,
+  -- and which of these its operators name.
+  pub record BodyWritten (bytes places : List ℕ) (numbers : ℕ → Option ℕ) (ids : List ℕ) (used : List Bool) : Type 0 where
     pub fits : FitsType s.def s.slots s.parameters
     pub blocks : blocks_hold s.is_function_type s.ops ≡ true
     pub order : List ℕ
     pub declared : Declares order
     pub numbered : (x : ℕ) → numbers x ≡ index_in order x
+    pub listed : ids ≡ s.parameters ++ order
+    pub uses : used ≡ map is_used ids
     pub groups : List (ℕ × ValType ℕ)
     pub grouped : AreGrouped s.slots order groups
     pub declarations : List (ℕ × RawVal)
@@ -146,10 +154,10 @@ module _ (s : Source) where
   HasTooManyLocals = (order : List ℕ) × (Declares order × ((2 ^ 32 ≤ length order) ⊎ (2 ^ 32 < length (s.parameters ++ order))))
 
   -- written, or refused with its cause
-  abbrev pub EmitsBody : {X : Type 0} → (X → List ℕ) → (X → List ℕ) → (X → ℕ → Option ℕ) → Result X IrError → Type 0
-  EmitsBody bytes places numbers (Ok x) = BodyWritten (bytes x) (places x) (numbers x)
-  EmitsBody bytes places numbers (Err NoIndex) = LacksAnIndex
-  EmitsBody bytes places numbers (Err NotWritable) = CantBeWritten
-  EmitsBody bytes places numbers (Err TooLarge) = HasTooManyLocals
-  EmitsBody bytes places numbers (Err (Memory e)) = Unit {0}
-  EmitsBody bytes places numbers (Err Malformed) = ⊥
+  abbrev pub EmitsBody : {X : Type 0} → (X → List ℕ) → (X → List ℕ) → (X → ℕ → Option ℕ) → (X → List ℕ) → (X → List Bool) → Result X IrError → Type 0
+  EmitsBody bytes places numbers ids used (Ok x) = BodyWritten (bytes x) (places x) (numbers x) (ids x) (used x)
+  EmitsBody bytes places numbers ids used (Err NoIndex) = LacksAnIndex
+  EmitsBody bytes places numbers ids used (Err NotWritable) = CantBeWritten
+  EmitsBody bytes places numbers ids used (Err TooLarge) = HasTooManyLocals
+  EmitsBody bytes places numbers ids used (Err (Memory e)) = Unit {0}
+  EmitsBody bytes places numbers ids used (Err Malformed) = ⊥

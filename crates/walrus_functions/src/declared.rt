@@ -1,6 +1,8 @@
 //! The locals that a body declares when it is written, in their order (Binary Format > Modules > Code Section).
-ghost use Rattle.std.specs.Prelude.{◌≡◌, ℕ, List, map, option_map, IfOk, MatchOption, Contains, if◌then◌else◌, Some, ◌↔◌};
+ghost use Rattle.std.specs.Prelude.{◌≡◌, ℕ, List, map, option_map, IfOk, MatchOption, if◌then◌else◌, Some};
 ghost use Rattle.std.specs.List.{IsDistinct, list_any};
+ghost use Rattle.std.specs.List.Sorted.{IsStrictlySortedBy};
+ghost use Rattle.std.specs.Ordering.{nat_cmp};
 ghost use Rattle.std.specs.Prelude.{nat_eq};
 ghost use Rattle.std.specs.HashSet as set;
 ghost use Rattle.walrus_base.specs.Arena.{item_at};
@@ -11,7 +13,7 @@ ghost use Rattle.walrus_types.specs.Value.{val_type};
 ghost use Rattle.walrus_types.specs.contracts.value.ValTypePartialEq.TheImpl as equality;
 ghost use Rattle.walrus_code.specs.Code.{ops_of};
 ghost use Rattle.walrus_functions.specs.DeclaredLocals.{rank, AreDeclared};
-ghost use Rattle.walrus_functions.specs.Declaring.{HasPlaces, AreTyped, same_local, typed, AreLowest, number_at, lower, key_of, AreTypes, AreInOrder};
+ghost use Rattle.walrus_functions.specs.Declaring.{HasPlaces, AreOnce, AreTyped, same_local, typed, AreLowest, number_at, lower, key_of, AreTypes, AreInOrder};
 ghost use Rattle.walrus_functions.specs.EmittedBody.{types_of};
 
 use std::alloc::{AllocError, Global};
@@ -80,11 +82,44 @@ fn named_locals(alloc: Global, operators: &[Operator]) -> Result<Vec<LocalId>, A
 
 // Takes each of these locals once, by rising place.
 fn take_once(named: &mut Vec<LocalId>)
-    ensures same { (x : ℕ) → Contains (map place named.new.items) x ↔ Contains (map place named.old.items) x }
-    ensures distinct { IsDistinct nat_eq (map place named.new.items) }
+    ensures { AreOnce (map place named.old.items) (map place named.new.items) }
 {
     named.sort_unstable();
     named.dedup();
+}
+
+// The locals that operators name, each once, by rising place.
+pub(crate) fn named_once(alloc: Global, operators: &[Operator]) -> Result<Vec<LocalId>, AllocError>
+    ensures { IfOk result (λ named. AreOnce (locals_of (ops_of operators.now)) (map place named.items)) }
+{
+    let mut named = named_locals(alloc, operators)?;
+    take_once(&mut named);
+    Ok(named)
+}
+
+// Whether a local is among these, which stand by rising place.
+fn is_among(named: &[LocalId], id: LocalId) -> bool
+    requires { IsStrictlySortedBy nat_cmp (map place named.now) }
+    ensures { result ≡ list_any (nat_eq (place id)) (map place named.now) }
+{
+    named.binary_search(&id).is_ok()
+}
+
+// Whether each of these locals is among the named ones, which stand by rising place.
+pub(crate) fn which_named(
+    alloc: Global,
+    ids: &[LocalId],
+    named: &[LocalId],
+) -> Result<Vec<bool>, AllocError>
+    requires { IsStrictlySortedBy nat_cmp (map place named.now) }
+    ensures { IfOk result (λ used. used.items
+        ≡ map (λ id. list_any (nat_eq (place id)) (map place named.now)) ids.now) }
+{
+    let mut used = Vec::with_capacity(alloc, ids.len())?;
+    for id in ids {
+        used.push(is_among(named, *id))?;
+    }
+    Ok(used)
 }
 
 // Those of these locals that are no parameters and that are there, by their places, with their types.
@@ -199,21 +234,19 @@ fn ids_of(alloc: Global, keys: &[(u8, usize, usize)]) -> Result<Vec<LocalId>, Al
     Ok(ids)
 }
 
-// The locals that the operators name beside parameters and that are there, each once, in the order in which they are declared.
+// Those of the named locals that are no parameters and that are there, in the order in which they are declared.
 pub(crate) fn order_declared(
     alloc: Global,
-    operators: &[Operator],
+    named: &[LocalId],
     parameters: &HashSet<usize>,
     module_locals: &ModuleLocals,
 ) -> Result<Vec<LocalId>, AllocError>
-    ensures { IfOk result (λ ids. (those : List ℕ) → ((p : ℕ) → set.contains nat_eq parameters.now p
-        ≡ list_any (nat_eq p) those)
-        → AreDeclared (types_of (locals module_locals.now)) (locals_of (ops_of operators.now)) those
-        (map place ids.items)) }
+    requires { IsDistinct nat_eq (map place named.now) }
+    ensures { IfOk result (λ ids. (used those : List ℕ) → AreOnce used (map place named.now)
+        → ((p : ℕ) → set.contains nat_eq parameters.now p ≡ list_any (nat_eq p) those)
+        → AreDeclared (types_of (locals module_locals.now)) used those (map place ids.items)) }
 {
-    let mut named = named_locals(alloc, operators)?;
-    take_once(&mut named);
-    let found = typed_locals(alloc, named.as_slice(), parameters, module_locals)?;
+    let found = typed_locals(alloc, named, parameters, module_locals)?;
     let keys = in_order(alloc, found.as_slice())?;
     ids_of(alloc, keys.as_slice())
 }

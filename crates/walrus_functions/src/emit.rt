@@ -11,10 +11,11 @@ ghost use Rattle.walrus_code.specs.Code.{ops_of};
 ghost use Rattle.walrus_bodies.specs.Declarations.{declarations_of};
 ghost use Rattle.walrus_bodies.specs.FunctionTypes.{is_function_at};
 ghost use Rattle.walrus_bodies.specs.Results.{locations};
+ghost use Rattle.walrus_functions.specs.Declaring.{AreOnce};
 ghost use Rattle.walrus_functions.specs.EmittedBody.{EmitsBody, source_of, types_of};
 ghost use Rattle.walrus_functions.specs.Writing.{HasSignature, FindsDeclared, DeclaresLocals, WritesBehind};
 
-use crate::declared::{distinct_places, order_declared, types_at};
+use crate::declared::{distinct_places, named_once, order_declared, types_at, which_named};
 use crate::groups::{declarations, number_locals, runs};
 use std::alloc::{AllocError, Global};
 use walrus_base::LocalId;
@@ -32,6 +33,10 @@ pub struct EmittedBody {
     pub places: Vec<(InstrLocId, usize)>,
     /// The index of each parameter and of each local that the body uses.
     pub locals: LocalNumbers,
+    /// The body's locals by their indices: its parameters, and then those that it declares.
+    pub order: Vec<LocalId>,
+    /// Whether its operators name each of these.
+    pub used: Vec<bool>,
 }
 
 /// The bytes of a function's body, with numbers in their shortest spelling. It declares the locals that it uses beside its parameters, one
@@ -55,7 +60,8 @@ pub fn emit_body(
     ensures written { EmitsBody
         (source_of indices.now module_locals.now types.now function.now features.now)
         (λ body. body.bytes.items) (λ body. map (λ p. p.1) body.places.items)
-        (λ body. local_index body.locals) result }
+        (λ body. local_index body.locals) (λ body. map place body.order.items)
+        (λ body. body.used.items) result }
     ensures located { IfOk result (λ body. map (λ p. p.0) body.places.items
         ≡ locations function.now.operators.items) }
 {
@@ -67,7 +73,8 @@ pub fn emit_body(
     if !hold {
         return Err(IrError::NotWritable);
     }
-    let declared = find_declared(alloc, function, module_locals)?;
+    let named = named_once(alloc, function.operators.as_slice())?;
+    let declared = find_declared(alloc, function, named.as_slice(), module_locals)?;
     if declared.len() >= 1 << 32 {
         return Err(IrError::TooLarge);
     }
@@ -77,9 +84,18 @@ pub fn emit_body(
     }
     let declarations = declare(alloc, declared.as_slice(), module_locals, indices)?;
     let locals = number_locals(alloc, all.as_slice())?;
+    let used = which_named(alloc, all.as_slice(), named.as_slice())?;
     let operators = function.operators.as_slice();
     let scope = Scope { indices, features };
-    write_body(alloc, operators, declarations.as_slice(), locals, &scope)
+    write_body(
+        alloc,
+        operators,
+        declarations.as_slice(),
+        locals,
+        all,
+        used,
+        &scope,
+    )
 }
 
 // Whether the function's type takes what its parameters hold.
@@ -106,20 +122,21 @@ fn parameters_fit(
     Ok(held.as_slice() == signature.params())
 }
 
-// The locals that the function declares, in their order, where its parameters differ.
+// The locals that the function declares, in their order, where its parameters differ. These are named by its operators, each once.
 fn find_declared(
     alloc: Global,
     function: &LocalFunction,
+    named: &[LocalId],
     module_locals: &ModuleLocals,
 ) -> Result<Vec<LocalId>, IrError>
+    requires { AreOnce (locals_of (body_of function.now)) (map place named.now) }
     ensures { FindsDeclared (types_of (locals module_locals.now)) (locals_of (body_of function.now))
         (map place function.now.args.items) (λ ids. map place ids.items) result }
 {
     let Some(parameters) = distinct_places(alloc, function.args.as_slice())? else {
         return Err(IrError::NotWritable);
     };
-    let operators = function.operators.as_slice();
-    Ok(order_declared(alloc, operators, &parameters, module_locals)?)
+    Ok(order_declared(alloc, named, &parameters, module_locals)?)
 }
 
 // The parameters and then the declared locals.
@@ -159,12 +176,14 @@ struct Scope<'a> {
     features: &'a Features,
 }
 
-// Writes declarations, and the operators behind them.
+// Writes declarations, and the operators behind them. What is known of the locals is handed on.
 fn write_body(
     alloc: Global,
     operators: &[Operator],
     declarations: &[Declaration],
     locals: LocalNumbers,
+    order: Vec<LocalId>,
+    used: Vec<bool>,
     scope: &Scope,
 ) -> Result<EmittedBody, IrError>
     requires { length declarations.now < 2 ^ 32 }
@@ -173,6 +192,8 @@ fn write_body(
         (λ body. body.bytes.items) (λ body. map (λ p. p.1) body.places.items) result }
     ensures located { IfOk result (λ body. (map (λ p. p.0) body.places.items ≡ locations operators.now)) }
     ensures numbered { IfOk result (λ body. body.locals ≡ locals) }
+    ensures ordered { IfOk result (λ body. body.order ≡ order) }
+    ensures marked { IfOk result (λ body. body.used ≡ used) }
 {
     let mut bytes = Vec::new(alloc);
     write_vector(&mut bytes, declarations)?;
@@ -182,5 +203,7 @@ fn write_body(
         bytes,
         places,
         locals,
+        order,
+        used,
     })
 }

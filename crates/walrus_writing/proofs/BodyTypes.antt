@@ -1,5 +1,5 @@
 -- The types of the locals of a body that is written, over indices.
-use Rattle.std.proofs.Common.{◌≡◌, ℕ, zero, suc, List, [], ◌∷◌, ◌++◌, length, map, refl, sym, ap, ap₂, ◌∙◌, Some}
+use Rattle.std.proofs.Common.{◌≡◌, ℕ, Bool, zero, suc, List, [], ◌∷◌, ◌++◌, length, map, refl, sym, ap, ap₂, ◌∙◌, Some}
 use Rattle.std.specs.Prelude.{Option, flat_map, replicate, option_and_then}
 use Rattle.wasm_forms.specs.declared.types.RawVal.{RawVal}
 use Rattle.walrus_base.specs.Arena.{item_at}
@@ -37,7 +37,7 @@ module _ (names : Lookup) where
 abbrev pub typed_by : Lookup → List (Option (ValType ℕ)) → ℕ → Option (ValType ℕ)
 typed_by names slots x = option_and_then (named_val names) (item_at slots x)
 
-module _ (s : Source) (bytes places : List ℕ) (numbers : ℕ → Option ℕ) (w : BodyWritten s bytes places numbers) where
+module _ (s : Source) (bytes places : List ℕ) (numbers : ℕ → Option ℕ) (ids : List ℕ) (used : List Bool) (w : BodyWritten s bytes places numbers ids used) where
   abbrev pub types_in : List (ValType ℕ)
   types_in = declared_by w.declarations
 

@@ -347,10 +347,10 @@ module _ (p : Parts) (names : Lookup) (features : Features) where
       subst (λ (b : abstract.Body). LacksAnIndex (source_of p names features (place (function_type g)) b)) (same_body (body p.locals.now f) (body p.locals.now g) (ap (λ (x : abstract.Function). x.kind) e))
       (subst (λ (ty : ℕ). LacksAnIndex (source_of p names features ty (body p.locals.now f))) (ap (λ (x : abstract.Function). x.ty) e) l)
 
-  pub body_refused : {X : Type 0} (n : ℕ) (f : LocalFunction) (bytes places : X → List ℕ) (numbers : X → ℕ → Option ℕ) (e : IrError) → IsIndexed p names features n → local_in (functions p.funcs.now) n ≡ Some (n, f)
-      → EmitsBody (source p names features f) bytes places numbers (Err e) → RefusesBodies p features (error_of_ir e)
-  body_refused n f bytes places numbers Ir.NoIndex i is lacks = absurd (i.indexed (lacks_same f i.local (some_inj (function_seen p f) (function_seen p i.local) (sym (local_seen p n f is) ∙ i.is)) lacks))
-  body_refused n f bytes places numbers Ir.NotWritable i is cant = (names, (n, (f, (local_seen p n f is, cant))))
-  body_refused n f bytes places numbers Ir.TooLarge i is many = (names, (n, (f, (local_seen p n f is, many))))
-  body_refused n f bytes places numbers (Ir.Memory m) i is u = tt
-  body_refused n f bytes places numbers Ir.Malformed i is u = absurd u
+  pub body_refused : {X : Type 0} (n : ℕ) (f : LocalFunction) (bytes places : X → List ℕ) (numbers : X → ℕ → Option ℕ) (ids : X → List ℕ) (used : X → List Bool) (e : IrError) → IsIndexed p names features n → local_in (functions p.funcs.now) n ≡ Some (n, f)
+      → EmitsBody (source p names features f) bytes places numbers ids used (Err e) → RefusesBodies p features (error_of_ir e)
+  body_refused n f bytes places numbers ids used Ir.NoIndex i is lacks = absurd (i.indexed (lacks_same f i.local (some_inj (function_seen p f) (function_seen p i.local) (sym (local_seen p n f is) ∙ i.is)) lacks))
+  body_refused n f bytes places numbers ids used Ir.NotWritable i is cant = (names, (n, (f, (local_seen p n f is, cant))))
+  body_refused n f bytes places numbers ids used Ir.TooLarge i is many = (names, (n, (f, (local_seen p n f is, many))))
+  body_refused n f bytes places numbers ids used (Ir.Memory m) i is u = tt
+  body_refused n f bytes places numbers ids used Ir.Malformed i is u = absurd u

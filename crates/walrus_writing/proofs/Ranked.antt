@@ -252,9 +252,9 @@ spread_types : (slots : List (Option (ValType ℕ))) (order : List ℕ) (gs : Li
 spread_types slots order gs g = sym g.spread
 
 -- the text of a body that is written stands
-pub body_stands : (s : Source) (bytes places : List ℕ) (numbers : ℕ → Option ℕ) (w : BodyWritten s bytes places numbers) → ((u v j : ℕ) → s.names Types u ≡ Some j → s.names Types v ≡ Some j → u ≡ v)
+pub body_stands : (s : Source) (bytes places : List ℕ) (numbers : ℕ → Option ℕ) (ids : List ℕ) (used : List Bool) (w : BodyWritten s bytes places numbers ids used) → ((u v j : ℕ) → s.names Types u ≡ Some j → s.names Types v ≡ Some j → u ≡ v)
     → BodyStands (record { declarations = w.declarations; operators = w.texts })
-body_stands s bytes places numbers w apart =
+body_stands s bytes places numbers ids used w apart =
     let filled = recursion_from_All Filled w.groups w.grouped.filled in
     let sorted = sorted_of (GoesBefore s.slots (locals_of s.ops) s.parameters) w.order w.declared.sorted in
     let types = types_rise s.slots (locals_of s.ops) s.parameters w.order (spread w.groups) (spread_types s.slots w.order w.groups w.grouped) sorted in

@@ -94,7 +94,7 @@ module _ {p : Parts} {features : Features} (r : Records p features) (i t : ℕ) 
   params = params_of (types_of (laid_of r) t)
 
   abbrev further : List (ValType ℕ)
-  further = types_in S bytes b.places b.numbers b.written
+  further = types_in S bytes b.places b.numbers b.ids b.used b.written
 
   abbrev new : Body
   new = body_with params (further, ops_of b.written.texts)
@@ -108,7 +108,7 @@ module _ {p : Parts} {features : Features} (r : Records p features) (i t : ℕ) 
   locals_typed : map Some (params ++ further) ≡ map (typed_by r.names slots) all_locals
   locals_typed =
       mapped_append (λ v. Some v) params further
-      ∙ ap₂ (λ (x y : List (Option (ValType ℕ))). x ++ y) params_looked_up (further_typed S bytes b.places b.numbers b.written)
+      ∙ ap₂ (λ (x y : List (Option (ValType ℕ))). x ++ y) params_looked_up (further_typed S bytes b.places b.numbers b.ids b.used b.written)
       ∙ sym (mapped_append (typed_by r.names slots) parameters b.written.order)
 
   -- ---- a local that is used
@@ -229,7 +229,7 @@ module _ {p : Parts} {features : Features} (r : Records p features) (i t : ℕ) 
       let range : length new.parameters ≡ length params = range_length 0 (length params) in
       let above : length parameters ≤ x = omega (arith, low, range, many) in
       let k = rest_of (length parameters) x above in
-      let as_many : length further ≡ length order = as_many_further S bytes b.places b.numbers b.written in
+      let as_many : length further ≡ length order = as_many_further S bytes b.places b.numbers b.ids b.used b.written in
       let at : x ≡ length parameters + k.0 = k.1 in
       let below : k.0 < length order = omega (arith, high, range, many, as_many, at) in
       uses_at x k.0 at below

@@ -56,7 +56,7 @@ module _ {p : Parts} {features : Features} (r : Records p features) where
 
   texts_stand : (order : List ℕ) (bodies : List (List ℕ)) (a : Bodies order bodies) → AllByRecursion BodyStands (texts_in p r.names features order bodies a)
   texts_stand [] [] a = tt
-  texts_stand (i ∷ is) (b ∷ bs) a = (body_stands (source p r.names features a.0.local) b a.0.places a.0.numbers a.0.written (types_apart r), texts_stand is bs a.1)
+  texts_stand (i ∷ is) (b ∷ bs) a = (body_stands (source p r.names features a.0.local) b a.0.places a.0.numbers a.0.ids a.0.used a.0.written (types_apart r), texts_stand is bs a.1)
   texts_stand [] (b ∷ bs) a = elim a [ ]
   texts_stand (i ∷ is) [] a = elim a [ ]
 

@@ -3,7 +3,7 @@ use Rattle.wasm_entries.specs.Record as entries
 use Rattle.wasm_entries.specs.declared.record.RawExportKind.{RawExportKind}
 use Rattle.wasm_entries.specs.declared.record.RawLimits.{RawLimits}
 use Rattle.wasm_entries.specs.declared.record.RawExportKind.TheVariants as kinds
-use Rattle.std.specs.Prelude.{ℕ, List, Option, Some, None, option_map, option_and_then, ◌≡◌}
+use Rattle.std.specs.Prelude.{ℕ, Bool, List, Option, Some, None, option_map, option_and_then, ◌≡◌}
 use Rattle.wasm_frames.specs.Record as wire
 use Rattle.walrus_base.specs.Arena.{item_at}
 use Rattle.walrus_base.specs.Id.{place}
@@ -101,7 +101,9 @@ pub record HasBytes (p : Parts) (names : Lookup) (features : Features) (number :
   pub is : (parts_view p).functions number ≡ Some (function_seen p local)
   pub places : List ℕ
   pub numbers : ℕ → Option ℕ
-  pub written : BodyWritten (source p names features local) bytes places numbers
+  pub ids : List ℕ
+  pub used : List Bool
+  pub written : BodyWritten (source p names features local) bytes places numbers ids used
 
 -- the function at a place has a body, and all that this names has an index
 pub record IsIndexed (p : Parts) (names : Lookup) (features : Features) (number : ℕ) : Type 0 where

@@ -1,26 +1,20 @@
-use Rattle.std.proofs.Common.{◌≡◌, ◌↔◌, ℕ, List, map, nat_eq, sym, subst}
-use Rattle.std.specs.Prelude.{Contains}
+use Rattle.std.proofs.Common.{◌≡◌, ℕ, List, map, nat_eq, sym, subst}
 use Rattle.std.specs.HashSet as set
 use Rattle.walrus_base.specs.Id.{place}
 use Rattle.walrus_types.specs.Locals.{locals}
-use Rattle.walrus_types.specs.Operators.{locals_of}
 use Rattle.walrus_types.specs.Value.{val_type}
 use Rattle.walrus_types.specs.declared.value.ValType.{ValType as DeclaredValType}
-use Rattle.walrus_code.specs.Code.{ops_of}
 use Rattle.walrus_functions.specs.Declaring.{AreTyped, AreInOrder, typed}
 use Rattle.walrus_functions.specs.EmittedBody.{types_of}
-use Rattle.walrus_functions.proofs.OnceLemmas.{typed-same, ordered_ids}
+use Rattle.walrus_functions.proofs.OnceLemmas.{ordered_ids}
 use Rattle.walrus_functions.proofs.declared.order_declared.Goals as goal
 
 pub returns : goal.returns
 returns c =
     let slots = types_of (locals c.args.module_locals.now) in
     let is_parameter = set.contains nat_eq c.args.parameters.now in
-    let used = locals_of (ops_of c.args.operators.now) in
-    let once = map place c.take_once.new.named.items in
-    let found = c.as_slice-2.result.now in
-    let same : (x : ℕ) → Contains once x ↔ Contains used x = λ x. subst (λ (xs : List ℕ). Contains once x ↔ Contains xs x) c.in_ok-named.ensures (c.take_once.ensures.same x) in
-    let are : AreTyped slots once is_parameter (map typed found) =
-    subst (λ es. AreTyped slots once is_parameter (map typed es)) (sym c.as_slice-2.ensures.value) (subst (λ ids. AreTyped slots (map place ids) is_parameter (map typed c.in_ok-found.found.items)) c.as_slice.ensures.value c.in_ok-found.ensures.typed) in
-    let order = subst (λ (ks : List (ℕ × ℕ × ℕ)). (o : AreInOrder found ks) × ((v w : DeclaredValType) → val_type v ≡ val_type w → o.lowest v ≡ o.lowest w)) (sym c.as_slice-3.ensures.value) c.in_ok-keys.ensures in
-    ordered_ids (λ ids. map place ids.items) c.ids_of.result slots used is_parameter found c.as_slice-3.result.now c.ids_of.ensures (typed-same slots is_parameter once used (map typed found) same are) order.0 order.1
+    let once = map place c.args.named.now in
+    let found = c.as_slice.result.now in
+    let are : AreTyped slots once is_parameter (map typed found) = subst (λ es. AreTyped slots once is_parameter (map typed es)) (sym c.as_slice.ensures.value) c.in_ok-found.ensures.typed in
+    let order = subst (λ (ks : List (ℕ × ℕ × ℕ)). (o : AreInOrder found ks) × ((v w : DeclaredValType) → val_type v ≡ val_type w → o.lowest v ≡ o.lowest w)) (sym c.as_slice-2.ensures.value) c.in_ok-keys.ensures in
+    ordered_ids (λ ids. map place ids.items) c.ids_of.result slots once is_parameter found c.as_slice-2.result.now c.ids_of.ensures are order.0 order.1

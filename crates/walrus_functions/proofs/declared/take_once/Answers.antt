@@ -10,5 +10,4 @@ returns c =
     let up = c.sort_unstable.new.self.items in
     let is : c.dedup.new.self.items ≡ dedup same_id up = dedup_is same_id _ _ c.dedup.ensures.filtered in
     let sorted : IsSorted by_place up = c.sort_unstable.ensures.sorted in
-    let all = once _ up c.dedup.new.self.items c.sort_unstable.ensures.permutation sorted is in
-    record { same = all.0; distinct = all.1 }
+    once _ up c.dedup.new.self.items c.sort_unstable.ensures.permutation sorted is

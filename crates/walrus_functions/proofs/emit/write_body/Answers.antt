@@ -32,3 +32,21 @@ returns-clause-located c = c.in_ok-places.ensures.located
 
 pub returns-clause-numbered : goal.returns-clause-numbered
 returns-clause-numbered c = refl
+
+pub returns-in_err-write_vector-clause-ordered : goal.returns-in_err-write_vector-clause-ordered
+returns-in_err-write_vector-clause-ordered c = let p = err_from_is_err_and c.from_residual.result c.from_residual.ensures.1 in rw p.1 tt
+
+pub returns-in_err-places-clause-ordered : goal.returns-in_err-places-clause-ordered
+returns-in_err-places-clause-ordered c = let p = err_from_is_err_and c.from_residual-in_err-places.result c.from_residual-in_err-places.ensures.1 in rw p.1 tt
+
+pub returns-clause-ordered : goal.returns-clause-ordered
+returns-clause-ordered c = refl
+
+pub returns-in_err-write_vector-clause-marked : goal.returns-in_err-write_vector-clause-marked
+returns-in_err-write_vector-clause-marked c = let p = err_from_is_err_and c.from_residual.result c.from_residual.ensures.1 in rw p.1 tt
+
+pub returns-in_err-places-clause-marked : goal.returns-in_err-places-clause-marked
+returns-in_err-places-clause-marked c = let p = err_from_is_err_and c.from_residual-in_err-places.result c.from_residual-in_err-places.ensures.1 in rw p.1 tt
+
+pub returns-clause-marked : goal.returns-clause-marked
+returns-clause-marked c = refl

@@ -12,10 +12,12 @@ returns-clause-value c = record {
   is = local_seen c.args.under.parts (place c.args.id) c.in-Some.local.now (sym c.in-Some.ensures);
   places = map (λ p. p.1) c.in_ok-body.body.places.items;
   numbers = local_index c.in_ok-body.body.locals;
+  ids = map place c.in_ok-body.body.order.items;
+  used = c.in_ok-body.body.used.items;
   written = c.in_ok-body.ensures.written;
 }
 
 pub returns-in_err-body-clause-fails : goal.returns-in_err-body-clause-fails
 returns-in_err-body-clause-fails c =
     let p = err_from_is_err_and c.from_residual.result c.from_residual.ensures.1 in
-    rw (p.1, p.2) (body_refused c.args.under.parts (index_of c.args.under.indices.now) c.args.under.features.now (place c.args.id) c.in-Some.local.now (λ (b : EmittedBody). b.bytes.items) (λ b. map (λ p. p.1) b.places.items) (λ b. local_index b.locals) _ c.requires.indexed (sym c.in-Some.ensures) c.in_err-body.ensures.written)
+    rw (p.1, p.2) (body_refused c.args.under.parts (index_of c.args.under.indices.now) c.args.under.features.now (place c.args.id) c.in-Some.local.now (λ (b : EmittedBody). b.bytes.items) (λ b. map (λ p. p.1) b.places.items) (λ b. local_index b.locals) (λ b. map place b.order.items) (λ b. b.used.items) _ c.requires.indexed (sym c.in-Some.ensures) c.in_err-body.ensures.written)
