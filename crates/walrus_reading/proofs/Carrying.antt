@@ -23,7 +23,7 @@ use Rattle.walrus_items.specs.Functions.{FunctionValue, functions}
 use Rattle.walrus_parts.specs.declared.function_kind.FunctionKind.{FunctionKind}
 use Rattle.walrus_parts.specs.declared.function_kind.FunctionKind.TheVariants.{Local}
 use Rattle.walrus_model.specs.Abstract as abstract
-use Rattle.walrus_model.specs.Abstract.{Abstract, Name, TypeDef, Function, Import, Body, Subject, TheModule, AnItem, ALocal}
+use Rattle.walrus_model.specs.Abstract.{Abstract, Name, ProducerField, TypeDef, Function, Import, Body, Subject, TheModule, AnItem, ALocal}
 use Rattle.walrus_model.specs.Carried.{Carries}
 use Rattle.walrus_bodies.specs.declared.features.Features.{Features}
 use Rattle.walrus_rules.specs.Chain.{AddsHandlers, IsBehind, IsWholeBody, ParsedAs}
@@ -31,7 +31,7 @@ use Rattle.walrus_rules.specs.Namings.{is_in_range}
 use Rattle.walrus_rules.specs.Sections.{items_of, module_of}
 use Rattle.walrus_reading.proofs.DeclaredLocals.{counts}
 use Rattle.walrus_model.specs.Reads.{arity, ReadsBodyWith}
-use Rattle.walrus_model.specs.Sections.{Said, function_with, functions_of, body_with, imported, imported_function, imports_after, types_of, globals_of, memories_of, tables_of, tags_of, elements_of, data_segments_of}
+use Rattle.walrus_model.specs.Sections.{Said, customs_of, function_with, functions_of, body_with, imported, imported_function, imports_after, types_of, globals_of, memories_of, tables_of, tags_of, elements_of, data_segments_of}
 use Rattle.walrus_model.specs.Kept.{IsImportOf}
 use Rattle.walrus_model.specs.Live.{IsLive}
 use Rattle.walrus_model.specs.WellMade.{import_in, import_of, kind_import, origin_import}
@@ -52,7 +52,6 @@ use Rattle.walrus_reading.proofs.ChainHandlers.{HasHandlers, by_numbers, importe
 use Rattle.walrus_reading.proofs.FoundTypes.{all_grown}
 use Rattle.walrus_reading.proofs.Held.{HeldBody, HeldFunction, exported, in_front}
 use Rattle.walrus_reading.proofs.Rows.{in_turn_append}
-use Rattle.walrus_model.proofs.Supported.{supported}
 use Rattle.walrus_contents.specs.View.{body, kind_of, handlers_at, function, contents_view, data_of, element_of, global_of, import_of as import_of_value, memory_of, table_of, tag_of}
 use Rattle.walrus_model.proofs.PipelineSame.{data_stays, element_stays, global_stays, import_stays, memory_stays, start_stays, table_stays, tag_stays}
 use Rattle.walrus_reading.specs.Held.{HoldsData, HoldsElement, HoldsGlobal, HoldsImport, HoldsMemory, HoldsTable, HoldsTag, memory_keeps, table_keeps}
@@ -330,7 +329,7 @@ named_live m (DataSegments, k) p e = absurd (cc)
 
 -- ---- the whole, where the tables and memories that segments are active in are there
 
-module _ (c : Features) (r : wire.Module) (x : Contents) (many : length r.bodies ≡ length r.functions) (h : HasTaken c (supported r) x) where
+module _ (c : Features) (r : wire.Module) (x : Contents) (many : length r.bodies ≡ length r.functions) (h : HasTaken c r x) (ps : List ProducerField) where
   abbrev all : ModuleLocals
   all = x.locals
 
@@ -338,38 +337,38 @@ module _ (c : Features) (r : wire.Module) (x : Contents) (many : length r.bodies
   slots = functions x.funcs
 
   abbrev M : Abstract
-  M = module_of (supported r) h.bodies [] []
+  M = module_of r h.bodies ps []
 
   abbrev v : Abstract
   v = contents_view x
 
   abbrev said : List Function
-  said = functions_of (supported r) h.bodies
+  said = functions_of r h.bodies
 
   abbrev types : List TypeDef
   types = types_from 0 r.types
 
-  abbrev fit : AllZip (Fits c (supported r) all) said slots
-  fit = all_fit c (supported r) x h many
+  abbrev fit : AllZip (Fits c r all) said slots
+  fit = all_fit c r x h many
 
   -- a function's locals begin where its first one stands
   abbrev moved : ℕ → ℕ → ℕ
-  moved i n = first_at c (supported r) all said slots fit i + n
+  moved i n = first_at c r all said slots fit i + n
 
   abbrev further : ℕ → ℕ → ℕ
   further k n = k + n
 
   function_carried : (i : ℕ) → IsSome (M.functions i) → BothAnd (SameFunction (moving moved) i) (M.functions i) (v.functions i)
   function_carried i live =
-      let a = held_at c (supported r) all said slots fit i (got_within said i live) in
+      let a = held_at c r all said slots fit i (got_within said i live) in
       subst (λ (o : Option Function). BothAnd (SameFunction (moving moved) i) o (v.functions i)) (sym a.got)
       (subst (λ (s : Option FunctionValue). BothAnd (SameFunction (moving moved) i) (Some a.said) (option_map (function all) s)) (sym a.at)
-      (carried c (supported r) all moved i a.said a.slot a.fits (ap further a.same)))
+      (carried c r all moved i a.said a.slot a.fits (ap further a.same)))
 
   function_there : (i : ℕ) → IsSome (v.functions i) → IsSome (M.functions i)
   function_there i live =
       let lt : i < length slots = item_within slots i (was_some (function all) (item_at slots i) live) in
-      let as_many : length said ≡ length slots = zip_length (Fits c (supported r) all) said slots fit in
+      let as_many : length said ≡ length slots = zip_length (Fits c r all) said slots fit in
       there said i (omega (arith, lt, as_many))
 
   -- ---- types: those that were read, and behind them those that were added
@@ -379,7 +378,7 @@ module _ (c : Features) (r : wire.Module) (x : Contents) (many : length r.bodies
 
   type_stays : (i : ℕ) → i < length types → v.types i ≡ types_of r i
   type_stays i lt =
-      let grown = all_grown (types_of r) (tag_types_of (supported r)) (zip r.functions h.bodies) h.functions.own.added types h.types h.handlers in
+      let grown = all_grown (types_of r) (tag_types_of r) (zip r.functions h.bodies) h.functions.own.added types h.types h.handlers in
       type_at i ∙ ap (λ (l : List TypeDef). slice_get l i) grown.1 ∙ in_front types grown.0 i lt
 
   type_carried : (i : ℕ) → IsSome (M.types i) → BothAnd (SameType (λ k. k) i) (M.types i) (v.types i)
@@ -397,7 +396,7 @@ module _ (c : Features) (r : wire.Module) (x : Contents) (many : length r.bodies
   import_live : (i : ℕ) → IsSome (M.imports i) → IsImportOf (IsLive M) M i
   import_live i some =
       let y = some_of (M.imports i) some in
-      (y.0, y.1, named_live M y.0.item i ((imports_match (supported r) h.bodies [] []).imports i y.0 y.1))
+      (y.0, y.1, named_live M y.0.item i ((imports_match r h.bodies ps []).imports i y.0 y.1))
 
   from_zero : (n : ℕ) → 0 + n ≡ n
   from_zero n = omega arith
@@ -411,7 +410,7 @@ module _ (c : Features) (r : wire.Module) (x : Contents) (many : length r.bodies
       subst (λ (l : List (Option FunctionValue)). InTurn (HasHandlers M) (brought ++ own) l types h.types) (sym h.functions.own.behind)
       (in_turn_append (HasHandlers M) brought h.functions.front own h.functions.own.added types types h.types
       (imported_turn M all 0 brought h.functions.front types (all_imported 0 r.imports) h.functions.brings)
-      (own_turn (supported r) h.bodies (zip r.functions h.bodies) h.functions.own.added types h.types h.handlers))
+      (own_turn r h.bodies (zip r.functions h.bodies) h.functions.own.added types h.types h.handlers))
 
   adds : AddsHandlers M v.handler_types (range_with_len 0 (length said)) types h.types
   adds = by_numbers M v.handler_types said slots 0 types h.types (λ i. ap (body_of M) (from_zero i)) (λ i. ap v.handler_types (from_zero i)) all_handlers
@@ -421,9 +420,9 @@ module _ (c : Features) (r : wire.Module) (x : Contents) (many : length r.bodies
   whole_bodies : (f : ℕ) (a b : Body) → body_of M f ≡ Some a → body_of v f ≡ Some b → IsWholeBody (moving moved) f a b
   whole_bodies f a b was is =
       let s = function_by (slice_get said f) a was in
-      let k = held_at c (supported r) all said slots fit f (got_in said f s.0 s.1).0 in
+      let k = held_at c r all said slots fit f (got_in said f s.0 s.1).0 in
       let one : k.said ≡ s.0 = some_inj k.said s.0 (sym k.got ∙ s.1) in
-      whole_at c (supported r) all moved f a b k.said k.slot k.fits (ap further k.same) (ap (λ (g : Function). body_of_kind g.kind) one ∙ s.2)
+      whole_at c r all moved f a b k.said k.slot k.fits (ap further k.same) (ap (λ (g : Function). body_of_kind g.kind) one ∙ s.2)
       (sym (ap (λ (o : Option FunctionValue). body_of_function (option_map (function all) o)) k.at) ∙ is)
 
   -- ---- nothing is named
@@ -433,7 +432,7 @@ module _ (c : Features) (r : wire.Module) (x : Contents) (many : length r.bodies
   either_none false = refl
 
   unnamed : (y : Subject) → M.named y ≡ []
-  unnamed y = either_none (is_in_range (items_of (supported r) h.bodies []) y)
+  unnamed y = either_none (is_in_range (items_of r h.bodies ps) y)
 
   module _ (config : Config) (own_names : config.synthetic_names ≡ false) where
     nameless : (y : Subject) → None ≡ name_of config M y
@@ -444,8 +443,8 @@ module _ (c : Features) (r : wire.Module) (x : Contents) (many : length r.bodies
   -- ---- all of it; the producers of the module in memory are given
   pub parsed : (config : Config) → config.synthetic_names ≡ false → ((table segment : ℕ) → length (tables_of r) ≤ table → table_keeps (elements_of r) table segment ≡ false)
       → ((memory segment : ℕ) → length (memories_of r) ≤ memory → memory_keeps (data_segments_of r) memory segment ≡ false)
-      → v.producers ≡ produced [] → ParsedAs config M v
-  parsed config own_names on_tables on_memories put_in = record {
+      → customs_of r.customs ≡ [] → v.producers ≡ produced ps → ParsedAs config M v
+  parsed config own_names on_tables on_memories none_kept_apart put_in = record {
     types = types;
     functions = length said;
     all_types = h.types;
@@ -453,7 +452,7 @@ module _ (c : Features) (r : wire.Module) (x : Contents) (many : length r.bodies
     functions_read = λ f. (got_within said f, there said f);
     handlers = adds;
     types_made = type_at;
-    no_handlers = λ f past. past_handled c (supported r) all said slots f fit past;
+    no_handlers = λ f past. past_handled c r all said slots f fit past;
     renaming = moving moved;
     carried = record {
       types = record { same = type_carried; onto = λ j live. type_onto j (nat_lt j (length types)) refl live };
@@ -463,24 +462,24 @@ module _ (c : Features) (r : wire.Module) (x : Contents) (many : length r.bodies
         onto = λ j live. inl (j, import_live j (subst (λ (o : Option Import). IsSome o) (import_seen j) live), refl);
       };
       functions = record { same = function_carried; onto = λ j live. inl (j, function_there j live, refl) };
-      tables = carried_there _ _ M.tables v.tables (seen_there table_of (HoldsTable (table_keeps (elements_of r))) (λ n t s k. (k.value, (k.is, k.read))) 0 (tables_of (supported r)) (tables x.tables) h.tables) (λ i t. sym (table_stays (moving moved) (λ s n. refl) (λ n. refl) t));
-      memories = carried_there _ _ M.memories v.memories (seen_there memory_of (HoldsMemory (memory_keeps (data_segments_of r))) (λ n y s k. (k.value, (k.is, k.read))) 0 (memories_of (supported r)) (memories x.memories) h.memories) (λ i y. sym (memory_stays (moving moved) (λ s n. refl) (λ n. refl) y));
-      tags = carried_there _ _ M.tags v.tags (seen_there tag_of HoldsTag (λ n t s k. (k.value, (k.is, k.read))) 0 (tags_of (supported r)) (tags x.tags) h.tags) (λ i t. sym (tag_stays (moving moved) (λ s n. refl) (λ n. refl) t));
-      globals = carried_there _ _ M.globals v.globals (seen_there global_of HoldsGlobal (λ n g s k. (k.value, (k.is, k.read))) 0 (globals_of (supported r)) (globals x.globals) h.globals) (λ i g. sym (global_stays (moving moved) (λ s n. refl) (λ n. refl) g));
-      elements = carried_there _ _ M.elements v.elements (seen_there element_of HoldsElement (λ n e s k. (k.value, (k.is, k.read))) 0 (elements_of (supported r)) (elements x.elements) h.elements) (λ i e. sym (element_stays (moving moved) (λ s n. refl) (λ n. refl) e));
-      data_segments = carried_there _ _ M.data_segments v.data_segments (seen_there data_of HoldsData (λ n d s k. (k.value, (k.is, k.read))) 0 (data_segments_of (supported r)) (data_segments x.data_) h.data_segments) (λ i d. sym (data_stays (moving moved) (λ s n. refl) (λ n. refl) d));
+      tables = carried_there _ _ M.tables v.tables (seen_there table_of (HoldsTable (table_keeps (elements_of r))) (λ n t s k. (k.value, (k.is, k.read))) 0 (tables_of r) (tables x.tables) h.tables) (λ i t. sym (table_stays (moving moved) (λ s n. refl) (λ n. refl) t));
+      memories = carried_there _ _ M.memories v.memories (seen_there memory_of (HoldsMemory (memory_keeps (data_segments_of r))) (λ n y s k. (k.value, (k.is, k.read))) 0 (memories_of r) (memories x.memories) h.memories) (λ i y. sym (memory_stays (moving moved) (λ s n. refl) (λ n. refl) y));
+      tags = carried_there _ _ M.tags v.tags (seen_there tag_of HoldsTag (λ n t s k. (k.value, (k.is, k.read))) 0 (tags_of r) (tags x.tags) h.tags) (λ i t. sym (tag_stays (moving moved) (λ s n. refl) (λ n. refl) t));
+      globals = carried_there _ _ M.globals v.globals (seen_there global_of HoldsGlobal (λ n g s k. (k.value, (k.is, k.read))) 0 (globals_of r) (globals x.globals) h.globals) (λ i g. sym (global_stays (moving moved) (λ s n. refl) (λ n. refl) g));
+      elements = carried_there _ _ M.elements v.elements (seen_there element_of HoldsElement (λ n e s k. (k.value, (k.is, k.read))) 0 (elements_of r) (elements x.elements) h.elements) (λ i e. sym (element_stays (moving moved) (λ s n. refl) (λ n. refl) e));
+      data_segments = carried_there _ _ M.data_segments v.data_segments (seen_there data_of HoldsData (λ n d s k. (k.value, (k.is, k.read))) 0 (data_segments_of r) (data_segments x.data_) h.data_segments) (λ i d. sym (data_stays (moving moved) (λ s n. refl) (λ n. refl) d));
       imports_apart = λ i j k l e. e;
       apart = λ space no i j k l e. e;
-      exports = exported c (supported r) x h ∙ sym (map-itself (renamed_export (moving moved)) _ (λ e. refl));
+      exports = exported c r x h ∙ sym (map-itself (renamed_export (moving moved)) _ (λ e. refl));
       start = h.start ∙ sym (start_stays (moving moved) (λ s n. refl) (λ n. refl) r.start);
     };
     bodies = whole_bodies;
     in_place = λ y. refl;
     imports_in_place = λ i. refl;
-    table_segments = λ table segment. tables_seen (table_keeps (elements_of r)) 0 (tables_of (supported r)) (tables x.tables) h.tables table segment (λ past. ap (λ (n : ℕ). table_keeps (elements_of r) n segment) (from_zero table) ∙ on_tables table segment past) ∙ ap (λ (n : ℕ). table_keeps (elements_of r) n segment) (from_zero table);
-    memory_segments = λ memory segment. kept_seen (memory_keeps (data_segments_of r)) 0 (memories_of (supported r)) (memories x.memories) h.memories memory segment (λ past. ap (λ (n : ℕ). memory_keeps (data_segments_of r) n segment) (from_zero memory) ∙ on_memories memory segment past) ∙ ap (λ (n : ℕ). memory_keeps (data_segments_of r) n segment) (from_zero memory);
+    table_segments = λ table segment. tables_seen (table_keeps (elements_of r)) 0 (tables_of r) (tables x.tables) h.tables table segment (λ past. ap (λ (n : ℕ). table_keeps (elements_of r) n segment) (from_zero table) ∙ on_tables table segment past) ∙ ap (λ (n : ℕ). table_keeps (elements_of r) n segment) (from_zero table);
+    memory_segments = λ memory segment. kept_seen (memory_keeps (data_segments_of r)) 0 (memories_of r) (memories x.memories) h.memories memory segment (λ past. ap (λ (n : ℕ). memory_keeps (data_segments_of r) n segment) (from_zero memory) ∙ on_memories memory segment past) ∙ ap (λ (n : ℕ). memory_keeps (data_segments_of r) n segment) (from_zero memory);
     section_roots = refl;
-    customs = refl;
+    customs = sym none_kept_apart;
     producers = put_in;
     own = nameless config own_names TheModule;
     items = λ y live. nameless config own_names (AnItem y);

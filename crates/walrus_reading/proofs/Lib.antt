@@ -14,6 +14,7 @@ pub mod NarrowRules
 pub mod Numbered
 pub mod Parsing
 pub mod Placed
+pub mod ProducersHeld
 pub mod Refusals
 pub mod Rooms
 pub mod Rows

@@ -4,6 +4,7 @@ pub mod Kept
 pub mod Numbers
 pub mod Parsed
 pub mod Placed
+pub mod Producers
 pub mod Sections
 pub mod Stays
 pub mod SupportedOnly

@@ -1,10 +1,12 @@
 -- Whether sections hold only what is supported, as a test.
-use Rattle.std.specs.Prelude.{Bool, ◌==◌, List, length}
-use Rattle.wasm_frames.specs.Record.{Module}
+use Rattle.std.specs.Prelude.{Bool, bytes_eq, codes}
+use Rattle.std.specs.List.{list_all}
+use Rattle.wasm_frames.specs.Record.{Custom, Module}
 
-abbrev pub is_empty : {A : Type 0} → List A → Bool
-is_empty xs = length xs == 0
+-- a custom section of this name
+abbrev pub is_producers : Custom → Bool
+is_producers c = bytes_eq c.name (codes "producers")
 
--- all but custom sections
+-- of custom sections no other
 abbrev pub holds_supported : Module → Bool
-holds_supported m = is_empty m.customs
+holds_supported m = list_all is_producers m.customs

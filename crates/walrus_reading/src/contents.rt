@@ -19,12 +19,11 @@ ghost use Rattle.walrus_items.specs.Exports.{exports};
 ghost use Rattle.walrus_items.specs.Functions.{functions};
 ghost use Rattle.walrus_items.specs.Tags.{tags};
 ghost use Rattle.walrus_groups.specs.Groups.{types_from, AreDeclared};
-ghost use Rattle.walrus_model.specs.Producers.{produced};
 ghost use Rattle.walrus_model.specs.Reads.{declared};
-ghost use Rattle.walrus_producers.specs.Seen.{producers};
 ghost use Rattle.walrus_reading.specs.Imported.{HoldsImported};
 ghost use Rattle.walrus_reading.specs.Numbers.{FitsIndices};
 ghost use Rattle.walrus_reading.specs.Placed.{AllPlaced};
+ghost use Rattle.walrus_reading.specs.Producers.{HoldsProducers};
 ghost use Rattle.walrus_reading.specs.Taken.{AddLocated, AddsExport, AddsLocated, AreLocatedIn, AreThere, HoldsExport, IsPlace, TakesFunction, TakesFunctions, TakesSections, context_under, tags_under, types_in};
 ghost use Rattle.walrus_model.specs.Sections.{space_of};
 ghost use Rattle.walrus_reading.specs.Sections.{Rules};
@@ -36,6 +35,7 @@ use crate::elements::add_elements;
 use crate::entities::{add_globals, add_memories, add_tables, add_tags};
 use crate::imports::add_imports;
 use crate::numbers::number_items;
+use crate::producers::add_producers;
 use crate::segments::add_data;
 use std::alloc::{AllocError, Global};
 use std::result;
@@ -47,7 +47,6 @@ use walrus_ir::{
 };
 use walrus_items::{ExportItem, ModuleExports, ModuleFunctions, ModuleTags};
 use walrus_parts::{Error, Result};
-use walrus_producers::ModuleProducers;
 use wasm_wire::{Raw, RawBody, RawExport, RawExportKind, RawGroup};
 
 /// What sections that keep the rules hold, where bodies may use these proposals.
@@ -60,7 +59,7 @@ pub(crate) fn read_contents(alloc: Global, raw: &Raw<'_>, features: &Features) -
     requires room { FitsIndices (sections raw.now) }
     ensures taken { TakesSections features.now (sections raw.now) result }
     ensures located { IfOk result (λ m. AreLocatedIn (sections raw.now) (functions m.funcs)) }
-    ensures produced { IfOk result (λ m. producers m.producers ≡ produced []) }
+    ensures produced { IfOk result (λ m. HoldsProducers (sections raw.now) m.producers) }
 {
     let mut indices = IndicesToIds::new(alloc);
     let mut contents = read_imported(alloc, raw, &mut indices)?;
@@ -99,7 +98,7 @@ pub(crate) fn read_contents(alloc: Global, raw: &Raw<'_>, features: &Features) -
     )?;
     add_exports(&raw.exports, &indices, &mut contents.exports)?;
     contents.start = start_named(raw.start, &indices);
-    add_own_producer(&mut contents.producers)?;
+    add_producers(alloc, &raw.customs, &mut contents.producers)?;
     Ok(contents)
 }
 
@@ -124,15 +123,6 @@ fn start_named(raw: Option<u32>, indices: &IndicesToIds) -> Option<FunctionId>
     ensures { option_map place result ≡ option_and_then (ids_at indices.now Functions) raw }
 {
     indices.get_func(raw?)
-}
-
-// Puts this program into the producers, since what the bytes say of these isn't read so far.
-fn add_own_producer(made: &mut ModuleProducers) -> Result<()>
-    ensures value { OnOk result (producers made.new ≡ produced (producers made.old)) }
-    ensures fails { IsOkUnless result out_of_memory }
-{
-    made.add_processed_by("walrus", "0.28.0")?;
-    Ok(())
 }
 
 // What bodies are read under: the proposals that they may use, what indices name, and the types of tags by their places.

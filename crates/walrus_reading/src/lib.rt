@@ -8,6 +8,7 @@ mod imports;
 mod law;
 mod module;
 mod numbers;
+mod producers;
 mod segments;
 mod supported;
 

@@ -8,7 +8,7 @@ use Rattle.wasm_entries.specs.declared.record.RawGlobal.{RawGlobal}
 use Rattle.wasm_entries.specs.declared.record.RawLimits.{RawLimits}
 use Rattle.wasm_entries.specs.declared.record.RawTable.{RawTable}
 use Rattle.wasm_entries.specs.Record.{data_entry, element_entry, export_entry, global_entry, table_entry}
-use Rattle.wasm_frames.specs.Record.{body_record, sections}
+use Rattle.wasm_frames.specs.Record.{body_record, custom_record, sections}
 use Rattle.walrus_base.specs.Id.{place}
 use Rattle.walrus_types.specs.ModuleTypes.{type_slots}
 use Rattle.walrus_code.specs.Indices.{ids_at}
@@ -29,6 +29,7 @@ use Rattle.walrus_reading.specs.Taken.{HoldsExport, tag_types_of}
 use Rattle.walrus_reading.proofs.KeptSegments.{data_on_live, elements_on_live, memories_kept, tables_kept}
 use Rattle.walrus_reading.proofs.Locating.{located_in}
 use Rattle.walrus_reading.proofs.Numbered.{stay}
+use Rattle.walrus_reading.proofs.ProducersHeld.{held_of_all}
 use Rattle.walrus_reading.proofs.Rows.{placed_first, placed_more}
 use Rattle.walrus_reading.proofs.TagTypes.{are_there, same_tag_types}
 use Rattle.walrus_reading.proofs.TakenSections.{types_are_functions, sections_refused, sections_taken, under_sections}
@@ -161,3 +162,10 @@ returns-clause-located c =
     let b = c.in_ok-contents.contents in
     located_in (sections c.args.raw.now) c.deref-4.result.now (functions b.funcs) (functions c.add_functions.new.funcs) (ap (map body_record) c.deref-4.ensures.value)
     c.in_ok-contents.ensures.begun.brought.functions c.in_ok-add_functions.ensures.located
+
+pub add_producers-requires : goal.add_producers-requires
+add_producers-requires c = record { none = c.in_ok-contents.ensures.begun.producers }
+
+pub returns-clause-produced : goal.returns-clause-produced
+returns-clause-produced c =
+    held_of_all (sections c.args.raw.now) (map custom_record c.deref-11.result.now) c.add_producers.new.made (ap (map custom_record) c.deref-11.ensures.value) c.in_ok-add_producers.ensures.held

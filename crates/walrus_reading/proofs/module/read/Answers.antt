@@ -53,4 +53,4 @@ returns-clause-own_ids c = own_ids c.args.features (sections c.in_ok-raw.raw) c.
 
 pub returns-clause-found : goal.returns-clause-found
 returns-clause-found c = λ config with.
-    is_parsed config c.args.features with c.args.bytes.now c.in_ok-contents.contents c.in_ok-contents.ensures.produced (returns-clause-taken c)
+    is_parsed config c.args.features with c.args.bytes.now c.in_ok-contents.contents (returns-clause-taken c) c.in_ok-contents.ensures.produced
