@@ -1,6 +1,8 @@
 -- The flags of a configuration.
 use Rattle.std.specs.Prelude.{Bool, true, false}
 use Rattle.walrus_model.specs.Config.{Config}
+use Rattle.walrus_rules.specs.Features.{features_of}
+use Rattle.walrus_writing.specs.declared.write.Choices.{Choices}
 use Rattle.walrus_module.specs.declared.config.ModuleConfig.{ModuleConfig}
 
 pub record Flags : Type 0 where
@@ -44,12 +46,16 @@ abbrev pub with_dwarf : Bool → Flags → Flags
 with_dwarf true f = record f { generate_dwarf = true; preserve_code_transform = true }
 with_dwarf false f = record f { generate_dwarf = false }
 
--- What the flags come to so far: names and producers are neither read nor written.
+-- What the flags come to so far: names are neither read nor written.
 abbrev pub config_of : Flags → Config
 config_of f = record {
   writes_names = false;
   synthetic_names = false;
-  writes_producers = false;
+  writes_producers = f.generate_producers_section;
   legacy_exceptions = f.legacy_exceptions;
   only_stable_features = f.only_stable_features;
 }
+
+-- what a module is written under by a configuration
+abbrev pub choices_of : Config → Choices
+choices_of c = record { features = features_of c; producers = c.writes_producers }

@@ -3,6 +3,7 @@
 ghost use Rattle.std.specs.Prelude.{◌≡◌};
 
 use walrus_ir::Features;
+use walrus_writing::Choices;
 
 /// What to read and what to write. Made with the defaults by [`ModuleConfig::new`]: names, producers, strict
 /// validation and legacy exceptions are on, all else is off. The setters can be chained.
@@ -20,7 +21,7 @@ pub struct ModuleConfig {
 
 impl ModuleConfig {
     ghost use Rattle.walrus_rules.specs.Features.{features_of};
-    ghost use Rattle.walrus_module.specs.Flags.{flags, defaults, with_dwarf, config_of};
+    ghost use Rattle.walrus_module.specs.Flags.{flags, defaults, with_dwarf, choices_of, config_of};
 
     /// The default configuration.
     pub fn new() -> ModuleConfig
@@ -123,6 +124,16 @@ impl ModuleConfig {
         Features {
             legacy_exceptions: self.legacy_exceptions,
             only_stable: self.only_stable_features,
+        }
+    }
+
+    // What a module is written under.
+    pub(crate) fn choices(&self) -> Choices
+        ensures { result ≡ choices_of (config_of (flags self.now)) }
+    {
+        Choices {
+            features: self.features(),
+            producers: self.generate_producers_section,
         }
     }
 }

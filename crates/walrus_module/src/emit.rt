@@ -42,8 +42,8 @@ impl Module {
     {
         check_live(alloc, self.parts())?;
         self.declare_references(alloc)?;
-        let features = self.config.features();
-        write_parts(alloc, self.parts(), &features)
+        let choices = self.config.choices();
+        write_parts(alloc, self.parts(), &choices)
     }
 
     // Adds the segment that declares what `ref.func` names and nothing declares, if there is any such function. Want of memory is the only

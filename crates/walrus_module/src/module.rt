@@ -43,7 +43,7 @@ pub struct Module {
     pub data_: ModuleData,
     /// The start function, if there is one.
     pub start: Option<FunctionId>,
-    /// The producers. They are kept and not written so far.
+    /// The producers: what made the module (tool-conventions, "Producers Section").
     pub producers: ModuleProducers,
     /// The custom sections.
     pub customs: ModuleCustomSections,
