@@ -10,11 +10,11 @@ use Rattle.walrus_model.specs.Supported.{IsSupported}
 -- what doesn't hold of the name isn't passed by any of them
 none_called : (test : Name → Bool) → test (codes "producers") ≡ false → (cs : List wire.Custom) → All (λ (c : wire.Custom). c.name ≡ codes "producers") cs
     → filter (λ (c : wire.Custom). test c.name) cs ≡ []
-none_called test no [] all = refl
-none_called test no (c ∷ cs) all =
+none_called test other [] all = refl
+none_called test other (c ∷ cs) all =
     let P : wire.Custom → Type 0 = λ c. c.name ≡ codes "producers" in
-    ap (λ (b : Bool). cond b (c ∷ filter (λ (d : wire.Custom). test d.name) cs) (filter (λ (d : wire.Custom). test d.name) cs)) (ap test (All-head P c cs all) ∙ no)
-    ∙ none_called test no cs (All-tail P c cs all)
+    ap (λ (b : Bool). cond b (c ∷ filter (λ (d : wire.Custom). test d.name) cs) (filter (λ (d : wire.Custom). test d.name) cs)) (ap test (All-head P c cs all) ∙ other)
+    ∙ none_called test other cs (All-tail P c cs all)
 
 pub no_names : (s : wire.Module) → IsSupported s → filter (λ (c : wire.Custom). bytes_eq c.name (codes "name")) s.customs ≡ []
 no_names s h = none_called (λ name. bytes_eq name (codes "name")) refl s.customs h.customs

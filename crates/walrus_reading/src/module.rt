@@ -15,7 +15,8 @@ use wasm_wire::{check, read_module};
 
 /// What the module holds that the bytes are ("Binary Format > Modules"), where bodies may use these proposals. Each item gets the id of
 /// its index, and each operator the place of its first byte; the locals stand function by function, of each its parameters and then all that
-/// it declares. Each type that a legacy handler needs is found among the types, or stands behind those that were read. Nothing has a name.
+/// it declares. Each type that a legacy handler needs is found among the types, or stands behind those that were read. Nothing has a name. Of
+/// each custom section called `producers` the fields that stand whole before its first fault are held, and this program with them.
 ///
 /// # Errors
 ///

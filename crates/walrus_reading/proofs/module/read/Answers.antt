@@ -52,5 +52,6 @@ pub returns-clause-own_ids : goal.returns-clause-own_ids
 returns-clause-own_ids c = own_ids c.args.features (sections c.in_ok-raw.raw) c.in_ok-contents.contents c.in_ok-contents.ensures.taken
 
 pub returns-clause-found : goal.returns-clause-found
+unfolding returns-clause-taken
 returns-clause-found c = λ config with.
     is_parsed config c.args.features with c.args.bytes.now c.in_ok-contents.contents (returns-clause-taken c) c.in_ok-contents.ensures.produced
