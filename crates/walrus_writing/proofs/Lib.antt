@@ -25,6 +25,7 @@ pub mod NoCauseBodies
 pub mod NoCauseHeaps
 pub mod OwnPlaces
 pub mod Parted
+pub mod ProducersSpelled
 pub mod Ranked
 pub mod RefusesAll
 pub mod RefusesLarge
@@ -39,5 +40,6 @@ pub mod TableRecords
 pub mod TextStands
 pub mod TypeRefusals
 pub mod TypesEntered
+pub mod WithCustoms
 pub mod WrittenAs
 pub mod WrittenLemmas

@@ -1,7 +1,6 @@
 -- Each refusal to write comes with its cause, and where all is written, there is none.
 use Rattle.std.proofs.Common.{ℕ, List, sym, subst}
 use Rattle.std.specs.Prelude.{IfOk, Result, Ok, Err}
-use Rattle.walrus_bodies.specs.declared.features.Features.{Features}
 use Rattle.walrus_groups.specs.Indexed.{AreInOrder}
 use Rattle.walrus_types.specs.ModuleTypes.{type_slots}
 use Rattle.walrus_contents.specs.View.{parts_view}
@@ -12,15 +11,16 @@ use Rattle.walrus_model.specs.Dead.{HasDead}
 use Rattle.walrus_model.specs.WellMade.{ImportsMatch}
 use Rattle.walrus_parts.specs.declared.error.Error.{Error}
 use Rattle.walrus_parts.specs.declared.error.Error.TheVariants.{Memory, NoIndex, NotWritable, TooLarge, TwoIndices}
-use Rattle.walrus_rules.specs.Features.{features_of}
 use Rattle.walrus_rules.specs.Refused.{PassesLimits, RefusesToWrite}
 use Rattle.walrus_rules.proofs.NoCause.{two}
-use Rattle.walrus_writing.specs.Emitted.{IsPlain, told}
+use Rattle.walrus_writing.specs.declared.write.Choices.{Choices}
+use Rattle.walrus_writing.specs.Emitted.{IsWrittenWith, told}
 use Rattle.walrus_plan.specs.Reads.{ReadsInOrder}
 use Rattle.walrus_plan.specs.Refusals.{RefusesPlan}
 use Rattle.walrus_plan.proofs.RefusesPlanned.{lacks_none}
 use Rattle.walrus_writing.specs.Records.{DoesNotFit, Spells}
 use Rattle.walrus_writing.specs.Refusals.{RefusesItems}
+use Rattle.walrus_writing.proofs.Emitted.{choices_of, chosen_so}
 use Rattle.walrus_writing.proofs.NoCauseAll.{no_cause}
 use Rattle.walrus_writing.proofs.RefusesLarge.{passes, too_many_items}
 use Rattle.walrus_writing.proofs.RefusesUnspelled.{unspelled}
@@ -41,14 +41,14 @@ module _ (c : Config) (p : Parts) (lives : HasDead (parts_view p) → ⊥) (matc
   abbrev V : Abstract
   V = parts_view p
 
-  -- what a size too large comes from, and what is written passes no limit, with these features
-  abbrev Sizes : Features → Type 0
-  Sizes features = (DoesNotFit p features → PassesLimits c V) × ((bytes : List ℕ) → Spells p features bytes → PassesLimits c V → ⊥)
+  -- what a size too large comes from, and what is written passes no limit, with these choices
+  abbrev Sizes : Choices → Type 0
+  Sizes choices = (DoesNotFit p choices → PassesLimits c V) × ((bytes : List ℕ) → Spells p choices bytes → PassesLimits c V → ⊥)
 
-  abbrev Refuses : {X : Type 0} → (X → List ℕ) → Result X Error → Features → Type 0
-  Refuses view result features = Sizes features → IfOk result (λ x. Spells p features (view x)) → RefusesItems p features result → RefusesToWrite ⊥ c V (told result)
+  abbrev Refuses : {X : Type 0} → (X → List ℕ) → Result X Error → Choices → Type 0
+  Refuses view result choices = Sizes choices → IfOk result (λ x. Spells p choices (view x)) → RefusesItems p choices result → RefusesToWrite ⊥ c V (told result)
 
-  items_with : {X : Type 0} (view : X → List ℕ) (result : Result X Error) → Refuses view result (features_of c)
+  items_with : {X : Type 0} (view : X → List ℕ) (result : Result X Error) → Refuses view result (choices_of c)
   items_with view (Ok x) sizes spells r = no_cause c p spells.records lives ordered (sizes.1 (view x) spells)
   items_with view (Err NotWritable) sizes spells r = unspelled c p lives r
   items_with view (Err TooLarge) sizes spells r = (two V matched, lacks_none p matched before ordered, λ sayable. passes c p sizes.0 r)
@@ -56,5 +56,5 @@ module _ (c : Config) (p : Parts) (lives : HasDead (parts_view p) → ⊥) (matc
   items_with view (Err _) sizes spells r = absurd r
 
   -- what is said of items that name nothing dead, and of which each has one index, is so of the module seen
-  pub items_refused : (features : Features) → IsPlain c features → {X : Type 0} (view : X → List ℕ) (result : Result X Error) → Refuses view result features
-  items_refused features plain view result = subst (Refuses view result) (sym plain.features_are) (items_with view result)
+  pub items_refused : (choices : Choices) → IsWrittenWith c choices → {X : Type 0} (view : X → List ℕ) (result : Result X Error) → Refuses view result choices
+  items_refused choices with view result = subst (Refuses view result) (sym (chosen_so c choices with)) (items_with view result)

@@ -21,6 +21,7 @@ use Rattle.walrus_writing.specs.Parts.{slots_of}
 use Rattle.walrus_writing.specs.Records.{DoesNotFit}
 use Rattle.walrus_writing.specs.Refusals as refusals
 use Rattle.walrus_writing.specs.Refusals.{HasBody}
+use Rattle.walrus_writing.proofs.Emitted.{choices_of}
 
 -- ---- declared locals
 
@@ -62,6 +63,6 @@ module _ (c : Config) (p : Parts) where
       ManyLocals n (body p.locals.now f) order (ap body_of_function is) (order_differs (slots_of p) used parameters order declared) (order_used (slots_of p) used parameters order declared) (order_apart (slots_of p) used parameters order declared) many
 
   -- a count or a size passes 32 bits
-  pub passes : (DoesNotFit p (features_of c) → PassesLimits c V) → refusals.PassesLimits p (features_of c) → PassesLimits c V
+  pub passes : (DoesNotFit p (choices_of c) → PassesLimits c V) → refusals.PassesLimits p (choices_of c) → PassesLimits c V
   passes unfit (inl h) = many_locals h
   passes unfit (inr h) = unfit h

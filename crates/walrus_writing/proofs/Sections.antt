@@ -1,21 +1,26 @@
--- The sections of a text that has no custom ones, kind by kind: once for all kinds.
+-- The sections of a text whose one custom section may be the producers section, kind by kind: once for all kinds.
 use Rattle.std.proofs.Common.{◌≡◌, ℕ, List, [], ◌∷◌, ◌++◌, map, refl, sym, ap, ap₂, subst, ◌∙◌}
-use Rattle.std.specs.Prelude.{All, Option, Some, None, IfSome}
+use Rattle.std.specs.Prelude.{All, Option, Some, None, IfSome, codes}
 use Rattle.std.proofs.lemmas.List.{append-nil}
 use Rattle.std.proofs.lemmas.List.Elements.{All-nil, All-cons, All-append, All-head}
+use Rattle.wasm_forms.specs.Spelling.{vector_bytes}
+use Rattle.wasm_frames.specs.Record as wire
 use Rattle.wasm_frames.specs.Frames as frames
-use Rattle.wasm_frames.specs.Frames.{Section, header}
-use Rattle.wasm_wire.specs.ModuleSpelling.{EachSection, if_any, if_given, module_bytes, sections_in_order, standard_sections}
+use Rattle.wasm_frames.specs.Frames.{Section, CustomSection, header}
+use Rattle.wasm_wire.specs.declared.written.CustomGroup.{CustomGroup}
+use Rattle.wasm_wire.specs.declared.written.CustomGroup.TheVariants.{Dylink, Names, Producers, Others}
+use Rattle.wasm_wire.specs.ModuleSpelling.{EachSection, group_of, if_any, if_given, module_bytes, sections_in_order, standard_sections}
 use Rattle.wasm_writer.specs.Spelling.{all_spelled}
+use Rattle.walrus_model.specs.Abstract.{ProducerField}
 use Rattle.walrus_rules.specs.Examples.{empty_text}
 use Rattle.walrus_rules.specs.Spelling.{written_as}
-use Rattle.walrus_rules.specs.Text.{Text, if_some, listed, sections_of, unplaced}
+use Rattle.walrus_rules.specs.Text.{Text, custom, field_bytes, if_some, listed, sections_of, unplaced}
 use Rattle.walrus_rules.proofs.OneList.{All-front, All-back}
-use Rattle.walrus_rules.proofs.OneSections.{laid, later}
+use Rattle.walrus_rules.proofs.OneSections.{laid, later, more}
 
--- the text without custom sections
+-- the text without custom sections but producers
 abbrev pub plain : Text → Text
-plain t = record t { dylinks = []; names = empty_text.names; producers = []; others = [] }
+plain t = record t { dylinks = []; names = empty_text.names; others = [] }
 
 -- ---- one kind
 
@@ -45,6 +50,34 @@ of_given P make (Some n) h = All-head P (make n) [] h
 
 beside : {xs ys us vs : List Section} → xs ≡ ys → us ≡ vs → xs ++ us ≡ ys ++ vs
 beside p q = ap₂ (λ (a b : List Section). a ++ b) p q
+
+-- ---- producers
+
+abbrev producers_made : List ProducerField → Section
+producers_made fields = custom (codes "producers") (vector_bytes field_bytes fields)
+
+-- the custom sections of a module with these producers
+abbrev said_in : List ProducerField → List wire.Custom
+said_in fields = more (codes "producers") (vector_bytes field_bytes) fields ++ []
+
+abbrev grouped : CustomGroup → List ProducerField → List Section
+grouped group fields = map CustomSection (group_of group (said_in fields))
+
+in_front : (fields : List ProducerField) → [] ≡ grouped Dylink fields
+in_front [] = refl
+in_front (f ∷ fs) = refl
+
+behind : (fields : List ProducerField) → listed producers_made fields ≡ grouped Names fields ++ grouped Producers fields ++ grouped Others fields
+behind [] = refl
+behind (f ∷ fs) = refl
+
+customs_hold : (P : Section → Type 0) (fields : List ProducerField) → All P (listed producers_made fields) → All (λ (c : wire.Custom). P (CustomSection c)) (said_in fields)
+customs_hold P [] h = All-nil _
+customs_hold P (f ∷ fs) h = All-cons (λ (c : wire.Custom). P (CustomSection c)) (record { name = codes "producers"; bytes = vector_bytes field_bytes (f ∷ fs) }) [] (All-head P (producers_made (f ∷ fs)) [] h) (All-nil _)
+
+producers_hold : (P : Section → Type 0) (fields : List ProducerField) → All (λ (c : wire.Custom). P (CustomSection c)) (said_in fields) → All P (listed producers_made fields)
+producers_hold P [] h = All-nil P
+producers_hold P (f ∷ fs) h = All-cons P (producers_made (f ∷ fs)) [] (All-head (λ (c : wire.Custom). P (CustomSection c)) (record { name = codes "producers"; bytes = vector_bytes field_bytes (f ∷ fs) }) [] h) (All-nil P)
 
 -- ---- all kinds
 
@@ -108,15 +141,20 @@ module _ (t : Text) where
       (listed_is frames.Code (map unplaced t.bodies)))
       (listed_is frames.DataSegments t.data_segments)
 
+  abbrev to_producers : List Section
+  to_producers = to_data_segments ++ listed producers_made t.producers
+
+  pub whole_same : sections_of (plain t) ≡ to_producers
+  whole_same = append-nil ((to_data_segments ++ []) ++ listed producers_made t.producers) ∙ ap (λ (ss : List Section). ss ++ listed producers_made t.producers) (append-nil to_data_segments)
+
   -- they are those of the module
   pub sections_same : sections_of (plain t) ≡ sections_in_order (laid (plain t))
-  sections_same = append-nil ((to_data_segments ++ []) ++ []) ∙ append-nil (to_data_segments ++ []) ∙ append-nil to_data_segments ∙ standard_same ∙ sym (append-nil (standard_sections (laid (plain t))))
+  sections_same =
+      whole_same
+      ∙ beside (standard_same ∙ ap (λ (ss : List Section). ss ++ standard_sections (laid (plain t))) (in_front t.producers)) (behind t.producers)
 
   pub bytes_same : module_bytes (laid (plain t)) ≡ written_as (plain t)
   bytes_same = ap (λ (ss : List Section). header ++ all_spelled ss) (sym sections_same)
-
-  pub whole_same : sections_of (plain t) ≡ to_data_segments
-  whole_same = append-nil ((to_data_segments ++ []) ++ []) ∙ append-nil (to_data_segments ++ []) ∙ append-nil to_data_segments
 
   module _ (P : Section → Type 0) where
     -- what holds of each kind holds of all
@@ -135,12 +173,14 @@ module _ (t : Text) where
         let hold_data_count : All P to_data_count = All-append P to_elements (if_some frames.DataCount t.data_count) hold_elements (all_given P frames.DataCount t.data_count e.data_count) in
         let hold_bodies : All P to_bodies = All-append P to_data_count (listed frames.Code (map unplaced t.bodies)) hold_data_count (all_listed P frames.Code (map unplaced t.bodies) e.bodies) in
         let hold_data_segments : All P to_data_segments = All-append P to_bodies (listed frames.DataSegments t.data_segments) hold_bodies (all_listed P frames.DataSegments t.data_segments e.data_segments) in
-        subst (λ (ss : List Section). All P ss) (sym whole_same) hold_data_segments
+        let hold_producers : All P to_producers = All-append P to_data_segments (listed producers_made t.producers) hold_data_segments (producers_hold P t.producers e.customs) in
+        subst (λ (ss : List Section). All P ss) (sym whole_same) hold_producers
 
     -- and back, where it holds of sections that list nothing
     pub each_section : EachSection P (laid (plain empty_text)) → All P (sections_of (plain t)) → EachSection P (laid (plain t))
     each_section none all =
-        let hold_data_segments : All P to_data_segments = subst (λ (ss : List Section). All P ss) whole_same all in
+        let hold_producers : All P to_producers = subst (λ (ss : List Section). All P ss) whole_same all in
+        let hold_data_segments : All P to_data_segments = All-front P to_data_segments (listed producers_made t.producers) hold_producers in
         let hold_bodies : All P to_bodies = All-front P to_bodies (listed frames.DataSegments t.data_segments) hold_data_segments in
         let hold_data_count : All P to_data_count = All-front P to_data_count (listed frames.Code (map unplaced t.bodies)) hold_bodies in
         let hold_elements : All P to_elements = All-front P to_elements (if_some frames.DataCount t.data_count) hold_data_count in
@@ -167,5 +207,5 @@ module _ (t : Text) where
           data_count = of_given P frames.DataCount t.data_count (All-back P to_elements (if_some frames.DataCount t.data_count) hold_data_count);
           bodies = of_listed P frames.Code (map unplaced t.bodies) none.bodies (All-back P to_data_count (listed frames.Code (map unplaced t.bodies)) hold_bodies);
           data_segments = of_listed P frames.DataSegments t.data_segments none.data_segments (All-back P to_bodies (listed frames.DataSegments t.data_segments) hold_data_segments);
-          customs = none.customs;
+          customs = customs_hold P t.producers (All-back P to_data_segments (listed producers_made t.producers) hold_producers);
         }

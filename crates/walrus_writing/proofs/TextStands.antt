@@ -1,12 +1,14 @@
 -- The text that records make has as many bodies as functions, and all its entries stand.
 use Rattle.wasm_entries.specs.Record as entries
 use Rattle.std.proofs.Common.{◌≡◌, ℕ, ◌<◌, ◌^◌, List, [], ◌∷◌, length, map, refl, sym, ap, ap₂, subst, arith, suc}
-use Rattle.std.specs.Prelude.{All, IfSome, Option, None, Some, option_and_then, option_map}
+use Rattle.std.specs.Prelude.{All, IfSome, Option, None, Some, codes, option_and_then, option_map}
 use Rattle.std.specs.List.{AllByRecursion, AllZip}
 use Rattle.std.specs.Str.{IsUtf8}
 use Rattle.std.proofs.lemmas.List.{length-map}
 use Rattle.std.proofs.lemmas.List.Elements.{All-nil, All-from_recursion, recursion_from_All}
 use Rattle.wasm_entries.specs.Spelling.{IsIndex, ExportStands}
+use Rattle.wasm_forms.specs.Spelling.{vector_bytes}
+use Rattle.wasm_frames.specs.Record as wire
 use Rattle.wasm_writer.specs.Spelling.{SectionStands}
 use Rattle.walrus_types.specs.Operators.{Space, Types, Functions, Tags, DataSegments}
 use Rattle.walrus_model.proofs.Standing.{some_inj}
@@ -16,18 +18,21 @@ use Rattle.walrus_code.specs.Names.{Lookup}
 use Rattle.walrus_contents.specs.View.{parts_view}
 use Rattle.walrus_contents.specs.declared.parts.Parts.{Parts}
 use Rattle.walrus_contents.proofs.Lookups.{heads, then_some}
-use Rattle.walrus_model.specs.Abstract.{Abstract, DataSegment, Export, FunctionKind, ImportedFunction, LocalFunction, Uninitialised}
+use Rattle.walrus_model.specs.Abstract.{Abstract, DataSegment, Export, FunctionKind, ImportedFunction, LocalFunction, ProducerField, Uninitialised}
 use Rattle.walrus_constants.specs.Segments.{named_data}
 use Rattle.walrus_model.specs.Sections.{data_of}
 use Rattle.walrus_model.proofs.Indices.{planned_below}
 use Rattle.walrus_rules.specs.Spelling.{BodyStands, IsCount}
 use Rattle.walrus_rules.specs.Text.{sections_of}
 use Rattle.walrus_rules.specs.Text as text
+use Rattle.walrus_rules.proofs.WorkedParts.{all_one, is_text}
 use Rattle.walrus_plan.specs.Brought.{import_numbers}
+use Rattle.walrus_writing.specs.Customs.{CustomText, with_customs}
 use Rattle.walrus_writing.specs.Parts.{HasBytes, source, tag_index, type_index, type_index_of, export_with_index, unplaced}
 use Rattle.walrus_writing.specs.Records.{Records, text_of, texts_in}
 use Rattle.walrus_writing.proofs.CarriedOver.{export_parts}
 use Rattle.walrus_writing.proofs.ImportedAlong.{entries_stand}
+use Rattle.walrus_writing.proofs.ProducersSpelled.{section_of}
 use Rattle.walrus_writing.proofs.Ranked.{body_stands}
 use Rattle.walrus_writing.proofs.Sections.{all_sections}
 use Rattle.walrus_writing.proofs.TypesEntered.{types_apart}
@@ -44,6 +49,11 @@ kind_named : (names : Lookup) (ty t : ℕ) (k : FunctionKind) → type_index_of 
 kind_named names ty t (LocalFunction b) e = e
 kind_named names ty t (ImportedFunction i) e = absurd (cc)
 kind_named names ty t Uninitialised e = absurd (cc)
+
+-- the name of the producers section is text
+producers_stand : (fields : List ProducerField) → All (λ (c : wire.Custom). IsUtf8 c.name) (section_of fields)
+producers_stand [] = All-nil _
+producers_stand (f ∷ fs) = all_one (λ (c : wire.Custom). IsUtf8 c.name) (record { name = codes "producers"; bytes = vector_bytes text.field_bytes (f ∷ fs) }) (is_text (codes "producers") refl)
 
 module _ {p : Parts} {features : Features} (r : Records p features) where
   abbrev V : Abstract
@@ -115,8 +125,8 @@ module _ {p : Parts} {features : Features} (r : Records p features) where
   count_stands None none = tt
   count_stands (Some count) is = let same : count ≡ length r.data_segments = is.1 in omega (arith, few_segments, same)
 
-  pub sections_stand : All SectionStands (sections_of (text_of r))
-  sections_stand = all_sections (text_of r) SectionStands (record {
+  pub sections_stand : (e : CustomText) → All SectionStands (sections_of (with_customs (text_of r) e))
+  sections_stand e = all_sections (with_customs (text_of r) e) SectionStands (record {
     types = r.types_stand;
     imports = entries_stand r.names V (import_numbers p) r.imports r.imports_are;
     functions = All-from_recursion IsIndex r.functions (functions_stand r.functions (r.own Functions) r.functions_are);
@@ -130,5 +140,5 @@ module _ {p : Parts} {features : Features} (r : Records p features) where
     data_count = subst (λ (o : Option ℕ). IfSome o IsIndex) (sym (later_none r.data_count)) (count_stands r.data_count r.counted);
     bodies = tt;
     data_segments = r.data_segments_stand;
-    customs = All-nil _;
+    customs = producers_stand e.producers;
   })

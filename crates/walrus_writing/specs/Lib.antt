@@ -1,3 +1,4 @@
+pub mod Customs
 pub mod Elements
 pub mod Emitted
 pub mod Globals

@@ -27,6 +27,8 @@ use Rattle.walrus_model.specs.WellMade.{ImportsMatch}
 use Rattle.walrus_rules.specs.Examples.{empty_text}
 use Rattle.walrus_rules.specs.Spelling.{IsCount, written_as}
 use Rattle.walrus_rules.specs.Text.{BodyText, Text, sections_of}
+use Rattle.walrus_writing.specs.Customs.{AreCustoms, CustomText, with_customs}
+use Rattle.walrus_writing.specs.declared.write.Choices.{Choices}
 use Rattle.walrus_writing.specs.Elements.{ChoosesFlag, ElementIsUnspelled}
 use Rattle.walrus_writing.specs.Globals.{GlobalIsUnspelled}
 use Rattle.walrus_plan.specs.Brought.{import_numbers}
@@ -107,7 +109,7 @@ texts_in p names features (i ∷ is) (b ∷ bs) a = record { declarations = a.0.
 texts_in p names features [] (b ∷ bs) a = elim a [ ]
 texts_in p names features (i ∷ is) [] a = elim a [ ]
 
--- the text made of the records
+-- the text made of the records, which says nothing in custom sections
 abbrev pub text_of : {p : Parts} {features : Features} → Records p features → Text
 text_of {p} {features} r = record empty_text {
   types = r.types;
@@ -126,16 +128,20 @@ text_of {p} {features} r = record empty_text {
 }
 
 -- a module of these sections
-abbrev pub sections_with : List Group → List entries.Import → List ℕ → List entries.Table → List RawLimits → List ℕ → List entries.Global → List entries.Export → Option ℕ → List entries.Element → Option ℕ → List wire.Body → List entries.Segment → wire.Module
-sections_with types imports functions tables memories tags globals exports start elements data_count bodies data_segments = record wire.no_sections { types = types; imports = imports; functions = functions; tables = tables; memories = memories; tags = tags; globals = globals; exports = exports; start = start; elements = elements; data_count = data_count; bodies = bodies; data_segments = data_segments }
+abbrev pub sections_with : List Group → List entries.Import → List ℕ → List entries.Table → List RawLimits → List ℕ → List entries.Global → List entries.Export → Option ℕ → List entries.Element → Option ℕ → List wire.Body → List entries.Segment → List wire.Custom → wire.Module
+sections_with types imports functions tables memories tags globals exports start elements data_count bodies data_segments customs = record wire.no_sections { types = types; imports = imports; functions = functions; tables = tables; memories = memories; tags = tags; globals = globals; exports = exports; start = start; elements = elements; data_count = data_count; bodies = bodies; data_segments = data_segments; customs = customs }
 
--- the bytes are those of the text, which fits
-pub record Spells (p : Parts) (features : Features) (bytes : List ℕ) : Type 0 where
-  pub records : Records p features
-  pub fit : All SectionFits (sections_of (text_of records))
-  pub are : bytes ≡ written_as (text_of records)
+-- the bytes are those of the text with its custom sections, which fits
+pub record Spells (p : Parts) (choices : Choices) (bytes : List ℕ) : Type 0 where
+  pub records : Records p choices.features
+  pub customs : CustomText
+  pub customs_are : AreCustoms p choices customs
+  pub fit : All SectionFits (sections_of (with_customs (text_of records) customs))
+  pub are : bytes ≡ written_as (with_customs (text_of records) customs)
 
 -- a count or a size in the sections passes 32 bits
-pub record DoesNotFit (p : Parts) (features : Features) : Type 0 where
-  pub records : Records p features
-  pub too_large : All SectionFits (sections_of (text_of records)) → ⊥
+pub record DoesNotFit (p : Parts) (choices : Choices) : Type 0 where
+  pub records : Records p choices.features
+  pub customs : CustomText
+  pub customs_are : AreCustoms p choices customs
+  pub too_large : All SectionFits (sections_of (with_customs (text_of records) customs)) → ⊥

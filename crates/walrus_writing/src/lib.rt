@@ -2,6 +2,7 @@
 #![tactic(auto)]
 
 mod bodies;
+mod customs;
 mod data;
 mod elements;
 mod globals;
@@ -10,4 +11,4 @@ mod records;
 mod tables;
 mod write;
 
-pub use write::write_parts;
+pub use write::{Choices, write_parts};

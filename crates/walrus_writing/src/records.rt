@@ -16,7 +16,7 @@ ghost use Rattle.walrus_contents.specs.View.{export_of, memory_of, parts_view, t
 ghost use Rattle.walrus_parts.specs.Errors.{out_of_memory};
 ghost use Rattle.wasm_entries.specs.Record.{data_entry, element_entry, group, export_entry, global_entry, import_entry, table_entry};
 ghost use Rattle.wasm_entries.specs.TypeSpelling.{IsBelow, LimitsStand};
-ghost use Rattle.wasm_frames.specs.Record.{body_record, sections};
+ghost use Rattle.wasm_frames.specs.Record.{body_record, custom_record, sections};
 ghost use Rattle.walrus_plan.specs.Brought.{own_of};
 ghost use Rattle.walrus_writing.specs.Parts.{index_at, kind_in, type_index, memory_limits, tag_index, export_with_index, unplaced};
 ghost use Rattle.walrus_writing.specs.Records.{sections_with};
@@ -33,8 +33,8 @@ use walrus_items::{
 use walrus_parts::{Error, Result};
 use walrus_plan::tag_import;
 use wasm_wire::{
-    Raw, RawBody, RawData, RawElement, RawExport, RawExportKind, RawGlobal, RawGroup, RawImport,
-    RawLimits, RawTable,
+    Raw, RawBody, RawCustom, RawData, RawElement, RawExport, RawExportKind, RawGlobal, RawGroup,
+    RawImport, RawLimits, RawTable,
 };
 
 // The groups of the type section.
@@ -280,12 +280,14 @@ pub fn raw_module<'a>(
     data_count: Option<u32>,
     bodies: Vec<RawBody<'a>>,
     data_segments: Vec<RawData<'a>>,
+    customs: Vec<RawCustom<'a>>,
 ) -> Raw<'a>
     ensures { sections result ≡ sections_with (map group types.items)
         (map import_entry imports.entry.items) functions.items
         (map table_entry tables.items) memories.items tags.items (map global_entry globals.items)
         (map export_entry exports.entry.items) start (map element_entry elements.items) data_count
-        (map body_record bodies.entry.items) (map data_entry data_segments.entry.items) }
+        (map body_record bodies.entry.items) (map data_entry data_segments.entry.items)
+        (map custom_record customs.entry.items) }
 {
     Raw {
         order: Vec::new(alloc),
@@ -302,6 +304,6 @@ pub fn raw_module<'a>(
         data_count,
         bodies,
         data_: data_segments,
-        customs: Vec::new(alloc),
+        customs,
     }
 }

@@ -5,12 +5,13 @@ ghost use Rattle.walrus_model.specs.Dead.{HasDead};
 ghost use Rattle.walrus_model.specs.Declared.{NothingUndeclared};
 ghost use Rattle.walrus_rules.specs.Refused.{RefusesToWrite};
 ghost use Rattle.walrus_contents.specs.View.{parts_view};
-ghost use Rattle.walrus_writing.specs.Emitted.{IsEmitted, IsPlain, told};
+ghost use Rattle.walrus_writing.specs.Emitted.{IsEmitted, IsWrittenWith, told};
 ghost use Rattle.walrus_plan.specs.Prepared.{IsPrepared};
 ghost use Rattle.walrus_writing.specs.Records.{Spells};
 ghost use Rattle.walrus_writing.specs.Refusals.{RefusesItems};
 
 use crate::bodies::{Indexed, body_bytes};
+use crate::customs::{producers_payload, raw_customs};
 use crate::data::raw_data;
 use crate::elements::raw_elements;
 use crate::globals::raw_globals;
@@ -23,12 +24,21 @@ use crate::tables::raw_tables;
 use std::alloc::Global;
 use walrus_contents::Parts;
 use walrus_ir::Features;
-use walrus_parts::Result;
+use walrus_parts::{Error, Result};
 use walrus_plan::{Prepared, prepare};
 use wasm_wire::written_module;
 
-/// The bytes of a module of these parts, in which nothing dead is named and nothing is undeclared, and whose bodies may use these proposals;
-/// neither names nor producers are written.
+/// What a module is written under.
+#[derive(Clone, Copy, Debug)]
+pub struct Choices {
+    /// The proposals that bodies may use.
+    pub features: Features,
+    /// Whether the producers section is written (tool-conventions, "Producers Section"). One without fields never is.
+    pub producers: bool,
+}
+
+/// The bytes of a module of these parts, in which nothing dead is named and nothing is undeclared, and whose bodies may use the chosen
+/// proposals: with its producers where these are chosen, and without names.
 ///
 /// # Errors
 ///
@@ -37,16 +47,23 @@ use wasm_wire::written_module;
 /// of a global itself or a later one, or a type names one of a later group or a later supertype; `NotWritable` where a body isn't well formed, an
 /// exact heap type is written, or an initialiser, an offset or an item of a segment has no operator; `TooLarge` where a count or a size passes 32
 /// bits; and `Memory`.
-pub fn write_parts(alloc: Global, parts: Parts<'_>, features: &Features) -> Result<Vec<u8>>
+pub fn write_parts(alloc: Global, parts: Parts<'_>, choices: &Choices) -> Result<Vec<u8>>
     requires there { HasDead (parts_view parts) → ⊥ }
     requires declared { NothingUndeclared (parts_view parts) }
-    ensures written { (c : Config) → IsPlain c features.now
+    ensures written { (c : Config) → IsWrittenWith c choices.now
         → IfOk result (λ bytes. IsEmitted c (parts_view parts.entry) bytes.items) }
-    ensures refused { (c : Config) → IsPlain c features.now → RefusesToWrite ⊥ c (parts_view parts.entry)
-        (told result) }
+    ensures refused { (c : Config) → IsWrittenWith c choices.now
+        → RefusesToWrite ⊥ c (parts_view parts.entry) (told result) }
 {
     let prepared = prepare(alloc, parts)?;
-    write_prepared(alloc, parts, &prepared, features)
+    write_prepared(alloc, parts, &prepared, choices)
+}
+
+// What is made for sections that only lend it: the bytes of bodies, and the payload of the producers section.
+#[derive(Drop)]
+struct Made {
+    bodies: Vec<Vec<u8>>,
+    payload: Option<Vec<u8>>,
 }
 
 // The bytes of items that name nothing dead, in the order of their plan, by the indices that it gives.
@@ -54,12 +71,12 @@ fn write_prepared(
     alloc: Global,
     parts: Parts<'_>,
     prepared: &Prepared,
-    features: &Features,
+    choices: &Choices,
 ) -> Result<Vec<u8>>
     requires there { HasDead (parts_view parts) → ⊥ }
     requires planned { IsPrepared parts prepared.now }
-    ensures spells { IfOk result (λ bytes. Spells parts.entry features.now bytes.items) }
-    ensures refused { RefusesItems parts.entry features.now result }
+    ensures spells { IfOk result (λ bytes. Spells parts.entry choices.now bytes.items) }
+    ensures refused { RefusesItems parts.entry choices.now result }
 {
     let indices = &prepared.indices;
     let order = prepared.plan.own_functions.as_slice();
@@ -68,10 +85,14 @@ fn write_prepared(
     let under = Indexed {
         parts,
         indices,
-        features,
+        features: &choices.features,
     };
+    let payload = producers_payload(alloc, parts.producers, choices.producers)?;
     let bodies = body_bytes(alloc, under, order)?;
-    let code = raw_bodies(alloc, bodies.as_slice())?;
+    let made = Made { bodies, payload };
+    let lent = &made;
+    let code = raw_bodies(alloc, lent.bodies.as_slice())?;
+    let customs = raw_customs(alloc, &lent.payload)?;
     let imports = raw_imports(alloc, parts, indices)?;
     let tables = raw_tables(alloc, parts.tables, indices)?;
     let memories = raw_memories(alloc, parts.memories)?;
@@ -81,6 +102,9 @@ fn write_prepared(
     let start = raw_start(parts.start, indices);
     let elements = raw_elements(alloc, parts.elements, parts.tables, indices)?;
     let data_segments = raw_data(alloc, parts.data_, indices)?;
+    if lent.payload.is_none() {
+        return Err(Error::TooLarge);
+    }
     let raw = raw_module(
         alloc,
         types,
@@ -96,6 +120,7 @@ fn write_prepared(
         prepared.data_count,
         code,
         data_segments,
+        customs,
     );
     let bytes = written_module(alloc, &raw)?;
     Ok(bytes)

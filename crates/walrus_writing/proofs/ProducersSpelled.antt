@@ -1,0 +1,154 @@
+-- The producers section: its payload isn't empty, what fits in it where it fits, and its texts.
+use Rattle.std.proofs.Common.{◌≡◌, ℕ, zero, suc, ◌+◌, ◌≤◌, ◌<◌, ◌^◌, Bool, true, false, List, [], ◌∷◌, ◌++◌, length, map, refl, sym, ap, subst, ◌∙◌, arith}
+use Rattle.std.specs.Prelude.{All, Option, Some, None, Ok, codes, is_some, nat_lt, option_map, if◌then◌else◌}
+use Rattle.std.specs.Global.{Vec}
+use Rattle.std.specs.List.{AllByRecursion}
+use Rattle.std.proofs.lemmas.List.{append-nil, length-append}
+use Rattle.std.proofs.lemmas.List.Elements.{All-from_recursion, All-head}
+use Rattle.std.proofs.lemmas.Str.{IsUtf8-string_bytes}
+use Rattle.wasm_forms.specs.Spelling.{block_bytes, groups, number_bytes, row_bytes, vector_bytes}
+use Rattle.wasm_forms.specs.Writing.{EachFits, FitsLength, FitsVector}
+use Rattle.wasm_forms.proofs.Adding.{vector_map}
+use Rattle.wasm_frames.specs.Record as wire
+use Rattle.wasm_frames.specs.Frames.{Section, CustomSection}
+use Rattle.wasm_payloads.specs.Producers.{Field}
+use Rattle.wasm_payloads.specs.Spelling as spelled
+use Rattle.wasm_payloads.specs.Spelling.{FieldFits, ProducersFit, ValueFits, producers_bytes, value_bytes}
+use Rattle.wasm_writer.specs.Spelling.{SectionFits}
+use Rattle.wasm_writer.proofs.Listed.{fits_none}
+use Rattle.walrus_contents.specs.View.{parts_view}
+use Rattle.walrus_contents.specs.declared.parts.Parts.{Parts}
+use Rattle.walrus_model.specs.Abstract.{ProducerField}
+use Rattle.walrus_model.specs.Producers.{if_written}
+use Rattle.walrus_model.specs.Sections.{customs_of}
+use Rattle.walrus_parts.specs.declared.error.Error.{Error}
+use Rattle.walrus_producers.specs.Seen.{fields_seen, values_seen}
+use Rattle.walrus_producers.specs.declared.producers.ProducerValue.{ProducerValue as HeldValue}
+use Rattle.walrus_producers.specs.declared.producers.ProducerField.{ProducerField as HeldField}
+use Rattle.walrus_rules.specs.Spelling.{FieldIsText, ValueIsText}
+use Rattle.walrus_rules.specs.Text.{field_bytes, raw_field}
+use Rattle.walrus_rules.proofs.OneSections.{more}
+use Rattle.walrus_writing.specs.Customs.{AreCustoms, CustomText, SpellsFields, payload_of, producers_section}
+use Rattle.walrus_writing.specs.declared.write.Choices.{Choices}
+
+-- ---- a number has a byte or more, and so has a vector
+
+cond_filled : (b : Bool) (x y : ℕ) (xs ys : List ℕ) → 1 ≤ length (if b then x ∷ xs else y ∷ ys)
+cond_filled true x y xs ys = omega arith
+cond_filled false x y xs ys = omega arith
+
+groups_filled : (below : Bool) (stop most n : ℕ) → 1 ≤ length (groups below stop most n)
+unfolding groups
+groups_filled below stop zero n = omega arith
+groups_filled below stop (suc most) n = cond_filled (nat_lt n stop) _ _ _ _
+
+number_filled : (n : ℕ) → 1 ≤ length (number_bytes n)
+unfolding number_bytes
+number_filled n = groups_filled false 128 9 n
+
+behind_filled : (n : ℕ) (rest : List ℕ) → 1 ≤ length (number_bytes n ++ rest)
+behind_filled n rest = omega (arith, number_filled n, length-append (number_bytes n) rest)
+
+-- ---- what is spelled in fewer than 2 ^ 32 bytes has counts and sizes below
+
+behind_fits : (front rest : List ℕ) → FitsLength (front ++ rest) → FitsLength rest
+behind_fits front rest few = omega (arith, few, length-append front rest)
+
+before_fits : (front rest : List ℕ) → FitsLength (front ++ rest) → FitsLength front
+before_fits front rest few = omega (arith, few, length-append front rest)
+
+module _ {X : Type 0} (spell : X → List ℕ) (filled : (x : X) → 1 ≤ length (spell x)) where
+  row_long : (xs : List X) → length xs ≤ length (row_bytes spell xs)
+  row_long [] = omega arith
+  row_long (x ∷ xs) = omega (arith, filled x, row_long xs, length-append (spell x) (row_bytes spell xs))
+
+  module _ (Fits : X → Type 0) (fits : (x : X) → FitsLength (spell x) → Fits x) where
+    each_fits : (xs : List X) → FitsLength (row_bytes spell xs) → EachFits Fits xs
+    each_fits [] few = tt
+    each_fits (x ∷ xs) few = (fits x (before_fits (spell x) (row_bytes spell xs) few), each_fits xs (behind_fits (spell x) (row_bytes spell xs) few))
+
+    vector_fits : (xs : List X) → FitsLength (vector_bytes spell xs) → FitsVector Fits xs
+    vector_fits xs few =
+        let row : FitsLength (row_bytes spell xs) = behind_fits (number_bytes (length xs)) (row_bytes spell xs) few in
+        (omega (arith, row, row_long xs), each_fits xs row)
+
+block_fits : (text : List ℕ) → FitsLength (block_bytes text) → FitsLength text
+block_fits text few = behind_fits (number_bytes (length text)) text few
+
+value_fits : (v : List ℕ × List ℕ) → FitsLength (value_bytes v) → ValueFits v
+value_fits v few = (block_fits v.0 (before_fits (block_bytes v.0) (block_bytes v.1) few), block_fits v.1 (behind_fits (block_bytes v.0) (block_bytes v.1) few))
+
+value_filled : (v : List ℕ × List ℕ) → 1 ≤ length (value_bytes v)
+value_filled v = omega (arith, behind_filled (length v.0) v.0, length-append (block_bytes v.0) (block_bytes v.1))
+
+field_fits : (f : Field) → FitsLength (spelled.field_bytes f) → FieldFits f
+field_fits f few = (
+  block_fits f.0 (before_fits (block_bytes f.0) (vector_bytes value_bytes f.1) few),
+  vector_fits value_bytes value_filled ValueFits value_fits f.1 (behind_fits (block_bytes f.0) (vector_bytes value_bytes f.1) few),
+)
+
+field_filled : (f : Field) → 1 ≤ length (spelled.field_bytes f)
+field_filled f = omega (arith, behind_filled (length f.0) f.0, length-append (block_bytes f.0) (vector_bytes value_bytes f.1))
+
+producers_fit : (fields : List Field) → FitsLength (producers_bytes fields) → ProducersFit fields
+producers_fit fields few = vector_fits spelled.field_bytes field_filled FieldFits field_fits fields few
+
+-- ---- the section
+
+abbrev name : List ℕ
+name = codes "producers"
+
+-- the section of these fields, if there are any
+abbrev pub section_of : List ProducerField → List wire.Custom
+section_of fields = more name (vector_bytes field_bytes) fields ++ []
+
+-- where it fits, so do its fields
+pub fields_fit : (fields : List ProducerField) → All (λ (c : wire.Custom). SectionFits (CustomSection c)) (section_of fields) → ProducersFit (map raw_field fields)
+fields_fit [] all = (fits_none FieldFits spelled.field_bytes).0
+fields_fit (f ∷ fs) all =
+    let bytes : List ℕ = vector_bytes field_bytes (f ∷ fs) in
+    let section : SectionFits (CustomSection (record { name = name; bytes = bytes })) = All-head (λ (c : wire.Custom). SectionFits (CustomSection c)) (record { name = name; bytes = bytes }) [] all in
+    producers_fit (map raw_field (f ∷ fs)) (subst (λ (l : List ℕ). FitsLength l) (vector_map raw_field spelled.field_bytes (f ∷ fs)) (behind_fits (block_bytes name) bytes section.1))
+
+-- it is read apart, and so it is no custom section of the module's own
+pub none_own : (fields : List ProducerField) → customs_of (section_of fields) ≡ []
+none_own [] = refl
+none_own (f ∷ fs) = refl
+
+payload_section : (bytes : List ℕ) → 1 ≤ length bytes → producers_section (Some bytes) ≡ record { name = name; bytes = bytes } ∷ []
+payload_section [] long = absurd (omega (arith, long))
+payload_section (b ∷ bs) long = refl
+
+-- a payload makes it
+section_made : (fields : List ProducerField) → producers_section (Some (payload_of fields)) ≡ section_of fields
+section_made [] = refl
+section_made (f ∷ fs) = payload_section (vector_bytes field_bytes (f ∷ fs)) (behind_filled (length (f ∷ fs)) (row_bytes field_bytes (f ∷ fs)))
+
+-- a payload that is there is that of the fields, and one that isn't doesn't fit
+pub section_given : (fields : List ProducerField) (payload : Option (Vec ℕ)) → is_some payload ≡ true → SpellsFields payload_of fields (Ok payload) → producers_section (option_map (λ (bytes : Vec ℕ). bytes.items) payload) ≡ section_of fields
+section_given fields None there gives = absurd (cc)
+section_given fields (Some bytes) there gives = ap (λ (l : List ℕ). producers_section (Some l)) gives ∙ section_made fields
+
+pub section_refused : (fields : List ProducerField) (payload : Option (Vec ℕ)) → is_some payload ≡ false → SpellsFields payload_of fields (Ok payload) → ProducersFit (map raw_field fields) → ⊥
+section_refused fields None there gives = gives
+section_refused fields (Some bytes) there gives = absurd (cc)
+
+-- ---- what is chosen of the producers of these parts
+
+values_text : (values : List HeldValue) → AllByRecursion ValueIsText (values_seen values)
+values_text [] = tt
+values_text (v ∷ vs) = ((IsUtf8-string_bytes v.name, IsUtf8-string_bytes v.version), values_text vs)
+
+fields_text : (fields : List HeldField) → AllByRecursion FieldIsText (fields_seen fields)
+fields_text [] = tt
+fields_text (f ∷ fs) = ((IsUtf8-string_bytes f.name, All-from_recursion ValueIsText (values_seen f.values.items) (values_text f.values.items)), fields_text fs)
+
+chosen_text : (chosen : Bool) (fields : List HeldField) → All FieldIsText (if_written chosen (fields_seen fields))
+chosen_text true fields = All-from_recursion FieldIsText (fields_seen fields) (fields_text fields)
+chosen_text false fields = All-from_recursion FieldIsText [] tt
+
+abbrev pub customs_said : Parts → Choices → CustomText
+customs_said p choices = record { producers = if_written choices.producers (parts_view p).producers }
+
+pub customs_are_said : (p : Parts) (choices : Choices) → AreCustoms p choices (customs_said p choices)
+customs_are_said p choices = record { producers_are = refl; producers_text = chosen_text choices.producers p.producers.now.fields.items }
