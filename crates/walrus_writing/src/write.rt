@@ -1,5 +1,12 @@
 //! Writing a module's parts as bytes.
-ghost use Rattle.std.specs.Prelude.{IfOk};
+ghost use Rattle.std.specs.Prelude.{All, IfErr, IfOk, Ok};
+ghost use Rattle.std.specs.List.{AllZip};
+ghost use Rattle.walrus_base.specs.Id.{place};
+ghost use Rattle.walrus_code.specs.Indices.{index_of};
+ghost use Rattle.walrus_model.specs.Producers.{if_written};
+ghost use Rattle.walrus_producers.specs.Seen.{producers};
+ghost use Rattle.walrus_writing.specs.Customs.{SpellsFields, payload_of};
+ghost use Rattle.walrus_writing.specs.Parts.{HasBytes, IsIndexed};
 ghost use Rattle.walrus_model.specs.Config.{Config};
 ghost use Rattle.walrus_model.specs.Dead.{HasDead};
 ghost use Rattle.walrus_model.specs.Declared.{NothingUndeclared};
@@ -8,7 +15,7 @@ ghost use Rattle.walrus_contents.specs.View.{parts_view};
 ghost use Rattle.walrus_writing.specs.Emitted.{IsEmitted, IsWrittenWith, told};
 ghost use Rattle.walrus_plan.specs.Prepared.{IsPrepared};
 ghost use Rattle.walrus_writing.specs.Records.{Spells};
-ghost use Rattle.walrus_writing.specs.Refusals.{RefusesItems};
+ghost use Rattle.walrus_writing.specs.Refusals.{RefusesBodies, RefusesItems};
 
 use crate::bodies::{Indexed, body_bytes};
 use crate::customs::{producers_payload, raw_customs};
@@ -23,7 +30,7 @@ use crate::records::{
 use crate::tables::raw_tables;
 use std::alloc::Global;
 use walrus_contents::Parts;
-use walrus_ir::Features;
+use walrus_ir::{Features, FunctionId, IdsToIndices};
 use walrus_parts::{Error, Result};
 use walrus_plan::{Prepared, prepare};
 use wasm_wire::written_module;
@@ -66,6 +73,33 @@ struct Made {
     payload: Option<Vec<u8>>,
 }
 
+// Makes it, of these functions and of the producers of the parts.
+fn make(
+    alloc: Global,
+    parts: Parts<'_>,
+    order: &[FunctionId],
+    indices: &IdsToIndices,
+    choices: &Choices,
+) -> Result<Made>
+    requires indexed { All (λ id.
+        IsIndexed parts (index_of indices.now) choices.now.features (place id)) order.now }
+    ensures bodies { IfOk result (λ made. AllZip (λ id bytes.
+        HasBytes parts.entry (index_of indices.now) choices.now.features (place id) bytes.items)
+        order.now made.bodies.items) }
+    ensures payload { IfOk result (λ made. SpellsFields payload_of
+        (if_written choices.now.producers (producers parts.entry.producers.now)) (Ok made.payload)) }
+    ensures fails { IfErr result (RefusesBodies parts.entry choices.now.features) }
+{
+    let under = Indexed {
+        parts,
+        indices,
+        features: &choices.features,
+    };
+    let payload = producers_payload(alloc, parts.producers, choices.producers)?;
+    let bodies = body_bytes(alloc, under, order)?;
+    Ok(Made { bodies, payload })
+}
+
 // The bytes of items that name nothing dead, in the order of their plan, by the indices that it gives.
 fn write_prepared(
     alloc: Global,
@@ -82,14 +116,7 @@ fn write_prepared(
     let order = prepared.plan.own_functions.as_slice();
     let types = raw_types(alloc, parts.types, indices)?;
     let functions = raw_functions(alloc, parts, order, indices)?;
-    let under = Indexed {
-        parts,
-        indices,
-        features: &choices.features,
-    };
-    let payload = producers_payload(alloc, parts.producers, choices.producers)?;
-    let bodies = body_bytes(alloc, under, order)?;
-    let made = Made { bodies, payload };
+    let made = make(alloc, parts, order, indices, choices)?;
     let lent = &made;
     let code = raw_bodies(alloc, lent.bodies.as_slice())?;
     let customs = raw_customs(alloc, &lent.payload)?;

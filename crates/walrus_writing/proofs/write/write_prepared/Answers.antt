@@ -105,15 +105,15 @@ returns-in_err-data_segments-clause-refused c =
     let p = err_from_is_err_and c.from_residual-in_err-data_segments.result c.from_residual-in_err-data_segments.ensures.1 in
     rw (p.1, p.2) (data_refused c.args.parts c.args.choices.now (Vec ℕ) _ c.in_err-data_segments.ensures.fails)
 
-pub body_bytes-requires : goal.body_bytes-requires
-body_bytes-requires c = record {
+pub make-requires : goal.make-requires
+make-requires c = record {
   indexed = ids_indexed c.args.parts c.requires.there (index_of c.args.prepared.now.indices) (places c.args.prepared.now.plan) c.requires.planned.is_plan c.requires.planned.numbered c.args.prepared.now.plan.own_functions.items _ c.requires.planned.own c.as_slice-order.ensures.value c.args.choices.now.features;
 }
 
-pub returns-in_err-bodies-clause-refused : goal.returns-in_err-bodies-clause-refused
-returns-in_err-bodies-clause-refused c =
-    let p = err_from_is_err_and c.from_residual-in_err-bodies.result c.from_residual-in_err-bodies.ensures.1 in
-    rw (p.1, p.2) (bodies_refused c.args.parts c.args.choices.now (Vec ℕ) _ c.in_err-bodies.ensures.fails)
+pub returns-in_err-made-clause-refused : goal.returns-in_err-made-clause-refused
+returns-in_err-made-clause-refused c =
+    let p = err_from_is_err_and c.from_residual-in_err-made.result c.from_residual-in_err-made.ensures.1 in
+    rw (p.1, p.2) (bodies_refused c.args.parts c.args.choices.now (Vec ℕ) _ c.in_err-made.ensures.fails)
 
 pub returns-in_err-bytes-clause-refused : goal.returns-in_err-bytes-clause-refused
 returns-in_err-bytes-clause-refused c =
@@ -121,7 +121,7 @@ returns-in_err-bytes-clause-refused c =
     let plan = c.requires.planned in
     let producers = if_written c.args.choices.now.producers (parts_view c.args.parts).producers in
     let p = err_from_is_err_and c.from_residual-in_err-bytes.result c.from_residual-in_err-bytes.ensures.1 in
-    rw (p.1, p.2) (records_refused c.args.parts c.args.choices.now names c.args.prepared.now.plan c.in_ok-types.types.items c.in_ok-imports.imports.items c.in_ok-functions.functions.items c.in_ok-tables.tables.items c.in_ok-memories.memories.items c.in_ok-tags.tags.items c.in_ok-globals.globals.items c.in_ok-exports.exports.items c.in_ok-bodies.bodies.items c.in_ok-elements.elements.items c.in_ok-data_segments.data_segments.items c.args.prepared.now.data_count
+    rw (p.1, p.2) (records_refused c.args.parts c.args.choices.now names c.args.prepared.now.plan c.in_ok-types.types.items c.in_ok-imports.imports.items c.in_ok-functions.functions.items c.in_ok-tables.tables.items c.in_ok-memories.memories.items c.in_ok-tags.tags.items c.in_ok-globals.globals.items c.in_ok-exports.exports.items c.in_ok-made.made.bodies.items c.in_ok-elements.elements.items c.in_ok-data_segments.data_segments.items c.args.prepared.now.data_count
     plan.matched plan.reads plan.is_plan plan.numbered plan.few
     plan.types plan.functions plan.tables plan.memories plan.tags plan.globals
     c.in_ok-types.ensures.value c.in_ok-imports.ensures.value
@@ -131,18 +131,18 @@ returns-in_err-bytes-clause-refused c =
     c.in_ok-globals.ensures.value c.in_ok-globals.ensures.stand c.in_ok-globals.ensures.spelled
     c.in_ok-exports.ensures.value c.in_ok-exports.ensures.text
     c.raw_start-start.result (ap (option_map (λ (i : ℕ). Some i)) c.raw_start-start.ensures ∙ start_indexed c.args.parts c.requires.there names (places c.args.prepared.now.plan) plan.is_plan plan.numbered)
-    (subst (λ ids. AllZip (λ id bytes. HasBytes c.args.parts names c.args.choices.now.features (place id) bytes.items) ids c.in_ok-bodies.bodies.items) c.as_slice-order.ensures.value c.in_ok-bodies.ensures.value)
+    (subst (λ ids. AllZip (λ id bytes. HasBytes c.args.parts names c.args.choices.now.features (place id) bytes.items) ids c.in_ok-made.made.bodies.items) c.as_slice-order.ensures.value c.in_ok-made.ensures.bodies)
     plan.elements c.in_ok-elements.ensures.value c.in_ok-elements.ensures.stand c.in_ok-elements.ensures.chosen c.in_ok-elements.ensures.spelled
     plan.data_segments c.in_ok-data_segments.ensures.value c.in_ok-data_segments.ensures.stand c.in_ok-data_segments.ensures.spelled plan.data_count
     _ _ _ c.raw_module-raw.ensures (c.in_ok-code.ensures.value ∙ ap (map (λ (v : Vec ℕ). unplaced v.items)) c.as_slice.ensures.value)
-    (c.in_ok-customs.ensures.value ∙ section_given producers c.in_ok-payload.payload (c.is_none.ensures ∙ ap not c.if-is_none.false) c.in_ok-payload.ensures) (Vec ℕ) _ c.in_err-bytes.ensures)
+    (c.in_ok-customs.ensures.value ∙ section_given producers c.in_ok-made.made.payload (c.is_none.ensures ∙ ap not c.if-is_none.false) c.in_ok-made.ensures.payload) (Vec ℕ) _ c.in_err-bytes.ensures)
 
 pub returns-then-is_none-clause-refused : goal.returns-then-is_none-clause-refused
 returns-then-is_none-clause-refused c =
     let names = index_of c.args.prepared.now.indices in
     let plan = c.requires.planned in
     let producers = if_written c.args.choices.now.producers (parts_view c.args.parts).producers in
-    producers_refused c.args.parts c.args.choices.now names c.args.prepared.now.plan c.in_ok-types.types.items c.in_ok-imports.imports.items c.in_ok-functions.functions.items c.in_ok-tables.tables.items c.in_ok-memories.memories.items c.in_ok-tags.tags.items c.in_ok-globals.globals.items c.in_ok-exports.exports.items c.in_ok-bodies.bodies.items c.in_ok-elements.elements.items c.in_ok-data_segments.data_segments.items c.args.prepared.now.data_count
+    producers_refused c.args.parts c.args.choices.now names c.args.prepared.now.plan c.in_ok-types.types.items c.in_ok-imports.imports.items c.in_ok-functions.functions.items c.in_ok-tables.tables.items c.in_ok-memories.memories.items c.in_ok-tags.tags.items c.in_ok-globals.globals.items c.in_ok-exports.exports.items c.in_ok-made.made.bodies.items c.in_ok-elements.elements.items c.in_ok-data_segments.data_segments.items c.args.prepared.now.data_count
     plan.matched plan.reads plan.is_plan plan.numbered plan.few
     plan.types plan.functions plan.tables plan.memories plan.tags plan.globals
     c.in_ok-types.ensures.value c.in_ok-imports.ensures.value
@@ -152,17 +152,17 @@ returns-then-is_none-clause-refused c =
     c.in_ok-globals.ensures.value c.in_ok-globals.ensures.stand c.in_ok-globals.ensures.spelled
     c.in_ok-exports.ensures.value c.in_ok-exports.ensures.text
     c.raw_start-start.result (ap (option_map (λ (i : ℕ). Some i)) c.raw_start-start.ensures ∙ start_indexed c.args.parts c.requires.there names (places c.args.prepared.now.plan) plan.is_plan plan.numbered)
-    (subst (λ ids. AllZip (λ id bytes. HasBytes c.args.parts names c.args.choices.now.features (place id) bytes.items) ids c.in_ok-bodies.bodies.items) c.as_slice-order.ensures.value c.in_ok-bodies.ensures.value)
+    (subst (λ ids. AllZip (λ id bytes. HasBytes c.args.parts names c.args.choices.now.features (place id) bytes.items) ids c.in_ok-made.made.bodies.items) c.as_slice-order.ensures.value c.in_ok-made.ensures.bodies)
     plan.elements c.in_ok-elements.ensures.value c.in_ok-elements.ensures.stand c.in_ok-elements.ensures.chosen c.in_ok-elements.ensures.spelled
     plan.data_segments c.in_ok-data_segments.ensures.value c.in_ok-data_segments.ensures.stand c.in_ok-data_segments.ensures.spelled plan.data_count
-    (Vec ℕ) (section_refused producers c.in_ok-payload.payload (c.is_none.ensures ∙ ap not c.if-is_none.true) c.in_ok-payload.ensures)
+    (Vec ℕ) (section_refused producers c.in_ok-made.made.payload (c.is_none.ensures ∙ ap not c.if-is_none.true) c.in_ok-made.ensures.payload)
 
 pub returns-clause-spells : goal.returns-clause-spells
 returns-clause-spells c =
     let names = index_of c.args.prepared.now.indices in
     let plan = c.requires.planned in
     let producers = if_written c.args.choices.now.producers (parts_view c.args.parts).producers in
-    records_written c.args.parts c.args.choices.now names c.args.prepared.now.plan c.in_ok-types.types.items c.in_ok-imports.imports.items c.in_ok-functions.functions.items c.in_ok-tables.tables.items c.in_ok-memories.memories.items c.in_ok-tags.tags.items c.in_ok-globals.globals.items c.in_ok-exports.exports.items c.in_ok-bodies.bodies.items c.in_ok-elements.elements.items c.in_ok-data_segments.data_segments.items c.args.prepared.now.data_count
+    records_written c.args.parts c.args.choices.now names c.args.prepared.now.plan c.in_ok-types.types.items c.in_ok-imports.imports.items c.in_ok-functions.functions.items c.in_ok-tables.tables.items c.in_ok-memories.memories.items c.in_ok-tags.tags.items c.in_ok-globals.globals.items c.in_ok-exports.exports.items c.in_ok-made.made.bodies.items c.in_ok-elements.elements.items c.in_ok-data_segments.data_segments.items c.args.prepared.now.data_count
     plan.matched plan.reads plan.is_plan plan.numbered plan.few
     plan.types plan.functions plan.tables plan.memories plan.tags plan.globals
     c.in_ok-types.ensures.value c.in_ok-imports.ensures.value
@@ -172,8 +172,8 @@ returns-clause-spells c =
     c.in_ok-globals.ensures.value c.in_ok-globals.ensures.stand c.in_ok-globals.ensures.spelled
     c.in_ok-exports.ensures.value c.in_ok-exports.ensures.text
     c.raw_start-start.result (ap (option_map (λ (i : ℕ). Some i)) c.raw_start-start.ensures ∙ start_indexed c.args.parts c.requires.there names (places c.args.prepared.now.plan) plan.is_plan plan.numbered)
-    (subst (λ ids. AllZip (λ id bytes. HasBytes c.args.parts names c.args.choices.now.features (place id) bytes.items) ids c.in_ok-bodies.bodies.items) c.as_slice-order.ensures.value c.in_ok-bodies.ensures.value)
+    (subst (λ ids. AllZip (λ id bytes. HasBytes c.args.parts names c.args.choices.now.features (place id) bytes.items) ids c.in_ok-made.made.bodies.items) c.as_slice-order.ensures.value c.in_ok-made.ensures.bodies)
     plan.elements c.in_ok-elements.ensures.value c.in_ok-elements.ensures.stand c.in_ok-elements.ensures.chosen c.in_ok-elements.ensures.spelled
     plan.data_segments c.in_ok-data_segments.ensures.value c.in_ok-data_segments.ensures.stand c.in_ok-data_segments.ensures.spelled plan.data_count
     _ _ _ c.raw_module-raw.ensures (c.in_ok-code.ensures.value ∙ ap (map (λ (v : Vec ℕ). unplaced v.items)) c.as_slice.ensures.value)
-    (c.in_ok-customs.ensures.value ∙ section_given producers c.in_ok-payload.payload (c.is_none.ensures ∙ ap not c.if-is_none.false) c.in_ok-payload.ensures) c.in_ok-bytes.bytes.items c.in_ok-bytes.ensures.0 c.in_ok-bytes.ensures.1
+    (c.in_ok-customs.ensures.value ∙ section_given producers c.in_ok-made.made.payload (c.is_none.ensures ∙ ap not c.if-is_none.false) c.in_ok-made.ensures.payload) c.in_ok-bytes.bytes.items c.in_ok-bytes.ensures.0 c.in_ok-bytes.ensures.1
