@@ -41,11 +41,7 @@ fn add_fields(alloc: Global, custom: &RawCustom<'_>, made: &mut ModuleProducers)
 }
 
 // The fields of all these sections that are called `producers` go behind the others, in order.
-fn add_sections(
-    alloc: Global,
-    customs: &[RawCustom<'_>],
-    made: &mut ModuleProducers,
-) -> Result<()>
+fn add_sections(alloc: Global, customs: &[RawCustom<'_>], made: &mut ModuleProducers) -> Result<()>
     ensures added { OnOk result (AddsSections (map custom_record customs.now) (producers made.old)
         (producers made.new)) }
     ensures fails { IsOkUnless result out_of_memory }
