@@ -52,13 +52,13 @@ use Rattle.walrus_reading.proofs.ChainHandlers.{HasHandlers, by_numbers, importe
 use Rattle.walrus_reading.proofs.FoundTypes.{all_grown}
 use Rattle.walrus_reading.proofs.Held.{HeldBody, HeldFunction, exported, in_front}
 use Rattle.walrus_reading.proofs.Rows.{in_turn_append}
-use Rattle.walrus_reading.proofs.Unnamed.{nothing_named}
 use Rattle.walrus_model.proofs.Supported.{supported}
 use Rattle.walrus_contents.specs.View.{body, kind_of, handlers_at, function, contents_view, data_of, element_of, global_of, import_of as import_of_value, memory_of, table_of, tag_of}
 use Rattle.walrus_model.proofs.PipelineSame.{data_stays, element_stays, global_stays, import_stays, memory_stays, start_stays, table_stays, tag_stays}
 use Rattle.walrus_reading.specs.Held.{HoldsData, HoldsElement, HoldsGlobal, HoldsImport, HoldsMemory, HoldsTable, HoldsTag, memory_keeps, table_keeps}
 use Rattle.walrus_reading.specs.Placed.{AllPlaced, InTurn}
 use Rattle.walrus_reading.proofs.KeptSegments.{kept_seen, tables_seen}
+use Rattle.walrus_reading.proofs.Unnamed.{nothing_named}
 use Rattle.walrus_items.specs.Imports.{imports}
 use Rattle.walrus_items.specs.Globals.{globals}
 use Rattle.walrus_items.specs.Data.{data_segments}
@@ -439,7 +439,7 @@ module _ (c : Features) (r : wire.Module) (x : Contents) (many : length r.bodies
   module _ (config : Config) (own_names : config.synthetic_names ≡ false) where
     nameless : (y z : Subject) → own_name v z ≡ name_of config M y
     nameless y z =
-        ap last_name (nothing_named c (supported r) x h z)
+        ap last_name (nothing_named c _ x h z)
         ∙ sym (ap (λ (t : Bool). or_else (last_name (names_that_count t M y)) (if t then synthetic_name M y else None)) own_names
         ∙ ap (λ names. or_else (last_name names) None) (unnamed y))
 
@@ -486,6 +486,6 @@ module _ (c : Features) (r : wire.Module) (x : Contents) (many : length r.bodies
     producers = put_in;
     own = nameless config own_names TheModule TheModule;
     items = λ y live. nameless config own_names (AnItem y) (AnItem y);
-    added = λ i past. ap last_name (nothing_named c (supported r) x h (AnItem (Types, i)));
+    added = λ i past. ap last_name (nothing_named c _ x h (AnItem (Types, i)));
     locals = λ f b y is typed. nameless config own_names (ALocal f y) (ALocal f (moved f y));
   }

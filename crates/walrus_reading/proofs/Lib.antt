@@ -24,3 +24,4 @@ pub mod TagTypes
 pub mod TakenBefore
 pub mod TakenBody
 pub mod TakenSections
+pub mod Unnamed
