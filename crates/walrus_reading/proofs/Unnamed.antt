@@ -1,5 +1,5 @@
 -- Nothing of a module that took in the sections has a name.
-use Rattle.std.proofs.Common.{◌≡◌, ℕ, zero, suc, ◌+◌, List, [], ◌∷◌, ◌++◌, length, refl, ap, subst, sym, ◌∙◌}
+use Rattle.std.proofs.Common.{◌≡◌, ℕ, zero, suc, ◌+◌, List, [], ◌∷◌, ◌++◌, length, refl, ap, ◌∙◌}
 use Rattle.std.specs.Prelude.{Option, Some, None, All, flat_map, option_to_list, zip}
 use Rattle.std.proofs.lemmas.List.Elements.{All-head, All-tail}
 use Rattle.walrus_base.specs.Arena.{item_at}
@@ -22,7 +22,7 @@ use Rattle.walrus_contents.specs.View.{contents_view, name_at}
 use Rattle.walrus_contents.specs.declared.parts.Contents.{Contents}
 use Rattle.walrus_reading.specs.Held.{HoldsData, HoldsElement, HoldsGlobal, HoldsImportedFunction, HoldsMemory, HoldsTable, HoldsTag, memory_keeps, table_keeps}
 use Rattle.walrus_reading.specs.Placed.{AllPlaced}
-use Rattle.walrus_reading.specs.Taken.{HasTaken, HoldsFunction, HoldsFunctions, HoldsLocal, HoldFunctions, locals_said}
+use Rattle.walrus_reading.specs.Taken.{HasTaken, HoldsFunctions, HoldsLocal, HoldFunctions, locals_said}
 use Rattle.wasm_frames.specs.Record as wire
 
 -- ---- what stands at a place

@@ -1,4 +1,4 @@
-use Rattle.std.proofs.Common.{◌≡◌, length, map, refl, sym, ◌∙◌, subst, eq-eqb, eqb-true, arith}
+use Rattle.std.proofs.Common.{◌≡◌, length, map, sym, ◌∙◌, subst, eq-eqb, eqb-true, arith}
 use Rattle.std.specs.Prelude.{vec_len}
 use Rattle.std.proofs.lemmas.Bool.{false≢true}
 use Rattle.walrus_base.specs.Id.{place}
