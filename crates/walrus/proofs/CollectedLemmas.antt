@@ -10,13 +10,13 @@ use Rattle.walrus_base.specs.Marks.{is_marked}
 use Rattle.walrus_base.specs.declared.marks.Marks.{Marks}
 use Rattle.walrus_base.proofs.Kept.{kept_marked, kept_there, kept_was}
 use Rattle.walrus_base.specs.Types.{sub_names}
-use Rattle.walrus_types.specs.ModuleTypes.{type_slots}
+use Rattle.walrus_types.specs.ModuleTypes.{type_names as names_of_types, type_slots}
 use Rattle.walrus_types.specs.declared.module_types.ModuleTypes.{ModuleTypes}
 use Rattle.walrus_types.specs.Operators.{Types, Functions, Tables, Memories, Tags, Globals, Elements, DataSegments, Item, type_item}
 use Rattle.walrus_types.specs.PlaceList.{has}
 use Rattle.walrus_types.specs.TypeDef.{TypeDef}
 use Rattle.walrus_types.specs.Whole.{KeepsGroups}
-use Rattle.walrus_items.specs.Functions.{functions, ModuleFunctions}
+use Rattle.walrus_items.specs.Functions.{functions, FunctionValue, ModuleFunctions}
 use Rattle.walrus_parts.specs.Kinds.{imported}
 use Rattle.walrus_items.specs.Imports.{ImportValue, stays_under, imports as imports_in, ModuleImports}
 use Rattle.walrus_items.specs.Keeping.{kept_slot, kept_where}
@@ -24,22 +24,22 @@ use Rattle.walrus_parts.specs.Marks.{has_item}
 use Rattle.walrus_parts.specs.declared.kinds.ImportKind.{ImportKind}
 use Rattle.walrus_parts.specs.declared.kinds.ImportKind.TheVariants as imports
 use Rattle.walrus_parts.specs.declared.marks.ItemMarks.{ItemMarks}
-use Rattle.walrus_items.specs.Data.{data_segments as data_segments_in, ModuleData}
-use Rattle.walrus_items.specs.Elements.{elements as elements_in, ModuleElements}
-use Rattle.walrus_items.specs.Globals.{globals as globals_in, ModuleGlobals}
+use Rattle.walrus_items.specs.Data.{data_segments as data_segments_in, DataValue, ModuleData}
+use Rattle.walrus_items.specs.Elements.{elements as elements_in, ElementValue, ModuleElements}
+use Rattle.walrus_items.specs.Globals.{globals as globals_in, GlobalValue, ModuleGlobals}
 use Rattle.walrus_items.specs.Memories.{memories as memories_in, MemoryValue, ModuleMemories}
 use Rattle.walrus_items.specs.Tables.{tables as tables_in, ModuleTables, TableValue}
-use Rattle.walrus_items.specs.Tags.{tags as tags_in, ModuleTags}
-use Rattle.walrus_contents.specs.View.{contents_view, data_of, element_of, global_of, import_of, kept_data, kept_elements, memory_of, table_of, tag_of}
+use Rattle.walrus_items.specs.Tags.{tags as tags_in, ModuleTags, TagValue}
+use Rattle.walrus_contents.specs.View.{contents_view, data_of, element_of, global_of, import_of, kept_data, kept_elements, memory_of, name_at, table_of, tag_of}
 use Rattle.walrus_contents.specs.declared.parts.Contents.{Contents}
 use Rattle.walrus_contents.proofs.Lookups.{mapped_some}
 use Rattle.walrus.specs.Marked.{MarksAreKept}
 use Rattle.walrus_contents.proofs.ExportedRefs.{contained_has}
 use Rattle.walrus.specs.MarkedItems.{has_mark}
 use Rattle.walrus.specs.declared.passes.marks.MarkedItems.{MarkedItems}
-use Rattle.walrus_model.specs.Abstract.{Abstract, Import}
+use Rattle.walrus_model.specs.Abstract.{Abstract, Import, Subject, TheModule, AnItem, ALocal}
 use Rattle.walrus_model.specs.Kept.{IsImportOf, Kept}
-use Rattle.walrus_model.specs.Pipeline.{Collected, KeepsOnly}
+use Rattle.walrus_model.specs.Pipeline.{Collected, IsSubjectOf, KeepsOnly}
 use Rattle.walrus_model.specs.Reached.{step}
 use Rattle.walrus_model.specs.Refers.{named_by, type_names}
 use Rattle.walrus_model.proofs.Lists.{Contains-map}
@@ -176,6 +176,7 @@ module _ (held : Contents) (kept_types : ModuleTypes) (kept_imports : ModuleImpo
   -- what is left of each kind
   pub record AreKept : Type 0 where
     pub types : slots.KeepsOnly (λ i. Kept (contents_view held) (Types, i)) (type_slots held.types) (type_slots kept_types)
+    pub type_names : slots.KeepsOnly (λ i. Kept (contents_view held) (Types, i)) (names_of_types held.types) (names_of_types kept_types)
     pub imports : slots.KeepsOnly (IsImportOf (Kept (contents_view held)) (contents_view held)) (imports_in held.imports) (imports_in kept_imports)
     pub functions : slots.KeepsOnly (λ i. Kept (contents_view held) (Functions, i)) (functions held.funcs) (functions kept_funcs)
     pub tables : slots.KeepsOnly (λ i. Kept (contents_view held) (Tables, i)) (tables_in held.tables) (tables_in kept_tables)
@@ -184,6 +185,19 @@ module _ (held : Contents) (kept_types : ModuleTypes) (kept_imports : ModuleImpo
     pub globals : slots.KeepsOnly (λ i. Kept (contents_view held) (Globals, i)) (globals_in held.globals) (globals_in kept_globals)
     pub elements : slots.KeepsOnly (λ i. Kept (contents_view held) (Elements, i)) (elements_in held.elements) (elements_in kept_lists)
     pub data_segments : slots.KeepsOnly (λ i. Kept (contents_view held) (DataSegments, i)) (data_segments_in held.data_) (data_segments_in kept_segments)
+
+  -- what is kept keeps its name
+  names_kept : AreKept → (y : Subject) → IsSubjectOf (Kept (contents_view held)) y → (contents_view left).named y ≡ (contents_view held).named y
+  names_kept k TheModule h = refl
+  names_kept k (AnItem (Types, i)) h = ap (name_at (λ n. n)) (k.type_names.kept i h)
+  names_kept k (AnItem (Functions, i)) h = ap (name_at (λ (f : FunctionValue). f.name)) (k.functions.kept i h)
+  names_kept k (AnItem (Tables, i)) h = ap (name_at (λ (t : TableValue). t.name)) (k.tables.kept i h)
+  names_kept k (AnItem (Memories, i)) h = ap (name_at (λ (m : MemoryValue). m.name)) (k.memories.kept i h)
+  names_kept k (AnItem (Tags, i)) h = ap (name_at (λ (t : TagValue). t.name)) (k.tags.kept i h)
+  names_kept k (AnItem (Globals, i)) h = ap (name_at (λ (g : GlobalValue). g.name)) (k.globals.kept i h)
+  names_kept k (AnItem (Elements, i)) h = ap (name_at (λ (e : ElementValue). e.name)) (k.elements.kept i h)
+  names_kept k (AnItem (DataSegments, i)) h = ap (name_at (λ (d : DataValue). d.name)) (k.data_segments.kept i h)
+  names_kept k (ALocal f x) h = refl
 
   pub is_collected : AreKept → Collected (contents_view held) (contents_view left)
   is_collected k = record {
@@ -200,7 +214,7 @@ module _ (held : Contents) (kept_types : ModuleTypes) (kept_imports : ModuleImpo
     start = refl;
     customs = refl;
     producers = refl;
-    named = λ y h. refl;
+    named = names_kept k;
     table_segments = λ table h segment. ap (λ (o : Option TableValue). kept_elements o segment) (k.tables.kept table h);
     memory_segments = λ memory h segment. ap (λ (o : Option MemoryValue). kept_data o segment) (k.memories.kept memory h);
     handler_types = λ i h. ap handlers_at (k.functions.kept i h);

@@ -1,13 +1,14 @@
 -- The parts of a module in memory as an abstract module: the number of an item is the place of its id. What isn't kept so far is absent:
--- custom sections and names.
-use Rattle.std.specs.Prelude.{ℕ, Bool, false, ◌&&◌, not, List, [], map, filter, length, Option, Some, None, option_map, ◌≡◌}
+-- custom sections.
+use Rattle.std.specs.Prelude.{ℕ, Bool, false, ◌&&◌, not, List, [], map, filter, length, Option, Some, None, option_and_then, option_map, option_to_list, ◌≡◌}
 use Rattle.std.specs.List.{range_with_len}
 use Rattle.walrus_base.specs.Arena.{item_at, items}
 use Rattle.walrus_base.specs.Id.{place}
 use Rattle.walrus_types.specs.Locals.{locals}
+use Rattle.walrus_types.specs.TypeDef.{name_bytes}
 use Rattle.walrus_types.specs.ModuleTypes.{type_names, type_slots}
 use Rattle.walrus_types.specs.ConstOps.{const_ops}
-use Rattle.walrus_types.specs.Operators.{Op, locals_of}
+use Rattle.walrus_types.specs.Operators.{Types, Functions, Tables, Memories, Tags, Globals, Elements, DataSegments, Op, locals_of}
 use Rattle.walrus_types.specs.PlaceList.{has}
 use Rattle.walrus_types.specs.Value.{ref_type}
 use Rattle.walrus_types.specs.declared.locals.ModuleLocals.{ModuleLocals}
@@ -174,6 +175,25 @@ abbrev pub kept_data : Option MemoryValue → ℕ → Bool
 kept_data None d = false
 kept_data (Some m) d = m.segments d
 
+-- ---- names
+
+-- the name of an item that is there, or none
+abbrev pub name_at : {X : Type 0} → (X → Option abstract.Name) → Option X → List abstract.Name
+name_at name o = option_to_list (option_and_then name o)
+
+-- the name of what is there, or none, so that what has no name and what isn't there are told alike
+abbrev pub named_of : Contents → abstract.Subject → List abstract.Name
+named_of c abstract.TheModule = option_to_list (name_bytes c.name)
+named_of c (abstract.AnItem (Types, i)) = name_at (λ n. n) (item_at (type_names c.types) i)
+named_of c (abstract.AnItem (Functions, i)) = name_at (λ f. f.name) (item_at (functions c.funcs) i)
+named_of c (abstract.AnItem (Tables, i)) = name_at (λ t. t.name) (item_at (tables c.tables) i)
+named_of c (abstract.AnItem (Memories, i)) = name_at (λ m. m.name) (item_at (memories c.memories) i)
+named_of c (abstract.AnItem (Tags, i)) = name_at (λ t. t.name) (item_at (tags c.tags) i)
+named_of c (abstract.AnItem (Globals, i)) = name_at (λ g. g.name) (item_at (globals c.globals) i)
+named_of c (abstract.AnItem (Elements, i)) = name_at (λ e. e.name) (item_at (elements c.elements) i)
+named_of c (abstract.AnItem (DataSegments, i)) = name_at (λ d. d.name) (item_at (data_segments c.data_) i)
+named_of c (abstract.ALocal f x) = name_at (λ l. name_bytes l.name) (item_at (locals c.locals) x)
+
 -- ---- the module
 
 -- what is lent, as if it were owned
@@ -192,6 +212,7 @@ lent p = record {
   exports = p.exports.now;
   start = p.start;
   producers = p.producers.now;
+  name = p.name.now;
 }
 
 -- the module of these contents
@@ -210,7 +231,7 @@ contents_view c = record {
   start = option_map place c.start;
   customs = [];
   producers = producers c.producers;
-  named = λ x. [];
+  named = named_of c;
   table_segments = λ t e. kept_elements (item_at (tables c.tables) t) e;
   memory_segments = λ y d. kept_data (item_at (memories c.memories) y) d;
   handler_types = λ f. handlers_at (item_at (functions c.funcs) f);
@@ -248,3 +269,4 @@ pub record HoldsNothing (c : Contents) : Type 0 where
   pub exports : exports c.exports ≡ []
   pub start : c.start ≡ None
   pub producers : producers c.producers ≡ []
+  pub name : c.name ≡ None

@@ -42,6 +42,8 @@ pub struct Parts<'a> {
     pub start: Option<FunctionId>,
     /// The producers.
     pub producers: &'a ModuleProducers,
+    /// The module's name, if it has one (Appendix > Custom Sections > Name Section). It is neither read nor written so far.
+    pub name: &'a Option<String>,
 }
 
 /// The same, owned: what a module that was read holds.
@@ -73,6 +75,8 @@ pub struct Contents {
     pub start: Option<FunctionId>,
     /// The producers.
     pub producers: ModuleProducers,
+    /// The module's name, if it has one (Appendix > Custom Sections > Name Section). It is neither read nor written so far.
+    pub name: Option<String>,
 }
 
 impl Contents {
@@ -95,6 +99,7 @@ impl Contents {
             exports: ModuleExports::new(alloc),
             start: None,
             producers: ModuleProducers::new(alloc),
+            name: None,
         })
     }
 
@@ -116,6 +121,7 @@ impl Contents {
             exports: &self.exports,
             start: self.start,
             producers: &self.producers,
+            name: &self.name,
         }
     }
 }

@@ -1,6 +1,7 @@
 -- The segment that declares what `ref.func` names: what a module is left as with it, and what emission answers then.
 use Rattle.std.proofs.Common.{◌≡◌, ℕ, zero, suc, ◌<◌, false, true, List, [], ◌∷◌, ◌++◌, map, length, refl, sym, ap, ◌∙◌, subst, arith, inl, ⊎_elim}
-use Rattle.std.specs.Prelude.{Option, Some, None, IsSome, option_map, Contains, Result, Ok, Err}
+use mathlib.Core.Path.{fun_ext}
+use Rattle.std.specs.Prelude.{Option, Some, None, IsSome, option_map, Contains, OnErr, Result, Ok, Err}
 use Rattle.std.specs.Global.{Vec}
 use Rattle.walrus_base.specs.Arena.{item_at}
 use Rattle.walrus_base.specs.Id.{place}
@@ -9,14 +10,15 @@ use Rattle.walrus_base.specs.declared.keys.FunctionKey.{FunctionKey}
 use Rattle.walrus_types.specs.Operators.{Types, Functions, Tables, Memories, Tags, Globals, Elements, DataSegments, Item, function_item}
 use Rattle.walrus_parts.specs.declared.segments.ElementItems.TheVariants as element_contents
 use Rattle.walrus_parts.specs.declared.segments.ElementKind.TheVariants as element_kinds
-use Rattle.walrus_items.specs.Elements.{ElementValue}
-use Rattle.walrus_contents.specs.View.{element_of}
-use Rattle.walrus_model.specs.Abstract.{Abstract, AnItem, Element}
+use Rattle.walrus_items.specs.Elements.{ElementValue, ModuleElements, elements as elements_in}
+use Rattle.walrus_contents.specs.View.{contents_view, element_of, name_at, named_of}
+use Rattle.walrus_contents.specs.declared.parts.Contents.{Contents}
+use Rattle.walrus_model.specs.Abstract.{Abstract, TheModule, AnItem, ALocal, Element, Name, Subject}
 use Rattle.walrus_model.specs.Config.{Config}
 use Rattle.walrus_model.specs.Dead.{HasDead}
 use Rattle.walrus_model.specs.Declared.{AreUndeclared, NothingUndeclared}
 use Rattle.walrus_model.specs.Live.{IsLive}
-use Rattle.walrus_model.specs.Names.{own_name}
+use Rattle.walrus_model.specs.Names.{last_name, own_name}
 use Rattle.walrus_model.specs.Refers.{named_by, written_in, element_names}
 use Rattle.walrus_model.proofs.Lists.{Contains-head}
 use Rattle.walrus_model.proofs.Living.{AllLive, all_live, none_dead}
@@ -41,6 +43,18 @@ module _ {X : Type 0} where
   item_front [] o (suc n) away = refl
   item_front (x ∷ xs) o zero away = refl
   item_front (x ∷ xs) o (suc n) away = item_front xs o n (λ (e : n ≡ length xs). away (omega (arith, e)))
+
+  item_past : (xs : List (Option X)) (n : ℕ) → n ≡ length xs → item_at xs n ≡ None
+  item_past [] n e = refl
+  item_past (x ∷ xs) zero e = absurd (omega (arith, e))
+  item_past (x ∷ xs) (suc n) e = item_past xs n (omega (arith, e))
+
+  -- one more without a name changes no name
+  names_stay : (name : X → Option Name) (xs : List (Option X)) (o : Option X) → name_at name o ≡ [] → (n : ℕ) → name_at name (item_at (xs ++ o ∷ []) n) ≡ name_at name (item_at xs n)
+  names_stay name [] o none zero = none
+  names_stay name [] o none (suc n) = refl
+  names_stay name (x ∷ xs) o none zero = refl
+  names_stay name (x ∷ xs) o none (suc n) = names_stay name xs o none n
 
   seen_within : {Y : Type 0} (seen : X → Y) (xs : List (Option X)) (n : ℕ) → IsSome (option_map seen (item_at xs n)) → n < length xs
   seen_within seen [] n h = absurd (let no : false ≡ true = h in cc)
@@ -93,8 +107,50 @@ module _ (old new : List (Option ElementValue)) (functions : Vec (Id FunctionKey
     }
 
     -- what is left with it
-    pub one_leaves : AreUndeclared (IsLive v) v (map place functions.items) → (length functions.items ≡ 0 → ⊥) → Leaves v (record v { elements = λ i. option_map element_of (item_at new i) })
+    one_leaves : AreUndeclared (IsLive v) v (map place functions.items) → (length functions.items ≡ 0 → ⊥) → Leaves v (record v { elements = λ i. option_map element_of (item_at new i) })
     one_leaves are some = record { functions = map place functions.items; undeclared = are; added = adds v with_it (map place functions.items) (some_mapped place v functions.items some) has_segment refl }
+
+-- ---- the same of what a module holds: its names stay
+
+module _ (held : Contents) (segments : ModuleElements) where
+  abbrev segment_names : List (Option ElementValue) → ℕ → List Name
+  segment_names slots i = name_at (λ (e : ElementValue). e.name) (item_at slots i)
+
+  names_same : ((i : ℕ) → segment_names (elements_in segments) i ≡ segment_names (elements_in held.elements) i) → (y : Subject) → named_of (record held { elements = segments }) y ≡ named_of held y
+  names_same same TheModule = refl
+  names_same same (AnItem (Types, i)) = refl
+  names_same same (AnItem (Functions, i)) = refl
+  names_same same (AnItem (Tables, i)) = refl
+  names_same same (AnItem (Memories, i)) = refl
+  names_same same (AnItem (Tags, i)) = refl
+  names_same same (AnItem (Globals, i)) = refl
+  names_same same (AnItem (Elements, i)) = same i
+  names_same same (AnItem (DataSegments, i)) = refl
+  names_same same (ALocal f x) = refl
+
+  -- where no segment's name changes, nothing but the segments does
+  view_with : ((i : ℕ) → segment_names (elements_in segments) i ≡ segment_names (elements_in held.elements) i)
+      → contents_view (record held { elements = segments }) ≡ record (contents_view held) { elements = λ i. option_map element_of (item_at (elements_in segments) i) }
+  view_with same = ap (λ (n : Subject → List Name). record (contents_view held) { elements = λ i. option_map element_of (item_at (elements_in segments) i); named = n }) (fun_ext (names_same same))
+
+  -- with the same segments the module is the same
+  same_view : elements_in segments ≡ elements_in held.elements → contents_view (record held { elements = segments }) ≡ contents_view held
+  same_view same = view_with (λ i. ap (λ (slots : List (Option ElementValue)). segment_names slots i) same)
+      ∙ ap (λ (slots : List (Option ElementValue)). record (contents_view held) { elements = λ i. option_map element_of (item_at slots i) }) same
+
+  -- so it is where one more was refused
+  pub refused_same : {A E : Type 0} (r : Result A E) → elements_in segments ≡ elements_in held.elements → OnErr r (contents_view (record held { elements = segments }) ≡ contents_view held)
+  refused_same (Ok x) same = tt
+  refused_same (Err e) same = same_view same
+
+  -- what is left with one more
+  pub segment_leaves : (functions : Vec (Id FunctionKey)) (id : ℕ) → id ≡ length (elements_in held.elements) → elements_in segments ≡ elements_in held.elements ++ Some (declaring id functions) ∷ []
+      → AreUndeclared (IsLive (contents_view held)) (contents_view held) (map place functions.items) → (length functions.items ≡ 0 → ⊥) → Leaves (contents_view held) (contents_view (record held { elements = segments }))
+  segment_leaves functions id here is are some =
+      subst (λ (u : Abstract). Leaves (contents_view held) u)
+      (sym (view_with (λ i. ap (λ (slots : List (Option ElementValue)). segment_names slots i) is ∙ names_stay (λ (e : ElementValue). e.name) (elements_in held.elements) (Some (declaring id functions)) refl i)))
+      (one_leaves (elements_in held.elements) (elements_in segments) functions id here is (contents_view held) (λ i. refl)
+      (ap (λ (o : Option ElementValue). last_name (name_at (λ (e : ElementValue). e.name) o)) (item_past (elements_in held.elements) id here)) are some)
 
 -- ---- what is left names nothing dead, and nothing in it is undeclared
 

@@ -24,6 +24,7 @@ module _ {V : Type 0} {O : V → Type 0} where
     exports = m.exports;
     start = m.start;
     producers = m.producers;
+    name = m.name;
   }
 
   abbrev pub view : Module V O → Abstract

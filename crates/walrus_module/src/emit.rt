@@ -83,6 +83,7 @@ impl Module {
             exports: &self.exports,
             start: self.start,
             producers: &self.producers,
+            name: &self.name,
         }
     }
 }

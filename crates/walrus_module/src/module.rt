@@ -45,6 +45,8 @@ pub struct Module {
     pub start: Option<FunctionId>,
     /// The producers: what made the module (tool-conventions, "Producers Section").
     pub producers: ModuleProducers,
+    /// The module's name, if it has one (Appendix > Custom Sections > Name Section). It is neither read nor written so far.
+    pub name: Option<String>,
     /// The custom sections.
     pub customs: ModuleCustomSections,
     pub(crate) config: ModuleConfig,
@@ -87,6 +89,7 @@ impl Module {
             elements: contents.elements,
             data_: contents.data_,
             producers: contents.producers,
+            name: contents.name,
             customs: ModuleCustomSections::<SectionEntry>::new(alloc),
             config,
         }

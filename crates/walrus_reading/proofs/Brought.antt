@@ -94,7 +94,7 @@ held_next xs x old new h a =
 -- ---- the loop over them
 
 same_then : (first old new : Contents) → SameOthers first old → SameOthers old new → SameOthers first new
-same_then first old new a b = record { types = b.types ∙ a.types; locals = b.locals ∙ a.locals; elements = b.elements ∙ a.elements; data_ = b.data_ ∙ a.data_; exports = b.exports ∙ a.exports; producers = b.producers ∙ a.producers }
+same_then first old new a b = record { types = b.types ∙ a.types; locals = b.locals ∙ a.locals; elements = b.elements ∙ a.elements; data_ = b.data_ ∙ a.data_; exports = b.exports ∙ a.exports; producers = b.producers ∙ a.producers; name = b.name ∙ a.name }
 
 -- those so far, and all else as it was
 pub record ImportedSoFar (raw : List RawImport) (i : ℕ) (first m : Contents) : Type 0 where

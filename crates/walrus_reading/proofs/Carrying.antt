@@ -37,7 +37,7 @@ use Rattle.walrus_model.specs.Live.{IsLive}
 use Rattle.walrus_model.specs.WellMade.{import_in, import_of, kind_import, origin_import}
 use Rattle.walrus_rules.proofs.TextImports.{imports_match}
 use Rattle.walrus_model.specs.Config.{Config}
-use Rattle.walrus_model.specs.Names.{body_of, body_of_function, body_of_kind, name_of, names_that_count, synthetic_name, last_name, or_else}
+use Rattle.walrus_model.specs.Names.{body_of, body_of_function, body_of_kind, name_of, own_name, names_that_count, synthetic_name, last_name, or_else}
 use Rattle.walrus_model.specs.Producers.{produced}
 use Rattle.walrus_model.proofs.Follow.{used_follow}
 use Rattle.walrus_model.proofs.Reach.{Contains-unmap}
@@ -57,6 +57,7 @@ use Rattle.walrus_model.proofs.PipelineSame.{data_stays, element_stays, global_s
 use Rattle.walrus_reading.specs.Held.{HoldsData, HoldsElement, HoldsGlobal, HoldsImport, HoldsMemory, HoldsTable, HoldsTag, memory_keeps, table_keeps}
 use Rattle.walrus_reading.specs.Placed.{AllPlaced, InTurn}
 use Rattle.walrus_reading.proofs.KeptSegments.{kept_seen, tables_seen}
+use Rattle.walrus_reading.proofs.Unnamed.{nothing_named}
 use Rattle.walrus_items.specs.Imports.{imports}
 use Rattle.walrus_items.specs.Globals.{globals}
 use Rattle.walrus_items.specs.Data.{data_segments}
@@ -435,9 +436,10 @@ module _ (c : Features) (r : wire.Module) (x : Contents) (many : length r.bodies
   unnamed y = either_none (is_in_range (items_of r h.bodies ps) y)
 
   module _ (config : Config) (own_names : config.synthetic_names ≡ false) where
-    nameless : (y : Subject) → None ≡ name_of config M y
-    nameless y =
-        sym (ap (λ (t : Bool). or_else (last_name (names_that_count t M y)) (if t then synthetic_name M y else None)) own_names
+    nameless : (y z : Subject) → own_name v z ≡ name_of config M y
+    nameless y z =
+        ap last_name (nothing_named c _ x h z)
+        ∙ sym (ap (λ (t : Bool). or_else (last_name (names_that_count t M y)) (if t then synthetic_name M y else None)) own_names
         ∙ ap (λ names. or_else (last_name names) None) (unnamed y))
 
   -- ---- all of it; the producers of the module in memory are given
@@ -481,8 +483,8 @@ module _ (c : Features) (r : wire.Module) (x : Contents) (many : length r.bodies
     section_roots = refl;
     customs = sym none_kept_apart;
     producers = put_in;
-    own = nameless config own_names TheModule;
-    items = λ y live. nameless config own_names (AnItem y);
-    added = λ i past. refl;
-    locals = λ f b y is typed. nameless config own_names (ALocal f y);
+    own = nameless config own_names TheModule TheModule;
+    items = λ y live. nameless config own_names (AnItem y) (AnItem y);
+    added = λ i past. ap last_name (nothing_named c _ x h (AnItem (Types, i)));
+    locals = λ f b y is typed. nameless config own_names (ALocal f y) (ALocal f (moved f y));
   }

@@ -25,3 +25,4 @@ pub mod TagTypes
 pub mod TakenBefore
 pub mod TakenBody
 pub mod TakenSections
+pub mod Unnamed

@@ -77,8 +77,8 @@ module _ (c : Features) (r : wire.Module) (m b : Contents) (held : HoldsImported
       → imports m.imports ≡ imports b.imports → AllPlaced (HoldsTable (table_keeps (elements_of r))) 0 (tables_of r) (tables m.tables)
       → AllPlaced (HoldsMemory (memory_keeps (data_segments_of r))) 0 (memories_of r) (memories m.memories)
       → AllPlaced HoldsTag 0 (tags_of r) (tags m.tags) → AddsPlaced HoldsGlobal (map global_of r.globals) (globals b.globals) (globals m.globals) → AllPlaced HoldsExport 0 r.exports (exports m.exports)
-      → option_map place m.start ≡ r.start → AllPlaced HoldsElement 0 (elements_of r) (elements m.elements) → AllPlaced HoldsData 0 (data_segments_of r) (data_segments m.data_) → HasTaken c r m
-  sections_taken many taken same_imports with_tables with_memories with_tags with_globals exported started with_elements with_data =
+      → option_map place m.start ≡ r.start → AllPlaced HoldsElement 0 (elements_of r) (elements m.elements) → AllPlaced HoldsData 0 (data_segments_of r) (data_segments m.data_) → m.name ≡ b.name → HasTaken c r m
+  sections_taken many taken same_imports with_tables with_memories with_tags with_globals exported started with_elements with_data unnamed =
       let s = saids_of (context_with c r) (types_of r) r.functions r.bodies taken.said many taken.read in
       let grown = all_found (types_of r) (tag_types_of r) taken.said taken.functions.added (slots_of b.types) (slots_of m.types) (types_from 0 r.types) held.types taken.handlers in
       let own : (h : AddsFunctions (types_of r) (zip r.functions s.0) (functions b.funcs) (functions m.funcs)) × InTurn (HoldsHandlers (types_of r) (tag_types_of r)) (zip r.functions s.0) h.added (types_from 0 r.types) grown.0 =
@@ -105,4 +105,5 @@ module _ (c : Features) (r : wire.Module) (m b : Contents) (held : HoldsImported
         globals = placed_more HoldsGlobal (imported imported_global 0 r.imports) (map global_of r.globals) (globals b.globals) (globals m.globals) held.brought.globals with_globals;
         elements = with_elements;
         data_segments = with_data;
+        name = unnamed ∙ held.name;
       }

@@ -33,7 +33,7 @@ pub record HoldsImports (raw : List entries.Import) (m : Contents) : Type 0 wher
   pub tags : AllPlaced HoldsTag 0 (imported imported_tag 0 raw) (tags m.tags)
   pub globals : AllPlaced HoldsGlobal 0 (imported imported_global 0 raw) (globals m.globals)
 
--- the types and what imports bring, and nothing else; no type has a name
+-- the types and what imports bring, and nothing else; no type has a name, nor has the module
 pub record HoldsImported (r : wire.Module) (m : Contents) : Type 0 where
   pub types : type_slots m.types ≡ map Some (types_from 0 r.types)
   pub type_names : All (λ name. name ≡ Some None) (type_names m.types)
@@ -43,6 +43,7 @@ pub record HoldsImported (r : wire.Module) (m : Contents) : Type 0 where
   pub data_segments : data_segments m.data_ ≡ []
   pub exports : exports m.exports ≡ []
   pub producers : producers m.producers ≡ []
+  pub name : m.name ≡ None
 
 -- all else stays
 pub record SameOthers (old new : Contents) : Type 0 where
@@ -52,6 +53,7 @@ pub record SameOthers (old new : Contents) : Type 0 where
   pub data_ : new.data_ ≡ old.data_
   pub exports : new.exports ≡ old.exports
   pub producers : new.producers ≡ old.producers
+  pub name : new.name ≡ old.name
 
 -- ---- for the functions inside
 

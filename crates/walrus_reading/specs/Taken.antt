@@ -133,7 +133,7 @@ AreLocatedIn r slots = AllZip IsLocated r.bodies (drop (length (imported importe
 
 -- The module holds these sections, whose bodies say this: the imports, the items of each index space and the exports in their order, the start
 -- function, the types that legacy handlers need beside those that were read, and the locals of all functions, both function by function; nothing
--- else. No type has a name.
+-- else. No type has a name, nor has the module.
 pub record HasTaken (features : Features) (r : wire.Module) (m : Contents) : Type 0 where
   pub bodies : List Said
   pub read : AllZip (ReadsBodyWith features r) (zip r.functions r.bodies) bodies
@@ -152,6 +152,7 @@ pub record HasTaken (features : Features) (r : wire.Module) (m : Contents) : Typ
   pub globals : AllPlaced HoldsGlobal 0 (globals_of r) (globals m.globals)
   pub elements : AllPlaced HoldsElement 0 (elements_of r) (elements m.elements)
   pub data_segments : AllPlaced HoldsData 0 (data_segments_of r) (data_segments m.data_)
+  pub name : m.name ≡ None
 
 -- taken in: the module holds the sections; refused: the bodies aren't read, or memory ran out
 abbrev pub TakesSections : Features → wire.Module → Result Contents Error → Type 0

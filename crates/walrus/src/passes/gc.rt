@@ -59,7 +59,8 @@ pub fn run(alloc: Global, module: &mut Module) -> Result<()>
     ensures others { («module».new.locals ≡ «module».old.locals)
         × («module».new.exports ≡ «module».old.exports)
         × («module».new.customs ≡ «module».old.customs) × (settings «module».new ≡ settings «module».old)
-        × («module».new.producers ≡ «module».old.producers) × («module».new.start ≡ «module».old.start) }
+        × («module».new.producers ≡ «module».old.producers) × («module».new.start ≡ «module».old.start)
+        × («module».new.name ≡ «module».old.name) }
 {
     let marks = marked(alloc, module)?;
     module.funcs.keep_only(&marks.funcs);

@@ -135,6 +135,7 @@ fn marked_and_counted(alloc: Global, module: &Module) -> Result<(MarkedItems, us
         exports: &module.exports,
         start: module.start,
         producers: &module.producers,
+        name: &module.name,
     };
     search(alloc, parts)
 }

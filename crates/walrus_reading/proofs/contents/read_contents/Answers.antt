@@ -156,6 +156,7 @@ returns-clause-taken c =
     (subst (λ (l : List RawElement). AddsPlaced HoldsElement (map element_of (map element_entry l)) (elements b.elements) (elements c.add_elements.new.all)) c.deref-8.ensures.value c.in_ok-add_elements.ensures.added))
     (placed_first HoldsData (map data_of s.data_segments) (data_segments b.data_) (data_segments c.add_data.new.all) begun.data_segments
     (subst (λ (l : List RawData). AddsPlaced HoldsData (map data_of (map data_entry l)) (data_segments b.data_) (data_segments c.add_data.new.all)) c.deref-9.ensures.value c.in_ok-add_data.ensures.added))
+    refl
 
 pub returns-clause-located : goal.returns-clause-located
 returns-clause-located c =

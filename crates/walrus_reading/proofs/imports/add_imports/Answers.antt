@@ -22,7 +22,7 @@ loop-entry-init c =
       globals = c.requires.none.globals;
       elements = c.requires.none.elements;
       data_segments = c.requires.none.data_segments;
-    }) c.requires.no_functions (record { types = refl; locals = refl; elements = refl; data_ = refl; exports = refl; producers = refl })
+    }) c.requires.no_functions (record { types = refl; locals = refl; elements = refl; data_ = refl; exports = refl; producers = refl; name = refl })
 
 pub loop-entry-preserved : goal.loop-entry-preserved
 loop-entry-preserved c =

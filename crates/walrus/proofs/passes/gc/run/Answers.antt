@@ -78,6 +78,7 @@ returns-clause-collected g c =
     let old = c.args.module.now in
     is_collected (contents_of old) c.keep_only-2.new.self c.keep_only-3.new.self c.keep_only.new.self c.keep_only-4.new.self c.keep_only-5.new.self c.keep_only-6.new.self c.keep_only-7.new.self c.keep_only-8.new.self c.keep_only-9.new.self (record {
       types = returns-clause-types g c;
+      type_names = returns-clause-type_names g c;
       imports = returns-clause-imports g c;
       functions = returns-clause-functions g c;
       tables = returns-clause-tables g c;
