@@ -106,8 +106,8 @@ fn write_items<'a>(
     let bodies = body_bytes(alloc, under, order)?;
     let made = Made { bodies, payload };
     let lent = &made;
-    let code = raw_bodies(alloc, lent.bodies.as_slice())?;
     let customs = raw_customs(alloc, own, &lent.payload)?;
+    let code = raw_bodies(alloc, lent.bodies.as_slice())?;
     let imports = raw_imports(alloc, parts, indices)?;
     let tables = raw_tables(alloc, parts.tables, indices)?;
     let memories = raw_memories(alloc, parts.memories)?;
