@@ -1,24 +1,35 @@
 -- What the spelling of a module's records is: the one spelling of what the module is written as.
-use Rattle.std.proofs.Common.{◌≡◌, ℕ, Bool, List, length, sym, ap₂, ◌∙◌, arith}
+use Rattle.std.proofs.Common.{◌≡◌, ℕ, Bool, List, length, map, sym, ap₂, subst, ◌∙◌, arith}
+use Rattle.std.specs.Prelude.{All}
+use Rattle.std.specs.Str.{IsUtf8}
 use Rattle.std.proofs.lemmas.List.Elements.{All-nil}
 use Rattle.walrus_bodies.specs.declared.features.Features.{Features}
 use Rattle.walrus_contents.specs.View.{parts_view}
 use Rattle.walrus_contents.specs.declared.parts.Parts.{Parts}
-use Rattle.walrus_model.specs.Abstract.{Abstract}
+use Rattle.wasm_frames.specs.Record as wire
+use Rattle.walrus_types.specs.Operators.{Item}
+use Rattle.walrus_code.specs.Names.{Lookup}
+use Rattle.walrus_model.specs.Abstract.{Abstract, Custom, ProducerField}
+use Rattle.walrus_model.specs.Customs.{written_customs}
+use Rattle.walrus_model.specs.Sections.{custom_of}
 use Rattle.walrus_model.specs.Config.{Config}
 use Rattle.walrus_model.specs.Declared.{NothingUndeclared}
 use Rattle.walrus_rules.specs.Features.{features_of}
 use Rattle.walrus_rules.specs.Pinned.{IsWrittenAs}
-use Rattle.walrus_rules.specs.Refused.{WritesUnfit}
-use Rattle.walrus_rules.specs.Spelling.{IsSpelling, IsSpelledAs}
+use Rattle.walrus_rules.specs.Refused.{IsSayable, WritesUnfit}
+use Rattle.walrus_rules.specs.Spelling.{FieldIsText, IsSpelling, IsSpelledAs}
 use Rattle.walrus_rules.proofs.OneSpelling.{as_told}
 use Rattle.walrus_rules.proofs.WrittenReads.{written_reads}
-use Rattle.walrus_writing.specs.Customs.{AreCustoms, CustomText}
+use Rattle.walrus_writing.specs.Customs.{Task}
 use Rattle.walrus_writing.specs.declared.write.Choices.{Choices}
 use Rattle.walrus_writing.specs.Emitted.{IsWrittenWith, IsEmitted}
 use Rattle.walrus_writing.specs.Records.{Records, Spells, DoesNotFit}
 use Rattle.walrus_writing.proofs.CarriedOver as carried
 use Rattle.walrus_writing.proofs.CountCarried.{count_carried}
+use Rattle.walrus_writing.proofs.OwnCustoms.{CustomText, Say, said_of, says_so}
+use Rattle.walrus_writing.proofs.Placed.{bytes_text, fits_text, text_fits}
+use Rattle.walrus_writing.proofs.ProducersSpelled.{chosen_text}
+use Rattle.walrus_writing.proofs.SameItems.{with_own}
 use Rattle.walrus_writing.proofs.TextStands.{all_bodies_stand, as_many_texts, sections_stand}
 use Rattle.walrus_writing.proofs.TypesEntered.{as_many_functions}
 use Rattle.walrus_writing.proofs.WithCustoms.{carried_with, flags_with, module_with, text_with}
@@ -39,12 +50,12 @@ chosen_so c choices with = ap₂ choose with.features_are with.producers_are
 
 -- ---- the text
 
-module _ (p : Parts) (choices : Choices) (r : Records p choices.features) (e : CustomText) (customs : AreCustoms p choices e) where
+module _ (p : Parts) (job : Task) (r : Records p job.choices.features) (e : CustomText) (say : Say p job.choices job.sections e) where
   -- the text is the one spelling of what it says
   pub spelling : IsSpelling (module_with r e) (text_with r e)
   spelling = record {
     says = sym (as_told (text_with r e));
-    stand = sections_stand r e;
+    stand = sections_stand r job.choices job.sections e say;
     filled = r.none_empty;
     bodies = all_bodies_stand r;
     used = carried.used r;
@@ -58,35 +69,54 @@ module _ (p : Parts) (choices : Choices) (r : Records p choices.features) (e : C
       locals = All-nil _;
       are_there = All-nil _;
     };
-    producers = customs.producers_text;
-    dylinks = All-nil _;
-    others = All-nil _;
+    producers = subst (λ (l : List ProducerField). All FieldIsText l) (sym say.producers_are) (chosen_text job.choices.producers p.producers.now.fields.items);
+    dylinks = say.dylinks;
+    others = say.others;
   }
 
 -- ---- what emission promises, where ref.func names only what is declared: no segment is added that would declare it
 
-module _ (c : Config) (p : Parts) (choices : Choices) (with : IsWrittenWith c choices) (declared : NothingUndeclared (parts_view p)) where
-  written : (r : Records p choices.features) (e : CustomText) → AreCustoms p choices e → IsWrittenAs c (parts_view p) (module_with r e)
-  written r e customs = written_as_said c choices with p declared r e customs
+module _ (c : Config) (p : Parts) (job : Task) (with : IsWrittenWith c job.choices) (declared : NothingUndeclared (parts_view p)) (own : List Custom) (roots : List Item) (asked : map custom_of job.sections ≡ written_customs (λ x. job.names x.0 x.1) own) (texts : All (λ (x : wire.Custom). IsUtf8 x.name) job.sections) where
+  abbrev W : Abstract
+  W = with_own (parts_view p) own roots
+
+  asked_by : (r : Records p job.choices.features) → r.names ≡ job.names → map custom_of job.sections ≡ written_customs (λ x. r.names x.0 x.1) own
+  asked_by r same = subst (λ (names : Lookup). map custom_of job.sections ≡ written_customs (λ x. names x.0 x.1) own) (sym same) asked
+
+  -- what its custom sections say, where a module of indices can say it
+  abbrev pub text_said : IsSayable W → CustomText
+  text_said sayable = said_of p job.choices W (λ x. job.names x.0 x.1) job.sections asked texts sayable
+
+  pub say_so : (sayable : IsSayable W) → Say p job.choices job.sections (text_said sayable)
+  say_so sayable = says_so p job.choices W (λ x. job.names x.0 x.1) job.sections asked texts sayable
+
+  pub written : (r : Records p job.choices.features) → r.names ≡ job.names → (sayable : IsSayable W) → IsWrittenAs c W (module_with r (text_said sayable))
+  written r same sayable = written_as_said c job with p declared r (text_said sayable) (say_so sayable) own roots (asked_by r same)
 
   -- what is spelled is what the module is written as
-  pub emitted : (bytes : List ℕ) → Spells p choices bytes → IsEmitted c (parts_view p) bytes
-  emitted bytes s =
-      let n : Abstract = module_with s.records s.customs in
-      let so : IsWrittenAs c (parts_view p) n = written s.records s.customs s.customs_are in
-      let spelled : IsSpelledAs n bytes = record { text = text_with s.records s.customs; spells = spelling p choices s.records s.customs s.customs_are; written = s.are } in
+  pub emitted : (bytes : List ℕ) → Spells p job bytes → IsEmitted c W bytes
+  emitted bytes s sayable =
+      let e : CustomText = text_said sayable in
+      let n : Abstract = module_with s.records e in
+      let so : IsWrittenAs c W n = written s.records s.names_are sayable in
+      let spelled : IsSpelledAs n bytes = record { text = text_with s.records e; spells = spelling p job s.records e (say_so sayable); written = s.are ∙ bytes_text s.records job e (say_so sayable) } in
+      let fit = text_fits s.records job e (say_so sayable) s.fit in
       record {
         module_written = n;
         written = so;
         spelled = spelled;
-        reads = λ made nothing. (written_reads c (parts_view p) n bytes made nothing so spelled s.fit).0;
-        holds = λ made nothing. (written_reads c (parts_view p) n bytes made nothing so spelled s.fit).1;
+        reads = λ made nothing. (written_reads c W n bytes made nothing so spelled fit).0;
+        holds = λ made nothing. (written_reads c W n bytes made nothing so spelled fit).1;
       }
 
   -- what doesn't fit is written as what doesn't
-  pub unfit_of : DoesNotFit p choices → WritesUnfit c (parts_view p)
-  unfit_of d = record {
-    module_out = module_with d.records d.customs;
-    written = written d.records d.customs d.customs_are;
-    unfit = record { text = text_with d.records d.customs; spells = spelling p choices d.records d.customs d.customs_are; unfit = d.too_large };
+  pub unfit_of : DoesNotFit p job → IsSayable W → WritesUnfit c W
+  unfit_of d sayable = record {
+    module_out = module_with d.records (text_said sayable);
+    written = written d.records d.names_are sayable;
+    unfit = record {
+      text = text_with d.records (text_said sayable);
+      spells = spelling p job d.records (text_said sayable) (say_so sayable);
+      unfit = λ fit. d.too_large (fits_text d.records job (text_said sayable) (say_so sayable) fit);
+    };
   }

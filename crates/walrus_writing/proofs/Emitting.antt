@@ -1,6 +1,15 @@
 -- Parts that name nothing dead and leave nothing undeclared: what they are written as, and how that fits.
-use Rattle.std.proofs.Common.{ℕ, List, refl, sym, subst}
-use Rattle.std.specs.Prelude.{IfOk, Result, Ok, Err}
+use Rattle.std.proofs.Common.{◌≡◌, ℕ, List, [], map, refl, sym, ap, subst}
+use Rattle.std.specs.Prelude.{All, IfOk, Result, Ok, Err}
+use Rattle.std.specs.Str.{IsUtf8}
+use Rattle.wasm_frames.specs.Record as wire
+use Rattle.wasm_frames.specs.Frames.{gathered}
+use Rattle.walrus_types.specs.Operators.{Item}
+use Rattle.walrus_code.specs.Names.{Lookup}
+use Rattle.walrus_model.specs.Abstract.{Abstract, Custom}
+use Rattle.walrus_model.specs.Customs.{written_customs}
+use Rattle.walrus_model.specs.Sections.{custom_of}
+use Rattle.walrus_rules.specs.Text.{sections_of}
 use Rattle.std.specs.Global.{Vec}
 use Rattle.walrus_contents.specs.View.{parts_view}
 use Rattle.walrus_contents.specs.declared.parts.Parts.{Parts}
@@ -8,34 +17,75 @@ use Rattle.walrus_model.specs.Config.{Config}
 use Rattle.walrus_model.specs.Dead.{HasDead}
 use Rattle.walrus_model.specs.Declared.{NothingUndeclared}
 use Rattle.walrus_parts.specs.declared.error.Error.{Error}
-use Rattle.walrus_rules.specs.Refused.{PassesLimits, Unfit}
+use Rattle.walrus_rules.specs.Refused.{IsSayable, PassesLimits, Unfit, WritesUnfit}
 use Rattle.walrus_rules.proofs.FitsLimits.{fits_no_limit}
 use Rattle.walrus_writing.specs.declared.write.Choices.{Choices}
 use Rattle.walrus_writing.specs.Emitted.{IsEmitted, IsWrittenWith}
 use Rattle.walrus_writing.specs.Records.{DoesNotFit, Spells}
-use Rattle.walrus_writing.proofs.Emitted.{choices_of, chosen_so, emitted, spelling, unfit_of}
+use Rattle.walrus_writing.specs.Customs.{Task, customs_written, task}
+use Rattle.walrus_writing.proofs.Emitted.{choices_of, chosen_so, emitted, say_so, spelling, text_said, unfit_of, written}
 use Rattle.walrus_writing.proofs.NoCauseAll.{none_unspelled}
+use Rattle.walrus_writing.proofs.OwnCustoms.{CustomText, only_producers, only_so, sayable_by}
+use Rattle.walrus_writing.proofs.Placed.{fits_without, text_fits}
+use Rattle.walrus_writing.proofs.SameItems.{dead_back, limits_back, unspelled_back, with_own}
 use Rattle.walrus_writing.proofs.WithCustoms.{module_with, text_with}
 use Rattle.walrus_writing.proofs.WrittenLemmas.{written_as_said}
 
-module _ (c : Config) (choices : Choices) (with : IsWrittenWith c choices) (p : Parts) (lives : HasDead (parts_view p) → ⊥) (declared : NothingUndeclared (parts_view p)) where
+module _ (c : Config) (p : Parts) (lives : HasDead (parts_view p) → ⊥) (declared : NothingUndeclared (parts_view p)) (own : List Custom) (roots : List Item) (names : Lookup) (sections : List wire.Custom) (asked : map custom_of sections ≡ written_customs (λ x. names x.0 x.1) own) (texts : All (λ (x : wire.Custom). IsUtf8 x.name) sections) where
+  abbrev V : Abstract
+  V = parts_view p
+
+  abbrev W : Abstract
+  W = with_own V own roots
+
+  all_there : HasDead W → ⊥
+  all_there dead = lives (dead_back V own roots dead)
+
   -- what doesn't fit passes a limit
-  pub unfit : DoesNotFit p choices → PassesLimits c (parts_view p)
-  unfit d = Unfit lives (unfit_of c p choices with declared d)
+  pub unfit : (choices : Choices) → IsWrittenWith c choices → DoesNotFit p (task choices names sections) → IsSayable W → PassesLimits c W
+  unfit choices with d sayable = Unfit all_there (unfit_of c p (task choices names sections) with declared own roots asked texts d sayable)
 
-  own : IsWrittenWith c (choices_of c)
-  own = record { features_are = refl; no_names = with.no_names; producers_are = refl }
+  module _ (with : IsWrittenWith c (choices_of c)) (bytes : List ℕ) (s : Spells p (task (choices_of c) names sections) bytes) where
+    abbrev job : Task
+    job = task (choices_of c) names sections
 
-  small_with : (bytes : List ℕ) → Spells p (choices_of c) bytes → PassesLimits c (parts_view p) → ⊥
-  small_with bytes s =
-      fits_no_limit c (parts_view p) (module_with s.records s.customs) (text_with s.records s.customs) lives (none_unspelled c p s.records)
-      (written_as_said c (choices_of c) own p declared s.records s.customs s.customs_are) (spelling p (choices_of c) s.records s.customs s.customs_are) s.fit
+    -- what a module of indices can say passes none
+    said : IsSayable W → PassesLimits c W → ⊥
+    said sayable =
+        let e : CustomText = text_said c p job with declared own roots asked texts sayable in
+        let say = say_so c p job with declared own roots asked texts sayable in
+        fits_no_limit c W (module_with s.records e) (text_with s.records e) all_there
+        (λ cause. none_unspelled c p s.records (unspelled_back V own roots c cause))
+        (written c p job with declared own roots asked texts s.records s.names_are sayable) (spelling p job s.records e say) (text_fits s.records job e say s.fit)
+
+    abbrev plain_job : Task
+    plain_job = task (choices_of c) names []
+
+    -- and without custom sections of its own it passes none
+    alone : PassesLimits c V → ⊥
+    alone =
+        let e : CustomText = only_producers p (choices_of c) in
+        let say = only_so p (choices_of c) in
+        fits_no_limit c V (module_with s.records e) (text_with s.records e) lives (none_unspelled c p s.records)
+        (written_as_said c plain_job with p declared s.records e say [] [] refl) (spelling p plain_job s.records e say)
+        (text_fits s.records plain_job e say (fits_without s.records sections (customs_written p plain_job) s.fit))
+
+    sayable_of : WritesUnfit c W → IsSayable W
+    sayable_of u =
+        sayable_by u.written.written.indices W u.module_out.customs (gathered (sections_of u.unfit.text)).customs u.written.written.customs (ap (λ (m : Abstract). m.customs) u.unfit.spells.says)
+
+    small_with : PassesLimits c W → ⊥
+    small_with passes = alone (limits_back V own roots c (λ live writes. absurd (said (sayable_of writes) (Unfit live writes))) passes)
+
+  exact : (choices : Choices) → IsWrittenWith c choices → IsWrittenWith c (choices_of c)
+  exact choices with = record { features_are = refl; no_names = with.no_names; producers_are = refl }
 
   -- what is spelled passes none
-  pub small : (bytes : List ℕ) → Spells p choices bytes → PassesLimits c (parts_view p) → ⊥
-  small = subst (λ x. (bytes : List ℕ) → Spells p x bytes → PassesLimits c (parts_view p) → ⊥) (sym (chosen_so c choices with)) small_with
+  pub small : (choices : Choices) → IsWrittenWith c choices → (bytes : List ℕ) → Spells p (task choices names sections) bytes → PassesLimits c W → ⊥
+  small choices with =
+      subst (λ (x : Choices). (bytes : List ℕ) → Spells p (task x names sections) bytes → PassesLimits c W → ⊥) (sym (chosen_so c choices with)) (small_with (exact choices with))
 
   -- what is written is what emission promises
-  pub emitted_ok : (result : Result (Vec ℕ) Error) → IfOk result (λ bytes. Spells p choices bytes.items) → IfOk result (λ bytes. IsEmitted c (parts_view p) bytes.items)
-  emitted_ok (Ok bytes) s = emitted c p choices with declared bytes.items s
-  emitted_ok (Err e) s = tt
+  pub emitted_ok : (choices : Choices) → IsWrittenWith c choices → (result : Result (Vec ℕ) Error) → IfOk result (λ bytes. Spells p (task choices names sections) bytes.items) → IfOk result (λ bytes. IsEmitted c W bytes.items)
+  emitted_ok choices with (Ok bytes) s = emitted c p (task choices names sections) with declared own roots asked texts bytes.items s
+  emitted_ok choices with (Err e) s = tt

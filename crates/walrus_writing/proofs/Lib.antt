@@ -23,8 +23,11 @@ pub mod NamedTypes
 pub mod NoCauseAll
 pub mod NoCauseBodies
 pub mod NoCauseHeaps
+pub mod OwnCustoms
 pub mod OwnPlaces
+pub mod OwnSaid
 pub mod Parted
+pub mod Placed
 pub mod ProducersSpelled
 pub mod Ranked
 pub mod RefusesAll
@@ -33,6 +36,7 @@ pub mod RefusesUnspelled
 pub mod Refusing
 pub mod Renamed
 pub mod SameBodies
+pub mod SameItems
 pub mod Sections
 pub mod Spelled
 pub mod SpellsLemmas

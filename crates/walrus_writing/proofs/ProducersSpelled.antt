@@ -16,11 +16,8 @@ use Rattle.wasm_payloads.specs.Spelling as spelled
 use Rattle.wasm_payloads.specs.Spelling.{FieldFits, ProducersFit, ValueFits, producers_bytes, value_bytes}
 use Rattle.wasm_writer.specs.Spelling.{SectionFits}
 use Rattle.wasm_writer.proofs.Listed.{fits_none}
-use Rattle.walrus_contents.specs.View.{parts_view}
-use Rattle.walrus_contents.specs.declared.parts.Parts.{Parts}
 use Rattle.walrus_model.specs.Abstract.{ProducerField}
 use Rattle.walrus_model.specs.Producers.{if_written}
-use Rattle.walrus_model.specs.Sections.{customs_of}
 use Rattle.walrus_parts.specs.declared.error.Error.{Error}
 use Rattle.walrus_producers.specs.Seen.{fields_seen, values_seen}
 use Rattle.walrus_producers.specs.declared.producers.ProducerValue.{ProducerValue as HeldValue}
@@ -28,8 +25,7 @@ use Rattle.walrus_producers.specs.declared.producers.ProducerField.{ProducerFiel
 use Rattle.walrus_rules.specs.Spelling.{FieldIsText, ValueIsText}
 use Rattle.walrus_rules.specs.Text.{field_bytes, raw_field}
 use Rattle.walrus_rules.proofs.OneSections.{more}
-use Rattle.walrus_writing.specs.Customs.{AreCustoms, CustomText, SpellsFields, payload_of, producers_section}
-use Rattle.walrus_writing.specs.declared.write.Choices.{Choices}
+use Rattle.walrus_writing.specs.Customs.{SpellsFields, payload_of, producers_section}
 
 -- ---- a number has a byte or more, and so has a vector
 
@@ -99,8 +95,11 @@ abbrev name : List ℕ
 name = codes "producers"
 
 -- the section of these fields, if there are any
+abbrev pub producers_more : List ProducerField → List wire.Custom
+producers_more fields = more name (vector_bytes field_bytes) fields
+
 abbrev pub section_of : List ProducerField → List wire.Custom
-section_of fields = more name (vector_bytes field_bytes) fields ++ []
+section_of fields = producers_more fields ++ []
 
 -- where it fits, so do its fields
 pub fields_fit : (fields : List ProducerField) → All (λ (c : wire.Custom). SectionFits (CustomSection c)) (section_of fields) → ProducersFit (map raw_field fields)
@@ -110,24 +109,19 @@ fields_fit (f ∷ fs) all =
     let section : SectionFits (CustomSection (record { name = name; bytes = bytes })) = All-head (λ (c : wire.Custom). SectionFits (CustomSection c)) (record { name = name; bytes = bytes }) [] all in
     producers_fit (map raw_field (f ∷ fs)) (subst (λ (l : List ℕ). FitsLength l) (vector_map raw_field spelled.field_bytes (f ∷ fs)) (behind_fits (block_bytes name) bytes section.1))
 
--- it is read apart, and so it is no custom section of the module's own
-pub none_own : (fields : List ProducerField) → customs_of (section_of fields) ≡ []
-none_own [] = refl
-none_own (f ∷ fs) = refl
-
 payload_section : (bytes : List ℕ) → 1 ≤ length bytes → producers_section (Some bytes) ≡ record { name = name; bytes = bytes } ∷ []
 payload_section [] long = absurd (omega (arith, long))
 payload_section (b ∷ bs) long = refl
 
 -- a payload makes it
-section_made : (fields : List ProducerField) → producers_section (Some (payload_of fields)) ≡ section_of fields
+pub section_made : (fields : List ProducerField) → producers_section (Some (payload_of fields)) ≡ section_of fields
 section_made [] = refl
 section_made (f ∷ fs) = payload_section (vector_bytes field_bytes (f ∷ fs)) (behind_filled (length (f ∷ fs)) (row_bytes field_bytes (f ∷ fs)))
 
 -- a payload that is there is that of the fields, and one that isn't doesn't fit
-pub section_given : (fields : List ProducerField) (payload : Option (Vec ℕ)) → is_some payload ≡ true → SpellsFields payload_of fields (Ok payload) → producers_section (option_map (λ (bytes : Vec ℕ). bytes.items) payload) ≡ section_of fields
+pub section_given : (fields : List ProducerField) (payload : Option (Vec ℕ)) → is_some payload ≡ true → SpellsFields payload_of fields (Ok payload) → producers_section (option_map (λ (bytes : Vec ℕ). bytes.items) payload) ≡ producers_section (Some (payload_of fields))
 section_given fields None there gives = absurd (cc)
-section_given fields (Some bytes) there gives = ap (λ (l : List ℕ). producers_section (Some l)) gives ∙ section_made fields
+section_given fields (Some bytes) there gives = ap (λ (l : List ℕ). producers_section (Some l)) gives
 
 pub section_refused : (fields : List ProducerField) (payload : Option (Vec ℕ)) → is_some payload ≡ false → SpellsFields payload_of fields (Ok payload) → ProducersFit (map raw_field fields) → ⊥
 section_refused fields None there gives = gives
@@ -143,12 +137,6 @@ fields_text : (fields : List HeldField) → AllByRecursion FieldIsText (fields_s
 fields_text [] = tt
 fields_text (f ∷ fs) = ((IsUtf8-string_bytes f.name, All-from_recursion ValueIsText (values_seen f.values.items) (values_text f.values.items)), fields_text fs)
 
-chosen_text : (chosen : Bool) (fields : List HeldField) → All FieldIsText (if_written chosen (fields_seen fields))
+pub chosen_text : (chosen : Bool) (fields : List HeldField) → All FieldIsText (if_written chosen (fields_seen fields))
 chosen_text true fields = All-from_recursion FieldIsText (fields_seen fields) (fields_text fields)
 chosen_text false fields = All-from_recursion FieldIsText [] tt
-
-abbrev pub customs_said : Parts → Choices → CustomText
-customs_said p choices = record { producers = if_written choices.producers (parts_view p).producers }
-
-pub customs_are_said : (p : Parts) (choices : Choices) → AreCustoms p choices (customs_said p choices)
-customs_are_said p choices = record { producers_are = refl; producers_text = chosen_text choices.producers p.producers.now.fields.items }

@@ -41,7 +41,7 @@ use Rattle.walrus_writing.specs.Parts.{function_seen, source}
 use Rattle.walrus_writing.specs.Elements as elements_spelled
 use Rattle.walrus_writing.specs.Globals as globals_spelled
 use Rattle.walrus_writing.specs.Imported.{ImportIsExact, RefusesImports, is_exact_thing}
-use Rattle.walrus_writing.specs.declared.write.Choices.{Choices}
+use Rattle.walrus_writing.specs.Customs.{Task}
 use Rattle.walrus_writing.specs.Refusals.{HasBody, HasUnspellable, AnImport, ABody, AType, ATable, AGlobal, AnElement, ASegment, RefusesItems}
 use Rattle.walrus_writing.specs.Segments.{DataIsUnspelled, UnspelledOffset}
 use Rattle.walrus_writing.specs.Tables as tables_spelled
@@ -192,7 +192,7 @@ module _ (c : Config) (p : Parts) where
 -- ---- imports that aren't written
 
 -- the type of an imported item is one that no bytes spell
-pub imports_refused : (p : Parts) (choices : Choices) (X : Type 0) (e : Error) → RefusesImports (parts_view p) e → RefusesItems {X = X} p choices (Err e)
-imports_refused p choices X (errors.Memory m) r = tt
-imports_refused p choices X errors.NotWritable (i, (x, (at, is_exact))) = AnImport i x at is_exact
-imports_refused p choices X _ r = absurd r
+pub imports_refused : (p : Parts) (job : Task) (X : Type 0) (e : Error) → RefusesImports (parts_view p) e → RefusesItems {X = X} p job (Err e)
+imports_refused p job X (errors.Memory m) r = tt
+imports_refused p job X errors.NotWritable (i, (x, (at, is_exact))) = AnImport i x at is_exact
+imports_refused p job X _ r = absurd r

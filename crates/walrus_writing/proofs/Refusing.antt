@@ -25,8 +25,7 @@ use Rattle.wasm_entries.specs.Spelling.{DataStands, ElementStands, GlobalStands,
 use Rattle.wasm_entries.specs.TypeSpelling.{GroupFits, group_bytes, LimitsFit, LimitsStand, limits_bytes}
 use Rattle.wasm_payloads.specs.Spelling.{ProducersFit}
 use Rattle.wasm_writer.specs.Spelling.{SectionFits, tag_bytes}
-use Rattle.wasm_writer.proofs.Listed.{fits_none}
-use Rattle.wasm_wire.specs.ModuleSpelling.{EachSection, ModuleFits, WritesModule, module_bytes}
+use Rattle.wasm_wire.specs.ModuleSpelling.{ModuleFits, WritesModule, module_bytes}
 use Rattle.wasm_forms.specs.declared.error.WireError.{WireError}
 use Rattle.wasm_forms.specs.declared.error.WireError.TheVariants as Wire
 use Rattle.walrus_base.specs.Arena.{entries as entries_in, item_at, items}
@@ -52,24 +51,20 @@ use Rattle.walrus_contents.proofs.Lookups.{as_long}
 use Rattle.walrus_contents.proofs.Slots.{stands_at}
 use Rattle.walrus_model.specs.Abstract.{DataSegment, Element, Memory, ProducerField}
 use Rattle.walrus_model.specs.Plan.{AreNumbered, IsPlan}
-use Rattle.walrus_model.specs.Producers.{if_written}
 use Rattle.walrus_model.specs.WellMade.{ImportsMatch}
 use Rattle.walrus_model.specs.Sections as said
 use Rattle.walrus_model.proofs.Lists.{map-map, map-same_on}
 use Rattle.walrus_parts.specs.Errors.{error_of_wire}
 use Rattle.walrus_parts.specs.declared.error.Error.{Error}
 use Rattle.walrus_parts.specs.declared.error.Error.TheVariants as Parts_error
-use Rattle.walrus_rules.specs.Examples.{empty_text}
 use Rattle.walrus_rules.specs.Spelling.{IsCount}
-use Rattle.walrus_rules.specs.Text.{Text, raw_field}
-use Rattle.walrus_rules.proofs.OneSections.{laid, later, later_none}
-use Rattle.walrus_writing.specs.declared.write.Choices.{Choices}
-use Rattle.walrus_writing.specs.Customs.{with_customs}
+use Rattle.walrus_rules.specs.Text.{raw_field}
+use Rattle.walrus_writing.specs.Customs.{Task, chosen_producers, customs_written}
 use Rattle.walrus_writing.specs.Parts.{HasBytes, export_with_index, memory_limits, tag_index, type_index, unplaced}
 use Rattle.walrus_plan.specs.Brought.{import_numbers, own_of, own_places, places_brought}
 use Rattle.walrus_writing.specs.Imported.{IsEntryAt}
 use Rattle.walrus_plan.specs.Places.{places, places_own}
-use Rattle.walrus_writing.specs.Records.{Records, Spells, sections_with, text_of}
+use Rattle.walrus_writing.specs.Records.{Records, Spells, module_of, sections_with}
 use Rattle.walrus_writing.specs.Elements.{ChoosesFlag, IsSpelledElement, RefusesElements}
 use Rattle.walrus_writing.specs.Globals.{IsSpelledGlobal, RefusesGlobals}
 use Rattle.walrus_writing.specs.Segments.{IsSpelledData, RefusesData}
@@ -79,42 +74,40 @@ use Rattle.walrus_writing.specs.Refusals.{ABody, AType, ATable, AGlobal, AnEleme
 use Rattle.walrus_writing.specs.Tables.{IsSpelledTable, RefusesTables}
 use Rattle.walrus_plan.specs.declared.plan.Plan.{Plan}
 use Rattle.walrus_writing.proofs.OwnPlaces.{defined_own, parted_own, seen_by_own}
-use Rattle.walrus_writing.proofs.ProducersSpelled.{customs_are_said, customs_said, fields_fit, section_of}
-use Rattle.walrus_writing.proofs.Sections.{all_sections, bytes_same, each_section, plain}
+use Rattle.walrus_writing.proofs.Placed.{written_fit}
 use Rattle.walrus_writing.proofs.Spelled.{elements_all_spelled, globals_all_spelled, segments_all_spelled, tables_all_spelled}
 use Rattle.walrus_writing.proofs.SpellsLemmas.{zip_seen}
-use Rattle.walrus_writing.proofs.TextStands.{bodies_same}
 
 -- ---- refusals
 
-module _ (p : Parts) (choices : Choices) (X : Type 0) where
-  pub types_refused : (e : Error) → RefusesTypes (type_slots p.types.now) e → RefusesItems {X = X} p choices (Err e)
+module _ (p : Parts) (job : Task) (X : Type 0) where
+  pub types_refused : (e : Error) → RefusesTypes (type_slots p.types.now) e → RefusesItems {X = X} p job (Err e)
   types_refused (Parts_error.Memory m) r = tt
   types_refused Parts_error.NotWritable r = AType r
   types_refused _ r = absurd r
 
-  pub bodies_refused : (e : Error) → RefusesBodies p choices.features e → RefusesItems {X = X} p choices (Err e)
+  pub bodies_refused : (e : Error) → RefusesBodies p job.choices.features e → RefusesItems {X = X} p job (Err e)
   bodies_refused (Parts_error.Memory m) r = tt
   bodies_refused Parts_error.NotWritable r = ABody r
   bodies_refused Parts_error.TooLarge r = inl r
   bodies_refused _ r = absurd r
 
-  pub tables_refused : (e : Error) → RefusesTables (items (tables p.tables.now)) e → RefusesItems {X = X} p choices (Err e)
+  pub tables_refused : (e : Error) → RefusesTables (items (tables p.tables.now)) e → RefusesItems {X = X} p job (Err e)
   tables_refused (Parts_error.Memory m) r = tt
   tables_refused Parts_error.NotWritable r = ATable r.0 r.1 r.2
   tables_refused _ r = absurd r
 
-  pub globals_refused : (e : Error) → RefusesGlobals (items (globals p.globals.now)) e → RefusesItems {X = X} p choices (Err e)
+  pub globals_refused : (e : Error) → RefusesGlobals (items (globals p.globals.now)) e → RefusesItems {X = X} p job (Err e)
   globals_refused (Parts_error.Memory m) r = tt
   globals_refused Parts_error.NotWritable r = AGlobal r.0 r.1 r.2
   globals_refused _ r = absurd r
 
-  pub elements_refused : (e : Error) → RefusesElements (items (elements p.elements.now)) e → RefusesItems {X = X} p choices (Err e)
+  pub elements_refused : (e : Error) → RefusesElements (items (elements p.elements.now)) e → RefusesItems {X = X} p job (Err e)
   elements_refused (Parts_error.Memory m) r = tt
   elements_refused Parts_error.NotWritable r = AnElement r.0 r.1 r.2
   elements_refused _ r = absurd r
 
-  pub data_refused : (e : Error) → RefusesData (items (data_segments p.data_.now)) e → RefusesItems {X = X} p choices (Err e)
+  pub data_refused : (e : Error) → RefusesData (items (data_segments p.data_.now)) e → RefusesItems {X = X} p job (Err e)
   data_refused (Parts_error.Memory m) r = tt
   data_refused Parts_error.NotWritable r = ASegment r.0 r.1 r.2
   data_refused _ r = absurd r
@@ -140,26 +133,7 @@ seen_by_places {T} {X} {W} seen_as f slots =
     ∙ seen_by_own (λ (t : T). None) seen_as f slots
     ∙ ap (map (λ (t : T). f (seen_as t))) (all_own (items slots))
 
--- sections that list nothing fit
-none_fit : EachSection SectionFits (laid (plain empty_text))
-none_fit = record {
-  types = fits_none GroupFits group_bytes;
-  imports = fits_none spelling.ImportFits spelling.import_bytes;
-  functions = (let none = fits_none (λ (n : ℕ). Unit {0}) number_bytes in (none.0.0, none.1));
-  tables = fits_none spelling.TableFits spelling.table_bytes;
-  memories = fits_none LimitsFit limits_bytes;
-  tags = (let none = fits_none (λ (n : ℕ). Unit {0}) tag_bytes in (none.0.0, none.1));
-  globals = (let none = fits_none (λ (g : entries.Global). Unit {0}) spelling.global_bytes in (none.0.0, none.1));
-  exports = fits_none spelling.ExportFits spelling.export_bytes;
-  start = tt;
-  elements = fits_none spelling.ElementFits spelling.element_bytes;
-  data_count = tt;
-  bodies = fits_none (λ (b : wire.Body). FitsLength b.bytes) body_bytes;
-  data_segments = fits_none spelling.DataFits spelling.data_bytes;
-  customs = All-nil _;
-}
-
-module _ (p : Parts) (choices : Choices) (names : Lookup) (plan : Plan) (raws : List (Vec RawSub)) (raw_imports : List RawImport) (raw_functions : List ℕ) (raw_tables : List RawTable) (raw_memories : List RawLimits) (raw_tags : List ℕ) (raw_globals : List RawGlobal) (exported : List RawExport) (bodies : List (Vec ℕ)) (raw_elements : List RawElement) (raw_segments : List RawData) (count : Option ℕ)
+module _ (p : Parts) (job : Task) (names : Lookup) (named : names ≡ job.names) (plan : Plan) (raws : List (Vec RawSub)) (raw_imports : List RawImport) (raw_functions : List ℕ) (raw_tables : List RawTable) (raw_memories : List RawLimits) (raw_tags : List ℕ) (raw_globals : List RawGlobal) (exported : List RawExport) (bodies : List (Vec ℕ)) (raw_elements : List RawElement) (raw_segments : List RawData) (count : Option ℕ)
     (matched : ImportsMatch (parts_view p)) (reads : ReadsInOrder (parts_view p))
     (is_plan : IsPlan (parts_view p) (places plan)) (numbered : AreNumbered names (places plan)) (few : (s : Space) → length (places plan s) < 2 ^ 32)
     (types : map place plan.types.items ≡ map (λ e. e.0) (entries_in (type_slots p.types.now)))
@@ -183,7 +157,7 @@ module _ (p : Parts) (choices : Choices) (names : Lookup) (plan : Plan) (raws : 
     (exports_are : map (λ e. Some (export_entry e)) exported ≡ map (λ v. export_with_index names (export_of v)) (items (exports p.exports.now)))
     (texts : All (λ e. IsUtf8 e.name.now) exported)
     (started : Option ℕ) (start_is : option_map (λ (i : ℕ). Some i) started ≡ option_map (names Functions) (parts_view p).start)
-    (bodies_are : AllZip (λ id bytes. HasBytes p names choices.features (place id) bytes.items) plan.own_functions.items bodies)
+    (bodies_are : AllZip (λ id bytes. HasBytes p names job.choices.features (place id) bytes.items) plan.own_functions.items bodies)
     (elements_rise : map place plan.elements.items ≡ map (λ e. e.0) (entries_in (elements p.elements.now)))
     (elements_are : map (λ e. Some (said.element_of (element_entry e))) raw_elements ≡ map (λ e. named_element names (element_of e)) (items (elements p.elements.now)))
     (elements_stand : All (λ e. ElementStands (element_entry e)) raw_elements)
@@ -216,7 +190,7 @@ module _ (p : Parts) (choices : Choices) (names : Lookup) (plan : Plan) (raws : 
       ∙ sym (seen_by_places element_of (named_element names) (elements p.elements.now))
       ∙ ap (map (λ i. option_and_then (named_element names) ((parts_view p).elements i))) (sym elements_rise)
 
-  abbrev pub records_of : Records p choices.features
+  abbrev pub records_of : Records p job.choices.features
   records_of = record {
     names = names;
     plan = places plan;
@@ -252,7 +226,7 @@ module _ (p : Parts) (choices : Choices) (names : Lookup) (plan : Plan) (raws : 
     globals_stand = All-map GlobalStands global_entry raw_globals globals_stand;
     globals_spelled = globals_all_spelled p matched names (map import_entry raw_imports) imports_are globals_spelled;
     bodies = map (λ (v : Vec ℕ). v.items) bodies;
-    bodies_are = zip_seen place (λ (v : Vec ℕ). v.items) (HasBytes p names choices.features) plan.own_functions.items bodies bodies_are;
+    bodies_are = zip_seen place (λ (v : Vec ℕ). v.items) (HasBytes p names job.choices.features) plan.own_functions.items bodies bodies_are;
     exports = map export_entry exported;
     exports_are = map-map (λ (e : entries.Export). Some e) export_entry exported ∙ exports_are ∙ sym (map-map (export_with_index names) export_of (items (exports p.exports.now)));
     texts = All-map (λ (e : entries.Export). IsUtf8 e.name) export_entry exported texts;
@@ -272,49 +246,27 @@ module _ (p : Parts) (choices : Choices) (names : Lookup) (plan : Plan) (raws : 
   }
 
   abbrev producers_written : List ProducerField
-  producers_written = if_written choices.producers (parts_view p).producers
-
-  abbrev whole : Text
-  whole = with_customs (text_of records_of) (customs_said p choices)
+  producers_written = chosen_producers p job.choices
 
   -- a payload that doesn't fit
-  pub producers_refused : (X : Type 0) → (ProducersFit (map raw_field producers_written) → ⊥) → RefusesItems {X = X} p choices (Err Parts_error.TooLarge)
-  producers_refused X refused = inr (record {
-    records = records_of;
-    customs = customs_said p choices;
-    customs_are = customs_are_said p choices;
-    too_large = λ all. refused (fields_fit producers_written (each_section whole SectionFits none_fit all).customs);
-  })
+  pub producers_refused : (X : Type 0) → (ProducersFit (map raw_field producers_written) → ⊥) → RefusesItems {X = X} p job (Err Parts_error.TooLarge)
+  producers_refused X refused = inr (record { records = records_of; names_are = named; too_large = λ fit. refused (written_fit p job (module_of records_of (customs_written p job)) refl fit) })
 
   -- the module of these sections
-  module _ (m : wire.Module) (code : List wire.Body) (customs : List wire.Custom) (sections : m ≡ sections_with (map group raws) (map import_entry raw_imports) raw_functions (map table_entry raw_tables) raw_memories raw_tags (map global_entry raw_globals) (map export_entry exported) started (map element_entry raw_elements) count code (map data_entry raw_segments) customs) (codes : code ≡ map (λ (v : Vec ℕ). unplaced v.items) bodies) (customs_are : customs ≡ section_of producers_written) where
-    abbrev with_rest : Option ℕ → Option ℕ → List wire.Body → List wire.Custom → wire.Module
-    with_rest start data_count all behind = sections_with (map group raws) (map import_entry raw_imports) raw_functions (map table_entry raw_tables) raw_memories raw_tags (map global_entry raw_globals) (map export_entry exported) start (map element_entry raw_elements) data_count all (map data_entry raw_segments) behind
+  module _ (m : wire.Module) (code : List wire.Body) (customs : List wire.Custom) (sections : m ≡ sections_with (map group raws) (map import_entry raw_imports) raw_functions (map table_entry raw_tables) raw_memories raw_tags (map global_entry raw_globals) (map export_entry exported) started (map element_entry raw_elements) count code (map data_entry raw_segments) customs) (codes : code ≡ map (λ (v : Vec ℕ). unplaced v.items) bodies) (customs_are : customs ≡ customs_written p job) where
+    abbrev with_rest : List wire.Body → List wire.Custom → wire.Module
+    with_rest all behind = sections_with (map group raws) (map import_entry raw_imports) raw_functions (map table_entry raw_tables) raw_memories raw_tags (map global_entry raw_globals) (map export_entry exported) started (map element_entry raw_elements) count all (map data_entry raw_segments) behind
 
-    module_is : m ≡ laid whole
+    module_is : m ≡ module_of records_of (customs_written p job)
     module_is =
         sections
-        ∙ ap (λ (o : Option ℕ). with_rest o count code customs) (sym (later_none started))
-        ∙ ap (λ (o : Option ℕ). with_rest (later started None) o code customs) (sym (later_none count))
-        ∙ ap (with_rest (later started None) (later count None) code) customs_are
-        ∙ ap (λ (all : List wire.Body). with_rest (later started None) (later count None) all (section_of producers_written))
-        (codes ∙ sym (map-map unplaced (λ (v : Vec ℕ). v.items) bodies) ∙ sym (bodies_same p names choices.features (map place plan.own_functions.items) (map (λ (v : Vec ℕ). v.items) bodies) records_of.bodies_are))
+        ∙ ap (λ (all : List wire.Body). with_rest all customs) (codes ∙ sym (map-map unplaced (λ (v : Vec ℕ). v.items) bodies))
+        ∙ ap (with_rest (map unplaced (map (λ (v : Vec ℕ). v.items) bodies))) customs_are
 
-    pub records_written : (bytes : List ℕ) → bytes ≡ module_bytes m → ModuleFits m → Spells p choices bytes
-    records_written bytes are fit = record {
-      records = records_of;
-      customs = customs_said p choices;
-      customs_are = customs_are_said p choices;
-      fit = all_sections whole SectionFits (subst ModuleFits module_is fit);
-      are = are ∙ ap module_bytes module_is ∙ bytes_same whole;
-    }
+    pub records_written : (bytes : List ℕ) → bytes ≡ module_bytes m → ModuleFits m → Spells p job bytes
+    records_written bytes are fit = record { records = records_of; names_are = named; fit = subst ModuleFits module_is fit; are = are ∙ ap module_bytes module_is }
 
-    pub records_refused : (X : Type 0) (e : WireError) → WritesModule (Err e) m → RefusesItems {X = X} p choices (Err (error_of_wire e))
+    pub records_refused : (X : Type 0) (e : WireError) → WritesModule (Err e) m → RefusesItems {X = X} p job (Err (error_of_wire e))
     records_refused X Wire.Malformed refused = absurd refused
     records_refused X (Wire.Memory e) refused = tt
-    records_refused X Wire.TooLarge refused = inr (record {
-      records = records_of;
-      customs = customs_said p choices;
-      customs_are = customs_are_said p choices;
-      too_large = λ all. refused (subst ModuleFits (sym module_is) (each_section whole SectionFits none_fit all));
-    })
+    records_refused X Wire.TooLarge refused = inr (record { records = records_of; names_are = named; too_large = λ fit. refused (subst ModuleFits (sym module_is) fit) })

@@ -5,7 +5,7 @@ use Rattle.std.specs.Prelude.{All, IfSome, Option, None, Some, codes, option_and
 use Rattle.std.specs.List.{AllByRecursion, AllZip}
 use Rattle.std.specs.Str.{IsUtf8}
 use Rattle.std.proofs.lemmas.List.{length-map}
-use Rattle.std.proofs.lemmas.List.Elements.{All-nil, All-from_recursion, recursion_from_All}
+use Rattle.std.proofs.lemmas.List.Elements.{All-append, All-nil, All-from_recursion, recursion_from_All}
 use Rattle.wasm_entries.specs.Spelling.{IsIndex, ExportStands}
 use Rattle.wasm_forms.specs.Spelling.{vector_bytes}
 use Rattle.wasm_frames.specs.Record as wire
@@ -27,11 +27,12 @@ use Rattle.walrus_rules.specs.Text.{sections_of}
 use Rattle.walrus_rules.specs.Text as text
 use Rattle.walrus_rules.proofs.WorkedParts.{all_one, is_text}
 use Rattle.walrus_plan.specs.Brought.{import_numbers}
-use Rattle.walrus_writing.specs.Customs.{CustomText, with_customs}
+use Rattle.walrus_writing.specs.declared.write.Choices.{Choices}
 use Rattle.walrus_writing.specs.Parts.{HasBytes, source, tag_index, type_index, type_index_of, export_with_index, unplaced}
 use Rattle.walrus_writing.specs.Records.{Records, text_of, texts_in}
 use Rattle.walrus_writing.proofs.CarriedOver.{export_parts}
 use Rattle.walrus_writing.proofs.ImportedAlong.{entries_stand}
+use Rattle.walrus_writing.proofs.OwnCustoms.{CustomText, Say, with_customs}
 use Rattle.walrus_writing.proofs.ProducersSpelled.{section_of}
 use Rattle.walrus_writing.proofs.Ranked.{body_stands}
 use Rattle.walrus_writing.proofs.Sections.{all_sections}
@@ -125,8 +126,8 @@ module _ {p : Parts} {features : Features} (r : Records p features) where
   count_stands None none = tt
   count_stands (Some count) is = let same : count ≡ length r.data_segments = is.1 in omega (arith, few_segments, same)
 
-  pub sections_stand : (e : CustomText) → All SectionStands (sections_of (with_customs (text_of r) e))
-  sections_stand e = all_sections (with_customs (text_of r) e) SectionStands (record {
+  pub sections_stand : (choices : Choices) (sections : List wire.Custom) (e : CustomText) → Say p choices sections e → All SectionStands (sections_of (with_customs (text_of r) e))
+  sections_stand choices sections e say = all_sections (with_customs (text_of r) e) sections say.split say.dylinks say.others SectionStands (record {
     types = r.types_stand;
     imports = entries_stand r.names V (import_numbers p) r.imports r.imports_are;
     functions = All-from_recursion IsIndex r.functions (functions_stand r.functions (r.own Functions) r.functions_are);
@@ -140,5 +141,5 @@ module _ {p : Parts} {features : Features} (r : Records p features) where
     data_count = subst (λ (o : Option ℕ). IfSome o IsIndex) (sym (later_none r.data_count)) (count_stands r.data_count r.counted);
     bodies = tt;
     data_segments = r.data_segments_stand;
-    customs = producers_stand e.producers;
+    customs = All-append (λ (c : wire.Custom). IsUtf8 c.name) sections (section_of e.producers) say.texts (producers_stand e.producers);
   })

@@ -13,10 +13,10 @@ use Rattle.walrus_model.specs.Out.{IsTheSegment}
 use Rattle.walrus_rules.specs.Spelling.{IsChosen}
 use Rattle.walrus_rules.specs.Text.{Text}
 use Rattle.walrus_rules.proofs.OneSpelling.{told}
-use Rattle.walrus_writing.specs.Customs.{CustomText, with_customs}
 use Rattle.walrus_writing.specs.Records.{Records, text_of}
 use Rattle.walrus_writing.proofs.CarriedOver.{carried_over}
 use Rattle.walrus_writing.proofs.ChosenFlags.{flags_chosen}
+use Rattle.walrus_writing.proofs.OwnCustoms.{CustomText, with_customs}
 use Rattle.walrus_writing.proofs.WrittenAs.{module_said, renaming_of}
 
 module _ {p : Parts} {features : Features} (r : Records p features) (e : CustomText) where

@@ -1,31 +1,26 @@
--- What the custom sections say that a module is written with ("Binary Format > Modules > Custom Section"): so far the producers section alone
+-- The custom sections that a module is written with ("Binary Format > Modules > Custom Section"): those of its own, and the producers section
 -- (tool-conventions, "Producers Section").
-use Rattle.std.specs.Prelude.{ℕ, List, [], ◌∷◌, All, map, Option, Some, None, Result, Ok, Err, codes, ◌≡◌, ⊤}
+use Rattle.std.specs.Prelude.{ℕ, List, [], ◌∷◌, ◌++◌, All, map, Option, Some, None, Result, Ok, Err, codes, ◌≡◌, ⊤}
 use Rattle.std.specs.Global.{Vec}
+use Rattle.std.specs.Str.{IsUtf8}
 use Rattle.wasm_forms.specs.Spelling.{vector_bytes}
 use Rattle.wasm_frames.specs.Record as wire
 use Rattle.wasm_payloads.specs.Spelling.{ProducersFit}
 use Rattle.walrus_contents.specs.View.{parts_view}
 use Rattle.walrus_contents.specs.declared.parts.Parts.{Parts}
-use Rattle.walrus_model.specs.Abstract.{ProducerField}
+use Rattle.walrus_code.specs.Names.{Lookup}
+use Rattle.walrus_model.specs.Abstract.{Abstract, ProducerField}
+use Rattle.walrus_model.specs.Customs.{written_customs}
+use Rattle.walrus_model.specs.Sections.{custom_of}
 use Rattle.walrus_model.specs.Producers.{if_written}
 use Rattle.walrus_parts.specs.declared.error.Error.{Error}
 use Rattle.walrus_parts.specs.declared.error.Error.TheVariants as errors
-use Rattle.walrus_rules.specs.Spelling.{FieldIsText}
-use Rattle.walrus_rules.specs.Text.{Text, field_bytes, raw_field}
+use Rattle.walrus_rules.specs.Text.{field_bytes, raw_field}
 use Rattle.walrus_writing.specs.declared.write.Choices.{Choices}
 
-pub record CustomText : Type 0 where
-  pub producers : List ProducerField
-
--- a text with these custom sections
-abbrev pub with_customs : Text → CustomText → Text
-with_customs t e = record t { producers = e.producers }
-
--- what these parts are written with: producers where they were chosen
-pub record AreCustoms (p : Parts) (choices : Choices) (e : CustomText) : Type 0 where
-  pub producers_are : e.producers ≡ if_written choices.producers (parts_view p).producers
-  pub producers_text : All FieldIsText e.producers
+-- what is written of these parts: their producers, where these are chosen
+abbrev pub chosen_producers : Parts → Choices → List ProducerField
+chosen_producers p choices = if_written choices.producers (parts_view p).producers
 
 -- ---- the producers section
 
@@ -46,3 +41,25 @@ abbrev pub producers_section : Option (List ℕ) → List wire.Custom
 producers_section None = []
 producers_section (Some []) = []
 producers_section (Some (b ∷ bs)) = record { name = codes "producers"; bytes = b ∷ bs } ∷ []
+
+-- ---- sections of its own
+
+-- what is written, under what: the choices, the indices, and the custom sections that were asked for their data
+pub record Task : Type 0 where
+  pub choices : Choices
+  pub names : Lookup
+  pub sections : List wire.Custom
+
+abbrev pub task : Choices → Lookup → List wire.Custom → Task
+task choices names sections = record { choices = choices; names = names; sections = sections }
+
+-- all custom sections that are written
+abbrev pub customs_written : Parts → Task → List wire.Custom
+customs_written p t = t.sections ++ producers_section (Some (payload_of (chosen_producers p t.choices)))
+
+-- v is these parts with custom sections of its own, whatever roots these have; and they are, as they are written under these indices, these
+-- sections
+pub record IsAsked (p : Parts) (names : Lookup) (sections : List wire.Custom) (v : Abstract) : Type 0 where
+  pub parts : v ≡ record (parts_view p) { customs = v.customs; section_roots = v.section_roots }
+  pub asked : map custom_of sections ≡ written_customs (λ x. names x.0 x.1) v.customs
+  pub texts : All (λ c. IsUtf8 c.name) sections

@@ -9,7 +9,7 @@ use Rattle.walrus_parts.specs.declared.error.Error.TheVariants as errors
 use Rattle.walrus_rules.specs.Features.{features_of}
 use Rattle.walrus_rules.specs.Headline.{Reads}
 use Rattle.walrus_rules.specs.Pinned.{IsWrittenAs}
-use Rattle.walrus_rules.specs.Refused.{Refusal}
+use Rattle.walrus_rules.specs.Refused.{IsSayable, Refusal}
 use Rattle.walrus_rules.specs.Refused as causes
 use Rattle.walrus_rules.specs.Spelling.{IsSpelledAs}
 use Rattle.walrus_rules.specs.WellMade.{IsWellMade}
@@ -23,12 +23,16 @@ pub record IsWrittenWith (c : Config) (choices : Choices) : Type 0 where
 
 -- The module v is written as a module of indices, and the bytes are its one spelling. Where v is well made and nothing is undeclared,
 -- they read as that module, and it keeps the rules.
-pub record IsEmitted (c : Config) (v : Abstract) (bytes : List ℕ) : Type 0 where
+pub record EmittedAs (c : Config) (v : Abstract) (bytes : List ℕ) : Type 0 where
   pub module_written : Abstract
   pub written : IsWrittenAs c v module_written
   pub spelled : IsSpelledAs module_written bytes
   pub reads : IsWellMade c v → NothingUndeclared v → Reads c bytes module_written
   pub holds : IsWellMade c v → NothingUndeclared v → Holds module_written
+
+-- so it is where a module of indices can say its custom sections
+abbrev pub IsEmitted : Config → Abstract → List ℕ → Type 0
+IsEmitted c v bytes = IsSayable v → EmittedAs c v bytes
 
 -- which refusal an error tells of
 abbrev pub refusal_of : Error → Refusal

@@ -8,7 +8,7 @@ use Rattle.std.specs.Str.{IsUtf8}
 use Rattle.wasm_entries.specs.Record.{Group}
 use Rattle.wasm_entries.specs.Spelling.{DataStands, ElementStands, GlobalStands, TableStands}
 use Rattle.wasm_entries.specs.TypeSpelling.{GroupStands, LimitsStand}
-use Rattle.wasm_writer.specs.Spelling.{SectionFits}
+use Rattle.wasm_wire.specs.ModuleSpelling.{ModuleFits, module_bytes}
 use Rattle.walrus_types.specs.Operators.{Space, Types, Functions, Tables, Memories, Tags, Globals, Elements, DataSegments}
 use Rattle.walrus_code.specs.Names.{Lookup}
 use Rattle.walrus_bodies.specs.declared.features.Features.{Features}
@@ -25,15 +25,14 @@ use Rattle.walrus_model.specs.Sections.{data_of, element_of, global_of, table_of
 use Rattle.walrus_model.specs.Spaces.{Thing, look}
 use Rattle.walrus_model.specs.WellMade.{ImportsMatch}
 use Rattle.walrus_rules.specs.Examples.{empty_text}
-use Rattle.walrus_rules.specs.Spelling.{IsCount, written_as}
-use Rattle.walrus_rules.specs.Text.{BodyText, Text, sections_of}
-use Rattle.walrus_writing.specs.Customs.{AreCustoms, CustomText, with_customs}
-use Rattle.walrus_writing.specs.declared.write.Choices.{Choices}
+use Rattle.walrus_rules.specs.Spelling.{IsCount}
+use Rattle.walrus_rules.specs.Text.{BodyText, Text}
+use Rattle.walrus_writing.specs.Customs.{Task, customs_written}
 use Rattle.walrus_writing.specs.Elements.{ChoosesFlag, ElementIsUnspelled}
 use Rattle.walrus_writing.specs.Globals.{GlobalIsUnspelled}
 use Rattle.walrus_plan.specs.Brought.{import_numbers}
 use Rattle.walrus_writing.specs.Imported.{IsEntryAt}
-use Rattle.walrus_writing.specs.Parts.{type_index, memory_limits, tag_index, export_with_index, HasBytes}
+use Rattle.walrus_writing.specs.Parts.{type_index, memory_limits, tag_index, export_with_index, HasBytes, unplaced}
 use Rattle.walrus_plan.specs.Reads.{ReadsInOrder}
 use Rattle.walrus_writing.specs.Segments.{DataIsUnspelled}
 use Rattle.walrus_writing.specs.Tables.{TableIsUnspelled}
@@ -131,17 +130,19 @@ text_of {p} {features} r = record empty_text {
 abbrev pub sections_with : List Group → List entries.Import → List ℕ → List entries.Table → List RawLimits → List ℕ → List entries.Global → List entries.Export → Option ℕ → List entries.Element → Option ℕ → List wire.Body → List entries.Segment → List wire.Custom → wire.Module
 sections_with types imports functions tables memories tags globals exports start elements data_count bodies data_segments customs = record wire.no_sections { types = types; imports = imports; functions = functions; tables = tables; memories = memories; tags = tags; globals = globals; exports = exports; start = start; elements = elements; data_count = data_count; bodies = bodies; data_segments = data_segments; customs = customs }
 
--- the bytes are those of the text with its custom sections, which fits
-pub record Spells (p : Parts) (choices : Choices) (bytes : List ℕ) : Type 0 where
-  pub records : Records p choices.features
-  pub customs : CustomText
-  pub customs_are : AreCustoms p choices customs
-  pub fit : All SectionFits (sections_of (with_customs (text_of records) customs))
-  pub are : bytes ≡ written_as (with_customs (text_of records) customs)
+-- the module of these records, with these custom sections
+abbrev pub module_of : {p : Parts} {features : Features} → Records p features → List wire.Custom → wire.Module
+module_of r customs = sections_with r.types r.imports r.functions r.tables r.memories r.tags r.globals r.exports r.start r.elements r.data_count (map unplaced r.bodies) r.data_segments customs
+
+-- the bytes are those of the module of records with its custom sections, which fits
+pub record Spells (p : Parts) (t : Task) (bytes : List ℕ) : Type 0 where
+  pub records : Records p t.choices.features
+  pub names_are : records.names ≡ t.names
+  pub fit : ModuleFits (module_of records (customs_written p t))
+  pub are : bytes ≡ module_bytes (module_of records (customs_written p t))
 
 -- a count or a size in the sections passes 32 bits
-pub record DoesNotFit (p : Parts) (choices : Choices) : Type 0 where
-  pub records : Records p choices.features
-  pub customs : CustomText
-  pub customs_are : AreCustoms p choices customs
-  pub too_large : All SectionFits (sections_of (with_customs (text_of records) customs)) → ⊥
+pub record DoesNotFit (p : Parts) (t : Task) : Type 0 where
+  pub records : Records p t.choices.features
+  pub names_are : records.names ≡ t.names
+  pub too_large : ModuleFits (module_of records (customs_written p t)) → ⊥

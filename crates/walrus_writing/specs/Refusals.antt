@@ -21,7 +21,7 @@ use Rattle.walrus_writing.specs.Tables.{TableIsUnspelled}
 use Rattle.walrus_contents.specs.declared.parts.Parts.{Parts}
 use Rattle.walrus_model.specs.Abstract.{Import}
 use Rattle.walrus_writing.specs.Parts.{function_seen, source}
-use Rattle.walrus_writing.specs.declared.write.Choices.{Choices}
+use Rattle.walrus_writing.specs.Customs.{Task}
 use Rattle.walrus_writing.specs.Records.{DoesNotFit}
 use Rattle.walrus_parts.specs.declared.error.Error.{Error}
 use Rattle.walrus_parts.specs.declared.error.Error.TheVariants.{Memory, NotWritable, TooLarge}
@@ -31,8 +31,8 @@ abbrev pub HasBody : Parts → Features → (Source → Type 0) → Type 0
 HasBody p features P = (names : Lookup) × ((number : ℕ) × ((local : LocalFunction) × (((parts_view p).functions number ≡ Some (function_seen p local)) × P (source p names features local))))
 
 -- a count or a size passes 32 bits: the locals of a function, or what is written
-abbrev pub PassesLimits : Parts → Choices → Type 0
-PassesLimits p choices = HasBody p choices.features HasTooManyLocals ⊎ DoesNotFit p choices
+abbrev pub PassesLimits : Parts → Task → Type 0
+PassesLimits p t = HasBody p t.choices.features HasTooManyLocals ⊎ DoesNotFit p t
 
 -- what no bytes spell: a body, an exact heap type in a type, the type of an imported item, a table, a global, or a segment of elements or
 -- of data
@@ -46,12 +46,12 @@ pub data HasUnspellable (p : Parts) (features : Features) : Type 0 where
   ASegment : (d : DataValue) → Contains (items (data_segments p.data_.now)) d → DataIsUnspelled (data_of d) → HasUnspellable p features
 
 -- items that name nothing dead and have a plan: each refusal comes with its cause
-abbrev pub RefusesItems : {X : Type 0} → Parts → Choices → Result X Error → Type 0
-RefusesItems p choices (Ok x) = ⊤
-RefusesItems p choices (Err NotWritable) = HasUnspellable p choices.features
-RefusesItems p choices (Err TooLarge) = PassesLimits p choices
-RefusesItems p choices (Err (Memory e)) = ⊤
-RefusesItems p choices (Err _) = ⊥
+abbrev pub RefusesItems : {X : Type 0} → Parts → Task → Result X Error → Type 0
+RefusesItems p t (Ok x) = ⊤
+RefusesItems p t (Err NotWritable) = HasUnspellable p t.choices.features
+RefusesItems p t (Err TooLarge) = PassesLimits p t
+RefusesItems p t (Err (Memory e)) = ⊤
+RefusesItems p t (Err _) = ⊥
 
 -- ---- refusals of the parts
 

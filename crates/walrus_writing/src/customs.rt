@@ -1,6 +1,6 @@
 //! The custom sections that a module is written with ("Binary Format > Modules > Custom Section"): the producers section
 //! (tool-conventions, "Producers Section").
-ghost use Rattle.std.specs.Prelude.{◌≡◌, IfOk, IsOkUnless, map, option_map};
+ghost use Rattle.std.specs.Prelude.{◌≡◌, ◌++◌, IfOk, IsOkUnless, map, option_map};
 ghost use Rattle.wasm_forms.specs.Spelling.{vector_bytes};
 ghost use Rattle.wasm_frames.specs.Record.{custom_record};
 ghost use Rattle.wasm_payloads.specs.Producers.{field_record, value_record};
@@ -86,13 +86,29 @@ pub fn producers_payload(
     spelled_fields(alloc, fields)
 }
 
-/// The custom sections: the producers section of this payload, if it has one.
-pub fn raw_customs<'a>(alloc: Global, payload: &'a Option<Vec<u8>>) -> Result<Vec<RawCustom<'a>>>
-    ensures value { IfOk result (λ raw. map custom_record raw.items
-        ≡ producers_section (option_map (λ bytes. bytes.items) payload.now)) }
+// The same sections.
+fn copied<'a>(alloc: Global, own: &[RawCustom<'a>]) -> Result<Vec<RawCustom<'a>>>
+    ensures value { IfOk result (λ raw. map custom_record raw.items ≡ map custom_record own.now) }
     ensures fails { IsOkUnless result out_of_memory }
 {
-    let mut raw = Vec::new(alloc);
+    let mut raw = Vec::with_capacity(alloc, own.len())?;
+    'sections: for section in own {
+        raw.push(*section)?;
+    }
+    Ok(raw)
+}
+
+/// The custom sections: these, and then the producers section of this payload, if it has one.
+pub fn raw_customs<'a>(
+    alloc: Global,
+    own: &'a [RawCustom<'a>],
+    payload: &'a Option<Vec<u8>>,
+) -> Result<Vec<RawCustom<'a>>>
+    ensures value { IfOk result (λ raw. map custom_record raw.items ≡ map custom_record own.now
+        ++ producers_section (option_map (λ bytes. bytes.items) payload.now)) }
+    ensures fails { IsOkUnless result out_of_memory }
+{
+    let mut raw = copied(alloc, own)?;
     if let Some(bytes) = payload {
         if !bytes.is_empty() {
             raw.push(RawCustom {

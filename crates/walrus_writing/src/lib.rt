@@ -11,4 +11,4 @@ mod records;
 mod tables;
 mod write;
 
-pub use write::{Choices, write_parts};
+pub use write::{Choices, write_prepared};

@@ -1,19 +1,21 @@
 //! Writing a module's parts as bytes.
-ghost use Rattle.std.specs.Prelude.{All, IfErr, IfOk, Ok};
+ghost use Rattle.std.specs.Prelude.{All, IfErr, IfOk, Ok, map};
 ghost use Rattle.std.specs.List.{AllZip};
+ghost use Rattle.wasm_frames.specs.Record.{custom_record};
 ghost use Rattle.walrus_base.specs.Id.{place};
 ghost use Rattle.walrus_code.specs.Indices.{index_of};
-ghost use Rattle.walrus_model.specs.Producers.{if_written};
-ghost use Rattle.walrus_producers.specs.Seen.{producers};
-ghost use Rattle.walrus_writing.specs.Customs.{SpellsFields, payload_of};
-ghost use Rattle.walrus_writing.specs.Parts.{HasBytes, IsIndexed};
+ghost use Rattle.walrus_model.specs.Abstract.{Abstract};
 ghost use Rattle.walrus_model.specs.Config.{Config};
 ghost use Rattle.walrus_model.specs.Dead.{HasDead};
 ghost use Rattle.walrus_model.specs.Declared.{NothingUndeclared};
+ghost use Rattle.walrus_model.specs.Producers.{if_written};
+ghost use Rattle.walrus_producers.specs.Seen.{producers};
 ghost use Rattle.walrus_rules.specs.Refused.{RefusesToWrite};
 ghost use Rattle.walrus_contents.specs.View.{parts_view};
+ghost use Rattle.walrus_writing.specs.Customs.{IsAsked, SpellsFields, payload_of, task};
 ghost use Rattle.walrus_writing.specs.Emitted.{IsEmitted, IsWrittenWith, told};
 ghost use Rattle.walrus_plan.specs.Prepared.{IsPrepared};
+ghost use Rattle.walrus_writing.specs.Parts.{HasBytes, IsIndexed};
 ghost use Rattle.walrus_writing.specs.Records.{Spells};
 ghost use Rattle.walrus_writing.specs.Refusals.{RefusesBodies, RefusesItems};
 
@@ -32,8 +34,8 @@ use std::alloc::Global;
 use walrus_contents::Parts;
 use walrus_ir::{Features, FunctionId, IdsToIndices};
 use walrus_parts::{Error, Result};
-use walrus_plan::{Prepared, prepare};
-use wasm_wire::written_module;
+use walrus_plan::Prepared;
+use wasm_wire::{RawCustom, written_module};
 
 /// What a module is written under.
 #[derive(Clone, Copy, Debug)]
@@ -42,28 +44,6 @@ pub struct Choices {
     pub features: Features,
     /// Whether the producers section is written (tool-conventions, "Producers Section"). One without fields never is.
     pub producers: bool,
-}
-
-/// The bytes of a module of these parts, in which nothing dead is named and nothing is undeclared, and whose bodies may use the chosen
-/// proposals: with its producers where these are chosen, and without names.
-///
-/// # Errors
-///
-/// Each with a cause of its own: `TwoIndices` where an import names an item that the module defines, or two imports name one; `NoIndex` where an
-/// item says to be brought by an import that isn't there or names another item, the initialiser of a table reads a global of the module, that
-/// of a global itself or a later one, or a type names one of a later group or a later supertype; `NotWritable` where a body isn't well formed, an
-/// exact heap type is written, or an initialiser, an offset or an item of a segment has no operator; `TooLarge` where a count or a size passes 32
-/// bits; and `Memory`.
-pub fn write_parts(alloc: Global, parts: Parts<'_>, choices: &Choices) -> Result<Vec<u8>>
-    requires there { HasDead (parts_view parts) → ⊥ }
-    requires declared { NothingUndeclared (parts_view parts) }
-    ensures written { (c : Config) → IsWrittenWith c choices.now
-        → IfOk result (λ bytes. IsEmitted c (parts_view parts.entry) bytes.items) }
-    ensures refused { (c : Config) → IsWrittenWith c choices.now
-        → RefusesToWrite ⊥ c (parts_view parts.entry) (told result) }
-{
-    let prepared = prepare(alloc, parts)?;
-    write_prepared(alloc, parts, &prepared, choices)
 }
 
 // What is made for sections that only lend it: the bytes of bodies, and the payload of the producers section.
@@ -100,17 +80,50 @@ fn make(
     Ok(Made { bodies, payload })
 }
 
-// The bytes of items that name nothing dead, in the order of their plan, by the indices that it gives.
-fn write_prepared(
+/// The bytes of a module of these parts with custom sections of its own, in which nothing dead is named and nothing is undeclared, in the
+/// order of a plan of the parts and by its indices; bodies may use the chosen proposals. These sections are what a module that is seen as the
+/// parts asks to be written under the indices ("Binary Format > Modules > Custom Section"): sections of dynamic linking stand before all
+/// others, and the others behind the producers section, which is written where it is chosen. Names aren't written.
+///
+/// # Errors
+///
+/// Each with a cause of its own: `NotWritable` where a body isn't well formed, an exact heap type is written, or an initialiser, an offset or
+/// an item of a segment has no operator; `TooLarge` where a count or a size passes 32 bits; and `Memory`. What [`walrus_plan::prepare`] refuses
+/// comes before.
+pub fn write_prepared<'a>(
     alloc: Global,
-    parts: Parts<'_>,
+    parts: Parts<'a>,
     prepared: &Prepared,
+    customs: &'a [RawCustom<'a>],
+    choices: &Choices,
+) -> Result<Vec<u8>>
+    requires there { HasDead (parts_view parts) → ⊥ }
+    requires declared { NothingUndeclared (parts_view parts) }
+    requires planned { IsPrepared parts prepared.now }
+    ensures written { (c : Config) (v : Abstract) → IsWrittenWith c choices.now
+        → IsAsked parts.entry (index_of prepared.now.indices) (map custom_record customs.now) v
+        → IfOk result (λ bytes. IsEmitted c v bytes.items) }
+    ensures refused { (c : Config) (v : Abstract) → IsWrittenWith c choices.now
+        → IsAsked parts.entry (index_of prepared.now.indices) (map custom_record customs.now) v
+        → RefusesToWrite ⊥ c v (told result) }
+{
+    write_items(alloc, parts, prepared, customs, choices)
+}
+
+// The bytes of items that name nothing dead, in the order of their plan, by the indices that it gives.
+fn write_items<'a>(
+    alloc: Global,
+    parts: Parts<'a>,
+    prepared: &Prepared,
+    own: &'a [RawCustom<'a>],
     choices: &Choices,
 ) -> Result<Vec<u8>>
     requires there { HasDead (parts_view parts) → ⊥ }
     requires planned { IsPrepared parts prepared.now }
-    ensures spells { IfOk result (λ bytes. Spells parts.entry choices.now bytes.items) }
-    ensures refused { RefusesItems parts.entry choices.now result }
+    ensures spells { IfOk result (λ bytes. Spells parts.entry
+        (task choices.now (index_of prepared.now.indices) (map custom_record own.now)) bytes.items) }
+    ensures refused { RefusesItems parts.entry
+        (task choices.now (index_of prepared.now.indices) (map custom_record own.now)) result }
 {
     let indices = &prepared.indices;
     let order = prepared.plan.own_functions.as_slice();
@@ -118,8 +131,8 @@ fn write_prepared(
     let functions = raw_functions(alloc, parts, order, indices)?;
     let made = make(alloc, parts, order, indices, choices)?;
     let lent = &made;
+    let customs = raw_customs(alloc, own, &lent.payload)?;
     let code = raw_bodies(alloc, lent.bodies.as_slice())?;
-    let customs = raw_customs(alloc, &lent.payload)?;
     let imports = raw_imports(alloc, parts, indices)?;
     let tables = raw_tables(alloc, parts.tables, indices)?;
     let memories = raw_memories(alloc, parts.memories)?;
