@@ -23,7 +23,7 @@ use Rattle.walrus_rules.proofs.WellStays.{collected_well}
 use Rattle.walrus_rules.proofs.WritableParsed.{parsed_is_well}
 use Rattle.walrus_contents.specs.There.{IsSound}
 use Rattle.walrus_reading.specs.Parsed.{IsParsed}
-use Rattle.walrus_writing.specs.Emitted.{IsEmitted, told}
+use Rattle.walrus_writing.specs.Emitted.{EmittedAs, IsEmitted, told}
 use Rattle.walrus_module.specs.Flags.{Flags, config_of}
 use Rattle.walrus_module.specs.Left.{LeavesBy}
 use Rattle.walrus_parts.specs.declared.error.Error.{Error}
@@ -76,19 +76,21 @@ module _ (c : Config) (bytes : List ℕ) (v w : Abstract) (parsed : IsParsed c b
     are_fine = fine_so_far c bytes parsed.module_read v w u parsed.reads parsed.holds parsed.parsed collected leaves
 
     comes_to : (output : List ℕ) → IsEmitted c u output → ComesTo c bytes output
-    comes_to output emitted = record {
-      module_read = parsed.module_read;
-      reads = parsed.reads.reads;
-      holds = parsed.holds;
-      module_left = u;
-      brought = are_fine.brings;
-      module_written = emitted.module_written;
-      written = emitted.written;
-      spelled = emitted.spelled;
-      output_reads = emitted.reads are_fine.left.made are_fine.left.declared;
-      output_holds = emitted.holds are_fine.left.made are_fine.left.declared;
-      out = steps_come_out_lem c bytes parsed.module_read u emitted.module_written parsed.reads.reads parsed.holds are_fine.brings emitted.written;
-    }
+    comes_to output emitted =
+        let as_said : EmittedAs c u output = emitted are_fine.left.sayable in
+        record {
+          module_read = parsed.module_read;
+          reads = parsed.reads.reads;
+          holds = parsed.holds;
+          module_left = u;
+          brought = are_fine.brings;
+          module_written = as_said.module_written;
+          written = as_said.written;
+          spelled = as_said.spelled;
+          output_reads = as_said.reads are_fine.left.made are_fine.left.declared;
+          output_holds = as_said.holds are_fine.left.made are_fine.left.declared;
+          out = steps_come_out_lem c bytes parsed.module_read u as_said.module_written parsed.reads.reads parsed.holds are_fine.brings as_said.written;
+        }
 
     too_large : RefusesToWrite {X = List ℕ} ⊥ c u (told (Err error.TooLarge)) → ComesOutTooLarge c bytes
     too_large large = too_large_so_far c bytes parsed.module_read v w u parsed.reads parsed.holds parsed.parsed collected leaves large

@@ -17,7 +17,8 @@ use std::alloc::Global;
 use walrus_contents::{Parts, check_live, undeclared_functions};
 use walrus_items::{ElementItems, ElementKind};
 use walrus_parts::Result;
-use walrus_writing::write_parts;
+use walrus_plan::prepare;
+use walrus_writing::write_prepared;
 
 impl Module {
     /// The module's bytes. The module gets one element segment, unnamed and behind all others, that declares the functions that `ref.func`
@@ -27,7 +28,7 @@ impl Module {
     /// # Errors
     ///
     /// Each with a cause of its own: `DeadItem` where an item or a local is named that isn't there, or a function has neither an import nor a
-    /// body; then no segment is added. Behind that those of [`write_parts`]: `TwoIndices` where an import names an item that the module defines,
+    /// body; then no segment is added. Behind that those of [`prepare`] and [`write_prepared`]: `TwoIndices` where an import names an item that the module defines,
     /// or two imports name one; `NoIndex` where an item says to be brought by an import that isn't there or names another item, or an initialiser
     /// or a type names what gets its index later; `NotWritable` where no bytes spell a body, a type, an initialiser or a segment; `TooLarge` where
     /// a count or a size passes 32 bits. And `Memory`.
@@ -43,7 +44,10 @@ impl Module {
         check_live(alloc, self.parts())?;
         self.declare_references(alloc)?;
         let choices = self.config.choices();
-        write_parts(alloc, self.parts(), &choices)
+        let parts = self.parts();
+        let prepared = prepare(alloc, parts)?;
+        let customs = Vec::new(alloc);
+        write_prepared(alloc, parts, &prepared, customs.as_slice(), &choices)
     }
 
     // Adds the segment that declares what `ref.func` names and nothing declares, if there is any such function. Want of memory is the only
