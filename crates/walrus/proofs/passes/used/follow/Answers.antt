@@ -6,7 +6,7 @@ use Rattle.walrus.specs.Marked.{ReachesUnsound}
 use Rattle.walrus_contents.specs.Named.{NamesItself}
 use Rattle.walrus_contents.specs.View.{parts_view}
 use Rattle.walrus_contents.specs.There.{IsSound}
-use Rattle.walrus.proofs.Followed.{follows_more, found_all, unsound_by}
+use Rattle.walrus.proofs.Followed.{follows_more, found_all, keeps_taken, taken_in, unsound_by}
 use Rattle.walrus_contents.proofs.NamedLemmas.{refusal_map}
 use Rattle.walrus.proofs.passes.used.follow.Goals as goal
 use Rattle.walrus.proofs.passes.used.follow.Goals.{else-loop-turn-test, then-loop-turn-test+in_default}
@@ -38,3 +38,9 @@ returns c =
       | else-loop-turn-test w ↦ rw (w.list-is) (found_all v list c.loop-turn.invariant.0 (omega (arith, c.loop-turn.invariant.1, list.entered.ok.1, list.entered.small)))
       | then-loop-turn-test+in_default w ↦ rw (w.list-is, w.in_default.ensures.1) (found_all v list c.loop-turn.invariant.0 (omega (arith, w.in_default.ensures.0)))
     ]
+
+pub follow_item-requires-clause-live : goal.follow_item-requires-clause-live
+follow_item-requires-clause-live c = c.loop-turn.invariant.0.kept.live (item_of c.in-Some.item) (taken_in (item_of c.in-Some.item) c.loop-turn.list c.take.new.self c.in-Some.ensures)
+
+pub follow_item-requires-clause-kept : goal.follow_item-requires-clause-kept
+follow_item-requires-clause-kept c = keeps_taken (item_of c.in-Some.item) c.loop-turn.list c.take.new.self c.in-Some.ensures (parts_view c.args.parts) c.loop-turn.invariant.0.kept
