@@ -5,7 +5,7 @@ use std::alloc::Global;
 use std::test::Fail;
 use test_support::{add_bytes, demand};
 use walrus::{Error, Module, ModuleConfig};
-use walrus_test_support::is_written;
+use walrus_test_support::is_output;
 
 const EMPTY: &str = "00 61 73 6D 01 00 00 00";
 
@@ -31,7 +31,7 @@ fn puts_in(alloc: Global) -> bool {
     };
     module.producers.add_sdk("a", "3").is_ok()
         && module.producers.fields().len() == 3
-        && is_written(alloc, &mut module, PUT_IN)
+        && is_output(alloc, module.emit_wasm(alloc), PUT_IN)
 }
 
 #[test]
@@ -42,7 +42,7 @@ fn a_value_goes_into_the_first_field(rt: HostRuntime) -> Result<(), Fail> {
 fn leaves_out(alloc: Global) -> bool {
     match read(alloc, false) {
         Ok(mut module) => {
-            module.producers.fields().len() == 3 && is_written(alloc, &mut module, EMPTY)
+            module.producers.fields().len() == 3 && is_output(alloc, module.emit_wasm(alloc), EMPTY)
         }
         Err(_) => false,
     }

@@ -1,6 +1,6 @@
 //! Data segments of a module that a program edits: which of them gc keeps, what is found dead, and what is written.
 
-use crate::made::bare_module;
+use crate::made::{bare_module, leaves};
 use std::alloc::Global;
 use std::test::Fail;
 use test_support::demand;
@@ -9,7 +9,7 @@ use walrus::{
     Arg, Args, ConstExpr, DataId, DataKind, Error, ExportItem, FunctionBuilder, MemoryId, Module,
     Operator, Value,
 };
-use walrus_test_support::{is_written, leaves};
+use walrus_test_support::is_output;
 
 const EMPTY: &str = "00 61 73 6D 01 00 00 00";
 
@@ -58,7 +58,7 @@ fn active_stays(alloc: Global) -> bool {
     let Ok((mut module, _memory)) = with_active(alloc) else {
         return false;
     };
-    is_written(alloc, &mut module, ACTIVE) && leaves(alloc, &mut module, ACTIVE)
+    is_output(alloc, module.emit_wasm(alloc), ACTIVE) && leaves(alloc, &mut module, ACTIVE)
 }
 
 #[test]
@@ -76,7 +76,7 @@ fn passive_goes(alloc: Global) -> bool {
     let Ok(mut module) = with_passive(alloc) else {
         return false;
     };
-    is_written(alloc, &mut module, PASSIVE) && leaves(alloc, &mut module, EMPTY)
+    is_output(alloc, module.emit_wasm(alloc), PASSIVE) && leaves(alloc, &mut module, EMPTY)
 }
 
 #[test]
@@ -162,7 +162,7 @@ fn dead_in_set_is_found(alloc: Global) -> bool {
     }
     module.data_.delete(segment);
     matches!(gc::run(alloc, &mut module), Err(Error::DeadItem))
-        && is_written(alloc, &mut module, EXPORTED)
+        && is_output(alloc, module.emit_wasm(alloc), EXPORTED)
 }
 
 #[test]

@@ -6,7 +6,7 @@ use std::test::Fail;
 use test_support::demand;
 use walrus::passes::{Used, gc};
 use walrus::{Error, ExportItem, FunctionId, FunctionKind, Module};
-use walrus_test_support::{add_function, is_written};
+use walrus_test_support::{add_function, is_output};
 
 // What is left of the module where nothing is exported: the function that nothing reaches.
 const UNREACHED: &str = "00 61 73 6D 01 00 00 00 01 04 01 60 00 00 03 02 01 00 0A 04 01 02 00 0B";
@@ -57,7 +57,7 @@ fn leaves_the_other(alloc: Global, module: &mut Module) -> bool {
     if module.exports.remove("f").is_err() {
         return false;
     }
-    is_written(alloc, module, UNREACHED)
+    is_output(alloc, module.emit_wasm(alloc), UNREACHED)
 }
 
 fn deleted_is_found(alloc: Global) -> bool {

@@ -6,7 +6,7 @@ use std::test::Fail;
 use test_support::demand;
 use walrus::passes::gc;
 use walrus::{Error, FunctionId, Module};
-use walrus_test_support::{add_function, is_written};
+use walrus_test_support::{add_function, is_output};
 
 // One function, the start function.
 const ONE_START: &str =
@@ -29,7 +29,7 @@ fn start_stays(alloc: Global) -> bool {
     if gc::run(alloc, &mut module).is_err() {
         return false;
     }
-    is_written(alloc, &mut module, ONE_START)
+    is_output(alloc, module.emit_wasm(alloc), ONE_START)
         && module.start == Some(start)
         && module.funcs.contains(start)
         && !module.funcs.contains(other)

@@ -1,6 +1,6 @@
 //! Modules that a program has edited: what gc and emission answer then, mostly that they can't be written.
 
-use crate::made::bare_module;
+use crate::made::{bare_module, leaves};
 use std::alloc::Global;
 use std::mem::swap;
 use std::test::Fail;
@@ -10,7 +10,7 @@ use walrus::{
     AbstractHeapType, ConstExpr, Error, ExportItem, FunctionBuilder, FunctionId, GlobalId,
     GlobalKind, HeapType, ImportKind, Module, ModuleConfig, RefType, ValType, Value,
 };
-use walrus_test_support::{is_written, leaves, reference};
+use walrus_test_support::{is_output, reference};
 
 // What emission refuses with before gc and behind it, where gc passes.
 fn refusals(alloc: Global, edited: Result<Module, Error>) -> Option<(Error, Error)> {
@@ -164,7 +164,7 @@ fn is_written_behind_gc(alloc: Global, edited: Result<Module, Error>) -> bool {
     };
     let before = matches!(module.emit_wasm(alloc), Err(Error::NoIndex));
     let kept = gc::run(alloc, &mut module).is_ok();
-    before && kept && is_written(alloc, &mut module, "00 61 73 6D 01 00 00 00")
+    before && kept && is_output(alloc, module.emit_wasm(alloc), "00 61 73 6D 01 00 00 00")
 }
 
 // An imported function that is exported, and which another import names than the one that it says.

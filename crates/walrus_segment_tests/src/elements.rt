@@ -1,7 +1,7 @@
 //! Element segments of a module that a program edits: which of them gc keeps, what is found dead, what they declare, and with which
 //! flag they are written.
 
-use crate::made::bare_module;
+use crate::made::{bare_module, leaves};
 use std::alloc::Global;
 use std::test::Fail;
 use test_support::demand;
@@ -10,7 +10,7 @@ use walrus::{
     AbstractHeapType, Arg, Args, ConstExpr, ElementId, ElementItems, ElementKind, Error,
     ExportItem, FunctionBuilder, FunctionId, Module, Operator, RefType, TableId, Value,
 };
-use walrus_test_support::{add_function, is_written, leaves, listed, reference};
+use walrus_test_support::{add_function, is_output, listed, reference};
 
 const EMPTY: &str = "00 61 73 6D 01 00 00 00";
 
@@ -84,7 +84,7 @@ fn active_stays(alloc: Global) -> bool {
     let Ok((mut module, _table)) = with_active(alloc) else {
         return false;
     };
-    is_written(alloc, &mut module, ACTIVE) && leaves(alloc, &mut module, ACTIVE)
+    is_output(alloc, module.emit_wasm(alloc), ACTIVE) && leaves(alloc, &mut module, ACTIVE)
 }
 
 #[test]
@@ -104,7 +104,7 @@ fn passive_goes(alloc: Global) -> bool {
     let Ok(mut module) = with_kind(alloc, ElementKind::Passive) else {
         return false;
     };
-    is_written(alloc, &mut module, PASSIVE) && leaves(alloc, &mut module, EMPTY)
+    is_output(alloc, module.emit_wasm(alloc), PASSIVE) && leaves(alloc, &mut module, EMPTY)
 }
 
 #[test]
@@ -116,7 +116,7 @@ fn declared_stays(alloc: Global) -> bool {
     let Ok(mut module) = with_kind(alloc, ElementKind::Declared) else {
         return false;
     };
-    is_written(alloc, &mut module, DECLARED) && leaves(alloc, &mut module, DECLARED)
+    is_output(alloc, module.emit_wasm(alloc), DECLARED) && leaves(alloc, &mut module, DECLARED)
 }
 
 #[test]
@@ -182,7 +182,7 @@ fn with_other_type(alloc: Global) -> Result<Module, Error> {
 
 fn by_expression(alloc: Global) -> bool {
     match with_expression(alloc) {
-        Ok(mut module) => is_written(alloc, &mut module, BY_EXPRESSION),
+        Ok(mut module) => is_output(alloc, module.emit_wasm(alloc), BY_EXPRESSION),
         Err(_) => false,
     }
 }
@@ -194,7 +194,7 @@ fn expressions_of_functions_leave_the_table_out(rt: HostRuntime) -> Result<(), F
 
 fn in_wide_table(alloc: Global) -> bool {
     match with_wide_table(alloc) {
-        Ok(mut module) => is_written(alloc, &mut module, IN_WIDE_TABLE),
+        Ok(mut module) => is_output(alloc, module.emit_wasm(alloc), IN_WIDE_TABLE),
         Err(_) => false,
     }
 }
@@ -206,7 +206,7 @@ fn a_table_with_wide_indices_is_named(rt: HostRuntime) -> Result<(), Fail> {
 
 fn of_other_type(alloc: Global) -> bool {
     match with_other_type(alloc) {
-        Ok(mut module) => is_written(alloc, &mut module, OF_OTHER_TYPE),
+        Ok(mut module) => is_output(alloc, module.emit_wasm(alloc), OF_OTHER_TYPE),
         Err(_) => false,
     }
 }
@@ -271,7 +271,7 @@ fn dead_in_set_is_found(alloc: Global) -> bool {
     }
     module.elements.delete(segment);
     matches!(gc::run(alloc, &mut module), Err(Error::DeadItem))
-        && is_written(alloc, &mut module, WITHOUT_SEGMENT)
+        && is_output(alloc, module.emit_wasm(alloc), WITHOUT_SEGMENT)
 }
 
 #[test]
@@ -352,7 +352,7 @@ fn deleted_is_found(alloc: Global) -> bool {
     module.elements.delete(segment);
     matches!(gc::run(alloc, &mut module), Err(Error::DeadItem))
         && has_entered(&module, table, segment)
-        && is_written(alloc, &mut module, WITHOUT_SEGMENT)
+        && is_output(alloc, module.emit_wasm(alloc), WITHOUT_SEGMENT)
 }
 
 #[test]
@@ -389,9 +389,9 @@ fn declares_once(alloc: Global) -> bool {
     let Ok((mut module, _other)) = with_reference(alloc) else {
         return false;
     };
-    is_written(alloc, &mut module, REFERRED)
+    is_output(alloc, module.emit_wasm(alloc), REFERRED)
         && module.elements.len() == 1
-        && is_written(alloc, &mut module, REFERRED)
+        && is_output(alloc, module.emit_wasm(alloc), REFERRED)
         && module.elements.len() == 1
 }
 
@@ -402,7 +402,7 @@ fn emission_declares_a_reference(rt: HostRuntime) -> Result<(), Fail> {
 
 fn declared_before(alloc: Global) -> bool {
     match with_declaration(alloc) {
-        Ok(mut module) => is_written(alloc, &mut module, REFERRED),
+        Ok(mut module) => is_output(alloc, module.emit_wasm(alloc), REFERRED),
         Err(_) => false,
     }
 }

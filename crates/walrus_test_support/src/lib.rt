@@ -1,6 +1,6 @@
-//! What tests of modules that a program edits are written with: functions and references to add, and whether a module is written so.
+//! What tests of modules that a program edits are written with: functions and references to add, and whether emission answered so.
 #![tactic(auto)]
 
 mod modules;
 
-pub use modules::{add_function, is_written, leaves, listed, reference};
+pub use modules::{add_function, is_output, listed, reference};

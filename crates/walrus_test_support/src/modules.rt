@@ -1,8 +1,7 @@
-//! Adding to a module, and looking at what it is written as.
+//! Adding to a module, and looking at what emission answered.
 
 use std::alloc::Global;
 use test_support::are;
-use walrus::passes::gc;
 use walrus::{
     AbstractHeapType, ElementItems, Error, FunctionBuilder, FunctionId, HeapType, Module, RefType,
 };
@@ -29,15 +28,10 @@ pub fn listed(alloc: Global, function: FunctionId) -> Result<ElementItems, Error
     Ok(ElementItems::Functions(functions))
 }
 
-/// Whether the module is written as these bytes, each in two hexadecimal digits.
-pub fn is_written(alloc: Global, module: &mut Module, expected: &str) -> bool {
-    match module.emit_wasm(alloc) {
+/// Whether emission answered with these bytes, each in two hexadecimal digits.
+pub fn is_output(alloc: Global, emitted: Result<Vec<u8>, Error>, expected: &str) -> bool {
+    match emitted {
         Ok(bytes) => are(alloc, &bytes, expected),
         Err(_) => false,
     }
-}
-
-/// Whether gc passes, and leaves what is written so.
-pub fn leaves(alloc: Global, module: &mut Module, expected: &str) -> bool {
-    gc::run(alloc, module).is_ok() && is_written(alloc, module, expected)
 }
