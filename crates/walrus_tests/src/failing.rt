@@ -1,6 +1,6 @@
 //! Devices that fail in mid-stream.
 
-use crate::devices::{Narrow, Outcome, Trickle, ended, refused};
+use crate::devices::{Narrow, Outcome, Trickle, add_words, ended, refused};
 use std::alloc::Global;
 use std::test::Fail;
 use test_support::{add_bytes, are, demand};
@@ -108,11 +108,17 @@ fn a_write_that_fails(rt: HostRuntime) -> Result<(), Fail> {
 }
 
 // The status of a run that can't tell anything.
-fn untold_status(alloc: Global, input: &[u8], fails: bool, output: &mut Narrow) -> u8 {
+fn untold_status(
+    alloc: Global,
+    words: &[String],
+    input: &[u8],
+    fails: bool,
+    output: &mut Narrow,
+) -> u8 {
     let mut errors = Narrow::new(alloc, 0, true);
     command(
         alloc,
-        &[],
+        words,
         &mut FromRead::new(Trickle { left: input, fails }),
         &mut FromWrite::new(output),
         &mut FromWrite::new(&mut errors),
@@ -120,19 +126,22 @@ fn untold_status(alloc: Global, input: &[u8], fails: bool, output: &mut Narrow) 
 }
 
 // Whether a run writes the output, and a second one, whose refusal can't be told, has the same status and writes nothing.
-fn writes_once(alloc: Global, input: &[u8]) -> bool {
+fn writes_once(alloc: Global, words: &[String], input: &[u8]) -> bool {
     let mut output = Narrow::new(alloc, 1000, true);
-    untold_status(alloc, input, false, &mut output) == 0
+    untold_status(alloc, words, input, false, &mut output) == 0
         && are(alloc, &output.taken, OUTPUT)
-        && untold_status(alloc, input, true, &mut output) == 1
+        && untold_status(alloc, words, input, true, &mut output) == 1
         && are(alloc, &output.taken, OUTPUT)
 }
 
 #[test]
 fn one_byte_at_a_time(rt: HostRuntime) -> Result<(), Fail> {
     let mut input = Vec::new(rt.alloc());
+    let mut words = Vec::new(rt.alloc());
     demand(
-        add_bytes(&mut input, INPUT) && writes_once(rt.alloc(), &input),
+        add_bytes(&mut input, INPUT)
+            && add_words(rt.alloc(), &mut words, "--no-producers")
+            && writes_once(rt.alloc(), &words, &input),
         "one byte at a time",
     )
 }
