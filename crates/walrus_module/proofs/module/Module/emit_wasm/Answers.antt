@@ -1,4 +1,4 @@
-use Rattle.std.proofs.Common.{◌≡◌, ℕ, List, [], map, refl, false, sym, ap, ◌∙◌, subst}
+use Rattle.std.proofs.Common.{◌≡◌, ℕ, List, [], map, refl, false, sym, ap, ◌∙◌, subst, inr}
 use Rattle.std.specs.Prelude.{All, Err, IfOk}
 use Rattle.std.specs.Global.{Vec}
 use Rattle.std.specs.Str.{IsUtf8}
@@ -6,6 +6,7 @@ use Rattle.std.proofs.lemmas.List.Elements.{All-nil}
 use Rattle.std.proofs.lemmas.Result.{err_from_is_err_and}
 use Rattle.wasm_frames.specs.Record.{Custom, custom_record}
 use Rattle.walrus_code.specs.Names.{Lookup}
+use Rattle.walrus_contents.specs.There.{IsRefusal}
 use Rattle.walrus_contents.specs.View.{parts_view}
 use Rattle.walrus_contents.specs.declared.parts.Parts.{Parts}
 use Rattle.walrus_model.specs.Sections.{custom_of}
@@ -21,7 +22,7 @@ use Rattle.walrus_writing.proofs.RefusesAll.{plan_refused_of}
 use Rattle.walrus_module.specs.Flags.{Flags, choices_of, config_of}
 use Rattle.walrus_module.specs.Settings.{settings}
 use Rattle.walrus_module.specs.View.{view}
-use Rattle.walrus_module.proofs.Declaring.{leaves_none_dead, leaves_nothing, written_leaves}
+use Rattle.walrus_module.proofs.Declaring.{dead_refused, leaves_none_dead, leaves_nothing, written_leaves}
 use Rattle.walrus_module.proofs.module.Module.emit_wasm.Goals as goal
 
 -- what the configuration comes to, which writes no names so far
@@ -31,6 +32,18 @@ written_with c choices are no_names = record {
   no_names = no_names;
   producers_are = ap (λ (x : Choices). x.producers) are;
 }
+
+pub returns-in_err-check_live-clause-refused : goal.returns-in_err-check_live-clause-refused
+returns-in_err-check_live-clause-refused g c =
+    let config = config_of (settings c.args.self.now) in
+    let p = err_from_is_err_and c.from_residual.result c.from_residual.ensures.1 in
+    rw (p.1, p.2) (dead_refused (Vec ℕ) config (view c.args.self.now) c.in_err-check_live.field-0.0
+    (subst (λ (v : Abstract). IsRefusal (HasDead v) c.in_err-check_live.field-0.0) c.parts.ensures c.in_err-check_live.ensures))
+
+pub returns-in_err-declare_references-clause-left : goal.returns-in_err-declare_references-clause-left
+returns-in_err-declare_references-clause-left g c =
+    let p = err_from_is_err_and c.from_residual-in_err-declare_references.result c.from_residual-in_err-declare_references.ensures.1 in
+    rw (p.1, p.2, c.in_err-declare_references.ensures.fails) (inr c.in_err-declare_references.ensures.unchanged)
 
 -- the module as emission leaves it, seen by its parts, names nothing dead
 pub prepare-requires : goal.prepare-requires
@@ -55,8 +68,8 @@ pub returns-in_err-prepared-clause-refused : goal.returns-in_err-prepared-clause
 returns-in_err-prepared-clause-refused g c =
     let config = config_of (settings c.args.self.now) in
     let p = err_from_is_err_and c.from_residual-in_err-prepared.result c.from_residual-in_err-prepared.ensures.1 in
-    rw (p.1, p.2) (subst (λ (v : Abstract). RefusesToWrite {X = Vec ℕ} ⊥ config v (told (Err _))) c.parts-parts.ensures
-    (plan_refused_of (Vec ℕ) config c.parts-parts.result (parts_view c.parts-parts.result) refl _ c.in_err-prepared.ensures.refused))
+    rw (p.1, p.2) (subst (λ (v : Abstract). RefusesToWrite {X = Vec ℕ} ⊥ config v (told (Err c.in_err-prepared.field-0.0))) c.parts-parts.ensures
+    (plan_refused_of (Vec ℕ) config c.parts-parts.result (parts_view c.parts-parts.result) refl c.in_err-prepared.field-0.0 c.in_err-prepared.ensures.refused))
 
 pub returns-in_err-prepared-clause-left : goal.returns-in_err-prepared-clause-left
 returns-in_err-prepared-clause-left g c =
