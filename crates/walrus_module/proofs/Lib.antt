@@ -1,3 +1,4 @@
 pub mod Found
 pub mod RawLemmas
+pub mod Asking
 pub mod Declaring

@@ -16,7 +16,7 @@ use crate::module::Module;
 use std::alloc::Global;
 use walrus_contents::{Parts, check_live, undeclared_functions};
 use walrus_items::{ElementItems, ElementKind};
-use walrus_parts::Result;
+use walrus_parts::{CustomSection, Result};
 use walrus_plan::prepare;
 use walrus_writing::write_prepared;
 
@@ -33,13 +33,13 @@ impl Module {
     /// or a type names what gets its index later; `NotWritable` where no bytes spell a body, a type, an initialiser or a segment; `TooLarge` where
     /// a count or a size passes 32 bits. And `Memory`.
     pub fn emit_wasm(&mut self, alloc: Global) -> Result<Vec<u8>>
-        ensures left { LeavesBy (view self.old) (view self.new) (told result) }
+        ensures left { LeavesBy (view ⟦<dyn CustomSection as CustomSection>⟧ self.old) (view ⟦<dyn CustomSection as CustomSection>⟧ self.new) (told result) }
         ensures segments { AddsDeclared (elements self.old.elements) (elements self.new.elements) }
         ensures others { ChangesElements self.old self.new }
-        ensures settled { NothingUndeclared (view self.old) → self.new ≡ self.old }
+        ensures settled { NothingUndeclared (view ⟦<dyn CustomSection as CustomSection>⟧ self.old) → self.new ≡ self.old }
         ensures emitted { IfOk result (λ bytes. IsEmitted (config_of (settings self.old))
-            (view self.new) bytes.items) }
-        ensures refused { RefusesToWrite ⊥ (config_of (settings self.old)) (view self.new) (told result) }
+            (view ⟦<dyn CustomSection as CustomSection>⟧ self.new) bytes.items) }
+        ensures refused { RefusesToWrite ⊥ (config_of (settings self.old)) (view ⟦<dyn CustomSection as CustomSection>⟧ self.new) (told result) }
     {
         check_live(alloc, self.parts())?;
         self.declare_references(alloc)?;
@@ -53,11 +53,11 @@ impl Module {
     // Adds the segment that declares what `ref.func` names and nothing declares, if there is any such function. Want of memory is the only
     // refusal; then the module stays as it is.
     fn declare_references(&mut self, alloc: Global) -> Result<()>
-        ensures left { OnOk result (Leaves (view self.old) (view self.new)) }
+        ensures left { OnOk result (Leaves (view ⟦<dyn CustomSection as CustomSection>⟧ self.old) (view ⟦<dyn CustomSection as CustomSection>⟧ self.new)) }
         ensures segments { AddsDeclared (elements self.old.elements) (elements self.new.elements) }
         ensures others { ChangesElements self.old self.new }
-        ensures settled { NothingUndeclared (view self.old) → self.new ≡ self.old }
-        ensures unchanged { OnErr result (view self.new ≡ view self.old) }
+        ensures settled { NothingUndeclared (view ⟦<dyn CustomSection as CustomSection>⟧ self.old) → self.new ≡ self.old }
+        ensures unchanged { OnErr result (view ⟦<dyn CustomSection as CustomSection>⟧ self.new ≡ view ⟦<dyn CustomSection as CustomSection>⟧ self.old) }
         ensures fails { IsOkUnless result out_of_memory }
     {
         let functions = undeclared_functions(alloc, self.parts())?;
@@ -71,7 +71,7 @@ impl Module {
 
     // The parts of which the module's sections are written.
     fn parts(&self) -> Parts<'_>
-        ensures { parts_view result ≡ view self.now }
+        ensures { parts_view result ≡ view ⟦<dyn CustomSection as CustomSection>⟧ self.now }
     {
         Parts {
             types: &self.types,
