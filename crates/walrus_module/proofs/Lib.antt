@@ -2,3 +2,4 @@ pub mod Found
 pub mod RawLemmas
 pub mod Asking
 pub mod Declaring
+pub mod OwnSections

@@ -1,5 +1,6 @@
 -- Which custom sections are asked for their data when a module is written, and which refusals come of that ("Binary Format > Custom Section").
 use Rattle.std.specs.Prelude.{ℕ, Bool, true, false, not, ◌||◌, List, Contains, bytes_eq, codes, filter, ◌≡◌, ⊤}
+use Rattle.std.specs.Str.{IsUtf8}
 use Rattle.wasm_frames.specs.Record as wire
 use Rattle.walrus_code.specs.Names.{Lookup}
 use Rattle.walrus_model.specs.Customs.{is_debug_name}
@@ -18,6 +19,10 @@ bytes_seen (Made bytes) = bytes.items
 
 abbrev pub section_seen : AskedSection → wire.Custom
 section_seen s = record { name = s.name.now; bytes = bytes_seen s.data }
+
+-- its name is text
+abbrev pub IsText : AskedSection → Type 0
+IsText s = IsUtf8 s.name.now
 
 -- what it says where items have these indices
 abbrev pub section_under : Lookup → Meaning → wire.Custom

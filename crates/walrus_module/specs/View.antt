@@ -32,6 +32,10 @@ module _ {V : Type 0} {O : V → Type 0} where
     name = m.name;
   }
 
+  -- the module of that
+  abbrev pub held_view : Module V O → Abstract
+  held_view m = contents_view (contents_of m)
+
   -- its custom sections, by their ids
   abbrev pub customs_of : Module V O → List (SectionEntry V O)
   customs_of m = items (sections m.customs)
@@ -69,4 +73,4 @@ module _ {V : Type 0} {O : V → Type 0} (G : (v : V) → Ghosts (O v)) where
   meanings m = map (meaning G) (customs_of m)
 
   abbrev pub view : Module V O → Abstract
-  view m = record (contents_view (contents_of m)) { customs = map custom_of (meanings m); section_roots = kept_by (meanings m) }
+  view m = record (held_view m) { customs = map custom_of (meanings m); section_roots = kept_by (meanings m) }

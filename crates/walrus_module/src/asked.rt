@@ -1,7 +1,7 @@
 //! What the custom sections of a module are asked: for what they keep, and for their data when the module is written
 //! ("Binary Format > Custom Section").
 
-ghost use Rattle.std.specs.Prelude.{◌≡◌, ◌++◌, IfErr, IfOk, IsOkUnless, OnOk, map};
+ghost use Rattle.std.specs.Prelude.{◌≡◌, ◌++◌, All, IfErr, IfOk, IsOkUnless, OnOk, map};
 ghost use Rattle.wasm_frames.specs.Record.{custom_record};
 ghost use Rattle.walrus_base.specs.Arena.{items};
 ghost use Rattle.walrus_code.specs.Indices.{index_of};
@@ -81,12 +81,13 @@ fn is_in_turn(name: &str, first: bool) -> bool
 }
 
 impl SectionEntry {
-    ghost use Rattle.walrus_module.specs.Asked.{section_under};
+    ghost use Rattle.walrus_module.specs.Asked.{IsText, section_under};
     ghost use Rattle.walrus_module.specs.Meaning.{meaning};
     ghost use Rattle.walrus_parts.specs.Section.{FailsAsSection};
 
     // The section where items have these indices, its data lent where it is kept as it was read.
     fn asked(&self, indices: &IdsToIndices) -> Result<AskedSection<'_>>
+        ensures text { IfOk result IsText }
         ensures value { IfOk result (λ section. section_seen section ≡ section_under (index_of indices.now)
             (meaning ⟦<dyn CustomSection as CustomSection>⟧ self.now)) }
         ensures fails { FailsAsSection (meaning ⟦<dyn CustomSection as CustomSection>⟧ self.now).may_refuse
@@ -104,7 +105,7 @@ impl SectionEntry {
 }
 
 impl ModuleCustomSections {
-    ghost use Rattle.walrus_module.specs.Asked.{IsRefusedBy, OneAskedMayRefuse, OneMayRefuse, in_turn, section_under};
+    ghost use Rattle.walrus_module.specs.Asked.{IsRefusedBy, IsText, OneAskedMayRefuse, OneMayRefuse, in_turn, section_under};
     ghost use Rattle.walrus_module.specs.Customs.{sections};
     ghost use Rattle.walrus_module.specs.Meaning.{Meaning, meaning};
     ghost use Rattle.walrus_parts.specs.Roots.{with_roots};
@@ -152,7 +153,7 @@ impl Module {
     ghost use Rattle.std.specs.Prelude.{flat_map};
     ghost use Rattle.walrus_model.specs.Customs.{written_customs};
     ghost use Rattle.walrus_model.specs.Sections.{custom_of};
-    ghost use Rattle.walrus_module.specs.Asked.{IsRefusedBy, OneAskedMayRefuse, OneMayRefuse};
+    ghost use Rattle.walrus_module.specs.Asked.{IsRefusedBy, IsText, OneAskedMayRefuse, OneMayRefuse};
     ghost use Rattle.walrus_module.specs.Meaning.{Meaning};
     ghost use Rattle.walrus_module.specs.View.{meanings, view};
     ghost use Rattle.walrus_parts.specs.Roots.{no_roots, with_roots};
@@ -167,6 +168,7 @@ impl Module {
         ensures value { IfOk result (λ all. map custom_of (map section_seen all.items)
             ≡ written_customs (λ x. index_of indices.now x.0 x.1)
             (view ⟦<dyn CustomSection as CustomSection>⟧ self.now).customs) }
+        ensures texts { IfOk result (λ all. All IsText all.items) }
         ensures fails { IfErr result (IsRefusedBy (OneAskedMayRefuse
             (meanings ⟦<dyn CustomSection as CustomSection>⟧ self.now))) }
     {
