@@ -1,4 +1,4 @@
--- The segment that declares what `ref.func` names: what a module is left as with it, and what emission answers then.
+-- The segment that declares what `ref.func` names: what a module is left as with it.
 use Rattle.std.proofs.Common.{◌≡◌, ℕ, zero, suc, ◌<◌, false, true, List, [], ◌∷◌, ◌++◌, map, length, refl, sym, ap, ◌∙◌, subst, arith, inl, ⊎_elim}
 use mathlib.Core.Path.{fun_ext}
 use Rattle.std.specs.Prelude.{Option, Some, None, IsSome, option_map, Contains, OnErr, Result, Ok, Err}
@@ -8,16 +8,12 @@ use Rattle.walrus_base.specs.Id.{place}
 use Rattle.walrus_base.specs.declared.id.Id.{Id}
 use Rattle.walrus_base.specs.declared.keys.FunctionKey.{FunctionKey}
 use Rattle.walrus_types.specs.Operators.{Types, Functions, Tables, Memories, Tags, Globals, Elements, DataSegments, Item, function_item}
-use Rattle.walrus_parts.specs.declared.error.Error.{Error}
-use Rattle.walrus_parts.specs.declared.error.Error.TheVariants as error
 use Rattle.walrus_parts.specs.declared.segments.ElementItems.TheVariants as element_contents
 use Rattle.walrus_parts.specs.declared.segments.ElementKind.TheVariants as element_kinds
 use Rattle.walrus_items.specs.Elements.{ElementValue, ModuleElements, elements as elements_in}
-use Rattle.walrus_contents.specs.There.{IsRefusal}
 use Rattle.walrus_contents.specs.View.{contents_view, element_of, name_at, named_of}
 use Rattle.walrus_contents.specs.declared.parts.Contents.{Contents}
 use Rattle.walrus_model.specs.Abstract.{Abstract, TheModule, AnItem, ALocal, Element, Name, Subject}
-use Rattle.walrus_model.specs.Config.{Config}
 use Rattle.walrus_model.specs.Dead.{HasDead}
 use Rattle.walrus_model.specs.Declared.{AreUndeclared, NothingUndeclared}
 use Rattle.walrus_model.specs.Live.{IsLive}
@@ -27,11 +23,9 @@ use Rattle.walrus_model.proofs.Lists.{Contains-head}
 use Rattle.walrus_model.proofs.Living.{AllLive, all_live, none_dead}
 use Rattle.walrus_model.proofs.PipelineOps.{from_map}
 use Rattle.walrus_rules.specs.Chain.{AddsSegment, HasSegment, Leaves}
-use Rattle.walrus_rules.specs.Refused.{Refusal, Memory, DeadItem, NoIndex, TwoIndices, TooLarge, NotWritable, Caller, Another, RefusesToWrite}
 use Rattle.walrus_rules.proofs.SegmentStep.{live_too, live_undeclared, the_segment}
 use Rattle.walrus_rules.proofs.StepLeaves.{Between, between, is_segment, nothing_undeclared}
-use Rattle.walrus_writing.specs.Emitted.{told}
-use Rattle.walrus_module.specs.Left.{AddsDeclared, AndOne, LeavesBy}
+use Rattle.walrus_module.specs.Left.{AddsDeclared, AndOne}
 
 -- ---- slots with one more behind
 
@@ -200,23 +194,3 @@ module _ (v u : Abstract) (leaves : Leaves v u) where
 
   pub leaves_nothing : NothingUndeclared u
   leaves_nothing = subst NothingUndeclared (sym (between v u leaves).same) (nothing_undeclared v u.elements leaves.functions stands_between leaves.undeclared)
-
--- ---- what emission answers
-
--- something is named that isn't there
-pub dead_refused : (X : Type 0) (c : Config) (v : Abstract) (e : Error) → IsRefusal (HasDead v) e → RefusesToWrite {X = X} ⊥ c v (told {X = X} (Err e))
-dead_refused X c v (error.Memory m) r = tt
-dead_refused X c v error.DeadItem r = r
-dead_refused X c v _ r = absurd r
-
--- what is written, or refused for another cause, has the segment
-pub written_leaves : {X : Type 0} (c : Config) (v u : Abstract) (result : Result X Refusal) → Leaves v u → (HasDead u → ⊥) → RefusesToWrite ⊥ c u result → LeavesBy v u result
-written_leaves c v u (Ok x) leaves alive r = leaves
-written_leaves c v u (Err Memory) leaves alive r = inl leaves
-written_leaves c v u (Err DeadItem) leaves alive r = absurd (alive r)
-written_leaves c v u (Err TwoIndices) leaves alive r = leaves
-written_leaves c v u (Err NoIndex) leaves alive r = leaves
-written_leaves c v u (Err NotWritable) leaves alive r = leaves
-written_leaves c v u (Err TooLarge) leaves alive r = leaves
-written_leaves c v u (Err Caller) leaves alive r = leaves
-written_leaves c v u (Err Another) leaves alive r = leaves

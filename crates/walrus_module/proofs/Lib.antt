@@ -1,3 +1,5 @@
 pub mod Found
 pub mod RawLemmas
+pub mod Asking
 pub mod Declaring
+pub mod OwnSections

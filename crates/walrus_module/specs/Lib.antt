@@ -1,3 +1,4 @@
+pub mod Asked
 pub mod Customs
 pub mod Entry
 pub mod Flags

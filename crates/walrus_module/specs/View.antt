@@ -1,7 +1,12 @@
--- A module in memory as an abstract module: that of what it holds.
-use Rattle.std.specs.Prelude.{[], ◌≡◌}
-use Rattle.walrus_model.specs.Abstract.{Abstract}
+-- A module in memory as an abstract module: that of what it holds, with its custom sections ("Binary Format > Custom Section").
+use Rattle.std.specs.Prelude.{Bool, true, false, List, [], filter, flat_map, map, ◌≡◌}
+use Rattle.walrus_base.specs.Arena.{items}
+use Rattle.walrus_types.specs.Operators.{Space, Types, Functions, Tables, Memories, Tags, Globals, Elements, DataSegments, Item}
+use Rattle.walrus_parts.specs.declared.custom.CustomSection.{Ghosts}
+use Rattle.walrus_model.specs.Abstract.{Abstract, Custom}
 use Rattle.walrus_module.specs.Customs.{sections}
+use Rattle.walrus_module.specs.Meaning.{Meaning, meaning}
+use Rattle.walrus_module.specs.declared.entry.SectionEntry.{SectionEntry}
 pub use Rattle.walrus_contents.specs.View.{types_of, is_declared, body, kind_of, kind_handlers, handlers_at, function, functions_of, export_of, exports_of, imports_of, tables_of, memories_of, tags_of, globals_of, elements_of, data_segments_of, parts_view}
 use Rattle.walrus_contents.specs.View.{HoldsNothing, contents_view}
 use Rattle.walrus_contents.specs.declared.parts.Contents.{Contents}
@@ -27,8 +32,13 @@ module _ {V : Type 0} {O : V → Type 0} where
     name = m.name;
   }
 
-  abbrev pub view : Module V O → Abstract
-  view m = contents_view (contents_of m)
+  -- the module of that
+  abbrev pub held_view : Module V O → Abstract
+  held_view m = contents_view (contents_of m)
+
+  -- its custom sections, by their ids
+  abbrev pub customs_of : Module V O → List (SectionEntry V O)
+  customs_of m = items (sections m.customs)
 
   -- it has no custom sections, dropped ones included
   abbrev pub HasNoCustoms : Module V O → Type 0
@@ -37,3 +47,30 @@ module _ {V : Type 0} {O : V → Type 0} where
   -- it holds nothing, dropped items included
   abbrev pub IsEmpty : Module V O → Type 0
   IsEmpty m = HoldsNothing (contents_of m) × HasNoCustoms m
+
+-- a section can ask to keep items of this space: neither types nor segments
+abbrev pub can_be_kept : Space → Bool
+can_be_kept Functions = true
+can_be_kept Tables = true
+can_be_kept Memories = true
+can_be_kept Tags = true
+can_be_kept Globals = true
+can_be_kept Types = false
+can_be_kept Elements = false
+can_be_kept DataSegments = false
+
+-- a section as it is written: its name, and its data under the indices of items
+abbrev pub custom_of : Meaning → Custom
+custom_of s = record { name = s.name; data_under = λ indices. s.contents (λ space i. indices (space, i)) }
+
+-- what sections of these meanings ask to keep, in their order
+abbrev pub kept_by : List Meaning → List Item
+kept_by ss = filter (λ (x : Item). can_be_kept x.0) (flat_map (λ (s : Meaning). s.roots) ss)
+
+module _ {V : Type 0} {O : V → Type 0} (G : (v : V) → Ghosts (O v)) where
+  -- what the custom sections of a module mean, by their ids
+  abbrev pub meanings : Module V O → List Meaning
+  meanings m = map (meaning G) (customs_of m)
+
+  abbrev pub view : Module V O → Abstract
+  view m = record (held_view m) { customs = map custom_of (meanings m); section_roots = kept_by (meanings m) }

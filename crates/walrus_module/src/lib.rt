@@ -1,6 +1,7 @@
 //! A module in memory: how it is read, and how it is written.
 #![tactic(auto)]
 
+mod asked;
 pub mod config;
 pub mod customs;
 mod emit;

@@ -13,7 +13,7 @@ use walrus_items::{
     ModuleData, ModuleElements, ModuleExports, ModuleFunctions, ModuleGlobals, ModuleImports,
     ModuleMemories, ModuleTables, ModuleTags,
 };
-use walrus_parts::Result;
+use walrus_parts::{CustomSection, Result};
 use walrus_producers::ModuleProducers;
 
 /// A WebAssembly module ("Structure > Modules"). Its items are named by ids, which stay when other items come and go.
@@ -97,7 +97,7 @@ impl Module {
 
     /// The module that the bytes are, under the default configuration. Refused as [`ModuleConfig::parse`] is.
     pub fn from_buffer(alloc: Global, bytes: &[u8]) -> Result<Module>
-        ensures found { IfOk result (λ m. IsParsed (config_of defaults) bytes.now (view m)) }
+        ensures found { IfOk result (λ m. IsParsed (config_of defaults) bytes.now (view ⟦<dyn CustomSection as CustomSection>⟧ m)) }
         ensures refused { IfErr result (RefusesBytes (config_of defaults) bytes.now) }
         ensures configured { IfOk result (λ m. settings m ≡ defaults) }
         ensures taken { IfOk result (λ m. TakenFrom (features_of (config_of defaults)) bytes.now
@@ -115,7 +115,7 @@ impl Module {
         bytes: &[u8],
         config: &ModuleConfig,
     ) -> Result<Module>
-        ensures found { IfOk result (λ m. IsParsed (config_of (flags config.now)) bytes.now (view m)) }
+        ensures found { IfOk result (λ m. IsParsed (config_of (flags config.now)) bytes.now (view ⟦<dyn CustomSection as CustomSection>⟧ m)) }
         ensures refused { IfErr result (RefusesBytes (config_of (flags config.now)) bytes.now) }
         ensures configured { IfOk result (λ m. settings m ≡ flags config.now) }
         ensures taken { IfOk result (λ m. TakenFrom (features_of (config_of (flags config.now))) bytes.now
