@@ -57,7 +57,8 @@ impl Module {
     ghost use Rattle.walrus_reading.specs.Parsed.{AreLocated, IsParsed, ItemsAtOwnIds, RefusesBytes, TakenFrom};
     ghost use Rattle.walrus_rules.specs.Features.{features_of};
     ghost use Rattle.walrus_module.specs.Settings.{settings};
-    ghost use Rattle.walrus_module.specs.View.{HasNoCustoms, IsEmpty, contents_of, view};
+    ghost use Rattle.walrus_module.specs.Raws.{KeepsRead};
+    ghost use Rattle.walrus_module.specs.View.{IsEmpty, contents_of, view};
 
     /// An empty module, to be written as the configuration says. Want of memory is the only refusal.
     pub fn with_config(alloc: Global, config: ModuleConfig) -> Result<Module>
@@ -66,13 +67,14 @@ impl Module {
         ensures fails { IsOkUnless result out_of_memory }
     {
         let contents = Contents::new(alloc)?;
-        Ok(Module::holding(alloc, contents, config))
+        let customs = ModuleCustomSections::<SectionEntry>::new(alloc);
+        Ok(Module::holding(contents, customs, config))
     }
 
-    // The module that holds this, and no custom sections.
-    pub(crate) fn holding(alloc: Global, contents: Contents, config: ModuleConfig) -> Module
+    // The module that holds this, with these custom sections.
+    pub(crate) fn holding(contents: Contents, customs: ModuleCustomSections, config: ModuleConfig) -> Module
         ensures holds { contents_of result ≡ contents }
-        ensures no_customs { HasNoCustoms result }
+        ensures own { result.customs ≡ customs }
         ensures configured { settings result ≡ flags config }
     {
         Module {
@@ -90,7 +92,7 @@ impl Module {
             data_: contents.data_,
             producers: contents.producers,
             name: contents.name,
-            customs: ModuleCustomSections::<SectionEntry>::new(alloc),
+            customs,
             config,
         }
     }
@@ -104,7 +106,7 @@ impl Module {
             (contents_of m)) }
         ensures own_ids { IfOk result (λ m. ItemsAtOwnIds (contents_of m)) }
         ensures located { IfOk result (λ m. AreLocated bytes.now m.funcs) }
-        ensures no_customs { IfOk result (λ m. HasNoCustoms m) }
+        ensures kept { IfOk result (λ m. KeepsRead bytes.now m) }
     {
         Module::from_buffer_with_config(alloc, bytes, &ModuleConfig::new())
     }
@@ -122,7 +124,7 @@ impl Module {
             (contents_of m)) }
         ensures own_ids { IfOk result (λ m. ItemsAtOwnIds (contents_of m)) }
         ensures located { IfOk result (λ m. AreLocated bytes.now m.funcs) }
-        ensures no_customs { IfOk result (λ m. HasNoCustoms m) }
+        ensures kept { IfOk result (λ m. KeepsRead bytes.now m) }
     {
         config.parse(alloc, bytes)
     }
