@@ -22,6 +22,5 @@ returns-clause-kept g c = record {
 pub returns-clause-found : goal.returns-clause-found
 returns-clause-found g c =
     let config = config_of (flags c.args.self.now) in
-    let G = λ i. (g.dyn-1.0.entry i).1 in
-    subst (λ (x : Abstract). IsParsed config c.args.bytes.now x) (sym (raw_view G c.in_ok-found.found c.holding.result c.holding.ensures.holds (ap sections c.holding.ensures.own ∙ c.in_ok-customs.ensures.kept)))
+    subst (λ (x : Abstract). IsParsed config c.args.bytes.now x) (sym (raw_view (λ i. (g.dyn-1.0.entry i).1) c.in_ok-found.found c.holding.result c.holding.ensures.holds (ap sections c.holding.ensures.own ∙ c.in_ok-customs.ensures.kept)))
     (c.in_ok-found.ensures.found config (record { features_are = c.features.ensures; no_names = refl }))
