@@ -105,7 +105,10 @@ impl ModuleCustomSections {
     ghost use Rattle.walrus_module.specs.Raws.{first_raw, raw_sections, without_first};
 
     // These sections, kept as they were read, in their order. Want of memory is the only refusal.
-    pub(crate) fn keeping(alloc: Global, raws: Vec<RawCustomSection>) -> Result<ModuleCustomSections>
+    pub(crate) fn keeping(
+        alloc: Global,
+        raws: Vec<RawCustomSection>,
+    ) -> Result<ModuleCustomSections>
         ensures kept { IfOk result (λ all. sections all ≡ raw_sections raws.items) }
         ensures fails { IsOkUnless result out_of_memory }
     {

@@ -72,7 +72,11 @@ impl Module {
     }
 
     // The module that holds this, with these custom sections.
-    pub(crate) fn holding(contents: Contents, customs: ModuleCustomSections, config: ModuleConfig) -> Module
+    pub(crate) fn holding(
+        contents: Contents,
+        customs: ModuleCustomSections,
+        config: ModuleConfig,
+    ) -> Module
         ensures holds { contents_of result ≡ contents }
         ensures own { result.customs ≡ customs }
         ensures configured { settings result ≡ flags config }
