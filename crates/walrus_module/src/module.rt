@@ -103,7 +103,8 @@ impl Module {
 
     /// The module that the bytes are, under the default configuration. Refused as [`ModuleConfig::parse`] is.
     pub fn from_buffer(alloc: Global, bytes: &[u8]) -> Result<Module>
-        ensures found { IfOk result (λ m. IsParsed (config_of defaults) bytes.now (view ⟦<dyn CustomSection as CustomSection>⟧ m)) }
+        ensures found { IfOk result (λ m. IsParsed (config_of defaults) bytes.now
+            (view ⟦<dyn CustomSection as CustomSection>⟧ m)) }
         ensures refused { IfErr result (RefusesBytes (config_of defaults) bytes.now) }
         ensures configured { IfOk result (λ m. settings m ≡ defaults) }
         ensures taken { IfOk result (λ m. TakenFrom (features_of (config_of defaults)) bytes.now
@@ -121,7 +122,8 @@ impl Module {
         bytes: &[u8],
         config: &ModuleConfig,
     ) -> Result<Module>
-        ensures found { IfOk result (λ m. IsParsed (config_of (flags config.now)) bytes.now (view ⟦<dyn CustomSection as CustomSection>⟧ m)) }
+        ensures found { IfOk result (λ m. IsParsed (config_of (flags config.now)) bytes.now
+            (view ⟦<dyn CustomSection as CustomSection>⟧ m)) }
         ensures refused { IfErr result (RefusesBytes (config_of (flags config.now)) bytes.now) }
         ensures configured { IfOk result (λ m. settings m ≡ flags config.now) }
         ensures taken { IfOk result (λ m. TakenFrom (features_of (config_of (flags config.now))) bytes.now

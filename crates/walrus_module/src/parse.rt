@@ -21,7 +21,8 @@ impl ModuleConfig {
     ///
     /// `InvalidWasm` exactly where the bytes aren't a module, or hold what isn't supported so far, and `Memory`; then there is no module.
     pub fn parse(&self, alloc: Global, bytes: &[u8]) -> Result<Module>
-        ensures found { IfOk result (λ m. IsParsed (config_of (flags self.now)) bytes.now (view ⟦<dyn CustomSection as CustomSection>⟧ m)) }
+        ensures found { IfOk result (λ m. IsParsed (config_of (flags self.now)) bytes.now
+            (view ⟦<dyn CustomSection as CustomSection>⟧ m)) }
         ensures refused { IfErr result (RefusesBytes (config_of (flags self.now)) bytes.now) }
         ensures configured { IfOk result (λ m. settings m ≡ flags self.now) }
         ensures taken { IfOk result (λ m. TakenFrom (features_of (config_of (flags self.now))) bytes.now
