@@ -104,7 +104,7 @@ pub returns-clause-settled : goal.returns-clause-settled
 returns-clause-settled g c =
     let old = c.args.module.now in
     let v = view (λ i. (g.dyn-1.0.entry i).1) old in
-    (stays_collected_lem v (viewed v.customs v.section_roots (left (contents_of old) c.keep_only-2.new.self c.keep_only-3.new.self c.keep_only.new.self c.keep_only-4.new.self c.keep_only-5.new.self c.keep_only-6.new.self c.keep_only-7.new.self c.keep_only-8.new.self c.keep_only-9.new.self)) (returns-clause-collected g c)).items
+    (stays_collected_lem v (viewed v.customs v.section_roots (left v.customs v.section_roots (contents_of old) c.keep_only-2.new.self c.keep_only-3.new.self c.keep_only.new.self c.keep_only-4.new.self c.keep_only-5.new.self c.keep_only-6.new.self c.keep_only-7.new.self c.keep_only-8.new.self c.keep_only-9.new.self)) (returns-clause-collected g c)).items
 
 pub returns-clause-own_ids : goal.returns-clause-own_ids
 returns-clause-own_ids g c = λ own. record {

@@ -1,5 +1,7 @@
-use Rattle.std.proofs.Common.{[]}
+use Rattle.std.proofs.Common.{[], sym, subst}
 use Rattle.walrus.specs.Asked.{asked_items, searched_view}
+use Rattle.walrus.specs.MarkedItems.{HavePlaces}
+use Rattle.walrus.specs.declared.passes.marks.MarkedItems.{MarkedItems}
 use Rattle.walrus_contents.specs.View.{parts_view}
 use Rattle.walrus.proofs.SameItems.{places_back, spare_on}
 use Rattle.walrus.proofs.Spare.{finds_spare}
@@ -7,7 +9,9 @@ use Rattle.walrus.proofs.passes.used.search.Goals as goal
 
 pub mark_spare_memory-requires : goal.mark_spare_memory-requires
 mark_spare_memory-requires c =
-    rw (c.marks_and_count-marks.ensures.marks) (places_back (parts_view c.args.searched.parts) [] (asked_items c.args.searched.asked.now) _ c.in_ok-reached.ensures.places)
+    let v = parts_view c.args.searched.parts in
+    let given = c.marks_and_count-marks in
+    subst (λ (marks : MarkedItems). HavePlaces v marks) (sym given.ensures.marks) (places_back v [] (asked_items c.args.searched.asked.now) _ c.in_ok-reached.ensures.places)
 
 pub returns : goal.returns
 returns c =
