@@ -121,6 +121,7 @@ impl ModuleCustomSections {
         ensures asked { OnOk result (map section_seen asked.new.items ≡ map section_seen asked.old.items
             ++ map (section_under (index_of indices.now)) (in_turn first
             (map (meaning ⟦<dyn CustomSection as CustomSection>⟧) (items (sections self.now))))) }
+        ensures texts { OnOk result (All IsText asked.old.items → All IsText asked.new.items) }
         ensures fails { IfErr result (IsRefusedBy (OneAskedMayRefuse
             (map (meaning ⟦<dyn CustomSection as CustomSection>⟧) (items (sections self.now))))) }
     {

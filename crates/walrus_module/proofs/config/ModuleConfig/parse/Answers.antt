@@ -19,7 +19,7 @@ returns-in_err-contents-clause-refused g c =
 pub returns-clause-found : goal.returns-clause-found
 returns-clause-found g c =
     let config = config_of (flags c.args.self.now) in
-    let G = λ i. (g.dyn-1.0.entry i).1 in
+    let G = λ (i : g.dyn-1.0.I). (g.dyn-1.0.entry i).1 in
     let seen = ap contents_view c.holding.ensures.holds in
     let alone = ap (λ ss. with_own (contents_view c.in_ok-contents.contents) (map custom_of (map (meaning G) (items ss))) (kept_by (map (meaning G) (items ss)))) c.holding.ensures.no_customs in
     let of_m = view G c.holding.result in

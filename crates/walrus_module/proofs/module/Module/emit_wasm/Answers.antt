@@ -49,7 +49,7 @@ asked p v customs roots names sections seen are texts = record {
 
 pub returns-in_err-check_live-clause-refused : goal.returns-in_err-check_live-clause-refused
 returns-in_err-check_live-clause-refused g c =
-    let G = λ i. (g.dyn-1.0.entry i).1 in
+    let G = λ (i : g.dyn-1.0.I). (g.dyn-1.0.entry i).1 in
     let old = view G c.args.self.now in
     let p = err_from_is_err_and c.from_residual.result c.from_residual.ensures.1 in
     rw (p.1, p.2) (dead_refused (Vec ℕ) (OneAskedMayRefuse (meanings G c.args.self.now)) (config_of (settings c.args.self.now)) (held_view c.args.self.now) old.customs old.section_roots c.in_err-check_live.field-0.0
@@ -57,7 +57,7 @@ returns-in_err-check_live-clause-refused g c =
 
 pub returns-in_err-declare_references-clause-left : goal.returns-in_err-declare_references-clause-left
 returns-in_err-declare_references-clause-left g c =
-    let G = λ i. (g.dyn-1.0.entry i).1 in
+    let G = λ (i : g.dyn-1.0.I). (g.dyn-1.0.entry i).1 in
     let p = err_from_is_err_and c.from_residual-in_err-declare_references.result c.from_residual-in_err-declare_references.ensures.1 in
     rw (p.1, p.2, c.in_err-declare_references.ensures.fails) (inr (module_unchanged G c.args.self.now c.declare_references.new.self c.declare_references.ensures.others c.in_err-declare_references.ensures.unchanged))
 
@@ -84,7 +84,7 @@ write_prepared-requires-clause-declared g c =
 
 pub returns-in_err-prepared-clause-refused : goal.returns-in_err-prepared-clause-refused
 returns-in_err-prepared-clause-refused g c =
-    let G = λ i. (g.dyn-1.0.entry i).1 in
+    let G = λ (i : g.dyn-1.0.I). (g.dyn-1.0.entry i).1 in
     let config = config_of (settings c.args.self.now) in
     let new = view G c.declare_references.new.self in
     let A = OneAskedMayRefuse (meanings G c.args.self.now) in
@@ -94,7 +94,7 @@ returns-in_err-prepared-clause-refused g c =
 
 pub returns-in_err-prepared-clause-left : goal.returns-in_err-prepared-clause-left
 returns-in_err-prepared-clause-left g c =
-    let G = λ i. (g.dyn-1.0.entry i).1 in
+    let G = λ (i : g.dyn-1.0.I). (g.dyn-1.0.entry i).1 in
     let old = c.args.self.now in
     let new = c.declare_references.new.self in
     let leaves = c.in_ok-declare_references.ensures.left in
@@ -104,7 +104,7 @@ returns-in_err-prepared-clause-left g c =
 
 pub returns-in_err-asked-clause-refused : goal.returns-in_err-asked-clause-refused
 returns-in_err-asked-clause-refused g c =
-    let G = λ i. (g.dyn-1.0.entry i).1 in
+    let G = λ (i : g.dyn-1.0.I). (g.dyn-1.0.entry i).1 in
     let old = c.args.self.now in
     let new = c.declare_references.new.self in
     let p = err_from_is_err_and c.from_residual-in_err-asked.result c.from_residual-in_err-asked.ensures.1 in
@@ -113,7 +113,7 @@ returns-in_err-asked-clause-refused g c =
 
 pub returns-in_err-asked-clause-left : goal.returns-in_err-asked-clause-left
 returns-in_err-asked-clause-left g c =
-    let G = λ i. (g.dyn-1.0.entry i).1 in
+    let G = λ (i : g.dyn-1.0.I). (g.dyn-1.0.entry i).1 in
     let old = c.args.self.now in
     let new = c.declare_references.new.self in
     let leaves = c.in_ok-declare_references.ensures.left in
@@ -123,15 +123,15 @@ returns-in_err-asked-clause-left g c =
 
 pub returns-in_err-customs-clause-left : goal.returns-in_err-customs-clause-left
 returns-in_err-customs-clause-left g c =
-    let G = λ i. (g.dyn-1.0.entry i).1 in
+    let G = λ (i : g.dyn-1.0.I). (g.dyn-1.0.entry i).1 in
     let p = err_from_is_err_and c.from_residual-in_err-customs.result c.from_residual-in_err-customs.ensures.1 in
-    rw (p.1, p.2, c.in_err-customs.ensures) (inl (module_leaves G c.args.self.now c.declare_references.new.self c.in_ok-declare_references.ensures.others c.in_ok-declare_references.ensures.left))
+    rw (p.1, p.2, c.in_err-customs.ensures.fails) (inl (module_leaves G c.args.self.now c.declare_references.new.self c.in_ok-declare_references.ensures.others c.in_ok-declare_references.ensures.left))
 
 -- ---- what is written
 
 pub returns-clause-refused : goal.returns-clause-refused
 returns-clause-refused g c =
-    let G = λ i. (g.dyn-1.0.entry i).1 in
+    let G = λ (i : g.dyn-1.0.I). (g.dyn-1.0.entry i).1 in
     let config = config_of (settings c.args.self.now) in
     let new = view G c.declare_references.new.self in
     let kept : settings c.declare_references.new.self ≡ settings c.args.self.now = ap settings c.in_ok-declare_references.ensures.others in
@@ -140,12 +140,12 @@ returns-clause-refused g c =
     (c.write_prepared.ensures.refused config new
     (written_with config _ (c.choices-choices.ensures ∙ ap (λ (f : Flags). choices_of (config_of f)) kept) refl)
     (asked c.parts-parts.result (held_view c.declare_references.new.self) new.customs new.section_roots _ _ c.parts-parts.ensures
-    (ap (λ cs. map custom_of (map custom_record cs)) c.as_slice-1.ensures.value ∙ ap (map custom_of) same ∙ c.in_ok-asked.ensures.value)
-    (subst (λ cs. All (λ (x : Custom). IsUtf8 x.name) cs) (sym (ap (map custom_record) c.as_slice-1.ensures.value ∙ same)) (All-map (λ (x : Custom). IsUtf8 x.name) section_seen _ c.in_ok-asked.ensures.texts))))
+    (ap (λ cs. map custom_of (map custom_record cs)) c.as_slice-2.ensures.value ∙ ap (map custom_of) same ∙ c.in_ok-asked.ensures.value)
+    (subst (λ cs. All (λ (x : Custom). IsUtf8 x.name) cs) (sym (ap (map custom_record) c.as_slice-2.ensures.value ∙ same)) (All-map (λ (x : Custom). IsUtf8 x.name) section_seen _ c.in_ok-asked.ensures.texts))))
 
 pub returns-clause-emitted : goal.returns-clause-emitted
 returns-clause-emitted g c =
-    let G = λ i. (g.dyn-1.0.entry i).1 in
+    let G = λ (i : g.dyn-1.0.I). (g.dyn-1.0.entry i).1 in
     let config = config_of (settings c.args.self.now) in
     let new = view G c.declare_references.new.self in
     let kept : settings c.declare_references.new.self ≡ settings c.args.self.now = ap settings c.in_ok-declare_references.ensures.others in
@@ -153,12 +153,12 @@ returns-clause-emitted g c =
     c.write_prepared.ensures.written config new
     (written_with config _ (c.choices-choices.ensures ∙ ap (λ (f : Flags). choices_of (config_of f)) kept) refl)
     (asked c.parts-parts.result (held_view c.declare_references.new.self) new.customs new.section_roots _ _ c.parts-parts.ensures
-    (ap (λ cs. map custom_of (map custom_record cs)) c.as_slice-1.ensures.value ∙ ap (map custom_of) same ∙ c.in_ok-asked.ensures.value)
-    (subst (λ cs. All (λ (x : Custom). IsUtf8 x.name) cs) (sym (ap (map custom_record) c.as_slice-1.ensures.value ∙ same)) (All-map (λ (x : Custom). IsUtf8 x.name) section_seen _ c.in_ok-asked.ensures.texts)))
+    (ap (λ cs. map custom_of (map custom_record cs)) c.as_slice-2.ensures.value ∙ ap (map custom_of) same ∙ c.in_ok-asked.ensures.value)
+    (subst (λ cs. All (λ (x : Custom). IsUtf8 x.name) cs) (sym (ap (map custom_record) c.as_slice-2.ensures.value ∙ same)) (All-map (λ (x : Custom). IsUtf8 x.name) section_seen _ c.in_ok-asked.ensures.texts)))
 
 pub returns-clause-left : goal.returns-clause-left
 returns-clause-left g c =
-    let G = λ i. (g.dyn-1.0.entry i).1 in
+    let G = λ (i : g.dyn-1.0.I). (g.dyn-1.0.entry i).1 in
     let old = c.args.self.now in
     let new = c.declare_references.new.self in
     let leaves = c.in_ok-declare_references.ensures.left in
@@ -166,8 +166,34 @@ returns-clause-left g c =
     (λ dead. leaves_none_dead (held_view old) (held_view new) leaves (subst (λ (x : Abstract). HasDead x → ⊥) c.parts.ensures c.in_ok-check_live.ensures) (dead_back (held_view new) (view G new).customs (view G new).section_roots dead))
     (returns-clause-refused g c)
 
+-- ---- where nothing is undeclared, nothing changes
+
+pub returns-in_err-declare_references-clause-settled : goal.returns-in_err-declare_references-clause-settled
+returns-in_err-declare_references-clause-settled g c =
+    let G = λ (i : g.dyn-1.0.I). (g.dyn-1.0.entry i).1 in
+    let old = view G c.args.self.now in
+    λ nothing. c.declare_references.ensures.settled (nothing_back (held_view c.args.self.now) old.customs old.section_roots nothing)
+
+pub returns-in_err-prepared-clause-settled : goal.returns-in_err-prepared-clause-settled
+returns-in_err-prepared-clause-settled g c =
+    let G = λ (i : g.dyn-1.0.I). (g.dyn-1.0.entry i).1 in
+    let old = view G c.args.self.now in
+    λ nothing. c.declare_references.ensures.settled (nothing_back (held_view c.args.self.now) old.customs old.section_roots nothing)
+
+pub returns-in_err-asked-clause-settled : goal.returns-in_err-asked-clause-settled
+returns-in_err-asked-clause-settled g c =
+    let G = λ (i : g.dyn-1.0.I). (g.dyn-1.0.entry i).1 in
+    let old = view G c.args.self.now in
+    λ nothing. c.declare_references.ensures.settled (nothing_back (held_view c.args.self.now) old.customs old.section_roots nothing)
+
+pub returns-in_err-customs-clause-settled : goal.returns-in_err-customs-clause-settled
+returns-in_err-customs-clause-settled g c =
+    let G = λ (i : g.dyn-1.0.I). (g.dyn-1.0.entry i).1 in
+    let old = view G c.args.self.now in
+    λ nothing. c.declare_references.ensures.settled (nothing_back (held_view c.args.self.now) old.customs old.section_roots nothing)
+
 pub returns-clause-settled : goal.returns-clause-settled
 returns-clause-settled g c =
-    let G = λ i. (g.dyn-1.0.entry i).1 in
+    let G = λ (i : g.dyn-1.0.I). (g.dyn-1.0.entry i).1 in
     let old = view G c.args.self.now in
-    λ nothing. c.in_ok-declare_references.ensures.settled (nothing_back (held_view c.args.self.now) old.customs old.section_roots nothing)
+    λ nothing. c.declare_references.ensures.settled (nothing_back (held_view c.args.self.now) old.customs old.section_roots nothing)

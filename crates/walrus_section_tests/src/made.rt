@@ -1,0 +1,48 @@
+//! The modules that these tests begin with.
+
+use crate::noted::{Noted, Refuses};
+use std::alloc::Global;
+use test_support::add_bytes;
+use walrus::{Error, FunctionId, Module, ModuleConfig, SectionEntry};
+
+// Two functions of one type, neither exported.
+const TWO_FUNCTIONS: &str =
+    "00 61 73 6D 01 00 00 00 01 04 01 60 00 00 03 03 02 00 00 0A 07 02 02 00 0B 02 00 0B";
+
+/// Two functions of one type, neither exported; to be written without producers.
+pub(crate) fn two_functions(alloc: Global) -> Result<Module, Error> {
+    let mut bytes = Vec::new(alloc);
+    add_bytes(&mut bytes, TWO_FUNCTIONS);
+    let mut config = ModuleConfig::new();
+    config.generate_producers_section(false);
+    Module::from_buffer_with_config(alloc, &bytes, &config)
+}
+
+/// The second function.
+pub(crate) fn second(module: &Module) -> Option<FunctionId> {
+    let mut all = module.funcs.iter();
+    all.next()?;
+    Some(all.next()?.id())
+}
+
+/// Adds a section of this name that keeps the second function, and answers whether it was added.
+pub(crate) fn add_noted(
+    alloc: Global,
+    module: &mut Module,
+    name: &'static str,
+    refuses: Refuses,
+) -> bool {
+    let Some(function) = second(module) else {
+        return false;
+    };
+    let noted = Noted {
+        alloc,
+        name,
+        function,
+        refuses,
+    };
+    match Box::new(alloc, noted) {
+        Ok(section) => module.customs.add(SectionEntry::Boxed(section)).is_ok(),
+        Err(_) => false,
+    }
+}
