@@ -63,7 +63,8 @@ impl Used {
     /// section of a caller's own refuses with: `Caller`, where one may refuse. And `Memory`.
     pub fn new(alloc: Global, module: &Module) -> Result<Used>
         ensures kept { IfOk result (MarksKept (view ⟦<dyn CustomSection as CustomSection>⟧ «module».now)) }
-        ensures sound { OnOk result (ReachesSound (view ⟦<dyn CustomSection as CustomSection>⟧ «module».now)) }
+        ensures sound { OnOk result
+            (ReachesSound (view ⟦<dyn CustomSection as CustomSection>⟧ «module».now)) }
         ensures refused { IfErr result (RefusesSearch
             (ReachesUnsound (view ⟦<dyn CustomSection as CustomSection>⟧ «module».now))
             (OneMayRefuse (meanings ⟦<dyn CustomSection as CustomSection>⟧ «module».now))) }
@@ -84,7 +85,8 @@ impl Used {
         ensures count { IfOk result (λ found.
             ReachedCount (view ⟦<dyn CustomSection as CustomSection>⟧ «module».now) found.1) }
         ensures at_most { IfOk result (λ found. found.1 ≤ live_count (contents_of «module».now)) }
-        ensures sound { OnOk result (ReachesSound (view ⟦<dyn CustomSection as CustomSection>⟧ «module».now)) }
+        ensures sound { OnOk result
+            (ReachesSound (view ⟦<dyn CustomSection as CustomSection>⟧ «module».now)) }
         ensures refused { IfErr result (RefusesSearch
             (ReachesUnsound (view ⟦<dyn CustomSection as CustomSection>⟧ «module».now))
             (OneMayRefuse (meanings ⟦<dyn CustomSection as CustomSection>⟧ «module».now))) }

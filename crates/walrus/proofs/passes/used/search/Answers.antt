@@ -11,7 +11,7 @@ pub mark_spare_memory-requires : goal.mark_spare_memory-requires
 mark_spare_memory-requires c =
     let v = parts_view c.args.searched.parts in
     let given = c.marks_and_count-marks in
-    subst (λ (marks : MarkedItems). HavePlaces v marks) (sym given.ensures.marks) (places_back v [] (asked_items c.args.searched.asked.now) _ c.in_ok-reached.ensures.places)
+    subst (λ (marks : MarkedItems). HavePlaces v marks) (sym given.ensures.marks) (places_back v [] (asked_items c.args.searched.asked.now) c.in_ok-reached.field-0.marks c.in_ok-reached.ensures.places)
 
 pub returns : goal.returns
 returns c =
