@@ -37,13 +37,14 @@ use Rattle.walrus.specs.Marked.{MarksAreKept}
 use Rattle.walrus_contents.proofs.ExportedRefs.{contained_has}
 use Rattle.walrus.specs.MarkedItems.{has_mark}
 use Rattle.walrus.specs.declared.passes.marks.MarkedItems.{MarkedItems}
-use Rattle.walrus_model.specs.Abstract.{Abstract, Import, Subject, TheModule, AnItem, ALocal}
+use Rattle.walrus_model.specs.Abstract.{Abstract, Custom, Import, Subject, TheModule, AnItem, ALocal}
 use Rattle.walrus_model.specs.Kept.{IsImportOf, Kept}
 use Rattle.walrus_model.specs.Pipeline.{Collected, IsSubjectOf, KeepsOnly}
 use Rattle.walrus_model.specs.Reached.{step}
 use Rattle.walrus_model.specs.Refers.{named_by, type_names}
 use Rattle.walrus_model.proofs.Lists.{Contains-map}
-use Rattle.walrus_module.specs.View.{function, handlers_at}
+use Rattle.walrus_contents.specs.View.{function, handlers_at}
+use Rattle.walrus_writing.proofs.SameItems.{with_own}
 use Rattle.walrus.specs.Collected as slots
 
 length-kept_by : {T : Type 0} (keeps : ℕ → Bool) (xs : List (Option T)) → length (kept_by keeps xs) ≡ length xs
@@ -70,17 +71,21 @@ module _ {X Y : Type 0} (see : ℕ → X → Y) (K : ℕ → Type 0) (old new : 
     left = λ i y e. seen_left i (item_at new i) y refl e;
   }
 
+-- the module of these contents, with custom sections of its own
+abbrev pub viewed : List Custom → List Item → Contents → Abstract
+viewed customs roots held = with_own (contents_view held) customs roots
+
 -- what is kept of the types keeps its group
-keeps_groups : (old : Contents) (i q : ℕ) (x : TypeDef) → item_at (type_slots old.types) i ≡ Some x → Kept (contents_view old) (Types, i) → has x.group q ≡ true → Kept (contents_view old) (Types, q)
-keeps_groups old i q x at (inl reached) g =
+keeps_groups : (customs : List Custom) (roots : List Item) (old : Contents) (i q : ℕ) (x : TypeDef) → item_at (type_slots old.types) i ≡ Some x → Kept (viewed customs roots old) (Types, i) → has x.group q ≡ true → Kept (viewed customs roots old) (Types, q)
+keeps_groups customs roots old i q x at (inl reached) g =
     let written : Contains (type_names x) (Types, q) = Contains-append_left (map type_item x.group) (map type_item (sub_names x.sub)) (Types, q) (Contains-map type_item q x.group (contained_has x.group q g)) in
     inl (step (Types, i) (Types, q) reached (inl (subst (λ (o : Option TypeDef). Contains (named_by type_names o) (Types, q)) (sym at) written)))
-keeps_groups old i q x at (inr spare) g = let apart : Types ≡ Memories = ap (λ (y : Item). y.0) spare.is in absurd (cc)
+keeps_groups customs roots old i q x at (inr spare) g = let apart : Types ≡ Memories = ap (λ (y : Item). y.0) spare.is in absurd (cc)
 
 -- the marked types are groups that are whole
-pub marks_groups : (old : Contents) (keeps : ℕ → Bool)
-    → ((t : ℕ) → (keeps t ≡ true) ↔ Kept (contents_view old) (Types, t)) → KeepsGroups keeps (type_slots old.types)
-marks_groups old keeps same t x at marked p g = (same p).1 (keeps_groups old t p x at ((same t).0 marked) g)
+pub marks_groups : (customs : List Custom) (roots : List Item) (old : Contents) (keeps : ℕ → Bool)
+    → ((t : ℕ) → (keeps t ≡ true) ↔ Kept (viewed customs roots old) (Types, t)) → KeepsGroups keeps (type_slots old.types)
+marks_groups customs roots old keeps same t x at marked p g = (same p).1 (keeps_groups customs roots old t p x at ((same t).0 marked) g)
 
 -- ---- imports
 
@@ -136,9 +141,9 @@ marks_same m used t (imports.Global i) = one_set m.globals.now used.globals (pla
 marks_same m used t (imports.Tag i) = one_set m.tags.now used.tags (place i) t.tags
 
 -- the imports of what is kept stay, and no others
-module _ (held : Contents) (used : MarkedItems) (marked : MarksAreKept (contents_view held) used) (marks : ItemMarks) (are : MarksThose marks used) where
+module _ (customs : List Custom) (roots : List Item) (held : Contents) (used : MarkedItems) (marked : MarksAreKept (viewed customs roots held) used) (marks : ItemMarks) (are : MarksThose marks used) where
   abbrev V : Abstract
-  V = contents_view held
+  V = viewed customs roots held
 
   abbrev stays : ImportValue → Bool
   stays = stays_under marks
@@ -162,32 +167,32 @@ module _ (held : Contents) (used : MarkedItems) (marked : MarksAreKept (contents
   })
 
 -- the same, where the marks are told by what was kept
-pub imports_left : (held : Contents) (used : MarkedItems) → MarksAreKept (contents_view held) used → (marks : ItemMarks) (new : List (Option ImportValue))
+pub imports_left : (customs : List Custom) (roots : List Item) (held : Contents) (used : MarkedItems) → MarksAreKept (viewed customs roots held) used → (marks : ItemMarks) (new : List (Option ImportValue))
     → new ≡ kept_where (stays_under marks) (imports_in held.imports) → MarksThose marks used
-    → slots.KeepsOnly (IsImportOf (Kept (contents_view held)) (contents_view held)) (imports_in held.imports) new
-imports_left held used marked marks new is are = imports_kept held used marked marks are new is
+    → slots.KeepsOnly (IsImportOf (Kept (viewed customs roots held)) (viewed customs roots held)) (imports_in held.imports) new
+imports_left customs roots held used marked marks new is are = imports_kept customs roots held used marked marks are new is
 
 -- ---- the whole
 
-module _ (held : Contents) (kept_types : ModuleTypes) (kept_imports : ModuleImports) (kept_funcs : ModuleFunctions) (kept_tables : ModuleTables) (kept_memories : ModuleMemories) (kept_tags : ModuleTags) (kept_globals : ModuleGlobals) (kept_lists : ModuleElements) (kept_segments : ModuleData) where
+module _ (customs : List Custom) (roots : List Item) (held : Contents) (kept_types : ModuleTypes) (kept_imports : ModuleImports) (kept_funcs : ModuleFunctions) (kept_tables : ModuleTables) (kept_memories : ModuleMemories) (kept_tags : ModuleTags) (kept_globals : ModuleGlobals) (kept_lists : ModuleElements) (kept_segments : ModuleData) where
   abbrev pub left : Contents
   left = record held { types = kept_types; imports = kept_imports; funcs = kept_funcs; tables = kept_tables; memories = kept_memories; tags = kept_tags; globals = kept_globals; elements = kept_lists; data_ = kept_segments }
 
   -- what is left of each kind
   pub record AreKept : Type 0 where
-    pub types : slots.KeepsOnly (λ i. Kept (contents_view held) (Types, i)) (type_slots held.types) (type_slots kept_types)
-    pub type_names : slots.KeepsOnly (λ i. Kept (contents_view held) (Types, i)) (names_of_types held.types) (names_of_types kept_types)
-    pub imports : slots.KeepsOnly (IsImportOf (Kept (contents_view held)) (contents_view held)) (imports_in held.imports) (imports_in kept_imports)
-    pub functions : slots.KeepsOnly (λ i. Kept (contents_view held) (Functions, i)) (functions held.funcs) (functions kept_funcs)
-    pub tables : slots.KeepsOnly (λ i. Kept (contents_view held) (Tables, i)) (tables_in held.tables) (tables_in kept_tables)
-    pub memories : slots.KeepsOnly (λ i. Kept (contents_view held) (Memories, i)) (memories_in held.memories) (memories_in kept_memories)
-    pub tags : slots.KeepsOnly (λ i. Kept (contents_view held) (Tags, i)) (tags_in held.tags) (tags_in kept_tags)
-    pub globals : slots.KeepsOnly (λ i. Kept (contents_view held) (Globals, i)) (globals_in held.globals) (globals_in kept_globals)
-    pub elements : slots.KeepsOnly (λ i. Kept (contents_view held) (Elements, i)) (elements_in held.elements) (elements_in kept_lists)
-    pub data_segments : slots.KeepsOnly (λ i. Kept (contents_view held) (DataSegments, i)) (data_segments_in held.data_) (data_segments_in kept_segments)
+    pub types : slots.KeepsOnly (λ i. Kept (viewed customs roots held) (Types, i)) (type_slots held.types) (type_slots kept_types)
+    pub type_names : slots.KeepsOnly (λ i. Kept (viewed customs roots held) (Types, i)) (names_of_types held.types) (names_of_types kept_types)
+    pub imports : slots.KeepsOnly (IsImportOf (Kept (viewed customs roots held)) (viewed customs roots held)) (imports_in held.imports) (imports_in kept_imports)
+    pub functions : slots.KeepsOnly (λ i. Kept (viewed customs roots held) (Functions, i)) (functions held.funcs) (functions kept_funcs)
+    pub tables : slots.KeepsOnly (λ i. Kept (viewed customs roots held) (Tables, i)) (tables_in held.tables) (tables_in kept_tables)
+    pub memories : slots.KeepsOnly (λ i. Kept (viewed customs roots held) (Memories, i)) (memories_in held.memories) (memories_in kept_memories)
+    pub tags : slots.KeepsOnly (λ i. Kept (viewed customs roots held) (Tags, i)) (tags_in held.tags) (tags_in kept_tags)
+    pub globals : slots.KeepsOnly (λ i. Kept (viewed customs roots held) (Globals, i)) (globals_in held.globals) (globals_in kept_globals)
+    pub elements : slots.KeepsOnly (λ i. Kept (viewed customs roots held) (Elements, i)) (elements_in held.elements) (elements_in kept_lists)
+    pub data_segments : slots.KeepsOnly (λ i. Kept (viewed customs roots held) (DataSegments, i)) (data_segments_in held.data_) (data_segments_in kept_segments)
 
   -- what is kept keeps its name
-  names_kept : AreKept → (y : Subject) → IsSubjectOf (Kept (contents_view held)) y → (contents_view left).named y ≡ (contents_view held).named y
+  names_kept : AreKept → (y : Subject) → IsSubjectOf (Kept (viewed customs roots held)) y → (viewed customs roots left).named y ≡ (viewed customs roots held).named y
   names_kept k TheModule h = refl
   names_kept k (AnItem (Types, i)) h = ap (name_at (λ n. n)) (k.type_names.kept i h)
   names_kept k (AnItem (Functions, i)) h = ap (name_at (λ (f : FunctionValue). f.name)) (k.functions.kept i h)
@@ -199,17 +204,17 @@ module _ (held : Contents) (kept_types : ModuleTypes) (kept_imports : ModuleImpo
   names_kept k (AnItem (DataSegments, i)) h = ap (name_at (λ (d : DataValue). d.name)) (k.data_segments.kept i h)
   names_kept k (ALocal f x) h = refl
 
-  pub is_collected : AreKept → Collected (contents_view held) (contents_view left)
+  pub is_collected : AreKept → Collected (viewed customs roots held) (viewed customs roots left)
   is_collected k = record {
     types = record { kept = k.types.kept; left = k.types.left };
-    imports = seen_kept (λ i. import_of) (IsImportOf (Kept (contents_view held)) (contents_view held)) (imports_in held.imports) (imports_in kept_imports) k.imports;
-    functions = seen_kept (λ i. function held.locals) (λ i. Kept (contents_view held) (Functions, i)) (functions held.funcs) (functions kept_funcs) k.functions;
-    tables = seen_kept (λ i. table_of) (λ i. Kept (contents_view held) (Tables, i)) (tables_in held.tables) (tables_in kept_tables) k.tables;
-    memories = seen_kept (λ i. memory_of) (λ i. Kept (contents_view held) (Memories, i)) (memories_in held.memories) (memories_in kept_memories) k.memories;
-    tags = seen_kept (λ i. tag_of) (λ i. Kept (contents_view held) (Tags, i)) (tags_in held.tags) (tags_in kept_tags) k.tags;
-    globals = seen_kept (λ i. global_of) (λ i. Kept (contents_view held) (Globals, i)) (globals_in held.globals) (globals_in kept_globals) k.globals;
-    elements = seen_kept (λ i. element_of) (λ i. Kept (contents_view held) (Elements, i)) (elements_in held.elements) (elements_in kept_lists) k.elements;
-    data_segments = seen_kept (λ i. data_of) (λ i. Kept (contents_view held) (DataSegments, i)) (data_segments_in held.data_) (data_segments_in kept_segments) k.data_segments;
+    imports = seen_kept (λ i. import_of) (IsImportOf (Kept (viewed customs roots held)) (viewed customs roots held)) (imports_in held.imports) (imports_in kept_imports) k.imports;
+    functions = seen_kept (λ i. function held.locals) (λ i. Kept (viewed customs roots held) (Functions, i)) (functions held.funcs) (functions kept_funcs) k.functions;
+    tables = seen_kept (λ i. table_of) (λ i. Kept (viewed customs roots held) (Tables, i)) (tables_in held.tables) (tables_in kept_tables) k.tables;
+    memories = seen_kept (λ i. memory_of) (λ i. Kept (viewed customs roots held) (Memories, i)) (memories_in held.memories) (memories_in kept_memories) k.memories;
+    tags = seen_kept (λ i. tag_of) (λ i. Kept (viewed customs roots held) (Tags, i)) (tags_in held.tags) (tags_in kept_tags) k.tags;
+    globals = seen_kept (λ i. global_of) (λ i. Kept (viewed customs roots held) (Globals, i)) (globals_in held.globals) (globals_in kept_globals) k.globals;
+    elements = seen_kept (λ i. element_of) (λ i. Kept (viewed customs roots held) (Elements, i)) (elements_in held.elements) (elements_in kept_lists) k.elements;
+    data_segments = seen_kept (λ i. data_of) (λ i. Kept (viewed customs roots held) (DataSegments, i)) (data_segments_in held.data_) (data_segments_in kept_segments) k.data_segments;
     exports = refl;
     start = refl;
     customs = refl;

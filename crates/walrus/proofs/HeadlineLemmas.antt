@@ -13,7 +13,7 @@ use Rattle.walrus_model.specs.Names.{body_of, body_of_function, body_of_kind}
 use Rattle.walrus_model.specs.Pipeline.{Collected}
 use Rattle.walrus_model.specs.Refers.{IsUsed}
 use Rattle.walrus_rules.specs.Chain.{Leaves}
-use Rattle.walrus_rules.specs.Refused.{Refusal, RefusesToWrite}
+use Rattle.walrus_rules.specs.Refused.{Refusal, Memory, DeadItem, NoIndex, TwoIndices, TooLarge, NotWritable, Caller, Another, RefusesToWrite}
 use Rattle.walrus_rules.specs.RunLaws.{AreFineSoFar, IsFewSoFar}
 use Rattle.walrus_rules.proofs.NoCause.{well_no_cause}
 use Rattle.walrus_rules.proofs.Runs.{few_so_far, fine_so_far, too_large_so_far}
@@ -30,7 +30,7 @@ use Rattle.walrus_parts.specs.declared.error.Error.{Error}
 use Rattle.walrus_parts.specs.declared.error.Error.TheVariants as error
 use Rattle.walrus.specs.Headline.{ComesTo, ComesOutTooLarge, Answers}
 use Rattle.walrus.specs.Marked.{ReachesSound, ReachesUnsound}
-use Rattle.walrus.specs.Used.{IsRefusal}
+use Rattle.walrus.specs.Used.{RefusesSearch}
 
 -- ---- what was parsed is sound where it is reached
 
@@ -127,24 +127,37 @@ module _ {X : Type 0} (c : Config) (view : X → List ℕ) where
   answers bytes text same v w u result parsed collected left emitted refused =
       subst (λ (b : List ℕ). Answers c b view result) same (answers_for text v w u result parsed collected left emitted refused)
 
-  gc_refused : (bytes : List ℕ) (v : Abstract) (e : Error) → IsParsed c bytes v → IsRefusal (ReachesUnsound v) e → Answers c bytes view (Err e)
-  gc_refused bytes v (error.Memory m) parsed h = tt
-  gc_refused bytes v error.DeadItem parsed h = absurd (sound_read c bytes v parsed h)
-  gc_refused bytes v _ parsed h = absurd h
+  gc_refused : (Q : Type 0) (bytes : List ℕ) (v : Abstract) (e : Error) → IsParsed c bytes v → (Q → ⊥) → RefusesSearch (ReachesUnsound v) Q e → Answers c bytes view (Err e)
+  gc_refused Q bytes v (error.Memory m) parsed never h = tt
+  gc_refused Q bytes v error.DeadItem parsed never h = absurd (sound_read c bytes v parsed h)
+  gc_refused Q bytes v (error.Caller text) parsed never h = absurd (never h)
+  gc_refused Q bytes v _ parsed never h = absurd h
 
-  -- so is a refusal of gc, which is for want of memory
-  pub answers_gc : (bytes text : List ℕ) → text ≡ bytes → (v : Abstract) (e : Error) (result : Result X Error)
-      → IsParsed c text v → IsRefusal (ReachesUnsound v) e → IsErrAnd result (λ f. f ≡ e) → Answers c bytes view result
-  answers_gc bytes text same v e result parsed refused given =
+  -- so is a refusal of gc, which is for want of memory where no custom section may refuse
+  pub answers_gc : (Q : Type 0) (bytes text : List ℕ) → text ≡ bytes → (v : Abstract) (e : Error) (result : Result X Error)
+      → IsParsed c text v → (Q → ⊥) → RefusesSearch (ReachesUnsound v) Q e → IsErrAnd result (λ f. f ≡ e) → Answers c bytes view result
+  answers_gc Q bytes text same v e result parsed never refused given =
       let known = err_from_is_err_and result given in
       subst (λ (r : Result X Error). Answers c bytes view r) (sym (known.1 ∙ ap Err known.2))
-      (subst (λ (b : List ℕ). Answers c b view (Err e)) same (gc_refused text v e parsed refused))
+      (subst (λ (b : List ℕ). Answers c b view (Err e)) same (gc_refused Q text v e parsed never refused))
 
--- the same as emission says it of the flags that the module keeps
-pub answers_kept : {X : Type 0} (view : X → List ℕ) (f g : Flags) → g ≡ f → (bytes text : List ℕ) → text ≡ bytes → (v w u : Abstract) (result : Result X Error)
+-- where no custom section that is asked may refuse, none does
+none_refused : {X : Type 0} (Q : Type 0) → (Q → ⊥) → (c : Config) (u : Abstract) (result : Result X Refusal) → RefusesToWrite Q c u result → RefusesToWrite ⊥ c u result
+none_refused Q never c u (Ok x) r = r
+none_refused Q never c u (Err Memory) r = r
+none_refused Q never c u (Err DeadItem) r = r
+none_refused Q never c u (Err TwoIndices) r = r
+none_refused Q never c u (Err NoIndex) r = r
+none_refused Q never c u (Err NotWritable) r = r
+none_refused Q never c u (Err TooLarge) r = r
+none_refused Q never c u (Err Caller) r = never r
+none_refused Q never c u (Err Another) r = r
+
+-- the same as emission says it of the flags that the module keeps, and of what custom sections refuse
+pub answers_kept : {X : Type 0} (view : X → List ℕ) (Q : Type 0) → (Q → ⊥) → (f g : Flags) → g ≡ f → (bytes text : List ℕ) → text ≡ bytes → (v w u : Abstract) (result : Result X Error)
     → IsParsed (config_of f) text v → Collected v w → LeavesBy w u (told result)
-    → IfOk result (λ o. IsEmitted (config_of g) u (view o)) → RefusesToWrite ⊥ (config_of g) u (told result) → Answers (config_of f) bytes view result
-answers_kept view f g keeps bytes text same v w u result parsed collected left emitted refused =
+    → IfOk result (λ o. IsEmitted (config_of g) u (view o)) → RefusesToWrite Q (config_of g) u (told result) → Answers (config_of f) bytes view result
+answers_kept view Q never f g keeps bytes text same v w u result parsed collected left emitted refused =
     answers (config_of f) view bytes text same v w u result parsed collected left
     (subst (λ (h : Flags). IfOk result (λ o. IsEmitted (config_of h) u (view o))) keeps emitted)
-    (subst (λ (h : Flags). RefusesToWrite ⊥ (config_of h) u (told result)) keeps refused)
+    (subst (λ (h : Flags). RefusesToWrite ⊥ (config_of h) u (told result)) keeps (none_refused Q never (config_of g) u (told result) refused))

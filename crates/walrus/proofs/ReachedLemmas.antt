@@ -1,7 +1,8 @@
 -- What a search for used items finds is what the abstract module says is reached, kept and sound.
-use Rattle.std.proofs.Common.{◌≡◌, ℕ, ◌≤◌, ⊎_elim, Bool, true, false, sym, ap, ◌∙◌, subst, refl}
+use Rattle.std.proofs.Common.{◌≡◌, ℕ, ◌≤◌, ◌⊎◌, inl, inr, ⊎_elim, Bool, true, false, List, [], ◌++◌, flat_map, sym, ap, ◌∙◌, subst, refl}
 use Rattle.std.specs.Prelude.{◌↔◌, Contains, option_map, Result, Ok, Err, IfOk, IfErr, OnOk, MatchResult}
 use Rattle.std.proofs.lemmas.Bool.{false≢true}
+use Rattle.std.proofs.lemmas.List.Elements.{Contains-append_left, Contains-append_right, Contains-append_cases}
 use Rattle.walrus_base.specs.Arena.{item_at, items}
 use Rattle.walrus_types.specs.Operators.{Types, Functions, Tables, Memories, Tags, Globals, Elements, DataSegments, Item, function_item}
 use Rattle.walrus_parts.specs.Kinds.{exported}
@@ -19,8 +20,16 @@ use Rattle.walrus_model.proofs.Lists.{Contains-map, Contains-none}
 use Rattle.walrus_model.proofs.Reach.{Contains-unmap}
 use Rattle.walrus_contents.specs.View.{contents_view, data_kind_of, data_of, element_kind_of, element_of}
 use Rattle.walrus_contents.specs.declared.parts.Contents.{Contents}
-use Rattle.walrus_module.specs.View.{export_of}
+use Rattle.walrus_contents.specs.View.{export_of}
+use Rattle.walrus_module.specs.Meaning.{Meaning}
+use Rattle.walrus_module.specs.View.{held_view, meanings, view}
+use Rattle.walrus_module.specs.declared.module.Module.{Module}
+use Rattle.walrus_parts.specs.Roots.{RootLists, no_roots, with_roots}
+use Rattle.walrus_parts.specs.declared.custom.CustomSection.{Ghosts}
+use Rattle.walrus_writing.proofs.SameItems.{live_back, with_own}
 use Rattle.walrus_parts.specs.declared.error.Error.{Error}
+use Rattle.walrus_parts.specs.declared.error.Error.TheVariants as errors
+use Rattle.walrus_module.specs.Asked.{IsRefusedBy}
 use Rattle.walrus_base.specs.IdSet.{has_id}
 use Rattle.walrus_base.specs.Marks.{is_marked}
 use Rattle.walrus_base.specs.declared.marks.Marks.{Marks}
@@ -30,10 +39,13 @@ use Rattle.walrus.specs.Marked.{Finds, HoldsMarked, MarksAreKept, MarksKept, Rea
 use Rattle.walrus_contents.specs.Named.{active_names, are_passive, export_names, root_elements, root_names, start_names}
 use Rattle.walrus_contents.proofs.Lookups.{mapped_some}
 use Rattle.walrus_contents.proofs.RootNames.{active_is_root, active_named, element_is_root, export_is_root, named_active, named_root_element, named_start, root_cases, root_element_named, start_is_root, start_named}
-use Rattle.walrus.specs.Used.{IsRefusal}
+use Rattle.walrus.specs.Asked.{asked_items}
+use Rattle.walrus.specs.Used.{IsRefusal, RefusesSearch}
 use Rattle.walrus.specs.declared.passes.marks.MarkedItems.{MarkedItems}
 use Rattle.walrus.specs.declared.passes.used.Used.{Used}
+use Rattle.walrus.proofs.AskedItems.{asked_are_kept}
 use Rattle.walrus.proofs.Room.{room_for_live}
+use Rattle.walrus.proofs.SameRoots.{answers_still}
 
 module _ (held : Contents) where
   abbrev v : abstract.Abstract
@@ -97,13 +109,36 @@ module _ (held : Contents) where
   named_root : (x : Item) → Contains (root_names held) x → IsRoot v x
   named_root x c = ⊎_elim (export_root x) (λ h. ⊎_elim (start_root x) (λ later. ⊎_elim (active_root x) (element_root x) later) h) (root_cases held x c)
 
-  pub roots_are : (x : Item) → IsRoot v x ↔ Contains (root_names held) x
-  roots_are x = (root_named x, named_root x)
+  -- ---- and with what custom sections ask to keep
+
+  module _ (asked : List Item) where
+    abbrev w : abstract.Abstract
+    w = with_own v [] asked
+
+    own_or_asked : (x : Item) → IsRoot w x → IsRoot v x ⊎ Contains asked x
+    own_or_asked x (is_exported e at is) = inl (is_exported e at is)
+    own_or_asked x (start f at is) = inl (start f at is)
+    own_or_asked x (data_segment i d at kind is) = inl (data_segment i d at kind is)
+    own_or_asked x (element_segment i e at kind is) = inl (element_segment i e at kind is)
+    own_or_asked x (asked_for at) = inr at
+
+    own_root : (x : Item) → IsRoot v x → IsRoot w x
+    own_root x (is_exported e at is) = is_exported e at is
+    own_root x (start f at is) = start f at is
+    own_root x (data_segment i d at kind is) = data_segment i d at kind is
+    own_root x (element_segment i e at kind is) = element_segment i e at kind is
+    own_root x (asked_for at) = absurd (Contains-none x at)
+
+    pub roots_are : (x : Item) → IsRoot w x ↔ Contains (root_names held ++ asked) x
+    roots_are x = (
+      λ r. ⊎_elim (λ h. Contains-append_left (root_names held) asked x (root_named x h)) (λ h. Contains-append_right (root_names held) asked x h) (own_or_asked x r),
+      λ c. ⊎_elim (λ h. own_root x (named_root x h)) (λ h. asked_for h) (Contains-append_cases (root_names held) asked x c),
+    )
 
 -- ---- the clauses of the search
 
 module _ (v : abstract.Abstract) where
-  abbrev IsFound : Result (MarkedItems × ℕ) Error → Type 0
+  abbrev pub IsFound : Result (MarkedItems × ℕ) Error → Type 0
   IsFound r = MatchResult r (λ found. Finds v found.0 found.1) (IsRefusal (ReachesUnsound v))
 
   pub kept_by : (r : Result (MarkedItems × ℕ) Error) → IsFound r → IfOk r (λ found. MarksAreKept v found.0)
@@ -118,14 +153,33 @@ module _ (v : abstract.Abstract) where
   sound_by (Ok found) f = f.sound
   sound_by (Err e) f = tt
 
-  pub refused_by : (r : Result (MarkedItems × ℕ) Error) → IsFound r → IfErr r (IsRefusal (ReachesUnsound v))
-  refused_by (Ok found) f = tt
-  refused_by (Err e) h = h
+  pub refused_by : (Q : Type 0) (r : Result (MarkedItems × ℕ) Error) → IsFound r → IfErr r (RefusesSearch (ReachesUnsound v) Q)
+  refused_by Q (Ok found) f = tt
+  refused_by Q (Err e) h = refused_search e h where
+    refused_search : (e : Error) → IsRefusal (ReachesUnsound v) e → RefusesSearch (ReachesUnsound v) Q e
+    refused_search (errors.Memory m) h = tt
+    refused_search errors.DeadItem h = h
+    refused_search _ h = absurd h
+
+-- a section that is asked for what it keeps refuses
+pub asked_refused : (P Q : Type 0) (e : Error) → IsRefusedBy Q e → RefusesSearch P Q e
+asked_refused P Q (errors.Memory m) h = tt
+asked_refused P Q (errors.Caller text) h = h
+asked_refused P Q _ h = absurd h
+
+-- what is found where just that is asked for which custom sections ask to keep is found of their module
+pub found_of : {V : Type 0} {O : V → Type 0} (G : (v : V) → Ghosts (O v)) (m : Module V O) (asked : RootLists)
+    → asked ≡ with_roots no_roots (flat_map (λ (s : Meaning). s.roots) (meanings G m)) → (r : Result (MarkedItems × ℕ) Error)
+    → IsFound (with_own (held_view m) [] (asked_items asked)) r → IsFound (view G m) r
+found_of G m asked is r found =
+    answers_still (with_own (held_view m) [] (asked_items asked)) (view G m).customs (view G m).section_roots
+    (asked_are_kept asked (flat_map (λ (s : Meaning). s.roots) (meanings G m)) is) r found
 
 -- those reached are no more than those that are live
-pub at_most_live : (held : Contents) (n : ℕ) → ReachedCount (contents_view held) n → ReachesSound (contents_view held) → n ≤ live_count held
-at_most_live held n counts sound = subst (λ (k : ℕ). k ≤ live_count held) counts.count
-    (room_for_live held counts.items counts.once (λ x c. (sound x ((counts.are x).0 c)).live))
+pub at_most_live : (held : Contents) (customs : List abstract.Custom) (roots : List Item) (n : ℕ) → ReachedCount (with_own (contents_view held) customs roots) n
+    → ReachesSound (with_own (contents_view held) customs roots) → n ≤ live_count held
+at_most_live held customs roots n counts sound = subst (λ (k : ℕ). k ≤ live_count held) counts.count
+    (room_for_live held counts.items counts.once (λ x c. live_back (contents_view held) customs roots x (sound x ((counts.are x).0 c)).live))
 
 -- the sets of what is marked are those of what is kept
 pub sets_kept : (v : abstract.Abstract) (marks : MarkedItems) (used : Used) → MarksAreKept v marks → HoldsMarked marks used → MarksKept v used

@@ -5,6 +5,7 @@ pub mod Text
 pub mod Tool
 pub mod Transfer
 pub mod Used
+pub mod Asked
 pub mod Collected
 pub mod Headline
 pub mod Marked

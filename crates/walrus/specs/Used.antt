@@ -1,5 +1,5 @@
 -- What a search for used items finds, and when it refuses.
-use Rattle.std.specs.Prelude.{ℕ, ◌≡◌, ◌↔◌, true, List, ◌++◌, ◌⊎◌, take, Contains}
+use Rattle.std.specs.Prelude.{ℕ, ◌≡◌, ◌↔◌, true, List, ◌++◌, ◌⊎◌, take, Contains, ⊤}
 use Rattle.walrus_types.specs.Operators.{Item}
 use Rattle.walrus_model.specs.Abstract.{Abstract}
 use Rattle.walrus_model.specs.Kept.{ReachedCount}
@@ -8,7 +8,7 @@ use Rattle.walrus_model.specs.Reached.{Reached}
 use Rattle.walrus_model.specs.Refers.{Refers}
 use Rattle.walrus_model.specs.Roots.{IsRoot}
 use Rattle.walrus_parts.specs.declared.error.Error.{Error}
-use Rattle.walrus_parts.specs.declared.error.Error.TheVariants.{DeadItem}
+use Rattle.walrus_parts.specs.declared.error.Error.TheVariants.{Memory, DeadItem, Caller}
 pub use Rattle.walrus_contents.specs.There.{IsRefusal}
 use Rattle.walrus_contents.specs.Named.{group_names}
 use Rattle.walrus_contents.specs.There.{IsSound}
@@ -18,6 +18,13 @@ use Rattle.walrus.specs.declared.passes.marks.MarkedItems.{MarkedItems}
 use Rattle.walrus.specs.declared.passes.worklist.Worklist.{Worklist}
 
 -- ---- refusals
+
+-- want of memory; a reference to what isn't there, which comes only where P holds; or a caller's own refusal, which comes only where Q holds
+abbrev pub RefusesSearch : (P Q : Type 0) → Error → Type 0
+RefusesSearch P Q (Memory e) = ⊤
+RefusesSearch P Q DeadItem = P
+RefusesSearch P Q (Caller text) = Q
+RefusesSearch P Q _ = ⊥
 
 -- a reference to what isn't there, which comes only where P holds; there is always memory
 abbrev pub IsDead : Type 0 → Error → Type 0

@@ -1,5 +1,6 @@
 //! What works on whole modules.
 
+mod asked;
 pub mod gc;
 mod marks;
 pub mod used;

@@ -14,7 +14,7 @@ use Rattle.walrus_reading.specs.Parsed.{read_view}
 use Rattle.walrus_reading.specs.declared.module.ReadModule.{ReadModule}
 use Rattle.walrus_reading.proofs.Parsing.{each_in}
 use Rattle.walrus_writing.proofs.SameItems.{with_own}
-use Rattle.walrus_module.specs.Asked.{OneAskedMayRefuse}
+use Rattle.walrus_module.specs.Asked.{OneAskedMayRefuse, OneMayRefuse}
 use Rattle.walrus_module.specs.Customs as customs
 use Rattle.walrus_module.specs.Meaning.{Meaning, meaning, raw_meaning}
 use Rattle.walrus_module.specs.Raws.{raw_sections}
@@ -59,8 +59,11 @@ module _ {V : Type 0} {O : V → Type 0} (G : (v : V) → Ghosts (O v)) where
       ∙ ap (λ (l : List Item). with_own (contents_view found.contents) (map sections.custom_of (map section_seen raws)) (filter (λ (x : Item). can_be_kept x.0) l)) (raw_asks raws)
 
   -- a module that holds such sections alone has none that may refuse
-  pub none_may_refuse : (m : Module V O) (raws : List RawCustomSection) → customs.sections m.customs ≡ raw_sections raws → OneAskedMayRefuse (meanings G m) → ⊥
-  none_may_refuse m raws are one =
+  pub none_refuses : (m : Module V O) (raws : List RawCustomSection) → customs.sections m.customs ≡ raw_sections raws → OneMayRefuse (meanings G m) → ⊥
+  none_refuses m raws are one =
       let means : meanings G m ≡ map raw_meaning raws = ap (λ ss. map (meaning G) (items ss)) are ∙ raw_means raws in
-      let raw : OneAskedMayRefuse (map raw_meaning raws) = subst OneAskedMayRefuse means one in
-      not_both raw.0.may_refuse (each_in (λ (s : Meaning). s.may_refuse ≡ false) (map raw_meaning raws) raw.0 (raw_answers raws) raw.1) raw.3
+      let raw : OneMayRefuse (map raw_meaning raws) = subst OneMayRefuse means one in
+      not_both raw.0.may_refuse (each_in (λ (s : Meaning). s.may_refuse ≡ false) (map raw_meaning raws) raw.0 (raw_answers raws) raw.1) raw.2
+
+  pub none_asked_refuses : (m : Module V O) (raws : List RawCustomSection) → customs.sections m.customs ≡ raw_sections raws → OneAskedMayRefuse (meanings G m) → ⊥
+  none_asked_refuses m raws are one = none_refuses m raws are (one.0, one.1, one.3)

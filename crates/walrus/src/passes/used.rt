@@ -7,17 +7,20 @@ ghost use Rattle.walrus_base.specs.Marks.{is_marked};
 ghost use Rattle.walrus_code.specs.Code.{item_of};
 ghost use Rattle.walrus_model.specs.Kept.{ReachedCount};
 ghost use Rattle.walrus_model.specs.Live.{IsLive};
-ghost use Rattle.walrus_module.specs.View.{contents_of, view};
+ghost use Rattle.walrus_module.specs.Asked.{OneMayRefuse};
+ghost use Rattle.walrus_module.specs.View.{contents_of, meanings, view};
 ghost use Rattle.walrus_types.specs.Operators.{Types};
 ghost use Rattle.walrus_contents.specs.Named.{NamesItself, group_names};
 ghost use Rattle.walrus_contents.specs.There.{IsRefusal, IsSound};
 ghost use Rattle.walrus_contents.specs.View.{parts_view};
+ghost use Rattle.walrus.specs.Asked.{searched_view};
 ghost use Rattle.walrus.specs.LiveCount.{live_count};
 ghost use Rattle.walrus.specs.Marked.{Finds, HoldsMarked, MarksAreKept, MarksKept, MarksFirst, MarksSpare, ReachesSound, ReachesUnsound};
 ghost use Rattle.walrus.specs.MarkedItems.{HavePlaces};
-ghost use Rattle.walrus.specs.Used.{Enters, EntersAll, Found, Follows, IsDead, NamesDead, NotesAll, OneDead};
+ghost use Rattle.walrus.specs.Used.{Enters, EntersAll, Found, Follows, IsDead, NamesDead, NotesAll, OneDead, RefusesSearch};
 ghost use Rattle.walrus.specs.Worklist.{Keeps};
 
+use crate::passes::asked::push_asked;
 use crate::passes::marks::MarkedItems;
 use crate::passes::worklist::Worklist;
 use std::alloc::{AllocError, Global};
@@ -25,12 +28,12 @@ use std::result;
 use walrus_base::Marks;
 use walrus_contents::{Parts, is_live, push_item_names, push_root_names};
 use walrus_module::{
-    DataKey, ElementKey, Error, FunctionKey, GlobalKey, IdHashSet, ItemId, MemoryKey, Module,
-    Result, TableKey, TagKey, TypeId, TypeKey,
+    CustomSection, DataKey, ElementKey, Error, FunctionKey, GlobalKey, IdHashSet, ItemId,
+    MemoryKey, Module, Result, Roots, TableKey, TagKey, TypeId, TypeKey,
 };
 
 /// The items that the roots of a module reach, by kind. Its roots are its exports, its start function, its active segments of data and of
-/// elements, and its declared ones.
+/// elements, its declared ones, and what its custom sections ask to keep.
 #[derive(Drop)]
 pub struct Used {
     /// The tables.
@@ -52,25 +55,41 @@ pub struct Used {
 }
 
 impl Used {
-    /// What the module's roots reach, and the memory that stays with data. Refused with `DeadItem` where an item reached isn't
-    /// live, where a function reached is uninitialised or uses a local that isn't there, and with `Memory`.
+    /// What the module's roots reach, and the memory that stays with data.
+    ///
+    /// # Errors
+    ///
+    /// `DeadItem` where an item reached isn't live, where a function reached is uninitialised or uses a local that isn't there. What a custom
+    /// section of a caller's own refuses with: `Caller`, where one may refuse. And `Memory`.
     pub fn new(alloc: Global, module: &Module) -> Result<Used>
-        ensures kept { IfOk result (λ used. MarksKept (view «module».now) used) }
-        ensures sound { OnOk result (ReachesSound (view «module».now)) }
-        ensures refused { IfErr result (IsRefusal (ReachesUnsound (view «module».now))) }
+        ensures kept { IfOk result (MarksKept (view ⟦<dyn CustomSection as CustomSection>⟧ «module».now)) }
+        ensures sound { OnOk result
+            (ReachesSound (view ⟦<dyn CustomSection as CustomSection>⟧ «module».now)) }
+        ensures refused { IfErr result (RefusesSearch
+            (ReachesUnsound (view ⟦<dyn CustomSection as CustomSection>⟧ «module».now))
+            (OneMayRefuse (meanings ⟦<dyn CustomSection as CustomSection>⟧ «module».now))) }
     {
         let marks = marked(alloc, module)?;
         Ok(Used::of(alloc, &marks)?)
     }
 
     /// The same as [`Used::new`], with the number of items that the roots reach. The memory that stays with data, and that they
-    /// don't reach, is in the set of its kind and isn't counted. Refused as [`Used::new`] is.
+    /// don't reach, is in the set of its kind and isn't counted.
+    ///
+    /// # Errors
+    ///
+    /// Those of [`Used::new`].
     pub fn counted(alloc: Global, module: &Module) -> Result<(Used, usize)>
-        ensures kept { IfOk result (λ found. MarksKept (view «module».now) found.0) }
-        ensures count { IfOk result (λ found. ReachedCount (view «module».now) found.1) }
+        ensures kept { IfOk result (λ found.
+            MarksKept (view ⟦<dyn CustomSection as CustomSection>⟧ «module».now) found.0) }
+        ensures count { IfOk result (λ found.
+            ReachedCount (view ⟦<dyn CustomSection as CustomSection>⟧ «module».now) found.1) }
         ensures at_most { IfOk result (λ found. found.1 ≤ live_count (contents_of «module».now)) }
-        ensures sound { OnOk result (ReachesSound (view «module».now)) }
-        ensures refused { IfErr result (IsRefusal (ReachesUnsound (view «module».now))) }
+        ensures sound { OnOk result
+            (ReachesSound (view ⟦<dyn CustomSection as CustomSection>⟧ «module».now)) }
+        ensures refused { IfErr result (RefusesSearch
+            (ReachesUnsound (view ⟦<dyn CustomSection as CustomSection>⟧ «module».now))
+            (OneMayRefuse (meanings ⟦<dyn CustomSection as CustomSection>⟧ «module».now))) }
     {
         let (marks, count) = marked_and_counted(alloc, module)?;
         Ok((Used::of(alloc, &marks)?, count))
@@ -106,9 +125,11 @@ fn ids_of<K>(alloc: Global, marks: &Marks<K>) -> result::Result<IdHashSet<K>, Al
 
 // The items that a module's roots reach, and the memory that stays with data, marked. Refused as [`Used::new`] is.
 pub(crate) fn marked(alloc: Global, module: &Module) -> Result<MarkedItems>
-    ensures kept { IfOk result (MarksAreKept (view «module».now)) }
-    ensures sound { OnOk result (ReachesSound (view «module».now)) }
-    ensures refused { IfErr result (IsRefusal (ReachesUnsound (view «module».now))) }
+    ensures kept { IfOk result (MarksAreKept (view ⟦<dyn CustomSection as CustomSection>⟧ «module».now)) }
+    ensures sound { OnOk result (ReachesSound (view ⟦<dyn CustomSection as CustomSection>⟧ «module».now)) }
+    ensures refused { IfErr result (RefusesSearch
+        (ReachesUnsound (view ⟦<dyn CustomSection as CustomSection>⟧ «module».now))
+        (OneMayRefuse (meanings ⟦<dyn CustomSection as CustomSection>⟧ «module».now))) }
 {
     let (marks, _count) = marked_and_counted(alloc, module)?;
     Ok(marks)
@@ -116,11 +137,16 @@ pub(crate) fn marked(alloc: Global, module: &Module) -> Result<MarkedItems>
 
 // The same, with the number of items that the roots reach.
 fn marked_and_counted(alloc: Global, module: &Module) -> Result<(MarkedItems, usize)>
-    ensures kept { IfOk result (λ found. MarksAreKept (view «module».now) found.0) }
-    ensures count { IfOk result (λ found. ReachedCount (view «module».now) found.1) }
-    ensures sound { OnOk result (ReachesSound (view «module».now)) }
-    ensures refused { IfErr result (IsRefusal (ReachesUnsound (view «module».now))) }
+    ensures kept { IfOk result (λ found.
+        MarksAreKept (view ⟦<dyn CustomSection as CustomSection>⟧ «module».now) found.0) }
+    ensures count { IfOk result (λ found.
+        ReachedCount (view ⟦<dyn CustomSection as CustomSection>⟧ «module».now) found.1) }
+    ensures sound { OnOk result (ReachesSound (view ⟦<dyn CustomSection as CustomSection>⟧ «module».now)) }
+    ensures refused { IfErr result (RefusesSearch
+        (ReachesUnsound (view ⟦<dyn CustomSection as CustomSection>⟧ «module».now))
+        (OneMayRefuse (meanings ⟦<dyn CustomSection as CustomSection>⟧ «module».now))) }
 {
+    let asked = module.section_roots(alloc)?;
     let parts = Parts {
         types: &module.types,
         locals: &module.locals,
@@ -137,16 +163,23 @@ fn marked_and_counted(alloc: Global, module: &Module) -> Result<(MarkedItems, us
         producers: &module.producers,
         name: &module.name,
     };
-    search(alloc, parts)
+    search(alloc, Searched { parts, asked: &asked })
 }
 
-// The same over the parts of a module.
-fn search(alloc: Global, parts: Parts<'_>) -> Result<(MarkedItems, usize)>
-    ensures { MatchResult result (λ found. Finds (parts_view parts.entry) found.0 found.1)
-        (IsRefusal (ReachesUnsound (parts_view parts.entry))) }
+// What is searched: the parts of a module, and what its custom sections ask to keep.
+#[derive(Clone, Copy)]
+struct Searched<'a> {
+    parts: Parts<'a>,
+    asked: &'a Roots,
+}
+
+// The same over the parts of a module and what is asked to be kept. Refused with `DeadItem` as [`Used::new`] is, and with `Memory`.
+fn search(alloc: Global, searched: Searched<'_>) -> Result<(MarkedItems, usize)>
+    ensures { MatchResult result (λ found. Finds (searched_view searched.entry) found.0 found.1)
+        (IsRefusal (ReachesUnsound (searched_view searched.entry))) }
 {
-    let (mut marks, count) = reached(alloc, parts)?.marks_and_count();
-    mark_spare_memory(parts, &mut marks);
+    let (mut marks, count) = reached(alloc, searched)?.marks_and_count();
+    mark_spare_memory(searched.parts, &mut marks);
     Ok((marks, count))
 }
 
@@ -177,32 +210,33 @@ fn mark_first_memory(parts: Parts<'_>, marks: &mut MarkedItems)
     }
 }
 
-// The items that the roots reach, all of them taken. Refused as [`Used::new`] is.
-fn reached(alloc: Global, parts: Parts<'_>) -> Result<Worklist>
-    ensures { MatchResult result (λ list. Found (parts_view parts.entry) list.marks list.taken)
-        (IsRefusal (ReachesUnsound (parts_view parts.entry))) }
+// The items that the roots reach, all of them taken. Refused as [`search`] is.
+fn reached(alloc: Global, searched: Searched<'_>) -> Result<Worklist>
+    ensures { MatchResult result (λ list. Found (searched_view searched.entry) list.marks list.taken)
+        (IsRefusal (ReachesUnsound (searched_view searched.entry))) }
 {
-    let mut list = Worklist::none(alloc, parts)?;
+    let mut list = Worklist::none(alloc, searched.parts)?;
     let mut roots = Vec::new(alloc);
-    push_root_names(parts, &mut roots)?;
-    enter_all(parts, roots.as_slice(), &mut list)?;
-    follow(alloc, parts, &mut list)?;
+    push_root_names(searched.parts, &mut roots)?;
+    push_asked(searched.asked, &mut roots)?;
+    enter_all(searched.parts, roots.as_slice(), &mut list)?;
+    follow(alloc, searched, &mut list)?;
     Ok(list)
 }
 
 // Takes each item entered, and enters what it names.
-fn follow(alloc: Global, parts: Parts<'_>, list: &mut Worklist) -> Result<()>
+fn follow(alloc: Global, searched: Searched<'_>, list: &mut Worklist) -> Result<()>
     requires start { list.old.taken ≡ 0 }
-    requires follows { Follows (parts_view parts) list.old }
-    ensures { MatchResult result (λ _. Found (parts_view parts.entry) list.new.marks list.new.taken)
-        (IsRefusal (ReachesUnsound (parts_view parts.entry))) }
+    requires follows { Follows (searched_view searched) list.old }
+    ensures { MatchResult result (λ _. Found (searched_view searched.entry) list.new.marks list.new.taken)
+        (IsRefusal (ReachesUnsound (searched_view searched.entry))) }
 {
     let mut named = Vec::new(alloc);
     for _turn in 0..usize::MAX {
         let Some(item) = list.take() else {
             break;
         };
-        follow_item(alloc, parts, item, &mut named, list)?;
+        follow_item(alloc, searched.parts, item, &mut named, list)?;
     }
     Ok(())
 }

@@ -13,70 +13,93 @@ use Rattle.walrus_items.specs.Functions.{functions}
 use Rattle.walrus_model.specs.Kept.{Kept}
 use Rattle.walrus_model.proofs.PipelineCollected.{stays_collected_lem}
 use Rattle.walrus_module.specs.View.{contents_of, view}
-use Rattle.walrus_contents.specs.View.{contents_view}
-use Rattle.walrus.proofs.CollectedLemmas.{imports_left, is_collected, keeps_only, left, marks_groups, marks_of}
+use Rattle.walrus.proofs.CollectedLemmas.{imports_left, is_collected, keeps_only, left, marks_groups, marks_of, viewed}
 use Rattle.walrus.proofs.passes.gc.run.Goals as goal
 
 pub keep_only-requires-2 : goal.keep_only-requires-2
 keep_only-requires-2 g c =
     let old = c.args.module.now in
-    marks_groups (contents_of old) (is_marked c.in_ok-marks.marks.types) (λ t. c.in_ok-marks.ensures.kept (Types, t))
+    let G = λ (i : g.dyn-1.0.I). (g.dyn-1.0.entry i).1 in
+    let v = view G old in
+    marks_groups v.customs v.section_roots (contents_of old) (is_marked c.in_ok-marks.marks.types) (λ t. c.in_ok-marks.ensures.kept (Types, t))
 
 pub returns-clause-functions : goal.returns-clause-functions
 returns-clause-functions g c =
     let old = c.args.module.now in
-    keeps_only (is_marked c.in_ok-marks.marks.funcs) (λ i. Kept (view old) (Functions, i)) (λ i. c.in_ok-marks.ensures.kept (Functions, i)) (functions old.funcs) (functions c.keep_only.new.self) c.keep_only.ensures
+    let G = λ (i : g.dyn-1.0.I). (g.dyn-1.0.entry i).1 in
+    let v = view G old in
+    keeps_only (is_marked c.in_ok-marks.marks.funcs) (λ i. Kept v (Functions, i)) (λ i. c.in_ok-marks.ensures.kept (Functions, i)) (functions old.funcs) (functions c.keep_only.new.self) c.keep_only.ensures
 
 pub returns-clause-types : goal.returns-clause-types
 returns-clause-types g c =
     let old = c.args.module.now in
-    keeps_only (is_marked c.in_ok-marks.marks.types) (λ t. Kept (view old) (Types, t)) (λ t. c.in_ok-marks.ensures.kept (Types, t)) (type_slots old.types) (type_slots c.keep_only-2.new.self) c.keep_only-2.ensures.slots
+    let G = λ (i : g.dyn-1.0.I). (g.dyn-1.0.entry i).1 in
+    let v = view G old in
+    keeps_only (is_marked c.in_ok-marks.marks.types) (λ t. Kept v (Types, t)) (λ t. c.in_ok-marks.ensures.kept (Types, t)) (type_slots old.types) (type_slots c.keep_only-2.new.self) c.keep_only-2.ensures.slots
 
 pub returns-clause-type_names : goal.returns-clause-type_names
 returns-clause-type_names g c =
     let old = c.args.module.now in
-    keeps_only (is_marked c.in_ok-marks.marks.types) (λ t. Kept (view old) (Types, t)) (λ t. c.in_ok-marks.ensures.kept (Types, t)) (type_names old.types) (type_names c.keep_only-2.new.self) c.keep_only-2.ensures.names
+    let G = λ (i : g.dyn-1.0.I). (g.dyn-1.0.entry i).1 in
+    let v = view G old in
+    keeps_only (is_marked c.in_ok-marks.marks.types) (λ t. Kept v (Types, t)) (λ t. c.in_ok-marks.ensures.kept (Types, t)) (type_names old.types) (type_names c.keep_only-2.new.self) c.keep_only-2.ensures.names
 
 pub returns-clause-tables : goal.returns-clause-tables
 returns-clause-tables g c =
     let old = c.args.module.now in
-    keeps_only (is_marked c.in_ok-marks.marks.tables) (λ i. Kept (view old) (Tables, i)) (λ i. c.in_ok-marks.ensures.kept (Tables, i)) (tables old.tables) (tables c.keep_only-4.new.self) c.keep_only-4.ensures
+    let G = λ (i : g.dyn-1.0.I). (g.dyn-1.0.entry i).1 in
+    let v = view G old in
+    keeps_only (is_marked c.in_ok-marks.marks.tables) (λ i. Kept v (Tables, i)) (λ i. c.in_ok-marks.ensures.kept (Tables, i)) (tables old.tables) (tables c.keep_only-4.new.self) c.keep_only-4.ensures
 
 pub returns-clause-memories : goal.returns-clause-memories
 returns-clause-memories g c =
     let old = c.args.module.now in
-    keeps_only (is_marked c.in_ok-marks.marks.memories) (λ i. Kept (view old) (Memories, i)) (λ i. c.in_ok-marks.ensures.kept (Memories, i)) (memories old.memories) (memories c.keep_only-5.new.self) c.keep_only-5.ensures
+    let G = λ (i : g.dyn-1.0.I). (g.dyn-1.0.entry i).1 in
+    let v = view G old in
+    keeps_only (is_marked c.in_ok-marks.marks.memories) (λ i. Kept v (Memories, i)) (λ i. c.in_ok-marks.ensures.kept (Memories, i)) (memories old.memories) (memories c.keep_only-5.new.self) c.keep_only-5.ensures
 
 pub returns-clause-tags : goal.returns-clause-tags
 returns-clause-tags g c =
     let old = c.args.module.now in
-    keeps_only (is_marked c.in_ok-marks.marks.tags) (λ i. Kept (view old) (Tags, i)) (λ i. c.in_ok-marks.ensures.kept (Tags, i)) (tags old.tags) (tags c.keep_only-6.new.self) c.keep_only-6.ensures
+    let G = λ (i : g.dyn-1.0.I). (g.dyn-1.0.entry i).1 in
+    let v = view G old in
+    keeps_only (is_marked c.in_ok-marks.marks.tags) (λ i. Kept v (Tags, i)) (λ i. c.in_ok-marks.ensures.kept (Tags, i)) (tags old.tags) (tags c.keep_only-6.new.self) c.keep_only-6.ensures
 
 pub returns-clause-globals : goal.returns-clause-globals
 returns-clause-globals g c =
     let old = c.args.module.now in
-    keeps_only (is_marked c.in_ok-marks.marks.globals) (λ i. Kept (view old) (Globals, i)) (λ i. c.in_ok-marks.ensures.kept (Globals, i)) (globals old.globals) (globals c.keep_only-7.new.self) c.keep_only-7.ensures
+    let G = λ (i : g.dyn-1.0.I). (g.dyn-1.0.entry i).1 in
+    let v = view G old in
+    keeps_only (is_marked c.in_ok-marks.marks.globals) (λ i. Kept v (Globals, i)) (λ i. c.in_ok-marks.ensures.kept (Globals, i)) (globals old.globals) (globals c.keep_only-7.new.self) c.keep_only-7.ensures
 
 pub returns-clause-elements : goal.returns-clause-elements
 returns-clause-elements g c =
     let old = c.args.module.now in
-    keeps_only (is_marked c.in_ok-marks.marks.elements) (λ i. Kept (view old) (Elements, i)) (λ i. c.in_ok-marks.ensures.kept (Elements, i)) (elements old.elements) (elements c.keep_only-8.new.self) c.keep_only-8.ensures
+    let G = λ (i : g.dyn-1.0.I). (g.dyn-1.0.entry i).1 in
+    let v = view G old in
+    keeps_only (is_marked c.in_ok-marks.marks.elements) (λ i. Kept v (Elements, i)) (λ i. c.in_ok-marks.ensures.kept (Elements, i)) (elements old.elements) (elements c.keep_only-8.new.self) c.keep_only-8.ensures
 
 pub returns-clause-data_segments : goal.returns-clause-data_segments
 returns-clause-data_segments g c =
     let old = c.args.module.now in
-    keeps_only (is_marked c.in_ok-marks.marks.data_) (λ i. Kept (view old) (DataSegments, i)) (λ i. c.in_ok-marks.ensures.kept (DataSegments, i)) (data_segments old.data_) (data_segments c.keep_only-9.new.self) c.keep_only-9.ensures
+    let G = λ (i : g.dyn-1.0.I). (g.dyn-1.0.entry i).1 in
+    let v = view G old in
+    keeps_only (is_marked c.in_ok-marks.marks.data_) (λ i. Kept v (DataSegments, i)) (λ i. c.in_ok-marks.ensures.kept (DataSegments, i)) (data_segments old.data_) (data_segments c.keep_only-9.new.self) c.keep_only-9.ensures
 
 pub returns-clause-imports : goal.returns-clause-imports
 returns-clause-imports g c =
     let old = c.args.module.now in
-    imports_left (contents_of old) c.in_ok-marks.marks c.in_ok-marks.ensures.kept (marks_of c.in_ok-marks.marks) (imports c.keep_only-3.new.self) c.keep_only-3.ensures
+    let G = λ (i : g.dyn-1.0.I). (g.dyn-1.0.entry i).1 in
+    let v = view G old in
+    imports_left v.customs v.section_roots (contents_of old) c.in_ok-marks.marks c.in_ok-marks.ensures.kept (marks_of c.in_ok-marks.marks) (imports c.keep_only-3.new.self) c.keep_only-3.ensures
     (record { funcs = refl; tables = refl; memories = refl; globals = refl; tags = refl })
 
 pub returns-clause-collected : goal.returns-clause-collected
 returns-clause-collected g c =
     let old = c.args.module.now in
-    is_collected (contents_of old) c.keep_only-2.new.self c.keep_only-3.new.self c.keep_only.new.self c.keep_only-4.new.self c.keep_only-5.new.self c.keep_only-6.new.self c.keep_only-7.new.self c.keep_only-8.new.self c.keep_only-9.new.self (record {
+    let G = λ (i : g.dyn-1.0.I). (g.dyn-1.0.entry i).1 in
+    let v = view G old in
+    is_collected v.customs v.section_roots (contents_of old) c.keep_only-2.new.self c.keep_only-3.new.self c.keep_only.new.self c.keep_only-4.new.self c.keep_only-5.new.self c.keep_only-6.new.self c.keep_only-7.new.self c.keep_only-8.new.self c.keep_only-9.new.self (record {
       types = returns-clause-types g c;
       type_names = returns-clause-type_names g c;
       imports = returns-clause-imports g c;
@@ -92,7 +115,9 @@ returns-clause-collected g c =
 pub returns-clause-settled : goal.returns-clause-settled
 returns-clause-settled g c =
     let old = c.args.module.now in
-    (stays_collected_lem (view old) (contents_view (left (contents_of old) c.keep_only-2.new.self c.keep_only-3.new.self c.keep_only.new.self c.keep_only-4.new.self c.keep_only-5.new.self c.keep_only-6.new.self c.keep_only-7.new.self c.keep_only-8.new.self c.keep_only-9.new.self)) (returns-clause-collected g c)).items
+    let G = λ (i : g.dyn-1.0.I). (g.dyn-1.0.entry i).1 in
+    let v = view G old in
+    (stays_collected_lem v (viewed v.customs v.section_roots (left v.customs v.section_roots (contents_of old) c.keep_only-2.new.self c.keep_only-3.new.self c.keep_only.new.self c.keep_only-4.new.self c.keep_only-5.new.self c.keep_only-6.new.self c.keep_only-7.new.self c.keep_only-8.new.self c.keep_only-9.new.self)) (returns-clause-collected g c)).items
 
 pub returns-clause-own_ids : goal.returns-clause-own_ids
 returns-clause-own_ids g c = λ own. record {
