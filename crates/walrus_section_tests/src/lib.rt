@@ -5,4 +5,6 @@
 mod made;
 pub mod noted;
 #[cfg(test)]
+mod raw;
+#[cfg(test)]
 mod sections;

@@ -4,6 +4,8 @@
 #[cfg(test)]
 mod command;
 #[cfg(test)]
+mod customs;
+#[cfg(test)]
 mod devices;
 #[cfg(test)]
 mod failing;

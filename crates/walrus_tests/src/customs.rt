@@ -1,0 +1,58 @@
+//! Worked modules with custom sections: which stay, and where they are written.
+
+use crate::devices::add_words;
+use crate::rows::{each_comes_out, each_is_refused};
+use std::test::Fail;
+use test_support::demand;
+
+// Modules, and what they are written as without producers.
+const ROWS: [(&str, &str); 4] = [
+    // sections `a` and `b`, debug information, and dynamic linking between two sections
+    (
+        "00 61 73 6D 01 00 00 00 00 03 01 61 01 00 0D 0B 2E 64 65 62 75 67 5F 69 6E 66 6F 02 01 04 01 60 00 00 03 02 01 00 07 05 01 01 66 00 00 00 0A 08 64 79 6C 69 6E 6B 2E 30 03 0A 04 01 02 00 0B 00 03 01 62 04",
+        "00 61 73 6D 01 00 00 00 00 0A 08 64 79 6C 69 6E 6B 2E 30 03 01 04 01 60 00 00 03 02 01 00 07 05 01 01 66 00 00 0A 04 01 02 00 0B 00 03 01 61 01 00 03 01 62 04",
+    ),
+    // a section with no name and no bytes
+    (
+        "00 61 73 6D 01 00 00 00 00 01 00",
+        "00 61 73 6D 01 00 00 00 00 01 00",
+    ),
+    // two of one name in front of the types, which nothing keeps
+    (
+        "00 61 73 6D 01 00 00 00 00 03 01 62 02 00 03 01 62 01 01 04 01 60 00 00",
+        "00 61 73 6D 01 00 00 00 00 03 01 62 02 00 03 01 62 01",
+    ),
+    // producers that aren't written, and a section behind them
+    (
+        "00 61 73 6D 01 00 00 00 00 0B 09 70 72 6F 64 75 63 65 72 73 00 00 03 01 61 01",
+        "00 61 73 6D 01 00 00 00 00 03 01 61 01",
+    ),
+];
+
+// Inputs that are refused as invalid.
+const INVALID: [&str; 2] = [
+    // a section without a name
+    "00 61 73 6D 01 00 00 00 00 00",
+    // a name that is no text
+    "00 61 73 6D 01 00 00 00 00 02 01 FF",
+];
+
+#[test]
+fn custom_sections_come_out(rt: HostRuntime) -> Result<(), Fail> {
+    let mut words = Vec::new(rt.alloc());
+    demand(
+        add_words(rt.alloc(), &mut words, "--no-producers"),
+        "memory",
+    )?;
+    each_comes_out(rt.alloc(), &words, &ROWS)
+}
+
+#[test]
+fn invalid_custom_sections_are_refused(rt: HostRuntime) -> Result<(), Fail> {
+    let mut words = Vec::new(rt.alloc());
+    demand(
+        add_words(rt.alloc(), &mut words, "--no-producers"),
+        "memory",
+    )?;
+    each_is_refused(rt.alloc(), &words, &INVALID)
+}
