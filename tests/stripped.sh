@@ -1,7 +1,9 @@
 #!/usr/bin/env bash
-# Takes the custom sections off each module of tests/samples, and of ../shared/samples where it is there, and runs the built program over
+# Takes the name section off each module of tests/samples, and of ../shared/samples where it is there, and runs the built program over
 # what is left: it may not be refused, and what comes out has to be accepted by wabt's wasm-validate, where that is installed (Debian's
-# package wabt) and accepts what goes in too; else it is told that it isn't validated. Prints a line a module and the counts.
+# package wabt) and accepts what goes in too; else it is told that it isn't validated. Its custom sections have to be those of before: sections of
+# dynamic linking first, then all others but debug information, in their order, bytes for bytes, and one `producers`. A second run over
+# the output drops nothing: it gives the same bytes. Prints a line a module and the counts.
 # tests/stripped.sh [PROGRAM], the proved program where none is given. No part of the gate.
 set -eu
 top=$(cd "$(dirname "$0")/.." && pwd)
@@ -24,15 +26,42 @@ def size_at(module, at):
             return size, at
 
 
-def stripped(module):
-    """The module without its custom sections."""
-    kept, at = [module[:8]], 8
+def sections(module):
+    """The id of each section, and its bytes as a whole and behind its size."""
+    at = 8
     while at < len(module):
         size, begin = size_at(module, at + 1)
-        if module[at] != 0:
-            kept.append(module[at : begin + size])
+        yield module[at], module[at : begin + size], module[begin : begin + size]
         at = begin + size
+
+
+def customs(module):
+    """The name of each custom section, and its data."""
+    found = []
+    for number, _, content in sections(module):
+        if number == 0:
+            size, begin = size_at(content, 0)
+            found.append((content[begin : begin + size].decode(), content[begin + size :]))
+    return found
+
+
+def stripped(module):
+    """The module without its name section."""
+    kept = [module[:8]]
+    for number, whole, content in sections(module):
+        size, begin = size_at(content, 0)
+        if number != 0 or content[begin : begin + size] != b"name":
+            kept.append(whole)
     return b"".join(kept)
+
+
+def are_kept(module, output):
+    """Whether the custom sections of the output are those that have to be written."""
+    own = [it for it in customs(module) if it[0] != "producers" and not it[0].startswith(".debug")]
+    first = [it for it in own if it[0] in ("dylink", "dylink.0")]
+    written = customs(output)
+    producers = [it for it in written if it[0] == "producers"]
+    return len(producers) == 1 and written == first + producers + [it for it in own if it not in first]
 
 
 def is_valid(module):
@@ -48,7 +77,12 @@ def outcome(program, module):
     ran = subprocess.run([program], input=module, capture_output=True, timeout=60, check=False)
     if ran.returncode != 0:
         return "REFUSED", f"status {ran.returncode}: {ran.stderr.decode(errors='replace').strip()}"
-    told = f"{len(module)} bytes, kept {len(ran.stdout)}"
+    told = f"{len(module)} bytes, kept {len(ran.stdout)}, {len(customs(ran.stdout))} custom sections"
+    if not are_kept(module, ran.stdout):
+        return "OTHER", f"{told}, other custom sections"
+    again = subprocess.run([program], input=ran.stdout, capture_output=True, timeout=60, check=False)
+    if again.stdout != ran.stdout:
+        return "OTHER", f"{told}, a second run gives other bytes"
     if not shutil.which("wasm-validate"):
         return "kept", f"{told}, not validated: there is no wasm-validate"
     if is_valid(ran.stdout):
@@ -64,5 +98,5 @@ for name, path in sorted(modules.items()):
     count[word] = count.get(word, 0) + 1
     print(f"{word:8} {name:28} {told}", flush=True)
 print(", ".join(f"{word} {number}" for word, number in sorted(count.items())), f"of {len(modules)} modules")
-sys.exit(1 if not modules or "REFUSED" in count or "INVALID" in count else 0)
+sys.exit(1 if not modules or {"REFUSED", "INVALID", "OTHER"} & set(count) else 0)
 PY
