@@ -30,9 +30,9 @@ in_front old new y rest adds x = (
       (Contains-append_cases new rest x c),
   λ h. ⊎_elim
       (λ c. ⊎_elim
-          (λ was. Contains-append_left new rest x ((adds x).1 (inl was)))
-          (λ later. Contains-append_right new rest x later)
-          (Contains-append_cases old rest x c))
+      (λ was. Contains-append_left new rest x ((adds x).1 (inl was)))
+      (λ later. Contains-append_right new rest x later)
+      (Contains-append_cases old rest x c))
       (λ (e : y ≡ x). Contains-append_left new rest x ((adds x).1 (inr e)))
       h,
 )
@@ -45,9 +45,9 @@ behind front old new y adds x = (
       (Contains-append_cases front new x c),
   λ h. ⊎_elim
       (λ c. ⊎_elim
-          (λ before. Contains-append_left front new x before)
-          (λ was. Contains-append_right front new x ((adds x).1 (inl was)))
-          (Contains-append_cases front old x c))
+      (λ before. Contains-append_left front new x before)
+      (λ was. Contains-append_right front new x ((adds x).1 (inl was)))
+      (Contains-append_cases front old x c))
       (λ (e : y ≡ x). Contains-append_right front new x ((adds x).1 (inr e)))
       h,
 )

@@ -10,4 +10,3 @@ pub mod Room
 pub mod SameItems
 pub mod SameRoots
 pub mod AskedItems
-pub mod RawSections

@@ -1,4 +1,5 @@
 pub mod Found
+pub mod KeptRaw
 pub mod RawLemmas
 pub mod Asking
 pub mod Declaring

@@ -1,6 +1,6 @@
 //! The custom sections of a module, each by its id.
 
-ghost use Rattle.std.specs.Prelude.{◌≡◌, ◌++◌, ◌∷◌, [], length, Some, None, MatchResult, MatchOption, option_map, slice_set, option_and_then, IsTrue, ◌↔◌};
+ghost use Rattle.std.specs.Prelude.{◌≡◌, ◌++◌, ◌∷◌, [], length, Some, None, IfOk, IsOkUnless, MatchResult, MatchOption, option_map, slice_set, option_and_then, IsTrue, ◌↔◌};
 ghost use Rattle.std.specs.Option.{option_copied, option_copied_mut};
 ghost use Rattle.std.specs.Borrow.{sem};
 ghost use Rattle.std.specs.Iterator.{YieldsFirstBy, item_count};
@@ -102,7 +102,22 @@ impl<S> ModuleCustomSections<S> {
 
 impl ModuleCustomSections {
     ghost use Rattle.walrus_module.specs.Customs.{sections};
-    ghost use Rattle.walrus_module.specs.Raws.{first_raw, without_first};
+    ghost use Rattle.walrus_module.specs.Raws.{first_raw, raw_sections, without_first};
+
+    // These sections, kept as they were read, in their order. Want of memory is the only refusal.
+    pub(crate) fn keeping(
+        alloc: Global,
+        raws: Vec<RawCustomSection>,
+    ) -> Result<ModuleCustomSections>
+        ensures kept { IfOk result (λ all. sections all ≡ raw_sections raws.items) }
+        ensures fails { IsOkUnless result out_of_memory }
+    {
+        let mut all = ModuleCustomSections::<SectionEntry>::new(alloc);
+        'raws: for raw in raws {
+            all.add(SectionEntry::Raw(raw))?;
+        }
+        Ok(all)
+    }
 
     /// Takes the first raw section of this name out, if there is one.
     pub fn remove_raw(&mut self, name: &str) -> Option<RawCustomSection>

@@ -57,7 +57,8 @@ impl Module {
     ghost use Rattle.walrus_reading.specs.Parsed.{AreLocated, IsParsed, ItemsAtOwnIds, RefusesBytes, TakenFrom};
     ghost use Rattle.walrus_rules.specs.Features.{features_of};
     ghost use Rattle.walrus_module.specs.Settings.{settings};
-    ghost use Rattle.walrus_module.specs.View.{HasNoCustoms, IsEmpty, contents_of, view};
+    ghost use Rattle.walrus_module.specs.Raws.{KeepsRead};
+    ghost use Rattle.walrus_module.specs.View.{IsEmpty, contents_of, view};
 
     /// An empty module, to be written as the configuration says. Want of memory is the only refusal.
     pub fn with_config(alloc: Global, config: ModuleConfig) -> Result<Module>
@@ -66,13 +67,18 @@ impl Module {
         ensures fails { IsOkUnless result out_of_memory }
     {
         let contents = Contents::new(alloc)?;
-        Ok(Module::holding(alloc, contents, config))
+        let customs = ModuleCustomSections::<SectionEntry>::new(alloc);
+        Ok(Module::holding(contents, customs, config))
     }
 
-    // The module that holds this, and no custom sections.
-    pub(crate) fn holding(alloc: Global, contents: Contents, config: ModuleConfig) -> Module
+    // The module that holds this, with these custom sections.
+    pub(crate) fn holding(
+        contents: Contents,
+        customs: ModuleCustomSections,
+        config: ModuleConfig,
+    ) -> Module
         ensures holds { contents_of result ≡ contents }
-        ensures no_customs { HasNoCustoms result }
+        ensures own { result.customs ≡ customs }
         ensures configured { settings result ≡ flags config }
     {
         Module {
@@ -90,21 +96,22 @@ impl Module {
             data_: contents.data_,
             producers: contents.producers,
             name: contents.name,
-            customs: ModuleCustomSections::<SectionEntry>::new(alloc),
+            customs,
             config,
         }
     }
 
     /// The module that the bytes are, under the default configuration. Refused as [`ModuleConfig::parse`] is.
     pub fn from_buffer(alloc: Global, bytes: &[u8]) -> Result<Module>
-        ensures found { IfOk result (λ m. IsParsed (config_of defaults) bytes.now (view ⟦<dyn CustomSection as CustomSection>⟧ m)) }
+        ensures found { IfOk result (λ m. IsParsed (config_of defaults) bytes.now
+            (view ⟦<dyn CustomSection as CustomSection>⟧ m)) }
         ensures refused { IfErr result (RefusesBytes (config_of defaults) bytes.now) }
         ensures configured { IfOk result (λ m. settings m ≡ defaults) }
         ensures taken { IfOk result (λ m. TakenFrom (features_of (config_of defaults)) bytes.now
             (contents_of m)) }
         ensures own_ids { IfOk result (λ m. ItemsAtOwnIds (contents_of m)) }
         ensures located { IfOk result (λ m. AreLocated bytes.now m.funcs) }
-        ensures no_customs { IfOk result (λ m. HasNoCustoms m) }
+        ensures kept { IfOk result (λ m. KeepsRead bytes.now m) }
     {
         Module::from_buffer_with_config(alloc, bytes, &ModuleConfig::new())
     }
@@ -115,14 +122,15 @@ impl Module {
         bytes: &[u8],
         config: &ModuleConfig,
     ) -> Result<Module>
-        ensures found { IfOk result (λ m. IsParsed (config_of (flags config.now)) bytes.now (view ⟦<dyn CustomSection as CustomSection>⟧ m)) }
+        ensures found { IfOk result (λ m. IsParsed (config_of (flags config.now)) bytes.now
+            (view ⟦<dyn CustomSection as CustomSection>⟧ m)) }
         ensures refused { IfErr result (RefusesBytes (config_of (flags config.now)) bytes.now) }
         ensures configured { IfOk result (λ m. settings m ≡ flags config.now) }
         ensures taken { IfOk result (λ m. TakenFrom (features_of (config_of (flags config.now))) bytes.now
             (contents_of m)) }
         ensures own_ids { IfOk result (λ m. ItemsAtOwnIds (contents_of m)) }
         ensures located { IfOk result (λ m. AreLocated bytes.now m.funcs) }
-        ensures no_customs { IfOk result (λ m. HasNoCustoms m) }
+        ensures kept { IfOk result (λ m. KeepsRead bytes.now m) }
     {
         config.parse(alloc, bytes)
     }

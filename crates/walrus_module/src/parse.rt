@@ -2,11 +2,13 @@
 ghost use Rattle.std.specs.Prelude.{◌≡◌, IfOk, IfErr};
 ghost use Rattle.walrus_module.specs.Flags.{flags, config_of};
 ghost use Rattle.walrus_module.specs.Settings.{settings};
-ghost use Rattle.walrus_module.specs.View.{HasNoCustoms, contents_of, view};
+ghost use Rattle.walrus_module.specs.Raws.{KeepsRead};
+ghost use Rattle.walrus_module.specs.View.{contents_of, view};
 ghost use Rattle.walrus_reading.specs.Parsed.{AreLocated, IsParsed, ItemsAtOwnIds, RefusesBytes, TakenFrom};
 ghost use Rattle.walrus_rules.specs.Features.{features_of};
 
 use crate::config::ModuleConfig;
+use crate::customs::ModuleCustomSections;
 use crate::module::Module;
 use std::alloc::Global;
 use walrus_parts::{CustomSection, Result};
@@ -19,16 +21,18 @@ impl ModuleConfig {
     ///
     /// `InvalidWasm` exactly where the bytes aren't a module, or hold what isn't supported so far, and `Memory`; then there is no module.
     pub fn parse(&self, alloc: Global, bytes: &[u8]) -> Result<Module>
-        ensures found { IfOk result (λ m. IsParsed (config_of (flags self.now)) bytes.now (view ⟦<dyn CustomSection as CustomSection>⟧ m)) }
+        ensures found { IfOk result (λ m. IsParsed (config_of (flags self.now)) bytes.now
+            (view ⟦<dyn CustomSection as CustomSection>⟧ m)) }
         ensures refused { IfErr result (RefusesBytes (config_of (flags self.now)) bytes.now) }
         ensures configured { IfOk result (λ m. settings m ≡ flags self.now) }
         ensures taken { IfOk result (λ m. TakenFrom (features_of (config_of (flags self.now))) bytes.now
             (contents_of m)) }
         ensures own_ids { IfOk result (λ m. ItemsAtOwnIds (contents_of m)) }
         ensures located { IfOk result (λ m. AreLocated bytes.now m.funcs) }
-        ensures no_customs { IfOk result (λ m. HasNoCustoms m) }
+        ensures kept { IfOk result (λ m. KeepsRead bytes.now m) }
     {
-        let contents = read(alloc, bytes, self.features())?;
-        Ok(Module::holding(alloc, contents, self.clone()?))
+        let found = read(alloc, bytes, self.features())?;
+        let customs = ModuleCustomSections::keeping(alloc, found.customs)?;
+        Ok(Module::holding(found.contents, customs, self.clone()?))
     }
 }

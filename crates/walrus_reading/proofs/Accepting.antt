@@ -1,13 +1,13 @@
 -- Bytes that are accepted frame sections that keep the rules, and the other way round.
 use Rattle.wasm_frames.specs.Record as wire
-use Rattle.std.proofs.Common.{sym, List, [], map, refl, subst, ℕ}
+use Rattle.std.proofs.Common.{◌≡◌, sym, List, [], map, refl, ap, subst, ℕ}
 use Rattle.std.specs.Prelude.{flat_map, zip}
 use Rattle.std.specs.List.{AllZip}
 use Rattle.walrus_bodies.specs.declared.features.Features.{Features}
 use Rattle.walrus_model.specs.Abstract.{ProducerField}
 use Rattle.walrus_model.specs.Config.{Config}
 use Rattle.walrus_model.specs.Reads.{declared, ReadsBodyWith}
-use Rattle.walrus_model.proofs.Supported.{no_customs}
+use Rattle.walrus_model.specs.Sections.{custom_of}
 use Rattle.walrus_rules.specs.Chain.{ParsedAs}
 use Rattle.walrus_rules.specs.Headline.{Reads, field_of}
 use Rattle.walrus_rules.specs.Sections.{module_of}
@@ -19,6 +19,7 @@ use Rattle.walrus_records.specs.Rules.{OnlyRecords}
 use Rattle.walrus_records.proofs.Agree.{agree, reads_agree}
 use Rattle.walrus_parts.specs.declared.error.Error.{Error}
 use Rattle.walrus_parts.specs.declared.error.Error.TheVariants as Parts
+use Rattle.walrus_reading.specs.Customs.{kept_customs}
 use Rattle.walrus_reading.specs.Parsed.{IsReadWith, IsParsed, TakenFrom, AreModule, RefusesModule, RefusesBytes}
 use Rattle.walrus_reading.specs.Producers.{HoldsProducers}
 use Rattle.walrus_reading.specs.Stays.{AllStay}
@@ -32,16 +33,17 @@ named_stay : (s : wire.Module) → Rules s → AllStay (declared s) s
 named_stay s h = stay (declared s) s refl h.indices
 
 module _ (config : Config) (c : Features) (with : IsReadWith config c) (bytes : List ℕ) where
-  -- ---- what was taken in was parsed
+  -- ---- what was taken in was parsed, where these custom sections are kept
 
-  pub is_parsed : (m : Contents) (t : TakenFrom c bytes m) → HoldsProducers t.sections m.producers → IsParsed config bytes (contents_view m)
-  is_parsed m t held =
+  pub is_parsed : (m : Contents) (t : TakenFrom c bytes m) → HoldsProducers t.sections m.producers → (cs : List wire.Custom) → cs ≡ kept_customs t.sections.customs
+      → IsParsed config bytes (record (contents_view m) { customs = map custom_of cs })
+  is_parsed m t held cs kept =
       let s : wire.Module = t.sections in
       let ps : List ProducerField = flat_map (map field_of) held.fields in
       let only : OnlyRecords s = ((agree c s t.taken.bodies t.taken.read).0 t.rules).0 in
       let all : AllStay (declared s) s = named_stay s t.rules in
-      let made : ParsedAs config (module_of s t.taken.bodies ps []) (contents_view m) =
-      parsed c s m only.as_many_bodies t.taken ps config with.no_names (no_elements_past s all.elements) (none_past s all.data_segments) (no_customs s t.supported) held.are in
+      let made : ParsedAs config (module_of s t.taken.bodies ps []) (record (contents_view m) { customs = map custom_of cs }) =
+      parsed c s m only.as_many_bodies t.taken ps config with.no_names (no_elements_past s all.elements) (none_past s all.data_segments) (map custom_of cs) (ap (map custom_of) kept) held.are in
       let reads : Reads config bytes (module_of s t.taken.bodies ps []) = record {
         sections = s;
         framed = t.framed;

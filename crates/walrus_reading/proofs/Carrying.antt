@@ -23,7 +23,7 @@ use Rattle.walrus_items.specs.Functions.{FunctionValue, functions}
 use Rattle.walrus_parts.specs.declared.function_kind.FunctionKind.{FunctionKind}
 use Rattle.walrus_parts.specs.declared.function_kind.FunctionKind.TheVariants.{Local}
 use Rattle.walrus_model.specs.Abstract as abstract
-use Rattle.walrus_model.specs.Abstract.{Abstract, Name, ProducerField, TypeDef, Function, Import, Body, Subject, TheModule, AnItem, ALocal}
+use Rattle.walrus_model.specs.Abstract.{Abstract, Name, Custom, ProducerField, TypeDef, Function, Import, Body, Subject, TheModule, AnItem, ALocal}
 use Rattle.walrus_model.specs.Carried.{Carries}
 use Rattle.walrus_bodies.specs.declared.features.Features.{Features}
 use Rattle.walrus_rules.specs.Chain.{AddsHandlers, IsBehind, IsWholeBody, ParsedAs}
@@ -442,11 +442,11 @@ module _ (c : Features) (r : wire.Module) (x : Contents) (many : length r.bodies
         ∙ sym (ap (λ (t : Bool). or_else (last_name (names_that_count t M y)) (if t then synthetic_name M y else None)) own_names
         ∙ ap (λ names. or_else (last_name names) None) (unnamed y))
 
-  -- ---- all of it; the producers of the module in memory are given
+  -- ---- all of it; the producers and the custom sections of the module in memory are given
   pub parsed : (config : Config) → config.synthetic_names ≡ false → ((table segment : ℕ) → length (tables_of r) ≤ table → table_keeps (elements_of r) table segment ≡ false)
       → ((memory segment : ℕ) → length (memories_of r) ≤ memory → memory_keeps (data_segments_of r) memory segment ≡ false)
-      → customs_of r.customs ≡ [] → v.producers ≡ produced ps → ParsedAs config M v
-  parsed config own_names on_tables on_memories none_kept_apart put_in = record {
+      → (cs : List Custom) → cs ≡ customs_of r.customs → v.producers ≡ produced ps → ParsedAs config M (record v { customs = cs })
+  parsed config own_names on_tables on_memories cs kept put_in = record {
     types = types;
     functions = length said;
     all_types = h.types;
@@ -481,7 +481,7 @@ module _ (c : Features) (r : wire.Module) (x : Contents) (many : length r.bodies
     table_segments = λ table segment. tables_seen (table_keeps (elements_of r)) 0 (tables_of r) (tables x.tables) h.tables table segment (λ past. ap (λ (n : ℕ). table_keeps (elements_of r) n segment) (from_zero table) ∙ on_tables table segment past) ∙ ap (λ (n : ℕ). table_keeps (elements_of r) n segment) (from_zero table);
     memory_segments = λ memory segment. kept_seen (memory_keeps (data_segments_of r)) 0 (memories_of r) (memories x.memories) h.memories memory segment (λ past. ap (λ (n : ℕ). memory_keeps (data_segments_of r) n segment) (from_zero memory) ∙ on_memories memory segment past) ∙ ap (λ (n : ℕ). memory_keeps (data_segments_of r) n segment) (from_zero memory);
     section_roots = refl;
-    customs = sym none_kept_apart;
+    customs = kept;
     producers = put_in;
     own = nameless config own_names TheModule TheModule;
     items = λ y live. nameless config own_names (AnItem y) (AnItem y);

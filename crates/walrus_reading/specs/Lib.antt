@@ -1,3 +1,4 @@
+pub mod Customs
 pub mod Held
 pub mod Imported
 pub mod Kept

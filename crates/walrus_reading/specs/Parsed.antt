@@ -1,6 +1,6 @@
 -- What parsing gives, and when it refuses.
 use Rattle.wasm_frames.specs.Record as wire
-use Rattle.std.specs.Prelude.{ℕ, List, false, zip, ◌≡◌, ⊤}
+use Rattle.std.specs.Prelude.{ℕ, List, false, map, zip, ◌≡◌, ⊤}
 use Rattle.walrus_model.specs.Abstract.{Abstract}
 use Rattle.walrus_model.specs.Config.{Config}
 use Rattle.walrus_rules.specs.Chain.{ParsedAs}
@@ -8,7 +8,7 @@ use Rattle.walrus_rules.specs.Features.{features_of}
 use Rattle.walrus_rules.specs.SoFar.{ReadsSoFar, AcceptsSoFar}
 use Rattle.walrus_model.specs.Reads.{ReadsBodyWith}
 use Rattle.walrus_bodies.specs.declared.features.Features.{Features}
-use Rattle.walrus_model.specs.Sections.{Said}
+use Rattle.walrus_model.specs.Sections.{Said, custom_of}
 use Rattle.walrus_model.specs.Rules.{Holds}
 use Rattle.walrus_model.specs.Supported.{IsSupported}
 use Rattle.std.specs.List.{AllZip}
@@ -21,17 +21,25 @@ use Rattle.walrus_items.specs.Memories.{memories}
 use Rattle.walrus_items.specs.Tables.{tables}
 use Rattle.walrus_items.specs.Tags.{tags}
 use Rattle.walrus_items.specs.OwnIds.{AtOwnIds, FunctionsAtOwnIds, ExportsAtOwnIds, LocalsAtOwnIds}
+use Rattle.walrus_contents.specs.View.{contents_view}
 use Rattle.walrus_contents.specs.declared.parts.Contents.{Contents}
+use Rattle.walrus_reading.specs.Customs.{kept_customs, section_seen}
+use Rattle.walrus_reading.specs.declared.module.ReadModule.{ReadModule}
 use Rattle.walrus_reading.specs.Taken.{AreLocatedIn, HasTaken}
 use Rattle.wasm_frames.specs.Frames.{Frames}
 use Rattle.wasm_wire.specs.Rules.{Rules}
 use Rattle.walrus_parts.specs.declared.error.Error.{Error}
 use Rattle.walrus_parts.specs.declared.error.Error.TheVariants.{Memory, InvalidWasm}
+use Rattle.walrus_parts.specs.declared.raw_section.RawCustomSection.{RawCustomSection}
 
 -- a configuration with these features that gives no names: names aren't read so far
 pub record IsReadWith (c : Config) (features : Features) : Type 0 where
   pub features_are : features ≡ features_of c
   pub no_names : c.synthetic_names ≡ false
+
+-- the module in memory: that of what it holds, with the custom sections that are kept
+abbrev pub read_view : ReadModule → Abstract
+read_view m = record (contents_view m.contents) { customs = map custom_of (map section_seen m.customs.items) }
 
 -- the bytes read as a module that keeps the rules, and v is that module in memory
 pub record IsParsed (c : Config) (bytes : List ℕ) (v : Abstract) : Type 0 where
@@ -60,6 +68,12 @@ pub record TakenFrom (features : Features) (bytes : List ℕ) (m : Contents) : T
   pub supported : IsSupported sections
   pub rules : Rules sections
   pub taken : HasTaken features sections m
+
+-- the bytes frame sections, and of the custom ones these are kept, in their order
+pub record KeepsCustoms (bytes : List ℕ) (customs : List RawCustomSection) : Type 0 where
+  pub sections : wire.Module
+  pub framed : Frames bytes sections
+  pub kept : map section_seen customs ≡ kept_customs sections.customs
 
 -- each item, export and local sits at its own id; types always do
 pub record ItemsAtOwnIds (m : Contents) : Type 0 where

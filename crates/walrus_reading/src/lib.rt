@@ -2,6 +2,7 @@
 #![tactic(auto)]
 
 mod contents;
+mod customs;
 mod elements;
 mod entities;
 mod imports;
@@ -12,4 +13,4 @@ mod producers;
 mod segments;
 mod supported;
 
-pub use module::read;
+pub use module::{ReadModule, read};

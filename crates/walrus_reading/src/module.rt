@@ -1,38 +1,50 @@
 //! Reading a module ("Binary Format > Modules").
 ghost use Rattle.std.specs.Prelude.{IfOk, IfErr};
 ghost use Rattle.walrus_model.specs.Config.{Config};
-ghost use Rattle.walrus_contents.specs.View.{contents_view};
-ghost use Rattle.walrus_reading.specs.Parsed.{AreLocated, IsParsed, IsReadWith, ItemsAtOwnIds, RefusesBytes, TakenFrom};
+ghost use Rattle.walrus_reading.specs.Parsed.{AreLocated, IsParsed, IsReadWith, ItemsAtOwnIds, KeepsCustoms, RefusesBytes, TakenFrom, read_view};
 
 use crate::contents::read_contents;
+use crate::customs::keep_sections;
 use crate::numbers::check_room;
 use crate::supported::check_supported;
 use std::alloc::Global;
 use walrus_contents::Contents;
 use walrus_ir::Features;
-use walrus_parts::Result;
+use walrus_parts::{RawCustomSection, Result};
 use wasm_wire::{check, read_module};
 
-/// What the module holds that the bytes are ("Binary Format > Modules"), where bodies may use these proposals. Each item gets the id of
+/// What is read of a module ("Binary Format > Modules").
+#[derive(Drop)]
+pub struct ReadModule {
+    /// What it holds, custom sections aside.
+    pub contents: Contents,
+    /// Its custom sections but those of names, of producers and of debug information, in their order.
+    pub customs: Vec<RawCustomSection>,
+}
+
+/// The module that the bytes are ("Binary Format > Modules"), where bodies may use these proposals. Each item gets the id of
 /// its index, and each operator the place of its first byte; the locals stand function by function, of each its parameters and then all that
 /// it declares. Each type that a legacy handler needs is found among the types, or stands behind those that were read. Nothing has a name. Of
-/// each custom section called `producers` the fields that stand whole before its first fault are held, and this program with them.
+/// each custom section called `producers` the fields that stand whole before its first fault are held, and this program with them. Those whose
+/// names begin with `.debug` are passed over, and all others are kept as they were read.
 ///
 /// # Errors
 ///
 /// `InvalidWasm` exactly where the bytes are no module, or hold what isn't supported so far, and `Memory`.
-pub fn read(alloc: Global, bytes: &[u8], features: Features) -> Result<Contents>
+pub fn read(alloc: Global, bytes: &[u8], features: Features) -> Result<ReadModule>
     ensures found { (c : Config) → IsReadWith c features
-        → IfOk result (λ m. IsParsed c bytes.now (contents_view m)) }
+        → IfOk result (λ m. IsParsed c bytes.now (read_view m)) }
     ensures refused { (c : Config) → IsReadWith c features → IfErr result (RefusesBytes c bytes.now) }
-    ensures taken { IfOk result (TakenFrom features bytes.now) }
-    ensures own_ids { IfOk result ItemsAtOwnIds }
-    ensures located { IfOk result (λ m. AreLocated bytes.now m.funcs) }
+    ensures taken { IfOk result (λ m. TakenFrom features bytes.now m.contents) }
+    ensures own_ids { IfOk result (λ m. ItemsAtOwnIds m.contents) }
+    ensures located { IfOk result (λ m. AreLocated bytes.now m.contents.funcs) }
+    ensures kept { IfOk result (λ m. KeepsCustoms bytes.now m.customs.items) }
 {
     let raw = read_module(alloc, bytes)?;
     check(alloc, &raw)?;
     check_supported(&raw)?;
     check_room(&raw)?;
+    let customs = keep_sections(alloc, &raw.customs)?;
     let contents = read_contents(alloc, &raw, &features)?;
-    Ok(contents)
+    Ok(ReadModule { contents, customs })
 }

@@ -1,6 +1,6 @@
 -- What sections without custom ones read as, and that no names are read so far.
 use Rattle.std.proofs.Common.{◌≡◌, ℕ, Bool, true, false, List, [], length, map, zip, refl, sym, ap, subst}
-use Rattle.std.specs.Prelude.{All, bytes_eq, codes, filter, if◌then◌else◌}
+use Rattle.std.specs.Prelude.{All, bytes_eq, codes, filter, if◌then◌else◌, ◌≢◌}
 use Rattle.std.specs.List.{AllZip}
 use Rattle.std.proofs.lemmas.List.Elements.{All-nil}
 use mathlib.Core.Path.{fun_ext}
@@ -39,7 +39,7 @@ no_payloads name s e = ap (λ (cs : List wire.Custom). map (λ (c : wire.Custom)
 pub reads_so_far : (c : Config) (bytes : List ℕ) (s : wire.Module) (bodies : List Said) → Frames bytes s → s.customs ≡ [] → InOrder s.order → length s.bodies ≡ length s.functions → CountHolds s
     → AllZip (ReadsBody c s) (zip s.functions s.bodies) bodies → ReadsSoFar c bytes (sections.module_of s bodies)
 reads_so_far c bytes s bodies framed none in_order as_many counted read =
-    let supported : IsSupported s = record { customs = subst (λ cs. All (λ (c : wire.Custom). c.name ≡ codes "producers") cs) (sym none) (All-nil _) } in
+    let supported : IsSupported s = record { customs = subst (λ cs. All (λ (c : wire.Custom). c.name ≢ codes "name") cs) (sym none) (All-nil (λ (c : wire.Custom). c.name ≢ codes "name")) } in
     let reads : Reads c bytes (sections.module_of s bodies) = record {
       sections = s;
       framed = framed;

@@ -14,11 +14,11 @@ const NOTED: &str =
     "00 61 73 6D 01 00 00 00 01 04 01 60 00 00 03 02 01 00 0A 04 01 02 00 0B 00 03 01 73 00";
 
 // Both functions, and behind the header the section `dylink`, which is asked under no indices.
-const DYLINK_FIRST: &str = "00 61 73 6D 01 00 00 00 00 08 06 64 79 6C 69 6E 6B FF 01 04 01 60 00 00 03 03 02 00 00 0A 07 02 02 00 0B 02 00 0B";
+const DYLINK_FIRST: &str =
+    "00 61 73 6D 01 00 00 00 00 08 06 64 79 6C 69 6E 6B FF 01 04 01 60 00 00 03 03 02 00 00 0A 07 02 02 00 0B 02 00 0B";
 
 // The second function alone, which a section of debug information keeps that isn't written.
-const DEBUG_KEPT: &str =
-    "00 61 73 6D 01 00 00 00 01 04 01 60 00 00 03 02 01 00 0A 04 01 02 00 0B";
+const DEBUG_KEPT: &str = "00 61 73 6D 01 00 00 00 01 04 01 60 00 00 03 02 01 00 0A 04 01 02 00 0B";
 
 fn with_section(alloc: Global, name: &'static str, refuses: Refuses) -> Option<Module> {
     let mut module = two_functions(alloc).ok()?;

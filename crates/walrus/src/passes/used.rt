@@ -163,7 +163,13 @@ fn marked_and_counted(alloc: Global, module: &Module) -> Result<(MarkedItems, us
         producers: &module.producers,
         name: &module.name,
     };
-    search(alloc, Searched { parts, asked: &asked })
+    search(
+        alloc,
+        Searched {
+            parts,
+            asked: &asked,
+        },
+    )
 }
 
 // What is searched: the parts of a module, and what its custom sections ask to keep.

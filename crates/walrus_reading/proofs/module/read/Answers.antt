@@ -1,5 +1,7 @@
 use Rattle.std.proofs.lemmas.Result.{err_from_is_err_and}
-use Rattle.wasm_frames.specs.Record.{sections}
+use Rattle.std.proofs.Common.{map, ap, ◌∙◌}
+use Rattle.wasm_frames.specs.Record.{custom_record, sections}
+use Rattle.walrus_reading.specs.Customs.{kept_customs, section_seen}
 use Rattle.walrus_reading.proofs.Accepting.{is_parsed, refused_bytes}
 use Rattle.walrus_reading.proofs.NarrowRules.{narrow_rules}
 use Rattle.walrus_reading.proofs.Placed.{own_ids}
@@ -51,7 +53,15 @@ returns-clause-taken c = record {
 pub returns-clause-own_ids : goal.returns-clause-own_ids
 returns-clause-own_ids c = own_ids c.args.features (sections c.in_ok-raw.raw) c.in_ok-contents.contents c.in_ok-contents.ensures.taken
 
+pub returns-clause-kept : goal.returns-clause-kept
+returns-clause-kept c = record {
+  sections = sections c.in_ok-raw.raw;
+  framed = c.in_ok-raw.ensures.found;
+  kept = c.in_ok-customs.ensures.kept ∙ ap (λ cs. kept_customs (map custom_record cs)) c.deref.ensures.value;
+}
+
 pub returns-clause-found : goal.returns-clause-found
 unfolding returns-clause-taken
 returns-clause-found c = λ config with.
     is_parsed config c.args.features with c.args.bytes.now c.in_ok-contents.contents (returns-clause-taken c) c.in_ok-contents.ensures.produced
+    (map section_seen c.in_ok-customs.customs.items) (c.in_ok-customs.ensures.kept ∙ ap (λ cs. kept_customs (map custom_record cs)) c.deref.ensures.value)

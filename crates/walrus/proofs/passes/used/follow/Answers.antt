@@ -33,8 +33,7 @@ loop-turn-preserved c =
     let old = c.loop-turn.list in
     let takes = c.in-Some.ensures in
     let entered = c.in_ok-follow_item.ensures in
-    let counted : c.follow_item.new.list.taken ≡ c.loop-turn._turn + 1 = entered.1.enters.taken ∙ takes.taken ∙ ap (λ (n : ℕ). n + 1) c.loop-turn.invariant.1 in
-    (
+    let counted : c.follow_item.new.list.taken ≡ c.loop-turn._turn + 1 = entered.1.enters.taken ∙ takes.taken ∙ ap (λ (n : ℕ). n + 1) c.loop-turn.invariant.1 in (
       follows_more w old c.loop-turn.invariant.0 x c.take.new.self takes c.follow_item.new.list
           (sound_on v [] asked x entered.0) (enters_all_on v [] asked x c.take.new.self c.follow_item.new.list entered.1),
       counted,

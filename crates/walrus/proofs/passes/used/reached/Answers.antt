@@ -22,8 +22,8 @@ returns-in_err-enter_all c =
     let own = root_names held in
     let asked = asked_items c.args.searched.asked.now in
     let roots : map item_of c.as_slice.result.now ≡ own ++ asked =
-        ap (λ (ids : List ItemId). map item_of ids) c.as_slice.ensures.value ∙ c.in_ok-push_asked.ensures
-        ∙ ap (λ (xs : List Item). xs ++ asked) (c.in_ok-push_root_names.ensures ∙ ap (λ (ids : List ItemId). map item_of ids ++ own) c.new-roots.ensures.items) in
+    ap (λ (ids : List ItemId). map item_of ids) c.as_slice.ensures.value ∙ c.in_ok-push_asked.ensures
+    ∙ ap (λ (xs : List Item). xs ++ asked) (c.in_ok-push_root_names.ensures ∙ ap (λ (ids : List ItemId). map item_of ids ++ own) c.new-roots.ensures.items) in
     rw (p.1, p.2) (refused_dead (NamesDead v (map item_of c.as_slice.result.now)) (ReachesUnsound w)
     (λ dead. unsound_root w (own ++ asked) (roots_are held asked) (names_dead_on v [] asked (own ++ asked) (subst (λ (xs : List Item). NamesDead v xs) roots dead)))
     c.in_err-enter_all.field-0.0 c.in_err-enter_all.ensures)
@@ -41,7 +41,7 @@ follow-requires-clause-follows c =
     let none = c.in_ok-list.list in
     let list = c.enter_all.new.list in
     let roots : map item_of c.as_slice.result.now ≡ own ++ asked =
-        ap (λ (ids : List ItemId). map item_of ids) c.as_slice.ensures.value ∙ c.in_ok-push_asked.ensures
-        ∙ ap (λ (xs : List Item). xs ++ asked) (c.in_ok-push_root_names.ensures ∙ ap (λ (ids : List ItemId). map item_of ids ++ own) c.new-roots.ensures.items) in
+    ap (λ (ids : List ItemId). map item_of ids) c.as_slice.ensures.value ∙ c.in_ok-push_asked.ensures
+    ∙ ap (λ (xs : List Item). xs ++ asked) (c.in_ok-push_root_names.ensures ∙ ap (λ (ids : List ItemId). map item_of ids ++ own) c.new-roots.ensures.items) in
     let entered = enters_on v [] asked (own ++ asked) none list (subst (λ (xs : List Item). Enters v xs none list) roots c.in_ok-enter_all.ensures) in
     follows_init w none list (own ++ asked) c.in_ok-list.ensures.nothing (entered.taken ∙ none_taken none c.in_ok-list.ensures.nothing) entered (roots_are held asked)
