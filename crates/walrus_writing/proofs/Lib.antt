@@ -20,6 +20,10 @@ pub mod Indexed
 pub mod ItemsLeft
 pub mod NamedAll
 pub mod NamedTypes
+pub mod NamesAre
+pub mod NamesGiven
+pub mod NamesSpelled
+pub mod NamesStand
 pub mod NoCauseAll
 pub mod NoCauseBodies
 pub mod NoCauseHeaps
@@ -44,6 +48,7 @@ pub mod TableRecords
 pub mod TextStands
 pub mod TypeRefusals
 pub mod TypesEntered
+pub mod UsedRows
 pub mod WithCustoms
 pub mod WrittenAs
 pub mod WrittenLemmas
