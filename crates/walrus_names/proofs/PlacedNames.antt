@@ -110,7 +110,7 @@ pairs_more R x xs h k (suc i) zero d less low = absurd (omega (arith, less))
 pairs_more R x xs h k (suc i) (suc j) d less low = k i j d (omega (arith, less)) (omega (arith, low))
 
 pub entries_rise_from : {X : Type 0} (k : ℕ) (os : List (Option X)) → AllPairs (λ (d : ℕ × X) (e : ℕ × X). d.0 < e.0) (entries_from k os)
-entries_rise_from k [] i j d less low = absurd (omega (arith, low))
+entries_rise_from k [] = λ i j d less low. absurd (omega (arith, low))
 entries_rise_from k (None ∷ os) = entries_rise_from (k + 1) os
 entries_rise_from {X} k (Some x ∷ os) =
     pairs_more (λ (d : ℕ × X) (e : ℕ × X). d.0 < e.0) (k, x) (entries_from (k + 1) os) (each_entry (λ (e : ℕ × X). k < e.0) (k + 1) os (λ i j y is at. omega (arith, is))) (entries_rise_from (k + 1) os)

@@ -61,7 +61,7 @@ fn push_locals<'a>(
     names: Vec<RawName<'a>>,
 ) -> Result<()>
     ensures value { OnOk result (map locals_entry to.new.items
-        ≡ with_map (map locals_entry to.old.items) function (map entry names.items)) }
+        ≡ with_map (map locals_entry to.old.items) function (map entry names.entry.items)) }
     ensures fails { IsOkUnless result out_of_memory }
 {
     if names.is_empty() {

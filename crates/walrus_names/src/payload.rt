@@ -7,7 +7,7 @@ ghost use Rattle.walrus_plan.specs.Places.{places};
 ghost use Rattle.walrus_names.specs.Names.{SpellsNames, body_used, first_own, if_chosen, names_said};
 
 use crate::locals::{WrittenBody, locals_along};
-use crate::named::{lent, names_along, types_along};
+use crate::named::{lent, names_along};
 use std::alloc::Global;
 use walrus_contents::Parts;
 use walrus_parts::{Error, Result};
@@ -43,7 +43,7 @@ fn raw_names<'a>(
         module_name: lent(parts.name),
         functions: names_along(alloc, parts.funcs, plan.functions.as_slice())?,
         locals: locals_along(alloc, parts.locals, first, bodies)?,
-        types: types_along(alloc, parts.types, plan.types.as_slice())?,
+        types: names_along(alloc, parts.types, plan.types.as_slice())?,
         tables: names_along(alloc, parts.tables, plan.tables.as_slice())?,
         memories: names_along(alloc, parts.memories, plan.memories.as_slice())?,
         globals: names_along(alloc, parts.globals, plan.globals.as_slice())?,

@@ -5,7 +5,7 @@ ghost use Rattle.wasm_forms.specs.Spelling.{vector_bytes};
 ghost use Rattle.wasm_frames.specs.Record.{custom_record};
 ghost use Rattle.wasm_payloads.specs.Producers.{field_record, value_record};
 ghost use Rattle.wasm_payloads.specs.Spelling.{NameText};
-ghost use Rattle.walrus_model.specs.Abstract.{ProducerField};
+ghost use Rattle.walrus_model.specs.Abstract as model;
 ghost use Rattle.walrus_model.specs.Producers.{if_written};
 ghost use Rattle.walrus_names.specs.Names.{SpellsNames};
 ghost use Rattle.walrus_parts.specs.Errors.{out_of_memory};
@@ -129,7 +129,7 @@ pub struct Payloads {
 
 /// Both payloads, where both are there.
 pub fn both_payloads(names: Option<Vec<u8>>, producers: Option<Vec<u8>>) -> Option<Payloads>
-    ensures { (said : NameText) (fields : List ProducerField) → SpellsNames said (Ok names)
+    ensures { (said : NameText) (fields : List model.ProducerField) → SpellsNames said (Ok names)
         → SpellsFields payload_of fields (Ok producers) → AreSpelled said fields result }
 {
     let Some(names) = names else {

@@ -1,15 +1,13 @@
 use Rattle.std.proofs.Common.{◌≡◌, ◌++◌, drop, map}
-use Rattle.std.specs.Prelude.{option_and_then}
 use Rattle.wasm_payloads.specs.Lent.{entry}
-use Rattle.walrus_base.specs.Arena.{entries, entries_from, item_at}
+use Rattle.walrus_base.specs.Arena.{entries, entries_from}
 use Rattle.walrus_base.specs.Id.{place}
-use Rattle.walrus_items.specs.Held.{held}
 use Rattle.walrus_names.proofs.named.names_along.Given as goal
 
 -- the names so far, and those that are still to come
 abbrev pub invariant-names : goal.invariant-names
 invariant-names g l = record {
   counted : l.index ≡ l.id-index;
-  named : map entry l.raw.items ++ entries_from l.id-index (map (λ id. option_and_then g.T.Named.own_name (item_at (held g.T.Item.value l.all) (place id))) (drop l.id-index l.order))
-      ≡ entries (map (λ id. option_and_then g.T.Named.own_name (item_at (held g.T.Item.value l.all) (place id))) l.order);
+  named : map entry l.raw.items ++ entries_from l.id-index (map (λ id. g.C.Named.own_name l.all (place id)) (drop l.id-index l.order))
+      ≡ entries (map (λ id. g.C.Named.own_name l.all (place id)) l.order);
 }
