@@ -5,6 +5,7 @@ use Rattle.std.specs.List.{AllByRecursion, cons_option}
 use Rattle.std.proofs.lemmas.Bool.{ne_eqb}
 use Rattle.std.proofs.lemmas.List.{append-nil}
 use Rattle.std.proofs.lemmas.List.Elements.{All-from_recursion}
+use Rattle.std.proofs.lemmas.List.Kept.{AllPairs-cons}
 use Rattle.walrus_base.specs.Arena.{entries, entries_from, item_at}
 use Rattle.walrus_model.specs.Abstract.{Name}
 use Rattle.walrus_model.proofs.Standing.{self_eq, some_inj}
@@ -103,14 +104,8 @@ each_entry P k os h = All-from_recursion P (entries_from k os) (all_entries P k 
 
 -- ---- they rise
 
-pairs_more : {A : Type 0} (R : A → A → Type 0) (x : A) (xs : List A) → All (R x) xs → AllPairs R xs → AllPairs R (x ∷ xs)
-pairs_more R x xs h k zero zero d less low = absurd (omega (arith, less))
-pairs_more R x xs h k zero (suc j) d less low = h j d (omega (arith, low))
-pairs_more R x xs h k (suc i) zero d less low = absurd (omega (arith, less))
-pairs_more R x xs h k (suc i) (suc j) d less low = k i j d (omega (arith, less)) (omega (arith, low))
-
 pub entries_rise_from : {X : Type 0} (k : ℕ) (os : List (Option X)) → AllPairs (λ (d : ℕ × X) (e : ℕ × X). d.0 < e.0) (entries_from k os)
 entries_rise_from k [] = λ i j d less low. absurd (omega (arith, low))
 entries_rise_from k (None ∷ os) = entries_rise_from (k + 1) os
 entries_rise_from {X} k (Some x ∷ os) =
-    pairs_more (λ (d : ℕ × X) (e : ℕ × X). d.0 < e.0) (k, x) (entries_from (k + 1) os) (each_entry (λ (e : ℕ × X). k < e.0) (k + 1) os (λ i j y is at. omega (arith, is))) (entries_rise_from (k + 1) os)
+    AllPairs-cons (λ (d : ℕ × X) (e : ℕ × X). d.0 < e.0) (k, x) (entries_from (k + 1) os) (each_entry (λ (e : ℕ × X). k < e.0) (k + 1) os (λ i j y is at. omega (arith, is))) (entries_rise_from (k + 1) os)

@@ -48,6 +48,7 @@ pub mod TableRecords
 pub mod TextStands
 pub mod TypeRefusals
 pub mod TypesEntered
+pub mod UsedLeft
 pub mod UsedRows
 pub mod WithCustoms
 pub mod WrittenAs

@@ -3,8 +3,11 @@ use Rattle.std.proofs.Common.{inl, inr, ⊎_elim, ◌≡◌, ℕ, zero, suc, ◌
 use Rattle.std.specs.Prelude.{◌≢◌, Contains, IsSome, Option, nat_eq, option_and_then, option_to_list, slice_get, unwrap_or, if◌then◌else◌}
 use Rattle.std.specs.List.{IsDistinct}
 use Rattle.std.proofs.lemmas.Bool.{cases_lt}
+use Rattle.std.proofs.lemmas.Bool.{eqb-true}
 use Rattle.std.proofs.lemmas.Bool.Decides.{Decides-eqb}
+use Rattle.std.proofs.lemmas.Cmp.{nat_eq_equiv}
 use Rattle.std.proofs.lemmas.Map.Made.{IsDistinct-from_AllPairs}
+use Rattle.std.proofs.lemmas.Map.Views.{Contains-from_any, list_any-from_Contains}
 use Rattle.wasm_payloads.specs.declared.naming.NameSpace.{NameSpace}
 use Rattle.wasm_payloads.specs.declared.naming.NameSpace.TheVariants as spaces
 use Rattle.walrus_base.specs.Arena.{entries, item_at}
@@ -16,7 +19,6 @@ use Rattle.walrus_types.specs.declared.locals.Local.{Local}
 use Rattle.walrus_bodies.specs.declared.features.Features.{Features}
 use Rattle.walrus_code.specs.Function.{body_of as ops_in}
 use Rattle.walrus_functions.specs.EmittedBody.{is_used}
-use Rattle.walrus_functions.proofs.AmongLemmas.{among, tested}
 use Rattle.walrus_functions.proofs.WrittenLemmas.{all_differ}
 use Rattle.walrus_contents.specs.View.{body, parts_view}
 use Rattle.walrus_contents.specs.declared.parts.Parts.{Parts}
@@ -34,11 +36,10 @@ use Rattle.walrus_rules.specs.Examples.{no_names}
 use Rattle.walrus_rules.specs.Namings.{is_in_range, names_given, names_in_range, space_of}
 use Rattle.walrus_rules.specs.Text.{NameMap, NameText, namings_of}
 use Rattle.walrus_rules.proofs.OneName.{looked, looked_at, looked_in}
-use Rattle.walrus_rules.proofs.OneSpelling.{names_told}
 use Rattle.walrus_writing.specs.Parts.{source, used_among}
 use Rattle.walrus_writing.specs.Records.{Records, names_written}
 use Rattle.walrus_writing.specs.declared.write.Choices.{Choices}
-use Rattle.walrus_writing.proofs.NamesGiven.{all_given, item_given, local_given, module_given}
+use Rattle.walrus_writing.proofs.NamesGiven.{all_given, item_given, local_given, module_given, names_told}
 use Rattle.walrus_writing.proofs.NamesStand.{IsMap, all_names, all_there, among_get, is_map, local_at, maps, named_in, names_of}
 use Rattle.walrus_writing.proofs.OwnCustoms.{CustomText}
 use Rattle.walrus_writing.proofs.Parted.{body_among}
@@ -152,7 +153,7 @@ module _ {p : Parts} {features : Features} (r : Records p features) where
       let q = placed r _ w.t w.bytes w.has w.typed w.locals_at x u in
       let at : slice_get w.has.ids q.k ≡ Some x = ap (λ (l : List ℕ). slice_get l q.k) w.has.written.listed ∙ found_at (all_in a) x q.k q.at in
       let stands : item_at (used_among w.has.ids w.has.used) q.k ≡ Some x =
-      flags a q.k ∙ used_at (test_in a) w.has.ids q.k x at ∙ ap (λ (b : Bool). if b then Some x else None) (tested x (locals_of (ops_in w.has.local)) u) in
+      flags a q.k ∙ used_at (test_in a) w.has.ids q.k x at ∙ ap (λ (b : Bool). if b then Some x else None) (list_any-from_Contains nat_eq_equiv x (locals_of (ops_in w.has.local)) u) in
       ap (item_at (names_of r a)) q.is
       ∙ item_through (local_name L) (used_among w.has.ids w.has.used) q.k
       ∙ ap (option_and_then (local_name L)) stands
@@ -215,7 +216,7 @@ module _ {p : Parts} {features : Features} (r : Records p features) where
           let name = named_there (item_at (names_of r a) y) h in
           let x = local_at r a y name.0 name.1 in
           let at : slice_get a.row.has.ids y ≡ Some x.0 = among_get a.row.has.ids a.row.has.used y x.0 x.1 in
-          let used : Contains (locals_of (ops_in a.row.has.local)) x.0 = among x.0 (locals_of (ops_in a.row.has.local)) (is_tested (test_in a) a.row.has.ids y x.0 (sym (flags a y) ∙ x.1)) in (
+          let used : Contains (locals_of (ops_in a.row.has.local)) x.0 = Contains-from_any (λ m n e. eqb-true m n e) x.0 (locals_of (ops_in a.row.has.local)) (is_tested (test_in a) a.row.has.ids y x.0 (sym (flags a y) ∙ x.1)) in (
             i,
             body p.locals.now a.row.has.local,
             x.0,

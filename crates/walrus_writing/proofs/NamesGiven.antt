@@ -18,6 +18,10 @@ use Rattle.walrus_functions.proofs.LawOrder.{Sorted, sorted_of}
 use Rattle.wasm_operators.proofs.OneStands.{and_both}
 use Rattle.walrus_rules.proofs.OneName.{looked, looked_at, Lower, MapGood, one_map, one_maps}
 use Rattle.walrus_rules.proofs.TextNames.{given_append}
+use Rattle.walrus_rules.specs.Sections.{items_of}
+use Rattle.walrus_rules.specs.Text.{Text, said}
+use Rattle.walrus_rules.proofs.OneSections.{laid}
+use Rattle.walrus_rules.proofs.OneSpelling.{told}
 
 -- ---- namings one after another
 
@@ -200,3 +204,24 @@ one_names n s t h g same =
     let locals : s.locals ≡ t.locals = one_maps s.locals t.locals (sorted_of Lower s.locals h.functions) (sorted_of Lower t.locals g.functions) (functions_good s.locals h.locals) (functions_good t.locals g.locals) (λ f x. sym (local_given s f x) ∙ given (ALocal f x) ∙ local_given t f x) in
     ap₂ (λ (m : Option Name) (l : List (ℕ × NameMap)). record { module_name = m; items = s.items; locals = l }) title locals
     ∙ ap (λ (i : NameSpace → NameMap). record { module_name = t.module_name; items = i; locals = t.locals }) (fun_ext items)
+
+abbrev told_items : Text → Abstract
+told_items t = items_of (laid t) (map said t.bodies) t.producers
+
+in_range : (t : Text) (x : Subject) → is_in_range (told t) x ≡ is_in_range (told_items t) x
+in_range t TheModule = refl
+in_range t (AnItem (Types, i)) = refl
+in_range t (AnItem (Functions, i)) = refl
+in_range t (AnItem (Tables, i)) = refl
+in_range t (AnItem (Memories, i)) = refl
+in_range t (AnItem (Tags, i)) = refl
+in_range t (AnItem (Globals, i)) = refl
+in_range t (AnItem (Elements, i)) = refl
+in_range t (AnItem (DataSegments, i)) = refl
+in_range t (ALocal f x) = refl
+
+pub names_told : (n : Abstract) (t : Text) → n ≡ told t → (x : Subject) → names_in_range n (namings_of t.names) x ≡ n.named x
+names_told n t e x =
+    ap (λ (b : Bool). if b then names_given (namings_of t.names) x else []) (ap (λ (m : Abstract). is_in_range m x) e ∙ in_range t x)
+    ∙ sym (ap (λ (m : Abstract). m.named x) e)
+

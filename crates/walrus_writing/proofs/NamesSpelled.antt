@@ -89,11 +89,8 @@ names_more names = named_by_bytes (names_bytes names)
 abbrev Fits : wire.Custom → Type 0
 Fits c = SectionFits (CustomSection c)
 
-none_fits : FitsLength []
-none_fits = omega arith
-
 bytes_fit : (bytes : List ℕ) → All Fits (named_by_bytes bytes) → FitsLength bytes
-bytes_fit [] all = none_fits
+bytes_fit [] all = omega arith
 bytes_fit (b ∷ bs) all =
     let section : Fits (record { name = codes "name"; bytes = b ∷ bs }) = All-head Fits (record { name = codes "name"; bytes = b ∷ bs }) [] all in
     behind_fits (block_bytes (codes "name")) (b ∷ bs) section.1

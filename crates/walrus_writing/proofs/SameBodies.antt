@@ -70,7 +70,7 @@ unfolding IsDistinct
 distinct_by [] h = tt
 distinct_by (x ∷ xs) h = (all_differ x xs h.0, distinct_by xs h.1)
 
-rest_of : (a x : ℕ) → a ≤ x → (k : ℕ) × (x ≡ a + k)
+pub rest_of : (a x : ℕ) → a ≤ x → (k : ℕ) × (x ≡ a + k)
 rest_of zero x h = (x, omega arith)
 rest_of (suc a) zero h = absurd (omega (arith, h))
 rest_of (suc a) (suc x) h = let d = rest_of a x (omega (arith, h)) in (d.0, let p : x ≡ a + d.0 = d.1 in omega (arith, p))

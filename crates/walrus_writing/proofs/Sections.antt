@@ -204,18 +204,18 @@ to_front (s ∷ ss) t = ap (λ (l : List Section). s ∷ l) (to_front ss t)
 
 module _ (t : Text) (sections : List wire.Custom) (split : sections ≡ t.dylinks ++ t.others) (dylinks : All (λ c. is_dylink c ≡ true) t.dylinks) (others : All (λ c. is_other c ≡ true) t.others) where
   -- the sections that are made
-  abbrev both : List wire.Custom
-  both = made_by (names_bytes t.names) t.producers
+  abbrev made_both : List wire.Custom
+  made_both = made_by (names_bytes t.names) t.producers
 
   -- the custom sections of the module: those of its own, and then names and producers
   abbrev pub customs : List wire.Custom
-  customs = sections ++ both
+  customs = sections ++ made_both
 
   abbrev in_parts : List wire.Custom
-  in_parts = (t.dylinks ++ t.others) ++ both
+  in_parts = (t.dylinks ++ t.others) ++ made_both
 
   parts_same : customs ≡ in_parts
-  parts_same = ap (λ (l : List wire.Custom). l ++ both) split
+  parts_same = ap (λ (l : List wire.Custom). l ++ made_both) split
 
   each_dylink : (f : List ℕ → Bool) (b : Bool) → f (codes "dylink") ≡ b → f (codes "dylink.0") ≡ b → All (λ (c : wire.Custom). f c.name ≡ b) t.dylinks
   each_dylink f b first second = All-weaker (λ (c : wire.Custom). is_dylink c ≡ true) (λ (c : wire.Custom). f c.name ≡ b) (by_dylink f b first second) t.dylinks dylinks
@@ -226,7 +226,7 @@ module _ (t : Text) (sections : List wire.Custom) (split : sections ≡ t.dylink
   of_dylink : group_of Dylink customs ≡ t.dylinks
   of_dylink =
       ap (group_of Dylink) parts_same
-      ∙ in_three Dylink t.dylinks t.others both t.dylinks [] []
+      ∙ in_three Dylink t.dylinks t.others made_both t.dylinks [] []
       (filter_all (λ (c : wire.Custom). is_in Dylink c.name) t.dylinks (each_dylink (is_in Dylink) true refl refl))
       (none_passes (λ (c : wire.Custom). is_in Dylink c.name) t.others (each_other (is_in Dylink) false (λ c h. (apart_parts c h).0)))
       (made_dylink (names_bytes t.names) t.producers)
@@ -236,7 +236,7 @@ module _ (t : Text) (sections : List wire.Custom) (split : sections ≡ t.dylink
   of_names =
       ap (λ (l : List wire.Custom). map CustomSection l)
       (ap (group_of Names) parts_same
-      ∙ in_three Names t.dylinks t.others both [] [] (group_of Names both)
+      ∙ in_three Names t.dylinks t.others made_both [] [] (group_of Names made_both)
       (none_passes (λ (c : wire.Custom). is_in Names c.name) t.dylinks (each_dylink (is_in Names) false refl refl))
       (none_passes (λ (c : wire.Custom). is_in Names c.name) t.others (each_other (is_in Names) false no_name))
       refl)
@@ -246,7 +246,7 @@ module _ (t : Text) (sections : List wire.Custom) (split : sections ≡ t.dylink
   of_producers =
       ap (λ (l : List wire.Custom). map CustomSection l)
       (ap (group_of Producers) parts_same
-      ∙ in_three Producers t.dylinks t.others both [] [] (group_of Producers both)
+      ∙ in_three Producers t.dylinks t.others made_both [] [] (group_of Producers made_both)
       (none_passes (λ (c : wire.Custom). is_in Producers c.name) t.dylinks (each_dylink (is_in Producers) false refl refl))
       (none_passes (λ (c : wire.Custom). is_in Producers c.name) t.others (each_other (is_in Producers) false no_producers))
       refl)
@@ -255,7 +255,7 @@ module _ (t : Text) (sections : List wire.Custom) (split : sections ≡ t.dylink
   of_others : group_of Others customs ≡ t.others
   of_others =
       ap (group_of Others) parts_same
-      ∙ in_three Others t.dylinks t.others both [] t.others []
+      ∙ in_three Others t.dylinks t.others made_both [] t.others []
       (none_passes (λ (c : wire.Custom). is_in Others c.name) t.dylinks (each_dylink (is_in Others) false refl refl))
       (filter_all (λ (c : wire.Custom). is_in Others c.name) t.others (each_other (is_in Others) true in_others))
       (made_others (names_bytes t.names) t.producers)
@@ -316,7 +316,7 @@ module _ (t : Text) (sections : List wire.Custom) (split : sections ≡ t.dylink
     pub all_sections : EachSection P (placed t customs) → All P (sections_of t)
     all_sections e =
         let own : All (λ (c : wire.Custom). P (CustomSection c)) in_parts = subst (λ (l : List wire.Custom). All (λ (c : wire.Custom). P (CustomSection c)) l) parts_same e.customs in
-        let both : All (λ (c : wire.Custom). P (CustomSection c)) (t.dylinks ++ t.others) = All-front (λ (c : wire.Custom). P (CustomSection c)) (t.dylinks ++ t.others) both own in
+        let both : All (λ (c : wire.Custom). P (CustomSection c)) (t.dylinks ++ t.others) = All-front (λ (c : wire.Custom). P (CustomSection c)) (t.dylinks ++ t.others) made_both own in
         let hold_first : All P first = All-map P CustomSection t.dylinks (All-front (λ (c : wire.Custom). P (CustomSection c)) t.dylinks t.others both) in
         let hold_last : All P last = All-map P CustomSection t.others (All-back (λ (c : wire.Custom). P (CustomSection c)) t.dylinks t.others both) in
         let hold_types : All P (to_types first t) = All-append P first (listed frames.Types t.types) hold_first (all_listed P frames.Types t.types e.types) in
@@ -332,7 +332,7 @@ module _ (t : Text) (sections : List wire.Custom) (split : sections ≡ t.dylink
         let hold_data_count : All P (to_data_count first t) = All-append P (to_elements first t) (if_some frames.DataCount t.data_count) hold_elements (all_given P frames.DataCount t.data_count e.data_count) in
         let hold_bodies : All P (to_bodies first t) = All-append P (to_data_count first t) (listed frames.Code (map unplaced t.bodies)) hold_data_count (all_listed P frames.Code (map unplaced t.bodies) e.bodies) in
         let hold_data_segments : All P (to_data_segments first t) = All-append P (to_bodies first t) (listed frames.DataSegments t.data_segments) hold_bodies (all_listed P frames.DataSegments t.data_segments e.data_segments) in
-        let hold_both : All (λ (c : wire.Custom). P (CustomSection c)) both = All-back (λ (c : wire.Custom). P (CustomSection c)) (t.dylinks ++ t.others) both own in
+        let hold_both : All (λ (c : wire.Custom). P (CustomSection c)) made_both = All-back (λ (c : wire.Custom). P (CustomSection c)) (t.dylinks ++ t.others) made_both own in
         let hold_named : All P to_named = All-append P (to_data_segments first t) named hold_data_segments (names_hold P (names_bytes t.names) (All-front (λ (c : wire.Custom). P (CustomSection c)) (named_by_bytes (names_bytes t.names)) (producers_more t.producers) hold_both)) in
         let hold_made : All P (to_named ++ made) = All-append P to_named made hold_named (producers_hold P t.producers (All-back (λ (c : wire.Custom). P (CustomSection c)) (named_by_bytes (names_bytes t.names)) (producers_more t.producers) hold_both)) in
         All-append P (to_named ++ made) last hold_made hold_last
@@ -372,7 +372,7 @@ module _ (t : Text) (sections : List wire.Custom) (split : sections ≡ t.dylink
           data_segments = of_listed P frames.DataSegments t.data_segments none.data_segments (All-back P (to_bodies first t) (listed frames.DataSegments t.data_segments) hold_data_segments);
           customs =
               subst (λ (l : List wire.Custom). All (λ (c : wire.Custom). P (CustomSection c)) l) (sym parts_same)
-              (All-append (λ (c : wire.Custom). P (CustomSection c)) (t.dylinks ++ t.others) both
+              (All-append (λ (c : wire.Custom). P (CustomSection c)) (t.dylinks ++ t.others) made_both
               (All-append (λ (c : wire.Custom). P (CustomSection c)) t.dylinks t.others
               (of_map P CustomSection t.dylinks (All-front P first (listed frames.Types t.types) hold_types))
               (of_map P CustomSection t.others (All-back P (to_named ++ made) last hold_all)))

@@ -21,6 +21,7 @@ use Rattle.walrus_model.specs.Spaces.{SameThing, look}
 use Rattle.walrus_model.proofs.Standing.{some_inj, some_of, zip_right}
 use Rattle.walrus_rules.specs.Namings.{has_local, is_in_range}
 use Rattle.walrus_rules.specs.Text.{said}
+use Rattle.walrus_rules.proofs.OneList.{got_at}
 use Rattle.walrus_rules.proofs.UsedLocals.{behind}
 use Rattle.walrus_plan.specs.Brought.{import_numbers}
 use Rattle.walrus_writing.specs.Parts.{HasBytes, type_index, used_locals}
@@ -112,8 +113,10 @@ module _ {p : Parts} {features : Features} (r : Records p features) where
   planned k i at = ap (λ (l : List ℕ). slice_get l (first + k)) (r.parted Functions) ∙ behind brought_numbers (r.own Functions) k (first + k) (ap (λ (n : ℕ). n + k) first_is) ∙ at
 
   as_many : length (r.plan Functions) ≡ length (brought Functions r.imports ++ new_functions r)
-  unfolding written_along
-  as_many = zip_length (StandsFor (SameThing (renaming_of r) Functions) (look (parts_view p) Functions)) (r.plan Functions) (brought Functions r.imports ++ new_functions r) (written_along r Functions).stand
+  as_many =
+      let w = written_along r Functions in
+      zip_length (StandsFor (SameThing (renaming_of r) Functions) (look (parts_view p) Functions)) (r.plan Functions) w.written w.stand
+      ∙ ap length (got_at w.written (brought Functions r.imports ++ new_functions r) (λ j. sym (w.reads j)))
 
   brought_first : first ≡ length (brought Functions r.imports)
   brought_first = omega (arith, as_many, length-append (brought Functions r.imports) (new_functions r), zip_length (IsRow r) (r.own Functions) (new_functions r) (all_rows r))

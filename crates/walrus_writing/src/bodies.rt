@@ -1,11 +1,12 @@
 //! The bodies of functions, their bytes and their used locals ("Binary Format > Modules > Code Section").
-ghost use Rattle.std.specs.Prelude.{◌≡◌, All, IfOk, IfErr, length, map, option_map};
+ghost use Rattle.std.specs.Prelude.{◌≡◌, ◌<◌, ◌^◌, [], ◌∷◌, ◌++◌, All, IfOk, IfErr, IsOkUnless, OnOk, length, map, option_map};
 ghost use Rattle.std.specs.List.{AllZip};
-ghost use Rattle.walrus_base.specs.Arena.{entries};
+ghost use Rattle.walrus_base.specs.Arena.{entries, entries_from};
 ghost use Rattle.walrus_base.specs.Id.{place};
 ghost use Rattle.walrus_code.specs.Indices.{index_of};
 ghost use Rattle.walrus_items.specs.Functions.{functions};
 ghost use Rattle.walrus_names.specs.Names.{used_seen};
+ghost use Rattle.walrus_parts.specs.Errors.{out_of_memory};
 ghost use Rattle.walrus_writing.specs.Parts.{local_in, IsIndexed, IsWrittenBody, used_among};
 ghost use Rattle.walrus_writing.specs.Refusals.{RefusesBodies, RefusesUsed};
 
@@ -37,6 +38,20 @@ pub fn local_of(funcs: &ModuleFunctions, id: FunctionId) -> Option<&LocalFunctio
     }
 }
 
+// Puts a local behind others, with its index, where it is used.
+fn push_used(to: &mut Vec<(u32, LocalId)>, used: bool, index: usize, id: LocalId) -> Result<()>
+    requires { index < 2 ^ 32 }
+    ensures value { OnOk result (used_seen to.new.items ≡ used_seen to.old.items
+        ++ entries_from index (used_among (place id ∷ []) (used ∷ []))) }
+    ensures fails { IsOkUnless result out_of_memory }
+{
+    if !used {
+        return Ok(());
+    }
+    to.push((index as u32, id))?;
+    Ok(())
+}
+
 // Of these locals, by rising index, those that are used, with their indices.
 fn used_of(alloc: Global, order: &[LocalId], used: &[bool]) -> Result<Vec<(u32, LocalId)>>
     requires { length used.now ≡ length order.now }
@@ -50,9 +65,7 @@ fn used_of(alloc: Global, order: &[LocalId], used: &[bool]) -> Result<Vec<(u32, 
     let mut found = Vec::new(alloc);
     let mut index: usize = 0;
     'locals: for id in order {
-        if used[index] {
-            found.push((index as u32, *id))?;
-        }
+        push_used(&mut found, used[index], index, *id)?;
         index += 1;
     }
     Ok(found)
