@@ -20,7 +20,6 @@ use Rattle.walrus_items.specs.declared.globals.Global.{Global}
 use Rattle.walrus_items.specs.declared.memories.Memory.{Memory}
 use Rattle.walrus_items.specs.declared.tables.Table.{Table}
 use Rattle.walrus_items.specs.declared.tags.Tag.{Tag}
-use Rattle.walrus_types.specs.Locals.{locals}
 use Rattle.walrus_types.specs.TypeDef.{name_bytes, type_name}
 use Rattle.walrus_types.specs.Operators.{Space, Types, Functions, Tables, Memories, Tags, Globals, Elements, DataSegments}
 use Rattle.walrus_types.specs.declared.locals.Local.{Local}

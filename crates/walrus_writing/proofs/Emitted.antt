@@ -1,8 +1,7 @@
 -- What the spelling of a module's records is: the one spelling of what the module is written as.
-use Rattle.std.proofs.Common.{ap, ◌≡◌, ℕ, Bool, List, length, map, sym, ap₂, subst, ◌∙◌, arith}
+use Rattle.std.proofs.Common.{ap, ◌≡◌, ℕ, Bool, List, length, map, sym, ap₂, subst, ◌∙◌}
 use Rattle.std.specs.Prelude.{All}
 use Rattle.std.specs.Str.{IsUtf8}
-use Rattle.std.proofs.lemmas.List.Elements.{All-nil}
 use Rattle.walrus_bodies.specs.declared.features.Features.{Features}
 use Rattle.walrus_contents.specs.View.{parts_view}
 use Rattle.walrus_contents.specs.declared.parts.Parts.{Parts}

@@ -1,6 +1,6 @@
 -- What is named in the module that parts are written as: each item and each used local by its own name, and nothing else.
-use Rattle.std.proofs.Common.{inl, inr, ⊎_elim, ◌≡◌, ℕ, zero, suc, ◌+◌, ◌<◌, ◌≤◌, Bool, true, false, List, [], ◌∷◌, ◌++◌, length, map, refl, sym, ap, ◌∙◌, subst, arith, Some, None}
-use Rattle.std.specs.Prelude.{◌≢◌, Contains, IsSome, Option, nat_eq, option_and_then, option_to_list, slice_get, unwrap_or, if◌then◌else◌}
+use Rattle.std.proofs.Common.{⊎_elim, ◌≡◌, ℕ, zero, suc, ◌+◌, Bool, true, false, List, [], ◌∷◌, ◌++◌, map, refl, sym, ap, ◌∙◌, subst, Some, None}
+use Rattle.std.specs.Prelude.{Contains, IsSome, Option, nat_eq, option_and_then, option_to_list, slice_get, unwrap_or, if◌then◌else◌}
 use Rattle.std.specs.List.{IsDistinct}
 use Rattle.std.proofs.lemmas.Bool.{cases_lt}
 use Rattle.std.proofs.lemmas.Bool.{eqb-true}
@@ -10,11 +10,10 @@ use Rattle.std.proofs.lemmas.Map.Made.{IsDistinct-from_AllPairs}
 use Rattle.std.proofs.lemmas.Map.Views.{Contains-from_any, list_any-from_Contains}
 use Rattle.wasm_payloads.specs.declared.naming.NameSpace.{NameSpace}
 use Rattle.wasm_payloads.specs.declared.naming.NameSpace.TheVariants as spaces
-use Rattle.walrus_base.specs.Arena.{entries, item_at}
+use Rattle.walrus_base.specs.Arena.{item_at}
 use Rattle.walrus_base.specs.Id.{place}
 use Rattle.walrus_types.specs.Locals.{locals}
 use Rattle.walrus_types.specs.Operators.{Space, Types, Functions, Tables, Memories, Tags, Globals, Elements, DataSegments, Item, locals_of}
-use Rattle.walrus_types.specs.Shape.{place_in}
 use Rattle.walrus_types.specs.declared.locals.Local.{Local}
 use Rattle.walrus_bodies.specs.declared.features.Features.{Features}
 use Rattle.walrus_code.specs.Function.{body_of as ops_in}
@@ -25,7 +24,6 @@ use Rattle.walrus_contents.specs.declared.parts.Parts.{Parts}
 use Rattle.walrus_model.specs.Abstract.{Abstract, ALocal, AnItem, Body, Custom, Name, Subject, TheModule}
 use Rattle.walrus_model.specs.Live.{IsLive}
 use Rattle.walrus_model.specs.Names.{AreNamed, IsNoType, MayBeNamed, WritesNames, body_of, body_of_function, last_name, own_name}
-use Rattle.walrus_model.specs.Out.{IsTheSegment}
 use Rattle.walrus_model.specs.Refers.{IsUsed}
 use Rattle.walrus_model.specs.Renaming.{Renaming, renamed}
 use Rattle.walrus_model.proofs.Indices.{found_at, planned_index, planned_stands}
@@ -40,7 +38,7 @@ use Rattle.walrus_writing.specs.Parts.{source, used_among}
 use Rattle.walrus_writing.specs.Records.{Records, names_written}
 use Rattle.walrus_writing.specs.declared.write.Choices.{Choices}
 use Rattle.walrus_writing.proofs.NamesGiven.{all_given, item_given, local_given, module_given, names_told}
-use Rattle.walrus_writing.proofs.NamesStand.{IsMap, all_names, all_there, among_get, is_map, local_at, maps, named_in, names_of}
+use Rattle.walrus_writing.proofs.NamesStand.{all_names, all_there, among_get, is_map, local_at, maps, named_in, names_of}
 use Rattle.walrus_writing.proofs.OwnCustoms.{CustomText}
 use Rattle.walrus_writing.proofs.Parted.{body_among}
 use Rattle.walrus_writing.proofs.SameBodies.{placed, rest_of}

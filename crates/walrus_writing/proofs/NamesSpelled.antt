@@ -1,9 +1,9 @@
 -- The name section, and that of producers behind it: what fits in them where they fit, and the payloads that make them.
-use Rattle.std.proofs.Common.{◌≡◌, ℕ, ◌≤◌, ◌+◌, Bool, true, false, List, [], ◌∷◌, ◌++◌, length, map, refl, ap, ap₂, ◌∙◌, arith}
+use Rattle.std.proofs.Common.{◌≡◌, ℕ, ◌≤◌, true, false, List, [], ◌∷◌, ◌++◌, length, map, refl, ap₂, arith}
 use Rattle.std.specs.Prelude.{All, Option, Some, None, codes, is_some}
 use Rattle.std.proofs.lemmas.List.Elements.{All-head}
 use Rattle.wasm_forms.specs.Spelling.{block_bytes, number_bytes, row_bytes, vector_bytes}
-use Rattle.wasm_forms.specs.Writing.{EachFits, FitsLength, FitsVector}
+use Rattle.wasm_forms.specs.Writing.{EachFits, FitsLength}
 use Rattle.wasm_frames.specs.Record as wire
 use Rattle.wasm_frames.specs.Frames.{CustomSection}
 use Rattle.wasm_payloads.specs.declared.naming.NameSpace.{NameSpace}

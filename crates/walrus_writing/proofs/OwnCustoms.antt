@@ -1,7 +1,7 @@
 -- Custom sections that were asked for their data: those of dynamic linking first, and then others, none of which is a name, producers or
 -- debug section, where a module of indices can say them.
 use Rattle.std.proofs.Common.{◌≡◌, ℕ, zero, suc, Bool, true, false, List, [], ◌∷◌, ◌++◌, map, refl, sym, ap, ap₂, subst, ◌∙◌, arith}
-use Rattle.std.specs.Prelude.{All, Contains, ◌≢◌, codes, bytes_eq, cond, filter, not, ◌||◌, slice_index_or, length, ◌<◌}
+use Rattle.std.specs.Prelude.{All, ◌≢◌, codes, bytes_eq, cond, filter, not, ◌||◌, slice_index_or, length, ◌<◌}
 use Rattle.std.specs.List.{AllByRecursion}
 use Rattle.std.specs.Str.{IsUtf8}
 use Rattle.std.proofs.lemmas.List.Elements.{All-filter, All-nil, All-from_recursion, recursion_from_All}

@@ -1,6 +1,6 @@
 -- The module of records with their custom sections is that of a text, where one says these: it fits where the text does, and has its bytes.
 use Rattle.wasm_entries.specs.Record as entries
-use Rattle.std.proofs.Common.{◌≡◌, ℕ, List, ◌++◌, map, sym, ap, ap₂, subst, ◌∙◌, None, Some}
+use Rattle.std.proofs.Common.{◌≡◌, ℕ, List, ◌++◌, map, sym, ap, ap₂, subst, ◌∙◌, None}
 use Rattle.std.specs.Prelude.{All, Option}
 use Rattle.std.proofs.lemmas.List.Elements.{All-nil}
 use Rattle.wasm_frames.specs.Record as wire

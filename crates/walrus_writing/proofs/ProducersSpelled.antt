@@ -1,16 +1,15 @@
 -- The producers section: its payload isn't empty, what fits in it where it fits, and its texts.
-use Rattle.std.proofs.Common.{◌≡◌, ℕ, zero, suc, ◌+◌, ◌≤◌, ◌<◌, ◌^◌, Bool, true, false, List, [], ◌∷◌, ◌++◌, length, map, refl, sym, ap, subst, ◌∙◌, arith}
-use Rattle.std.specs.Prelude.{All, Option, Some, None, Ok, codes, is_some, nat_lt, option_map, if◌then◌else◌}
-use Rattle.std.specs.Global.{Vec}
+use Rattle.std.proofs.Common.{◌≡◌, ℕ, zero, suc, ◌≤◌, Bool, true, false, List, [], ◌∷◌, ◌++◌, length, map, refl, subst, arith}
+use Rattle.std.specs.Prelude.{All, codes, nat_lt, if◌then◌else◌}
 use Rattle.std.specs.List.{AllByRecursion}
-use Rattle.std.proofs.lemmas.List.{append-nil, length-append}
+use Rattle.std.proofs.lemmas.List.{length-append}
 use Rattle.std.proofs.lemmas.List.Elements.{All-from_recursion, All-head}
 use Rattle.std.proofs.lemmas.Str.{IsUtf8-string_bytes}
 use Rattle.wasm_forms.specs.Spelling.{block_bytes, groups, number_bytes, row_bytes, vector_bytes}
 use Rattle.wasm_forms.specs.Writing.{EachFits, FitsLength, FitsVector}
 use Rattle.wasm_forms.proofs.Adding.{vector_map}
 use Rattle.wasm_frames.specs.Record as wire
-use Rattle.wasm_frames.specs.Frames.{Section, CustomSection}
+use Rattle.wasm_frames.specs.Frames.{CustomSection}
 use Rattle.wasm_payloads.specs.Producers.{Field}
 use Rattle.wasm_payloads.specs.Spelling as spelled
 use Rattle.wasm_payloads.specs.Spelling.{FieldFits, ProducersFit, ValueFits, producers_bytes, value_bytes}
@@ -18,7 +17,6 @@ use Rattle.wasm_writer.specs.Spelling.{SectionFits}
 use Rattle.wasm_writer.proofs.Listed.{fits_none}
 use Rattle.walrus_model.specs.Abstract.{ProducerField}
 use Rattle.walrus_model.specs.Producers.{if_written}
-use Rattle.walrus_parts.specs.declared.error.Error.{Error}
 use Rattle.walrus_producers.specs.Seen.{fields_seen, values_seen}
 use Rattle.walrus_producers.specs.declared.producers.ProducerValue.{ProducerValue as HeldValue}
 use Rattle.walrus_producers.specs.declared.producers.ProducerField.{ProducerField as HeldField}

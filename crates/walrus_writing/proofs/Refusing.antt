@@ -6,11 +6,8 @@ use Rattle.std.specs.Global.{Vec}
 use Rattle.std.specs.List.{AllZip}
 use Rattle.std.specs.Str.{IsUtf8}
 use Rattle.std.proofs.lemmas.List.{length-map}
-use Rattle.std.proofs.lemmas.List.Elements.{All-map, All-nil}
+use Rattle.std.proofs.lemmas.List.Elements.{All-map}
 use Rattle.wasm_frames.specs.Record as wire
-use Rattle.wasm_frames.specs.Spelling.{body_bytes}
-use Rattle.wasm_forms.specs.Spelling.{number_bytes}
-use Rattle.wasm_forms.specs.Writing.{FitsLength}
 use Rattle.wasm_entries.specs.Record.{data_entry, element_entry, export_entry, global_entry, group, import_entry, table_entry}
 use Rattle.wasm_entries.specs.declared.record.RawData.{RawData}
 use Rattle.wasm_entries.specs.declared.record.RawElement.{RawElement}
@@ -20,12 +17,10 @@ use Rattle.wasm_entries.specs.declared.record.RawImport.{RawImport}
 use Rattle.wasm_entries.specs.declared.record.RawLimits.{RawLimits}
 use Rattle.wasm_entries.specs.declared.record.RawSub.{RawSub}
 use Rattle.wasm_entries.specs.declared.record.RawTable.{RawTable}
-use Rattle.wasm_entries.specs.Spelling as spelling
 use Rattle.wasm_entries.specs.Spelling.{DataStands, ElementStands, GlobalStands, TableStands}
-use Rattle.wasm_entries.specs.TypeSpelling.{GroupFits, group_bytes, LimitsFit, LimitsStand, limits_bytes}
+use Rattle.wasm_entries.specs.TypeSpelling.{LimitsStand}
 use Rattle.wasm_payloads.specs.Lent.{NamesFit}
 use Rattle.wasm_payloads.specs.Spelling.{ProducersFit}
-use Rattle.wasm_writer.specs.Spelling.{SectionFits, tag_bytes}
 use Rattle.wasm_wire.specs.ModuleSpelling.{ModuleFits, WritesModule, module_bytes}
 use Rattle.wasm_forms.specs.declared.error.WireError.{WireError}
 use Rattle.wasm_forms.specs.declared.error.WireError.TheVariants as Wire

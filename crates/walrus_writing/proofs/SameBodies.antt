@@ -20,7 +20,7 @@ use Rattle.walrus_contents.specs.declared.parts.Parts.{Parts}
 use Rattle.walrus_model.specs.Abstract.{Body}
 use Rattle.walrus_model.specs.Sections.{types_of, body_with}
 use Rattle.walrus_model.specs.Refers.{IsUsed}
-use Rattle.walrus_model.specs.Renaming.{Renaming, renamed, renamed_ops}
+use Rattle.walrus_model.specs.Renaming.{Renaming, renamed_ops}
 use Rattle.walrus_model.specs.Same.{SameBody}
 use Rattle.walrus_writing.specs.Parts.{HasBytes, slots_of, source}
 use Rattle.walrus_writing.specs.Records.{Records}

@@ -1,9 +1,8 @@
 -- The used locals of each body, beside the function that it is written as.
-use Rattle.std.proofs.Common.{◌≡◌, ℕ, zero, suc, ◌+◌, ◌-◌, ◌<◌, true, List, [], ◌∷◌, ◌++◌, length, map, refl, sym, ap, ap₂, ◌∙◌, subst, arith, Some, None}
-use Rattle.std.specs.Prelude.{Option, filter_map, option_and_then, slice_get, zip, if◌then◌else◌}
+use Rattle.std.proofs.Common.{◌≡◌, ℕ, zero, suc, ◌+◌, ◌-◌, ◌<◌, true, List, [], ◌∷◌, ◌++◌, length, map, refl, sym, ap, ◌∙◌, arith, Some, None}
+use Rattle.std.specs.Prelude.{Option, filter_map, option_and_then, slice_get, zip}
 use Rattle.std.specs.List.{AllZip}
 use Rattle.std.proofs.lemmas.List.{length-append}
-use Rattle.walrus_base.specs.Arena.{item_at}
 use Rattle.walrus_base.specs.Id.{place}
 use Rattle.walrus_types.specs.Operators.{Functions}
 use Rattle.walrus_bodies.specs.declared.features.Features.{Features}

@@ -1,12 +1,12 @@
 -- The module of indices that records make is what a module in memory is written as: all in order, no function that is left to be declared,
 -- and an index for each item that is live.
-use Rattle.std.proofs.Common.{◌≡◌, ℕ, map, Bool, true, false, List, [], refl, sym, ap, ◌∙◌, subst, arith, inl, inr, ⊎_elim}
-use Rattle.std.specs.Prelude.{if◌then◌else◌, None, Contains, IsSome, Option, unwrap_or, ◌<◌}
+use Rattle.std.proofs.Common.{◌≡◌, ℕ, map, List, [], refl, sym, ap, ◌∙◌, subst, arith, inl, inr, ⊎_elim}
+use Rattle.std.specs.Prelude.{None, Contains, IsSome, Option, unwrap_or, ◌<◌}
 use Rattle.walrus_types.specs.Operators.{Item, Types}
 use Rattle.walrus_contents.specs.View.{parts_view}
 use Rattle.walrus_contents.specs.declared.parts.Parts.{Parts}
 use Rattle.walrus_items.specs.Imports.{imports}
-use Rattle.walrus_model.specs.Abstract.{Abstract, Custom, Import, Name}
+use Rattle.walrus_model.specs.Abstract.{Abstract, Custom, Import}
 use Rattle.walrus_model.specs.Carried.{Carried}
 use Rattle.walrus_model.specs.Config.{Config}
 use Rattle.walrus_model.specs.Customs.{AreIndices, written_customs}
@@ -24,12 +24,7 @@ use Rattle.walrus_model.proofs.Indices.{planned_indices}
 use Rattle.walrus_model.proofs.Lists.{Contains-none}
 use Rattle.walrus_model.proofs.Orders.{rises_in_order}
 use Rattle.walrus_model.proofs.Planned.{planned_rises}
-use Rattle.walrus_model.proofs.Standing.{none_there}
-use Rattle.walrus_rules.specs.Namings.{is_in_range}
 use Rattle.walrus_rules.specs.Pinned.{IsWrittenAs}
-use Rattle.walrus_rules.specs.Sections.{items_of}
-use Rattle.walrus_rules.specs.Text.{said}
-use Rattle.walrus_rules.proofs.OneSections.{laid}
 use Rattle.walrus_plan.specs.Brought.{import_numbers}
 use Rattle.walrus_writing.specs.Customs.{Task}
 use Rattle.walrus_writing.specs.Emitted.{IsWrittenWith}
@@ -41,7 +36,7 @@ use Rattle.walrus_writing.proofs.OwnCustoms.{CustomText, Say}
 use Rattle.walrus_writing.proofs.OwnSaid.{own_said}
 use Rattle.walrus_writing.proofs.SameItems.{before_back, live_back, live_on, with_own}
 use Rattle.walrus_writing.proofs.WithCustoms.{carried_with, module_with, text_with}
-use Rattle.walrus_writing.proofs.WrittenAs.{renaming_of, texts_of}
+use Rattle.walrus_writing.proofs.WrittenAs.{renaming_of}
 
 -- A module in memory is written as this, where each function that ref.func names is declared: nothing is written so far that would
 -- declare it.

@@ -1,6 +1,4 @@
-use Rattle.std.proofs.Common.{◌+◌, length, map, refl, ap, ◌∙◌, arith}
-use Rattle.std.proofs.lemmas.List.{length-map}
-use Rattle.walrus_base.specs.Id.{place}
+use Rattle.std.proofs.Common.{map, refl, ap, ◌∙◌, arith}
 use Rattle.walrus_types.specs.Locals.{locals}
 use Rattle.walrus_types.specs.Operators.{Types, Functions, Tables, Memories, Tags, Globals, Elements, DataSegments}
 use Rattle.walrus_names.specs.Names.{all_local_names, body_used, item_name}

@@ -1,7 +1,6 @@
-use Rattle.std.proofs.Common.{◌∙◌, ◌++◌, ℕ, map, refl, ap, subst}
+use Rattle.std.proofs.Common.{◌∙◌, ◌++◌, ℕ, map, refl, ap}
 use Rattle.std.specs.Prelude.{Some, not, option_and_then, option_map}
 use Rattle.std.specs.Global.{Vec}
-use Rattle.std.specs.List.{AllZip}
 use Rattle.std.proofs.lemmas.Result.{err_from_is_err_and}
 use Rattle.walrus_base.specs.Arena.{items}
 use Rattle.walrus_base.specs.Id.{place}

@@ -1,5 +1,5 @@
-use Rattle.std.proofs.Common.{sym, ap, Some, None}
-use Rattle.std.specs.Prelude.{Option, option_and_then}
+use Rattle.std.proofs.Common.{sym, ap}
+use Rattle.std.specs.Prelude.{option_and_then}
 use Rattle.walrus_base.specs.Id.{place}
 use Rattle.walrus_names.proofs.NamesLemmas.{not_named, untrue}
 use Rattle.walrus_names.proofs.named.ModuleTypesNamed.name.Goals as goal
