@@ -21,7 +21,6 @@ pub mod ItemsLeft
 pub mod NamedAll
 pub mod NamedTypes
 pub mod NamesAre
-pub mod NamesGiven
 pub mod NamesSpelled
 pub mod NamesStand
 pub mod NoCauseAll

@@ -37,7 +37,8 @@ use Rattle.walrus_rules.proofs.OneName.{looked, looked_at, looked_in}
 use Rattle.walrus_writing.specs.Parts.{source, used_among}
 use Rattle.walrus_writing.specs.Records.{Records, names_written}
 use Rattle.walrus_writing.specs.declared.write.Choices.{Choices}
-use Rattle.walrus_writing.proofs.NamesGiven.{all_given, item_given, local_given, module_given, names_told}
+use Rattle.walrus_rules.proofs.OneNaming.{all_given, item_given, local_given, module_given}
+use Rattle.walrus_rules.proofs.OneSpelling.{names_told}
 use Rattle.walrus_writing.proofs.NamesStand.{all_names, all_there, among_get, is_map, local_at, maps, named_in, names_of}
 use Rattle.walrus_writing.proofs.OwnCustoms.{CustomText}
 use Rattle.walrus_writing.proofs.Parted.{body_among}

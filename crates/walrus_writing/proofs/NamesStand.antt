@@ -129,16 +129,16 @@ module _ {p : Parts} {features : Features} (r : Records p features) where
       let os = map (item_name p (space_of s)) (order_of s) in (
         entries_rise_from 0 os,
         each_entry (λ (e : ℕ × Name). IsUtf8 e.1) 0 os (λ i j name is at.
-        let m = map_of_item (item_name p (space_of s)) (order_of s) i name at in
-        stands_some (item_name p (space_of s) m.0) name (item_stands p (space_of s) m.0) m.2),
+            let m = map_of_item (item_name p (space_of s)) (order_of s) i name at in
+            stands_some (item_name p (space_of s) m.0) name (item_stands p (space_of s) m.0) m.2),
       )
 
   map_stands : {k i : ℕ} (a : IsAt r k i) → MapStands (entries (names_of a))
   map_stands a = (
     entries_rise_from 0 (names_of a),
     each_entry (λ (e : ℕ × Name). IsUtf8 e.1) 0 (names_of a) (λ y j name is at.
-    let x = local_at a y name at in
-    stands_some (local_name L x.0) name (local_stands L x.0) x.2),
+        let x = local_at a y name at in
+        stands_some (local_name L x.0) name (local_stands L x.0) x.2),
   )
 
   -- ---- what is named is there

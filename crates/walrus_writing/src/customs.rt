@@ -102,11 +102,7 @@ fn copied<'a>(alloc: Global, own: &[RawCustom<'a>]) -> Result<Vec<RawCustom<'a>>
 }
 
 // The section of this name with a payload, where it has one, behind others.
-fn push_section<'a>(
-    to: &mut Vec<RawCustom<'a>>,
-    name: &'a str,
-    bytes: &'a [u8],
-) -> Result<()>
+fn push_section<'a>(to: &mut Vec<RawCustom<'a>>, name: &'a str, bytes: &'a [u8]) -> Result<()>
     ensures value { OnOk result (map custom_record to.new.items
         ≡ map custom_record to.old.items ++ section_if_any name.now bytes.now) }
     ensures fails { IsOkUnless result out_of_memory }

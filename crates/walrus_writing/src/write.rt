@@ -59,12 +59,7 @@ struct Made {
 }
 
 // Makes it, of the plan of these parts.
-fn make(
-    alloc: Global,
-    parts: Parts<'_>,
-    prepared: &Prepared,
-    choices: &Choices,
-) -> Result<Made>
+fn make(alloc: Global, parts: Parts<'_>, prepared: &Prepared, choices: &Choices) -> Result<Made>
     requires planned { IsPrepared parts prepared.now }
     requires indexed { All (λ id. IsIndexed parts (index_of prepared.now.indices) choices.now.features
         (place id)) prepared.now.plan.own_functions.items }

@@ -10,15 +10,18 @@ use Rattle.walrus_writing.proofs.UsedLeft.{used_refused}
 use Rattle.walrus_writing.proofs.bodies.one_body.Goals as goal
 
 pub returns-clause-value : goal.returns-clause-value
-returns-clause-value c = (record {
-  local = c.in-Some.local.now;
-  is = local_seen c.args.under.parts (place c.args.id) c.in-Some.local.now (sym c.in-Some.ensures);
-  places = map (λ p. p.1) c.in_ok-body.body.places.items;
-  numbers = local_index c.in_ok-body.body.locals;
-  ids = map place c.in_ok-body.body.order.items;
-  used = c.in_ok-body.body.used.items;
-  written = c.in_ok-body.ensures.written;
-}, c.in_ok-used.ensures.value ∙ ap₂ (λ ids used. entries (used_among (map place ids) used)) c.as_slice.ensures.value c.as_slice-2.ensures.value)
+returns-clause-value c = (
+  record {
+    local = c.in-Some.local.now;
+    is = local_seen c.args.under.parts (place c.args.id) c.in-Some.local.now (sym c.in-Some.ensures);
+    places = map (λ p. p.1) c.in_ok-body.body.places.items;
+    numbers = local_index c.in_ok-body.body.locals;
+    ids = map place c.in_ok-body.body.order.items;
+    used = c.in_ok-body.body.used.items;
+    written = c.in_ok-body.ensures.written;
+  },
+  c.in_ok-used.ensures.value ∙ ap₂ (λ ids used. entries (used_among (map place ids) used)) c.as_slice.ensures.value c.as_slice-2.ensures.value,
+)
 
 pub returns-in_err-body-clause-fails : goal.returns-in_err-body-clause-fails
 returns-in_err-body-clause-fails c =
