@@ -158,7 +158,8 @@ impl Named for ModuleData {
     ghost own_name = { λ all i. option_and_then (λ d. d.name) (item_at (data_segments all) i) };
 
     fn name(&self, id: DataId) -> Option<&str>
-        ensures { text_of result ≡ option_and_then (λ d. d.name) (item_at (data_segments self.now) (place id)) }
+        ensures { text_of result
+            ≡ option_and_then (λ d. d.name) (item_at (data_segments self.now) (place id)) }
     {
         if !self.contains(id) {
             return None;
