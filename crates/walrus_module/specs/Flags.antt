@@ -46,10 +46,10 @@ abbrev pub with_dwarf : Bool → Flags → Flags
 with_dwarf true f = record f { generate_dwarf = true; preserve_code_transform = true }
 with_dwarf false f = record f { generate_dwarf = false }
 
--- What the flags come to so far: names are neither read nor written.
+-- What the flags come to so far: names aren't read, and so none are made up.
 abbrev pub config_of : Flags → Config
 config_of f = record {
-  writes_names = false;
+  writes_names = f.generate_name_section;
   synthetic_names = false;
   writes_producers = f.generate_producers_section;
   legacy_exceptions = f.legacy_exceptions;
@@ -58,4 +58,4 @@ config_of f = record {
 
 -- what a module is written under by a configuration
 abbrev pub choices_of : Config → Choices
-choices_of c = record { features = features_of c; producers = c.writes_producers }
+choices_of c = record { features = features_of c; names = c.writes_names; producers = c.writes_producers }

@@ -133,6 +133,7 @@ impl ModuleConfig {
     {
         Choices {
             features: self.features(),
+            names: self.generate_name_section,
             producers: self.generate_producers_section,
         }
     }

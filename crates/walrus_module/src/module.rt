@@ -45,7 +45,7 @@ pub struct Module {
     pub start: Option<FunctionId>,
     /// The producers: what made the module (tool-conventions, "Producers Section").
     pub producers: ModuleProducers,
-    /// The module's name, if it has one (Appendix > Custom Sections > Name Section). It is neither read nor written so far.
+    /// The module's name, if it has one (Appendix > Custom Sections > Name Section). It is not read so far.
     pub name: Option<String>,
     /// The custom sections.
     pub customs: ModuleCustomSections,

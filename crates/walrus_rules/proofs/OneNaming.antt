@@ -52,7 +52,7 @@ module_to_module : (o : Option Name) → names_given (module_naming o) TheModule
 module_to_module None = refl
 module_to_module (Some name) = refl
 
-module_given : (t : NameText) → names_given (namings_of t) TheModule ≡ option_to_list t.module_name
+pub module_given : (t : NameText) → names_given (namings_of t) TheModule ≡ option_to_list t.module_name
 module_given t =
     parts_given t TheModule
     ∙ ap₂ ◌++◌ (ap₂ ◌++◌ (ap₂ ◌++◌ (module_to_module t.module_name) (items_to_module spaces.Functions (t.items spaces.Functions)))
@@ -87,7 +87,7 @@ items_sum t w i =
     (none_each (λ f. names_given (function_namings f) (AnItem (w, i))) t.locals (λ f. locals_to_item f.0 f.1 (w, i))))
     (ap (λ f. flat_map f further_spaces) (fun_ext (λ s. items_to_item s w i (t.items s) (subsection (space_of s) == subsection w) refl)))
 
-item_given : (t : NameText) (s : NameSpace) (i : ℕ) → names_given (namings_of t) (AnItem (space_of s, i)) ≡ looked (t.items s) i
+pub item_given : (t : NameText) (s : NameSpace) (i : ℕ) → names_given (namings_of t) (AnItem (space_of s, i)) ≡ looked (t.items s) i
 item_given t spaces.Functions i = items_sum t Functions i ∙ append-nil (looked (t.items spaces.Functions) i ++ []) ∙ append-nil (looked (t.items spaces.Functions) i)
 item_given t spaces.Types i = items_sum t Types i ∙ append-nil (looked (t.items spaces.Types) i)
 item_given t spaces.Tables i = items_sum t Tables i ∙ append-nil (looked (t.items spaces.Tables) i)
@@ -117,7 +117,7 @@ locals_each : (fs : List (ℕ × NameMap)) (f x : ℕ) → flat_map (λ g. names
 locals_each [] f x = refl
 locals_each (g ∷ gs) f x = ap₂ ◌++◌ (locals_to_local g.0 g.1 f x (g.0 == f) refl) (locals_each gs f x)
 
-local_given : (t : NameText) (f x : ℕ) → names_given (namings_of t) (ALocal f x) ≡ looked_at t.locals f x
+pub local_given : (t : NameText) (f x : ℕ) → names_given (namings_of t) (ALocal f x) ≡ looked_at t.locals f x
 local_given t f x =
     parts_given t (ALocal f x)
     ∙ ap₂ ◌++◌ (ap₂ ◌++◌ (ap₂ ◌++◌ (module_to_local t.module_name f x) (items_to_local spaces.Functions (t.items spaces.Functions) f x)) (locals_each t.locals f x))
@@ -171,7 +171,7 @@ module _ (n : Abstract) where
   by_range ys x true all is = ap (λ (b : Bool). if b then names_given ys x else []) is
   by_range ys x false all is = ap (λ (b : Bool). if b then names_given ys x else []) is ∙ sym (nothing_out ys x all is)
 
-  all_given : (ys : List Named) (x : Subject) → All IsThere ys → names_in_range n ys x ≡ names_given ys x
+  pub all_given : (ys : List Named) (x : Subject) → All IsThere ys → names_in_range n ys x ≡ names_given ys x
   all_given ys x all = by_range ys x (is_in_range n x) all refl
 
 -- ---- the whole

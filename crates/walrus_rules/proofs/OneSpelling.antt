@@ -50,7 +50,7 @@ in_range t (AnItem (Elements, i)) = refl
 in_range t (AnItem (DataSegments, i)) = refl
 in_range t (ALocal f x) = refl
 
-names_told : (n : Abstract) (t : Text) → n ≡ told t → (x : Subject) → names_in_range n (namings_of t.names) x ≡ n.named x
+pub names_told : (n : Abstract) (t : Text) → n ≡ told t → (x : Subject) → names_in_range n (namings_of t.names) x ≡ n.named x
 names_told n t e x =
     ap (λ (b : Bool). if b then names_given (namings_of t.names) x else []) (ap (λ (m : Abstract). is_in_range m x) e ∙ in_range t x)
     ∙ sym (ap (λ (m : Abstract). m.named x) e)

@@ -194,7 +194,7 @@ module _ {p : Parts} {features : Features} (r : Records p features) where
   numbered : (s : Space) (k i : ℕ) → slice_get (filter_map (import_number before s) order) k ≡ Some i → renaming.numbers s i ≡ k
   numbered s = brought_numbered r.names r.plan before r.numbered r.is_plan s order (r.own s) (r.parted s)
 
-  behind_imports : (s : Space) (things : List (Thing s)) → ((j : ℕ) → look after s j ≡ slice_get (brought s r.imports ++ things) j)
+  pub behind_imports : (s : Space) (things : List (Thing s)) → ((j : ℕ) → look after s j ≡ slice_get (brought s r.imports ++ things) j)
       → AllZip (StandsFor (SameThing renaming s) (look before s)) (r.own s) things → IsWrittenAlong renaming before after r.plan s
   behind_imports s things = λ reads stand.
       written_both renaming before after r.plan s order (r.own s) r.imports things (r.parted s) reads
@@ -205,7 +205,7 @@ module _ {p : Parts} {features : Features} (r : Records p features) where
 
   -- ---- all spaces
 
-  written_along : (s : Space) → IsWrittenAlong renaming before after r.plan s
+  pub written_along : (s : Space) → IsWrittenAlong renaming before after r.plan s
   written_along Types = record { written = types_from 0 r.types; reads = λ j. refl; stand = types_stand }
   written_along Functions = behind_imports Functions (new_functions r) (λ j. refl) (functions_stand r)
   written_along Tables = behind_imports Tables (map table_of r.tables) (λ j. refl)

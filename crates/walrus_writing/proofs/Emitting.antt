@@ -21,11 +21,11 @@ use Rattle.walrus_rules.specs.Refused.{IsSayable, PassesLimits, Unfit, WritesUnf
 use Rattle.walrus_rules.proofs.FitsLimits.{fits_no_limit}
 use Rattle.walrus_writing.specs.declared.write.Choices.{Choices}
 use Rattle.walrus_writing.specs.Emitted.{IsEmitted, IsWrittenWith}
-use Rattle.walrus_writing.specs.Records.{DoesNotFit, Spells}
-use Rattle.walrus_writing.specs.Customs.{Task, customs_written, task}
+use Rattle.walrus_writing.specs.Records.{DoesNotFit, Spells, customs_written, names_written}
+use Rattle.walrus_writing.specs.Customs.{Task, task}
 use Rattle.walrus_writing.proofs.Emitted.{choices_of, chosen_so, emitted, say_so, spelling, text_said, unfit_of, written}
 use Rattle.walrus_writing.proofs.NoCauseAll.{none_unspelled}
-use Rattle.walrus_writing.proofs.OwnCustoms.{CustomText, only_producers, only_so, sayable_by}
+use Rattle.walrus_writing.proofs.OwnCustoms.{CustomText, only_made, only_so, sayable_by}
 use Rattle.walrus_writing.proofs.Placed.{fits_without, text_fits}
 use Rattle.walrus_writing.proofs.SameItems.{dead_back, limits_back, unspelled_back, with_own}
 use Rattle.walrus_writing.proofs.WithCustoms.{module_with, text_with}
@@ -52,11 +52,11 @@ module _ (c : Config) (p : Parts) (lives : HasDead (parts_view p) → ⊥) (decl
     -- what a module of indices can say passes none
     said : IsSayable W → PassesLimits c W → ⊥
     said sayable =
-        let e : CustomText = text_said c p job with declared own roots asked texts sayable in
-        let say = say_so c p job with declared own roots asked texts sayable in
+        let e : CustomText = text_said c p job with declared own roots asked texts s.records sayable in
+        let say = say_so c p job with declared own roots asked texts s.records sayable in
         fits_no_limit c W (module_with s.records e) (text_with s.records e) all_there
         (λ cause. none_unspelled c p s.records (unspelled_back V own roots c cause))
-        (written c p job with declared own roots asked texts s.records s.names_are sayable) (spelling p job s.records e say) (text_fits s.records job e say s.fit)
+        (written c p job with declared own roots asked texts s.records s.names_are sayable) (spelling p job s.records e say) (text_fits s.records job (names_written s.records (choices_of c)) e say s.fit)
 
     abbrev plain_job : Task
     plain_job = task (choices_of c) names []
@@ -64,11 +64,11 @@ module _ (c : Config) (p : Parts) (lives : HasDead (parts_view p) → ⊥) (decl
     -- and without custom sections of its own it passes none
     alone : PassesLimits c V → ⊥
     alone =
-        let e : CustomText = only_producers p (choices_of c) in
-        let say = only_so p (choices_of c) in
+        let e : CustomText = only_made p (choices_of c) (names_written s.records (choices_of c)) in
+        let say = only_so p (choices_of c) (names_written s.records (choices_of c)) in
         fits_no_limit c V (module_with s.records e) (text_with s.records e) lives (none_unspelled c p s.records)
         (written_as_said c plain_job with p declared s.records e say [] [] refl) (spelling p plain_job s.records e say)
-        (text_fits s.records plain_job e say (fits_without s.records sections (customs_written p plain_job) s.fit))
+        (text_fits s.records plain_job (names_written s.records (choices_of c)) e say (fits_without s.records sections (customs_written plain_job s.records) s.fit))
 
     sayable_of : WritesUnfit c W → IsSayable W
     sayable_of u =
@@ -78,7 +78,7 @@ module _ (c : Config) (p : Parts) (lives : HasDead (parts_view p) → ⊥) (decl
     small_with passes = alone (limits_back V own roots c (λ live writes. absurd (said (sayable_of writes) (Unfit live writes))) passes)
 
   exact : (choices : Choices) → IsWrittenWith c choices → IsWrittenWith c (choices_of c)
-  exact choices with = record { features_are = refl; no_names = with.no_names; producers_are = refl }
+  exact choices with = record { features_are = refl; names_are = refl; producers_are = refl }
 
   -- what is spelled passes none
   pub small : (choices : Choices) → IsWrittenWith c choices → (bytes : List ℕ) → Spells p (task choices names sections) bytes → PassesLimits c W → ⊥

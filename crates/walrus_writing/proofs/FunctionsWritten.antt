@@ -41,25 +41,25 @@ module _ {p : Parts} {features : Features} (r : Records p features) where
   abbrev R : Renaming
   R = renaming_of r
 
-  abbrev Has : ℕ → List ℕ → Type 0
+  abbrev pub Has : ℕ → List ℕ → Type 0
   Has i bytes = HasBytes p r.names features i bytes
 
   abbrev pub text_in : {i : ℕ} {bytes : List ℕ} → Has i bytes → BodyText
   text_in b = record { declarations = b.written.declarations; operators = b.written.texts }
 
   -- where a local stands in its function
-  abbrev stands_in : {i : ℕ} {bytes : List ℕ} → Has i bytes → ℕ → ℕ
+  abbrev pub stands_in : {i : ℕ} {bytes : List ℕ} → Has i bytes → ℕ → ℕ
   stands_in b x = unwrap_or (place_in (map place b.local.args.items ++ b.written.order) x) 0
 
   -- ---- the locals of each function
 
-  abbrev Follow : (ℕ → ℕ → ℕ) → (order : List ℕ) (bodies : List (List ℕ)) → AllZip Has order bodies → Type 0
+  abbrev pub Follow : (ℕ → ℕ → ℕ) → (order : List ℕ) (bodies : List (List ℕ)) → AllZip Has order bodies → Type 0
   Follow l [] [] a = Unit {0}
   Follow l (i ∷ is) (b ∷ bs) a = ((x : ℕ) → l i x ≡ stands_in a.0 x) × Follow l is bs a.1
   Follow l [] (b ∷ bs) a = elim a [ ]
   Follow l (i ∷ is) [] a = elim a [ ]
 
-  follow : (l : ℕ → ℕ → ℕ) (order : List ℕ) (bodies : List (List ℕ)) (a : AllZip Has order bodies) → IsDistinct nat_eq order → ((f : ℕ) → Contains order f → (x : ℕ) → l f x ≡ local_in_order p r.names features order bodies a f x) → Follow l order bodies a
+  pub follow : (l : ℕ → ℕ → ℕ) (order : List ℕ) (bodies : List (List ℕ)) (a : AllZip Has order bodies) → IsDistinct nat_eq order → ((f : ℕ) → Contains order f → (x : ℕ) → l f x ≡ local_in_order p r.names features order bodies a f x) → Follow l order bodies a
   unfolding IsDistinct
   follow l [] [] a differ same = tt
   follow l (i ∷ is) (b ∷ bs) a differ same = (

@@ -20,6 +20,9 @@ pub mod Indexed
 pub mod ItemsLeft
 pub mod NamedAll
 pub mod NamedTypes
+pub mod NamesAre
+pub mod NamesSpelled
+pub mod NamesStand
 pub mod NoCauseAll
 pub mod NoCauseBodies
 pub mod NoCauseHeaps
@@ -44,6 +47,8 @@ pub mod TableRecords
 pub mod TextStands
 pub mod TypeRefusals
 pub mod TypesEntered
+pub mod UsedLeft
+pub mod UsedRows
 pub mod WithCustoms
 pub mod WrittenAs
 pub mod WrittenLemmas

@@ -1,7 +1,7 @@
 -- Custom sections that were asked for their data: those of dynamic linking first, and then others, none of which is a name, producers or
 -- debug section, where a module of indices can say them.
 use Rattle.std.proofs.Common.{◌≡◌, ℕ, zero, suc, Bool, true, false, List, [], ◌∷◌, ◌++◌, map, refl, sym, ap, ap₂, subst, ◌∙◌, arith}
-use Rattle.std.specs.Prelude.{All, Contains, ◌≢◌, codes, bytes_eq, cond, filter, not, ◌||◌, slice_index_or, length, ◌<◌}
+use Rattle.std.specs.Prelude.{All, ◌≢◌, codes, bytes_eq, cond, filter, not, ◌||◌, slice_index_or, length, ◌<◌}
 use Rattle.std.specs.List.{AllByRecursion}
 use Rattle.std.specs.Str.{IsUtf8}
 use Rattle.std.proofs.lemmas.List.Elements.{All-filter, All-nil, All-from_recursion, recursion_from_All}
@@ -14,7 +14,7 @@ use Rattle.walrus_model.specs.Customs.{fixed, is_debug_name, no_indices, written
 use Rattle.walrus_model.specs.Sections.{custom_of, customs_of, is_apart}
 use Rattle.walrus_rules.specs.Refused.{IsSayable}
 use Rattle.walrus_rules.specs.Spelling.{is_dylink, is_other}
-use Rattle.walrus_rules.specs.Text.{Text}
+use Rattle.walrus_rules.specs.Text.{NameText, Text}
 use Rattle.walrus_writing.specs.Customs.{chosen_producers}
 use Rattle.walrus_writing.specs.declared.write.Choices.{Choices}
 
@@ -112,39 +112,42 @@ module _ (v : Abstract) (indices : Indices) (sections : List wire.Custom) (asked
 
 pub record CustomText : Type 0 where
   pub dylinks : List wire.Custom
+  pub names : NameText
   pub producers : List ProducerField
   pub others : List wire.Custom
 
 abbrev pub with_customs : Text → CustomText → Text
-with_customs t e = record t { dylinks = e.dylinks; producers = e.producers; others = e.others }
+with_customs t e = record t { dylinks = e.dylinks; names = e.names; producers = e.producers; others = e.others }
 
--- these sections, and the producers section of these parts, say it
-pub record Say (p : Parts) (choices : Choices) (sections : List wire.Custom) (e : CustomText) : Type 0 where
+-- these sections, a section of these names, and the producers section of these parts, say it
+pub record Say (p : Parts) (choices : Choices) (names : NameText) (sections : List wire.Custom) (e : CustomText) : Type 0 where
   pub split : sections ≡ e.dylinks ++ e.others
   pub dylinks : All (λ c. is_dylink c ≡ true) e.dylinks
   pub others : All (λ c. is_other c ≡ true) e.others
   pub texts : All (λ (c : wire.Custom). IsUtf8 c.name) sections
+  pub names_are : e.names ≡ names
   pub producers_are : e.producers ≡ chosen_producers p choices
 
-module _ (p : Parts) (choices : Choices) (v : Abstract) (indices : Indices) (sections : List wire.Custom) (asked : map custom_of sections ≡ written_customs indices v.customs) (texts : All (λ (c : wire.Custom). IsUtf8 c.name) sections) (sayable : IsSayable v) where
+module _ (p : Parts) (choices : Choices) (names : NameText) (v : Abstract) (indices : Indices) (sections : List wire.Custom) (asked : map custom_of sections ≡ written_customs indices v.customs) (texts : All (λ (c : wire.Custom). IsUtf8 c.name) sections) (sayable : IsSayable v) where
   abbrev pub said_of : CustomText
-  said_of = record { dylinks = (parts v indices sections asked sayable).front; producers = chosen_producers p choices; others = (parts v indices sections asked sayable).behind }
+  said_of = record { dylinks = (parts v indices sections asked sayable).front; names = names; producers = chosen_producers p choices; others = (parts v indices sections asked sayable).behind }
 
-  pub says_so : Say p choices sections said_of
+  pub says_so : Say p choices names sections said_of
   says_so = record {
     split = (parts v indices sections asked sayable).is;
     dylinks = front_dylinks v indices sections asked sayable;
     others = behind_others v indices sections asked sayable;
     texts = texts;
+    names_are = refl;
     producers_are = refl;
   }
 
--- producers alone
-abbrev pub only_producers : Parts → Choices → CustomText
-only_producers p choices = record { dylinks = []; producers = chosen_producers p choices; others = [] }
+-- names and producers alone
+abbrev pub only_made : Parts → Choices → NameText → CustomText
+only_made p choices names = record { dylinks = []; names = names; producers = chosen_producers p choices; others = [] }
 
-pub only_so : (p : Parts) (choices : Choices) → Say p choices [] (only_producers p choices)
-only_so p choices = record { split = refl; dylinks = All-nil _; others = All-nil _; texts = All-nil _; producers_are = refl }
+pub only_so : (p : Parts) (choices : Choices) (names : NameText) → Say p choices names [] (only_made p choices names)
+only_so p choices names = record { split = refl; dylinks = All-nil _; others = All-nil _; texts = All-nil _; names_are = refl; producers_are = refl }
 
 -- ---- what a module of indices says can be said
 

@@ -1,6 +1,6 @@
 -- The module of records with their custom sections is that of a text, where one says these: it fits where the text does, and has its bytes.
 use Rattle.wasm_entries.specs.Record as entries
-use Rattle.std.proofs.Common.{◌≡◌, ℕ, List, ◌++◌, map, sym, ap, subst, ◌∙◌, None, Some}
+use Rattle.std.proofs.Common.{◌≡◌, ℕ, List, ◌++◌, map, sym, ap, ap₂, subst, ◌∙◌, None}
 use Rattle.std.specs.Prelude.{All, Option}
 use Rattle.std.proofs.lemmas.List.Elements.{All-nil}
 use Rattle.wasm_frames.specs.Record as wire
@@ -10,6 +10,7 @@ use Rattle.wasm_forms.specs.Spelling.{number_bytes}
 use Rattle.wasm_forms.specs.Writing.{FitsLength}
 use Rattle.wasm_entries.specs.Spelling as spelling
 use Rattle.wasm_entries.specs.TypeSpelling.{GroupFits, group_bytes, LimitsFit, limits_bytes}
+use Rattle.wasm_payloads.specs.Lent.{NamesFit}
 use Rattle.wasm_payloads.specs.Spelling.{ProducersFit}
 use Rattle.wasm_writer.specs.Spelling.{SectionFits, tag_bytes}
 use Rattle.wasm_writer.proofs.Listed.{fits_none}
@@ -19,30 +20,29 @@ use Rattle.walrus_contents.specs.declared.parts.Parts.{Parts}
 use Rattle.walrus_model.specs.Abstract.{ProducerField}
 use Rattle.walrus_rules.specs.Examples.{empty_text}
 use Rattle.walrus_rules.specs.Spelling.{written_as}
-use Rattle.walrus_rules.specs.Text.{Text, raw_field, sections_of}
+use Rattle.walrus_rules.specs.Text.{NameText, Text, raw_field, sections_of}
 use Rattle.walrus_rules.proofs.OneList.{All-back}
 use Rattle.walrus_rules.proofs.OneSections.{laid, later, later_none}
 use Rattle.walrus_types.specs.Operators.{Functions}
-use Rattle.walrus_writing.specs.Customs.{Task, chosen_producers, customs_written, payload_of, producers_section, task}
+use Rattle.walrus_writing.specs.Customs.{Task, chosen_producers, sections_made}
 use Rattle.walrus_writing.specs.Parts.{unplaced}
 use Rattle.walrus_writing.specs.Records.{Records, module_of, sections_with, text_of}
 use Rattle.walrus_writing.proofs.OwnCustoms.{CustomText, Say, with_customs}
-use Rattle.walrus_writing.proofs.ProducersSpelled.{fields_fit, section_made, section_of}
-use Rattle.walrus_writing.proofs.Sections.{all_sections, bytes_same, each_section, placed, plain}
+use Rattle.walrus_writing.proofs.NamesSpelled.{made_fit, made_of, sections_same}
+use Rattle.walrus_writing.proofs.Sections.{all_sections, bytes_same, each_section, placed}
 use Rattle.walrus_writing.proofs.TextStands.{bodies_same}
 
 abbrev Fits : wire.Custom → Type 0
 Fits c = SectionFits (CustomSection c)
 
--- what is written fits with its producers
-pub written_fit : (p : Parts) (job : Task) (m : wire.Module) → m.customs ≡ customs_written p job → ModuleFits m → ProducersFit (map raw_field (chosen_producers p job.choices))
-written_fit p job m is fit =
-    let fields : List ProducerField = chosen_producers p job.choices in
-    let all : All Fits (job.sections ++ section_of fields) = subst (λ (l : List wire.Custom). All Fits l) (is ∙ ap (λ (l : List wire.Custom). job.sections ++ l) (section_made fields)) fit.customs in
-    fields_fit fields (All-back Fits job.sections (section_of fields) all)
+-- what is written fits with its names and its producers
+pub written_fit : (own : List wire.Custom) (names : NameText) (fields : List ProducerField) (m : wire.Module) → m.customs ≡ own ++ sections_made names fields → ModuleFits m → NamesFit names × ProducersFit (map raw_field fields)
+written_fit own names fields m is fit =
+    let all : All Fits (own ++ made_of names fields) = subst (λ (l : List wire.Custom). All Fits l) (is ∙ ap (λ (l : List wire.Custom). own ++ l) (sections_same names fields)) fit.customs in
+    made_fit names fields (All-back Fits own (made_of names fields) all)
 
 -- sections that list nothing fit
-none_fit : EachSection SectionFits (laid (plain empty_text))
+none_fit : EachSection SectionFits (laid empty_text)
 none_fit = record {
   types = fits_none GroupFits group_bytes;
   imports = fits_none spelling.ImportFits spelling.import_bytes;
@@ -83,28 +83,32 @@ module _ {p : Parts} {features : Features} (r : Records p features) where
     customs = All-back Fits sections behind fit.customs;
   }
 
-  module _ (job : Task) (e : CustomText) (say : Say p job.choices job.sections e) where
+  module _ (job : Task) (names : NameText) (e : CustomText) (say : Say p job.choices names job.sections e) where
     abbrev whole : Text
     whole = with_customs (text_of r) e
 
     abbrev behind : List wire.Custom
-    behind = job.sections ++ section_of e.producers
+    behind = job.sections ++ made_of e.names e.producers
 
-    behind_is : customs_written p job ≡ behind
-    behind_is = ap (λ (l : List wire.Custom). job.sections ++ l) (section_made (chosen_producers p job.choices) ∙ ap section_of (sym say.producers_are))
+    -- all that is written
+    abbrev customs : List wire.Custom
+    customs = job.sections ++ sections_made names (chosen_producers p job.choices)
 
-    pub module_same : module_of r (customs_written p job) ≡ placed whole behind
+    behind_is : customs ≡ behind
+    behind_is = ap (λ (l : List wire.Custom). job.sections ++ l) (sections_same names (chosen_producers p job.choices) ∙ ap₂ made_of (sym say.names_are) (sym say.producers_are))
+
+    pub module_same : module_of r customs ≡ placed whole behind
     module_same =
         ap (module_by r.start r.data_count (map unplaced r.bodies)) behind_is
         ∙ ap (λ (o : Option ℕ). module_by o r.data_count (map unplaced r.bodies) behind) (sym (later_none r.start))
         ∙ ap (λ (o : Option ℕ). module_by (later r.start None) o (map unplaced r.bodies) behind) (sym (later_none r.data_count))
         ∙ ap (λ (all : List wire.Body). module_by (later r.start None) (later r.data_count None) all behind) (sym (bodies_same p r.names features (r.own Functions) r.bodies r.bodies_are))
 
-    pub text_fits : ModuleFits (module_of r (customs_written p job)) → All SectionFits (sections_of whole)
+    pub text_fits : ModuleFits (module_of r customs) → All SectionFits (sections_of whole)
     text_fits fit = all_sections whole job.sections say.split say.dylinks say.others SectionFits (subst ModuleFits module_same fit)
 
-    pub fits_text : All SectionFits (sections_of whole) → ModuleFits (module_of r (customs_written p job))
+    pub fits_text : All SectionFits (sections_of whole) → ModuleFits (module_of r customs)
     fits_text fit = subst ModuleFits (sym module_same) (each_section whole job.sections say.split say.dylinks say.others SectionFits none_fit fit)
 
-    pub bytes_text : module_bytes (module_of r (customs_written p job)) ≡ written_as whole
+    pub bytes_text : module_bytes (module_of r customs) ≡ written_as whole
     bytes_text = ap module_bytes module_same ∙ bytes_same whole job.sections say.split say.dylinks say.others

@@ -1,16 +1,15 @@
 -- The producers section: its payload isn't empty, what fits in it where it fits, and its texts.
-use Rattle.std.proofs.Common.{◌≡◌, ℕ, zero, suc, ◌+◌, ◌≤◌, ◌<◌, ◌^◌, Bool, true, false, List, [], ◌∷◌, ◌++◌, length, map, refl, sym, ap, subst, ◌∙◌, arith}
-use Rattle.std.specs.Prelude.{All, Option, Some, None, Ok, codes, is_some, nat_lt, option_map, if◌then◌else◌}
-use Rattle.std.specs.Global.{Vec}
+use Rattle.std.proofs.Common.{◌≡◌, ℕ, zero, suc, ◌≤◌, Bool, true, false, List, [], ◌∷◌, ◌++◌, length, map, refl, subst, arith}
+use Rattle.std.specs.Prelude.{All, codes, nat_lt, if◌then◌else◌}
 use Rattle.std.specs.List.{AllByRecursion}
-use Rattle.std.proofs.lemmas.List.{append-nil, length-append}
+use Rattle.std.proofs.lemmas.List.{length-append}
 use Rattle.std.proofs.lemmas.List.Elements.{All-from_recursion, All-head}
 use Rattle.std.proofs.lemmas.Str.{IsUtf8-string_bytes}
 use Rattle.wasm_forms.specs.Spelling.{block_bytes, groups, number_bytes, row_bytes, vector_bytes}
 use Rattle.wasm_forms.specs.Writing.{EachFits, FitsLength, FitsVector}
 use Rattle.wasm_forms.proofs.Adding.{vector_map}
 use Rattle.wasm_frames.specs.Record as wire
-use Rattle.wasm_frames.specs.Frames.{Section, CustomSection}
+use Rattle.wasm_frames.specs.Frames.{CustomSection}
 use Rattle.wasm_payloads.specs.Producers.{Field}
 use Rattle.wasm_payloads.specs.Spelling as spelled
 use Rattle.wasm_payloads.specs.Spelling.{FieldFits, ProducersFit, ValueFits, producers_bytes, value_bytes}
@@ -18,14 +17,13 @@ use Rattle.wasm_writer.specs.Spelling.{SectionFits}
 use Rattle.wasm_writer.proofs.Listed.{fits_none}
 use Rattle.walrus_model.specs.Abstract.{ProducerField}
 use Rattle.walrus_model.specs.Producers.{if_written}
-use Rattle.walrus_parts.specs.declared.error.Error.{Error}
 use Rattle.walrus_producers.specs.Seen.{fields_seen, values_seen}
 use Rattle.walrus_producers.specs.declared.producers.ProducerValue.{ProducerValue as HeldValue}
 use Rattle.walrus_producers.specs.declared.producers.ProducerField.{ProducerField as HeldField}
 use Rattle.walrus_rules.specs.Spelling.{FieldIsText, ValueIsText}
 use Rattle.walrus_rules.specs.Text.{field_bytes, raw_field}
 use Rattle.walrus_rules.proofs.OneSections.{more}
-use Rattle.walrus_writing.specs.Customs.{SpellsFields, payload_of, producers_section}
+use Rattle.walrus_writing.specs.Customs.{payload_of, section_if_any}
 
 -- ---- a number has a byte or more, and so has a vector
 
@@ -42,15 +40,15 @@ number_filled : (n : ℕ) → 1 ≤ length (number_bytes n)
 unfolding number_bytes
 number_filled n = groups_filled false 128 9 n
 
-behind_filled : (n : ℕ) (rest : List ℕ) → 1 ≤ length (number_bytes n ++ rest)
+pub behind_filled : (n : ℕ) (rest : List ℕ) → 1 ≤ length (number_bytes n ++ rest)
 behind_filled n rest = omega (arith, number_filled n, length-append (number_bytes n) rest)
 
 -- ---- what is spelled in fewer than 2 ^ 32 bytes has counts and sizes below
 
-behind_fits : (front rest : List ℕ) → FitsLength (front ++ rest) → FitsLength rest
+pub behind_fits : (front rest : List ℕ) → FitsLength (front ++ rest) → FitsLength rest
 behind_fits front rest few = omega (arith, few, length-append front rest)
 
-before_fits : (front rest : List ℕ) → FitsLength (front ++ rest) → FitsLength front
+pub before_fits : (front rest : List ℕ) → FitsLength (front ++ rest) → FitsLength front
 before_fits front rest few = omega (arith, few, length-append front rest)
 
 module _ {X : Type 0} (spell : X → List ℕ) (filled : (x : X) → 1 ≤ length (spell x)) where
@@ -63,12 +61,12 @@ module _ {X : Type 0} (spell : X → List ℕ) (filled : (x : X) → 1 ≤ lengt
     each_fits [] few = tt
     each_fits (x ∷ xs) few = (fits x (before_fits (spell x) (row_bytes spell xs) few), each_fits xs (behind_fits (spell x) (row_bytes spell xs) few))
 
-    vector_fits : (xs : List X) → FitsLength (vector_bytes spell xs) → FitsVector Fits xs
+    pub vector_fits : (xs : List X) → FitsLength (vector_bytes spell xs) → FitsVector Fits xs
     vector_fits xs few =
         let row : FitsLength (row_bytes spell xs) = behind_fits (number_bytes (length xs)) (row_bytes spell xs) few in
         (omega (arith, row, row_long xs), each_fits xs row)
 
-block_fits : (text : List ℕ) → FitsLength (block_bytes text) → FitsLength text
+pub block_fits : (text : List ℕ) → FitsLength (block_bytes text) → FitsLength text
 block_fits text few = behind_fits (number_bytes (length text)) text few
 
 value_fits : (v : List ℕ × List ℕ) → FitsLength (value_bytes v) → ValueFits v
@@ -98,34 +96,22 @@ name = codes "producers"
 abbrev pub producers_more : List ProducerField → List wire.Custom
 producers_more fields = more name (vector_bytes field_bytes) fields
 
-abbrev pub section_of : List ProducerField → List wire.Custom
-section_of fields = producers_more fields ++ []
-
 -- where it fits, so do its fields
-pub fields_fit : (fields : List ProducerField) → All (λ (c : wire.Custom). SectionFits (CustomSection c)) (section_of fields) → ProducersFit (map raw_field fields)
+pub fields_fit : (fields : List ProducerField) → All (λ (c : wire.Custom). SectionFits (CustomSection c)) (producers_more fields) → ProducersFit (map raw_field fields)
 fields_fit [] all = (fits_none FieldFits spelled.field_bytes).0
 fields_fit (f ∷ fs) all =
     let bytes : List ℕ = vector_bytes field_bytes (f ∷ fs) in
     let section : SectionFits (CustomSection (record { name = name; bytes = bytes })) = All-head (λ (c : wire.Custom). SectionFits (CustomSection c)) (record { name = name; bytes = bytes }) [] all in
     producers_fit (map raw_field (f ∷ fs)) (subst (λ (l : List ℕ). FitsLength l) (vector_map raw_field spelled.field_bytes (f ∷ fs)) (behind_fits (block_bytes name) bytes section.1))
 
-payload_section : (bytes : List ℕ) → 1 ≤ length bytes → producers_section (Some bytes) ≡ record { name = name; bytes = bytes } ∷ []
+payload_section : (bytes : List ℕ) → 1 ≤ length bytes → section_if_any name bytes ≡ record { name = name; bytes = bytes } ∷ []
 payload_section [] long = absurd (omega (arith, long))
 payload_section (b ∷ bs) long = refl
 
 -- a payload makes it
-pub section_made : (fields : List ProducerField) → producers_section (Some (payload_of fields)) ≡ section_of fields
-section_made [] = refl
-section_made (f ∷ fs) = payload_section (vector_bytes field_bytes (f ∷ fs)) (behind_filled (length (f ∷ fs)) (row_bytes field_bytes (f ∷ fs)))
-
--- a payload that is there is that of the fields, and one that isn't doesn't fit
-pub section_given : (fields : List ProducerField) (payload : Option (Vec ℕ)) → is_some payload ≡ true → SpellsFields payload_of fields (Ok payload) → producers_section (option_map (λ (bytes : Vec ℕ). bytes.items) payload) ≡ producers_section (Some (payload_of fields))
-section_given fields None there gives = absurd (cc)
-section_given fields (Some bytes) there gives = ap (λ (l : List ℕ). producers_section (Some l)) gives
-
-pub section_refused : (fields : List ProducerField) (payload : Option (Vec ℕ)) → is_some payload ≡ false → SpellsFields payload_of fields (Ok payload) → ProducersFit (map raw_field fields) → ⊥
-section_refused fields None there gives = gives
-section_refused fields (Some bytes) there gives = absurd (cc)
+pub producers_made : (fields : List ProducerField) → section_if_any name (payload_of fields) ≡ producers_more fields
+producers_made [] = refl
+producers_made (f ∷ fs) = payload_section (vector_bytes field_bytes (f ∷ fs)) (behind_filled (length (f ∷ fs)) (row_bytes field_bytes (f ∷ fs)))
 
 -- ---- what is chosen of the producers of these parts
 

@@ -1,16 +1,13 @@
 -- What a refusal of a part says of the items that are written, and the records that are.
 use Rattle.wasm_entries.specs.Record as entries
-use Rattle.std.proofs.Common.{inl, inr, ◌≡◌, ℕ, ◌<◌, ◌^◌, List, [], ◌∷◌, ◌++◌, map, length, refl, sym, ap, ◌∙◌, subst, None, Some}
+use Rattle.std.proofs.Common.{inl, inr, ◌≡◌, ℕ, ◌-◌, ◌<◌, ◌^◌, List, [], ◌∷◌, ◌++◌, map, length, refl, sym, ap, ap₂, ◌∙◌, subst, None, Some}
 use Rattle.std.specs.Prelude.{Option, All, Err, option_and_then, option_map}
 use Rattle.std.specs.Global.{Vec}
 use Rattle.std.specs.List.{AllZip}
 use Rattle.std.specs.Str.{IsUtf8}
 use Rattle.std.proofs.lemmas.List.{length-map}
-use Rattle.std.proofs.lemmas.List.Elements.{All-map, All-nil}
+use Rattle.std.proofs.lemmas.List.Elements.{All-map}
 use Rattle.wasm_frames.specs.Record as wire
-use Rattle.wasm_frames.specs.Spelling.{body_bytes}
-use Rattle.wasm_forms.specs.Spelling.{number_bytes}
-use Rattle.wasm_forms.specs.Writing.{FitsLength}
 use Rattle.wasm_entries.specs.Record.{data_entry, element_entry, export_entry, global_entry, group, import_entry, table_entry}
 use Rattle.wasm_entries.specs.declared.record.RawData.{RawData}
 use Rattle.wasm_entries.specs.declared.record.RawElement.{RawElement}
@@ -20,11 +17,10 @@ use Rattle.wasm_entries.specs.declared.record.RawImport.{RawImport}
 use Rattle.wasm_entries.specs.declared.record.RawLimits.{RawLimits}
 use Rattle.wasm_entries.specs.declared.record.RawSub.{RawSub}
 use Rattle.wasm_entries.specs.declared.record.RawTable.{RawTable}
-use Rattle.wasm_entries.specs.Spelling as spelling
 use Rattle.wasm_entries.specs.Spelling.{DataStands, ElementStands, GlobalStands, TableStands}
-use Rattle.wasm_entries.specs.TypeSpelling.{GroupFits, group_bytes, LimitsFit, LimitsStand, limits_bytes}
+use Rattle.wasm_entries.specs.TypeSpelling.{LimitsStand}
+use Rattle.wasm_payloads.specs.Lent.{NamesFit}
 use Rattle.wasm_payloads.specs.Spelling.{ProducersFit}
-use Rattle.wasm_writer.specs.Spelling.{SectionFits, tag_bytes}
 use Rattle.wasm_wire.specs.ModuleSpelling.{ModuleFits, WritesModule, module_bytes}
 use Rattle.wasm_forms.specs.declared.error.WireError.{WireError}
 use Rattle.wasm_forms.specs.declared.error.WireError.TheVariants as Wire
@@ -58,13 +54,15 @@ use Rattle.walrus_parts.specs.Errors.{error_of_wire}
 use Rattle.walrus_parts.specs.declared.error.Error.{Error}
 use Rattle.walrus_parts.specs.declared.error.Error.TheVariants as Parts_error
 use Rattle.walrus_rules.specs.Spelling.{IsCount}
-use Rattle.walrus_rules.specs.Text.{raw_field}
-use Rattle.walrus_writing.specs.Customs.{Task, chosen_producers, customs_written}
-use Rattle.walrus_writing.specs.Parts.{HasBytes, export_with_index, memory_limits, tag_index, type_index, unplaced}
+use Rattle.walrus_rules.specs.Text.{NameText, raw_field}
+use Rattle.walrus_names.specs.Names.{body_used, first_own, if_chosen, names_said}
+use Rattle.walrus_names.specs.declared.locals.WrittenBody.{WrittenBody}
+use Rattle.walrus_writing.specs.Customs.{Task, chosen_producers, sections_made}
+use Rattle.walrus_writing.specs.Parts.{IsWrittenBody, export_with_index, memory_limits, tag_index, type_index, unplaced}
 use Rattle.walrus_plan.specs.Brought.{import_numbers, own_of, own_places, places_brought}
 use Rattle.walrus_writing.specs.Imported.{IsEntryAt}
 use Rattle.walrus_plan.specs.Places.{places, places_own}
-use Rattle.walrus_writing.specs.Records.{Records, Spells, module_of, sections_with}
+use Rattle.walrus_writing.specs.Records.{Records, Spells, customs_written, module_of, names_written, sections_with}
 use Rattle.walrus_writing.specs.Elements.{ChoosesFlag, IsSpelledElement, RefusesElements}
 use Rattle.walrus_writing.specs.Globals.{IsSpelledGlobal, RefusesGlobals}
 use Rattle.walrus_writing.specs.Segments.{IsSpelledData, RefusesData}
@@ -76,7 +74,7 @@ use Rattle.walrus_plan.specs.declared.plan.Plan.{Plan}
 use Rattle.walrus_writing.proofs.OwnPlaces.{defined_own, parted_own, seen_by_own}
 use Rattle.walrus_writing.proofs.Placed.{written_fit}
 use Rattle.walrus_writing.proofs.Spelled.{elements_all_spelled, globals_all_spelled, segments_all_spelled, tables_all_spelled}
-use Rattle.walrus_writing.proofs.SpellsLemmas.{zip_seen}
+use Rattle.walrus_writing.proofs.SpellsLemmas.{bytes_zip, used_zip}
 
 -- ---- refusals
 
@@ -133,7 +131,7 @@ seen_by_places {T} {X} {W} seen_as f slots =
     ∙ seen_by_own (λ (t : T). None) seen_as f slots
     ∙ ap (map (λ (t : T). f (seen_as t))) (all_own (items slots))
 
-module _ (p : Parts) (job : Task) (names : Lookup) (named : names ≡ job.names) (plan : Plan) (raws : List (Vec RawSub)) (raw_imports : List RawImport) (raw_functions : List ℕ) (raw_tables : List RawTable) (raw_memories : List RawLimits) (raw_tags : List ℕ) (raw_globals : List RawGlobal) (exported : List RawExport) (bodies : List (Vec ℕ)) (raw_elements : List RawElement) (raw_segments : List RawData) (count : Option ℕ)
+module _ (p : Parts) (job : Task) (names : Lookup) (named : names ≡ job.names) (plan : Plan) (raws : List (Vec RawSub)) (raw_imports : List RawImport) (raw_functions : List ℕ) (raw_tables : List RawTable) (raw_memories : List RawLimits) (raw_tags : List ℕ) (raw_globals : List RawGlobal) (exported : List RawExport) (bodies : List WrittenBody) (raw_elements : List RawElement) (raw_segments : List RawData) (count : Option ℕ)
     (matched : ImportsMatch (parts_view p)) (reads : ReadsInOrder (parts_view p))
     (is_plan : IsPlan (parts_view p) (places plan)) (numbered : AreNumbered names (places plan)) (few : (s : Space) → length (places plan s) < 2 ^ 32)
     (types : map place plan.types.items ≡ map (λ e. e.0) (entries_in (type_slots p.types.now)))
@@ -157,7 +155,7 @@ module _ (p : Parts) (job : Task) (names : Lookup) (named : names ≡ job.names)
     (exports_are : map (λ e. Some (export_entry e)) exported ≡ map (λ v. export_with_index names (export_of v)) (items (exports p.exports.now)))
     (texts : All (λ e. IsUtf8 e.name.now) exported)
     (started : Option ℕ) (start_is : option_map (λ (i : ℕ). Some i) started ≡ option_map (names Functions) (parts_view p).start)
-    (bodies_are : AllZip (λ id bytes. HasBytes p names job.choices.features (place id) bytes.items) plan.own_functions.items bodies)
+    (bodies_are : AllZip (λ id body. IsWrittenBody p names job.choices.features (place id) body) plan.own_functions.items bodies)
     (elements_rise : map place plan.elements.items ≡ map (λ e. e.0) (entries_in (elements p.elements.now)))
     (elements_are : map (λ e. Some (said.element_of (element_entry e))) raw_elements ≡ map (λ e. named_element names (element_of e)) (items (elements p.elements.now)))
     (elements_stand : All (λ e. ElementStands (element_entry e)) raw_elements)
@@ -225,8 +223,8 @@ module _ (p : Parts) (job : Task) (names : Lookup) (named : names ≡ job.names)
         made_twice said.global_of global_entry raw_globals ∙ globals_are ∙ sym (seen_by_own (λ (g : GlobalValue). g.imported_by) global_of (named_global names) (globals p.globals.now));
     globals_stand = All-map GlobalStands global_entry raw_globals globals_stand;
     globals_spelled = globals_all_spelled p matched names (map import_entry raw_imports) imports_are globals_spelled;
-    bodies = map (λ (v : Vec ℕ). v.items) bodies;
-    bodies_are = zip_seen place (λ (v : Vec ℕ). v.items) (HasBytes p names job.choices.features) plan.own_functions.items bodies bodies_are;
+    bodies = map (λ (b : WrittenBody). b.bytes.items) bodies;
+    bodies_are = bytes_zip p names job.choices.features plan.own_functions.items bodies bodies_are;
     exports = map export_entry exported;
     exports_are = map-map (λ (e : entries.Export). Some e) export_entry exported ∙ exports_are ∙ sym (map-map (export_with_index names) export_of (items (exports p.exports.now)));
     texts = All-map (λ (e : entries.Export). IsUtf8 e.name) export_entry exported texts;
@@ -245,23 +243,39 @@ module _ (p : Parts) (job : Task) (names : Lookup) (named : names ≡ job.names)
     counted = subst (λ (n : ℕ). IsCount (parts_view p) n count) as_many_segments counted;
   }
 
-  abbrev producers_written : List ProducerField
-  producers_written = chosen_producers p job.choices
+  abbrev producers_chosen : List ProducerField
+  producers_chosen = chosen_producers p job.choices
 
-  -- a payload that doesn't fit
-  pub producers_refused : (X : Type 0) → (ProducersFit (map raw_field producers_written) → ⊥) → RefusesItems {X = X} p job (Err Parts_error.TooLarge)
-  producers_refused X refused = inr (record { records = records_of; names_are = named; too_large = λ fit. refused (written_fit p job (module_of records_of (customs_written p job)) refl fit) })
+  -- what the name section says
+  abbrev names_given : NameText
+  names_given = if_chosen job.choices.names (names_said p (places plan) (first_own plan) (map body_used bodies))
+
+  names_same : names_given ≡ names_written records_of job.choices
+  names_same =
+      ap₂ (λ (first : ℕ) (used : List (List (ℕ × ℕ))). if_chosen job.choices.names (names_said p (places plan) first used))
+      (ap₂ (λ (a b : ℕ). a - b) (sym (length-map plan.functions.items place)) (sym (length-map plan.own_functions.items place)))
+      (used_zip p names job.choices.features plan.own_functions.items bodies bodies_are)
+
+  -- payloads that don't fit
+  pub payloads_refused : (X : Type 0) → (NamesFit names_given → ProducersFit (map raw_field producers_chosen) → ⊥) → RefusesItems {X = X} p job (Err Parts_error.TooLarge)
+  payloads_refused X refused = inr (record {
+    records = records_of;
+    names_are = named;
+    too_large = λ fit.
+        let both = written_fit job.sections (names_written records_of job.choices) producers_chosen (module_of records_of (customs_written job records_of)) refl fit in
+        refused (subst NamesFit (sym names_same) both.0) both.1;
+  })
 
   -- the module of these sections
-  module _ (m : wire.Module) (code : List wire.Body) (customs : List wire.Custom) (sections : m ≡ sections_with (map group raws) (map import_entry raw_imports) raw_functions (map table_entry raw_tables) raw_memories raw_tags (map global_entry raw_globals) (map export_entry exported) started (map element_entry raw_elements) count code (map data_entry raw_segments) customs) (codes : code ≡ map (λ (v : Vec ℕ). unplaced v.items) bodies) (customs_are : customs ≡ customs_written p job) where
+  module _ (m : wire.Module) (code : List wire.Body) (customs : List wire.Custom) (sections : m ≡ sections_with (map group raws) (map import_entry raw_imports) raw_functions (map table_entry raw_tables) raw_memories raw_tags (map global_entry raw_globals) (map export_entry exported) started (map element_entry raw_elements) count code (map data_entry raw_segments) customs) (codes : code ≡ map (λ (b : WrittenBody). unplaced b.bytes.items) bodies) (customs_are : customs ≡ job.sections ++ sections_made names_given producers_chosen) where
     abbrev with_rest : List wire.Body → List wire.Custom → wire.Module
     with_rest all behind = sections_with (map group raws) (map import_entry raw_imports) raw_functions (map table_entry raw_tables) raw_memories raw_tags (map global_entry raw_globals) (map export_entry exported) started (map element_entry raw_elements) count all (map data_entry raw_segments) behind
 
-    module_is : m ≡ module_of records_of (customs_written p job)
+    module_is : m ≡ module_of records_of (customs_written job records_of)
     module_is =
         sections
-        ∙ ap (λ (all : List wire.Body). with_rest all customs) (codes ∙ sym (map-map unplaced (λ (v : Vec ℕ). v.items) bodies))
-        ∙ ap (with_rest (map unplaced (map (λ (v : Vec ℕ). v.items) bodies))) customs_are
+        ∙ ap (λ (all : List wire.Body). with_rest all customs) (codes ∙ sym (map-map unplaced (λ (b : WrittenBody). b.bytes.items) bodies))
+        ∙ ap (with_rest (map unplaced (map (λ (b : WrittenBody). b.bytes.items) bodies))) (customs_are ∙ ap (λ (names : NameText). job.sections ++ sections_made names producers_chosen) names_same)
 
     pub records_written : (bytes : List ℕ) → bytes ≡ module_bytes m → ModuleFits m → Spells p job bytes
     records_written bytes are fit = record { records = records_of; names_are = named; fit = subst ModuleFits module_is fit; are = are ∙ ap module_bytes module_is }

@@ -1,9 +1,10 @@
 -- A body that is written is the same body, under the indices that its items and locals are given.
-use Rattle.std.proofs.Common.{inl, inr, ◌≡◌, ◌⊎◌, ℕ, zero, suc, get_or, None, ◌+◌, ◌<◌, ◌≤◌, Bool, true, false, List, [], ◌∷◌, ◌++◌, length, map, refl, sym, ap, ap₂, subst, ◌∙◌, arith, Some}
-use Rattle.std.specs.Prelude.{◌≢◌, Option, Contains, nat_eq, option_map, slice_get, unwrap_or, if◌then◌else◌}
+use Rattle.std.proofs.Common.{inl, inr, ◌≡◌, ◌⊎◌, ℕ, zero, suc, get_or, None, lt-ltb, ◌+◌, ◌<◌, ◌≤◌, Bool, true, false, List, [], ◌∷◌, ◌++◌, length, map, refl, sym, ap, ap₂, subst, ◌∙◌, arith, Some}
+use Rattle.std.specs.Prelude.{◌≢◌, Option, Contains, nat_eq, nat_lt, option_map, slice_get, unwrap_or, if◌then◌else◌}
 use Rattle.std.specs.List.{AllByRecursion, IsDistinct, range_with_len}
 use Rattle.std.proofs.lemmas.Bool.{ne_eqb}
 use Rattle.std.proofs.lemmas.Bool.Decides.{eqb_tells}
+use Rattle.std.proofs.lemmas.List.{length-append}
 use Rattle.walrus_base.specs.Arena.{item_at}
 use Rattle.walrus_base.specs.Id.{place}
 use Rattle.walrus_base.specs.Types.{ValType, map_val}
@@ -19,7 +20,7 @@ use Rattle.walrus_contents.specs.declared.parts.Parts.{Parts}
 use Rattle.walrus_model.specs.Abstract.{Body}
 use Rattle.walrus_model.specs.Sections.{types_of, body_with}
 use Rattle.walrus_model.specs.Refers.{IsUsed}
-use Rattle.walrus_model.specs.Renaming.{Renaming, renamed, renamed_ops}
+use Rattle.walrus_model.specs.Renaming.{Renaming, renamed_ops}
 use Rattle.walrus_model.specs.Same.{SameBody}
 use Rattle.walrus_writing.specs.Parts.{HasBytes, slots_of, source}
 use Rattle.walrus_writing.specs.Records.{Records}
@@ -69,7 +70,7 @@ unfolding IsDistinct
 distinct_by [] h = tt
 distinct_by (x ∷ xs) h = (all_differ x xs h.0, distinct_by xs h.1)
 
-rest_of : (a x : ℕ) → a ≤ x → (k : ℕ) × (x ≡ a + k)
+pub rest_of : (a x : ℕ) → a ≤ x → (k : ℕ) × (x ≡ a + k)
 rest_of zero x h = (x, omega arith)
 rest_of (suc a) zero h = absurd (omega (arith, h))
 rest_of (suc a) (suc x) h = let d = rest_of a x (omega (arith, h)) in (d.0, let p : x ≡ a + d.0 = d.1 in omega (arith, p))
@@ -113,12 +114,12 @@ module _ {p : Parts} {features : Features} (r : Records p features) (i t : ℕ) 
 
   -- ---- a local that is used
 
-  record Placed (x : ℕ) : Type 0 where
-    k : ℕ
-    at : place_in all_locals x ≡ Some k
-    is : ren.locals i x ≡ k
+  pub record Placed (x : ℕ) : Type 0 where
+    pub k : ℕ
+    pub at : place_in all_locals x ≡ Some k
+    pub is : ren.locals i x ≡ k
 
-  placed : (x : ℕ) → Contains (locals_of (body_of b.local)) x → Placed x
+  pub placed : (x : ℕ) → Contains (locals_of (body_of b.local)) x → Placed x
   placed x u =
       let s = some_of (place_in all_locals x) (locals_found r.names (index_in S b.written.order) S.ops (ops_of b.written.texts) b.written.named x u) in
       record { k = s.0; at = s.1; is = found_locals x ∙ ap (λ (o : Option ℕ). unwrap_or o 0) s.1 }
@@ -223,7 +224,14 @@ module _ {p : Parts} {features : Features} (r : Records p features) (i t : ℕ) 
       let d = (b.written.declared.which y.0).0 (among k y.0 y.1) in
       subst (λ z. Contains (locals_of (ops_of b.written.texts)) z) (declared_at k y.0 y.1 ∙ sym e) (used_again y.0 d.is_used)
 
-  -- each of them is used
+  -- each of its locals is there
+  pub in_body : (y : ℕ) → y < length (parameters ++ order) → nat_lt y (length new.parameters + new.declared) ≡ true
+  in_body y low =
+      let range : length new.parameters ≡ length params = range_length 0 (length params) in
+      let as_many : length further ≡ length order = as_many_further S bytes b.places b.numbers b.ids b.used b.written in
+      lt-ltb y (length new.parameters + new.declared) (omega (arith, low, range, many, as_many, length-append parameters order))
+
+  -- each of those that it declares is used
   pub uses_all : UsesAll new
   uses_all x low high =
       let range : length new.parameters ≡ length params = range_length 0 (length params) in

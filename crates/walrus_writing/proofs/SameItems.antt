@@ -1,5 +1,5 @@
 -- Modules that differ in custom sections alone: their items, and why these can't be written, are the same.
-use Rattle.std.proofs.Common.{◌≡◌, ℕ, List, [], refl, sym, ap, ◌∙◌, subst, inl, inr}
+use Rattle.std.proofs.Common.{◌≡◌, ℕ, List, [], refl, ◌∙◌, subst}
 use Rattle.std.specs.Prelude.{Contains, slice_index_or}
 use Rattle.walrus_base.specs.Types.{HeapType}
 use Rattle.walrus_types.specs.Operators.{Space, Types, Functions, Tables, Memories, Tags, Globals, Elements, DataSegments, Item, Op}
@@ -9,7 +9,7 @@ use Rattle.walrus_model.specs.Dead.{HasDead, DeadName, DeadLocal, DeadExport, De
 use Rattle.walrus_model.specs.Live.{IsLive}
 use Rattle.walrus_model.specs.Order.{ByImport}
 use Rattle.walrus_model.specs.Refers.{written_in}
-use Rattle.walrus_model.specs.WellMade.{ImportsMatch, consts_in, heaps_in, import_of}
+use Rattle.walrus_model.specs.WellMade.{consts_in, heaps_in, import_of}
 use Rattle.walrus_rules.specs.Refused.{HasKind, HasTwoIndices, LocalImported, ImportedTwice, LacksIndex, NotBrought, LocalGlobalRead, LaterGlobalRead, LaterSupertype, LaterType, HasUnspelled, ExactType, ExactConstant, EmptyConstant, IllFormed, PassesLimits, ManyItems, ManyLocals, TableLimit, MemoryLimit, Unfit, WritesUnfit}
 use Rattle.walrus_rules.specs.WellMade.{IsWellFormed}
 

@@ -1,4 +1,4 @@
--- The sections of a text that names nothing, kind by kind: once for all kinds.
+-- The sections of a text, kind by kind: once for all kinds.
 use Rattle.std.proofs.Common.{◌≡◌, ℕ, Bool, true, false, List, [], ◌∷◌, ◌++◌, map, refl, sym, ap, ap₂, append_assoc, subst, ◌∙◌}
 use Rattle.std.specs.Prelude.{All, Option, Some, None, IfSome, bytes_eq, codes, cond, filter, not, ◌||◌}
 use Rattle.std.proofs.lemmas.List.{append-nil}
@@ -17,18 +17,15 @@ use Rattle.walrus_rules.specs.Examples.{empty_text}
 use Rattle.walrus_model.specs.Customs.{is_debug_name}
 use Rattle.walrus_model.specs.Sections.{is_apart}
 use Rattle.walrus_rules.specs.Spelling.{is_dylink, is_other, written_as}
-use Rattle.walrus_rules.specs.Text.{Text, custom, field_bytes, if_some, listed, sections_of, unplaced}
+use Rattle.walrus_rules.specs.Text.{Text, custom, field_bytes, if_some, listed, names_bytes, sections_of, unplaced}
 use Rattle.walrus_rules.proofs.OneList.{All-front, All-back, filter_all}
 use Rattle.walrus_rules.proofs.OneSections.{laid, later}
-use Rattle.walrus_writing.proofs.ProducersSpelled.{section_of}
-
--- the text without names
-abbrev pub plain : Text → Text
-plain t = record t { names = empty_text.names }
+use Rattle.walrus_writing.proofs.NamesSpelled.{named_by_bytes}
+use Rattle.walrus_writing.proofs.ProducersSpelled.{producers_more}
 
 -- the module of its sections, with these custom ones
 abbrev pub placed : Text → List wire.Custom → wire.Module
-placed t customs = record (laid (plain t)) { customs = customs }
+placed t customs = record (laid t) { customs = customs }
 
 -- ---- one kind
 
@@ -61,6 +58,9 @@ beside p q = ap₂ (λ (a b : List Section). a ++ b) p q
 
 -- ---- custom sections by their groups
 
+abbrev names_made : List ℕ → Section
+names_made bytes = custom (codes "name") bytes
+
 abbrev producers_made : List ProducerField → Section
 producers_made fields = custom (codes "producers") (vector_bytes field_bytes fields)
 
@@ -68,11 +68,19 @@ of_map : {A : Type 0} (P : Section → Type 0) (make : A → Section) (xs : List
 of_map P make [] h = All-nil _
 of_map P make (x ∷ xs) h = All-cons (λ y. P (make y)) x xs (All-head P (make x) (map make xs) h) (of_map P make xs (All-tail P (make x) (map make xs) h))
 
-producers_hold : (P : Section → Type 0) (fields : List ProducerField) → All (λ (c : wire.Custom). P (CustomSection c)) (section_of fields) → All P (listed producers_made fields)
+names_hold : (P : Section → Type 0) (bytes : List ℕ) → All (λ (c : wire.Custom). P (CustomSection c)) (named_by_bytes bytes) → All P (listed names_made bytes)
+names_hold P [] h = All-nil P
+names_hold P (b ∷ bs) h = All-cons P (names_made (b ∷ bs)) [] (All-head (λ (c : wire.Custom). P (CustomSection c)) (record { name = codes "name"; bytes = b ∷ bs }) [] h) (All-nil P)
+
+names_hold_back : (P : Section → Type 0) (bytes : List ℕ) → All P (listed names_made bytes) → All (λ (c : wire.Custom). P (CustomSection c)) (named_by_bytes bytes)
+names_hold_back P [] h = All-nil _
+names_hold_back P (b ∷ bs) h = All-cons (λ (c : wire.Custom). P (CustomSection c)) (record { name = codes "name"; bytes = b ∷ bs }) [] (All-head P (names_made (b ∷ bs)) [] h) (All-nil _)
+
+producers_hold : (P : Section → Type 0) (fields : List ProducerField) → All (λ (c : wire.Custom). P (CustomSection c)) (producers_more fields) → All P (listed producers_made fields)
 producers_hold P [] h = All-nil P
 producers_hold P (f ∷ fs) h = All-cons P (producers_made (f ∷ fs)) [] (All-head (λ (c : wire.Custom). P (CustomSection c)) (record { name = codes "producers"; bytes = vector_bytes field_bytes (f ∷ fs) }) [] h) (All-nil P)
 
-customs_hold : (P : Section → Type 0) (fields : List ProducerField) → All P (listed producers_made fields) → All (λ (c : wire.Custom). P (CustomSection c)) (section_of fields)
+customs_hold : (P : Section → Type 0) (fields : List ProducerField) → All P (listed producers_made fields) → All (λ (c : wire.Custom). P (CustomSection c)) (producers_more fields)
 customs_hold P [] h = All-nil _
 customs_hold P (f ∷ fs) h = All-cons (λ (c : wire.Custom). P (CustomSection c)) (record { name = codes "producers"; bytes = vector_bytes field_bytes (f ∷ fs) }) [] (All-head P (producers_made (f ∷ fs)) [] h) (All-nil _)
 
@@ -114,22 +122,33 @@ module _ (c : wire.Custom) (h : is_other c ≡ true) where
       ∙ ap (λ (b : Bool). not (b || bytes_eq c.name (codes "producers"))) no_name
       ∙ ap not no_producers
 
--- the group of the producers section
-made_dylink : (fields : List ProducerField) → group_of Dylink (section_of fields) ≡ []
-made_dylink [] = refl
-made_dylink (f ∷ fs) = refl
+-- the groups of both sections that are made
+abbrev made_by : List ℕ → List ProducerField → List wire.Custom
+made_by bytes fields = named_by_bytes bytes ++ producers_more fields
 
-made_names : (fields : List ProducerField) → group_of Names (section_of fields) ≡ []
-made_names [] = refl
-made_names (f ∷ fs) = refl
+made_dylink : (bytes : List ℕ) (fields : List ProducerField) → group_of Dylink (made_by bytes fields) ≡ []
+made_dylink [] [] = refl
+made_dylink [] (f ∷ fs) = refl
+made_dylink (b ∷ bs) [] = refl
+made_dylink (b ∷ bs) (f ∷ fs) = refl
 
-made_producers : (fields : List ProducerField) → map CustomSection (group_of Producers (section_of fields)) ≡ listed producers_made fields
-made_producers [] = refl
-made_producers (f ∷ fs) = refl
+made_names : (bytes : List ℕ) (fields : List ProducerField) → map CustomSection (group_of Names (made_by bytes fields)) ≡ listed names_made bytes
+made_names [] [] = refl
+made_names [] (f ∷ fs) = refl
+made_names (b ∷ bs) [] = refl
+made_names (b ∷ bs) (f ∷ fs) = refl
 
-made_others : (fields : List ProducerField) → group_of Others (section_of fields) ≡ []
-made_others [] = refl
-made_others (f ∷ fs) = refl
+made_producers : (bytes : List ℕ) (fields : List ProducerField) → map CustomSection (group_of Producers (made_by bytes fields)) ≡ listed producers_made fields
+made_producers [] [] = refl
+made_producers [] (f ∷ fs) = refl
+made_producers (b ∷ bs) [] = refl
+made_producers (b ∷ bs) (f ∷ fs) = refl
+
+made_others : (bytes : List ℕ) (fields : List ProducerField) → group_of Others (made_by bytes fields) ≡ []
+made_others [] [] = refl
+made_others [] (f ∷ fs) = refl
+made_others (b ∷ bs) [] = refl
+made_others (b ∷ bs) (f ∷ fs) = refl
 
 in_three : (g : CustomGroup) (ds os qs xs ys zs : List wire.Custom) → group_of g ds ≡ xs → group_of g os ≡ ys → group_of g qs ≡ zs → group_of g ((ds ++ os) ++ qs) ≡ (xs ++ ys) ++ zs
 in_three g ds os qs xs ys zs a b c =
@@ -184,15 +203,19 @@ to_front [] t = refl
 to_front (s ∷ ss) t = ap (λ (l : List Section). s ∷ l) (to_front ss t)
 
 module _ (t : Text) (sections : List wire.Custom) (split : sections ≡ t.dylinks ++ t.others) (dylinks : All (λ c. is_dylink c ≡ true) t.dylinks) (others : All (λ c. is_other c ≡ true) t.others) where
-  -- the custom sections of the module: those of its own, and then producers
+  -- the sections that are made
+  abbrev made_both : List wire.Custom
+  made_both = made_by (names_bytes t.names) t.producers
+
+  -- the custom sections of the module: those of its own, and then names and producers
   abbrev pub customs : List wire.Custom
-  customs = sections ++ section_of t.producers
+  customs = sections ++ made_both
 
   abbrev in_parts : List wire.Custom
-  in_parts = (t.dylinks ++ t.others) ++ section_of t.producers
+  in_parts = (t.dylinks ++ t.others) ++ made_both
 
   parts_same : customs ≡ in_parts
-  parts_same = ap (λ (l : List wire.Custom). l ++ section_of t.producers) split
+  parts_same = ap (λ (l : List wire.Custom). l ++ made_both) split
 
   each_dylink : (f : List ℕ → Bool) (b : Bool) → f (codes "dylink") ≡ b → f (codes "dylink.0") ≡ b → All (λ (c : wire.Custom). f c.name ≡ b) t.dylinks
   each_dylink f b first second = All-weaker (λ (c : wire.Custom). is_dylink c ≡ true) (λ (c : wire.Custom). f c.name ≡ b) (by_dylink f b first second) t.dylinks dylinks
@@ -203,37 +226,39 @@ module _ (t : Text) (sections : List wire.Custom) (split : sections ≡ t.dylink
   of_dylink : group_of Dylink customs ≡ t.dylinks
   of_dylink =
       ap (group_of Dylink) parts_same
-      ∙ in_three Dylink t.dylinks t.others (section_of t.producers) t.dylinks [] []
+      ∙ in_three Dylink t.dylinks t.others made_both t.dylinks [] []
       (filter_all (λ (c : wire.Custom). is_in Dylink c.name) t.dylinks (each_dylink (is_in Dylink) true refl refl))
       (none_passes (λ (c : wire.Custom). is_in Dylink c.name) t.others (each_other (is_in Dylink) false (λ c h. (apart_parts c h).0)))
-      (made_dylink t.producers)
+      (made_dylink (names_bytes t.names) t.producers)
       ∙ append-nil (t.dylinks ++ []) ∙ append-nil t.dylinks
 
-  of_names : group_of Names customs ≡ []
+  of_names : map CustomSection (group_of Names customs) ≡ listed names_made (names_bytes t.names)
   of_names =
-      ap (group_of Names) parts_same
-      ∙ in_three Names t.dylinks t.others (section_of t.producers) [] [] []
+      ap (λ (l : List wire.Custom). map CustomSection l)
+      (ap (group_of Names) parts_same
+      ∙ in_three Names t.dylinks t.others made_both [] [] (group_of Names made_both)
       (none_passes (λ (c : wire.Custom). is_in Names c.name) t.dylinks (each_dylink (is_in Names) false refl refl))
       (none_passes (λ (c : wire.Custom). is_in Names c.name) t.others (each_other (is_in Names) false no_name))
-      (made_names t.producers)
+      refl)
+      ∙ made_names (names_bytes t.names) t.producers
 
   of_producers : map CustomSection (group_of Producers customs) ≡ listed producers_made t.producers
   of_producers =
       ap (λ (l : List wire.Custom). map CustomSection l)
       (ap (group_of Producers) parts_same
-      ∙ in_three Producers t.dylinks t.others (section_of t.producers) [] [] (group_of Producers (section_of t.producers))
+      ∙ in_three Producers t.dylinks t.others made_both [] [] (group_of Producers made_both)
       (none_passes (λ (c : wire.Custom). is_in Producers c.name) t.dylinks (each_dylink (is_in Producers) false refl refl))
       (none_passes (λ (c : wire.Custom). is_in Producers c.name) t.others (each_other (is_in Producers) false no_producers))
       refl)
-      ∙ made_producers t.producers
+      ∙ made_producers (names_bytes t.names) t.producers
 
   of_others : group_of Others customs ≡ t.others
   of_others =
       ap (group_of Others) parts_same
-      ∙ in_three Others t.dylinks t.others (section_of t.producers) [] t.others []
+      ∙ in_three Others t.dylinks t.others made_both [] t.others []
       (none_passes (λ (c : wire.Custom). is_in Others c.name) t.dylinks (each_dylink (is_in Others) false refl refl))
       (filter_all (λ (c : wire.Custom). is_in Others c.name) t.others (each_other (is_in Others) true in_others))
-      (made_others t.producers)
+      (made_others (names_bytes t.names) t.producers)
       ∙ append-nil t.others
 
   same_types : to_types [] t ≡ if_any frames.Types t.types
@@ -261,33 +286,37 @@ module _ (t : Text) (sections : List wire.Custom) (split : sections ≡ t.dylink
   abbrev last : List Section
   last = map CustomSection t.others
 
+  abbrev named : List Section
+  named = listed names_made (names_bytes t.names)
+
   abbrev made : List Section
   made = listed producers_made t.producers
 
-  abbrev to_all : List Section
-  to_all = (to_data_segments first t ++ made) ++ last
+  abbrev to_named : List Section
+  to_named = to_data_segments first t ++ named
 
-  whole_same : sections_of (plain t) ≡ to_all
-  whole_same = ap (λ (ss : List Section). (ss ++ made) ++ last) (append-nil (to_data_segments first t))
+  abbrev to_all : List Section
+  to_all = (to_named ++ made) ++ last
 
   -- they are those of the module
-  sections_same : sections_of (plain t) ≡ sections_in_order (placed t customs)
+  sections_same : sections_of t ≡ sections_in_order (placed t customs)
   sections_same =
-      whole_same
-      ∙ append_assoc (to_data_segments first t) made last
+      append_assoc to_named made last
+      ∙ append_assoc (to_data_segments first t) named (made ++ last)
+      ∙ ap (λ (ss : List Section). to_data_segments first t ++ ss) (sym (append_assoc named made last))
       ∙ beside (to_front first t ∙ ap (λ (ss : List Section). first ++ ss) standard_same) refl
       ∙ sym (beside (ap (λ (l : List wire.Custom). map CustomSection l ++ standard_sections (placed t customs)) of_dylink)
-      (beside (beside (ap (λ (l : List wire.Custom). map CustomSection l) of_names) of_producers) (ap (λ (l : List wire.Custom). map CustomSection l) of_others)))
+      (beside (beside of_names of_producers) (ap (λ (l : List wire.Custom). map CustomSection l) of_others)))
 
-  pub bytes_same : module_bytes (placed t customs) ≡ written_as (plain t)
+  pub bytes_same : module_bytes (placed t customs) ≡ written_as t
   bytes_same = ap (λ (ss : List Section). header ++ all_spelled ss) (sym sections_same)
 
   module _ (P : Section → Type 0) where
     -- what holds of each kind holds of all
-    pub all_sections : EachSection P (placed t customs) → All P (sections_of (plain t))
+    pub all_sections : EachSection P (placed t customs) → All P (sections_of t)
     all_sections e =
         let own : All (λ (c : wire.Custom). P (CustomSection c)) in_parts = subst (λ (l : List wire.Custom). All (λ (c : wire.Custom). P (CustomSection c)) l) parts_same e.customs in
-        let both : All (λ (c : wire.Custom). P (CustomSection c)) (t.dylinks ++ t.others) = All-front (λ (c : wire.Custom). P (CustomSection c)) (t.dylinks ++ t.others) (section_of t.producers) own in
+        let both : All (λ (c : wire.Custom). P (CustomSection c)) (t.dylinks ++ t.others) = All-front (λ (c : wire.Custom). P (CustomSection c)) (t.dylinks ++ t.others) made_both own in
         let hold_first : All P first = All-map P CustomSection t.dylinks (All-front (λ (c : wire.Custom). P (CustomSection c)) t.dylinks t.others both) in
         let hold_last : All P last = All-map P CustomSection t.others (All-back (λ (c : wire.Custom). P (CustomSection c)) t.dylinks t.others both) in
         let hold_types : All P (to_types first t) = All-append P first (listed frames.Types t.types) hold_first (all_listed P frames.Types t.types e.types) in
@@ -303,15 +332,18 @@ module _ (t : Text) (sections : List wire.Custom) (split : sections ≡ t.dylink
         let hold_data_count : All P (to_data_count first t) = All-append P (to_elements first t) (if_some frames.DataCount t.data_count) hold_elements (all_given P frames.DataCount t.data_count e.data_count) in
         let hold_bodies : All P (to_bodies first t) = All-append P (to_data_count first t) (listed frames.Code (map unplaced t.bodies)) hold_data_count (all_listed P frames.Code (map unplaced t.bodies) e.bodies) in
         let hold_data_segments : All P (to_data_segments first t) = All-append P (to_bodies first t) (listed frames.DataSegments t.data_segments) hold_bodies (all_listed P frames.DataSegments t.data_segments e.data_segments) in
-        let hold_made : All P (to_data_segments first t ++ made) = All-append P (to_data_segments first t) made hold_data_segments (producers_hold P t.producers (All-back (λ (c : wire.Custom). P (CustomSection c)) (t.dylinks ++ t.others) (section_of t.producers) own)) in
-        subst (λ (ss : List Section). All P ss) (sym whole_same) (All-append P (to_data_segments first t ++ made) last hold_made hold_last)
+        let hold_both : All (λ (c : wire.Custom). P (CustomSection c)) made_both = All-back (λ (c : wire.Custom). P (CustomSection c)) (t.dylinks ++ t.others) made_both own in
+        let hold_named : All P to_named = All-append P (to_data_segments first t) named hold_data_segments (names_hold P (names_bytes t.names) (All-front (λ (c : wire.Custom). P (CustomSection c)) (named_by_bytes (names_bytes t.names)) (producers_more t.producers) hold_both)) in
+        let hold_made : All P (to_named ++ made) = All-append P to_named made hold_named (producers_hold P t.producers (All-back (λ (c : wire.Custom). P (CustomSection c)) (named_by_bytes (names_bytes t.names)) (producers_more t.producers) hold_both)) in
+        All-append P (to_named ++ made) last hold_made hold_last
 
     -- and back, where it holds of sections that list nothing
-    pub each_section : EachSection P (laid (plain empty_text)) → All P (sections_of (plain t)) → EachSection P (placed t customs)
+    pub each_section : EachSection P (laid empty_text) → All P (sections_of t) → EachSection P (placed t customs)
     each_section none all =
-        let hold_all : All P to_all = subst (λ (ss : List Section). All P ss) whole_same all in
-        let hold_made : All P (to_data_segments first t ++ made) = All-front P (to_data_segments first t ++ made) last hold_all in
-        let hold_data_segments : All P (to_data_segments first t) = All-front P (to_data_segments first t) made hold_made in
+        let hold_all : All P to_all = all in
+        let hold_made : All P (to_named ++ made) = All-front P (to_named ++ made) last hold_all in
+        let hold_named : All P to_named = All-front P to_named made hold_made in
+        let hold_data_segments : All P (to_data_segments first t) = All-front P (to_data_segments first t) named hold_named in
         let hold_bodies : All P (to_bodies first t) = All-front P (to_bodies first t) (listed frames.DataSegments t.data_segments) hold_data_segments in
         let hold_data_count : All P (to_data_count first t) = All-front P (to_data_count first t) (listed frames.Code (map unplaced t.bodies)) hold_bodies in
         let hold_elements : All P (to_elements first t) = All-front P (to_elements first t) (if_some frames.DataCount t.data_count) hold_data_count in
@@ -340,9 +372,11 @@ module _ (t : Text) (sections : List wire.Custom) (split : sections ≡ t.dylink
           data_segments = of_listed P frames.DataSegments t.data_segments none.data_segments (All-back P (to_bodies first t) (listed frames.DataSegments t.data_segments) hold_data_segments);
           customs =
               subst (λ (l : List wire.Custom). All (λ (c : wire.Custom). P (CustomSection c)) l) (sym parts_same)
-              (All-append (λ (c : wire.Custom). P (CustomSection c)) (t.dylinks ++ t.others) (section_of t.producers)
+              (All-append (λ (c : wire.Custom). P (CustomSection c)) (t.dylinks ++ t.others) made_both
               (All-append (λ (c : wire.Custom). P (CustomSection c)) t.dylinks t.others
               (of_map P CustomSection t.dylinks (All-front P first (listed frames.Types t.types) hold_types))
-              (of_map P CustomSection t.others (All-back P (to_data_segments first t ++ made) last hold_all)))
-              (customs_hold P t.producers (All-back P (to_data_segments first t) made hold_made)));
+              (of_map P CustomSection t.others (All-back P (to_named ++ made) last hold_all)))
+              (All-append (λ (c : wire.Custom). P (CustomSection c)) (named_by_bytes (names_bytes t.names)) (producers_more t.producers)
+              (names_hold_back P (names_bytes t.names) (All-back P (to_data_segments first t) named hold_named))
+              (customs_hold P t.producers (All-back P to_named made hold_made))));
         }

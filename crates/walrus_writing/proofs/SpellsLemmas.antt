@@ -1,9 +1,34 @@
--- The parts of what is written, over places and bytes.
-use Rattle.std.proofs.Common.{List, [], ◌∷◌, map}
+-- The bodies that are written, their bytes and their used locals, over places.
+use Rattle.std.proofs.Common.{◌≡◌, ℕ, List, [], ◌∷◌, map, refl, ap₂}
 use Rattle.std.specs.List.{AllZip}
+use Rattle.walrus_base.specs.Id.{place}
+use Rattle.walrus_base.specs.declared.id.Id.{Id}
+use Rattle.walrus_base.specs.declared.keys.FunctionKey.{FunctionKey}
+use Rattle.walrus_bodies.specs.declared.features.Features.{Features}
+use Rattle.walrus_code.specs.Names.{Lookup}
+use Rattle.walrus_contents.specs.declared.parts.Parts.{Parts}
+use Rattle.walrus_names.specs.Names.{body_used}
+use Rattle.walrus_names.specs.declared.locals.WrittenBody.{WrittenBody}
+use Rattle.walrus_writing.specs.Parts.{HasBytes, IsWrittenBody}
+use Rattle.walrus_writing.specs.Records.{used_in}
 
-pub zip_seen : {A B C D : Type 0} (f : A → C) (g : B → D) (R : C → D → Type 0) (xs : List A) (ys : List B) → AllZip (λ x y. R (f x) (g y)) xs ys → AllZip R (map f xs) (map g ys)
-zip_seen f g R [] [] h = tt
-zip_seen f g R [] (y ∷ ys) h = elim h [ ]
-zip_seen f g R (x ∷ xs) [] h = elim h [ ]
-zip_seen f g R (x ∷ xs) (y ∷ ys) h = (h.0, zip_seen f g R xs ys h.1)
+abbrev bytes_of : WrittenBody → List ℕ
+bytes_of b = b.bytes.items
+
+module _ (p : Parts) (names : Lookup) (features : Features) where
+  abbrev Written : Id FunctionKey → WrittenBody → Type 0
+  Written id b = IsWrittenBody p names features (place id) b
+
+  pub bytes_zip : (ids : List (Id FunctionKey)) (bodies : List WrittenBody) → AllZip Written ids bodies → AllZip (HasBytes p names features) (map place ids) (map bytes_of bodies)
+  bytes_zip [] [] h = tt
+  bytes_zip [] (b ∷ bs) h = elim h [ ]
+  bytes_zip (i ∷ is) [] h = elim h [ ]
+  bytes_zip (i ∷ is) (b ∷ bs) h = (h.0.0, bytes_zip is bs h.1)
+
+  -- the used locals are those of the bytes
+  pub used_zip : (ids : List (Id FunctionKey)) (bodies : List WrittenBody) (h : AllZip Written ids bodies) → map body_used bodies ≡ used_in p names features (map place ids) (map bytes_of bodies) (bytes_zip ids bodies h)
+  unfolding bytes_zip
+  used_zip [] [] h = refl
+  used_zip [] (b ∷ bs) h = elim h [ ]
+  used_zip (i ∷ is) [] h = elim h [ ]
+  used_zip (i ∷ is) (b ∷ bs) h = ap₂ ◌∷◌ h.0.1 (used_zip is bs h.1)

@@ -23,7 +23,7 @@ use Rattle.walrus_constants.specs.Segments.{named_data}
 use Rattle.walrus_model.specs.Sections.{data_of}
 use Rattle.walrus_model.proofs.Indices.{planned_below}
 use Rattle.walrus_rules.specs.Spelling.{BodyStands, IsCount}
-use Rattle.walrus_rules.specs.Text.{sections_of}
+use Rattle.walrus_rules.specs.Text.{NameText, names_bytes, sections_of}
 use Rattle.walrus_rules.specs.Text as text
 use Rattle.walrus_rules.proofs.WorkedParts.{all_one, is_text}
 use Rattle.walrus_plan.specs.Brought.{import_numbers}
@@ -33,7 +33,8 @@ use Rattle.walrus_writing.specs.Records.{Records, text_of, texts_in}
 use Rattle.walrus_writing.proofs.CarriedOver.{export_parts}
 use Rattle.walrus_writing.proofs.ImportedAlong.{entries_stand}
 use Rattle.walrus_writing.proofs.OwnCustoms.{CustomText, Say, with_customs}
-use Rattle.walrus_writing.proofs.ProducersSpelled.{section_of}
+use Rattle.walrus_writing.proofs.NamesSpelled.{made_of, named_by_bytes, names_more}
+use Rattle.walrus_writing.proofs.ProducersSpelled.{producers_more}
 use Rattle.walrus_writing.proofs.Ranked.{body_stands}
 use Rattle.walrus_writing.proofs.Sections.{all_sections}
 use Rattle.walrus_writing.proofs.TypesEntered.{types_apart}
@@ -51,8 +52,12 @@ kind_named names ty t (LocalFunction b) e = e
 kind_named names ty t (ImportedFunction i) e = absurd (cc)
 kind_named names ty t Uninitialised e = absurd (cc)
 
--- the name of the producers section is text
-producers_stand : (fields : List ProducerField) → All (λ (c : wire.Custom). IsUtf8 c.name) (section_of fields)
+-- the names of the sections that are made are text
+names_stand : (bytes : List ℕ) → All (λ (c : wire.Custom). IsUtf8 c.name) (named_by_bytes bytes)
+names_stand [] = All-nil _
+names_stand (b ∷ bs) = all_one (λ (c : wire.Custom). IsUtf8 c.name) (record { name = codes "name"; bytes = b ∷ bs }) (is_text (codes "name") refl)
+
+producers_stand : (fields : List ProducerField) → All (λ (c : wire.Custom). IsUtf8 c.name) (producers_more fields)
 producers_stand [] = All-nil _
 producers_stand (f ∷ fs) = all_one (λ (c : wire.Custom). IsUtf8 c.name) (record { name = codes "producers"; bytes = vector_bytes text.field_bytes (f ∷ fs) }) (is_text (codes "producers") refl)
 
@@ -126,8 +131,8 @@ module _ {p : Parts} {features : Features} (r : Records p features) where
   count_stands None none = tt
   count_stands (Some count) is = let same : count ≡ length r.data_segments = is.1 in omega (arith, few_segments, same)
 
-  pub sections_stand : (choices : Choices) (sections : List wire.Custom) (e : CustomText) → Say p choices sections e → All SectionStands (sections_of (with_customs (text_of r) e))
-  sections_stand choices sections e say = all_sections (with_customs (text_of r) e) sections say.split say.dylinks say.others SectionStands (record {
+  pub sections_stand : (choices : Choices) (names : NameText) (sections : List wire.Custom) (e : CustomText) → Say p choices names sections e → All SectionStands (sections_of (with_customs (text_of r) e))
+  sections_stand choices names sections e say = all_sections (with_customs (text_of r) e) sections say.split say.dylinks say.others SectionStands (record {
     types = r.types_stand;
     imports = entries_stand r.names V (import_numbers p) r.imports r.imports_are;
     functions = All-from_recursion IsIndex r.functions (functions_stand r.functions (r.own Functions) r.functions_are);
@@ -141,5 +146,5 @@ module _ {p : Parts} {features : Features} (r : Records p features) where
     data_count = subst (λ (o : Option ℕ). IfSome o IsIndex) (sym (later_none r.data_count)) (count_stands r.data_count r.counted);
     bodies = tt;
     data_segments = r.data_segments_stand;
-    customs = All-append (λ (c : wire.Custom). IsUtf8 c.name) sections (section_of e.producers) say.texts (producers_stand e.producers);
+    customs = All-append (λ (c : wire.Custom). IsUtf8 c.name) sections (made_of e.names e.producers) say.texts (All-append (λ (c : wire.Custom). IsUtf8 c.name) (names_more e.names) (producers_more e.producers) (names_stand (names_bytes e.names)) (producers_stand e.producers));
   })

@@ -1,6 +1,5 @@
 -- The text of records with custom sections, and the module that it says: it differs from what the records say in what these say alone.
 use Rattle.wasm_entries.specs.Record as entries
-use Rattle.std.proofs.Common.{List}
 use Rattle.std.specs.Prelude.{All, None, Some}
 use Rattle.std.proofs.lemmas.List.Elements.{All-weaker}
 use Rattle.walrus_bodies.specs.declared.features.Features.{Features}

@@ -1,12 +1,12 @@
 -- The module of indices that records make is what a module in memory is written as: all in order, no function that is left to be declared,
 -- and an index for each item that is live.
-use Rattle.std.proofs.Common.{◌≡◌, ℕ, map, Bool, true, false, List, [], refl, sym, ap, ◌∙◌, subst, arith, inl, inr, ⊎_elim}
-use Rattle.std.specs.Prelude.{if◌then◌else◌, None, Contains, IsSome, Option, unwrap_or, ◌<◌}
+use Rattle.std.proofs.Common.{◌≡◌, ℕ, map, List, [], refl, sym, ap, ◌∙◌, subst, arith, inl, inr, ⊎_elim}
+use Rattle.std.specs.Prelude.{None, Contains, IsSome, Option, unwrap_or, ◌<◌}
 use Rattle.walrus_types.specs.Operators.{Item, Types}
 use Rattle.walrus_contents.specs.View.{parts_view}
 use Rattle.walrus_contents.specs.declared.parts.Parts.{Parts}
 use Rattle.walrus_items.specs.Imports.{imports}
-use Rattle.walrus_model.specs.Abstract.{Abstract, Custom, Import, Name}
+use Rattle.walrus_model.specs.Abstract.{Abstract, Custom, Import}
 use Rattle.walrus_model.specs.Carried.{Carried}
 use Rattle.walrus_model.specs.Config.{Config}
 use Rattle.walrus_model.specs.Customs.{AreIndices, written_customs}
@@ -24,34 +24,23 @@ use Rattle.walrus_model.proofs.Indices.{planned_indices}
 use Rattle.walrus_model.proofs.Lists.{Contains-none}
 use Rattle.walrus_model.proofs.Orders.{rises_in_order}
 use Rattle.walrus_model.proofs.Planned.{planned_rises}
-use Rattle.walrus_model.proofs.Standing.{none_there}
-use Rattle.walrus_rules.specs.Namings.{is_in_range}
 use Rattle.walrus_rules.specs.Pinned.{IsWrittenAs}
-use Rattle.walrus_rules.specs.Sections.{items_of}
-use Rattle.walrus_rules.specs.Text.{said}
-use Rattle.walrus_rules.proofs.OneSections.{laid}
 use Rattle.walrus_plan.specs.Brought.{import_numbers}
 use Rattle.walrus_writing.specs.Customs.{Task}
 use Rattle.walrus_writing.specs.Emitted.{IsWrittenWith}
-use Rattle.walrus_writing.specs.Records.{Records}
+use Rattle.walrus_writing.specs.Records.{Records, names_written}
+use Rattle.walrus_writing.proofs.NamesAre.{types_named, writes_names}
 use Rattle.walrus_writing.proofs.CarriedOver.{pinned_locals}
 use Rattle.walrus_writing.proofs.ImportsCarried.{imports_ordered}
 use Rattle.walrus_writing.proofs.OwnCustoms.{CustomText, Say}
 use Rattle.walrus_writing.proofs.OwnSaid.{own_said}
 use Rattle.walrus_writing.proofs.SameItems.{before_back, live_back, live_on, with_own}
 use Rattle.walrus_writing.proofs.WithCustoms.{carried_with, module_with, text_with}
-use Rattle.walrus_writing.proofs.WrittenAs.{renaming_of, texts_of}
-
-abbrev nothing : List Name
-nothing = []
-
-none_given : (b : Bool) → (if b then nothing else nothing) ≡ nothing
-none_given true = refl
-none_given false = refl
+use Rattle.walrus_writing.proofs.WrittenAs.{renaming_of}
 
 -- A module in memory is written as this, where each function that ref.func names is declared: nothing is written so far that would
 -- declare it.
-module _ (c : Config) (job : Task) (with : IsWrittenWith c job.choices) (p : Parts) (declared : NothingUndeclared (parts_view p)) (r : Records p job.choices.features) (e : CustomText) (say : Say p job.choices job.sections e) (own : List Custom) (roots : List Item) (asked : map custom_of job.sections ≡ written_customs (λ x. r.names x.0 x.1) own) where
+module _ (c : Config) (job : Task) (with : IsWrittenWith c job.choices) (p : Parts) (declared : NothingUndeclared (parts_view p)) (r : Records p job.choices.features) (e : CustomText) (say : Say p job.choices (names_written r job.choices) job.sections e) (own : List Custom) (roots : List Item) (asked : map custom_of job.sections ≡ written_customs (λ x. r.names x.0 x.1) own) where
   abbrev V : Abstract
   V = parts_view p
 
@@ -130,7 +119,7 @@ module _ (c : Config) (job : Task) (with : IsWrittenWith c job.choices) (p : Par
     carried = carried;
     rises = rises;
     declares = declares;
-    names = subst (λ b. WritesNames b (own_name W) (IsLive W) R W N) (sym with.no_names) (λ y. none_given (is_in_range (items_of (laid (text_with r e)) (map said (texts_of r)) e.producers) y));
+    names = subst (λ b. WritesNames b (own_name W) (IsLive W) R W N) with.names_are (writes_names r job.choices e say.names_are own roots);
     producers = say.producers_are ∙ ap (λ b. if_written b V.producers) with.producers_are;
     indexed = indexed;
     customs = own_said (text_with r e) say.dylinks say.others ∙ ap (map custom_of) (sym say.split) ∙ asked;
@@ -142,7 +131,7 @@ module _ (c : Config) (job : Task) (with : IsWrittenWith c job.choices) (p : Par
     written = written_so;
     pinned = record {
       types_rise = λ i j a b less. planned_rises r.names r.plan r.numbered V N r.is_plan R (λ s n. refl) Types i j a b less;
-      type_names = λ names. absurd (none_there (sym with.no_names ∙ names));
+      type_names = λ names. types_named r job.choices e say.names_are (with.names_are ∙ names);
       locals = pinned_locals r;
     };
   }

@@ -1,5 +1,5 @@
 -- What emission gives, and when it refuses, in the words of the abstract module.
-use Rattle.std.specs.Prelude.{ℕ, false, List, ◌≡◌, Result, Ok, Err}
+use Rattle.std.specs.Prelude.{ℕ, List, ◌≡◌, Result, Ok, Err}
 use Rattle.walrus_model.specs.Abstract.{Abstract}
 use Rattle.walrus_model.specs.Config.{Config}
 use Rattle.walrus_model.specs.Declared.{NothingUndeclared}
@@ -15,10 +15,10 @@ use Rattle.walrus_rules.specs.Spelling.{IsSpelledAs}
 use Rattle.walrus_rules.specs.WellMade.{IsWellMade}
 use Rattle.walrus_writing.specs.declared.write.Choices.{Choices}
 
--- a configuration of these choices that writes no names: none are written so far
+-- a configuration of these choices
 pub record IsWrittenWith (c : Config) (choices : Choices) : Type 0 where
   pub features_are : choices.features ≡ features_of c
-  pub no_names : c.writes_names ≡ false
+  pub names_are : choices.names ≡ c.writes_names
   pub producers_are : choices.producers ≡ c.writes_producers
 
 -- The module v is written as a module of indices, and the bytes are its one spelling. Where v is well made and nothing is undeclared,

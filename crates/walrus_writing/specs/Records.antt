@@ -2,7 +2,7 @@
 use Rattle.wasm_entries.specs.Record as entries
 use Rattle.wasm_entries.specs.declared.record.RawLimits.{RawLimits}
 use Rattle.wasm_frames.specs.Record as wire
-use Rattle.std.specs.Prelude.{ℕ, List, [], ◌∷◌, ◌++◌, Option, Some, All, Contains, filter_map, length, map, option_and_then, option_map, ◌≡◌, ◌≢◌, ◌<◌, ◌^◌}
+use Rattle.std.specs.Prelude.{ℕ, ◌-◌, List, [], ◌∷◌, ◌++◌, Option, Some, All, Contains, filter_map, length, map, option_and_then, option_map, ◌≡◌, ◌≢◌, ◌<◌, ◌^◌}
 use Rattle.std.specs.List.{AllZip}
 use Rattle.std.specs.Str.{IsUtf8}
 use Rattle.wasm_entries.specs.Record.{Group}
@@ -26,16 +26,18 @@ use Rattle.walrus_model.specs.Spaces.{Thing, look}
 use Rattle.walrus_model.specs.WellMade.{ImportsMatch}
 use Rattle.walrus_rules.specs.Examples.{empty_text}
 use Rattle.walrus_rules.specs.Spelling.{IsCount}
-use Rattle.walrus_rules.specs.Text.{BodyText, Text}
-use Rattle.walrus_writing.specs.Customs.{Task, customs_written}
+use Rattle.walrus_rules.specs.Text.{BodyText, NameText, Text}
+use Rattle.walrus_names.specs.Names.{if_chosen, names_said}
+use Rattle.walrus_writing.specs.Customs.{Task, chosen_producers, sections_made}
 use Rattle.walrus_writing.specs.Elements.{ChoosesFlag, ElementIsUnspelled}
 use Rattle.walrus_writing.specs.Globals.{GlobalIsUnspelled}
 use Rattle.walrus_plan.specs.Brought.{import_numbers}
 use Rattle.walrus_writing.specs.Imported.{IsEntryAt}
-use Rattle.walrus_writing.specs.Parts.{type_index, memory_limits, tag_index, export_with_index, HasBytes, unplaced}
+use Rattle.walrus_writing.specs.Parts.{type_index, memory_limits, tag_index, export_with_index, HasBytes, unplaced, used_locals}
 use Rattle.walrus_plan.specs.Reads.{ReadsInOrder}
 use Rattle.walrus_writing.specs.Segments.{DataIsUnspelled}
 use Rattle.walrus_writing.specs.Tables.{TableIsUnspelled}
+use Rattle.walrus_writing.specs.declared.write.Choices.{Choices}
 
 -- the things of a space, in the order of the plan, have these records
 abbrev pub AreRecords : {W : Type 0} → Abstract → Plan → (s : Space) → (Thing s → Option W) → List W → Type 0
@@ -108,6 +110,21 @@ texts_in p names features (i ∷ is) (b ∷ bs) a = record { declarations = a.0.
 texts_in p names features [] (b ∷ bs) a = elim a [ ]
 texts_in p names features (i ∷ is) [] a = elim a [ ]
 
+-- the used locals of each body
+abbrev pub used_in : (p : Parts) (names : Lookup) (features : Features) (order : List ℕ) (bodies : List (List ℕ)) → AllZip (HasBytes p names features) order bodies → List (List (ℕ × ℕ))
+used_in p names features [] [] a = []
+used_in p names features (i ∷ is) (b ∷ bs) a = used_locals a.0 ∷ used_in p names features is bs a.1
+used_in p names features [] (b ∷ bs) a = elim a [ ]
+used_in p names features (i ∷ is) [] a = elim a [ ]
+
+-- the names that are written, where these are chosen
+abbrev pub names_written : {p : Parts} {features : Features} → Records p features → Choices → NameText
+names_written {p} {features} r choices = if_chosen choices.names (names_said p r.plan (length (r.plan Functions) - length (r.own Functions)) (used_in p r.names features (r.own Functions) r.bodies r.bodies_are))
+
+-- all custom sections that are written
+abbrev pub customs_written : {p : Parts} (t : Task) → Records p t.choices.features → List wire.Custom
+customs_written {p} t r = t.sections ++ sections_made (names_written r t.choices) (chosen_producers p t.choices)
+
 -- the text made of the records, which says nothing in custom sections
 abbrev pub text_of : {p : Parts} {features : Features} → Records p features → Text
 text_of {p} {features} r = record empty_text {
@@ -138,11 +155,11 @@ module_of r customs = sections_with r.types r.imports r.functions r.tables r.mem
 pub record Spells (p : Parts) (t : Task) (bytes : List ℕ) : Type 0 where
   pub records : Records p t.choices.features
   pub names_are : records.names ≡ t.names
-  pub fit : ModuleFits (module_of records (customs_written p t))
-  pub are : bytes ≡ module_bytes (module_of records (customs_written p t))
+  pub fit : ModuleFits (module_of records (customs_written t records))
+  pub are : bytes ≡ module_bytes (module_of records (customs_written t records))
 
 -- a count or a size in the sections passes 32 bits
 pub record DoesNotFit (p : Parts) (t : Task) : Type 0 where
   pub records : Records p t.choices.features
   pub names_are : records.names ≡ t.names
-  pub too_large : ModuleFits (module_of records (customs_written p t)) → ⊥
+  pub too_large : ModuleFits (module_of records (customs_written t records)) → ⊥

@@ -1,16 +1,20 @@
-//! The bytes of the bodies of functions ("Binary Format > Modules > Code Section").
-ghost use Rattle.std.specs.Prelude.{◌≡◌, All, IfOk, IfErr, option_map};
+//! The bodies of functions, their bytes and their used locals ("Binary Format > Modules > Code Section").
+ghost use Rattle.std.specs.Prelude.{◌≡◌, ◌<◌, ◌^◌, [], ◌∷◌, ◌++◌, All, IfOk, IfErr, IsOkUnless, OnOk, length, map, option_map};
 ghost use Rattle.std.specs.List.{AllZip};
+ghost use Rattle.walrus_base.specs.Arena.{entries, entries_from};
 ghost use Rattle.walrus_base.specs.Id.{place};
 ghost use Rattle.walrus_code.specs.Indices.{index_of};
 ghost use Rattle.walrus_items.specs.Functions.{functions};
-ghost use Rattle.walrus_writing.specs.Parts.{local_in, HasBytes, IsIndexed};
-ghost use Rattle.walrus_writing.specs.Refusals.{RefusesBodies};
+ghost use Rattle.walrus_names.specs.Names.{used_seen};
+ghost use Rattle.walrus_parts.specs.Errors.{out_of_memory};
+ghost use Rattle.walrus_writing.specs.Parts.{local_in, IsIndexed, IsWrittenBody, used_among};
+ghost use Rattle.walrus_writing.specs.Refusals.{RefusesBodies, RefusesUsed};
 
 use std::alloc::Global;
 use walrus_contents::Parts;
-use walrus_ir::{Features, FunctionId, IdsToIndices, LocalFunction, emit_body};
+use walrus_ir::{Features, FunctionId, IdsToIndices, LocalFunction, LocalId, emit_body};
 use walrus_items::{FunctionKind, ModuleFunctions};
+use walrus_names::WrittenBody;
 use walrus_parts::{Error, Result};
 
 /// What bodies are written under: the module's parts, the indices of its items, and the proposals that bodies may use.
@@ -34,12 +38,44 @@ pub fn local_of(funcs: &ModuleFunctions, id: FunctionId) -> Option<&LocalFunctio
     }
 }
 
+// Puts a local behind others, with its index, where it is used.
+fn push_used(to: &mut Vec<(u32, LocalId)>, used: bool, index: usize, id: LocalId) -> Result<()>
+    requires { index < 2 ^ 32 }
+    ensures value { OnOk result (used_seen to.new.items ≡ used_seen to.old.items
+        ++ entries_from index (used_among (place id ∷ []) (used ∷ []))) }
+    ensures fails { IsOkUnless result out_of_memory }
+{
+    if !used {
+        return Ok(());
+    }
+    to.push((index as u32, id))?;
+    Ok(())
+}
+
+// Of these locals, by rising index, those that are used, with their indices.
+fn used_of(alloc: Global, order: &[LocalId], used: &[bool]) -> Result<Vec<(u32, LocalId)>>
+    requires { length used.now ≡ length order.now }
+    ensures value { IfOk result (λ found. used_seen found.items
+        ≡ entries (used_among (map place order.now) used.now)) }
+    ensures fails { IfErr result (RefusesUsed (length order.now)) }
+{
+    if order.len() > 1 << 32 {
+        return Err(Error::TooLarge);
+    }
+    let mut found = Vec::new(alloc);
+    let mut index: usize = 0;
+    'locals: for id in order {
+        push_used(&mut found, used[index], index, *id)?;
+        index += 1;
+    }
+    Ok(found)
+}
+
 // The body of the function of this id, under these indices.
-fn one_body(alloc: Global, under: Indexed<'_, '_, '_>, id: FunctionId) -> Result<Vec<u8>>
+fn one_body(alloc: Global, under: Indexed<'_, '_, '_>, id: FunctionId) -> Result<WrittenBody>
     requires indexed { IsIndexed under.parts (index_of under.indices.now) under.features.now (place id) }
-    ensures value { IfOk result (λ bytes.
-        HasBytes under.entry.parts (index_of under.entry.indices.now) under.entry.features.now
-        (place id) bytes.items) }
+    ensures value { IfOk result (IsWrittenBody under.entry.parts (index_of under.entry.indices.now)
+        under.entry.features.now (place id)) }
     ensures fails { IfErr result (RefusesBodies under.entry.parts under.entry.features.now) }
 {
     let Some(local) = local_of(under.parts.funcs, id) else {
@@ -53,20 +89,24 @@ fn one_body(alloc: Global, under: Indexed<'_, '_, '_>, id: FunctionId) -> Result
         under.indices,
         under.features,
     )?;
-    Ok(body.bytes)
+    let used = used_of(alloc, body.order.as_slice(), body.used.as_slice())?;
+    Ok(WrittenBody {
+        bytes: body.bytes,
+        used,
+    })
 }
 
-/// The bytes of each function's body, in the order of the functions.
-pub fn body_bytes(
+/// Each function's body, in the order of the functions.
+pub fn written_bodies(
     alloc: Global,
     under: Indexed<'_, '_, '_>,
     order: &[FunctionId],
-) -> Result<Vec<Vec<u8>>>
+) -> Result<Vec<WrittenBody>>
     requires indexed { All (λ id.
         IsIndexed under.parts (index_of under.indices.now) under.features.now (place id)) order.now }
-    ensures value { IfOk result (λ bodies. AllZip (λ id bytes.
-        HasBytes under.entry.parts (index_of under.entry.indices.now) under.entry.features.now
-        (place id) bytes.items)
+    ensures value { IfOk result (λ bodies. AllZip (λ id body.
+        IsWrittenBody under.entry.parts (index_of under.entry.indices.now) under.entry.features.now
+        (place id) body)
         order.now bodies.items) }
     ensures fails { IfErr result (RefusesBodies under.entry.parts under.entry.features.now) }
 {

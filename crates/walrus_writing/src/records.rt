@@ -30,6 +30,7 @@ use walrus_ir::{FunctionId, IdsToIndices, ModuleTypes};
 use walrus_items::{
     Export, ExportItem, Memory, ModuleExports, ModuleFunctions, ModuleMemories, ModuleTags, Tag,
 };
+use walrus_names::WrittenBody;
 use walrus_parts::{Error, Result};
 use walrus_plan::tag_import;
 use wasm_wire::{
@@ -249,16 +250,16 @@ pub fn raw_start(start: Option<FunctionId>, indices: &IdsToIndices) -> Option<u3
     indices.get_func_index(start?)
 }
 
-pub fn raw_bodies<'a>(alloc: Global, bodies: &'a [Vec<u8>]) -> Result<Vec<RawBody<'a>>>
+pub fn raw_bodies<'a>(alloc: Global, bodies: &'a [WrittenBody]) -> Result<Vec<RawBody<'a>>>
     ensures value { IfOk result (λ raw. map body_record raw.items
-        ≡ map (λ bytes. unplaced bytes.items) bodies.now) }
+        ≡ map (λ body. unplaced body.bytes.items) bodies.now) }
     ensures fails { IsOkUnless result out_of_memory }
 {
     let mut raw = Vec::with_capacity(alloc, bodies.len())?;
     for body in bodies {
         raw.push(RawBody {
             start: 0,
-            bytes: body.as_slice(),
+            bytes: body.bytes.as_slice(),
         })?;
     }
     Ok(raw)

@@ -1,5 +1,5 @@
 //! Writing a module's parts as bytes.
-ghost use Rattle.std.specs.Prelude.{All, IfErr, IfOk, Ok, map};
+ghost use Rattle.std.specs.Prelude.{All, IfErr, IfOk, map};
 ghost use Rattle.std.specs.List.{AllZip};
 ghost use Rattle.wasm_frames.specs.Record.{custom_record};
 ghost use Rattle.walrus_base.specs.Id.{place};
@@ -12,15 +12,17 @@ ghost use Rattle.walrus_model.specs.Producers.{if_written};
 ghost use Rattle.walrus_producers.specs.Seen.{producers};
 ghost use Rattle.walrus_rules.specs.Refused.{RefusesToWrite};
 ghost use Rattle.walrus_contents.specs.View.{parts_view};
-ghost use Rattle.walrus_writing.specs.Customs.{IsAsked, SpellsFields, payload_of, task};
+ghost use Rattle.walrus_writing.specs.Customs.{AreSpelled, IsAsked, task};
 ghost use Rattle.walrus_writing.specs.Emitted.{IsEmitted, IsWrittenWith, told};
+ghost use Rattle.walrus_names.specs.Names.{body_used, first_own, if_chosen, names_said};
+ghost use Rattle.walrus_plan.specs.Places.{places};
 ghost use Rattle.walrus_plan.specs.Prepared.{IsPrepared};
-ghost use Rattle.walrus_writing.specs.Parts.{HasBytes, IsIndexed};
+ghost use Rattle.walrus_writing.specs.Parts.{IsIndexed, IsWrittenBody};
 ghost use Rattle.walrus_writing.specs.Records.{Spells};
 ghost use Rattle.walrus_writing.specs.Refusals.{RefusesBodies, RefusesItems};
 
-use crate::bodies::{Indexed, body_bytes};
-use crate::customs::{producers_payload, raw_customs};
+use crate::bodies::{Indexed, written_bodies};
+use crate::customs::{Payloads, both_payloads, producers_payload, raw_customs};
 use crate::data::raw_data;
 use crate::elements::raw_elements;
 use crate::globals::raw_globals;
@@ -32,7 +34,8 @@ use crate::records::{
 use crate::tables::raw_tables;
 use std::alloc::Global;
 use walrus_contents::Parts;
-use walrus_ir::{Features, FunctionId, IdsToIndices};
+use walrus_ir::Features;
+use walrus_names::{WrittenBody, names_payload};
 use walrus_parts::{Error, Result};
 use walrus_plan::Prepared;
 use wasm_wire::{RawCustom, written_module};
@@ -42,48 +45,50 @@ use wasm_wire::{RawCustom, written_module};
 pub struct Choices {
     /// The proposals that bodies may use.
     pub features: Features,
+    /// Whether the name section is written ("Appendix > Custom Sections > Name Section"). One that names nothing never is.
+    pub names: bool,
     /// Whether the producers section is written (tool-conventions, "Producers Section"). One without fields never is.
     pub producers: bool,
 }
 
-// What is made for sections that only lend it: the bytes of bodies, and the payload of the producers section.
+// What is made for sections that only lend it: the bodies, and the payloads of custom sections.
 #[derive(Drop)]
 struct Made {
-    bodies: Vec<Vec<u8>>,
-    payload: Option<Vec<u8>>,
+    bodies: Vec<WrittenBody>,
+    payloads: Option<Payloads>,
 }
 
-// Makes it, of these functions and of the producers of the parts.
-fn make(
-    alloc: Global,
-    parts: Parts<'_>,
-    order: &[FunctionId],
-    indices: &IdsToIndices,
-    choices: &Choices,
-) -> Result<Made>
-    requires indexed { All (λ id.
-        IsIndexed parts (index_of indices.now) choices.now.features (place id)) order.now }
-    ensures bodies { IfOk result (λ made. AllZip (λ id bytes.
-        HasBytes parts.entry (index_of indices.now) choices.now.features (place id) bytes.items)
-        order.now made.bodies.items) }
-    ensures payload { IfOk result (λ made. SpellsFields payload_of
-        (if_written choices.now.producers (producers parts.entry.producers.now)) (Ok made.payload)) }
+// Makes it, of the plan of these parts.
+fn make(alloc: Global, parts: Parts<'_>, prepared: &Prepared, choices: &Choices) -> Result<Made>
+    requires planned { IsPrepared parts prepared.now }
+    requires indexed { All (λ id. IsIndexed parts (index_of prepared.now.indices) choices.now.features
+        (place id)) prepared.now.plan.own_functions.items }
+    ensures bodies { IfOk result (λ made. AllZip (λ id body.
+        IsWrittenBody parts.entry (index_of prepared.now.indices) choices.now.features (place id) body)
+        prepared.now.plan.own_functions.items made.bodies.items) }
+    ensures payloads { IfOk result (λ made. AreSpelled (if_chosen choices.now.names
+        (names_said parts.entry (places prepared.now.plan) (first_own prepared.now.plan)
+        (map body_used made.bodies.items)))
+        (if_written choices.now.producers (producers parts.entry.producers.now)) made.payloads) }
     ensures fails { IfErr result (RefusesBodies parts.entry choices.now.features) }
 {
     let under = Indexed {
         parts,
-        indices,
+        indices: &prepared.indices,
         features: &choices.features,
     };
-    let payload = producers_payload(alloc, parts.producers, choices.producers)?;
-    let bodies = body_bytes(alloc, under, order)?;
-    Ok(Made { bodies, payload })
+    let plan = &prepared.plan;
+    let bodies = written_bodies(alloc, under, plan.own_functions.as_slice())?;
+    let names = names_payload(alloc, parts, plan, bodies.as_slice(), choices.names)?;
+    let producers = producers_payload(alloc, parts.producers, choices.producers)?;
+    let payloads = both_payloads(names, producers);
+    Ok(Made { bodies, payloads })
 }
 
 /// The bytes of a module of these parts with custom sections of its own, in which nothing dead is named and nothing is undeclared, in the
 /// order of a plan of the parts and by its indices; bodies may use the chosen proposals. These sections are what a module that is seen as the
 /// parts asks to be written under the indices ("Binary Format > Modules > Custom Section"): sections of dynamic linking stand before all
-/// others, and the others behind the producers section, which is written where it is chosen. Names aren't written.
+/// others, and the others behind the name section and the producers section, each of which is written where it is chosen and says something.
 ///
 /// # Errors
 ///
@@ -129,9 +134,9 @@ fn write_items<'a>(
     let order = prepared.plan.own_functions.as_slice();
     let types = raw_types(alloc, parts.types, indices)?;
     let functions = raw_functions(alloc, parts, order, indices)?;
-    let made = make(alloc, parts, order, indices, choices)?;
+    let made = make(alloc, parts, prepared, choices)?;
     let lent = &made;
-    let customs = raw_customs(alloc, own, &lent.payload)?;
+    let customs = raw_customs(alloc, own, &lent.payloads)?;
     let code = raw_bodies(alloc, lent.bodies.as_slice())?;
     let imports = raw_imports(alloc, parts, indices)?;
     let tables = raw_tables(alloc, parts.tables, indices)?;
@@ -142,7 +147,7 @@ fn write_items<'a>(
     let start = raw_start(parts.start, indices);
     let elements = raw_elements(alloc, parts.elements, parts.tables, indices)?;
     let data_segments = raw_data(alloc, parts.data_, indices)?;
-    if lent.payload.is_none() {
+    if lent.payloads.is_none() {
         return Err(Error::TooLarge);
     }
     let raw = raw_module(

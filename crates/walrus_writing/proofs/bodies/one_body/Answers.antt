@@ -1,23 +1,35 @@
-use Rattle.std.proofs.Common.{sym, map}
+use Rattle.std.proofs.Common.{◌∙◌, ap₂, sym, map}
 use Rattle.std.proofs.lemmas.Result.{err_from_is_err_and}
+use Rattle.walrus_base.specs.Arena.{entries}
 use Rattle.walrus_base.specs.Id.{place}
 use Rattle.walrus_code.specs.Indices.{index_of, local_index}
 use Rattle.walrus_functions.specs.declared.emit.EmittedBody.{EmittedBody}
+use Rattle.walrus_writing.specs.Parts.{used_among}
 use Rattle.walrus_writing.proofs.Indexed.{body_refused, local_seen}
+use Rattle.walrus_writing.proofs.UsedLeft.{used_refused}
 use Rattle.walrus_writing.proofs.bodies.one_body.Goals as goal
 
 pub returns-clause-value : goal.returns-clause-value
-returns-clause-value c = record {
-  local = c.in-Some.local.now;
-  is = local_seen c.args.under.parts (place c.args.id) c.in-Some.local.now (sym c.in-Some.ensures);
-  places = map (λ p. p.1) c.in_ok-body.body.places.items;
-  numbers = local_index c.in_ok-body.body.locals;
-  ids = map place c.in_ok-body.body.order.items;
-  used = c.in_ok-body.body.used.items;
-  written = c.in_ok-body.ensures.written;
-}
+returns-clause-value c = (
+  record {
+    local = c.in-Some.local.now;
+    is = local_seen c.args.under.parts (place c.args.id) c.in-Some.local.now (sym c.in-Some.ensures);
+    places = map (λ p. p.1) c.in_ok-body.body.places.items;
+    numbers = local_index c.in_ok-body.body.locals;
+    ids = map place c.in_ok-body.body.order.items;
+    used = c.in_ok-body.body.used.items;
+    written = c.in_ok-body.ensures.written;
+  },
+  c.in_ok-used.ensures.value ∙ ap₂ (λ ids used. entries (used_among (map place ids) used)) c.as_slice.ensures.value c.as_slice-2.ensures.value,
+)
 
 pub returns-in_err-body-clause-fails : goal.returns-in_err-body-clause-fails
 returns-in_err-body-clause-fails c =
     let p = err_from_is_err_and c.from_residual.result c.from_residual.ensures.1 in
     rw (p.1, p.2) (body_refused c.args.under.parts (index_of c.args.under.indices.now) c.args.under.features.now (place c.args.id) c.in-Some.local.now (λ (b : EmittedBody). b.bytes.items) (λ b. map (λ p. p.1) b.places.items) (λ b. local_index b.locals) (λ b. map place b.order.items) (λ b. b.used.items) _ c.requires.indexed (sym c.in-Some.ensures) c.in_err-body.ensures.written)
+
+pub returns-in_err-used-clause-fails : goal.returns-in_err-used-clause-fails
+returns-in_err-used-clause-fails c =
+    let p = err_from_is_err_and c.from_residual-in_err-used.result c.from_residual-in_err-used.ensures.1 in
+    rw (p.1, p.2) (used_refused c.args.under.parts (index_of c.args.under.indices.now) c.args.under.features.now (place c.args.id) c.in-Some.local.now
+    (local_seen c.args.under.parts (place c.args.id) c.in-Some.local.now (sym c.in-Some.ensures)) _ _ _ c.in_ok-body.body.order.items _ c.in_ok-body.ensures.written _ c.as_slice.ensures.value _ c.in_err-used.ensures.fails)

@@ -5,4 +5,4 @@ use Rattle.walrus_writing.proofs.records.raw_bodies.Given as goal
 
 -- the bodies so far, and those that are still to come
 abbrev pub invariant-loop-body : goal.invariant-loop-body
-invariant-loop-body l = map body_record l.raw.items ++ map (λ bytes. unplaced bytes.items) (drop l.body-index l.bodies) ≡ map (λ bytes. unplaced bytes.items) l.bodies
+invariant-loop-body l = map body_record l.raw.items ++ map (λ body. unplaced body.bytes.items) (drop l.body-index l.bodies) ≡ map (λ body. unplaced body.bytes.items) l.bodies

@@ -1,7 +1,6 @@
-use Rattle.std.proofs.Common.{◌∙◌, ◌++◌, ℕ, map, refl, ap, subst}
+use Rattle.std.proofs.Common.{◌∙◌, ◌++◌, ℕ, map, refl, ap}
 use Rattle.std.specs.Prelude.{Some, not, option_and_then, option_map}
 use Rattle.std.specs.Global.{Vec}
-use Rattle.std.specs.List.{AllZip}
 use Rattle.std.proofs.lemmas.Result.{err_from_is_err_and}
 use Rattle.walrus_base.specs.Arena.{items}
 use Rattle.walrus_base.specs.Id.{place}
@@ -15,15 +14,17 @@ use Rattle.walrus_items.specs.Tables.{TableValue, tables}
 use Rattle.walrus_items.specs.Tags.{TagValue, tags}
 use Rattle.wasm_frames.specs.Record.{custom_record}
 use Rattle.walrus_writing.specs.Customs.{chosen_producers, task}
-use Rattle.walrus_writing.specs.Parts.{type_index, HasBytes, tag_index, unplaced}
+use Rattle.walrus_names.specs.Names.{body_used, first_own, if_chosen, names_said}
+use Rattle.walrus_names.specs.declared.locals.WrittenBody.{WrittenBody}
+use Rattle.walrus_writing.specs.Parts.{type_index, tag_index, unplaced}
 use Rattle.walrus_plan.specs.Places.{places}
 use Rattle.walrus_rules.proofs.Matches.{imports_live}
 use Rattle.walrus_writing.proofs.ImportsIndexed.{imports_indexed, written_indexed}
 use Rattle.walrus_writing.proofs.Indexed.{ids_indexed, ids_typed, no_type_lacks, exports_indexed, data_indexed, elements_indexed, globals_indexed, start_indexed, tables_indexed, tags_indexed}
 use Rattle.walrus_writing.proofs.OwnPlaces.{own_indexed}
 use Rattle.walrus_writing.proofs.RefusesUnspelled.{imports_refused}
-use Rattle.walrus_writing.proofs.ProducersSpelled.{section_given, section_refused}
-use Rattle.walrus_writing.proofs.Refusing.{producers_refused, types_refused, bodies_refused, data_refused, elements_refused, globals_refused, tables_refused, records_written, records_refused}
+use Rattle.walrus_writing.proofs.NamesSpelled.{sections_given, sections_refused}
+use Rattle.walrus_writing.proofs.Refusing.{payloads_refused, types_refused, bodies_refused, data_refused, elements_refused, globals_refused, tables_refused, records_written, records_refused}
 use Rattle.walrus_writing.proofs.write.write_items.Goals as goal
 
 pub raw_types-requires : goal.raw_types-requires
@@ -108,7 +109,8 @@ returns-in_err-data_segments-clause-refused c =
 
 pub make-requires : goal.make-requires
 make-requires c = record {
-  indexed = ids_indexed c.args.parts c.requires.there (index_of c.args.prepared.now.indices) (places c.args.prepared.now.plan) c.requires.planned.is_plan c.requires.planned.numbered c.args.prepared.now.plan.own_functions.items _ c.requires.planned.own c.as_slice-order.ensures.value c.args.choices.now.features;
+  planned = c.requires.planned;
+  indexed = ids_indexed c.args.parts c.requires.there (index_of c.args.prepared.now.indices) (places c.args.prepared.now.plan) c.requires.planned.is_plan c.requires.planned.numbered c.args.prepared.now.plan.own_functions.items _ c.requires.planned.own refl c.args.choices.now.features;
 }
 
 pub returns-in_err-made-clause-refused : goal.returns-in_err-made-clause-refused
@@ -121,6 +123,7 @@ returns-in_err-bytes-clause-refused c =
     let names = index_of c.args.prepared.now.indices in
     let plan = c.requires.planned in
     let producers = chosen_producers c.args.parts c.args.choices.now in
+    let said = if_chosen c.args.choices.now.names (names_said c.args.parts (places c.args.prepared.now.plan) (first_own c.args.prepared.now.plan) (map body_used c.in_ok-made.made.bodies.items)) in
     let p = err_from_is_err_and c.from_residual-in_err-bytes.result c.from_residual-in_err-bytes.ensures.1 in
     rw (p.1, p.2) (records_refused c.args.parts (task c.args.choices.now (index_of c.args.prepared.now.indices) (map custom_record c.args.own.now)) names refl c.args.prepared.now.plan c.in_ok-types.types.items c.in_ok-imports.imports.items c.in_ok-functions.functions.items c.in_ok-tables.tables.items c.in_ok-memories.memories.items c.in_ok-tags.tags.items c.in_ok-globals.globals.items c.in_ok-exports.exports.items c.in_ok-made.made.bodies.items c.in_ok-elements.elements.items c.in_ok-data_segments.data_segments.items c.args.prepared.now.data_count
     plan.matched plan.reads plan.is_plan plan.numbered plan.few
@@ -132,18 +135,19 @@ returns-in_err-bytes-clause-refused c =
     c.in_ok-globals.ensures.value c.in_ok-globals.ensures.stand c.in_ok-globals.ensures.spelled
     c.in_ok-exports.ensures.value c.in_ok-exports.ensures.text
     c.raw_start-start.result (ap (option_map (λ (i : ℕ). Some i)) c.raw_start-start.ensures ∙ start_indexed c.args.parts c.requires.there names (places c.args.prepared.now.plan) plan.is_plan plan.numbered)
-    (subst (λ ids. AllZip (λ id bytes. HasBytes c.args.parts names c.args.choices.now.features (place id) bytes.items) ids c.in_ok-made.made.bodies.items) c.as_slice-order.ensures.value c.in_ok-made.ensures.bodies)
+    c.in_ok-made.ensures.bodies
     plan.elements c.in_ok-elements.ensures.value c.in_ok-elements.ensures.stand c.in_ok-elements.ensures.chosen c.in_ok-elements.ensures.spelled
     plan.data_segments c.in_ok-data_segments.ensures.value c.in_ok-data_segments.ensures.stand c.in_ok-data_segments.ensures.spelled plan.data_count
-    _ _ _ c.raw_module-raw.ensures (c.in_ok-code.ensures.value ∙ ap (map (λ (v : Vec ℕ). unplaced v.items)) c.as_slice.ensures.value)
-    (c.in_ok-customs.ensures.value ∙ ap (λ l. map custom_record c.args.own.now ++ l) (section_given producers c.in_ok-made.made.payload (c.is_none.ensures ∙ ap not c.if-is_none.false) c.in_ok-made.ensures.payload)) (Vec ℕ) _ c.in_err-bytes.ensures)
+    _ _ _ c.raw_module-raw.ensures (c.in_ok-code.ensures.value ∙ ap (map (λ (b : WrittenBody). unplaced b.bytes.items)) c.as_slice.ensures.value)
+    (c.in_ok-customs.ensures.value ∙ ap (λ l. map custom_record c.args.own.now ++ l) (sections_given said producers c.in_ok-made.made.payloads (c.is_none.ensures ∙ ap not c.if-is_none.false) c.in_ok-made.ensures.payloads)) (Vec ℕ) _ c.in_err-bytes.ensures)
 
 pub returns-then-is_none-clause-refused : goal.returns-then-is_none-clause-refused
 returns-then-is_none-clause-refused c =
     let names = index_of c.args.prepared.now.indices in
     let plan = c.requires.planned in
     let producers = chosen_producers c.args.parts c.args.choices.now in
-    producers_refused c.args.parts (task c.args.choices.now (index_of c.args.prepared.now.indices) (map custom_record c.args.own.now)) names refl c.args.prepared.now.plan c.in_ok-types.types.items c.in_ok-imports.imports.items c.in_ok-functions.functions.items c.in_ok-tables.tables.items c.in_ok-memories.memories.items c.in_ok-tags.tags.items c.in_ok-globals.globals.items c.in_ok-exports.exports.items c.in_ok-made.made.bodies.items c.in_ok-elements.elements.items c.in_ok-data_segments.data_segments.items c.args.prepared.now.data_count
+    let said = if_chosen c.args.choices.now.names (names_said c.args.parts (places c.args.prepared.now.plan) (first_own c.args.prepared.now.plan) (map body_used c.in_ok-made.made.bodies.items)) in
+    payloads_refused c.args.parts (task c.args.choices.now (index_of c.args.prepared.now.indices) (map custom_record c.args.own.now)) names refl c.args.prepared.now.plan c.in_ok-types.types.items c.in_ok-imports.imports.items c.in_ok-functions.functions.items c.in_ok-tables.tables.items c.in_ok-memories.memories.items c.in_ok-tags.tags.items c.in_ok-globals.globals.items c.in_ok-exports.exports.items c.in_ok-made.made.bodies.items c.in_ok-elements.elements.items c.in_ok-data_segments.data_segments.items c.args.prepared.now.data_count
     plan.matched plan.reads plan.is_plan plan.numbered plan.few
     plan.types plan.functions plan.tables plan.memories plan.tags plan.globals
     c.in_ok-types.ensures.value c.in_ok-imports.ensures.value
@@ -153,16 +157,17 @@ returns-then-is_none-clause-refused c =
     c.in_ok-globals.ensures.value c.in_ok-globals.ensures.stand c.in_ok-globals.ensures.spelled
     c.in_ok-exports.ensures.value c.in_ok-exports.ensures.text
     c.raw_start-start.result (ap (option_map (λ (i : ℕ). Some i)) c.raw_start-start.ensures ∙ start_indexed c.args.parts c.requires.there names (places c.args.prepared.now.plan) plan.is_plan plan.numbered)
-    (subst (λ ids. AllZip (λ id bytes. HasBytes c.args.parts names c.args.choices.now.features (place id) bytes.items) ids c.in_ok-made.made.bodies.items) c.as_slice-order.ensures.value c.in_ok-made.ensures.bodies)
+    c.in_ok-made.ensures.bodies
     plan.elements c.in_ok-elements.ensures.value c.in_ok-elements.ensures.stand c.in_ok-elements.ensures.chosen c.in_ok-elements.ensures.spelled
     plan.data_segments c.in_ok-data_segments.ensures.value c.in_ok-data_segments.ensures.stand c.in_ok-data_segments.ensures.spelled plan.data_count
-    (Vec ℕ) (section_refused producers c.in_ok-made.made.payload (c.is_none.ensures ∙ ap not c.if-is_none.true) c.in_ok-made.ensures.payload)
+    (Vec ℕ) (sections_refused said producers c.in_ok-made.made.payloads (c.is_none.ensures ∙ ap not c.if-is_none.true) c.in_ok-made.ensures.payloads)
 
 pub returns-clause-spells : goal.returns-clause-spells
 returns-clause-spells c =
     let names = index_of c.args.prepared.now.indices in
     let plan = c.requires.planned in
     let producers = chosen_producers c.args.parts c.args.choices.now in
+    let said = if_chosen c.args.choices.now.names (names_said c.args.parts (places c.args.prepared.now.plan) (first_own c.args.prepared.now.plan) (map body_used c.in_ok-made.made.bodies.items)) in
     records_written c.args.parts (task c.args.choices.now (index_of c.args.prepared.now.indices) (map custom_record c.args.own.now)) names refl c.args.prepared.now.plan c.in_ok-types.types.items c.in_ok-imports.imports.items c.in_ok-functions.functions.items c.in_ok-tables.tables.items c.in_ok-memories.memories.items c.in_ok-tags.tags.items c.in_ok-globals.globals.items c.in_ok-exports.exports.items c.in_ok-made.made.bodies.items c.in_ok-elements.elements.items c.in_ok-data_segments.data_segments.items c.args.prepared.now.data_count
     plan.matched plan.reads plan.is_plan plan.numbered plan.few
     plan.types plan.functions plan.tables plan.memories plan.tags plan.globals
@@ -173,8 +178,8 @@ returns-clause-spells c =
     c.in_ok-globals.ensures.value c.in_ok-globals.ensures.stand c.in_ok-globals.ensures.spelled
     c.in_ok-exports.ensures.value c.in_ok-exports.ensures.text
     c.raw_start-start.result (ap (option_map (λ (i : ℕ). Some i)) c.raw_start-start.ensures ∙ start_indexed c.args.parts c.requires.there names (places c.args.prepared.now.plan) plan.is_plan plan.numbered)
-    (subst (λ ids. AllZip (λ id bytes. HasBytes c.args.parts names c.args.choices.now.features (place id) bytes.items) ids c.in_ok-made.made.bodies.items) c.as_slice-order.ensures.value c.in_ok-made.ensures.bodies)
+    c.in_ok-made.ensures.bodies
     plan.elements c.in_ok-elements.ensures.value c.in_ok-elements.ensures.stand c.in_ok-elements.ensures.chosen c.in_ok-elements.ensures.spelled
     plan.data_segments c.in_ok-data_segments.ensures.value c.in_ok-data_segments.ensures.stand c.in_ok-data_segments.ensures.spelled plan.data_count
-    _ _ _ c.raw_module-raw.ensures (c.in_ok-code.ensures.value ∙ ap (map (λ (v : Vec ℕ). unplaced v.items)) c.as_slice.ensures.value)
-    (c.in_ok-customs.ensures.value ∙ ap (λ l. map custom_record c.args.own.now ++ l) (section_given producers c.in_ok-made.made.payload (c.is_none.ensures ∙ ap not c.if-is_none.false) c.in_ok-made.ensures.payload)) c.in_ok-bytes.bytes.items c.in_ok-bytes.ensures.0 c.in_ok-bytes.ensures.1
+    _ _ _ c.raw_module-raw.ensures (c.in_ok-code.ensures.value ∙ ap (map (λ (b : WrittenBody). unplaced b.bytes.items)) c.as_slice.ensures.value)
+    (c.in_ok-customs.ensures.value ∙ ap (λ l. map custom_record c.args.own.now ++ l) (sections_given said producers c.in_ok-made.made.payloads (c.is_none.ensures ∙ ap not c.if-is_none.false) c.in_ok-made.ensures.payloads)) c.in_ok-bytes.bytes.items c.in_ok-bytes.ensures.0 c.in_ok-bytes.ensures.1

@@ -3,7 +3,6 @@ use Rattle.std.specs.Prelude.{IfOk}
 use Rattle.std.specs.Global.{Vec}
 use Rattle.wasm_frames.specs.Record.{custom_record}
 use Rattle.walrus_code.specs.Indices.{index_of}
-use Rattle.walrus_contents.specs.View.{parts_view}
 use Rattle.walrus_model.specs.Abstract.{Abstract}
 use Rattle.walrus_rules.specs.Refused.{RefusesToWrite}
 use Rattle.walrus_writing.specs.Emitted.{IsEmitted, told}

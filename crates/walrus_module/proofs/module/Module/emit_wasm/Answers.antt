@@ -1,4 +1,4 @@
-use Rattle.std.proofs.Common.{◌≡◌, ℕ, List, map, refl, false, sym, ap, ◌∙◌, subst, inl, inr}
+use Rattle.std.proofs.Common.{◌≡◌, ℕ, List, map, sym, ap, ◌∙◌, subst, inl, inr}
 use Rattle.std.specs.Prelude.{All, Err}
 use Rattle.std.specs.Global.{Vec}
 use Rattle.std.specs.Str.{IsUtf8}
@@ -30,11 +30,11 @@ use Rattle.walrus_module.proofs.Declaring.{leaves_none_dead, leaves_nothing}
 use Rattle.walrus_module.proofs.OwnSections.{asked_refused, dead_refused, module_leaves, module_unchanged, nothing_back, refused_anyway, written_leaves}
 use Rattle.walrus_module.proofs.module.Module.emit_wasm.Goals as goal
 
--- what the configuration comes to, which writes no names so far
-written_with : (c : Config) (choices : Choices) → choices ≡ choices_of c → c.writes_names ≡ false → IsWrittenWith c choices
-written_with c choices are no_names = record {
+-- what the configuration comes to
+written_with : (c : Config) (choices : Choices) → choices ≡ choices_of c → IsWrittenWith c choices
+written_with c choices are = record {
   features_are = ap (λ (x : Choices). x.features) are;
-  no_names = no_names;
+  names_are = ap (λ (x : Choices). x.names) are;
   producers_are = ap (λ (x : Choices). x.producers) are;
 }
 
@@ -138,7 +138,7 @@ returns-clause-refused g c =
     let same = c.in_ok-customs.ensures.value ∙ ap (map section_seen) c.as_slice.ensures.value in
     refused_anyway (OneAskedMayRefuse (meanings G c.args.self.now)) config new (told c.write_prepared.result)
     (c.write_prepared.ensures.refused config new
-    (written_with config _ (c.choices-choices.ensures ∙ ap (λ (f : Flags). choices_of (config_of f)) kept) refl)
+    (written_with config _ (c.choices-choices.ensures ∙ ap (λ (f : Flags). choices_of (config_of f)) kept))
     (asked c.parts-parts.result (held_view c.declare_references.new.self) new.customs new.section_roots _ _ c.parts-parts.ensures
     (ap (λ cs. map custom_of (map custom_record cs)) c.as_slice-2.ensures.value ∙ ap (map custom_of) same ∙ c.in_ok-asked.ensures.value)
     (subst (λ cs. All (λ (x : Custom). IsUtf8 x.name) cs) (sym (ap (map custom_record) c.as_slice-2.ensures.value ∙ same)) (All-map (λ (x : Custom). IsUtf8 x.name) section_seen _ c.in_ok-asked.ensures.texts))))
@@ -151,7 +151,7 @@ returns-clause-emitted g c =
     let kept : settings c.declare_references.new.self ≡ settings c.args.self.now = ap settings c.in_ok-declare_references.ensures.others in
     let same = c.in_ok-customs.ensures.value ∙ ap (map section_seen) c.as_slice.ensures.value in
     c.write_prepared.ensures.written config new
-    (written_with config _ (c.choices-choices.ensures ∙ ap (λ (f : Flags). choices_of (config_of f)) kept) refl)
+    (written_with config _ (c.choices-choices.ensures ∙ ap (λ (f : Flags). choices_of (config_of f)) kept))
     (asked c.parts-parts.result (held_view c.declare_references.new.self) new.customs new.section_roots _ _ c.parts-parts.ensures
     (ap (λ cs. map custom_of (map custom_record cs)) c.as_slice-2.ensures.value ∙ ap (map custom_of) same ∙ c.in_ok-asked.ensures.value)
     (subst (λ cs. All (λ (x : Custom). IsUtf8 x.name) cs) (sym (ap (map custom_record) c.as_slice-2.ensures.value ∙ same)) (All-map (λ (x : Custom). IsUtf8 x.name) section_seen _ c.in_ok-asked.ensures.texts)))

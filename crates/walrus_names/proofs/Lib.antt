@@ -1,0 +1,3 @@
+pub mod NamesLemmas
+pub mod PlacedNames
+pub mod TextNames

@@ -1,0 +1,93 @@
+//! The payload of the name section ("Appendix > Custom Sections > Name Section").
+ghost use Rattle.std.specs.Prelude.{◌≡◌, ◌<◌, ◌≤◌, ◌^◌, IfOk, IsOkUnless, length, map};
+ghost use Rattle.wasm_payloads.specs.Lent.{text};
+ghost use Rattle.walrus_types.specs.Operators.{Space};
+ghost use Rattle.walrus_parts.specs.Errors.{out_of_memory};
+ghost use Rattle.walrus_plan.specs.Places.{places};
+ghost use Rattle.walrus_names.specs.Names.{SpellsNames, body_used, first_own, if_chosen, names_said};
+
+use crate::locals::{WrittenBody, locals_along};
+use crate::named::{lent, names_along};
+use std::alloc::Global;
+use walrus_contents::Parts;
+use walrus_parts::{Error, Result};
+use walrus_plan::Plan;
+use wasm_payloads::{RawNames, write_names};
+use wasm_wire::WireError;
+
+// The index of the first function that the module defines.
+fn first_index(plan: &Plan) -> u32
+    requires own { length plan.now.own_functions.items ≤ length plan.now.functions.items }
+    requires few { length plan.now.functions.items < 2 ^ 32 }
+    ensures { result ≡ first_own plan.now }
+{
+    (plan.functions.len() - plan.own_functions.len()) as u32
+}
+
+// The names of the items of a plan and of the used locals of its functions' bodies, lent.
+fn raw_names<'a>(
+    alloc: Global,
+    parts: Parts<'a>,
+    plan: &Plan,
+    bodies: &[WrittenBody],
+) -> Result<RawNames<'a>>
+    requires few { (space : Space) → length (places plan.now space) < 2 ^ 32 }
+    requires as_many { length bodies.now ≡ length plan.now.own_functions.items }
+    requires own { length plan.now.own_functions.items ≤ length plan.now.functions.items }
+    ensures value { IfOk result (λ raw. text raw ≡ names_said parts.entry (places plan.now)
+        (first_own plan.now) (map body_used bodies.now)) }
+    ensures fails { IsOkUnless result out_of_memory }
+{
+    let first = first_index(plan);
+    Ok(RawNames {
+        module_name: lent(parts.name),
+        functions: names_along(alloc, parts.funcs, plan.functions.as_slice())?,
+        locals: locals_along(alloc, parts.locals, first, bodies)?,
+        types: names_along(alloc, parts.types, plan.types.as_slice())?,
+        tables: names_along(alloc, parts.tables, plan.tables.as_slice())?,
+        memories: names_along(alloc, parts.memories, plan.memories.as_slice())?,
+        globals: names_along(alloc, parts.globals, plan.globals.as_slice())?,
+        elements: names_along(alloc, parts.elements, plan.elements.as_slice())?,
+        data_segments: names_along(alloc, parts.data_, plan.data_.as_slice())?,
+        tags: names_along(alloc, parts.tags, plan.tags.as_slice())?,
+    })
+}
+
+// The payload of a section of these names; none where a count or a size in it passes 32 bits.
+fn spelled(alloc: Global, raw: &RawNames<'_>) -> Result<Option<Vec<u8>>>
+    ensures { SpellsNames (text raw.now) result }
+{
+    let mut bytes = Vec::new(alloc);
+    match write_names(alloc, &mut bytes, raw) {
+        Ok(()) => Ok(Some(bytes)),
+        Err(WireError::Memory(refused)) => Err(Error::Memory(refused)),
+        Err(WireError::Malformed | WireError::TooLarge) => Ok(None),
+    }
+}
+
+/// The payload of the name section where it is chosen: the names of the module, of the items of a plan of these parts, each under its place
+/// there, and of the used locals of the bodies of the functions that the module defines, which are given with their indices, by rising index.
+/// It is empty where no section is written; none where a count or a size in it passes 32 bits.
+///
+/// # Errors
+///
+/// `Memory`.
+pub fn names_payload(
+    alloc: Global,
+    parts: Parts<'_>,
+    plan: &Plan,
+    bodies: &[WrittenBody],
+    chosen: bool,
+) -> Result<Option<Vec<u8>>>
+    requires few { (space : Space) → length (places plan.now space) < 2 ^ 32 }
+    requires as_many { length bodies.now ≡ length plan.now.own_functions.items }
+    requires own { length plan.now.own_functions.items ≤ length plan.now.functions.items }
+    ensures { SpellsNames (if_chosen chosen (names_said parts.entry (places plan.now)
+        (first_own plan.now) (map body_used bodies.now))) result }
+{
+    if !chosen {
+        return Ok(Some(Vec::new(alloc)));
+    }
+    let raw = raw_names(alloc, parts, plan, bodies)?;
+    spelled(alloc, &raw)
+}
