@@ -8,6 +8,8 @@ mod library;
 #[cfg(test)]
 mod modules;
 #[cfg(test)]
+mod names;
+#[cfg(test)]
 mod producers;
 #[cfg(test)]
 mod spaces;

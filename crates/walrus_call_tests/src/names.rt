@@ -1,0 +1,63 @@
+//! Names that a program gives are written, and left out where that is asked for.
+
+use std::alloc::Global;
+use std::test::Fail;
+use test_support::{add_bytes, demand};
+use walrus::{Error, FunctionId, FunctionKind, LocalId, Module, ModuleConfig};
+use walrus_test_support::is_output;
+
+// An exported function that drops its parameter.
+const UNNAMED: &str =
+    "00 61 73 6D 01 00 00 00 01 05 01 60 01 7F 00 03 02 01 00 07 05 01 01 66 00 00 0A 07 01 05 00 20 00 1A 0B";
+
+// The same, where the module is called `m`, the function `a`, and the parameter `x`.
+const NAMED: &str =
+    "00 61 73 6D 01 00 00 00 01 05 01 60 01 7F 00 03 02 01 00 07 05 01 01 66 00 00 0A 07 01 05 00 20 00 1A 0B 00 17 04 6E 61 6D 65 00 02 01 6D 01 04 01 00 01 61 02 06 01 00 01 00 01 78";
+
+fn read(alloc: Global, names: bool) -> Result<Module, Error> {
+    let mut bytes = Vec::new(alloc);
+    add_bytes(&mut bytes, UNNAMED);
+    let mut config = ModuleConfig::new();
+    config
+        .generate_producers_section(false)
+        .generate_name_section(names);
+    Module::from_buffer_with_config(alloc, &bytes, &config)
+}
+
+fn parameter(module: &Module, id: FunctionId) -> Option<LocalId> {
+    if !module.funcs.contains(id) {
+        return None;
+    }
+    match &module.funcs.get(id).kind {
+        FunctionKind::Local(function) => function.args.first().copied(),
+        FunctionKind::Import(_) | FunctionKind::Uninitialized(_) => None,
+    }
+}
+
+fn name_all(alloc: Global, module: &mut Module) -> Result<bool, Error> {
+    let id = module.exports.get_func("f")?;
+    let Some(local) = parameter(module, id) else {
+        return Ok(false);
+    };
+    if !module.funcs.contains(id) || !module.locals.contains(local) {
+        return Ok(false);
+    }
+    module.name = Some(String::from_str(alloc, "m")?);
+    module.funcs.get_mut(id).name = Some(String::from_str(alloc, "a")?);
+    module.locals.get_mut(local).name = Some(String::from_str(alloc, "x")?);
+    Ok(true)
+}
+
+fn is_written(alloc: Global, names: bool, expected: &str) -> bool {
+    let Ok(mut module) = read(alloc, names) else {
+        return false;
+    };
+    matches!(name_all(alloc, &mut module), Ok(true))
+        && is_output(alloc, module.emit_wasm(alloc), expected)
+}
+
+#[test]
+fn names_are_written(rt: HostRuntime) -> Result<(), Fail> {
+    demand(is_written(rt.alloc(), true, NAMED), NAMED)?;
+    demand(is_written(rt.alloc(), false, UNNAMED), UNNAMED)
+}
