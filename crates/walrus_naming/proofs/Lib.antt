@@ -1,0 +1,7 @@
+pub mod AfterAll
+pub mod Becoming
+pub mod Locals
+pub mod OwnNames
+pub mod Put
+pub mod SectionsTaken
+pub mod View

@@ -1,0 +1,5 @@
+pub mod Laws
+pub mod Renamed
+pub mod Shown
+pub mod Sink
+pub mod Taken

@@ -1,0 +1,10 @@
+//! The name section of a module that is read (Appendix > Custom Sections > Name Section): each item in range gets its name.
+#![tactic(auto)]
+
+pub mod law;
+mod renaming;
+mod sections;
+mod sink;
+
+pub use sections::add_names;
+pub use sink::NameBounds;
