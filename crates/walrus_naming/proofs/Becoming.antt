@@ -66,33 +66,39 @@ module _ {X : Type 0} (mend : Becomes → X → X) where
     renamed_same names k [] same = refl
     renamed_same names k (s ∷ slots) same = ap₂ (λ (o : Option X) (l : List (Option X)). o ∷ l) (slot_same (names k) s (same k (omega arith))) (renamed_same names (k + 1) slots (λ n le. same n (omega (arith, le))))
 
-    module _ (place : ℕ) (name : Name) where
-      abbrev here : ℕ → Becomes
-      here n = named_if (place == n) name
+    -- what a test says of one place
+    module _ (test : Bool → Becomes) (off : test false ≡ as_it_was) (place : ℕ) where
+      abbrev pub here : ℕ → Becomes
+      here n = test (place == n)
 
       elsewhere : (n : ℕ) → (place ≡ n → ⊥) → here n ≡ as_it_was
-      elsewhere n apart = ap (λ (b : Bool). named_if b name) (different place n (place == n) apart refl)
+      elsewhere n apart = ap test (different place n (place == n) apart refl) ∙ off
 
       behind : (k : ℕ) (slots : List (Option X)) → place < k → renamed_from mend here k slots ≡ slots
       behind k slots lt = renamed_same here k slots (λ n le. elsewhere n (λ e. omega (arith, e, lt, le)))
 
-      -- where the item of the place is put back with the name, it alone has it
-      pub set_named : (k p : ℕ) (slots : List (Option X)) (v : X) → place ≡ k + p → item_at slots p ≡ Some v → slice_set slots p (Some (mend (named_if true name) v)) ≡ renamed_from mend here k slots
-      set_named k p [] v at is = absurd cc
-      set_named k zero (s ∷ slots) v at is =
-          ap₂ (λ (o : Option X) (l : List (Option X)). o ∷ l)
-          (ap (λ (b : Bool). Some (mend (named_if b name) v)) (sym (is_here place k (place == k) (omega (arith, at)) refl)) ∙ ap (option_map (mend (here k))) (sym is))
-          (sym (behind (k + 1) slots (omega (arith, at))))
-      set_named k (suc p) (s ∷ slots) v at is =
-          ap₂ (λ (o : Option X) (l : List (Option X)). o ∷ l) (sym (slot_same (here k) s (elsewhere k (λ e. omega (arith, e, at))))) (set_named (k + 1) p slots v (omega (arith, at)) is)
+      at_place : (k : ℕ) → place ≡ k → here k ≡ test true
+      at_place k same = ap test (is_here place k (place == k) same refl)
 
-      -- where nothing stands at the place
-      pub not_there : (k p : ℕ) (slots : List (Option X)) → place ≡ k + p → (IsSome (item_at slots p) → ⊥) → slots ≡ renamed_from mend here k slots
-      not_there k p [] at none = refl
-      not_there k zero (None ∷ slots) at none = ap (λ (l : List (Option X)). None ∷ l) (sym (behind (k + 1) slots (omega (arith, at))))
-      not_there k zero (Some x ∷ slots) at none = absurd (none refl)
-      not_there k (suc p) (s ∷ slots) at none =
-          ap₂ (λ (o : Option X) (l : List (Option X)). o ∷ l) (sym (slot_same (here k) s (elsewhere k (λ e. omega (arith, e, at))))) (not_there (k + 1) p slots (omega (arith, at)) none)
+      -- where another item is put at the place, it alone is another
+      pub set_here : (k p : ℕ) (slots : List (Option X)) (s : Option X) → place ≡ k + p → IsSome (item_at slots p) → s ≡ option_map (mend (test true)) (item_at slots p) → slice_set slots p s ≡ renamed_from mend here k slots
+      set_here k p [] s at live is = absurd cc
+      set_here k zero (x ∷ slots) s at live is =
+          ap₂ (λ (o : Option X) (l : List (Option X)). o ∷ l)
+          (is ∙ ap (λ (g : Becomes). option_map (mend g) x) (sym (at_place k (omega (arith, at)))))
+          (sym (behind (k + 1) slots (omega (arith, at))))
+      set_here k (suc p) (x ∷ slots) s at live is =
+          ap₂ (λ (o : Option X) (l : List (Option X)). o ∷ l) (sym (slot_same (here k) x (elsewhere k (λ e. omega (arith, e, at))))) (set_here (k + 1) p slots s (omega (arith, at)) live is)
+
+      -- where what stands at the place stays, all does
+      pub same_here : (k p : ℕ) (slots : List (Option X)) → place ≡ k + p → item_at slots p ≡ option_map (mend (test true)) (item_at slots p) → slots ≡ renamed_from mend here k slots
+      same_here k p [] at same = refl
+      same_here k zero (x ∷ slots) at same =
+          ap₂ (λ (o : Option X) (l : List (Option X)). o ∷ l)
+          (same ∙ ap (λ (g : Becomes). option_map (mend g) x) (sym (at_place k (omega (arith, at)))))
+          (sym (behind (k + 1) slots (omega (arith, at))))
+      same_here k (suc p) (x ∷ slots) at same =
+          ap₂ (λ (o : Option X) (l : List (Option X)). o ∷ l) (sym (slot_same (here k) x (elsewhere k (λ e. omega (arith, e, at))))) (same_here (k + 1) p slots (omega (arith, at)) same)
 
 -- ---- one name after another
 

@@ -29,6 +29,7 @@ use Rattle.walrus_naming.specs.Taken.{Bounds, all_named, local_in, place_of, sta
 use Rattle.walrus_naming.proofs.AfterAll.{by, given, module_after, types_given, types_not_given}
 use Rattle.walrus_naming.proofs.Locals.{local_given}
 use Rattle.walrus_naming.proofs.Becoming.{item_renamed}
+use Rattle.walrus_naming.proofs.Put.{both_there}
 use Rattle.walrus_naming.proofs.View.{data_are, elements_are, functions_are, globals_are, locals_are, memories_are, tables_are, tags_are, type_names_are}
 
 -- ---- the name at a place
@@ -66,13 +67,6 @@ module _ {X : Type 0} (mend : (Option Name → Option Name) → X → X) (name :
 
     unnamed_then : names i None ≡ None → name_at name (item_at old i) ≡ [] → last_name (name_at name (item_at new i)) ≡ None
     unnamed_then keeps none = at_place ∙ still_none (names i) (item_at old i) keeps none
-
--- where something stands in one row, something stands in the other of the same
-both_there : {X Y Z : Type 0} (f : X → Y) (g : X → Z) (xs : List (Option X)) (i : ℕ) → IsSome (item_at (map (option_map f) xs) i) → IsSome (item_at (map (option_map g) xs) i)
-both_there f g [] i h = absurd cc
-both_there f g (None ∷ xs) zero h = absurd cc
-both_there f g (Some x ∷ xs) zero h = refl
-both_there f g (x ∷ xs) (suc i) h = both_there f g xs i h
 
 -- the name of a local is that of its value
 name_of_value : (slots : List (Option Local)) (p : ℕ) → name_at (λ (l : Local). name_bytes l.name) (item_at slots p) ≡ name_at (λ (l : LocalValue). l.name) (item_at (map (option_map local_value) slots) p)

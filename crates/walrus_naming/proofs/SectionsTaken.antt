@@ -91,3 +91,9 @@ one_more_section b own xs i d old middle new lt same h k =
 -- all of them
 pub all_taken : (b : Bounds) (xs : List RawCustom) (i : ℕ) (old new : Shown) → length xs ≤ i → TakesNames b (map custom_record (take i xs)) old new → TakesNames b (map custom_record xs) old new
 all_taken b xs i old new le h = subst (λ l. TakesNames b (map custom_record l) old new) (take_all i xs le) h
+
+-- ---- a test and its opposite
+
+pub turned : (r t b : Bool) → r ≡ t → r ≡ not b → b ≡ not t
+turned r t true p q = sym (ap not (sym p ∙ q))
+turned r t false p q = sym (ap not (sym p ∙ q))

@@ -56,7 +56,7 @@ module _ {X : Type 0} (mend : Becomes → X → X) where
     slot_after : (i : ℕ) → item_at new i ≡ option_map (mend (names (0 + i))) (item_at old i)
     slot_after i = ap (λ (l : List (Option X)). item_at l i) are ∙ item_renamed mend names 0 old i
 
-    looked : {Y : Type 0} (f h : X → Y) → ((g : Becomes) (x : X) → f (mend g x) ≡ h x) → (λ (i : ℕ). option_map f (item_at new i)) ≡ (λ (i : ℕ). option_map h (item_at old i))
+    looked : {Y : Type 0} (f h : X → Y) → ((g : Becomes) (x : X) → f (mend g x) ≡ h x) → ◌≡◌ {A = ℕ → Option Y} (λ i. option_map f (item_at new i)) (λ i. option_map h (item_at old i))
     looked f h same = fun_ext (λ i. ap (option_map f) (slot_after i) ∙ seen_slot f h same (names (0 + i)) (item_at old i))
 
     -- the same of something that is told of a place with nothing too
@@ -77,7 +77,7 @@ handlers_still g (Some f) = refl
 
 -- ---- the types of locals
 
-value_type : LocalValue → base.ValType ℕ
+abbrev value_type : LocalValue → base.ValType ℕ
 value_type l = val_type l.ty
 
 types_by_values : (slots : List (Option Local)) → local_types slots ≡ map (option_map value_type) (map (option_map local_value) slots)
@@ -104,11 +104,11 @@ module _ (b : Bounds) (namings : List Named) (old new : Contents) (are : shown n
 
   as_many_locals : length (locals new.locals) ≡ length (locals old.locals)
   as_many_locals =
-      sym (length-map (option_map local_value) (locals new.locals))
+      sym (length-map (locals new.locals) (option_map local_value))
       ∙ ap (λ (t : Shown). length t.locals) are
       ∙ ap length (locals_after b namings s)
       ∙ length_renamed mend_local (λ i. named_by (given (local_in b) namings i)) 0 s.locals
-      ∙ length-map (option_map local_value) (locals old.locals)
+      ∙ length-map (locals old.locals) (option_map local_value)
 
   kinds_stay : (k : FunctionKind) → kind_of new.locals k ≡ kind_of old.locals k
   kinds_stay (kind.Import i) = refl

@@ -34,7 +34,7 @@ place_between x (Some first) end = below (first + x) end
 
 -- the place of local x of function f, if there is such a local
 abbrev pub place_of : List ℕ → (f x : ℕ) → Option ℕ
-place_of starts f x = place_between x (slice_get starts f) (slice_get starts (f + 1))
+place_of starts f x = place_between x (slice_get starts f) (slice_get starts (suc f))
 
 -- ---- what one naming names
 

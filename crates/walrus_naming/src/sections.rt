@@ -19,9 +19,10 @@ fn take_section(custom: &RawCustom<'_>, namer: &mut Namer) -> Result<()>
     ensures same { OnOk result (bounds_of namer.new.bounds ≡ bounds_of namer.old.bounds) }
     ensures fails { IsOkUnless result out_of_memory }
 {
-    if custom.name == "name" {
-        read_names(custom.bytes, namer)?;
+    if custom.name != "name" {
+        return Ok(());
     }
+    read_names(custom.bytes, namer)?;
     Ok(())
 }
 

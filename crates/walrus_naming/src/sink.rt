@@ -1,5 +1,5 @@
 //! A sink of namings that names what a module holds.
-ghost use Rattle.std.specs.Prelude.{◌≡◌, Some, IsOkUnless, alloc_error, string_bytes, option_map};
+ghost use Rattle.std.specs.Prelude.{◌≡◌, ◌<◌, ◌^◌, Some, IsOkUnless, alloc_error, string_bytes, option_map};
 ghost use Rattle.wasm_forms.specs.declared.error.WireError.TheVariants.{Memory};
 ghost use Rattle.wasm_payloads.specs.Names.{ItemName, LocalName};
 ghost use Rattle.walrus_naming.specs.Shown.{Shown, local_values, mend_local, shown};
@@ -7,7 +7,10 @@ ghost use Rattle.walrus_naming.specs.Sink.{bounds_of, once_seen, seen_by};
 ghost use Rattle.walrus_naming.specs.Renamed.{renamed_by};
 ghost use Rattle.walrus_naming.specs.Taken.{Bounds, is_known, local_in, once_named, place_of};
 
-use crate::renaming::{rename, rename_local, rename_type};
+use crate::renaming::{
+    name_data, name_element, name_function, name_global, name_local, name_memory, name_table,
+    name_tag, name_type,
+};
 use std::alloc::Global;
 use walrus_contents::Contents;
 use walrus_items::ModuleLocals;
@@ -59,7 +62,7 @@ impl NameSink for Namer {
             Naming::Local(function, local, name) => {
                 let name = String::from_str(self.alloc, name)?;
                 let locals = &mut self.contents.locals;
-                name_local(&self.bounds, function, local, name, locals);
+                name_local_of(&self.bounds, function, local, name, locals);
             }
         }
         Ok(())
@@ -79,19 +82,19 @@ fn name_item(
 {
     let place = index as usize;
     match space {
-        NameSpace::Functions => rename(&mut contents.funcs, place, name),
-        NameSpace::Types => rename_type(&mut contents.types, bounds.types, place, name),
-        NameSpace::Tables => rename(&mut contents.tables, place, name),
-        NameSpace::Memories => rename(&mut contents.memories, place, name),
-        NameSpace::Globals => rename(&mut contents.globals, place, name),
-        NameSpace::Elements => rename(&mut contents.elements, place, name),
-        NameSpace::DataSegments => rename(&mut contents.data_, place, name),
-        NameSpace::Tags => rename(&mut contents.tags, place, name),
+        NameSpace::Functions => name_function(&mut contents.funcs, place, name),
+        NameSpace::Types => name_type(&mut contents.types, bounds.types, place, name),
+        NameSpace::Tables => name_table(&mut contents.tables, place, name),
+        NameSpace::Memories => name_memory(&mut contents.memories, place, name),
+        NameSpace::Globals => name_global(&mut contents.globals, place, name),
+        NameSpace::Elements => name_element(&mut contents.elements, place, name),
+        NameSpace::DataSegments => name_data(&mut contents.data_, place, name),
+        NameSpace::Tags => name_tag(&mut contents.tags, place, name),
     }
 }
 
 // Names a local of a function, if there is one and the name counts.
-fn name_local(
+fn name_local_of(
     bounds: &NameBounds,
     function: u32,
     local: u32,
@@ -105,7 +108,7 @@ fn name_local(
         return;
     }
     if let Some(place) = local_place(&bounds.starts, function as usize, local as usize) {
-        rename_local(all, place, name);
+        name_local(all, place, name);
     }
 }
 
