@@ -1,16 +1,14 @@
 -- Once all namings are taken, each item has the last name that they give it, or the one that it had.
-use Rattle.std.proofs.Common.{◌≡◌, ℕ, zero, suc, ◌+◌, ◌<◌, ◌≤◌, Bool, true, false, List, [], ◌∷◌, ◌++◌, length, map, refl, sym, ap, ap₂, subst, ◌∙◌, arith}
+use Rattle.std.proofs.Common.{◌≡◌, ℕ, ◌<◌, ◌≤◌, Bool, true, false, List, [], ◌∷◌, ◌++◌, refl, sym, ap, ap₂, ◌∙◌, arith}
 use Rattle.std.proofs.lemmas.Bool.{both_ways, eqb-true, le-ltb, lt-ltb}
-use Rattle.std.specs.Prelude.{Option, Some, None, IsSome, option_map, nat_lt, if◌then◌else◌, ◌==◌, ◌&&◌}
-use Rattle.wasm_payloads.specs.declared.naming.NameSpace.{NameSpace}
+use Rattle.std.specs.Prelude.{Option, Some, None, nat_lt, if◌then◌else◌, ◌==◌, ◌&&◌}
 use Rattle.wasm_payloads.specs.Names.{Named, ModuleName, ItemName, LocalName}
-use Rattle.walrus_base.specs.Arena.{item_at}
 use Rattle.walrus_types.specs.Operators.{Space, Types, Functions, Tables, Memories, Tags, Globals, Elements, DataSegments}
 use Rattle.walrus_model.specs.Abstract.{Name, AnItem, TheModule}
-use Rattle.walrus_rules.specs.Namings.{is_same, naming_of, names_given, space_of, subsection}
-use Rattle.walrus_naming.specs.Renamed.{named_at, named_by, named_if, renamed_by, renamed_from}
+use Rattle.walrus_rules.specs.Namings.{names_given, space_of, subsection}
+use Rattle.walrus_naming.specs.Renamed.{named_by, named_if, renamed_by, renamed_from}
 use Rattle.walrus_naming.specs.Shown.{Shown, mend_type_name, mend_function, mend_table, mend_memory, mend_tag, mend_global, mend_element, mend_data, mend_local}
-use Rattle.walrus_naming.specs.Taken.{Bounds, all_named, local_in, module_named, naming_in, once_named, only_below, type_in}
+use Rattle.walrus_naming.specs.Taken.{Bounds, all_named, local_in, naming_in, once_named, only_below, type_in}
 use Rattle.walrus_naming.proofs.Becoming.{named_behind, renamed_ext, renamed_same, renamed_twice}
 
 -- the names that one naming gives to a place

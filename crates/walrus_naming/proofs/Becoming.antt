@@ -1,11 +1,11 @@
 -- What becomes of the names of items that stand place by place.
-use Rattle.std.proofs.Common.{◌≡◌, ℕ, zero, suc, ◌+◌, ◌<◌, ◌≤◌, Bool, true, false, List, [], ◌∷◌, ◌++◌, length, map, refl, sym, ap, ap₂, subst, ◌∙◌, arith, eqb-true}
+use Rattle.std.proofs.Common.{◌≡◌, ℕ, zero, suc, ◌+◌, ◌<◌, ◌≤◌, Bool, true, false, List, [], ◌∷◌, ◌++◌, length, map, refl, sym, ap, ap₂, ◌∙◌, arith, eqb-true}
 use Rattle.std.specs.Prelude.{Option, Some, None, IsSome, option_map, slice_set, ◌==◌}
 use Rattle.std.proofs.lemmas.Bool.{eqb-false}
 use mathlib.Core.Path.{fun_ext}
 use Rattle.walrus_base.specs.Arena.{item_at}
 use Rattle.walrus_model.specs.Abstract.{Name}
-use Rattle.walrus_naming.specs.Renamed.{named_at, named_by, named_if, renamed_by, renamed_from}
+use Rattle.walrus_naming.specs.Renamed.{named_by, renamed_from}
 
 abbrev Becomes : Type 0
 Becomes = Option Name → Option Name

@@ -1,12 +1,11 @@
 -- The places of the locals of functions, and what is given to them.
-use Rattle.std.proofs.Common.{◌≡◌, ℕ, zero, suc, ◌+◌, ◌<◌, ◌≤◌, Bool, true, false, List, [], ◌∷◌, ◌++◌, refl, sym, ap, ap₂, subst, ◌∙◌, arith}
-use Rattle.std.specs.Prelude.{Option, Some, None, option_map, slice_get, nat_lt, if◌then◌else◌, ◌==◌, ◌&&◌, filter}
-use Rattle.std.proofs.lemmas.Bool.{and_left, and_right, eq-eqb, eqb-true, ltb-true, ne_eqb, true≢false}
+use Rattle.std.proofs.Common.{◌≡◌, ℕ, zero, suc, ◌+◌, ◌<◌, ◌≤◌, Bool, true, false, List, [], ◌∷◌, ◌++◌, refl, sym, ap, ap₂, ◌∙◌, arith}
+use Rattle.std.specs.Prelude.{Option, Some, None, option_map, nat_lt, if◌then◌else◌, ◌==◌, ◌&&◌}
+use Rattle.std.proofs.lemmas.Bool.{eq-eqb, eqb-true, ltb-true, true≢false}
 use Rattle.wasm_payloads.specs.Names.{Named, ModuleName, ItemName, LocalName}
 use Rattle.walrus_model.specs.Abstract.{Name, ALocal}
-use Rattle.walrus_model.specs.Names.{is_not_empty}
 use Rattle.walrus_rules.specs.Namings.{names_given}
-use Rattle.walrus_naming.specs.Taken.{Bounds, below, counts, local_in, place_between, place_of, starts_from, that_count}
+use Rattle.walrus_naming.specs.Taken.{Bounds, counts, local_in, place_of, starts_from, that_count}
 use Rattle.walrus_naming.proofs.AfterAll.{given, given_at}
 
 -- ---- places

@@ -1,12 +1,12 @@
 -- What each item and local is called once namings are taken, where nothing had a name before.
-use Rattle.std.proofs.Common.{◌≡◌, ℕ, zero, suc, ◌+◌, ◌<◌, ◌≤◌, List, [], ◌∷◌, map, refl, sym, ap, subst, ◌∙◌, arith}
-use Rattle.std.specs.Prelude.{Option, Some, None, IsSome, option_map, option_and_then, option_to_list}
+use Rattle.std.proofs.Common.{◌≡◌, ℕ, zero, suc, ◌+◌, ◌<◌, ◌≤◌, List, [], ◌∷◌, map, refl, sym, ap, ◌∙◌, arith}
+use Rattle.std.specs.Prelude.{Option, Some, None, IsSome, option_map, option_to_list}
 use Rattle.std.specs.List.{last_or}
 use Rattle.wasm_payloads.specs.Names.{Named}
 use Rattle.walrus_base.specs.Arena.{item_at}
 use Rattle.walrus_types.specs.Locals.{locals}
-use Rattle.walrus_types.specs.ModuleTypes.{type_names, type_slots}
-use Rattle.walrus_types.specs.Operators.{Space, Types, Functions, Tables, Memories, Tags, Globals, Elements, DataSegments, Item}
+use Rattle.walrus_types.specs.ModuleTypes.{type_names}
+use Rattle.walrus_types.specs.Operators.{Types, Functions, Tables, Memories, Tags, Globals, Elements, DataSegments, Item}
 use Rattle.walrus_types.specs.TypeDef.{name_bytes, type_def, type_name}
 use Rattle.walrus_types.specs.declared.locals.Local.{Local}
 use Rattle.walrus_items.specs.Data.{data_segments}

@@ -1,7 +1,7 @@
 -- A module whose items were named is the same but for their names.
-use Rattle.std.proofs.Common.{◌≡◌, ℕ, zero, suc, ◌+◌, ◌<◌, ◌≤◌, Bool, List, [], ◌∷◌, ◌++◌, length, map, filter, refl, sym, ap, ap₂, subst, ◌∙◌}
-use Rattle.std.specs.Prelude.{Option, Some, None, IsSome, option_map, option_and_then, option_to_list}
-use Rattle.std.specs.List.{last_or, range_with_len}
+use Rattle.std.proofs.Common.{◌≡◌, ℕ, ◌+◌, List, [], ◌∷◌, length, map, filter, refl, sym, ap, ap₂, ◌∙◌}
+use Rattle.std.specs.Prelude.{Option, Some, None, option_map}
+use Rattle.std.specs.List.{range_with_len}
 use Rattle.std.proofs.lemmas.List.{length-map}
 use mathlib.Core.Path.{fun_ext}
 use Rattle.wasm_payloads.specs.Names.{Named}
@@ -10,36 +10,30 @@ use Rattle.walrus_base.specs.Id.{place}
 use Rattle.walrus_base.specs.Types as base
 use Rattle.walrus_types.specs.Locals.{locals}
 use Rattle.walrus_types.specs.ModuleTypes.{type_names, type_slots}
-use Rattle.walrus_types.specs.Operators.{Space, Types, Functions, Tables, Memories, Tags, Globals, Elements, DataSegments, Item}
-use Rattle.walrus_types.specs.TypeDef.{name_bytes}
+use Rattle.walrus_types.specs.Operators.{Functions, Tables, Memories, Tags, Globals, Elements, DataSegments}
 use Rattle.walrus_types.specs.Value.{val_type}
 use Rattle.walrus_types.specs.declared.locals.Local.{Local}
-use Rattle.walrus_types.specs.declared.locals.ModuleLocals.{ModuleLocals}
 use Rattle.walrus_code.specs.Function.{body_of}
-use Rattle.walrus_code.specs.declared.function.LocalFunction.{LocalFunction}
 use Rattle.walrus_functions.specs.EmittedBody.{types_of as local_types}
 use Rattle.walrus_parts.specs.declared.function_kind.FunctionKind.TheVariants as kind
 use Rattle.walrus_parts.specs.declared.function_kind.FunctionKind.{FunctionKind}
-use Rattle.walrus_items.specs.Data.{DataValue, data_segments}
-use Rattle.walrus_items.specs.Elements.{ElementValue, elements}
+use Rattle.walrus_items.specs.Data.{data_segments}
+use Rattle.walrus_items.specs.Elements.{elements}
 use Rattle.walrus_items.specs.Functions.{FunctionValue, functions}
-use Rattle.walrus_items.specs.Globals.{GlobalValue, globals}
+use Rattle.walrus_items.specs.Globals.{globals}
 use Rattle.walrus_items.specs.Memories.{MemoryValue, memories}
 use Rattle.walrus_items.specs.Tables.{TableValue, tables}
-use Rattle.walrus_items.specs.Tags.{TagValue, tags}
+use Rattle.walrus_items.specs.Tags.{tags}
 use Rattle.walrus_producers.specs.Seen.{producers}
 use Rattle.walrus_model.specs.Abstract as abstract
 use Rattle.walrus_model.specs.Abstract.{Abstract, Name, AnItem, ALocal, TheModule}
-use Rattle.walrus_model.specs.Live.{IsLive}
-use Rattle.walrus_model.specs.Names.{last_name, own_name}
-use Rattle.walrus_rules.specs.Namings.{names_given}
 use Rattle.walrus_contents.specs.View as view
 use Rattle.walrus_contents.specs.View.{contents_view, is_declared, kept_data, kept_elements, kind_of, handlers_at, named_of, name_at}
 use Rattle.walrus_contents.specs.declared.parts.Contents.{Contents}
 use Rattle.walrus_naming.specs.Renamed.{named_by, renamed_from}
 use Rattle.walrus_naming.specs.Shown.{LocalValue, Shown, local_value, local_values, shown, mend_type_name, mend_function, mend_table, mend_memory, mend_tag, mend_global, mend_element, mend_data, mend_local}
 use Rattle.walrus_naming.specs.Taken.{Bounds, all_named, local_in, type_in}
-use Rattle.walrus_naming.proofs.AfterAll.{by, data_after, elements_after, functions_after, given, globals_after, locals_after, memories_after, module_after, others_after, tables_after, tags_after, type_names_after, types_given, types_not_given}
+use Rattle.walrus_naming.proofs.AfterAll.{by, data_after, elements_after, functions_after, given, globals_after, locals_after, memories_after, others_after, tables_after, tags_after, type_names_after}
 use Rattle.walrus_naming.proofs.Becoming.{item_renamed, length_renamed, seen_renamed}
 
 abbrev Becomes : Type 0

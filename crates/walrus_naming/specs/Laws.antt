@@ -1,5 +1,5 @@
 -- What comes of the namings that were taken.
-use Rattle.std.specs.Prelude.{ℕ, ◌<◌, ◌≤◌, List, [], Option, Some, None, IsSome, ◌≡◌}
+use Rattle.std.specs.Prelude.{ℕ, ◌<◌, ◌≤◌, List, [], Some, None, IsSome, ◌≡◌}
 use Rattle.wasm_payloads.specs.Names.{Named}
 use Rattle.walrus_base.specs.Arena.{item_at}
 use Rattle.walrus_types.specs.Locals.{locals}

@@ -7,9 +7,8 @@ use Rattle.walrus_types.specs.Operators.{Space, Types, Functions, Tables, Memori
 use Rattle.walrus_model.specs.Abstract.{Name}
 use Rattle.walrus_model.specs.Names.{is_not_empty}
 use Rattle.walrus_rules.specs.Namings.{space_of, subsection}
-use Rattle.walrus_contents.specs.declared.parts.Contents.{Contents}
 use Rattle.walrus_naming.specs.Renamed.{renamed_by}
-use Rattle.walrus_naming.specs.Shown.{Shown, shown, mend_type_name, mend_function, mend_table, mend_memory, mend_tag, mend_global, mend_element, mend_data, mend_local}
+use Rattle.walrus_naming.specs.Shown.{Shown, mend_type_name, mend_function, mend_table, mend_memory, mend_tag, mend_global, mend_element, mend_data, mend_local}
 
 -- How many types were read; the first place of the locals of each function, and behind them how many locals there are; whether what has no
 -- name is given one.
