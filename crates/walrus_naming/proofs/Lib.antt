@@ -1,5 +1,6 @@
 pub mod AfterAll
 pub mod Becoming
+pub mod Filled
 pub mod Locals
 pub mod OwnNames
 pub mod Put

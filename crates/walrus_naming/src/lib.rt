@@ -5,6 +5,7 @@ pub mod law;
 mod renaming;
 mod sections;
 mod sink;
+mod synthetic;
 
 pub use sections::add_names;
 pub use sink::NameBounds;
