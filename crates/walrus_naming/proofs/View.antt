@@ -31,9 +31,7 @@ use Rattle.walrus_contents.specs.View as view
 use Rattle.walrus_contents.specs.View.{contents_view, is_declared, kept_data, kept_elements, kind_of, handlers_at, named_of, name_at}
 use Rattle.walrus_contents.specs.declared.parts.Contents.{Contents}
 use Rattle.walrus_naming.specs.Renamed.{named_by, renamed_from}
-use Rattle.walrus_naming.specs.Shown.{LocalValue, Shown, local_value, local_values, shown, mend_type_name, mend_function, mend_table, mend_memory, mend_tag, mend_global, mend_element, mend_data, mend_local}
-use Rattle.walrus_naming.specs.Taken.{Bounds, all_named, local_in, type_in}
-use Rattle.walrus_naming.proofs.AfterAll.{by, data_after, elements_after, functions_after, given, globals_after, locals_after, memories_after, others_after, tables_after, tags_after, type_names_after}
+use Rattle.walrus_naming.specs.Shown.{IsRenamed, LocalValue, Shown, local_value, local_values, shown, mend_type_name, mend_function, mend_table, mend_memory, mend_tag, mend_global, mend_element, mend_data, mend_local}
 use Rattle.walrus_naming.proofs.Becoming.{item_renamed, length_renamed, seen_renamed}
 
 abbrev Becomes : Type 0
@@ -81,27 +79,22 @@ types_by_values (Some x ∷ slots) = ap (λ (l : List (Option (base.ValType ℕ)
 
 -- ---- the module
 
-module _ (b : Bounds) (namings : List Named) (old new : Contents) (are : shown new ≡ all_named b (shown old) namings) where
+module _ (old new : Contents) (h : IsRenamed (shown old) (shown new)) where
   abbrev s : Shown
   s = shown old
-
-  types_stay : type_slots new.types ≡ type_slots old.types
-  types_stay = ap (λ (t : Shown). t.types) are ∙ others_after (λ t. t.types) b (λ t naming. refl) namings s
 
   local_types_stay : local_types (locals new.locals) ≡ local_types (locals old.locals)
   local_types_stay =
       types_by_values (locals new.locals)
-      ∙ ap (λ (t : Shown). map (option_map value_type) t.locals) are
-      ∙ ap (map (option_map value_type)) (locals_after b namings s)
-      ∙ seen_renamed mend_local value_type (λ g x. refl) (λ i. named_by (given (local_in b) namings i)) 0 s.locals
+      ∙ ap (map (option_map value_type)) h.locals
+      ∙ seen_renamed mend_local value_type (λ g x. refl) h.locals_become 0 s.locals
       ∙ sym (types_by_values (locals old.locals))
 
   as_many_locals : length (locals new.locals) ≡ length (locals old.locals)
   as_many_locals =
       sym (length-map (locals new.locals) (option_map local_value))
-      ∙ ap (λ (t : Shown). length t.locals) are
-      ∙ ap length (locals_after b namings s)
-      ∙ length_renamed mend_local (λ i. named_by (given (local_in b) namings i)) 0 s.locals
+      ∙ ap length h.locals
+      ∙ length_renamed mend_local h.locals_become 0 s.locals
       ∙ length-map (locals old.locals) (option_map local_value)
 
   kinds_stay : (k : FunctionKind) → kind_of new.locals k ≡ kind_of old.locals k
@@ -111,63 +104,25 @@ module _ (b : Bounds) (namings : List Named) (old new : Contents) (are : shown n
       local_types_stay as_many_locals
   kinds_stay (kind.Uninitialized ty) = refl
 
-  pub functions_are : functions new.funcs ≡ renamed_from mend_function (by namings Functions) 0 s.functions
-  functions_are = ap (λ (t : Shown). t.functions) are ∙ functions_after b namings s
-
-  pub tables_are : tables new.tables ≡ renamed_from mend_table (by namings Tables) 0 s.tables
-  tables_are = ap (λ (t : Shown). t.tables) are ∙ tables_after b namings s
-
-  pub memories_are : memories new.memories ≡ renamed_from mend_memory (by namings Memories) 0 s.memories
-  memories_are = ap (λ (t : Shown). t.memories) are ∙ memories_after b namings s
-
-  pub tags_are : tags new.tags ≡ renamed_from mend_tag (by namings Tags) 0 s.tags
-  tags_are = ap (λ (t : Shown). t.tags) are ∙ tags_after b namings s
-
-  pub globals_are : globals new.globals ≡ renamed_from mend_global (by namings Globals) 0 s.globals
-  globals_are = ap (λ (t : Shown). t.globals) are ∙ globals_after b namings s
-
-  pub elements_are : elements new.elements ≡ renamed_from mend_element (by namings Elements) 0 s.elements
-  elements_are = ap (λ (t : Shown). t.elements) are ∙ elements_after b namings s
-
-  pub data_are : data_segments new.data_ ≡ renamed_from mend_data (by namings DataSegments) 0 s.data_segments
-  data_are = ap (λ (t : Shown). t.data_segments) are ∙ data_after b namings s
-
-  pub type_names_are : type_names new.types ≡ renamed_from mend_type_name (λ i. named_by (given (type_in b) namings i)) 0 s.type_names
-  type_names_are = ap (λ (t : Shown). t.type_names) are ∙ type_names_after b namings s
-
-  pub locals_are : local_values new.locals ≡ renamed_from mend_local (λ i. named_by (given (local_in b) namings i)) 0 s.locals
-  locals_are = ap (λ (t : Shown). t.locals) are ∙ locals_after b namings s
-
   -- all is the same but for the names
   pub same_but_named : contents_view new ≡ record (contents_view old) { named = named_of new }
   same_but_named = λ j. record {
-    types = λ i. item_at (types_stay j) i;
-    imports = view.imports_of (imports j);
-    functions = looked mend_function (by namings Functions) s.functions (functions new.funcs) functions_are (view.function new.locals) (view.function old.locals) (λ g f. ap (λ (k : abstract.FunctionKind). record { ty = (view.function old.locals f).ty; kind = k }) (kinds_stay f.kind)) j;
-    tables = looked mend_table (by namings Tables) s.tables (tables new.tables) tables_are view.table_of view.table_of (λ g x. refl) j;
-    memories = looked mend_memory (by namings Memories) s.memories (memories new.memories) memories_are view.memory_of view.memory_of (λ g x. refl) j;
-    tags = looked mend_tag (by namings Tags) s.tags (tags new.tags) tags_are view.tag_of view.tag_of (λ g x. refl) j;
-    globals = looked mend_global (by namings Globals) s.globals (globals new.globals) globals_are view.global_of view.global_of (λ g x. refl) j;
-    elements = looked mend_element (by namings Elements) s.elements (elements new.elements) elements_are view.element_of view.element_of (λ g x. refl) j;
-    data_segments = looked mend_data (by namings DataSegments) s.data_segments (data_segments new.data_) data_are view.data_of view.data_of (λ g x. refl) j;
-    exports = view.exports_of (exports j);
-    start = option_map place (start j);
+    types = λ i. item_at (h.types j) i;
+    imports = view.imports_of (h.imports j);
+    functions = looked mend_function h.functions_become s.functions (functions new.funcs) h.functions (view.function new.locals) (view.function old.locals) (λ g f. ap (λ (k : abstract.FunctionKind). record { ty = (view.function old.locals f).ty; kind = k }) (kinds_stay f.kind)) j;
+    tables = looked mend_table h.tables_become s.tables (tables new.tables) h.tables view.table_of view.table_of (λ g x. refl) j;
+    memories = looked mend_memory h.memories_become s.memories (memories new.memories) h.memories view.memory_of view.memory_of (λ g x. refl) j;
+    tags = looked mend_tag h.tags_become s.tags (tags new.tags) h.tags view.tag_of view.tag_of (λ g x. refl) j;
+    globals = looked mend_global h.globals_become s.globals (globals new.globals) h.globals view.global_of view.global_of (λ g x. refl) j;
+    elements = looked mend_element h.elements_become s.elements (elements new.elements) h.elements view.element_of view.element_of (λ g x. refl) j;
+    data_segments = looked mend_data h.data_become s.data_segments (data_segments new.data_) h.data_segments view.data_of view.data_of (λ g x. refl) j;
+    exports = view.exports_of (h.exports j);
+    start = option_map place (h.start j);
     customs = [];
-    producers = producers (made j);
+    producers = producers (h.producers j);
     named = named_of new;
-    table_segments = λ t. told mend_table (by namings Tables) s.tables (tables new.tables) tables_are kept_elements elements_kept_still t j;
-    memory_segments = λ y. told mend_memory (by namings Memories) s.memories (memories new.memories) memories_are kept_data data_kept_still y j;
-    handler_types = λ f. told mend_function (by namings Functions) s.functions (functions new.funcs) functions_are handlers_at handlers_still f j;
+    table_segments = λ t. told mend_table h.tables_become s.tables (tables new.tables) h.tables kept_elements elements_kept_still t j;
+    memory_segments = λ y. told mend_memory h.memories_become s.memories (memories new.memories) h.memories kept_data data_kept_still y j;
+    handler_types = λ f. told mend_function h.functions_become s.functions (functions new.funcs) h.functions handlers_at handlers_still f j;
     section_roots = [];
-  } where
-    imports : new.imports ≡ old.imports
-    imports = ap (λ (t : Shown). t.imports) are ∙ others_after (λ t. t.imports) b (λ t naming. refl) namings s
-
-    exports : new.exports ≡ old.exports
-    exports = ap (λ (t : Shown). t.exports) are ∙ others_after (λ t. t.exports) b (λ t naming. refl) namings s
-
-    start : new.start ≡ old.start
-    start = ap (λ (t : Shown). t.start) are ∙ others_after (λ t. t.start) b (λ t naming. refl) namings s
-
-    made : new.producers ≡ old.producers
-    made = ap (λ (t : Shown). t.producers) are ∙ others_after (λ t. t.producers) b (λ t naming. refl) namings s
+  }

@@ -1,6 +1,8 @@
 -- Names for functions and locals that have none.
-use Rattle.std.specs.Prelude.{ℕ, suc, ◌+◌, ◌-◌, Bool, true, false, ◌&&◌, ◌==◌, nat_le, nat_lt, List, [], ◌∷◌, ◌++◌, length, Option, Some, None, is_none, slice_get, codes, decimal, if◌then◌else◌}
-use Rattle.std.specs.List.{range_with_len}
+use Rattle.std.specs.Prelude.{ℕ, suc, ◌+◌, ◌-◌, Bool, true, false, ◌&&◌, ◌==◌, nat_le, nat_lt, List, [], ◌∷◌, ◌++◌, length, Option, Some, None, is_none, slice_get, codes, decimal, if◌then◌else◌, flat_map, ◌≡◌}
+use Rattle.std.specs.List.{AllZip, range_with_len}
+use Rattle.wasm_frames.specs.Record as wire
+use Rattle.wasm_payloads.specs.Names.{Named, Names}
 use Rattle.walrus_base.specs.Arena.{item_at}
 use Rattle.walrus_items.specs.Functions.{FunctionValue}
 use Rattle.walrus_parts.specs.declared.function_kind.FunctionKind.TheVariants as kind
@@ -9,7 +11,7 @@ use Rattle.walrus_model.specs.Abstract.{Name}
 use Rattle.walrus_model.specs.Names.{or_else}
 use Rattle.walrus_naming.specs.Renamed.{renamed_from}
 use Rattle.walrus_naming.specs.Shown.{Shown, mend_function, mend_local}
-use Rattle.walrus_naming.specs.Taken.{Bounds}
+use Rattle.walrus_naming.specs.Taken.{Bounds, all_named, is_known, name_payloads}
 
 -- how many parameters a local function has
 abbrev pub parameters_by : FunctionKind → Option ℕ
@@ -76,3 +78,15 @@ all_filled starts s (f ∷ fs) = all_filled starts (once_filled starts s f) fs
 -- where names are to be given, each function has one
 abbrev pub finished : Bounds → Shown → Shown
 finished b s = if b.synthetic then all_filled b.starts s (range_with_len 0 (length s.functions)) else s
+
+-- ---- all names of a module
+
+-- what is shown once these namings are taken, and names are given where they are to be
+abbrev pub named_by : Bounds → List Named → Shown → Shown
+named_by b namings s = finished b (all_named b s namings)
+
+-- the module shows what it showed, but for the names that its sections give, and those that are given to what has none
+pub record AreNamed (b : Bounds) (customs : List wire.Custom) (old new : Shown) : Type 0 where
+  pub namings : List (List Named)
+  pub read : AllZip (Names (is_known b.starts)) (name_payloads customs) namings
+  pub are : new ≡ named_by b (flat_map (λ xs. xs) namings) old
