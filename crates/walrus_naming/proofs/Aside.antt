@@ -1,6 +1,7 @@
 -- What was parsed, with other names.
-use Rattle.std.proofs.Common.{inl, inr, ⊎_elim, ◌≡◌, ℕ, ◌≤◌, List, length}
+use Rattle.std.proofs.Common.{inl, inr, ⊎_elim, ◌≡◌, ℕ, ◌≤◌, List, length, refl, subst}
 use Rattle.std.specs.Prelude.{Option, Some, None, IsSome}
+use Rattle.walrus_base.specs.Types.{CompType}
 use Rattle.walrus_types.specs.Operators.{Space, Types, Functions, Tables, Memories, Tags, Globals, Elements, DataSegments, Item}
 use Rattle.walrus_model.specs.Abstract.{Abstract, Body, Name, Subject, TheModule, AnItem, ALocal, TypeDef}
 use Rattle.walrus_model.specs.Carried.{Carried, In, KeepsApart}
@@ -8,10 +9,10 @@ use Rattle.walrus_model.specs.Config.{Config}
 use Rattle.walrus_model.specs.Kept.{IsImportOf}
 use Rattle.walrus_model.specs.Live.{IsLive}
 use Rattle.walrus_model.specs.Names.{body_of, name_of, own_name}
-use Rattle.walrus_rules.specs.Chain.{AddsHandlers, AndThose, IsBehind, NoFunction, ParsedAs}
+use Rattle.walrus_rules.specs.Chain.{AddsHandlers, AndThose, AreFoundOrAdded, IsBehind, NoFunction, ParsedAs, handlers_by}
 
 module _ (m : Abstract) (n : Subject → List Name) where
-  abbrev other : Abstract
+  abbrev pub other : Abstract
   other = record m { named = n }
 
   live : (x : Item) → IsLive other x → IsLive m x
@@ -34,9 +35,13 @@ module _ (m : Abstract) (n : Subject → List Name) where
   live_too (Elements, i) h = h
   live_too (DataSegments, i) h = h
 
+  same_handlers : (o : Option Body) → handlers_by m o ≡ handlers_by other o
+  same_handlers None = refl
+  same_handlers (Some b) = refl
+
   handlers_too : (places : ℕ → List ℕ) (fs : List ℕ) (old new : List TypeDef) → AddsHandlers m places fs old new → AddsHandlers other places fs old new
   handlers_too places _ _ _ (NoFunction types) = NoFunction types
-  handlers_too places _ _ _ (AndThose f fs old middle new first others) = AndThose f fs old middle new first (handlers_too places fs middle new others)
+  handlers_too places _ _ _ (AndThose f fs old middle new first others) = AndThose f fs old middle new (subst (λ (comps : List (CompType ℕ)). AreFoundOrAdded comps old middle (places f)) (same_handlers (body_of m f)) first) (handlers_too places fs middle new others)
 
   imports_live : (i : ℕ) → IsImportOf (IsLive other) other i → IsImportOf (IsLive m) m i
   imports_live i (x, is, h) = (x, is, live x.item h)

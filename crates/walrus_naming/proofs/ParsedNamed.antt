@@ -19,9 +19,9 @@ use Rattle.walrus_model.specs.Abstract as abstract
 use Rattle.walrus_model.specs.Abstract.{Abstract, Body, Function, Name, Subject, TheModule, AnItem, ALocal}
 use Rattle.walrus_model.specs.Config.{Config}
 use Rattle.walrus_model.specs.Live.{IsLive}
-use Rattle.walrus_model.specs.Names.{body_of, body_of_function, body_of_kind, function_text, last_name, local_text, name_of, names_that_count, or_else, own_name, synthetic_name}
-use Rattle.walrus_model.specs.Renaming.{Renaming}
-use Rattle.walrus_model.specs.Same.{BothAnd, SameFunction, SameKind}
+use Rattle.walrus_model.specs.Names.{body_of, body_of_function, body_of_kind, function_text, last_name, local_text, local_text_in, name_of, names_that_count, or_else, own_name, synthetic_name}
+use Rattle.walrus_model.specs.Renaming.{Renaming, renamed_data, renamed_element, renamed_global, renamed_memory, renamed_table, renamed_tag}
+use Rattle.walrus_model.specs.Same.{BothAnd, SameFunction, SameKind, SameType}
 use Rattle.walrus_rules.specs.Chain.{IsWholeBody, ParsedAs}
 use Rattle.walrus_rules.specs.Namings.{has, has_local, is_in_range, names_given, names_in_range}
 use Rattle.walrus_contents.proofs.Lookups.{place_past, place_range}
@@ -161,14 +161,14 @@ module _ (before c : Config) (m : Abstract) (b : Bounds) (namings : List Named) 
     there S None g h = absurd h
 
     by_space : (x : Item) → IsLive m x → IsLive (contents_view old) x
-    by_space (Types, i) live = subst (λ (j : ℕ). IsSome ((contents_view old).types j)) (h.in_place (Types, i)) (there _ _ _ (h.carried.types.same i live))
-    by_space (Functions, i) live = subst (λ (j : ℕ). IsSome ((contents_view old).functions j)) (h.in_place (Functions, i)) (there _ _ _ (h.carried.functions.same i live))
-    by_space (Tables, i) live = subst (λ (j : ℕ). IsSome ((contents_view old).tables j)) (h.in_place (Tables, i)) (there _ _ _ (h.carried.tables.same i live))
-    by_space (Memories, i) live = subst (λ (j : ℕ). IsSome ((contents_view old).memories j)) (h.in_place (Memories, i)) (there _ _ _ (h.carried.memories.same i live))
-    by_space (Tags, i) live = subst (λ (j : ℕ). IsSome ((contents_view old).tags j)) (h.in_place (Tags, i)) (there _ _ _ (h.carried.tags.same i live))
-    by_space (Globals, i) live = subst (λ (j : ℕ). IsSome ((contents_view old).globals j)) (h.in_place (Globals, i)) (there _ _ _ (h.carried.globals.same i live))
-    by_space (Elements, i) live = subst (λ (j : ℕ). IsSome ((contents_view old).elements j)) (h.in_place (Elements, i)) (there _ _ _ (h.carried.elements.same i live))
-    by_space (DataSegments, i) live = subst (λ (j : ℕ). IsSome ((contents_view old).data_segments j)) (h.in_place (DataSegments, i)) (there _ _ _ (h.carried.data_segments.same i live))
+    by_space (Types, i) live = subst (λ (j : ℕ). IsSome ((contents_view old).types j)) (h.in_place (Types, i)) (there (SameType (h.renaming.numbers Types) i) (m.types i) ((contents_view old).types (h.renaming.numbers Types i)) (h.carried.types.same i live))
+    by_space (Functions, i) live = subst (λ (j : ℕ). IsSome ((contents_view old).functions j)) (h.in_place (Functions, i)) (there (SameFunction h.renaming i) (m.functions i) ((contents_view old).functions (h.renaming.numbers Functions i)) (h.carried.functions.same i live))
+    by_space (Tables, i) live = subst (λ (j : ℕ). IsSome ((contents_view old).tables j)) (h.in_place (Tables, i)) (there (λ x y. y ≡ renamed_table h.renaming x) (m.tables i) ((contents_view old).tables (h.renaming.numbers Tables i)) (h.carried.tables.same i live))
+    by_space (Memories, i) live = subst (λ (j : ℕ). IsSome ((contents_view old).memories j)) (h.in_place (Memories, i)) (there (λ x y. y ≡ renamed_memory h.renaming x) (m.memories i) ((contents_view old).memories (h.renaming.numbers Memories i)) (h.carried.memories.same i live))
+    by_space (Tags, i) live = subst (λ (j : ℕ). IsSome ((contents_view old).tags j)) (h.in_place (Tags, i)) (there (λ x y. y ≡ renamed_tag h.renaming x) (m.tags i) ((contents_view old).tags (h.renaming.numbers Tags i)) (h.carried.tags.same i live))
+    by_space (Globals, i) live = subst (λ (j : ℕ). IsSome ((contents_view old).globals j)) (h.in_place (Globals, i)) (there (λ x y. y ≡ renamed_global h.renaming x) (m.globals i) ((contents_view old).globals (h.renaming.numbers Globals i)) (h.carried.globals.same i live))
+    by_space (Elements, i) live = subst (λ (j : ℕ). IsSome ((contents_view old).elements j)) (h.in_place (Elements, i)) (there (λ x y. y ≡ renamed_element h.renaming x) (m.elements i) ((contents_view old).elements (h.renaming.numbers Elements i)) (h.carried.elements.same i live))
+    by_space (DataSegments, i) live = subst (λ (j : ℕ). IsSome ((contents_view old).data_segments j)) (h.in_place (DataSegments, i)) (there (λ x y. y ≡ renamed_data h.renaming x) (m.data_segments i) ((contents_view old).data_segments (h.renaming.numbers DataSegments i)) (h.carried.data_segments.same i live))
 
   same_texts : (x : Item) → IsLive m x → synthetic_name (contents_view old) (AnItem x) ≡ synthetic_name (other m n) (AnItem x)
   same_texts (Types, i) live = refl
@@ -219,11 +219,7 @@ module _ (before c : Config) (m : Abstract) (b : Bounds) (namings : List Named) 
       ∙ ap (λ (t : Bool). or_else (last_name (that_count t (names_given namings (ALocal f x)))) (if t then Some (text_of_local (length a.parameters) x) else None)) asked
       ∙ ap₂ (λ (l : List Name) (o : Option Name). or_else (last_name l) (if on then o else None))
       (ap (that_count on) (sym (in_range_given m namings (ALocal f x) range)) ∙ sym (local_words on (other m n) f x))
-      (ap Some (sym text) ∙ ap (local_in x) (sym is)) where
-    local_in : ℕ → Option Body → Option Name
-    local_in x None = None
-    local_in x (Some b) = Some (local_text x (place_in b.parameters x))
-
+      (ap Some (sym text) ∙ ap (local_text_in x) (sym is)) where
     types_seen : (o : Option FunctionValue) (b : Body) (p : ℕ) → body_of_function (option_map (view.function old.locals) o) ≡ Some b → IsSome (b.local_type p) → IsSome (item_at (map (option_map (λ (l : Local). val_type (local_type l))) (locals old.locals)) p)
     types_seen None b p e seen = absurd (let no : ◌≡◌ {A = Option Body} None (Some b) = e in cc)
     types_seen (Some f) b p e seen = by_kind f.kind e where
