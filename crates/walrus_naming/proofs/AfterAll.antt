@@ -42,8 +42,8 @@ module _ {X : Type 0} (mend : (Option Name → Option Name) → X → X) (whole 
         ∙ ap (renamed_from mend others 0) (step s naming ∙ one_given (one naming) (field s))
         ∙ renamed_twice mend twice first others 0 (field s)
         ∙ renamed_ext mend (λ n old. others n (first n old)) (λ i. named_by (given one (naming ∷ namings) i)) (λ n. same n) 0 (field s) where
-      same : (n : ℕ) → (λ (old : Option Name). named_by (given one namings n) (named_by (given_at (one naming) n) old)) ≡ named_by (given one (naming ∷ namings) n)
-      same n = λ i old. named_behind (given_at (one naming) n) (given one namings n) old i
+          same : (n : ℕ) → (λ (old : Option Name). named_by (given one namings n) (named_by (given_at (one naming) n) old)) ≡ named_by (given one (naming ∷ namings) n)
+          same n = λ i old. named_behind (given_at (one naming) n) (given one namings n) old i
 
 -- ---- the items of a space
 

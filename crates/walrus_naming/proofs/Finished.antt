@@ -35,8 +35,8 @@ within parameters x p (Some first) (Some end) is = by_test (nat_lt (first + x) e
       let up_to : nat_lt p (first + (end - first)) ≡ true = lt-ltb p (first + (end - first)) (omega (arith, at, lt)) in
       let alike : p - first ≡ x = omega (arith, at) in
       λ i. filled_if (from i && up_to i) (text_of_local parameters (alike i)) where
-    some_is : (n m : ℕ) → ◌≡◌ {A = Option ℕ} (Some n) (Some m) → n ≡ m
-    some_is n m e = cc
+        some_is : (n m : ℕ) → ◌≡◌ {A = Option ℕ} (Some n) (Some m) → n ≡ m
+        some_is n m e = cc
 
 -- a place in a span is that of a local of its function
 in_span : (parameters p : ℕ) (a e : Option ℕ) → (((x : ℕ) → place_between x a e ≡ Some p → ⊥) → filled_in parameters (span_by a e) p ≡ as_it_was)
@@ -174,8 +174,8 @@ are_filled starts (suc n) k s =
           (cases_eq k f);
       locals_before = λ many are f x p lt is. after_first (once_locals starts o k p) (h.locals_become p) as_it_was (other_locals starts many are o f x p k (λ same. omega (arith, same, lt)) is) (h.locals_before many are f x p (omega (arith, lt)) is);
     } where
-  later : (k i : ℕ) → k ≤ i → (k ≡ i → ⊥) → k + 1 ≤ i
-  later k i le apart = ⊎_elim (λ (e : k ≡ i). absurd (apart e)) (⊎_elim (λ (lt : k < i). omega (arith, lt)) (λ (gt : i < k). absurd (omega (arith, gt, le)))) (cases_order k i)
+      later : (k i : ℕ) → k ≤ i → (k ≡ i → ⊥) → k + 1 ≤ i
+      later k i le apart = ⊎_elim (λ (e : k ≡ i). absurd (apart e)) (⊎_elim (λ (lt : k < i). omega (arith, lt)) (λ (gt : i < k). absurd (omega (arith, gt, le)))) (cases_order k i)
 
 -- what isn't a function or a local stays
 others_once : {Y : Type 0} (field : Shown → Y) → ((s : Shown) (fs : List (Option FunctionValue)) (ls : List (Option LocalValue)) → field (record s { functions = fs; locals = ls }) ≡ field s) → (starts : List ℕ) (f : ℕ) (o : Option ℕ) (s : Shown) → field (once_by starts f o s) ≡ field s

@@ -191,8 +191,8 @@ module _ (b : Bounds) (namings : List Named) (old new : Contents) (are : shown n
       ∙ ap (λ (l : List Name). (finishing b namings s).locals_become p (last_name l)) (local_given b many 0 f x p starts is namings)
       ∙ ap (λ (h : Option Name → Option Name). h (last_name names)) ((finishing b namings s).locals_named many starts f x p parameters (parameters_taken f ∙ has) is)
       ∙ or_given b.synthetic (text_of_local parameters x) (last_name names) where
-    value_there : (slots : List (Option Local)) (i : ℕ) → IsSome (item_at slots i) → IsSome (item_at (map (option_map local_value) slots) i)
-    value_there [] i h = absurd cc
-    value_there (None ∷ slots) zero h = absurd cc
-    value_there (Some l ∷ slots) zero h = refl
-    value_there (s ∷ slots) (suc i) h = value_there slots i h
+        value_there : (slots : List (Option Local)) (i : ℕ) → IsSome (item_at slots i) → IsSome (item_at (map (option_map local_value) slots) i)
+        value_there [] i h = absurd cc
+        value_there (None ∷ slots) zero h = absurd cc
+        value_there (Some l ∷ slots) zero h = refl
+        value_there (s ∷ slots) (suc i) h = value_there slots i h

@@ -220,16 +220,16 @@ module _ (before c : Config) (m : Abstract) (b : Bounds) (namings : List Named) 
       ∙ ap₂ (λ (l : List Name) (o : Option Name). or_else (last_name l) (if on then o else None))
       (ap (that_count on) (sym (in_range_given m namings (ALocal f x) range)) ∙ sym (local_words on (other m n) f x))
       (ap Some (sym text) ∙ ap (local_text_in x) (sym is)) where
-    types_seen : (o : Option FunctionValue) (b : Body) (p : ℕ) → body_of_function (option_map (view.function old.locals) o) ≡ Some b → IsSome (b.local_type p) → IsSome (item_at (map (option_map (λ (l : Local). val_type (local_type l))) (locals old.locals)) p)
-    types_seen None b p e seen = absurd (let no : ◌≡◌ {A = Option Body} None (Some b) = e in cc)
-    types_seen (Some f) b p e seen = by_kind f.kind e where
-      by_kind : (k : FunctionKind) → body_of_kind (kind_of old.locals k) ≡ Some b → IsSome (item_at (map (option_map (λ (l : Local). val_type (local_type l))) (locals old.locals)) p)
-      by_kind (kind.Import i) e = absurd (let no : ◌≡◌ {A = Option Body} None (Some b) = e in cc)
-      by_kind (kind.Local g) e = subst (λ (o : Option Body). AllSeen o) (sym e) seen where
-        AllSeen : Option Body → Type 0
-        AllSeen None = ⊥
-        AllSeen (Some c) = IsSome (c.local_type p)
-      by_kind (kind.Uninitialized ty) e = absurd (let no : ◌≡◌ {A = Option Body} None (Some b) = e in cc)
+        types_seen : (o : Option FunctionValue) (b : Body) (p : ℕ) → body_of_function (option_map (view.function old.locals) o) ≡ Some b → IsSome (b.local_type p) → IsSome (item_at (map (option_map (λ (l : Local). val_type (local_type l))) (locals old.locals)) p)
+        types_seen None b p e seen = absurd (let no : ◌≡◌ {A = Option Body} None (Some b) = e in cc)
+        types_seen (Some f) b p e seen = by_kind f.kind e where
+          by_kind : (k : FunctionKind) → body_of_kind (kind_of old.locals k) ≡ Some b → IsSome (item_at (map (option_map (λ (l : Local). val_type (local_type l))) (locals old.locals)) p)
+          by_kind (kind.Import i) e = absurd (let no : ◌≡◌ {A = Option Body} None (Some b) = e in cc)
+          by_kind (kind.Local g) e = subst (λ (o : Option Body). AllSeen o) (sym e) seen where
+            AllSeen : Option Body → Type 0
+            AllSeen None = ⊥
+            AllSeen (Some c) = IsSome (c.local_type p)
+          by_kind (kind.Uninitialized ty) e = absurd (let no : ◌≡◌ {A = Option Body} None (Some b) = e in cc)
 
   -- the module with its names is what was read with the names that are given to it
   pub parsed_named : ParsedAs c (record m { named = names_in_range m namings }) (contents_view new)

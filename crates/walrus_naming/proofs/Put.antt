@@ -39,9 +39,9 @@ module _ {X : Type 0} (mend : (Option Name → Option Name) → X → X) (whole 
 pub name_put : (old new : List (Option (Option Name))) (place at : ℕ) (name : Name) → place ≡ at → IsSome (item_at old place) → new ≡ slice_set old place (Some (Some name)) → new ≡ named_at mend_type_name at name old
 name_put old new place at name same live is =
     is ∙ set_here mend_type_name (λ x. refl) (λ b. named_if b name) refl at 0 place old (Some (Some name)) (let e : at ≡ 0 + place = omega (arith, same) in e) live (becomes (item_at old place) live) where
-    becomes : (o : Option (Option Name)) → IsSome o → Some (Some name) ≡ option_map (mend_type_name (λ old. Some name)) o
-    becomes None h = absurd cc
-    becomes (Some x) h = refl
+      becomes : (o : Option (Option Name)) → IsSome o → Some (Some name) ≡ option_map (mend_type_name (λ old. Some name)) o
+      becomes None h = absurd cc
+      becomes (Some x) h = refl
 
 -- where something stands in one row, something stands in the other of the same
 pub both_there : {X Y Z : Type 0} (f : X → Y) (g : X → Z) (xs : List (Option X)) (i : ℕ) → IsSome (item_at (map (option_map f) xs) i) → IsSome (item_at (map (option_map g) xs) i)
@@ -49,7 +49,6 @@ both_there f g [] i h = absurd cc
 both_there f g (None ∷ xs) zero h = absurd cc
 both_there f g (Some x ∷ xs) zero h = refl
 both_there f g (x ∷ xs) (suc i) h = both_there f g xs i h
-
 
 -- what stands at a place, seen as a value
 pub seen_there : {T U : Type 0} (value : T → U) (slots : List (Option T)) (i : ℕ) (x : T) → item_at slots i ≡ Some x → item_at (map (option_map value) slots) i ≡ Some (value x)

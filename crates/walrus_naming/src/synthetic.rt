@@ -145,12 +145,7 @@ fn fill_locals(
 }
 
 // Gives a local function, and each of its locals, a name, if it has none.
-fn fill_one(
-    alloc: Global,
-    function: usize,
-    starts: &[usize],
-    contents: &mut Contents,
-) -> Result<()>
+fn fill_one(alloc: Global, function: usize, starts: &[usize], contents: &mut Contents) -> Result<()>
     requires small { function + 1 < 2 ^ 64 }
     ensures filled { OnOk result (shown contents.new
         ≡ once_filled starts.now (shown contents.old) function) }
