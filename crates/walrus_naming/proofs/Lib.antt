@@ -1,0 +1,12 @@
+pub mod AfterAll
+pub mod Aside
+pub mod Becoming
+pub mod Filled
+pub mod Finished
+pub mod Locals
+pub mod OwnNames
+pub mod ParsedNamed
+pub mod Put
+pub mod SectionsTaken
+pub mod View
+pub mod Whole
