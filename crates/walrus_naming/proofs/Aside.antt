@@ -2,14 +2,13 @@
 use Rattle.std.proofs.Common.{inl, inr, ⊎_elim, ◌≡◌, ℕ, ◌≤◌, List, length, refl, subst}
 use Rattle.std.specs.Prelude.{Option, Some, None, IsSome}
 use Rattle.walrus_base.specs.Types.{CompType}
-use Rattle.walrus_types.specs.Operators.{Space, Types, Functions, Tables, Memories, Tags, Globals, Elements, DataSegments, Item}
+use Rattle.walrus_types.specs.Operators.{Types, Functions, Tables, Memories, Tags, Globals, Elements, DataSegments, Item}
 use Rattle.walrus_model.specs.Abstract.{Abstract, Body, Name, Subject, TheModule, AnItem, ALocal, TypeDef}
-use Rattle.walrus_model.specs.Carried.{Carried, In, KeepsApart}
 use Rattle.walrus_model.specs.Config.{Config}
 use Rattle.walrus_model.specs.Kept.{IsImportOf}
 use Rattle.walrus_model.specs.Live.{IsLive}
 use Rattle.walrus_model.specs.Names.{body_of, name_of, own_name}
-use Rattle.walrus_rules.specs.Chain.{AddsHandlers, AndThose, AreFoundOrAdded, IsBehind, NoFunction, ParsedAs, handlers_by}
+use Rattle.walrus_rules.specs.Chain.{AddsHandlers, AndThose, AreFoundOrAdded, NoFunction, ParsedAs, handlers_by}
 
 module _ (m : Abstract) (n : Subject → List Name) where
   abbrev pub other : Abstract

@@ -1,9 +1,8 @@
 -- Items that get a name where they had none.
-use Rattle.std.proofs.Common.{⊎_elim, ◌≡◌, ℕ, zero, suc, ◌+◌, ◌-◌, ◌<◌, ◌≤◌, Bool, true, false, List, [], ◌∷◌, ◌++◌, length, map, refl, sym, ap, ap₂, subst, ◌∙◌, arith}
-use Rattle.std.specs.Prelude.{Option, Some, None, IsSome, is_none, nat_le, nat_lt, ◌==◌, ◌&&◌, option_map, slice_set}
+use Rattle.std.proofs.Common.{⊎_elim, ◌≡◌, ℕ, ◌+◌, ◌-◌, ◌<◌, ◌≤◌, Bool, true, false, List, [], ◌∷◌, ◌++◌, map, refl, sym, ap, ◌∙◌, arith}
+use Rattle.std.specs.Prelude.{Option, Some, None, is_none, nat_le, nat_lt, ◌==◌, ◌&&◌, option_map, slice_set}
 use Rattle.std.specs.List.{range_with_len}
 use Rattle.std.proofs.lemmas.Bool.{cases_order, eq-eqb, leb-true, le-leb, le-ltb, lt-ltb, ne_eqb}
-use mathlib.Core.Path.{fun_ext}
 use Rattle.walrus_base.specs.Arena.{item_at}
 use Rattle.walrus_code.proofs.Ranges.{range-next}
 use Rattle.walrus_model.specs.Abstract.{Name}
@@ -11,7 +10,7 @@ use Rattle.walrus_model.specs.Names.{or_else}
 use Rattle.walrus_naming.specs.Renamed.{renamed_from}
 use Rattle.walrus_naming.specs.Shown.{LocalValue, Shown, mend_local}
 use Rattle.walrus_naming.specs.Synthetic.{all_filled, filled_if, filled_row, lacks_name, once_filled, text_of_local}
-use Rattle.walrus_naming.proofs.Becoming.{here, renamed_ext, renamed_same, renamed_twice}
+use Rattle.walrus_naming.proofs.Becoming.{renamed_ext, renamed_same, renamed_twice}
 use Rattle.walrus_naming.proofs.Put.{put_there, stays_there}
 
 -- ---- one item

@@ -1,5 +1,5 @@
 -- Functions and their locals, one function after another, once each has a name.
-use Rattle.std.proofs.Common.{⊎_elim, ◌≡◌, ℕ, zero, suc, ◌+◌, ◌-◌, ◌<◌, ◌≤◌, Bool, true, false, List, [], ◌∷◌, length, refl, sym, ap, subst, ◌∙◌, arith}
+use Rattle.std.proofs.Common.{⊎_elim, ◌≡◌, ℕ, zero, suc, ◌+◌, ◌-◌, ◌<◌, ◌≤◌, Bool, true, false, List, [], ◌∷◌, refl, sym, ap, subst, ◌∙◌, arith}
 use Rattle.std.specs.Prelude.{Option, Some, None, nat_le, nat_lt, ◌==◌, ◌&&◌, if◌then◌else◌, option_map, slice_get}
 use Rattle.std.specs.List.{range_with_len}
 use Rattle.std.proofs.lemmas.Bool.{and_parts, cases_eq, cases_order, eq-eqb, leb-true, le-leb, lt-ltb, ltb-true, ne_eqb}
@@ -8,9 +8,9 @@ use Rattle.walrus_items.specs.Functions.{FunctionValue}
 use Rattle.walrus_model.specs.Abstract.{Name}
 use Rattle.walrus_naming.specs.Renamed.{renamed_from}
 use Rattle.walrus_naming.specs.Shown.{LocalValue, Shown, mend_function, mend_local}
-use Rattle.walrus_naming.specs.Synthetic.{all_filled, filled_if, filled_in, filled_row, finished, once_by, once_filled, parameters_at, span, span_by, text_of_function, text_of_local}
-use Rattle.walrus_naming.specs.Taken.{Bounds, below, place_between, place_of, starts_from}
-use Rattle.walrus_naming.proofs.Becoming.{item_renamed, renamed_ext, renamed_same, renamed_twice}
+use Rattle.walrus_naming.specs.Synthetic.{all_filled, filled_if, filled_in, filled_row, once_by, once_filled, parameters_at, span, span_by, text_of_function, text_of_local}
+use Rattle.walrus_naming.specs.Taken.{below, place_between, place_of, starts_from}
+use Rattle.walrus_naming.proofs.Becoming.{item_renamed, renamed_same, renamed_twice}
 use Rattle.walrus_naming.proofs.Locals.{one_local}
 
 abbrev Becomes : Type 0

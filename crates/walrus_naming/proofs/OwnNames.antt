@@ -1,12 +1,12 @@
 -- What each item and local is called once namings are taken, where nothing had a name before.
-use Rattle.std.proofs.Common.{◌≡◌, ℕ, zero, suc, ◌+◌, ◌<◌, ◌≤◌, Bool, true, false, List, [], ◌∷◌, map, refl, sym, ap, subst, ◌∙◌, arith}
-use Rattle.std.specs.Prelude.{Option, Some, None, IsSome, option_map, option_and_then, option_to_list, if◌then◌else◌}
+use Rattle.std.proofs.Common.{◌≡◌, ℕ, zero, suc, ◌+◌, ◌<◌, ◌≤◌, Bool, true, false, List, [], ◌∷◌, map, refl, sym, ap, ◌∙◌, arith}
+use Rattle.std.specs.Prelude.{Option, Some, None, IsSome, option_map, option_to_list, if◌then◌else◌}
 use Rattle.std.specs.List.{last_or}
 use Rattle.wasm_payloads.specs.Names.{Named}
 use Rattle.walrus_base.specs.Arena.{item_at}
 use Rattle.walrus_types.specs.Locals.{locals}
-use Rattle.walrus_types.specs.ModuleTypes.{type_names, type_slots}
-use Rattle.walrus_types.specs.Operators.{Space, Types, Functions, Tables, Memories, Tags, Globals, Elements, DataSegments, Item}
+use Rattle.walrus_types.specs.ModuleTypes.{type_names}
+use Rattle.walrus_types.specs.Operators.{Types, Functions, Tables, Memories, Tags, Globals, Elements, DataSegments, Item}
 use Rattle.walrus_types.specs.TypeDef.{name_bytes, type_def, type_name}
 use Rattle.walrus_types.specs.declared.locals.Local.{Local}
 use Rattle.walrus_types.specs.declared.locals.ModuleLocals.{ModuleLocals}
@@ -29,7 +29,7 @@ use Rattle.walrus_contents.specs.declared.parts.Contents.{Contents}
 use Rattle.walrus_naming.specs.Renamed.{named_by, renamed_from}
 use Rattle.walrus_naming.specs.Shown.{IsRenamed, LocalValue, Shown, local_value, shown, mend_type_name, mend_function, mend_table, mend_memory, mend_tag, mend_global, mend_element, mend_data, mend_local}
 use Rattle.walrus_naming.specs.Synthetic.{filled_if, named_by as all_by, parameters_at, parameters_by, text_of_function, text_of_local}
-use Rattle.walrus_naming.specs.Taken.{Bounds, all_named, local_in, place_of, starts_from, that_count, type_in}
+use Rattle.walrus_naming.specs.Taken.{Bounds, all_named, place_of, starts_from, that_count, type_in}
 use Rattle.walrus_naming.proofs.AfterAll.{by, functions_after, given, module_after, type_names_after, types_given, types_not_given}
 use Rattle.walrus_naming.proofs.Becoming.{item_renamed}
 use Rattle.walrus_naming.proofs.Locals.{local_given}

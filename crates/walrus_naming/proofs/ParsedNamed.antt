@@ -1,6 +1,6 @@
 -- A module that was parsed, once its names are there.
 use Rattle.std.proofs.Common.{◌≡◌, ℕ, zero, suc, ◌+◌, ◌<◌, ◌≤◌, Bool, true, false, List, [], ◌∷◌, length, map, refl, sym, ap, ap₂, subst, ◌∙◌, arith}
-use Rattle.std.specs.Prelude.{Option, Some, None, IsSome, is_some, nat_lt, option_map, if◌then◌else◌, codes, decimal, ◌++◌}
+use Rattle.std.specs.Prelude.{Option, Some, None, IsSome, nat_lt, option_map, if◌then◌else◌, codes, decimal, ◌++◌}
 use Rattle.std.specs.List.{range_with_len}
 use Rattle.std.proofs.lemmas.Bool.{lt-ltb, ltb-false, ltb-true}
 use Rattle.std.proofs.lemmas.List.{length-map}
@@ -8,7 +8,7 @@ use Rattle.wasm_payloads.specs.Names.{Named}
 use Rattle.walrus_base.specs.Arena.{item_at}
 use Rattle.walrus_base.specs.Id.{place}
 use Rattle.walrus_types.specs.Locals.{local_type, locals}
-use Rattle.walrus_types.specs.Operators.{Space, Types, Functions, Tables, Memories, Tags, Globals, Elements, DataSegments, Item}
+use Rattle.walrus_types.specs.Operators.{Types, Functions, Tables, Memories, Tags, Globals, Elements, DataSegments, Item}
 use Rattle.walrus_types.specs.Shape.{place_in}
 use Rattle.walrus_types.specs.Value.{val_type}
 use Rattle.walrus_types.specs.declared.locals.Local.{Local}
@@ -31,7 +31,7 @@ use Rattle.walrus_contents.specs.declared.parts.Contents.{Contents}
 use Rattle.walrus_naming.specs.Laws.{IsUnnamed}
 use Rattle.walrus_naming.specs.Shown.{IsRenamed, shown}
 use Rattle.walrus_naming.specs.Synthetic.{named_by, parameters_at, parameters_by, text_of_local}
-use Rattle.walrus_naming.specs.Taken.{Bounds, place_of, starts_from, that_count}
+use Rattle.walrus_naming.specs.Taken.{Bounds, that_count}
 use Rattle.walrus_naming.proofs.Aside.{other, parsed_aside}
 use Rattle.walrus_naming.proofs.OwnNames.{added_uncalled, item_called, local_called, module_called}
 use Rattle.walrus_naming.proofs.View.{same_but_named}

@@ -4,13 +4,10 @@ use Rattle.std.specs.Prelude.{Option, Some, None, option_map}
 use Rattle.std.specs.List.{range_with_len}
 use Rattle.std.proofs.lemmas.List.{length-map}
 use mathlib.Core.Path.{fun_ext}
-use Rattle.wasm_payloads.specs.Names.{Named}
 use Rattle.walrus_base.specs.Arena.{item_at}
 use Rattle.walrus_base.specs.Id.{place}
 use Rattle.walrus_base.specs.Types as base
 use Rattle.walrus_types.specs.Locals.{locals}
-use Rattle.walrus_types.specs.ModuleTypes.{type_names, type_slots}
-use Rattle.walrus_types.specs.Operators.{Functions, Tables, Memories, Tags, Globals, Elements, DataSegments}
 use Rattle.walrus_types.specs.Value.{val_type}
 use Rattle.walrus_types.specs.declared.locals.Local.{Local}
 use Rattle.walrus_code.specs.Function.{body_of}
@@ -30,8 +27,8 @@ use Rattle.walrus_model.specs.Abstract.{Abstract, Name, AnItem, ALocal, TheModul
 use Rattle.walrus_contents.specs.View as view
 use Rattle.walrus_contents.specs.View.{contents_view, is_declared, kept_data, kept_elements, kind_of, handlers_at, named_of, name_at}
 use Rattle.walrus_contents.specs.declared.parts.Contents.{Contents}
-use Rattle.walrus_naming.specs.Renamed.{named_by, renamed_from}
-use Rattle.walrus_naming.specs.Shown.{IsRenamed, LocalValue, Shown, local_value, local_values, shown, mend_type_name, mend_function, mend_table, mend_memory, mend_tag, mend_global, mend_element, mend_data, mend_local}
+use Rattle.walrus_naming.specs.Renamed.{renamed_from}
+use Rattle.walrus_naming.specs.Shown.{IsRenamed, LocalValue, Shown, local_value, shown, mend_function, mend_table, mend_memory, mend_tag, mend_global, mend_element, mend_data, mend_local}
 use Rattle.walrus_naming.proofs.Becoming.{item_renamed, length_renamed, seen_renamed}
 
 abbrev Becomes : Type 0

@@ -1,17 +1,17 @@
 -- All names of a module: those that namings give, and behind them those that are given to what has none.
-use Rattle.std.proofs.Common.{◌≡◌, ℕ, zero, suc, ◌+◌, ◌<◌, ◌≤◌, Bool, true, false, List, [], ◌∷◌, length, refl, sym, ap, ◌∙◌, arith}
+use Rattle.std.proofs.Common.{◌≡◌, ℕ, zero, suc, ◌<◌, Bool, true, false, List, [], ◌∷◌, length, refl, sym, ap, ◌∙◌, arith}
 use Rattle.std.specs.Prelude.{Option, Some, None, if◌then◌else◌}
 use Rattle.std.specs.List.{range_with_len}
 use Rattle.wasm_frames.specs.Record as wire
 use Rattle.wasm_payloads.specs.Names.{Named}
 use Rattle.walrus_base.specs.Arena.{item_at}
-use Rattle.walrus_types.specs.Operators.{Types, Functions, Tables, Memories, Tags, Globals, Elements, DataSegments}
+use Rattle.walrus_types.specs.Operators.{Functions, Tables, Memories, Tags, Globals, Elements, DataSegments}
 use Rattle.walrus_items.specs.Functions.{FunctionValue}
 use Rattle.walrus_model.specs.Abstract.{Name}
 use Rattle.walrus_naming.specs.Renamed.{named_by, renamed_from}
-use Rattle.walrus_naming.specs.Shown.{IsRenamed, LocalValue, Shown, mend_data, mend_element, mend_function, mend_global, mend_local, mend_memory, mend_table, mend_tag}
+use Rattle.walrus_naming.specs.Shown.{IsRenamed, LocalValue, Shown, mend_function, mend_local}
 use Rattle.walrus_naming.specs.Synthetic.{AreNamed, all_filled, filled_if, finished, named_by as all_by, parameters_at, text_of_function, text_of_local}
-use Rattle.walrus_naming.specs.Taken.{Bounds, TakesNames, all_named, local_in, place_of, starts_from, type_in}
+use Rattle.walrus_naming.specs.Taken.{Bounds, TakesNames, all_named, local_in, place_of, starts_from}
 use Rattle.walrus_naming.proofs.AfterAll.{by, data_after, elements_after, functions_after, given, globals_after, locals_after, memories_after, others_after, tables_after, tags_after}
 use Rattle.walrus_naming.proofs.Becoming.{renamed_same, renamed_twice}
 use Rattle.walrus_naming.proofs.Finished.{AreFilled, are_filled, others_filled}

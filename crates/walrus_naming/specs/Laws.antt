@@ -1,5 +1,5 @@
 -- What comes of the names of a module.
-use Rattle.std.specs.Prelude.{ℕ, ◌+◌, ◌<◌, ◌≤◌, length, List, [], Option, Some, None, IsSome, if◌then◌else◌, ◌≡◌}
+use Rattle.std.specs.Prelude.{ℕ, ◌+◌, ◌<◌, ◌≤◌, length, List, [], Some, None, IsSome, if◌then◌else◌, ◌≡◌}
 use Rattle.std.specs.List.{range_with_len}
 use Rattle.wasm_payloads.specs.Names.{Named}
 use Rattle.walrus_base.specs.Arena.{item_at}

@@ -1,4 +1,4 @@
-use Rattle.std.proofs.Common.{Some, List, ℕ, ap, ◌∙◌, sym, string_bytes}
+use Rattle.std.proofs.Common.{Some, List, ℕ, ap, ◌∙◌, sym}
 use Rattle.std.specs.Prelude.{Option}
 use Rattle.walrus_base.specs.Id.{place}
 use Rattle.walrus_items.specs.Functions.{FunctionValue, function_value, functions}

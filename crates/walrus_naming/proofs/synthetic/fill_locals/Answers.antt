@@ -1,4 +1,4 @@
-use Rattle.std.proofs.Common.{◌≡◌, ℕ, Some, ap, sym, subst, ◌∙◌, OnOk}
+use Rattle.std.proofs.Common.{◌≡◌, ℕ, ap, sym, subst, ◌∙◌, OnOk}
 use Rattle.std.specs.Prelude.{Option}
 use Rattle.walrus_naming.specs.Renamed.{renamed_from}
 use Rattle.walrus_naming.specs.Shown.{local_values, mend_local}
