@@ -6,7 +6,7 @@ use Rattle.wasm_payloads.specs.Names.{Named, ModuleName, ItemName, LocalName}
 use Rattle.walrus_types.specs.Operators.{Space, Types, Functions, Tables, Memories, Tags, Globals, Elements, DataSegments}
 use Rattle.walrus_model.specs.Abstract.{Name, AnItem, TheModule}
 use Rattle.walrus_rules.specs.Namings.{names_given, space_of, subsection}
-use Rattle.walrus_naming.specs.Renamed.{named_by, named_if, renamed_by, renamed_from}
+use Rattle.walrus_naming.specs.Renamed.{last_given, named_if, renamed_by, renamed_from}
 use Rattle.walrus_naming.specs.Shown.{Shown, mend_type_name, mend_function, mend_table, mend_memory, mend_tag, mend_global, mend_element, mend_data, mend_local}
 use Rattle.walrus_naming.specs.Taken.{Bounds, all_named, local_in, naming_in, once_named, only_below, type_in}
 use Rattle.walrus_naming.proofs.Becoming.{named_behind, renamed_ext, renamed_same, renamed_twice}
@@ -21,28 +21,28 @@ abbrev pub given : (Named → Option (ℕ × Name)) → List Named → ℕ → L
 given one [] i = []
 given one (naming ∷ namings) i = given_at (one naming) i ++ given one namings i
 
-once_is : (b : Bool) (name : Name) → named_if b name ≡ named_by (if b then name ∷ [] else [])
+once_is : (b : Bool) (name : Name) → named_if b name ≡ last_given (if b then name ∷ [] else [])
 once_is true name = refl
 once_is false name = refl
 
 module _ {X : Type 0} (mend : (Option Name → Option Name) → X → X) (whole : (x : X) → mend (λ old. old) x ≡ x)
     (twice : (f g : Option Name → Option Name) (x : X) → mend g (mend f x) ≡ mend (λ old. g (f old)) x) where
-  one_given : (naming : Option (ℕ × Name)) (slots : List (Option X)) → renamed_by mend naming slots ≡ renamed_from mend (λ i. named_by (given_at naming i)) 0 slots
-  one_given None slots = sym (renamed_same mend whole (λ i. named_by []) 0 slots (λ n le. refl))
-  one_given (Some naming) slots = renamed_ext mend (λ n. named_if (naming.0 == n) naming.1) (λ i. named_by (given_at (Some naming) i)) (λ n. once_is (naming.0 == n) naming.1) 0 slots
+  one_given : (naming : Option (ℕ × Name)) (slots : List (Option X)) → renamed_by mend naming slots ≡ renamed_from mend (λ i. last_given (given_at naming i)) 0 slots
+  one_given None slots = sym (renamed_same mend whole (λ i. last_given []) 0 slots (λ n le. refl))
+  one_given (Some naming) slots = renamed_ext mend (λ n. named_if (naming.0 == n) naming.1) (λ i. last_given (given_at (Some naming) i)) (λ n. once_is (naming.0 == n) naming.1) 0 slots
 
   module _ (b : Bounds) (field : Shown → List (Option X)) (one : Named → Option (ℕ × Name)) (step : (s : Shown) (naming : Named) → field (once_named b s naming) ≡ renamed_by mend (one naming) (field s)) where
     -- each item has the last name that is given to its place
-    pub all_given : (namings : List Named) (s : Shown) → field (all_named b s namings) ≡ renamed_from mend (λ i. named_by (given one namings i)) 0 (field s)
-    all_given [] s = sym (renamed_same mend whole (λ i. named_by []) 0 (field s) (λ n le. refl))
+    pub all_given : (namings : List Named) (s : Shown) → field (all_named b s namings) ≡ renamed_from mend (λ i. last_given (given one namings i)) 0 (field s)
+    all_given [] s = sym (renamed_same mend whole (λ i. last_given []) 0 (field s) (λ n le. refl))
     all_given (naming ∷ namings) s =
-        let first : ℕ → Option Name → Option Name = λ i. named_by (given_at (one naming) i) in
-        let others : ℕ → Option Name → Option Name = λ i. named_by (given one namings i) in
+        let first : ℕ → Option Name → Option Name = λ i. last_given (given_at (one naming) i) in
+        let others : ℕ → Option Name → Option Name = λ i. last_given (given one namings i) in
         all_given namings (once_named b s naming)
         ∙ ap (renamed_from mend others 0) (step s naming ∙ one_given (one naming) (field s))
         ∙ renamed_twice mend twice first others 0 (field s)
-        ∙ renamed_ext mend (λ n old. others n (first n old)) (λ i. named_by (given one (naming ∷ namings) i)) (λ n. same n) 0 (field s) where
-          same : (n : ℕ) → (λ (old : Option Name). named_by (given one namings n) (named_by (given_at (one naming) n) old)) ≡ named_by (given one (naming ∷ namings) n)
+        ∙ renamed_ext mend (λ n old. others n (first n old)) (λ i. last_given (given one (naming ∷ namings) i)) (λ n. same n) 0 (field s) where
+          same : (n : ℕ) → (λ (old : Option Name). last_given (given one namings n) (last_given (given_at (one naming) n) old)) ≡ last_given (given one (naming ∷ namings) n)
           same n = λ i old. named_behind (given_at (one naming) n) (given one namings n) old i
 
 -- ---- the items of a space
@@ -89,7 +89,7 @@ types_not_given b (n ∷ ns) i le = ap₂ (λ (xs ys : List Name). xs ++ ys) (ty
 
 -- what becomes of the name of an item by these namings
 abbrev pub by : List Named → Space → ℕ → Option Name → Option Name
-by namings space i = named_by (names_given namings (AnItem (space, i)))
+by namings space i = last_given (names_given namings (AnItem (space, i)))
 
 module _ (b : Bounds) (namings : List Named) (s : Shown) where
   abbrev after : Shown
@@ -102,7 +102,7 @@ module _ (b : Bounds) (namings : List Named) (s : Shown) where
     items_after : field after ≡ renamed_from mend (by namings space) 0 (field s)
     items_after =
         all_given mend whole twice b field (λ naming. naming_in naming space) step namings s
-        ∙ renamed_ext mend (λ i. named_by (given (λ naming. naming_in naming space) namings i)) (by namings space) (λ i. ap named_by (items_given space namings i)) 0 (field s)
+        ∙ renamed_ext mend (λ i. last_given (given (λ naming. naming_in naming space) namings i)) (by namings space) (λ i. ap last_given (items_given space namings i)) 0 (field s)
 
   pub functions_after : after.functions ≡ renamed_from mend_function (by namings Functions) 0 s.functions
   functions_after = items_after mend_function (λ x. refl) (λ f g x. refl) Functions (λ t. t.functions) (λ t naming. refl)
@@ -125,14 +125,14 @@ module _ (b : Bounds) (namings : List Named) (s : Shown) where
   pub data_after : after.data_segments ≡ renamed_from mend_data (by namings DataSegments) 0 s.data_segments
   data_after = items_after mend_data (λ x. refl) (λ f g x. refl) DataSegments (λ t. t.data_segments) (λ t naming. refl)
 
-  pub type_names_after : after.type_names ≡ renamed_from mend_type_name (λ i. named_by (given (type_in b) namings i)) 0 s.type_names
+  pub type_names_after : after.type_names ≡ renamed_from mend_type_name (λ i. last_given (given (type_in b) namings i)) 0 s.type_names
   type_names_after = all_given mend_type_name (λ x. refl) (λ f g x. refl) b (λ t. t.type_names) (type_in b) (λ t naming. refl) namings s
 
-  pub locals_after : after.locals ≡ renamed_from mend_local (λ i. named_by (given (local_in b) namings i)) 0 s.locals
+  pub locals_after : after.locals ≡ renamed_from mend_local (λ i. last_given (given (local_in b) namings i)) 0 s.locals
   locals_after = all_given mend_local (λ x. refl) (λ f g x. refl) b (λ t. t.locals) (local_in b) (λ t naming. refl) namings s
 
 -- the module's name
-pub module_after : (b : Bounds) (namings : List Named) (s : Shown) → (all_named b s namings).name ≡ named_by (names_given namings TheModule) s.name
+pub module_after : (b : Bounds) (namings : List Named) (s : Shown) → (all_named b s namings).name ≡ last_given (names_given namings TheModule) s.name
 module_after b [] s = refl
 module_after b (ModuleName name ∷ namings) s = module_after b namings (once_named b s (ModuleName name))
 module_after b (ItemName space i name ∷ namings) s = module_after b namings (once_named b s (ItemName space i name))

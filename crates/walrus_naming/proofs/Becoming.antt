@@ -5,7 +5,7 @@ use Rattle.std.proofs.lemmas.Bool.{eqb-false}
 use mathlib.Core.Path.{fun_ext}
 use Rattle.walrus_base.specs.Arena.{item_at}
 use Rattle.walrus_model.specs.Abstract.{Name}
-use Rattle.walrus_naming.specs.Renamed.{named_by, renamed_from}
+use Rattle.walrus_naming.specs.Renamed.{last_given, renamed_from}
 
 abbrev Becomes : Type 0
 Becomes = Option Name → Option Name
@@ -102,6 +102,6 @@ module _ {X : Type 0} (mend : Becomes → X → X) where
 
 -- ---- one name after another
 
-pub named_behind : (xs ys : List Name) (old : Option Name) → named_by ys (named_by xs old) ≡ named_by (xs ++ ys) old
+pub named_behind : (xs ys : List Name) (old : Option Name) → last_given ys (last_given xs old) ≡ last_given (xs ++ ys) old
 named_behind [] ys old = refl
 named_behind (x ∷ xs) ys old = named_behind xs ys (Some x)

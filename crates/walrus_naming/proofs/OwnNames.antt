@@ -26,7 +26,7 @@ use Rattle.walrus_rules.specs.Namings.{names_given}
 use Rattle.walrus_contents.specs.View as view
 use Rattle.walrus_contents.specs.View.{contents_view, named_of, name_at}
 use Rattle.walrus_contents.specs.declared.parts.Contents.{Contents}
-use Rattle.walrus_naming.specs.Renamed.{named_by, renamed_from}
+use Rattle.walrus_naming.specs.Renamed.{last_given, renamed_from}
 use Rattle.walrus_naming.specs.Shown.{IsRenamed, LocalValue, Shown, local_value, shown, mend_type_name, mend_function, mend_table, mend_memory, mend_tag, mend_global, mend_element, mend_data, mend_local}
 use Rattle.walrus_naming.specs.Synthetic.{filled_if, named_by as all_by, parameters_at, parameters_by, text_of_function, text_of_local}
 use Rattle.walrus_naming.specs.Taken.{Bounds, all_named, place_of, starts_from, that_count, type_in}
@@ -138,16 +138,16 @@ module _ (b : Bounds) (namings : List Named) (old new : Contents) (are : shown n
       ∙ ap (λ (t : Shown). t.name) are
       ∙ field_stays b namings s (λ t. t.name) (λ t fs ls. refl)
       ∙ module_after b namings s
-      ∙ ap (named_by (names_given namings TheModule)) (no_name (name_bytes old.name) none)
+      ∙ ap (last_given (names_given namings TheModule)) (no_name (name_bytes old.name) none)
 
-  type_names_are : type_names new.types ≡ renamed_from mend_type_name (λ i. named_by (given (type_in b) namings i)) 0 s.type_names
+  type_names_are : type_names new.types ≡ renamed_from mend_type_name (λ i. last_given (given (type_in b) namings i)) 0 s.type_names
   type_names_are = ap (λ (t : Shown). t.type_names) are ∙ field_stays b namings s (λ t. t.type_names) (λ t fs ls. refl) ∙ type_names_after b namings s
 
   -- an item that was there, and a type that was read
   pub item_called : (x : Item) → IsLive (contents_view old) x → (x.0 ≡ Types → x.1 < b.types) → named_of old (AnItem x) ≡ []
       → own_name (contents_view new) (AnItem x) ≡ or_else (last_name (names_given namings (AnItem x))) (if b.synthetic then synthetic_name (contents_view old) (AnItem x) else None)
   item_called (Types, i) live read none =
-      named_then mend_type_name (λ n. n) (λ g x. refl) (λ j. named_by (given (type_in b) namings j)) (type_names old.types) (type_names new.types) type_names_are i
+      named_then mend_type_name (λ n. n) (λ g x. refl) (λ j. last_given (given (type_in b) namings j)) (type_names old.types) (type_names new.types) type_names_are i
       (both_there type_def type_name old.types.places.items i live) none
       ∙ ap last_name (types_given b namings i (read refl))
       ∙ or_nothing b.synthetic (last_name (names_given namings (AnItem (Types, i))))
@@ -177,7 +177,7 @@ module _ (b : Bounds) (namings : List Named) (old new : Contents) (are : shown n
   -- a type that was added has no index, and so no name
   pub added_uncalled : (i : ℕ) → b.types ≤ i → named_of old (AnItem (Types, i)) ≡ [] → own_name (contents_view new) (AnItem (Types, i)) ≡ None
   added_uncalled i le none =
-      unnamed_then mend_type_name (λ n. n) (λ g x. refl) (λ j. named_by (given (type_in b) namings j)) (type_names old.types) (type_names new.types) type_names_are i
+      unnamed_then mend_type_name (λ n. n) (λ g x. refl) (λ j. last_given (given (type_in b) namings j)) (type_names old.types) (type_names new.types) type_names_are i
       (ap last_name (types_not_given b namings i le)) none
 
   -- local x of function f, which is at place p; what function it is asked of doesn't matter

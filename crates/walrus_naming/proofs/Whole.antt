@@ -8,7 +8,7 @@ use Rattle.walrus_base.specs.Arena.{item_at}
 use Rattle.walrus_types.specs.Operators.{Functions, Tables, Memories, Tags, Globals, Elements, DataSegments}
 use Rattle.walrus_items.specs.Functions.{FunctionValue}
 use Rattle.walrus_model.specs.Abstract.{Name}
-use Rattle.walrus_naming.specs.Renamed.{named_by, renamed_from}
+use Rattle.walrus_naming.specs.Renamed.{last_given, renamed_from}
 use Rattle.walrus_naming.specs.Shown.{IsRenamed, LocalValue, Shown, mend_function, mend_local}
 use Rattle.walrus_naming.specs.Synthetic.{AreNamed, all_filled, filled_if, finished, named_by as all_by, parameters_at, text_of_function, text_of_local}
 use Rattle.walrus_naming.specs.Taken.{Bounds, TakesNames, all_named, local_in, place_of, starts_from}
@@ -105,8 +105,8 @@ module _ (b : Bounds) (namings : List Named) (s : Shown) where
     elements = field_stays (λ t. t.elements) (λ t fs ls. refl) ∙ elements_after b namings s;
     data_become = by namings DataSegments;
     data_segments = field_stays (λ t. t.data_segments) (λ t fs ls. refl) ∙ data_after b namings s;
-    locals_become = λ p old. finishing.locals_become p (named_by (given (local_in b) namings p) old);
-    locals = finishing.locals ∙ ap (renamed_from mend_local finishing.locals_become 0) (locals_after b namings s) ∙ renamed_twice mend_local (λ f g x. refl) (λ p. named_by (given (local_in b) namings p)) finishing.locals_become 0 s.locals;
+    locals_become = λ p old. finishing.locals_become p (last_given (given (local_in b) namings p) old);
+    locals = finishing.locals ∙ ap (renamed_from mend_local finishing.locals_become 0) (locals_after b namings s) ∙ renamed_twice mend_local (λ f g x. refl) (λ p. last_given (given (local_in b) namings p)) finishing.locals_become 0 s.locals;
     imports = field_stays (λ t. t.imports) (λ t fs ls. refl) ∙ others_after (λ t. t.imports) b (λ t naming. refl) namings s;
     exports = field_stays (λ t. t.exports) (λ t fs ls. refl) ∙ others_after (λ t. t.exports) b (λ t naming. refl) namings s;
     start = field_stays (λ t. t.start) (λ t fs ls. refl) ∙ others_after (λ t. t.start) b (λ t naming. refl) namings s;

@@ -4,8 +4,8 @@ use Rattle.std.specs.List.{last_or}
 use Rattle.walrus_model.specs.Abstract.{Name}
 
 -- the last of these names, or the one that was there
-abbrev pub named_by : List Name → Option Name → Option Name
-named_by names old = last_or old names
+abbrev pub last_given : List Name → Option Name → Option Name
+last_given names old = last_or old names
 
 -- this name where it is meant, else the one that was there
 abbrev pub named_if : Bool → Name → Option Name → Option Name

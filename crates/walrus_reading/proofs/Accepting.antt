@@ -29,7 +29,7 @@ use Rattle.walrus_reading.proofs.Numbered.{stay}
 use Rattle.walrus_reading.proofs.Carrying.{parsed}
 
 -- what sections name is declared, the tables and memories of active segments too
-named_stay : (s : wire.Module) → Rules s → AllStay (declared s) s
+pub named_stay : (s : wire.Module) → Rules s → AllStay (declared s) s
 named_stay s h = stay (declared s) s refl h.indices
 
 module _ (config : Config) (c : Features) (with : IsReadWith config c) (bytes : List ℕ) where

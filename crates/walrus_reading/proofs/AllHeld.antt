@@ -21,7 +21,7 @@ use Rattle.walrus_contents.specs.declared.parts.Contents.{Contents}
 use Rattle.walrus_reading.specs.Held.{HoldsImportedFunction}
 use Rattle.walrus_reading.specs.Placed.{AllPlaced}
 use Rattle.walrus_reading.specs.Taken.{HasTaken}
-use Rattle.walrus_reading.proofs.Held.{HeldFunction, held}
+use Rattle.walrus_reading.proofs.Held.{HeldFunction, held, starts_taken}
 
 -- ---- what imports bring has no body
 
@@ -41,7 +41,7 @@ all_imported i (x ∷ xs) = each_append IsImported (option_to_list (imported_fun
 
 -- ---- slot by slot
 
-module _ (c : Features) (r : wire.Module) (all : ModuleLocals) where
+module _ (c : Features) (r : wire.Module) (starts : List ℕ) (all : ModuleLocals) where
   -- a slot holds this function, which an import brings
   pub record IsBrought (g : Function) (slot : Option FunctionValue) : Type 0 where
     pub value : FunctionValue
@@ -54,7 +54,7 @@ module _ (c : Features) (r : wire.Module) (all : ModuleLocals) where
     pub pair : ℕ × Said
     pub says : g ≡ function_with r pair
     pub text : wire.Body
-    pub holds : HeldFunction (types_of r) (local_types (locals all)) pair slot
+    pub holds : HeldFunction (types_of r) starts (local_types (locals all)) pair slot
     pub read : ReadsBodyWith c r (pair.0, text) pair.1
 
   abbrev pub Fits : Function → Option FunctionValue → Type 0
@@ -66,7 +66,7 @@ module _ (c : Features) (r : wire.Module) (all : ModuleLocals) where
   brought_fit k (g ∷ gs) [] by h = absurd h
   brought_fit k (g ∷ gs) (s ∷ slots) by h = (inl (record { value = h.0.value; is = h.0.is; read = h.0.read all; by = by.0 }), brought_fit (k + 1) gs slots by.1 h.1)
 
-  own_fit : (fs : List ℕ) (bs : List wire.Body) (saids : List Said) (slots : List (Option FunctionValue)) → length bs ≡ length fs → AllZip (ReadsBodyWith c r) (zip fs bs) saids → AllZip (HeldFunction (types_of r) (local_types (locals all))) (zip fs saids) slots
+  own_fit : (fs : List ℕ) (bs : List wire.Body) (saids : List Said) (slots : List (Option FunctionValue)) → length bs ≡ length fs → AllZip (ReadsBodyWith c r) (zip fs bs) saids → AllZip (HeldFunction (types_of r) starts (local_types (locals all))) (zip fs saids) slots
       → AllZip Fits (map (function_with r) (zip fs saids)) slots
   own_fit [] [] [] [] many read h = tt
   own_fit [] [] [] (s ∷ slots) many read h = absurd h
@@ -79,11 +79,11 @@ module _ (c : Features) (r : wire.Module) (all : ModuleLocals) where
       (inr (record { pair = (f, said); says = refl; text = b; holds = h.0; read = read.0 }), own_fit fs bs saids slots (omega (arith, many)) read.1 h.1)
 
 -- all of them
-pub all_fit : (c : Features) (r : wire.Module) (m : Contents) (t : HasTaken c r m) → length r.bodies ≡ length r.functions → AllZip (Fits c r m.locals) (functions_of r t.bodies) (functions m.funcs)
+pub all_fit : (c : Features) (r : wire.Module) (m : Contents) (t : HasTaken c r m) → length r.bodies ≡ length r.functions → AllZip (Fits c r (starts_taken c r m t) m.locals) (functions_of r t.bodies) (functions m.funcs)
 all_fit c r m t many =
     let brought : List Function = imported imported_function 0 r.imports in
     let own : List Function = map (function_with r) (zip r.functions t.bodies) in
-    subst (λ (l : List (Option FunctionValue)). AllZip (Fits c r m.locals) (brought ++ own) l) (sym t.functions.own.behind)
-    (zip_append (Fits c r m.locals) brought own t.functions.front t.functions.own.added
-    (brought_fit c r m.locals 0 brought t.functions.front (all_imported 0 r.imports) t.functions.brings)
-    (own_fit c r m.locals r.functions r.bodies t.bodies t.functions.own.added many t.read (held c r m t)))
+    subst (λ (l : List (Option FunctionValue)). AllZip (Fits c r (starts_taken c r m t) m.locals) (brought ++ own) l) (sym t.functions.own.behind)
+    (zip_append (Fits c r (starts_taken c r m t) m.locals) brought own t.functions.front t.functions.own.added
+    (brought_fit c r (starts_taken c r m t) m.locals 0 brought t.functions.front (all_imported 0 r.imports) t.functions.brings)
+    (own_fit c r (starts_taken c r m t) m.locals r.functions r.bodies t.bodies t.functions.own.added many t.read (held c r m t)))

@@ -50,7 +50,7 @@ use Rattle.walrus_reading.specs.Taken.{HasTaken, tag_types_of}
 use Rattle.walrus_reading.proofs.AllHeld.{Fits, all_fit, all_imported}
 use Rattle.walrus_reading.proofs.ChainHandlers.{HasHandlers, by_numbers, imported_turn, own_turn}
 use Rattle.walrus_reading.proofs.FoundTypes.{all_grown}
-use Rattle.walrus_reading.proofs.Held.{HeldBody, HeldFunction, exported, in_front}
+use Rattle.walrus_reading.proofs.Held.{HeldBody, HeldFunction, exported, in_front, starts_taken}
 use Rattle.walrus_reading.proofs.Rows.{in_turn_append}
 use Rattle.walrus_contents.specs.View.{body, kind_of, handlers_at, function, contents_view, data_of, element_of, global_of, import_of as import_of_value, memory_of, table_of, tag_of}
 use Rattle.walrus_model.proofs.PipelineSame.{data_stays, element_stays, global_stays, import_stays, memory_stays, start_stays, table_stays, tag_stays}
@@ -168,25 +168,25 @@ module _ (moved : ℕ → ℕ → ℕ) where
         within : (xs ys : List (ValType ℕ)) (x : ℕ) → x < length xs + length ys → x < length (xs ++ ys)
         within xs ys x lt = omega (arith, lt, length-append xs ys)
 
-    same_held : (p : ℕ × Said) (b : wire.Body) (slot : Option FunctionValue) (h : HeldFunction (types_of r) (local_types (locals all)) p slot) → ReadsBodyWith c r (p.0, b) p.1 → moved i ≡ (λ n. h.body.first + n)
+    same_held : (starts : List ℕ) (p : ℕ × Said) (b : wire.Body) (slot : Option FunctionValue) (h : HeldFunction (types_of r) starts (local_types (locals all)) p slot) → ReadsBodyWith c r (p.0, b) p.1 → moved i ≡ (λ n. h.body.first + n)
         → BothAnd (SameFunction moving i) (Some (function_with r p)) (option_map (function all) slot)
-    same_held p b slot h read at =
+    same_held starts p b slot h read at =
         let same : SameFunction moving i (function_with r p) (of_kind all (Local h.local)) = record { ty = h.body.typed; kind = same_body p b h.local h.body read at } in
         let known : option_map (function all) slot ≡ Some (of_kind all (Local h.local)) = ap (option_map (function all)) h.is ∙ ap (λ (k : FunctionKind). Some (of_kind all k)) h.kind in
         subst (λ (o : Option Function). BothAnd (SameFunction moving i) (Some (function_with r p)) o) (sym known) same
 
 -- ---- slot by slot
 
-module _ (c : Features) (r : wire.Module) (all : ModuleLocals) where
+module _ (c : Features) (r : wire.Module) (starts : List ℕ) (all : ModuleLocals) where
   abbrev Fit : Function → Option FunctionValue → Type 0
-  Fit g slot = Fits c r all g slot
+  Fit g slot = Fits c r starts all g slot
 
   -- the first local of a function: of one that an import brings it doesn't matter
-  abbrev first_of : (g : Function) (slot : Option FunctionValue) → Fit g slot → ℕ
+  abbrev pub first_of : (g : Function) (slot : Option FunctionValue) → Fit g slot → ℕ
   first_of g slot (inl b) = 0
   first_of g slot (inr o) = o.holds.body.first
 
-  first_at : (gs : List Function) (slots : List (Option FunctionValue)) → AllZip Fit gs slots → ℕ → ℕ
+  pub first_at : (gs : List Function) (slots : List (Option FunctionValue)) → AllZip Fit gs slots → ℕ → ℕ
   first_at [] [] h i = 0
   first_at [] (s ∷ slots) h i = absurd h
   first_at (g ∷ gs) [] h i = absurd h
@@ -194,7 +194,7 @@ module _ (c : Features) (r : wire.Module) (all : ModuleLocals) where
   first_at (g ∷ gs) (s ∷ slots) h (suc i) = first_at gs slots h.1 i
 
   -- function i is held
-  record HeldAt (gs : List Function) (slots : List (Option FunctionValue)) (first : ℕ) (i : ℕ) : Type 0 where
+  pub record HeldAt (gs : List Function) (slots : List (Option FunctionValue)) (first : ℕ) (i : ℕ) : Type 0 where
     pub said : Function
     pub got : slice_get gs i ≡ Some said
     pub slot : Option FunctionValue
@@ -202,7 +202,7 @@ module _ (c : Features) (r : wire.Module) (all : ModuleLocals) where
     pub fits : Fit said slot
     pub same : first ≡ first_of said slot fits
 
-  held_at : (gs : List Function) (slots : List (Option FunctionValue)) (h : AllZip Fit gs slots) (i : ℕ) → i < length gs → HeldAt gs slots (first_at gs slots h i) i
+  pub held_at : (gs : List Function) (slots : List (Option FunctionValue)) (h : AllZip Fit gs slots) (i : ℕ) → i < length gs → HeldAt gs slots (first_at gs slots h i) i
   unfolding first_at
   held_at [] slots h i lt = absurd (omega arith)
   held_at (g ∷ gs) [] h i lt = absurd h
@@ -224,14 +224,14 @@ module _ (c : Features) (r : wire.Module) (all : ModuleLocals) where
       let same : SameFunction (moving moved) i g g = record { ty = refl; kind = subst (λ (k : abstract.FunctionKind). SameKind (moving moved) i k k) (sym b.by.1) refl } in
       subst (λ (o : Option Function). BothAnd (SameFunction (moving moved) i) (Some g) o) (sym known) same
   carried moved i g slot (inr o) at =
-      subst (λ (f : Function). BothAnd (SameFunction (moving moved) i) (Some f) (option_map (function all) slot)) (sym o.says) (same_held moved all c r i o.pair o.text slot o.holds o.read at)
+      subst (λ (f : Function). BothAnd (SameFunction (moving moved) i) (Some f) (option_map (function all) slot)) (sym o.says) (same_held moved all c r i starts o.pair o.text slot o.holds o.read at)
 
 pub item_within : {A : Type 0} (xs : List (Option A)) (i : ℕ) → IsSome (item_at xs i) → i < length xs
 item_within [] i h = absurd (none_there h)
 item_within (x ∷ xs) zero h = omega arith
 item_within (x ∷ xs) (suc i) h = let lt : i < length xs = item_within xs i h in omega (arith, lt)
 
-got_within : {A : Type 0} (xs : List A) (i : ℕ) → IsSome (slice_get xs i) → i < length xs
+pub got_within : {A : Type 0} (xs : List A) (i : ℕ) → IsSome (slice_get xs i) → i < length xs
 got_within [] i h = absurd (none_there h)
 got_within (x ∷ xs) zero h = omega arith
 got_within (x ∷ xs) (suc i) h = let lt : i < length xs = got_within xs i h in omega (arith, lt)
@@ -294,21 +294,21 @@ module _ (moved : ℕ → ℕ → ℕ) (all : ModuleLocals) (c : Features) (r : 
 
 -- ---- the body of each function
 
-held_body : (all : ModuleLocals) (r : wire.Module) (slot : Option FunctionValue) (p : ℕ × Said) (k : HeldFunction (types_of r) (local_types (locals all)) p slot) → body_of_function (option_map (function all) slot) ≡ Some (body all k.local)
-held_body all r slot p k = ap body_of_function (ap (option_map (function all)) k.is ∙ ap (λ (o : FunctionKind). Some (of_kind all o)) k.kind)
+held_body : (all : ModuleLocals) (r : wire.Module) (starts : List ℕ) (slot : Option FunctionValue) (p : ℕ × Said) (k : HeldFunction (types_of r) starts (local_types (locals all)) p slot) → body_of_function (option_map (function all) slot) ≡ Some (body all k.local)
+held_body all r starts slot p k = ap body_of_function (ap (option_map (function all)) k.is ∙ ap (λ (o : FunctionKind). Some (of_kind all o)) k.kind)
 
-module _ (c : Features) (r : wire.Module) (all : ModuleLocals) (moved : ℕ → ℕ → ℕ) (f : ℕ) (a b : Body) where
-  whole_at : (g : Function) (slot : Option FunctionValue) (fits : Fits c r all g slot) → moved f ≡ (λ n. first_of c r all g slot fits + n) → body_of_kind g.kind ≡ Some a → body_of_function (option_map (function all) slot) ≡ Some b → IsWholeBody (moving moved) f a b
+module _ (c : Features) (r : wire.Module) (starts : List ℕ) (all : ModuleLocals) (moved : ℕ → ℕ → ℕ) (f : ℕ) (a b : Body) where
+  whole_at : (g : Function) (slot : Option FunctionValue) (fits : Fits c r starts all g slot) → moved f ≡ (λ n. first_of c r starts all g slot fits + n) → body_of_kind g.kind ≡ Some a → body_of_function (option_map (function all) slot) ≡ Some b → IsWholeBody (moving moved) f a b
   whole_at g slot (inl q) at was is = absurd (let no : ◌≡◌ {A = Option Body} None (Some a) = sym (ap body_of_kind q.by.1) ∙ was in cc)
   whole_at g slot (inr o) at was is =
       let params = params_of (types_of r o.pair.0) in
       let old : body_with params o.pair.1 ≡ a = some_inj (body_with params o.pair.1) a (sym (ap (λ (y : Function). body_of_kind y.kind) o.says) ∙ was) in
-      let new : body all o.holds.local ≡ b = some_inj (body all o.holds.local) b (sym (held_body all r slot o.pair o.holds) ∙ is) in
+      let new : body all o.holds.local ≡ b = some_inj (body all o.holds.local) b (sym (held_body all r starts slot o.pair o.holds) ∙ is) in
       subst (λ (y : Body). IsWholeBody (moving moved) f a y) new
       (subst (λ (y : Body). IsWholeBody (moving moved) f y (body all o.holds.local)) old
       (whole moved all c r f o.pair o.text o.holds.local o.holds.body o.read at))
 
-function_by : (o : Option Function) (a : Body) → body_of_function o ≡ Some a → (g : Function) × (o ≡ Some g) × (body_of_kind g.kind ≡ Some a)
+pub function_by : (o : Option Function) (a : Body) → body_of_function o ≡ Some a → (g : Function) × (o ≡ Some g) × (body_of_kind g.kind ≡ Some a)
 function_by (Some g) a e = (g, refl, e)
 function_by None a e = absurd (let no : ◌≡◌ {A = Option Body} None (Some a) = e in cc)
 
@@ -349,27 +349,30 @@ module _ (c : Features) (r : wire.Module) (x : Contents) (many : length r.bodies
   abbrev types : List TypeDef
   types = types_from 0 r.types
 
-  abbrev fit : AllZip (Fits c r all) said slots
+  abbrev starts : List ℕ
+  starts = starts_taken c r x h
+
+  abbrev fit : AllZip (Fits c r starts all) said slots
   fit = all_fit c r x h many
 
   -- a function's locals begin where its first one stands
   abbrev moved : ℕ → ℕ → ℕ
-  moved i n = first_at c r all said slots fit i + n
+  moved i n = first_at c r starts all said slots fit i + n
 
   abbrev further : ℕ → ℕ → ℕ
   further k n = k + n
 
   function_carried : (i : ℕ) → IsSome (M.functions i) → BothAnd (SameFunction (moving moved) i) (M.functions i) (v.functions i)
   function_carried i live =
-      let a = held_at c r all said slots fit i (got_within said i live) in
+      let a = held_at c r starts all said slots fit i (got_within said i live) in
       subst (λ (o : Option Function). BothAnd (SameFunction (moving moved) i) o (v.functions i)) (sym a.got)
       (subst (λ (s : Option FunctionValue). BothAnd (SameFunction (moving moved) i) (Some a.said) (option_map (function all) s)) (sym a.at)
-      (carried c r all moved i a.said a.slot a.fits (ap further a.same)))
+      (carried c r starts all moved i a.said a.slot a.fits (ap further a.same)))
 
   function_there : (i : ℕ) → IsSome (v.functions i) → IsSome (M.functions i)
   function_there i live =
       let lt : i < length slots = item_within slots i (was_some (function all) (item_at slots i) live) in
-      let as_many : length said ≡ length slots = zip_length (Fits c r all) said slots fit in
+      let as_many : length said ≡ length slots = zip_length (Fits c r starts all) said slots fit in
       there said i (omega (arith, lt, as_many))
 
   -- ---- types: those that were read, and behind them those that were added
@@ -421,9 +424,9 @@ module _ (c : Features) (r : wire.Module) (x : Contents) (many : length r.bodies
   whole_bodies : (f : ℕ) (a b : Body) → body_of M f ≡ Some a → body_of v f ≡ Some b → IsWholeBody (moving moved) f a b
   whole_bodies f a b was is =
       let s = function_by (slice_get said f) a was in
-      let k = held_at c r all said slots fit f (got_in said f s.0 s.1).0 in
+      let k = held_at c r starts all said slots fit f (got_in said f s.0 s.1).0 in
       let one : k.said ≡ s.0 = some_inj k.said s.0 (sym k.got ∙ s.1) in
-      whole_at c r all moved f a b k.said k.slot k.fits (ap further k.same) (ap (λ (g : Function). body_of_kind g.kind) one ∙ s.2)
+      whole_at c r starts all moved f a b k.said k.slot k.fits (ap further k.same) (ap (λ (g : Function). body_of_kind g.kind) one ∙ s.2)
       (sym (ap (λ (o : Option FunctionValue). body_of_function (option_map (function all) o)) k.at) ∙ is)
 
   -- ---- nothing is named
@@ -454,7 +457,7 @@ module _ (c : Features) (r : wire.Module) (x : Contents) (many : length r.bodies
     functions_read = λ f. (got_within said f, there said f);
     handlers = adds;
     types_made = type_at;
-    no_handlers = λ f past. past_handled c r all said slots f fit past;
+    no_handlers = λ f past. past_handled c r starts all said slots f fit past;
     renaming = moving moved;
     carried = record {
       types = record { same = type_carried; onto = λ j live. type_onto j (nat_lt j (length types)) refl live };
@@ -488,3 +491,14 @@ module _ (c : Features) (r : wire.Module) (x : Contents) (many : length r.bodies
     added = λ i past. ap last_name (nothing_named c _ x h (AnItem (Types, i)));
     locals = λ f b y is typed. nameless config own_names (ALocal f y) (ALocal f (moved f y));
   }
+
+  module _ (config : Config) (own_names : config.synthetic_names ≡ false) (on_tables : (table segment : ℕ) → length (tables_of r) ≤ table → table_keeps (elements_of r) table segment ≡ false)
+      (on_memories : (memory segment : ℕ) → length (memories_of r) ≤ memory → memory_keeps (data_segments_of r) memory segment ≡ false) (cs : List Custom) (kept : cs ≡ customs_of r.customs) (put_in : v.producers ≡ produced ps) where
+    -- the types that were read, and where each local is put
+    pub parsed_types : (parsed config own_names on_tables on_memories cs kept put_in).types ≡ types
+    unfolding parsed
+    parsed_types = refl
+
+    pub parsed_places : (parsed config own_names on_tables on_memories cs kept put_in).renaming ≡ moving moved
+    unfolding parsed
+    parsed_places = refl

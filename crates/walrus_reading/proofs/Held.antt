@@ -23,8 +23,10 @@ use Rattle.walrus_model.specs.Abstract.{Export}
 use Rattle.walrus_model.specs.Sections.{Said, types_of, export_of}
 use Rattle.walrus_contents.specs.View as view
 use Rattle.walrus_contents.specs.declared.parts.Contents.{Contents}
+use Rattle.walrus_naming.specs.Taken.{place_of, starts_from}
 use Rattle.walrus_reading.specs.Placed.{AllPlaced}
-use Rattle.walrus_reading.specs.Taken.{HasTaken, HoldsExport, HoldsLocal, HoldFunctions, locals_said}
+use Rattle.walrus_reading.specs.Taken.{HasTaken, HoldsExport, HoldsLocal, HoldFunctions, local_counts, locals_said, starts_of}
+use Rattle.walrus_reading.proofs.LocalStarts.{place_first, place_own}
 use Rattle.wasm_entries.specs.Record as entries
 use Rattle.wasm_frames.specs.Record as wire
 
@@ -36,12 +38,14 @@ pub record HeldBody (slots : List (Option (ValType ℕ))) (ty : ℕ) (params : L
   pub local_types : (x : ℕ) → x < length (params ++ body.0) → item_at slots (first + x) ≡ slice_get (params ++ body.0) x
   pub operators : body_of f ≡ map (moved_op first) body.1
 
-pub record HeldFunction (types : ℕ → Option TypeDef) (slots : List (Option (ValType ℕ))) (f : ℕ × Said) (slot : Option FunctionValue) : Type 0 where
+-- a slot holds such a function, whose locals stand where these starts say
+pub record HeldFunction (types : ℕ → Option TypeDef) (starts : List ℕ) (slots : List (Option (ValType ℕ))) (f : ℕ × Said) (slot : Option FunctionValue) : Type 0 where
   pub value : FunctionValue
   pub is : slot ≡ Some value
   pub local : LocalFunction
   pub kind : value.kind ≡ variants.Local local
   pub body : HeldBody slots f.0 (params_of (types f.0)) f.1 local
+  pub places : (x : ℕ) → x < length (locals_said types f) → place_of starts value.id x ≡ Some (body.first + x)
 
 -- ---- lists
 
@@ -71,15 +75,19 @@ locals_typed k (t ∷ types) (s ∷ slots) h =
 
 -- ---- functions
 
-module _ (types : ℕ → Option TypeDef) (all : List (Option (ValType ℕ))) where
+module _ (types : ℕ → Option TypeDef) (starts : List ℕ) (all : List (Option (ValType ℕ))) where
   abbrev row : List (ℕ × Said) → List (ValType ℕ)
   row ps = flat_map (locals_said types) ps
 
-  each_held : (front : List (ValType ℕ)) (id first : ℕ) (ps : List (ℕ × Said)) (slots : List (Option FunctionValue)) → all ≡ map Some (front ++ row ps) → length front ≡ first → HoldFunctions types id first ps slots → AllZip (HeldFunction types all) ps slots
-  each_held front id first [] [] is long h = tt
-  each_held front id first [] (s ∷ slots) is long h = absurd h
-  each_held front id first (p ∷ ps) [] is long h = absurd h
-  each_held front id first (p ∷ ps) (s ∷ slots) is long h =
+  -- from a function on, the starts are those of these functions
+  abbrev StandFrom : ℕ → ℕ → List (ℕ × Said) → Type 0
+  StandFrom id first ps = (j x : ℕ) → place_of starts (id + j) x ≡ place_of (starts_from first (local_counts types ps)) j x
+
+  each_held : (front : List (ValType ℕ)) (id first : ℕ) (ps : List (ℕ × Said)) (slots : List (Option FunctionValue)) → all ≡ map Some (front ++ row ps) → length front ≡ first → StandFrom id first ps → HoldFunctions types id first ps slots → AllZip (HeldFunction types starts all) ps slots
+  each_held front id first [] [] is long stand h = tt
+  each_held front id first [] (s ∷ slots) is long stand h = absurd h
+  each_held front id first (p ∷ ps) [] is long stand h = absurd h
+  each_held front id first (p ∷ ps) (s ∷ slots) is long stand h =
       let own : List (ValType ℕ) = locals_said types p in (
         record {
           value = record { id = id; kind = variants.Local h.0.local; name = None };
@@ -96,8 +104,12 @@ module _ (types : ℕ → Option TypeDef) (all : List (Option (ValType ℕ))) wh
                 ∙ in_front own (row ps) x lt;
             operators = h.0.body.operators;
           };
+          places = λ x lt.
+              let here : id ≡ id + 0 = omega arith in
+              ap (λ (n : ℕ). place_of starts n x) here ∙ stand 0 x ∙ place_first first (length own) (local_counts types ps) x lt;
         },
-        each_held (front ++ own) (id + 1) (first + length own) ps slots (is ∙ ap (map Some) (sym (append_assoc front own (row ps)))) (length-append front own ∙ ap (λ (n : ℕ). n + length own) long) h.1,
+        each_held (front ++ own) (id + 1) (first + length own) ps slots (is ∙ ap (map Some) (sym (append_assoc front own (row ps)))) (length-append front own ∙ ap (λ (n : ℕ). n + length own) long)
+            (λ j x. let next : id + 1 + j ≡ id + suc j = omega arith in ap (λ (n : ℕ). place_of starts n x) next ∙ stand (suc j) x) h.1,
       )
 
 -- ---- exports
@@ -113,10 +125,15 @@ exports_seen k n (e ∷ es) (s ∷ slots) h =
 -- ---- all
 
 module _ (c : Features) (r : wire.Module) (m : Contents) (t : HasTaken c r m) where
-  pub held : AllZip (HeldFunction (types_of r) (local_types (locals m.locals))) (zip r.functions t.bodies) t.functions.own.added
+  -- where the locals of each function begin
+  abbrev pub starts_taken : List ℕ
+  starts_taken = starts_of (types_of r) (length t.functions.front) (zip r.functions t.bodies)
+
+  pub held : AllZip (HeldFunction (types_of r) starts_taken (local_types (locals m.locals))) (zip r.functions t.bodies) t.functions.own.added
   held =
       let all : List (ℕ × Said) = zip r.functions t.bodies in
-      each_held (types_of r) (local_types (locals m.locals)) [] (length t.functions.front) 0 all t.functions.own.added (locals_typed 0 (flat_map (locals_said (types_of r)) all) (locals m.locals) t.locals) refl t.functions.own.held
+      each_held (types_of r) starts_taken (local_types (locals m.locals)) [] (length t.functions.front) 0 all t.functions.own.added (locals_typed 0 (flat_map (locals_said (types_of r)) all) (locals m.locals) t.locals) refl
+      (place_own (types_of r) (length t.functions.front) all) t.functions.own.held
 
   pub exported : view.exports_of m.exports ≡ map export_of r.exports
   exported = exports_seen 0 0 r.exports (exports m.exports) t.exports

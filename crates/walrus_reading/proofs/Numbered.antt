@@ -90,7 +90,7 @@ one_type i (descs.Memory l) = refl
 one_type i (descs.Global g) = refl
 one_type i (descs.Tag ty) = refl
 
-types_many : (i : ℕ) (xs : List entries.Import) → length (imported imported_type i xs) ≡ length (imported imported_function i xs)
+pub types_many : (i : ℕ) (xs : List entries.Import) → length (imported imported_type i xs) ≡ length (imported imported_function i xs)
 types_many i [] = refl
 types_many i (x ∷ xs) =
     omega (

@@ -1,6 +1,6 @@
 -- A function whose body was read, among the functions and locals of a module.
 use Rattle.std.proofs.Common.{◌≡◌, ℕ, ◌+◌, ◌<◌, ◌≤◌, List, [], ◌∷◌, ◌++◌, length, map, flat_map, take, get_or, refl, sym, ap, ap₂, subst, ◌∙◌, arith, append_assoc, append-nil, length-append}
-use Rattle.std.specs.Prelude.{Option, Some, None, Result, Err, zip}
+use Rattle.std.specs.Prelude.{Option, Some, None, Result, Err, replicate, zip}
 use Rattle.std.specs.List.{AllZip, range_with_len}
 use Rattle.std.proofs.lemmas.Grind.{flat_map-append}
 use Rattle.std.proofs.lemmas.List.{length-map, get_or-map, map-append}
@@ -34,6 +34,7 @@ use Rattle.walrus_reading.specs.Taken.{AddsHandlersOf, AddsLocalsOf, AreTaken, H
 use Rattle.walrus_reading.proofs.Grown.{handlers_moved}
 use Rattle.walrus_reading.proofs.Placed.{held_push, new_placed}
 use Rattle.walrus_reading.proofs.Rows.{in_turn_append, placed_append, placed_length}
+use Rattle.walrus_reading.proofs.LocalStarts.{one_more_start}
 use Rattle.wasm_frames.specs.declared.record.RawBody.{RawBody}
 use Rattle.wasm_frames.specs.Record as wire
 
@@ -101,9 +102,9 @@ module _ (c : Context) (tags : ℕ → Option ℕ) (f : ℕ × wire.Body) (ty : 
 -- ---- one function after another
 
 -- one more function behind those that are taken
-more_taken : (c : Context) (types : ℕ → Option TypeDef) (tags : ℕ → Option ℕ) (first now next : Slots) (fs : List (ℕ × wire.Body)) (all new : List (Option Local)) (old slots after : List (Option FunctionValue)) (f : ℕ × wire.Body) (slot : Option FunctionValue)
-    → AreTaken c types tags fs all first now old slots → after ≡ slots ++ slot ∷ [] → IsTaken c types tags (length slots) now next all new f slot → AreTaken c types tags (fs ++ f ∷ []) new first next old after
-more_taken c types tags first now next fs all new old slots after f slot done push t =
+more_taken : (c : Context) (types : ℕ → Option TypeDef) (tags : ℕ → Option ℕ) (first now next : Slots) (fs : List (ℕ × wire.Body)) (all new : List (Option Local)) (old slots after : List (Option FunctionValue)) (f : ℕ × wire.Body) (slot : Option FunctionValue) (starts ends : List ℕ)
+    → AreTaken c types tags fs all first now old slots starts → after ≡ slots ++ slot ∷ [] → IsTaken c types tags (length slots) now next all new f slot → ends ≡ starts ++ length new ∷ [] → AreTaken c types tags (fs ++ f ∷ []) new first next old after ends
+more_taken c types tags first now next fs all new old slots after f slot starts ends done push t counted =
     let p : ℕ × Said = (f.0, t.said) in
     let own : List (ValType ℕ) = locals_said types p in
     let added : List (Option FunctionValue) = done.functions.added in
@@ -112,6 +113,8 @@ more_taken c types tags first now next fs all new old slots after f slot done pu
     let here : length all ≡ length (flat_map (locals_said types) done.said) = sym (placed_length HoldsLocal 0 (flat_map (locals_said types) done.said) all done.locals) in
     let placed : AllPlaced HoldsLocal 0 (flat_map (locals_said types) done.said ++ own) (all ++ t.added.0) =
     placed_append HoldsLocal 0 (length all) (flat_map (locals_said types) done.said) all own t.added.0 (omega arith) done.locals t.added.1.1 in
+    let long : length (flat_map (locals_said types) (done.said ++ p ∷ [])) ≡ length new =
+    ap length row ∙ placed_length HoldsLocal 0 (flat_map (locals_said types) done.said ++ own) (all ++ t.added.0) placed ∙ ap length (sym t.added.1.0) in
     record {
       said = done.said ++ p ∷ [];
       read = zip_push (IsSaid c types) fs done.said f p done.read (refl, t.read);
@@ -123,6 +126,7 @@ more_taken c types tags first now next fs all new old slots after f slot done pu
       locals = subst (λ (l : List (Option Local)). AllPlaced HoldsLocal 0 (flat_map (locals_said types) (done.said ++ p ∷ [])) l) (sym t.added.1.0)
           (subst (λ (ts : List (ValType ℕ)). AllPlaced HoldsLocal 0 ts (all ++ t.added.0)) (sym row) placed);
       handlers = in_turn_append (AddsHandlersOf types tags) done.said added (p ∷ []) (slot ∷ []) first now next done.handlers (next, (t.handlers, refl));
+      starts_are = counted ∙ ap (λ (l : List ℕ). l ++ length new ∷ []) done.starts_are ∙ sym (one_more_start types (length old) done.said p (length new) long);
     }
 
 module _ (c : Context) (types : ℕ → Option TypeDef) (tags : ℕ → Option ℕ) (fs : List ℕ) (raw : List RawBody) (many : length raw ≡ length fs) where
@@ -135,25 +139,33 @@ module _ (c : Context) (types : ℕ → Option TypeDef) (tags : ℕ → Option �
   body_at : (i : ℕ) (e : RawBody) → i < length fs → get_or (map wire.body_record raw) i (wire.body_record e) ≡ wire.body_record (get_or raw i e)
   body_at i e lt = get_or-map wire.body_record raw i e (wire.body_record e) (omega (arith, lt, many))
 
-  pub none_taken : (first : Slots) (all : List (Option Local)) (old slots : List (Option FunctionValue)) → all ≡ [] → slots ≡ old → AreTaken c types tags (take 0 (zip fs (map wire.body_record raw))) all first first old slots
-  none_taken first all old slots no_locals same =
-      subst (λ (l : List (Option Local)). AreTaken c types tags [] l first first old slots) (sym no_locals)
-      (record { said = []; read = tt; functions = record { added = []; behind = same ∙ sym (append-nil old); held = tt }; locals = tt; handlers = refl })
+  pub none_taken : (first : Slots) (all : List (Option Local)) (old slots : List (Option FunctionValue)) → all ≡ [] → slots ≡ old → (starts : List ℕ) → starts ≡ replicate (length slots) 0 ++ 0 ∷ [] → AreTaken c types tags (take 0 (zip fs (map wire.body_record raw))) all first first old slots starts
+  none_taken first all old slots no_locals same starts begun =
+      subst (λ (l : List (Option Local)). AreTaken c types tags [] l first first old slots starts) (sym no_locals)
+      (record {
+        said = [];
+        read = tt;
+        functions = record { added = []; behind = same ∙ sym (append-nil old); held = tt };
+        locals = tt;
+        handlers = refl;
+        starts_are = begun ∙ ap (λ (l : List (Option FunctionValue)). replicate (length l) 0 ++ 0 ∷ []) same;
+      })
 
   -- one more function is taken
-  pub one_more : (i : ℕ) (d : ℕ) (e : RawBody) (first now next : Slots) (all new : List (Option Local)) (old before after : List (Option FunctionValue)) → i < length fs
-      → AreTaken c types tags (take i (zip fs (map wire.body_record raw))) all first now old before
-      → (slot : Option FunctionValue) → after ≡ before ++ slot ∷ [] → IsTaken c types tags (length before) now next all new (get_or fs i d, wire.body_record (get_or raw i e)) slot
-      → AreTaken c types tags (take (i + 1) (zip fs (map wire.body_record raw))) new first next old after
-  one_more i d e first now next all new old before after lt done slot push is =
+  pub one_more : (i : ℕ) (d : ℕ) (e : RawBody) (first now next : Slots) (all new : List (Option Local)) (old before after : List (Option FunctionValue)) (starts ends : List ℕ) → i < length fs
+      → AreTaken c types tags (take i (zip fs (map wire.body_record raw))) all first now old before starts
+      → (slot : Option FunctionValue) → after ≡ before ++ slot ∷ [] → IsTaken c types tags (length before) now next all new (get_or fs i d, wire.body_record (get_or raw i e)) slot → ends ≡ starts ++ length new ∷ []
+      → AreTaken c types tags (take (i + 1) (zip fs (map wire.body_record raw))) new first next old after ends
+  one_more i d e first now next all new old before after starts ends lt done slot push is counted =
       let more : take (i + 1) pairs ≡ take i pairs ++ (get_or fs i d, wire.body_record (get_or raw i e)) ∷ [] =
       pairs_more fs (map wire.body_record raw) i d (wire.body_record e) as_many lt ∙ ap (λ (b : wire.Body). take i pairs ++ (get_or fs i d, b) ∷ []) (body_at i e lt) in
-      subst (λ (l : List (ℕ × wire.Body)). AreTaken c types tags l new first next old after) (sym more)
-      (more_taken c types tags first now next (take i pairs) all new old before after (get_or fs i d, wire.body_record (get_or raw i e)) slot done push is)
+      subst (λ (l : List (ℕ × wire.Body)). AreTaken c types tags l new first next old after ends) (sym more)
+      (more_taken c types tags first now next (take i pairs) all new old before after (get_or fs i d, wire.body_record (get_or raw i e)) slot starts ends done push is counted)
 
   -- all are
-  pub all_taken : (i : ℕ) (first now : Slots) (all : List (Option Local)) (old after : List (Option FunctionValue)) → length fs ≤ i → AreTaken c types tags (take i (zip fs (map wire.body_record raw))) all first now old after → AreTaken c types tags (zip fs (map wire.body_record raw)) all first now old after
-  all_taken i first now all old after le done = subst (λ (l : List (ℕ × wire.Body)). AreTaken c types tags l all first now old after) (pairs_all fs (map wire.body_record raw) i as_many le) done
+  pub all_taken : (i : ℕ) (first now : Slots) (all : List (Option Local)) (old after : List (Option FunctionValue)) (starts : List ℕ) → length fs ≤ i → AreTaken c types tags (take i (zip fs (map wire.body_record raw))) all first now old after starts
+      → AreTaken c types tags (zip fs (map wire.body_record raw)) all first now old after starts
+  all_taken i first now all old after starts le done = subst (λ (l : List (ℕ × wire.Body)). AreTaken c types tags l all first now old after starts) (pairs_all fs (map wire.body_record raw) i as_many le) done
 
   -- one isn't
   pub one_refused : (i : ℕ) (d : ℕ) (e : RawBody) (now next : Slots) (old new : List (Option Local)) (others : ModuleLocals) (early late : Slots) (before after first last : List (Option FunctionValue)) (error : Error) → i < length fs

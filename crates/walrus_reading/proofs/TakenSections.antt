@@ -1,6 +1,7 @@
 -- The fields of a module that took in all sections.
 use Rattle.std.proofs.Common.{◌≡◌, ℕ, true, List, [], length, map, get_or, sym, ap, subst, ◌∙◌}
-use Rattle.std.specs.Prelude.{Option, Some, Result, Err, All, flat_map, option_map, zip}
+use Rattle.std.specs.Prelude.{Option, Some, Result, Err, Vec, All, flat_map, option_map, zip}
+use Rattle.std.specs.declared.alloc.Global.{Global}
 use Rattle.walrus_base.specs.Arena.{item_at}
 use Rattle.walrus_base.specs.Id.{place}
 use Rattle.walrus_types.specs.ModuleTypes.{type_slots}
@@ -21,20 +22,20 @@ use Rattle.walrus_items.specs.Exports.{exports}
 use Rattle.walrus_items.specs.Functions.{FunctionValue, functions}
 use Rattle.walrus_groups.specs.Groups.{types_from}
 use Rattle.walrus_model.specs.Reads.{declared, is_function, context_with}
-use Rattle.walrus_model.specs.Sections.{Said, data_segments_of, elements_of, global_of, imported, imported_global, imports_after, memories_of, tables_of, tags_of, types_of}
+use Rattle.walrus_model.specs.Sections.{Said, data_segments_of, elements_of, global_of, imported, imported_function, imported_global, imports_after, memories_of, tables_of, tags_of, types_of}
 use Rattle.walrus_items.specs.Imports.{imports}
 use Rattle.walrus_items.specs.Globals.{globals}
 use Rattle.walrus_items.specs.Memories.{memories}
 use Rattle.walrus_items.specs.Tables.{tables}
 use Rattle.walrus_items.specs.Tags.{tags}
 use Rattle.walrus_contents.specs.declared.parts.Contents.{Contents}
-use Rattle.walrus_reading.specs.Held.{HoldsData, HoldsElement, HoldsGlobal, HoldsImport, HoldsMemory, HoldsTable, HoldsTag, memory_keeps, table_keeps}
+use Rattle.walrus_reading.specs.Held.{HoldsData, HoldsElement, HoldsGlobal, HoldsImport, HoldsImportedFunction, HoldsMemory, HoldsTable, HoldsTag, memory_keeps, table_keeps}
 use Rattle.walrus_reading.specs.Imported.{HoldsImported}
 use Rattle.walrus_reading.specs.Placed.{AddsPlaced, AllPlaced, InTurn}
-use Rattle.walrus_reading.specs.Taken.{AddsFunctions, AreTaken, HasTaken, HoldsExport, HoldsHandlers, HoldsLocal, TakesFunctions, TakesSections, locals_said, tag_types_of}
+use Rattle.walrus_reading.specs.Taken.{AddsFunctions, AreTaken, HasTaken, HasTakenWith, HoldsExport, HoldsHandlers, HoldsLocal, TakesFunctions, TakesSections, locals_said, starts_of, tag_types_of}
 use Rattle.walrus_contents.proofs.Steps.{same_types, same_functions}
 use Rattle.walrus_reading.proofs.FoundTypes.{all_found, all_unnamed}
-use Rattle.walrus_reading.proofs.Rows.{placed_more}
+use Rattle.walrus_reading.proofs.Rows.{placed_length, placed_more}
 use Rattle.walrus_reading.proofs.TakenBody.{saids_of}
 use Rattle.walrus_parts.specs.declared.error.Error.{Error}
 use Rattle.walrus_parts.specs.declared.error.Error.TheVariants as Parts
@@ -50,10 +51,10 @@ module _ (c : Features) (r : wire.Module) (indices : IndicesToIds) (ts : ModuleT
   same_context = ap (λ n. context n (is_function_at ts) c) names ∙ ap (λ p. context (declared r) p c) (same_functions r ts typed)
 
   module _ (tags : ℕ → Option ℕ) (same_tags : tags ≡ tag_types_of r) (fs : List ℕ) (bs : List wire.Body) (same_fs : fs ≡ r.functions) (same_bs : bs ≡ r.bodies) (all : ModuleLocals) (first last : Slots) (old new : List (Option FunctionValue)) where
-    abbrev Takes : Context → (ℕ → Option TypeDef) → (ℕ → Option ℕ) → List (ℕ × wire.Body) → Result (Unit {0}) Error → Type 0
+    abbrev Takes : Context → (ℕ → Option TypeDef) → (ℕ → Option ℕ) → List (ℕ × wire.Body) → Result (Vec ℕ Global) Error → Type 0
     Takes x types ts fs result = TakesFunctions x types ts fs all first last old new result
 
-    pub under_sections : (result : Result (Unit {0}) Error) → TakesFunctions (context (ids_at indices) (is_function_at ts) c) (item_at (type_slots ts)) tags (zip fs bs) all first last old new result
+    pub under_sections : (result : Result (Vec ℕ Global) Error) → TakesFunctions (context (ids_at indices) (is_function_at ts) c) (item_at (type_slots ts)) tags (zip fs bs) all first last old new result
         → TakesFunctions (context_with c r) (types_of r) (tag_types_of r) (zip r.functions r.bodies) all first last old new result
     under_sections result h =
         subst (λ (x : Context). Takes x (types_of r) (tag_types_of r) (zip r.functions r.bodies) result) same_context
@@ -72,18 +73,18 @@ module _ (c : Features) (r : wire.Module) (indices : IndicesToIds) (ts : ModuleT
 
 -- what is added behind imports, and then the segments, which tables and memories keep, is all that the module holds
 module _ (c : Features) (r : wire.Module) (m b : Contents) (held : HoldsImported r b) where
-  pub sections_taken : length r.bodies ≡ length r.functions
-      → AreTaken (context_with c r) (types_of r) (tag_types_of r) (zip r.functions r.bodies) (locals m.locals) (slots_of b.types) (slots_of m.types) (functions b.funcs) (functions m.funcs)
+  pub sections_taken : (starts : List ℕ) → length r.bodies ≡ length r.functions
+      → AreTaken (context_with c r) (types_of r) (tag_types_of r) (zip r.functions r.bodies) (locals m.locals) (slots_of b.types) (slots_of m.types) (functions b.funcs) (functions m.funcs) starts
       → imports m.imports ≡ imports b.imports → AllPlaced (HoldsTable (table_keeps (elements_of r))) 0 (tables_of r) (tables m.tables)
       → AllPlaced (HoldsMemory (memory_keeps (data_segments_of r))) 0 (memories_of r) (memories m.memories)
       → AllPlaced HoldsTag 0 (tags_of r) (tags m.tags) → AddsPlaced HoldsGlobal (map global_of r.globals) (globals b.globals) (globals m.globals) → AllPlaced HoldsExport 0 r.exports (exports m.exports)
-      → option_map place m.start ≡ r.start → AllPlaced HoldsElement 0 (elements_of r) (elements m.elements) → AllPlaced HoldsData 0 (data_segments_of r) (data_segments m.data_) → m.name ≡ b.name → HasTaken c r m
-  sections_taken many taken same_imports with_tables with_memories with_tags with_globals exported started with_elements with_data unnamed =
+      → option_map place m.start ≡ r.start → AllPlaced HoldsElement 0 (elements_of r) (elements m.elements) → AllPlaced HoldsData 0 (data_segments_of r) (data_segments m.data_) → m.name ≡ b.name → HasTakenWith c r m starts
+  sections_taken starts many taken same_imports with_tables with_memories with_tags with_globals exported started with_elements with_data unnamed =
       let s = saids_of (context_with c r) (types_of r) r.functions r.bodies taken.said many taken.read in
       let grown = all_found (types_of r) (tag_types_of r) taken.said taken.functions.added (slots_of b.types) (slots_of m.types) (types_from 0 r.types) held.types taken.handlers in
       let own : (h : AddsFunctions (types_of r) (zip r.functions s.0) (functions b.funcs) (functions m.funcs)) × InTurn (HoldsHandlers (types_of r) (tag_types_of r)) (zip r.functions s.0) h.added (types_from 0 r.types) grown.0 =
       subst (λ (l : List (ℕ × Said)). (h : AddsFunctions (types_of r) l (functions b.funcs) (functions m.funcs)) × InTurn (HoldsHandlers (types_of r) (tag_types_of r)) l h.added (types_from 0 r.types) grown.0) s.1.1 (taken.functions, grown.1.1) in
-      record {
+      let taken_in : HasTaken c r m = record {
         bodies = s.0;
         read = s.1.0;
         types = grown.0;
@@ -106,4 +107,9 @@ module _ (c : Features) (r : wire.Module) (m b : Contents) (held : HoldsImported
         elements = with_elements;
         data_segments = with_data;
         name = unnamed ∙ held.name;
+      } in
+      let brought : length (functions b.funcs) ≡ length (imported imported_function 0 r.imports) = sym (placed_length HoldsImportedFunction 0 (imported imported_function 0 r.imports) (functions b.funcs) held.brought.functions) in
+      record {
+        taken = taken_in;
+        starts_are = taken.starts_are ∙ ap (λ (n : ℕ). starts_of (types_of r) n taken.said) brought ∙ ap (starts_of (types_of r) (length (imported imported_function 0 r.imports))) s.1.1;
       }

@@ -2,6 +2,7 @@ pub mod Customs
 pub mod Held
 pub mod Imported
 pub mod Kept
+pub mod Named
 pub mod Numbers
 pub mod Parsed
 pub mod Placed

@@ -1,6 +1,7 @@
 -- What the fields of a module hold of the sections that were read.
-use Rattle.std.specs.Prelude.{ℕ, ◌+◌, ◌<◌, All, List, [], ◌∷◌, ◌++◌, map, flat_map, zip, Option, Some, None, length, drop, slice_get, ◌≡◌, Result, Ok, Err, option_map}
+use Rattle.std.specs.Prelude.{ℕ, ◌+◌, ◌<◌, All, List, Vec, replicate, [], ◌∷◌, ◌++◌, map, flat_map, zip, Option, Some, None, length, drop, slice_get, ◌≡◌, Result, Ok, Err, option_map}
 use Rattle.std.specs.List.{AllZip, range_with_len}
+use Rattle.std.specs.declared.alloc.Global.{Global}
 use Rattle.walrus_base.specs.Arena.{item_at}
 use Rattle.walrus_base.specs.Id.{place}
 use Rattle.walrus_base.specs.Types.{ValType}
@@ -44,6 +45,7 @@ use Rattle.walrus_model.specs.Abstract.{Function}
 use Rattle.walrus_model.specs.Sections.{Said, imported, imported_function, imports_after, types_of, export_of, tables_of, memories_of, tags_of, globals_of, elements_of, data_segments_of}
 use Rattle.walrus_reading.specs.Held.{HoldsData, HoldsElement, HoldsGlobal, HoldsImport, HoldsImportedFunction, HoldsMemory, HoldsTable, HoldsTag, memory_keeps, table_keeps}
 use Rattle.walrus_rules.specs.Chain.{AreFoundOrAdded}
+use Rattle.walrus_naming.specs.Taken.{starts_from}
 use Rattle.walrus_contents.specs.View as view
 use Rattle.walrus_contents.specs.declared.parts.Contents.{Contents}
 use Rattle.walrus_reading.specs.Placed.{AddsPlaced, AllPlaced, InTurn}
@@ -58,6 +60,14 @@ use Rattle.walrus_parts.specs.declared.error.Error.TheVariants.{Memory, InvalidW
 -- the types of the locals of a function: its parameters, and then those that its body declares, used or not
 abbrev pub locals_said : (types : ℕ → Option TypeDef) → ℕ × Said → List (ValType ℕ)
 locals_said types f = params_of (types f.0) ++ f.1.0
+
+-- how many locals each of these functions has
+abbrev pub local_counts : (types : ℕ → Option TypeDef) → List (ℕ × Said) → List ℕ
+local_counts types said = map (λ p. length (locals_said types p)) said
+
+-- where the locals of each function begin, and behind them the end: so many that imports bring have none, and these stand behind them
+abbrev pub starts_of : (types : ℕ → Option TypeDef) → ℕ → List (ℕ × Said) → List ℕ
+starts_of types brought said = replicate brought 0 ++ starts_from 0 (local_counts types said)
 
 -- A function of this type holds the body that was read: so many parameters are its locals from the first one on, and its operators name its
 -- locals there. It has no name.
@@ -154,9 +164,14 @@ pub record HasTaken (features : Features) (r : wire.Module) (m : Contents) : Typ
   pub data_segments : AllPlaced HoldsData 0 (data_segments_of r) (data_segments m.data_)
   pub name : m.name ≡ None
 
+-- the module holds these sections, and the locals of its functions begin there
+pub record HasTakenWith (features : Features) (r : wire.Module) (m : Contents) (starts : List ℕ) : Type 0 where
+  pub taken : HasTaken features r m
+  pub starts_are : starts ≡ starts_of (types_of r) (length (imported imported_function 0 r.imports)) (zip r.functions taken.bodies)
+
 -- taken in: the module holds the sections; refused: the bodies aren't read, or memory ran out
-abbrev pub TakesSections : Features → wire.Module → Result Contents Error → Type 0
-TakesSections features r (Ok m) = HasTaken features r m
+abbrev pub TakesSections : Features → wire.Module → Result (Contents × Vec ℕ Global × ℕ) Error → Type 0
+TakesSections features r (Ok m) = HasTakenWith features r m.0 m.1.items
 TakesSections features r (Err (Memory e)) = Unit {0}
 TakesSections features r (Err (InvalidWasm kind)) = (bodies : List Said) → AllZip (ReadsBodyWith features r) (zip r.functions r.bodies) bodies → ⊥
 TakesSections features r (Err _) = ⊥
@@ -207,14 +222,15 @@ pub record IsTaken (c : Context) (types : ℕ → Option TypeDef) (tags : ℕ �
 abbrev pub IsSaid : Context → (ℕ → Option TypeDef) → ℕ × wire.Body → ℕ × Said → Type 0
 IsSaid c types f said = (said.0 ≡ f.0) × SaysUnder c types f said.1
 
--- the bodies are read, and the functions stand behind the others; their locals are all that there are, and the types of their handlers are found
--- or added in turn
-pub record AreTaken (c : Context) (types : ℕ → Option TypeDef) (tags : ℕ → Option ℕ) (fs : List (ℕ × wire.Body)) (all : List (Option LocalItem)) (old_types new_types : Slots) (old new : List (Option FunctionValue)) : Type 0 where
+-- the bodies are read, and the functions stand behind the others; their locals are all that there are, and begin there, and the types of their
+-- handlers are found or added in turn
+pub record AreTaken (c : Context) (types : ℕ → Option TypeDef) (tags : ℕ → Option ℕ) (fs : List (ℕ × wire.Body)) (all : List (Option LocalItem)) (old_types new_types : Slots) (old new : List (Option FunctionValue)) (starts : List ℕ) : Type 0 where
   pub said : List (ℕ × Said)
   pub read : AllZip (IsSaid c types) fs said
   pub functions : AddsFunctions types said old new
   pub locals : AllPlaced HoldsLocal 0 (flat_map (locals_said types) said) all
   pub handlers : InTurn (AddsHandlersOf types tags) said functions.added old_types new_types
+  pub starts_are : starts ≡ starts_of types (length old) said
 
 -- one more slot holds a function that is located in the body
 abbrev pub AddsLocated : wire.Body → (old new : List (Option FunctionValue)) → Type 0
@@ -232,8 +248,8 @@ TakesFunction c types tags f old_types new_types old_locals new_locals old new (
 TakesFunction c types tags f old_types new_types old_locals new_locals old new (Err _) = ⊥
 
 -- the functions, their locals and the types of their handlers are added; refused: not all bodies are read, or memory ran out
-abbrev pub TakesFunctions : Context → (types : ℕ → Option TypeDef) (tags : ℕ → Option ℕ) → List (ℕ × wire.Body) → ModuleLocals → (old_types new_types : Slots) (old new : List (Option FunctionValue)) → Result Unit Error → Type 0
-TakesFunctions c types tags fs all old_types new_types old new (Ok u) = AreTaken c types tags fs (locals all) old_types new_types old new
+abbrev pub TakesFunctions : Context → (types : ℕ → Option TypeDef) (tags : ℕ → Option ℕ) → List (ℕ × wire.Body) → ModuleLocals → (old_types new_types : Slots) (old new : List (Option FunctionValue)) → Result (Vec ℕ Global) Error → Type 0
+TakesFunctions c types tags fs all old_types new_types old new (Ok starts) = AreTaken c types tags fs (locals all) old_types new_types old new starts.items
 TakesFunctions c types tags fs all old_types new_types old new (Err (Memory e)) = Unit {0}
 TakesFunctions c types tags fs all old_types new_types old new (Err (InvalidWasm kind)) = (bodies : List Said) → AllZip (SaysUnder c types) fs bodies → ⊥
 TakesFunctions c types tags fs all old_types new_types old new (Err _) = ⊥

@@ -37,6 +37,7 @@ use crate::imports::add_imports;
 use crate::numbers::number_items;
 use crate::producers::add_producers;
 use crate::segments::add_data;
+use crate::starts::{end_of, first_starts};
 use std::alloc::{AllocError, Global};
 use std::result;
 use walrus_contents::Contents;
@@ -49,20 +50,27 @@ use walrus_items::{ExportItem, ModuleExports, ModuleFunctions, ModuleTags};
 use walrus_parts::{Error, Result};
 use wasm_wire::{Raw, RawBody, RawExport, RawExportKind, RawGroup};
 
-/// What sections that keep the rules hold, where bodies may use these proposals.
+/// What sections that keep the rules hold, where bodies may use these proposals; where the locals of each function begin, with the end behind them;
+/// and how many types were read.
 ///
 /// # Errors
 ///
 /// `InvalidWasm` exactly where a body isn't read, and `Memory`.
-pub(crate) fn read_contents(alloc: Global, raw: &Raw<'_>, features: &Features) -> Result<Contents>
+pub(crate) fn read_contents(
+    alloc: Global,
+    raw: &Raw<'_>,
+    features: &Features,
+) -> Result<(Contents, Vec<usize>, usize)>
     requires rules { Rules (sections raw.now) }
     requires room { FitsIndices (sections raw.now) }
     ensures taken { TakesSections features.now (sections raw.now) result }
-    ensures located { IfOk result (λ m. AreLocatedIn (sections raw.now) (functions m.funcs)) }
-    ensures produced { IfOk result (λ m. HoldsProducers (sections raw.now) m.producers) }
+    ensures located { IfOk result (λ m. AreLocatedIn (sections raw.now) (functions m.0.funcs)) }
+    ensures produced { IfOk result (λ m. HoldsProducers (sections raw.now) m.0.producers) }
+    ensures counted { IfOk result (λ m. m.2 ≡ length (types_from 0 (sections raw.now).types)) }
 {
     let mut indices = IndicesToIds::new(alloc);
     let mut contents = read_imported(alloc, raw, &mut indices)?;
+    let type_count = contents.types.next_id().index();
     add_tags(&raw.tags, &indices, &mut contents.tags)?;
     let tag_types = types_of_tags(alloc, &contents.tags)?;
     let under = Under {
@@ -71,7 +79,7 @@ pub(crate) fn read_contents(alloc: Global, raw: &Raw<'_>, features: &Features) -
         indices: &indices,
         tag_types: &tag_types,
     };
-    add_functions(
+    let starts = add_functions(
         under,
         &raw.functions,
         &raw.bodies,
@@ -99,7 +107,7 @@ pub(crate) fn read_contents(alloc: Global, raw: &Raw<'_>, features: &Features) -
     add_exports(&raw.exports, &indices, &mut contents.exports)?;
     contents.start = start_named(raw.start, &indices);
     add_producers(alloc, &raw.customs, &mut contents.producers)?;
-    Ok(contents)
+    Ok((contents, starts, type_count))
 }
 
 // The types, and what imports bring. All indices that sections declare lead to their items then.
@@ -234,7 +242,8 @@ fn read_located<L: Fn(&usize) -> InstrLocId>(
     )
 }
 
-// Reads the bodies of the functions of these types, which get the next ids. The module has no other locals.
+// Reads the bodies of the functions of these types, which get the next ids. The module has no other locals. Answers where the locals of each
+// function begin, and behind them the end.
 fn add_functions(
     under: Under<'_>,
     of_types: &[u32],
@@ -242,7 +251,7 @@ fn add_functions(
     types: &mut ModuleTypes,
     all: &mut ModuleLocals,
     funcs: &mut ModuleFunctions,
-) -> Result<()>
+) -> Result<Vec<usize>>
     requires no_locals { locals all.old ≡ [] }
     requires as_many { length bodies.now ≡ length of_types.now }
     requires declared { All (λ t. ids_at under.indices.now Types t ≡ Some t) of_types.now }
@@ -251,14 +260,18 @@ fn add_functions(
     ensures taken { TakesFunctions (context_under under.entry types.old) (types_in types.old)
         (tags_under under.entry) (zip of_types.now (map body_record bodies.now)) all.new
         (slots_of types.old) (slots_of types.new) (functions funcs.old) (functions funcs.new) result }
-    ensures located { OnOk result (AddLocated (map body_record bodies.now) (functions funcs.old)
+    ensures located { IfOk result (λ _. AddLocated (map body_record bodies.now) (functions funcs.old)
         (functions funcs.new)) }
 {
     funcs.reserve(of_types.len())?;
+    let mut starts = first_starts(under.alloc, funcs)?;
+    let mut end = 0;
     for place in 0..of_types.len() {
         add_function(under, of_types[place], &bodies[place], types, all, funcs)?;
+        end = end_of(all, end)?;
+        starts.push(end)?;
     }
-    Ok(())
+    Ok(starts)
 }
 
 // What an index of this kind names, if it names something.

@@ -8,9 +8,11 @@ mod entities;
 mod imports;
 mod law;
 mod module;
+mod naming;
 mod numbers;
 mod producers;
 mod segments;
+mod starts;
 mod supported;
 
 pub use module::{ReadModule, read};

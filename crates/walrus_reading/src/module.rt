@@ -45,6 +45,6 @@ pub fn read(alloc: Global, bytes: &[u8], features: Features) -> Result<ReadModul
     check_supported(&raw)?;
     check_room(&raw)?;
     let customs = keep_sections(alloc, &raw.customs)?;
-    let contents = read_contents(alloc, &raw, &features)?;
+    let (contents, _, _) = read_contents(alloc, &raw, &features)?;
     Ok(ReadModule { contents, customs })
 }

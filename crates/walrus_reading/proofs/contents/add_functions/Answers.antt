@@ -1,4 +1,4 @@
-use Rattle.std.proofs.Common.{get_or, ap, ◌∙◌}
+use Rattle.std.proofs.Common.{◌≡◌, [], ◌∷◌, ◌++◌, get_or, ap, sym, ◌∙◌}
 use Rattle.std.specs.Prelude.{length}
 use Rattle.std.proofs.lemmas.Result.{err_from_is_err_and}
 use Rattle.walrus_types.specs.Locals.{locals}
@@ -13,6 +13,7 @@ use Rattle.walrus_reading.proofs.FoundTypes.{all_stay}
 use Rattle.walrus_reading.proofs.Grown.{same_there}
 use Rattle.walrus_reading.proofs.TakenBefore.{refused_before, taken_before}
 use Rattle.walrus_reading.proofs.TakenBody.{none_taken, one_more, all_taken, one_refused}
+use Rattle.walrus_reading.proofs.LocalStarts.{end_is}
 use Rattle.walrus_reading.proofs.Locating.{none_located, more_located, all_located}
 use Rattle.wasm_frames.specs.Record.{body_record}
 use Rattle.walrus_reading.proofs.contents.add_functions.Goals as goal
@@ -39,7 +40,8 @@ returns-in_err-add_function-clause-taken c =
 pub loop-place-init : goal.loop-place-init
 loop-place-init c = record {
   taken = none_taken (context_under c.args.under c.args.types.now) (types_in c.args.types.now) (tags_under c.args.under) c.args.of_types.now c.args.bodies.now c.requires.as_many
-      (slots_of c.args.types.now) (locals c.args.all.now) (functions c.args.funcs.now) (functions c.reserve.new.self) c.requires.no_locals c.reserve.ensures.same;
+      (slots_of c.args.types.now) (locals c.args.all.now) (functions c.args.funcs.now) (functions c.reserve.new.self) c.requires.no_locals c.reserve.ensures.same _ c.in_ok-starts.ensures.begun;
+  end = sym (ap length c.requires.no_locals);
   located = none_located c.args.of_types.now c.args.bodies.now c.requires.as_many (functions c.args.funcs.now) (functions c.reserve.new.self) c.reserve.ensures.same;
 }
 
@@ -49,20 +51,23 @@ loop-place-preserved c =
     let stays : StaysInFront (type_slots c.args.types.now) (type_slots c.loop-place.types) = all_stay (types_in c.args.types.now) (tags_under c.args.under) done.said done.functions.added (slots_of c.args.types.now) (slots_of c.loop-place.types) done.handlers in
     let t = c.in_ok-add_function.ensures.taken in
     let l = c.in_ok-add_function.ensures.located in
+    let end : c.in_ok-end.end ≡ length (locals c.add_function.new.all) =
+    end_is _ _ (locals c.loop-place.all) (locals c.add_function.new.all) c.loop-place.end _ done.locals t.1.1.added c.loop-place.invariant.end c.in_ok-end.ensures.end in
     record {
       taken = one_more (context_under c.args.under c.args.types.now) (types_in c.args.types.now) (tags_under c.args.under) c.args.of_types.now c.args.bodies.now c.requires.as_many
           c.loop-place.place _ _ (slots_of c.args.types.now) (slots_of c.loop-place.types) (slots_of c.add_function.new.types) (locals c.loop-place.all) (locals c.add_function.new.all)
-          (functions c.args.funcs.now) (functions c.loop-place.funcs) (functions c.add_function.new.funcs) c.loop-place-test.true done t.0 t.1.0
+          (functions c.args.funcs.now) (functions c.loop-place.funcs) (functions c.add_function.new.funcs) c.loop-place.starts.items _ c.loop-place-test.true done t.0 t.1.0
           (taken_before (ids_at c.args.under.indices.now) c.args.under.features.now (tags_under c.args.under) (slots_of c.args.types.now) (slots_of c.loop-place.types) (slots_of c.add_function.new.types) c.requires.there stays
           (get_or c.args.of_types.now c.loop-place.place _, body_record (get_or c.args.bodies.now c.loop-place.place _)) (c.requires.declared c.loop-place.place _ c.loop-place-test.true)
-          (locals c.loop-place.all) (locals c.add_function.new.all) (length (functions c.loop-place.funcs)) t.0 t.1.1);
+          (locals c.loop-place.all) (locals c.add_function.new.all) (length (functions c.loop-place.funcs)) t.0 t.1.1) (c.in_ok-push.ensures.items ∙ ap (λ n. c.loop-place.starts.items ++ n ∷ []) end);
+      end = end;
       located = more_located c.args.of_types.now c.args.bodies.now c.requires.as_many c.loop-place.place _ (functions c.args.funcs.now) (functions c.loop-place.funcs) (functions c.add_function.new.funcs) c.loop-place-test.true c.loop-place.invariant.located l.0 l.1.0 l.1.1;
     }
 
 pub returns-clause-taken : goal.returns-clause-taken
 returns-clause-taken c =
     all_taken (context_under c.args.under c.args.types.now) (types_in c.args.types.now) (tags_under c.args.under) c.args.of_types.now c.args.bodies.now c.requires.as_many
-    c.loop-place.place (slots_of c.args.types.now) (slots_of c.loop-place.types) (locals c.loop-place.all) (functions c.args.funcs.now) (functions c.loop-place.funcs) c.loop-place-test.false c.loop-place.invariant.taken
+    c.loop-place.place (slots_of c.args.types.now) (slots_of c.loop-place.types) (locals c.loop-place.all) (functions c.args.funcs.now) (functions c.loop-place.funcs) c.loop-place.starts.items c.loop-place-test.false c.loop-place.invariant.taken
 
 pub returns-clause-located : goal.returns-clause-located
 returns-clause-located c = all_located c.args.of_types.now c.args.bodies.now c.requires.as_many c.loop-place.place (functions c.args.funcs.now) (functions c.loop-place.funcs) c.loop-place-test.false c.loop-place.invariant.located

@@ -1,5 +1,7 @@
 use Rattle.std.proofs.Common.{ℕ, List, refl, subst, ◌≡◌, length, map, sym, ap, ◌∙◌}
-use Rattle.std.specs.Prelude.{All, Ok}
+use Rattle.std.specs.Prelude.{All, Ok, Some}
+use Rattle.std.proofs.lemmas.List.{length-map}
+use Rattle.walrus_groups.specs.Groups.{types_from}
 use Rattle.std.proofs.lemmas.Result.{err_from_is_err_and}
 use Rattle.wasm_entries.specs.declared.record.RawData.{RawData}
 use Rattle.wasm_entries.specs.declared.record.RawElement.{RawElement}
@@ -63,17 +65,17 @@ add_functions-requires-clause-there c =
     same_tag_types (sections c.args.raw.now) c.deref-2.result.now (tags c.add_tags.new.all) (ap (map place) c.deref-2.ensures.value ∙ c.in_ok-tag_types.ensures.value) with_tags in
     are_there names (sections c.args.raw.now) all (type_slots c.in_ok-contents.contents.types) (tag_places c.deref-2.result.now) c.in_ok-contents.ensures.numbered c.in_ok-contents.ensures.begun.types same
 
-pub returns-in_err-add_functions-clause-taken : goal.returns-in_err-add_functions-clause-taken
-returns-in_err-add_functions-clause-taken c =
+pub returns-in_err-starts-clause-taken : goal.returns-in_err-starts-clause-taken
+returns-in_err-starts-clause-taken c =
     let with_tags : AllPlaced HoldsTag 0 (tags_of (sections c.args.raw.now)) (tags c.add_tags.new.all) =
     placed_more HoldsTag (imported imported_tag 0 (sections c.args.raw.now).imports) (map tag_of c.args.raw.now.tags.items) (tags c.in_ok-contents.contents.tags) (tags c.add_tags.new.all) c.in_ok-contents.ensures.begun.brought.tags
     (subst (λ (l : List ℕ). AddsPlaced HoldsTag (map tag_of l) (tags c.in_ok-contents.contents.tags) (tags c.add_tags.new.all)) c.deref.ensures.value c.in_ok-add_tags.ensures.added) in
     let same : tag_places c.deref-2.result.now ≡ tag_types_of (sections c.args.raw.now) =
     same_tag_types (sections c.args.raw.now) c.deref-2.result.now (tags c.add_tags.new.all) (ap (map place) c.deref-2.ensures.value ∙ c.in_ok-tag_types.ensures.value) with_tags in
-    let p = err_from_is_err_and c.from_residual-in_err-add_functions.result c.from_residual-in_err-add_functions.ensures.1 in
+    let p = err_from_is_err_and c.from_residual-in_err-starts.result c.from_residual-in_err-starts.ensures.1 in
     rw (p.1, p.2) (sections_refused c.args.features.now (sections c.args.raw.now) c.read_imported.new.indices c.in_ok-contents.contents.types c.in_ok-contents.ensures.numbered c.in_ok-contents.ensures.begun.types
     (tag_places c.deref-2.result.now) same c.deref-3.result.now (map body_record c.deref-4.result.now) c.deref-3.ensures.value (ap (map body_record) c.deref-4.ensures.value)
-    c.add_functions.new.all (slots_of c.in_ok-contents.contents.types) (slots_of c.add_functions.new.types) (functions c.in_ok-contents.contents.funcs) (functions c.add_functions.new.funcs) _ c.in_err-add_functions.ensures.taken)
+    c.add_functions.new.all (slots_of c.in_ok-contents.contents.types) (slots_of c.add_functions.new.types) (functions c.in_ok-contents.contents.funcs) (functions c.add_functions.new.funcs) _ c.in_err-starts.ensures.taken)
 
 pub add_tables-requires : goal.add_tables-requires
 add_tables-requires c =
@@ -137,10 +139,10 @@ returns-clause-taken c =
     (subst (λ (l : List ℕ). AddsPlaced HoldsTag (map tag_of l) (tags c.in_ok-contents.contents.tags) (tags c.add_tags.new.all)) c.deref.ensures.value c.in_ok-add_tags.ensures.added) in
     let same : tag_places c.deref-2.result.now ≡ tag_types_of (sections c.args.raw.now) =
     same_tag_types (sections c.args.raw.now) c.deref-2.result.now (tags c.add_tags.new.all) (ap (map place) c.deref-2.ensures.value ∙ c.in_ok-tag_types.ensures.value) with_tags in
-    sections_taken c.args.features.now s _ b begun c.requires.rules.as_many_bodies
+    sections_taken c.args.features.now s _ b begun _ c.requires.rules.as_many_bodies
     (under_sections c.args.features.now s c.read_imported.new.indices b.types c.in_ok-contents.ensures.numbered begun.types
     (tag_places c.deref-2.result.now) same c.deref-3.result.now (map body_record c.deref-4.result.now) c.deref-3.ensures.value (ap (map body_record) c.deref-4.ensures.value)
-    c.add_functions.new.all (slots_of b.types) (slots_of c.add_functions.new.types) (functions b.funcs) (functions c.add_functions.new.funcs) (Ok tt) c.in_ok-add_functions.ensures.taken)
+    c.add_functions.new.all (slots_of b.types) (slots_of c.add_functions.new.types) (functions b.funcs) (functions c.add_functions.new.funcs) (Ok c.in_ok-starts.starts) c.in_ok-starts.ensures.taken)
     refl
     (tables_kept s (tables b.tables) (tables c.add_tables.new.all) begun.brought.tables
     (subst (λ (l : List RawTable). AddsPlaced (HoldsTable none_kept) (map table_of (map table_entry l)) (tables b.tables) (tables c.add_tables.new.all)) c.deref-5.ensures.value c.in_ok-add_tables.ensures.added)
@@ -162,7 +164,7 @@ pub returns-clause-located : goal.returns-clause-located
 returns-clause-located c =
     let b = c.in_ok-contents.contents in
     located_in (sections c.args.raw.now) c.deref-4.result.now (functions b.funcs) (functions c.add_functions.new.funcs) (ap (map body_record) c.deref-4.ensures.value)
-    c.in_ok-contents.ensures.begun.brought.functions c.in_ok-add_functions.ensures.located
+    c.in_ok-contents.ensures.begun.brought.functions c.in_ok-starts.ensures.located
 
 pub add_producers-requires : goal.add_producers-requires
 add_producers-requires c = record { none = c.in_ok-contents.ensures.begun.producers }
@@ -170,3 +172,9 @@ add_producers-requires c = record { none = c.in_ok-contents.ensures.begun.produc
 pub returns-clause-produced : goal.returns-clause-produced
 returns-clause-produced c =
     held_of_all (sections c.args.raw.now) (map custom_record c.deref-11.result.now) c.add_producers.new.made (ap (map custom_record) c.deref-11.ensures.value) c.in_ok-add_producers.ensures.held
+
+pub returns-clause-counted : goal.returns-clause-counted
+returns-clause-counted c =
+    let b = c.in_ok-contents.contents in
+    let s = sections c.args.raw.now in
+    c.index-type_count.ensures ∙ c.next_id.ensures ∙ ap length c.in_ok-contents.ensures.begun.types ∙ length-map (types_from 0 s.types) Some

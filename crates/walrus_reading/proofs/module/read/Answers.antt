@@ -47,11 +47,11 @@ returns-clause-taken c = record {
   framed = c.in_ok-raw.ensures.found;
   supported = c.in_ok-check_supported.ensures;
   rules = c.in_ok-check.ensures;
-  taken = c.in_ok-contents.ensures.taken;
+  taken = c.in_ok-contents.ensures.taken.taken;
 }
 
 pub returns-clause-own_ids : goal.returns-clause-own_ids
-returns-clause-own_ids c = own_ids c.args.features (sections c.in_ok-raw.raw) c.in_ok-contents.contents c.in_ok-contents.ensures.taken
+returns-clause-own_ids c = own_ids c.args.features (sections c.in_ok-raw.raw) c.in_ok-contents.contents c.in_ok-contents.ensures.taken.taken
 
 pub returns-clause-kept : goal.returns-clause-kept
 returns-clause-kept c = record {
