@@ -42,7 +42,7 @@ pub struct Parts<'a> {
     pub start: Option<FunctionId>,
     /// The producers.
     pub producers: &'a ModuleProducers,
-    /// The module's name, if it has one (Appendix > Custom Sections > Name Section). It is neither read nor written so far.
+    /// The module's name, if it has one (Appendix > Custom Sections > Name Section).
     pub name: &'a Option<String>,
 }
 
@@ -75,7 +75,7 @@ pub struct Contents {
     pub start: Option<FunctionId>,
     /// The producers.
     pub producers: ModuleProducers,
-    /// The module's name, if it has one (Appendix > Custom Sections > Name Section). It is neither read nor written so far.
+    /// The module's name, if it has one (Appendix > Custom Sections > Name Section).
     pub name: Option<String>,
 }
 

@@ -9,7 +9,6 @@ pub mod Compose
 pub mod Shapes
 pub mod Steps
 pub mod Examples
-pub mod Supported
 pub mod ReadOnce
 pub mod HoldExample
 pub mod Reach

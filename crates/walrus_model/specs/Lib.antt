@@ -21,7 +21,6 @@ pub mod Closed
 pub mod Laws
 pub mod Constants
 pub mod Sections
-pub mod Supported
 pub mod Reads
 pub mod WellMade
 pub mod Transform

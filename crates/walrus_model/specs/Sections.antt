@@ -198,7 +198,7 @@ data_segments_of s = map data_of s.data_segments
 
 -- ---- the module
 
--- the module of these sections, whose bodies say this; what the name and the producers section say isn't read so far
+-- the module of these sections, whose bodies say this, before what the name and the producers section say is put in
 abbrev pub module_of : wire.Module → List Said → Abstract
 module_of s bodies = record {
   types = types_of s;
