@@ -14,9 +14,9 @@ use Rattle.walrus_model.specs.Pipeline.{Collected}
 use Rattle.walrus_model.specs.Refers.{IsUsed}
 use Rattle.walrus_rules.specs.Chain.{Leaves}
 use Rattle.walrus_rules.specs.Refused.{Refusal, Memory, DeadItem, NoIndex, TwoIndices, TooLarge, NotWritable, Caller, Another, RefusesToWrite}
-use Rattle.walrus_rules.specs.RunLaws.{AreFineSoFar, IsFewSoFar}
+use Rattle.walrus_rules.specs.RunLaws.{AreFine, IsFew}
 use Rattle.walrus_rules.proofs.NoCause.{well_no_cause}
-use Rattle.walrus_rules.proofs.Runs.{few_so_far, fine_so_far, too_large_so_far}
+use Rattle.walrus_rules.proofs.Runs.{runs_few, runs_fine, runs_too_large}
 use Rattle.walrus_rules.proofs.StepParsed.{live_v}
 use Rattle.walrus_rules.proofs.StepRead.{read_is_plain, steps_come_out_lem}
 use Rattle.walrus_rules.proofs.WellStays.{collected_well}
@@ -52,10 +52,10 @@ module _ (v : Abstract) (alive : HasDead v → ⊥) where
 
 module _ (c : Config) (bytes : List ℕ) (v : Abstract) (parsed : IsParsed c bytes v) where
   nothing_dead : HasDead v → ⊥
-  nothing_dead = (well_no_cause c v (parsed_is_well c bytes parsed.module_read v parsed.reads.reads parsed.holds parsed.parsed)).all_there
+  nothing_dead = (well_no_cause c v (parsed_is_well c bytes parsed.module_read v parsed.reads parsed.holds parsed.parsed)).all_there
 
   reaches_sound : ReachesSound v
-  reaches_sound x reached = alive_is_sound v nothing_dead x (live_v c parsed.module_read v parsed.parsed (read_is_plain c bytes parsed.module_read parsed.reads.reads) parsed.holds x reached)
+  reaches_sound x reached = alive_is_sound v nothing_dead x (live_v c parsed.module_read v parsed.parsed (read_is_plain c bytes parsed.module_read parsed.reads) parsed.holds x reached)
 
   sound_read : ReachesUnsound v → ⊥
   sound_read (x, reached, unsound) = unsound (reaches_sound x reached)
@@ -67,20 +67,20 @@ module _ (c : Config) (bytes : List ℕ) (v w : Abstract) (parsed : IsParsed c b
   nothing_dead_left : HasDead w → ⊥
   nothing_dead_left =
       let m = parsed.module_read in
-      let made = parsed_is_well c bytes m v parsed.reads.reads parsed.holds parsed.parsed in
-      let reached = live_v c m v parsed.parsed (read_is_plain c bytes m parsed.reads.reads) parsed.holds in
+      let made = parsed_is_well c bytes m v parsed.reads parsed.holds parsed.parsed in
+      let reached = live_v c m v parsed.parsed (read_is_plain c bytes m parsed.reads) parsed.holds in
       (well_no_cause c w (collected_well c v w made reached collected)).all_there
 
   module _ (u : Abstract) (leaves : Leaves w u) where
-    are_fine : AreFineSoFar c parsed.module_read v w u
-    are_fine = fine_so_far c bytes parsed.module_read v w u parsed.reads parsed.holds parsed.parsed collected leaves
+    are_fine : AreFine c parsed.module_read v w u
+    are_fine = runs_fine c bytes parsed.module_read v w u parsed.reads parsed.holds parsed.parsed collected leaves
 
     comes_to : (output : List ℕ) → IsEmitted c u output → ComesTo c bytes output
     comes_to output emitted =
         let as_said : EmittedAs c u output = emitted are_fine.left.sayable in
         record {
           module_read = parsed.module_read;
-          reads = parsed.reads.reads;
+          reads = parsed.reads;
           holds = parsed.holds;
           module_left = u;
           brought = are_fine.brings;
@@ -89,15 +89,15 @@ module _ (c : Config) (bytes : List ℕ) (v w : Abstract) (parsed : IsParsed c b
           spelled = as_said.spelled;
           output_reads = as_said.reads are_fine.left.made are_fine.left.declared;
           output_holds = as_said.holds are_fine.left.made are_fine.left.declared;
-          out = steps_come_out_lem c bytes parsed.module_read u as_said.module_written parsed.reads.reads parsed.holds are_fine.brings as_said.written;
+          out = steps_come_out_lem c bytes parsed.module_read u as_said.module_written parsed.reads parsed.holds are_fine.brings as_said.written;
         }
 
     too_large : RefusesToWrite {X = List ℕ} ⊥ c u (told (Err error.TooLarge)) → ComesOutTooLarge c bytes
-    too_large large = too_large_so_far c bytes parsed.module_read v w u parsed.reads parsed.holds parsed.parsed collected leaves large
+    too_large large = runs_too_large c bytes parsed.module_read v w u parsed.reads parsed.holds parsed.parsed collected leaves large
 
     -- nothing else is refused
-    few : {X : Type 0} (result : Result X Refusal) → RefusesToWrite ⊥ c u result → IsFewSoFar result
-    few result refused = few_so_far c u result are_fine.left refused
+    few : {X : Type 0} (result : Result X Refusal) → RefusesToWrite ⊥ c u result → IsFew result
+    few result refused = runs_few c u result are_fine.left refused
 
 -- ---- what the whole way answers
 

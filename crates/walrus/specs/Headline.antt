@@ -5,8 +5,7 @@ use Rattle.std.specs.Io.KnownBytes.{Appends, Consumes, IsAtEnd, Keeps}
 use Rattle.walrus_model.specs.Config.{Config}
 use Rattle.walrus_parts.specs.declared.error.Error.{Error}
 use Rattle.walrus_parts.specs.declared.error.Error.TheVariants.{Memory, InvalidWasm, TooLarge}
-pub use Rattle.walrus_rules.specs.Headline.{ComesTo, ComesOutTooLarge}
-use Rattle.walrus_rules.specs.SoFar.{AcceptsSoFar}
+pub use Rattle.walrus_rules.specs.Headline.{Accepts, ComesTo, ComesOutTooLarge}
 use Rattle.walrus.specs.declared.tool.ToolError.{ToolError}
 use Rattle.walrus.specs.declared.tool.ToolError.TheVariants as tool
 
@@ -41,7 +40,7 @@ RefusesAll Cause old new = (bytes : List ℕ) × ReadsWhole old new bytes × Cau
 -- why a module is refused: memory ran out, or all was read and isn't accepted, or what comes out is too large
 abbrev pub RefusesRead : Config → Option (List ℕ) → Option (List ℕ) → Error → Type 0
 RefusesRead c old new (Memory e) = ⊤
-RefusesRead c old new (InvalidWasm kind) = RefusesAll (λ bytes. AcceptsSoFar c bytes → ⊥) old new
+RefusesRead c old new (InvalidWasm kind) = RefusesAll (λ bytes. Accepts c bytes → ⊥) old new
 RefusesRead c old new TooLarge = RefusesAll (ComesOutTooLarge c) old new
 RefusesRead c old new _ = ⊥
 
@@ -56,6 +55,6 @@ Runs c from_old from_new to_old to_new (Err (tool.Module e)) = Keeps to_old to_n
 abbrev pub Answers : {X : Type 0} → Config → List ℕ → (X → List ℕ) → Result X Error → Type 0
 Answers c bytes view (Ok x) = ComesTo c bytes (view x)
 Answers c bytes view (Err (Memory e)) = ⊤
-Answers c bytes view (Err (InvalidWasm kind)) = AcceptsSoFar c bytes → ⊥
+Answers c bytes view (Err (InvalidWasm kind)) = Accepts c bytes → ⊥
 Answers c bytes view (Err TooLarge) = ComesOutTooLarge c bytes
 Answers c bytes view (Err _) = ⊥

@@ -1,5 +1,5 @@
--- The parts of a module in memory as an abstract module: the number of an item is the place of its id. What isn't kept so far is absent:
--- custom sections.
+-- The parts of a module in memory as an abstract module: the number of an item is the place of its id. Custom sections are kept beside the parts,
+-- so that none are here.
 use Rattle.std.specs.Prelude.{ℕ, Bool, false, ◌&&◌, not, List, [], map, filter, length, Option, Some, None, option_and_then, option_map, option_to_list, ◌≡◌}
 use Rattle.std.specs.List.{range_with_len}
 use Rattle.walrus_base.specs.Arena.{item_at, items}

@@ -46,11 +46,11 @@ abbrev pub with_dwarf : Bool → Flags → Flags
 with_dwarf true f = record f { generate_dwarf = true; preserve_code_transform = true }
 with_dwarf false f = record f { generate_dwarf = false }
 
--- What the flags come to so far: names aren't read, and so none are made up.
+-- what the flags come to for reading and writing
 abbrev pub config_of : Flags → Config
 config_of f = record {
   writes_names = f.generate_name_section;
-  synthetic_names = false;
+  synthetic_names = f.generate_synthetic_names;
   writes_producers = f.generate_producers_section;
   legacy_exceptions = f.legacy_exceptions;
   only_stable_features = f.only_stable_features;

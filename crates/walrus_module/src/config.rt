@@ -11,7 +11,7 @@ use walrus_writing::Choices;
 pub struct ModuleConfig {
     generate_dwarf: bool,
     generate_name_section: bool,
-    generate_synthetic_names: bool,
+    pub(crate) generate_synthetic_names: bool,
     strict_validate: bool,
     generate_producers_section: bool,
     only_stable_features: bool,

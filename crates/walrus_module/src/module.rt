@@ -45,7 +45,7 @@ pub struct Module {
     pub start: Option<FunctionId>,
     /// The producers: what made the module (tool-conventions, "Producers Section").
     pub producers: ModuleProducers,
-    /// The module's name, if it has one (Appendix > Custom Sections > Name Section). It is not read so far.
+    /// The module's name, if it has one (Appendix > Custom Sections > Name Section).
     pub name: Option<String>,
     /// The custom sections.
     pub customs: ModuleCustomSections,
@@ -107,8 +107,8 @@ impl Module {
             (view ⟦<dyn CustomSection as CustomSection>⟧ m)) }
         ensures refused { IfErr result (RefusesBytes (config_of defaults) bytes.now) }
         ensures configured { IfOk result (λ m. settings m ≡ defaults) }
-        ensures taken { IfOk result (λ m. TakenFrom (features_of (config_of defaults)) bytes.now
-            (contents_of m)) }
+        ensures taken { IfOk result (λ m. TakenFrom (features_of (config_of defaults))
+            (config_of defaults).synthetic_names bytes.now (contents_of m)) }
         ensures own_ids { IfOk result (λ m. ItemsAtOwnIds (contents_of m)) }
         ensures located { IfOk result (λ m. AreLocated bytes.now m.funcs) }
         ensures kept { IfOk result (λ m. KeepsRead bytes.now m) }
@@ -126,8 +126,8 @@ impl Module {
             (view ⟦<dyn CustomSection as CustomSection>⟧ m)) }
         ensures refused { IfErr result (RefusesBytes (config_of (flags config.now)) bytes.now) }
         ensures configured { IfOk result (λ m. settings m ≡ flags config.now) }
-        ensures taken { IfOk result (λ m. TakenFrom (features_of (config_of (flags config.now))) bytes.now
-            (contents_of m)) }
+        ensures taken { IfOk result (λ m. TakenFrom (features_of (config_of (flags config.now)))
+            (config_of (flags config.now)).synthetic_names bytes.now (contents_of m)) }
         ensures own_ids { IfOk result (λ m. ItemsAtOwnIds (contents_of m)) }
         ensures located { IfOk result (λ m. AreLocated bytes.now m.funcs) }
         ensures kept { IfOk result (λ m. KeepsRead bytes.now m) }

@@ -19,19 +19,19 @@ impl ModuleConfig {
     ///
     /// # Errors
     ///
-    /// `InvalidWasm` exactly where the bytes aren't a module, or hold what isn't supported so far, and `Memory`; then there is no module.
+    /// `InvalidWasm` exactly where the bytes aren't a module, and `Memory`; then there is no module.
     pub fn parse(&self, alloc: Global, bytes: &[u8]) -> Result<Module>
         ensures found { IfOk result (λ m. IsParsed (config_of (flags self.now)) bytes.now
             (view ⟦<dyn CustomSection as CustomSection>⟧ m)) }
         ensures refused { IfErr result (RefusesBytes (config_of (flags self.now)) bytes.now) }
         ensures configured { IfOk result (λ m. settings m ≡ flags self.now) }
-        ensures taken { IfOk result (λ m. TakenFrom (features_of (config_of (flags self.now))) bytes.now
-            (contents_of m)) }
+        ensures taken { IfOk result (λ m. TakenFrom (features_of (config_of (flags self.now)))
+            (config_of (flags self.now)).synthetic_names bytes.now (contents_of m)) }
         ensures own_ids { IfOk result (λ m. ItemsAtOwnIds (contents_of m)) }
         ensures located { IfOk result (λ m. AreLocated bytes.now m.funcs) }
         ensures kept { IfOk result (λ m. KeepsRead bytes.now m) }
     {
-        let found = read(alloc, bytes, self.features())?;
+        let found = read(alloc, bytes, self.features(), self.generate_synthetic_names)?;
         let customs = ModuleCustomSections::keeping(alloc, found.customs)?;
         Ok(Module::holding(found.contents, customs, self.clone()?))
     }

@@ -1,5 +1,4 @@
 pub mod Accepting
-pub mod AcceptingNamed
 pub mod AllHeld
 pub mod BeforeNames
 pub mod BothTests
@@ -22,13 +21,11 @@ pub mod Parsing
 pub mod Placed
 pub mod ProducersHeld
 pub mod Refusals
-pub mod RefusedNamed
 pub mod Rooms
 pub mod Rows
 pub mod StillThere
 pub mod Stays
 pub mod StaysByRules
-pub mod SupportedOnly
 pub mod TagTypes
 pub mod TakenBefore
 pub mod TakenBody

@@ -13,7 +13,7 @@ use Rattle.walrus_model.specs.Abstract.{Abstract, Name, ProducerField, Subject, 
 use Rattle.walrus_model.specs.Config.{Config}
 use Rattle.walrus_model.specs.Producers.{produced}
 use Rattle.walrus_model.specs.Reads.{ReadsBodyWith}
-use Rattle.walrus_model.specs.Sections.{Said, customs_of, function_types, imported, imported_function, imported_type, types_of}
+use Rattle.walrus_model.specs.Sections.{Said, customs_of, data_segments_of, elements_of, function_types, imported, imported_function, imported_type, memories_of, tables_of, types_of}
 use Rattle.walrus_rules.specs.Chain.{ParsedAs}
 use Rattle.walrus_rules.specs.Headline.{has_function, payloads}
 use Rattle.walrus_rules.specs.Namings.{is_in_range, names_given, names_in_range}
@@ -24,11 +24,17 @@ use Rattle.walrus_naming.specs.Shown.{shown}
 use Rattle.walrus_naming.specs.Synthetic.{named_by}
 use Rattle.walrus_naming.specs.Taken.{Bounds, is_known, name_payloads, starts_from}
 use Rattle.walrus_naming.proofs.ParsedNamed.{parsed_named}
-use Rattle.walrus_reading.specs.Named.{AreBounds, KeepNonePast}
+use Rattle.walrus_reading.specs.Held.{memory_keeps, table_keeps}
+use Rattle.walrus_reading.specs.Named.{AreBounds}
 use Rattle.walrus_reading.specs.Taken.{HasTakenWith, local_counts, locals_said, starts_of}
 use Rattle.walrus_reading.proofs.BeforeNames.{is_unnamed, unnamed_module}
 use Rattle.walrus_reading.proofs.CustomsAside.{customs_aside, with_customs}
 use Rattle.walrus_reading.proofs.Numbered.{types_many}
+
+-- no table keeps an element segment, and no memory a data segment, past the last of these
+pub record KeepNonePast (r : wire.Module) : Type 0 where
+  pub tables : (table segment : ℕ) → length (tables_of r) ≤ table → table_keeps (elements_of r) table segment ≡ false
+  pub memories : (memory segment : ℕ) → length (memories_of r) ≤ memory → memory_keeps (data_segments_of r) memory segment ≡ false
 
 -- ---- which functions are known
 

@@ -9,5 +9,4 @@ pub mod Placed
 pub mod Producers
 pub mod Sections
 pub mod Stays
-pub mod SupportedOnly
 pub mod Taken

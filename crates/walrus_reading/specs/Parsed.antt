@@ -1,16 +1,15 @@
 -- What parsing gives, and when it refuses.
 use Rattle.wasm_frames.specs.Record as wire
-use Rattle.std.specs.Prelude.{ℕ, List, false, map, zip, ◌≡◌, ⊤}
+use Rattle.std.specs.Prelude.{ℕ, Bool, List, map, zip, ◌≡◌, ⊤}
 use Rattle.walrus_model.specs.Abstract.{Abstract}
 use Rattle.walrus_model.specs.Config.{Config}
 use Rattle.walrus_rules.specs.Chain.{ParsedAs}
 use Rattle.walrus_rules.specs.Features.{features_of}
-use Rattle.walrus_rules.specs.SoFar.{ReadsSoFar, AcceptsSoFar}
+use Rattle.walrus_rules.specs.Headline.{Accepts, Reads}
 use Rattle.walrus_model.specs.Reads.{ReadsBodyWith}
 use Rattle.walrus_bodies.specs.declared.features.Features.{Features}
 use Rattle.walrus_model.specs.Sections.{Said, custom_of}
 use Rattle.walrus_model.specs.Rules.{Holds}
-use Rattle.walrus_model.specs.Supported.{IsSupported}
 use Rattle.std.specs.List.{AllZip}
 use Rattle.walrus_items.specs.Functions.{ModuleFunctions, functions}
 use Rattle.walrus_items.specs.Imports.{imports}
@@ -25,17 +24,18 @@ use Rattle.walrus_contents.specs.View.{contents_view}
 use Rattle.walrus_contents.specs.declared.parts.Contents.{Contents}
 use Rattle.walrus_reading.specs.Customs.{kept_customs, section_seen}
 use Rattle.walrus_reading.specs.declared.module.ReadModule.{ReadModule}
-use Rattle.walrus_reading.specs.Taken.{AreLocatedIn, HasTaken}
+use Rattle.walrus_reading.specs.Named.{HasNames}
+use Rattle.walrus_reading.specs.Taken.{AreLocatedIn}
 use Rattle.wasm_frames.specs.Frames.{Frames}
 use Rattle.wasm_wire.specs.Rules.{Rules}
 use Rattle.walrus_parts.specs.declared.error.Error.{Error}
 use Rattle.walrus_parts.specs.declared.error.Error.TheVariants.{Memory, InvalidWasm}
 use Rattle.walrus_parts.specs.declared.raw_section.RawCustomSection.{RawCustomSection}
 
--- a configuration with these features that gives no names: names aren't read so far
-pub record IsReadWith (c : Config) (features : Features) : Type 0 where
+-- a configuration with these features that says whether what has no name is given one
+pub record IsReadWith (c : Config) (features : Features) (synthetic : Bool) : Type 0 where
   pub features_are : features ≡ features_of c
-  pub no_names : c.synthetic_names ≡ false
+  pub synthetic_are : synthetic ≡ c.synthetic_names
 
 -- the module in memory: that of what it holds, with the custom sections that are kept
 abbrev pub read_view : ReadModule → Abstract
@@ -44,14 +44,14 @@ read_view m = record (contents_view m.contents) { customs = map custom_of (map s
 -- the bytes read as a module that keeps the rules, and v is that module in memory
 pub record IsParsed (c : Config) (bytes : List ℕ) (v : Abstract) : Type 0 where
   pub module_read : Abstract
-  pub reads : ReadsSoFar c bytes module_read
+  pub reads : Reads c bytes module_read
   pub holds : Holds module_read
   pub parsed : ParsedAs c module_read v
 
 -- parsing is refused for want of memory, or since the bytes aren't accepted
 abbrev pub RefusesBytes : Config → List ℕ → Error → Type 0
 RefusesBytes c bytes (Memory e) = ⊤
-RefusesBytes c bytes (InvalidWasm kind) = AcceptsSoFar c bytes → ⊥
+RefusesBytes c bytes (InvalidWasm kind) = Accepts c bytes → ⊥
 RefusesBytes c bytes _ = ⊥
 
 -- the bytes frame sections, and each operator of the functions that they define is located where it stands in the bytes
@@ -60,14 +60,13 @@ pub record AreLocated (bytes : List ℕ) (funcs : ModuleFunctions) : Type 0 wher
   pub framed : Frames bytes sections
   pub located : AreLocatedIn sections (functions funcs)
 
--- The bytes frame sections that keep the rules, and the module holds exactly them: beside its view, where each item sits, that nothing is deleted or
--- named, and which locals there are.
-pub record TakenFrom (features : Features) (bytes : List ℕ) (m : Contents) : Type 0 where
+-- The bytes frame sections that keep the rules, and the module holds exactly them, with their names: beside its view, where each item sits, that
+-- nothing is deleted, and which locals there are.
+pub record TakenFrom (features : Features) (synthetic : Bool) (bytes : List ℕ) (m : Contents) : Type 0 where
   pub sections : wire.Module
   pub framed : Frames bytes sections
-  pub supported : IsSupported sections
   pub rules : Rules sections
-  pub taken : HasTaken features sections m
+  pub names : HasNames features synthetic sections m
 
 -- the bytes frame sections, and of the custom ones these are kept, in their order
 pub record KeepsCustoms (bytes : List ℕ) (customs : List RawCustomSection) : Type 0 where
@@ -94,7 +93,6 @@ pub record ItemsAtOwnIds (m : Contents) : Type 0 where
 pub record AreModule (features : Features) (bytes : List ℕ) : Type 0 where
   pub sections : wire.Module
   pub framed : Frames bytes sections
-  pub supported : IsSupported sections
   pub rules : Rules sections
   pub bodies : List Said
   pub read : AllZip (ReadsBodyWith features sections) (zip sections.functions sections.bodies) bodies

@@ -13,6 +13,5 @@ mod numbers;
 mod producers;
 mod segments;
 mod starts;
-mod supported;
 
 pub use module::{ReadModule, read};

@@ -3,10 +3,9 @@ ghost use Rattle.std.specs.Prelude.{IfOk, IfErr};
 ghost use Rattle.walrus_model.specs.Config.{Config};
 ghost use Rattle.walrus_reading.specs.Parsed.{AreLocated, IsParsed, IsReadWith, ItemsAtOwnIds, KeepsCustoms, RefusesBytes, TakenFrom, read_view};
 
-use crate::contents::read_contents;
 use crate::customs::keep_sections;
+use crate::naming::read_named;
 use crate::numbers::check_room;
-use crate::supported::check_supported;
 use std::alloc::Global;
 use walrus_contents::Contents;
 use walrus_ir::Features;
@@ -24,27 +23,33 @@ pub struct ReadModule {
 
 /// The module that the bytes are ("Binary Format > Modules"), where bodies may use these proposals. Each item gets the id of
 /// its index, and each operator the place of its first byte; the locals stand function by function, of each its parameters and then all that
-/// it declares. Each type that a legacy handler needs is found among the types, or stands behind those that were read. Nothing has a name. Of
-/// each custom section called `producers` the fields that stand whole before its first fault are held, and this program with them. Those whose
-/// names begin with `.debug` are passed over, and all others are kept as they were read.
+/// it declares. Each type that a legacy handler needs is found among the types, or stands behind those that were read. Names are those that the
+/// custom sections called `name` give ("Appendix > Custom Sections > Name Section"), and where `synthetic` says so, functions and locals that
+/// have none then get one of their index. Of each custom section called `producers` the fields that stand whole before its first fault are held,
+/// and this program with them. Those whose names begin with `.debug` are passed over, and all others are kept as they were read.
 ///
 /// # Errors
 ///
-/// `InvalidWasm` exactly where the bytes are no module, or hold what isn't supported so far, and `Memory`.
-pub fn read(alloc: Global, bytes: &[u8], features: Features) -> Result<ReadModule>
-    ensures found { (c : Config) → IsReadWith c features
+/// `InvalidWasm` exactly where the bytes are no module, and `Memory`.
+pub fn read(
+    alloc: Global,
+    bytes: &[u8],
+    features: Features,
+    synthetic: bool,
+) -> Result<ReadModule>
+    ensures found { (c : Config) → IsReadWith c features synthetic
         → IfOk result (λ m. IsParsed c bytes.now (read_view m)) }
-    ensures refused { (c : Config) → IsReadWith c features → IfErr result (RefusesBytes c bytes.now) }
-    ensures taken { IfOk result (λ m. TakenFrom features bytes.now m.contents) }
+    ensures refused { (c : Config) → IsReadWith c features synthetic
+        → IfErr result (RefusesBytes c bytes.now) }
+    ensures taken { IfOk result (λ m. TakenFrom features synthetic bytes.now m.contents) }
     ensures own_ids { IfOk result (λ m. ItemsAtOwnIds m.contents) }
     ensures located { IfOk result (λ m. AreLocated bytes.now m.contents.funcs) }
     ensures kept { IfOk result (λ m. KeepsCustoms bytes.now m.customs.items) }
 {
     let raw = read_module(alloc, bytes)?;
     check(alloc, &raw)?;
-    check_supported(&raw)?;
     check_room(&raw)?;
     let customs = keep_sections(alloc, &raw.customs)?;
-    let (contents, _, _) = read_contents(alloc, &raw, &features)?;
+    let contents = read_named(alloc, &raw, &features, synthetic)?;
     Ok(ReadModule { contents, customs })
 }

@@ -103,7 +103,7 @@ pub mod WrittenBodies
 pub mod FitsTold
 pub mod TextFits
 pub mod FitsLimits
-pub mod ReadSoFar
+pub mod ReadPlain
 pub mod Runs
 pub mod ReadExample
 pub mod WorkedRun

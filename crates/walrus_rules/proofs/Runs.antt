@@ -1,4 +1,4 @@
--- What a run comes to, of what is supported so far. For those who prove it: each of these is one line to use.
+-- What a run comes to. For those who prove it: each of these is one line to use.
 use Rattle.std.proofs.Common.{ℕ, List, [], refl, arith}
 use Rattle.std.specs.Prelude.{All, Result, Ok, Err}
 use Rattle.wasm_writer.specs.Spelling.{SectionFits}
@@ -12,15 +12,14 @@ use Rattle.walrus_rules.specs.Chain.{BringsTo, Leaves, ParsedAs}
 use Rattle.walrus_rules.specs.Headline.{Reads, ComesTo, ComesOutTooLarge}
 use Rattle.walrus_rules.specs.Pinned.{IsWrittenAs}
 use Rattle.walrus_rules.specs.Refused.{Refusal, Memory, DeadItem, NoIndex, TwoIndices, TooLarge, NotWritable, Caller, Another, PassesLimits, IsSayable, RefusesToWrite}
-use Rattle.walrus_rules.specs.RunLaws.{IsFineSoFar, FineSoFar, OutputSoFar, OkSoFar, TooLargeSoFar, IsFewSoFar}
-use Rattle.walrus_rules.specs.SoFar.{ReadsSoFar}
+use Rattle.walrus_rules.specs.RunLaws.{CanBeWritten, RunsFine, RunsOutput, RunsOk, RunsTooLarge, IsFew}
 use Rattle.walrus_rules.specs.Spelling.{IsSpelledAs}
 use Rattle.walrus_rules.specs.Text.{sections_of}
 use Rattle.walrus_rules.specs.WellMade.{IsWellMade}
 use Rattle.walrus_rules.proofs.BroughtWell.{brought_well}
 use Rattle.walrus_rules.proofs.FitsTold.{ok_fits}
 use Rattle.walrus_rules.proofs.NoCause.{well_no_cause}
-pub use Rattle.walrus_rules.proofs.ReadSoFar.{reads_so_far}
+pub use Rattle.walrus_rules.proofs.ReadPlain.{reads_plain}
 use Rattle.walrus_rules.proofs.StepParsed.{live_v}
 use Rattle.walrus_rules.proofs.StepRead.{read_is_plain, steps_come_out_lem}
 use Rattle.walrus_rules.proofs.WellStays.{collected_well, leaves_well}
@@ -65,14 +64,14 @@ comes_to c bytes output m u n reads holds brings written spelled fits =
 pub comes_out_too_large : (c : Config) (bytes : List ℕ) (m u : Abstract) → Reads c bytes m → Holds m → BringsTo c m u → PassesLimits c u → ComesOutTooLarge c bytes
 comes_out_too_large c bytes m u reads holds brings large = record { module_read = m; reads = reads; holds = holds; module_left = u; brought = brings; too_large = large }
 
--- ---- of what is supported so far: it says what its sections say (`ReadSoFar`)
+-- ---- of what was read
 
-module _ (c : Config) (bytes : List ℕ) (m v w u : Abstract) (read : ReadsSoFar c bytes m) (holds : Holds m) (parsed : ParsedAs c m v) (collected : Collected v w) (leaves : Leaves w u) where
+module _ (c : Config) (bytes : List ℕ) (m v w u : Abstract) (read : Reads c bytes m) (holds : Holds m) (parsed : ParsedAs c m v) (collected : Collected v w) (leaves : Leaves w u) where
   pub reached_live : ReachedIsLive v
-  reached_live = live_v c m v parsed (read_is_plain c bytes m read.reads) holds
+  reached_live = live_v c m v parsed (read_is_plain c bytes m read) holds
 
   pub made_parsed : IsWellMade c v
-  made_parsed = parsed_is_well c bytes m v read.reads holds parsed
+  made_parsed = parsed_is_well c bytes m v read holds parsed
 
   pub made_collected : IsWellMade c w
   made_collected = collected_well c v w made_parsed reached_live collected
@@ -83,8 +82,8 @@ module _ (c : Config) (bytes : List ℕ) (m v w u : Abstract) (read : ReadsSoFar
   pub brought : BringsTo c m u
   brought = record { module_parsed = v; module_kept = w; parsed = parsed; collected = collected; leaves = leaves }
 
-pub fine_so_far : FineSoFar
-fine_so_far c bytes m v w u read holds parsed collected leaves =
+pub runs_fine : RunsFine
+runs_fine c bytes m v w u read holds parsed collected leaves =
     let well = left_well c bytes m v w u read holds parsed collected leaves in
     record {
       parsed = made_parsed c bytes m v w u read holds parsed collected leaves;
@@ -94,27 +93,27 @@ fine_so_far c bytes m v w u read holds parsed collected leaves =
       brings = brought c bytes m v w u read holds parsed collected leaves;
     }
 
-pub output_so_far : OutputSoFar
-output_so_far c bytes output m v w u read holds parsed collected leaves out =
-    comes_to c bytes output m u out.module_written read.reads holds (brought c bytes m v w u read holds parsed collected leaves) out.written out.spelled out.fits
+pub runs_output : RunsOutput
+runs_output c bytes output m v w u read holds parsed collected leaves out =
+    comes_to c bytes output m u out.module_written read holds (brought c bytes m v w u read holds parsed collected leaves) out.written out.spelled out.fits
 
-pub ok_so_far : OkSoFar
-ok_so_far c bytes output m v w u n read holds parsed collected leaves ok written spelled =
-    output_so_far c bytes output m v w u read holds parsed collected leaves
+pub runs_ok : RunsOk
+runs_ok c bytes output m v w u n read holds parsed collected leaves ok written spelled =
+    runs_output c bytes output m v w u read holds parsed collected leaves
     (record { module_written = n; written = written; spelled = spelled; fits = ok_fits c u n spelled.text ok written spelled.spells })
 
-pub too_large_so_far : TooLargeSoFar
-too_large_so_far c bytes m v w u read holds parsed collected leaves large =
-    comes_out_too_large c bytes m u read.reads holds (brought c bytes m v w u read holds parsed collected leaves)
+pub runs_too_large : RunsTooLarge
+runs_too_large c bytes m v w u read holds parsed collected leaves large =
+    comes_out_too_large c bytes m u read holds (brought c bytes m v w u read holds parsed collected leaves)
     (large.2 (well_sayable c u (left_well c bytes m v w u read holds parsed collected leaves).0))
 
-pub few_so_far : {X : Type 0} (c : Config) (u : Abstract) (result : Result X Refusal) → IsFineSoFar c u → RefusesToWrite ⊥ c u result → IsFewSoFar result
-few_so_far c u (Ok x) are h = tt
-few_so_far c u (Err Memory) are h = tt
-few_so_far c u (Err TooLarge) are h = tt
-few_so_far c u (Err Caller) are h = h
-few_so_far c u (Err DeadItem) are h = are.no_cause.all_there h
-few_so_far c u (Err TwoIndices) are h = are.no_cause.one_index h
-few_so_far c u (Err NoIndex) are h = are.no_cause.indices h
-few_so_far c u (Err NotWritable) are h = are.no_cause.spelled h
-few_so_far c u (Err Another) are h = h
+pub runs_few : {X : Type 0} (c : Config) (u : Abstract) (result : Result X Refusal) → CanBeWritten c u → RefusesToWrite ⊥ c u result → IsFew result
+runs_few c u (Ok x) are h = tt
+runs_few c u (Err Memory) are h = tt
+runs_few c u (Err TooLarge) are h = tt
+runs_few c u (Err Caller) are h = h
+runs_few c u (Err DeadItem) are h = are.no_cause.all_there h
+runs_few c u (Err TwoIndices) are h = are.no_cause.one_index h
+runs_few c u (Err NoIndex) are h = are.no_cause.indices h
+runs_few c u (Err NotWritable) are h = are.no_cause.spelled h
+runs_few c u (Err Another) are h = h

@@ -47,7 +47,7 @@ use Rattle.walrus_rules.specs.WorkedDeclared.{names_itself, undeclared_text, und
 use Rattle.walrus_rules.specs.WorkedSections.{Runs}
 use Rattle.walrus_rules.proofs.BodiesBack.{bodies_hold}
 use Rattle.walrus_rules.proofs.NeedsBase.{no_item, given, are_given, declares_none, NamesNone}
-use Rattle.walrus_rules.proofs.ReadSoFar.{said_alone}
+use Rattle.walrus_rules.proofs.ReadPlain.{said_alone}
 use Rattle.walrus_rules.proofs.Runs.{comes_to}
 use Rattle.walrus_rules.proofs.SpelledReads.{nested_reads}
 use Rattle.walrus_rules.proofs.WorkedParts.{runs}

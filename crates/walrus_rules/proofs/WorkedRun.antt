@@ -36,7 +36,7 @@ use Rattle.walrus_rules.proofs.NeedsBase.{no_item, one_carried, no_items, given,
 use Rattle.walrus_rules.proofs.NotBoth.{not_both}
 use Rattle.walrus_rules.proofs.OneOutput.{one_output}
 use Rattle.walrus_rules.proofs.ReadExample.{two_functions_read, one_function_read, same_modules}
-use Rattle.walrus_rules.proofs.Runs.{leaves_itself, output_so_far}
+use Rattle.walrus_rules.proofs.Runs.{leaves_itself, runs_output}
 use Rattle.walrus_rules.proofs.SpelledFits.{spelled_fits}
 use Rattle.walrus_rules.proofs.Worked.{one_spelled}
 use Rattle.walrus_rules.proofs.WorkedWritten.{the_type, the_body, the_function, same_type, no_ref, no_local}
@@ -374,14 +374,14 @@ module _ (c : Config) where
 -- ---- the run
 
 read_again : (c : Config) → Reads c (written_as one_spelled.text) one_function
-read_again c = subst (λ bytes. Reads c bytes one_function) one_spelled.written (subst (Reads c one_function_bytes) (sym same_modules) (one_function_read c).reads)
+read_again c = subst (λ bytes. Reads c bytes one_function) one_spelled.written (subst (Reads c one_function_bytes) (sym same_modules) (one_function_read c))
 
 row_fits : (c : Config) → All SectionFits (sections_of one_spelled.text)
 row_fits c = let ss = sections_of one_spelled.text in λ i s less. spelled_fits c one_function one_spelled.text (get_or ss i s) one_spelled.spells (read_again c) (All-contains_itself ss i s less)
 
 comes_to_one : (c : Config) → c.writes_names ≡ false → c.writes_producers ≡ false → ComesTo c two_functions_bytes one_function_bytes
 comes_to_one c names producers =
-    output_so_far c two_functions_bytes one_function_bytes two_functions (parsed c) (left c) (left c) (two_functions_read c) two_functions_hold (two_parsed c) (two_collected c) (leaves_itself (left c) (names_none c))
+    runs_output c two_functions_bytes one_function_bytes two_functions (parsed c) (left c) (left c) (two_functions_read c) two_functions_hold (two_parsed c) (two_collected c) (leaves_itself (left c) (names_none c))
     (record { module_written = one_function; written = left_written c names producers; spelled = one_spelled; fits = row_fits c })
 
 pub row_runs : (c : Config) → c.writes_names ≡ false → c.writes_producers ≡ false → RowRuns c

@@ -57,6 +57,10 @@ pub record Reads (c : Config) (bytes : List ℕ) (m : Abstract) : Type 0 where
   pub produced : AllZip Fields (payloads (codes "producers") sections) fields
   pub is : m ≡ module_of sections bodies (flat_map (map field_of) fields) (flat_map (λ xs. xs) namings)
 
+-- the bytes are accepted: they read as a module that keeps the rules
+abbrev pub Accepts : Config → List ℕ → Type 0
+Accepts c bytes = (m : Abstract) × Reads c bytes m × Holds m
+
 -- The bytes read as a module that keeps the rules. The steps bring it to one module in memory, and the output is the one spelling of what
 -- that is written as, and keeps the rules. What this comes to for a reader is `out`.
 pub record ComesTo (c : Config) (bytes output : List ℕ) : Type 0 where

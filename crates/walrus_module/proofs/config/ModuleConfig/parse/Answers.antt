@@ -10,7 +10,7 @@ use Rattle.walrus_module.proofs.config.ModuleConfig.parse.Goals as goal
 pub returns-in_err-found-clause-refused : goal.returns-in_err-found-clause-refused
 returns-in_err-found-clause-refused g c =
     let p = err_from_is_err_and c.from_residual.result c.from_residual.ensures.1 in
-    rw (p.1, p.2) (c.in_err-found.ensures.refused (config_of (flags c.args.self.now)) (record { features_are = c.features.ensures; no_names = refl }))
+    rw (p.1, p.2) (c.in_err-found.ensures.refused (config_of (flags c.args.self.now)) (record { features_are = c.features.ensures; synthetic_are = refl }))
 
 pub returns-clause-kept : goal.returns-clause-kept
 returns-clause-kept g c = record {
@@ -23,4 +23,4 @@ pub returns-clause-found : goal.returns-clause-found
 returns-clause-found g c =
     let config = config_of (flags c.args.self.now) in
     subst (λ (x : Abstract). IsParsed config c.args.bytes.now x) (sym (raw_view (λ i. (g.dyn-1.0.entry i).1) c.in_ok-found.found c.holding.result c.holding.ensures.holds (ap sections c.holding.ensures.own ∙ c.in_ok-customs.ensures.kept)))
-    (c.in_ok-found.ensures.found config (record { features_are = c.features.ensures; no_names = refl }))
+    (c.in_ok-found.ensures.found config (record { features_are = c.features.ensures; synthetic_are = refl }))

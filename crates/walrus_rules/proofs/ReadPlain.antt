@@ -1,8 +1,7 @@
--- What sections without custom ones read as, and that no names are read so far.
+-- What sections without custom ones read as.
 use Rattle.std.proofs.Common.{◌≡◌, ℕ, Bool, true, false, List, [], length, map, zip, refl, sym, ap, subst}
-use Rattle.std.specs.Prelude.{All, bytes_eq, codes, filter, if◌then◌else◌, ◌≢◌}
+use Rattle.std.specs.Prelude.{bytes_eq, codes, filter, if◌then◌else◌}
 use Rattle.std.specs.List.{AllZip}
-use Rattle.std.proofs.lemmas.List.Elements.{All-nil}
 use mathlib.Core.Path.{fun_ext}
 use Rattle.wasm_frames.specs.Frames.{Frames}
 use Rattle.wasm_frames.specs.Order.{InOrder}
@@ -13,12 +12,9 @@ use Rattle.walrus_model.specs.Abstract.{Name, Subject}
 use Rattle.walrus_model.specs.Config.{Config}
 use Rattle.walrus_model.specs.Sections as sections
 use Rattle.walrus_model.specs.Sections.{Said}
-use Rattle.walrus_model.specs.Supported.{IsSupported}
-use Rattle.walrus_model.proofs.Supported as none_of
 use Rattle.walrus_rules.specs.Headline.{ReadsBody, Reads, has_function, payloads, CountHolds}
 use Rattle.walrus_rules.specs.Namings.{is_in_range}
 use Rattle.walrus_rules.specs.Sections.{module_of}
-use Rattle.walrus_rules.specs.SoFar.{ReadsSoFar}
 
 no_names : (t : Bool) → ◌≡◌ {A = List Name} (if t then [] else []) []
 no_names true = refl
@@ -28,19 +24,14 @@ no_names false = refl
 pub said_alone : (s : wire.Module) (bodies : List Said) → module_of s bodies [] [] ≡ sections.module_of s bodies
 said_alone s bodies = ap (λ (named : Subject → List Name). record (sections.module_of s bodies) { named = named }) (fun_ext (λ x. no_names (is_in_range (sections.module_of s bodies) x)))
 
--- no section says names
-pub none_named : (s : wire.Module) → IsSupported s → AllZip (Names (has_function s)) (payloads (codes "name") s) []
-none_named s h = subst (λ ps. AllZip (Names (has_function s)) ps []) (sym (ap (map (λ (c : wire.Custom). c.bytes)) (none_of.no_names s h))) tt
-
 no_payloads : (name : Name) (s : wire.Module) → s.customs ≡ [] → payloads name s ≡ []
 no_payloads name s e = ap (λ (cs : List wire.Custom). map (λ (c : wire.Custom). c.bytes) (filter (λ (c : wire.Custom). bytes_eq c.name name) cs)) e
 
 -- sections without custom ones read as what they say
-pub reads_so_far : (c : Config) (bytes : List ℕ) (s : wire.Module) (bodies : List Said) → Frames bytes s → s.customs ≡ [] → InOrder s.order → length s.bodies ≡ length s.functions → CountHolds s
-    → AllZip (ReadsBody c s) (zip s.functions s.bodies) bodies → ReadsSoFar c bytes (sections.module_of s bodies)
-reads_so_far c bytes s bodies framed none in_order as_many counted read =
-    let supported : IsSupported s = record { customs = subst (λ cs. All (λ (c : wire.Custom). c.name ≢ codes "name") cs) (sym none) (All-nil (λ (c : wire.Custom). c.name ≢ codes "name")) } in
-    let reads : Reads c bytes (sections.module_of s bodies) = record {
+pub reads_plain : (c : Config) (bytes : List ℕ) (s : wire.Module) (bodies : List Said) → Frames bytes s → s.customs ≡ [] → InOrder s.order → length s.bodies ≡ length s.functions → CountHolds s
+    → AllZip (ReadsBody c s) (zip s.functions s.bodies) bodies → Reads c bytes (sections.module_of s bodies)
+reads_plain c bytes s bodies framed none in_order as_many counted read =
+    record {
       sections = s;
       framed = framed;
       in_order = in_order;
@@ -49,9 +40,8 @@ reads_so_far c bytes s bodies framed none in_order as_many counted read =
       bodies = bodies;
       read = read;
       namings = [];
-      named = none_named s supported;
+      named = subst (λ ps. AllZip (Names (has_function s)) ps []) (sym (no_payloads (codes "name") s none)) tt;
       fields = [];
       produced = subst (λ ps. AllZip Fields ps []) (sym (no_payloads (codes "producers") s none)) tt;
       is = sym (said_alone s bodies);
-    } in
-    record { reads = reads; supported = supported }
+    }
