@@ -17,7 +17,7 @@ look() {
 usage: $name [--no-names] [--no-producers] [--no-legacy] < IN.wasm > OUT.wasm
 
 Reads a WebAssembly module from standard input, drops what nothing reaches, and writes the rest to standard output.
-A refusal is one line on standard error, and status 1; an unknown word has status 2. The words have no effect so far.
+A refusal is one line on standard error, and status 1; an unknown word has status 2.
 $remark
 USAGE
   exit 2
