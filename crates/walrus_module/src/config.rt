@@ -39,8 +39,8 @@ impl ModuleConfig {
         }
     }
 
-    /// Whether debug information is kept (so far it never is). Asking for it turns
-    /// [`ModuleConfig::preserve_code_transform`] on too; asking for none leaves that flag as it is.
+    /// Whether debug information is asked for. None is written, whatever this says: its places would be those of the
+    /// input. Asking for it turns [`ModuleConfig::preserve_code_transform`] on too; asking for none leaves that flag.
     pub fn generate_dwarf(&mut self, generate: bool) -> &mut ModuleConfig
         ensures same_reference { result.ghost_name ≡ self.entry.ghost_name }
         ensures value { flags result.now ≡ with_dwarf generate (flags self.old) }
