@@ -24,19 +24,69 @@ fn finds_functions(module: &Module) -> bool {
     }
 }
 
-// Whether the first of each of these kinds has this name.
-fn first_are_named(module: &Module, ty: &str, table: &str, memory: &str, global: &str) -> bool {
-    matches!(module.types.iter().next(), Some(first) if is_name(&first.name, ty))
-        && matches!(module.tables.iter().next(), Some(first) if is_name(&first.name, table))
-        && matches!(module.memories.iter().next(), Some(first) if is_name(&first.name, memory))
-        && matches!(module.globals.iter().next(), Some(first) if is_name(&first.name, global))
+// Whether the first of a kind has this name.
+fn is_first_type(module: &Module, name: &str) -> bool {
+    match module.types.iter().next() {
+        Some(first) => is_name(&first.name, name),
+        None => false,
+    }
 }
 
-// The same of locals and of segments.
+fn is_first_table(module: &Module, name: &str) -> bool {
+    match module.tables.iter().next() {
+        Some(first) => is_name(&first.name, name),
+        None => false,
+    }
+}
+
+fn is_first_memory(module: &Module, name: &str) -> bool {
+    match module.memories.iter().next() {
+        Some(first) => is_name(&first.name, name),
+        None => false,
+    }
+}
+
+fn is_first_global(module: &Module, name: &str) -> bool {
+    match module.globals.iter().next() {
+        Some(first) => is_name(&first.name, name),
+        None => false,
+    }
+}
+
+fn is_first_local(module: &Module, name: &str) -> bool {
+    match module.locals.iter().next() {
+        Some(first) => is_name(&first.name, name),
+        None => false,
+    }
+}
+
+fn is_first_element(module: &Module, name: &str) -> bool {
+    match module.elements.iter().next() {
+        Some(first) => is_name(&first.name, name),
+        None => false,
+    }
+}
+
+fn is_first_data(module: &Module, name: &str) -> bool {
+    match module.data_.iter().next() {
+        Some(first) => is_name(&first.name, name),
+        None => false,
+    }
+}
+
+// Whether the first type, table, memory and global have these names.
+fn first_are_named(module: &Module, ty: &str, table: &str, memory: &str, global: &str) -> bool {
+    is_first_type(module, ty)
+        && is_first_table(module, table)
+        && is_first_memory(module, memory)
+        && is_first_global(module, global)
+}
+
+// The same of the first local and the first segments.
 fn others_are_named(module: &Module, local: &str, elements: &str, data: &str) -> bool {
-    matches!(module.locals.iter().next(), Some(first) if is_name(&first.name, local))
-        && matches!(module.elements.iter().next(), Some(first) if is_name(&first.name, elements))
-        && matches!(module.data_.iter().next(), Some(first) if is_name(&first.name, data))
+    is_first_local(module, local)
+        && is_first_element(module, elements)
+        && is_first_data(module, data)
 }
 
 fn is_found(module: &Module) -> bool {
