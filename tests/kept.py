@@ -13,8 +13,8 @@ refused or one of these doesn't hold. Items have other indices behind a run, and
   module has its own name; the producers are those of before with this program put in.
 Where wabt is installed, and reads the input:
 - By `wasm-objdump -x`: exports and start function are those of before, with the names of what they are. Each import, function, table,
-  memory, tag, global, segment and byte of data stands in the input, as often, the functions with their signature and their name. Of
-  functions, tables, memories, globals and data no more are without a name than before, so that none has lost it.
+  memory, tag, global, segment and byte of data stands in the input, as often, the functions with their signature and their name. No more
+  functions, tables, memories and globals are without a name than before, so that none has lost it.
 - By `wasm-objdump -d`: the operators of each function, with the names of what they name, are those of a function of the same name, but for
   those that are dropped since nothing reaches them. So a name has stayed where it was, and what is called has the name that it had.
 - `wasm-validate` accepts the output, or binaryen's `wasm-opt` where only that accepts the input.
@@ -29,9 +29,9 @@ import tempfile
 
 # All that wabt has but typed references to functions, with which it refuses what `ref.func` gives where any function may stand.
 FEATURES = ["--enable-" + name for name in "exceptions threads tail-call memory64 multi-memory extended-const relaxed-simd".split()]
-THIS_PROGRAM = 'producers processed-by "walrus" "0.28.0"'
-# How `wasm-objdump -x` calls the items of each kind that `wasm_copy --names` names and to which a run adds none.
-KINDS = {"function": " - func[", "table": " - table[", "memory": " - memory[", "global": " - global["}
+FIELD, THIS_PROGRAM = "producers processed-by ", 'producers processed-by "walrus" "0.28.0"'
+# What a line of `wasm-objdump -x` on an item begins with, for the kinds of which a run adds none.
+KINDS = {"function": " - func ", "table": " - table ", "memory": " - memory ", "global": " - global "}
 
 
 class Wrong(Exception):
@@ -60,26 +60,28 @@ def number_at(module, at):
 
 
 def customs(module):
-    """The name and the data of each custom section that a run keeps as it is."""
-    found, at = [], 8
+    """The name and the data of each custom section that a run keeps as it is, and whether it stands in front of all that aren't custom."""
+    found, at, is_in_front = [], 8, True
     while at < len(module):
         size, begin = number_at(module, at + 1)
         if module[at] == 0:
             length, name = number_at(module, begin)
-            found.append((module[name : name + length].decode(), module[name + length : begin + size]))
+            found.append((module[name : name + length].decode(), module[name + length : begin + size], is_in_front))
+        is_in_front &= module[at] == 0
         at = begin + size
     return [it for it in found if it[0] not in ("name", "producers") and not it[0].startswith(".debug")]
 
 
 def expected_customs(module):
-    found = customs(module)
-    return sorted(found, key=lambda it: it[0] not in ("dylink", "dylink.0"))
+    found = [(name, data, name in ("dylink", "dylink.0")) for name, data, _ in customs(module)]
+    return sorted(found, key=lambda it: not it[2])
 
 
 def names_of(wasm_copy, path):
     """The lines of `wasm_copy --names`: those of names, and those of producers."""
-    lines = output_of(wasm_copy, "--names", given=path.read_bytes()).decode().split("\n")[:-1]
-    is_producer = lambda line: line.startswith("producers ")
+    text = output_of(wasm_copy, "--names", given=path.read_bytes())
+    demand(text is not None, f"wasm_copy doesn't read {path.name}")
+    lines, is_producer = text.decode().split("\n")[:-1], lambda line: line.startswith("producers ")
     return [it for it in lines if not is_producer(it)], [it for it in lines if is_producer(it)]
 
 
@@ -92,12 +94,12 @@ def namings(lines):
 
 
 def with_this_program(producers):
-    """Producers with this program as the last value of the field `processed-by`, which stands behind all others where it is new."""
-    field, value = THIS_PROGRAM.rsplit(" ", 1)
-    others = [it for it in producers if not it.startswith(field + " ")]
-    demand(others == producers, "the input names this program, for which there is no rule here")
-    last = max((at for at, it in enumerate(others, 1) if it.startswith("producers processed-by ")), default=len(others))
-    return [*others[:last], f"{field} {value}", *others[last:]]
+    """Producers with this program in the field `processed-by`: where it stood, or behind its other values, or in a field behind all others."""
+    itself = THIS_PROGRAM.rsplit(" ", 1)[0] + " "
+    if any(it.startswith(itself) for it in producers):
+        return [THIS_PROGRAM if it.startswith(itself) else it for it in producers]
+    last = max((at for at, it in enumerate(producers, 1) if it.startswith(FIELD)), default=len(producers))
+    return [*producers[:last], THIS_PROGRAM, *producers[last:]]
 
 
 def compare_names(wasm_copy, path, output):
@@ -123,10 +125,11 @@ def details(text):
     return sections
 
 
-def unnamed(text, lines):
-    """How many items of each kind have no name, by the text of `wasm-objdump -x` and the lines of `wasm_copy --names`."""
-    items = re.split(r"^(?:Export|Code|Custom)\b", text, flags=re.MULTILINE)[0]
-    return {kind: items.count(word) - sum(line.startswith(kind + " ") for line in lines) for kind, word in KINDS.items()}
+def unnamed(sections, lines):
+    """How many items of each kind have no name, by the lines of sections and those of `wasm_copy --names`."""
+    items = [line for section in ("Import", "Function", "Table", "Memory", "Global") for line in sections[section]]
+    count = lambda words, start: sum(it.startswith(start) for it in words)
+    return {kind: count(items, word) - count(lines, kind + " ") for kind, word in KINDS.items()}
 
 
 def operators(text):
@@ -148,24 +151,34 @@ def is_within(few, many):
     return all(it in rest for it in few)
 
 
+def shown(flag, path):
+    """The text of `wasm-objdump`, or None where it doesn't read the module."""
+    text = output_of("wasm-objdump", flag, str(path))
+    return text and text.decode()
+
+
+def compare_operators(path, output):
+    old, new = operators(shown("-d", path)), operators(shown("-d", output))
+    for name, bodies in new.items():
+        for body in bodies:
+            demand(any(is_within(body, other) for other in old[name]), f"other operators of{name}")
+
+
 def compare_items(wasm_copy, path, output):
     """Compares by `wasm-objdump`, where that reads the input; whether it does."""
-    before = output_of("wasm-objdump", "-x", str(path))
+    before, after = shown("-x", path), shown("-x", output)
     if before is None:
         return False
-    before, after = before.decode(), output_of("wasm-objdump", "-x", str(output)).decode()
+    demand(after is not None, "wasm-objdump doesn't read it")
     old, new = details(before), details(after)
     for section in ("Export", "Start"):
         demand(old[section] == new[section], f"another section {section}: {new[section]}")
     for section in ("Import", "Function", "Table", "Memory", "Tag", "Global", "Elem", "Data"):
         added = collections.Counter(new[section]) - collections.Counter(old[section])
         demand(not added, f"not of before in section {section}: {list(added)}")
-    less, more = unnamed(after, names_of(wasm_copy, output)[0]), unnamed(before, names_of(wasm_copy, path)[0])
+    less, more = unnamed(new, names_of(wasm_copy, output)[0]), unnamed(old, names_of(wasm_copy, path)[0])
     demand(all(less[kind] <= more[kind] for kind in KINDS), f"without names {less}, before {more}")
-    old, new = (operators(output_of("wasm-objdump", "-d", str(it)).decode()) for it in (path, output))
-    for name, bodies in new.items():
-        for body in bodies:
-            demand(any(is_within(body, other) for other in old[name]), f"other operators of{name}")
+    compare_operators(path, output)
     return True
 
 
@@ -214,7 +227,8 @@ def main():
                 word, told = "FAILED", str(wrong)
             count[word] += 1
             print(f"{word:7} {path.name:28} {told}", flush=True)
-    print(f"the program handles {len(paths) - count['FAILED']} of {len(paths)} modules as it has to, {count['valid']} valid by a tool that reads them")
+    right = len(paths) - count["FAILED"]
+    print(f"the program handles {right} of {len(paths)} modules as it has to, {count['valid']} of them valid by a tool that reads them")
     sys.exit(1 if not paths or count["FAILED"] else 0)
 
 
