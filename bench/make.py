@@ -9,8 +9,19 @@ KIND: small    many functions of a few operators each
       entries  types, imports, globals, exports, segments of elements and of data in equal parts, and no code
       group    function types in one group, of which an exported function has the last, so that the group stays whole
       tables   tables, each with an active segment of one function, so that all of them stay
-Of the first five every function is exported or called by one that is, so nothing of it is dropped.
+      every    every section: a fifth is code as that of bodies, and the rest the parts named below
+      every:code, or every:PART,PART..: of that module the code alone, or the code and these parts
+Of the first five every function is exported or called by one that is, so nothing of it is dropped, and nothing of every but one of its
+custom sections, of debug information. The parts of every: as many items of each kind, each of which stays, and custom sections.
+      functions  imports of functions, each of a type of its own, and exported
+      tables     tables, each with an active segment that lists ten functions
+      memories   memories, each with an active segment of a hundred bytes
+      tags, globals  these, each exported
+      names      a name for each item, local and field of what the other parts are, and for the module
+      producers  a tool for each of the items
+      customs    ten custom sections of other names, one of them of debug information
 """
+import collections
 import sys
 
 
@@ -74,11 +85,11 @@ def mixed_operators(callee):
     )
 
 
-def mixed_bodies(size):
+def mixed_bodies(size, first=0):
     bodies, total, index = [], 0, 0
     while total < size:
         # four locals and three; each calls the next one
-        body = b"\x02\x04\x7F\x03\x7E" + mixed_operators(index + 1) * (10 + index % 100) + b"\x0B"
+        body = b"\x02\x04\x7F\x03\x7E" + mixed_operators(first + index + 1) * (10 + index % 100) + b"\x0B"
         bodies.append(body)
         total += len(body) + 3
         index += 1
@@ -135,6 +146,98 @@ def entry_sections(size):
     segments, segment_count = entries_until(part, lambda i: b"\x01\x14" + b"twenty bytes of data")
     return [(1, types), (2, imports), (6, globals_), (7, exports), (9, elements), (12, unsigned(segment_count)), (11, segments)]
 
+# The bytes that the items of one row of the kind every take, one of each part but custom sections.
+ROW = 410
+
+
+def parameters(i):
+    """A function type that differs for each number: its parameters are the digits of the number, and it has one result."""
+    digits = bytes(b"\x7F\x7E\x7D\x7C"[i >> 2 * at & 3] for at in range(10))
+    return b"\x60" + sized(digits) + b"\x01\x7F"
+
+
+def export(word, kind, index):
+    return sized(b"%s %07d" % (word, index)) + bytes([kind]) + unsigned(index)
+
+
+def namings(indices, word):
+    indices = list(indices)
+    return unsigned(len(indices)) + b"".join(unsigned(i) + sized(b"%s %07d" % (word, i)) for i in indices)
+
+
+def name_section(entries, functions, bodies):
+    """The data of a custom section `name`, with names for all items of these entries, and for the locals that mixed_operators uses."""
+    # the last body has no locals
+    local_names = b"".join(unsigned(i) + namings((0, 1, 2, 4), b"local") for i in range(functions - bodies, functions - 1))
+    spaces = ((4, b"type", 1), (5, b"table", 4), (6, b"memory", 5), (7, b"global", 6), (8, b"elements", 9), (9, b"data", 11), (11, b"tag", 13))
+    return b"".join([
+        section(0, sized(b"every section")),
+        section(1, namings(range(functions), b"function")),
+        section(2, unsigned(bodies - 1) + local_names),
+        *(section(number, namings(range(len(entries[of])), word)) for number, word, of in spaces if entries[of]),
+    ])
+
+
+def add_rows(entries, parts, count, functions):
+    """The entries of so many items of each part, beside those of the code; functions is how many there are of all."""
+    rows = range(count)
+    if "functions" in parts:
+        entries[1] += map(parameters, rows)
+        entries[2] += (sized(b"env") + sized(b"function %07d" % i) + b"\x00" + unsigned(i + 1) for i in rows)
+        entries[7] += (export(b"function", 0, i) for i in rows)
+    if "tables" in parts:
+        entries[4] += (b"\x70\x01\x0A" + unsigned(100 + i) for i in rows)
+        ten = lambda i: b"".join(unsigned((i * 10 + j) % functions) for j in range(10))
+        entries[9] += (b"\x02" + unsigned(i) + b"\x41\x00\x0B\x00\x0A" + ten(i) for i in rows)
+    if "memories" in parts:
+        entries[5] += (b"\x01\x01" + unsigned(1 + i % 65536) for i in rows)
+        entries[11] += (b"\x02" + unsigned(i + 1) + b"\x41\x00\x0B" + sized(b"ten bytes\n" * 10) for i in rows)
+    if "tags" in parts:
+        entries[13] += (b"\x00\x00" for i in rows)
+        entries[7] += (export(b"tag", 4, i) for i in rows)
+    if "globals" in parts:
+        entries[6] += (b"\x7F\x01\x41" + unsigned(i) + b"\x0B" for i in rows)
+        entries[7] += (export(b"global", 3, i) for i in rows)
+
+
+def custom_sections(entries, parts, count, functions, bodies, size):
+    """The custom sections of the parts; those that aren't called name or producers have this size together."""
+    sections = []
+    if "names" in parts:
+        sections.append((0, sized(b"name") + name_section(entries, functions, bodies)))
+    if "producers" in parts:
+        tools = b"".join(sized(b"tool %07d" % i) + sized(b"1.0.0") for i in range(count))
+        sections.append((0, sized(b"producers") + b"\x01" + sized(b"processed-by") + unsigned(count) + tools))
+    if "customs" in parts:
+        names = [b".debug_info", *(b"section %d" % i for i in range(9))]
+        sections += ((0, sized(name) + b"\xC5" * (size // 10)) for name in names)
+    return sections
+
+
+def every_sections(parts, size):
+    """A fifth of code, of what is left a tenth of custom sections, and else rows: of these the code and the parts that are wanted."""
+    others = size - size // 5
+    count = others * 9 // 10 // ROW
+    first = count if "functions" in parts else 0
+    bodies = mixed_bodies(size // 5, first)
+    functions = first + len(bodies)
+    entries = collections.defaultdict(list, {1: [b"\x60\x00\x00"], 5: [b"\x00\x01"], 7: [export(b"start", 0, first)]})
+    entries[3] = [b"\x00"] * len(bodies)
+    add_rows(entries, parts, count, functions)
+    entries[10] = list(map(sized, bodies))
+    listed = {number: unsigned(len(entries[number])) + b"".join(entries[number]) for number in entries if entries[number]}
+    listed[8] = unsigned(first)
+    if 11 in listed:
+        listed[12] = unsigned(len(entries[11]))
+    order = (1, 2, 3, 4, 5, 13, 6, 7, 8, 9, 12, 10, 11)
+    plain = [(number, listed[number]) for number in order if number in listed]
+    return plain + custom_sections(entries, parts, count, functions, len(bodies), others // 10)
+
+
+def parts_of(kind):
+    """The parts that a kind every or every:PART,PART.. asks for."""
+    return kind.partition(":")[2].split(",") if ":" in kind else "functions tables memories tags globals names producers customs".split()
+
 
 def code_sections(kind, size):
     bodies = bodies_of(kind, size)
@@ -153,7 +256,10 @@ def code_sections(kind, size):
 def main():
     kind, size = sys.argv[1], int(float(sys.argv[2]) * 1_000_000)
     apart = {"entries": entry_sections, "group": group_sections, "tables": table_sections}
-    sections = apart[kind](size) if kind in apart else code_sections(kind, size)
+    if kind.partition(":")[0] == "every":
+        sections = every_sections(parts_of(kind), size)
+    else:
+        sections = apart[kind](size) if kind in apart else code_sections(kind, size)
     sys.stdout.buffer.write(b"\x00asm\x01\x00\x00\x00" + b"".join(section(*s) for s in sections))
 
 

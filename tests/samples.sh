@@ -2,7 +2,8 @@
 # Copies each module of a folder with the built program, which also reads the copy and compares the records, and copies the
 # copy, which has to stay as it is. Compares the names that the program lists with those that other tools found (tests/names),
 # first those of the program's stored run. Then reads each body of each module as operators over ids, writes it, reads what was
-# written, and compares, with the built program wasm_bodies. Prints a line a file and the counts. `.ci/run` runs it behind the gate.
+# written, and compares, with the built program wasm_bodies. Last runs walrus_gc over each module, and compares what comes out with what went
+# in (kept.py, which says in what). Prints a line a file and the counts. `.ci/run` runs it behind the gate.
 # tests/samples.sh [FOLDER..], where none is given tests/samples and, where it is there, ../shared/samples.
 set -eu
 top=$(cd "$(dirname "$0")/.." && pwd)
@@ -12,8 +13,10 @@ if [ $# = 0 ]; then
 fi
 "$top/tests/build.sh" wasm_copy
 "$top/tests/build.sh" wasm_bodies
+"$top/tests/build.sh" walrus_gc
 program=$top/crates/wasm_copy/out/wasm_copy
 bodies=$top/crates/wasm_bodies/out/wasm_bodies
+smaller=$top/crates/walrus_gc/out/walrus_gc
 files=$(mktemp -d)
 trap 'rm -rf "$files"' EXIT
 
@@ -75,4 +78,7 @@ for module in "${all_modules[@]}"; do
   printf '%-7s %-33s %s\n' "$word" "$told" "$(basename "$module")"
 done
 echo "of $same of $all modules each body comes out the same"
-[ "$all" -gt 0 ] && [ "$copied" = "$all" ] && [ "$listed" = "$all" ] && [ "$same" = "$all" ]
+
+kept=yes
+"$top/tests/kept.py" "$smaller" "$program" "${all_modules[@]}" || kept=no
+[ "$all" -gt 0 ] && [ "$copied" = "$all" ] && [ "$listed" = "$all" ] && [ "$same" = "$all" ] && [ "$kept" = yes ]
