@@ -4,7 +4,7 @@
 use std::alloc::Global;
 use std::test::Fail;
 use test_support::{add_bytes, demand, is_text};
-use walrus::{Error, Module, ModuleConfig, ModuleProducers, ProducerField};
+use walrus::{Error, Module, ModuleConfig};
 use walrus_test_support::is_output;
 
 const EMPTY: &str = "00 61 73 6D 01 00 00 00";
@@ -53,19 +53,15 @@ fn producers_are_left_out(rt: HostRuntime) -> Result<(), Fail> {
     demand(leaves_out(rt.alloc()), EMPTY)
 }
 
-fn holds_alone(field: &ProducerField, name: &str, version: &str) -> bool {
-    match field.values() {
-        [value] => is_text(value.name(), name) && is_text(value.version(), version),
-        _ => false,
-    }
-}
-
 // Whether the one field is `sdk`, and the one value in it `a` of version 2.
-fn holds_the_last(producers: &ModuleProducers) -> bool {
-    match producers.fields() {
-        [field] => is_text(field.name(), "sdk") && holds_alone(field, "a", "2"),
-        _ => false,
-    }
+fn holds_the_last(module: &Module) -> bool {
+    let [field] = module.producers.fields() else {
+        return false;
+    };
+    let [value] = field.values() else {
+        return false;
+    };
+    is_text(field.name(), "sdk") && is_text(value.name(), "a") && is_text(value.version(), "2")
 }
 
 fn puts_in_twice(alloc: Global) -> bool {
@@ -74,7 +70,7 @@ fn puts_in_twice(alloc: Global) -> bool {
     };
     module.producers.add_sdk("a", "1").is_ok()
         && module.producers.add_sdk("a", "2").is_ok()
-        && holds_the_last(&module.producers)
+        && holds_the_last(&module)
 }
 
 #[test]
