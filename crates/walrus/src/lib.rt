@@ -22,7 +22,7 @@ pub use walrus_module::{
     InstrLocId, InstrSeqBuilder, ItemId, ItemMarks, Local, LocalFunction, LocalId, Marks, Memory,
     MemoryId, Module, ModuleConfig, ModuleCustomSections, ModuleData, ModuleElements,
     ModuleExports, ModuleFunctions, ModuleGlobals, ModuleImports, ModuleLocals, ModuleMemories,
-    ModuleTables, ModuleTags, ModuleTypes, NewType, Operator, RawCustomSection, RefType, Result,
-    Roots, SectionEntry, StorageType, StructType, Table, TableId, Tag, TagId, TagKind, Type,
-    TypeId, UntypedCustomSectionId, ValType, Value,
+    ModuleProducers, ModuleTables, ModuleTags, ModuleTypes, NewType, Operator, ProducerField,
+    ProducerValue, RawCustomSection, RefType, Result, Roots, SectionEntry, StorageType, StructType,
+    Table, TableId, Tag, TagId, TagKind, Type, TypeId, UntypedCustomSectionId, ValType, Value,
 };
