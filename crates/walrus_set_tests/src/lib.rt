@@ -1,0 +1,7 @@
+//! Tests of element segments in the sets of their tables.
+#![tactic(auto)]
+
+#[cfg(test)]
+mod made;
+#[cfg(test)]
+mod sets;
