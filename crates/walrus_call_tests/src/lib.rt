@@ -8,8 +8,6 @@ mod library;
 #[cfg(test)]
 mod modules;
 #[cfg(test)]
-mod names;
-#[cfg(test)]
 mod producers;
 #[cfg(test)]
 mod spaces;

@@ -3,8 +3,8 @@
 
 use std::alloc::Global;
 use std::test::Fail;
-use test_support::{add_bytes, demand};
-use walrus::{Error, Module, ModuleConfig};
+use test_support::{add_bytes, demand, is_text};
+use walrus::{Error, Module, ModuleConfig, ModuleProducers, ProducerField};
 use walrus_test_support::is_output;
 
 const EMPTY: &str = "00 61 73 6D 01 00 00 00";
@@ -51,4 +51,33 @@ fn leaves_out(alloc: Global) -> bool {
 #[test]
 fn producers_are_left_out(rt: HostRuntime) -> Result<(), Fail> {
     demand(leaves_out(rt.alloc()), EMPTY)
+}
+
+fn holds_alone(field: &ProducerField, name: &str, version: &str) -> bool {
+    match field.values() {
+        [value] => is_text(value.name(), name) && is_text(value.version(), version),
+        _ => false,
+    }
+}
+
+// Whether the one field is `sdk`, and the one value in it `a` of version 2.
+fn holds_the_last(producers: &ModuleProducers) -> bool {
+    match producers.fields() {
+        [field] => is_text(field.name(), "sdk") && holds_alone(field, "a", "2"),
+        _ => false,
+    }
+}
+
+fn puts_in_twice(alloc: Global) -> bool {
+    let Ok(mut module) = Module::with_config(alloc, ModuleConfig::new()) else {
+        return false;
+    };
+    module.producers.add_sdk("a", "1").is_ok()
+        && module.producers.add_sdk("a", "2").is_ok()
+        && holds_the_last(&module.producers)
+}
+
+#[test]
+fn a_value_takes_the_place_of_one_of_its_name(rt: HostRuntime) -> Result<(), Fail> {
+    demand(puts_in_twice(rt.alloc()), "one field of one value")
 }

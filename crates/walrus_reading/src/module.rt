@@ -31,12 +31,7 @@ pub struct ReadModule {
 /// # Errors
 ///
 /// `InvalidWasm` exactly where the bytes are no module, and `Memory`.
-pub fn read(
-    alloc: Global,
-    bytes: &[u8],
-    features: Features,
-    synthetic: bool,
-) -> Result<ReadModule>
+pub fn read(alloc: Global, bytes: &[u8], features: Features, synthetic: bool) -> Result<ReadModule>
     ensures found { (c : Config) → IsReadWith c features synthetic
         → IfOk result (λ m. IsParsed c bytes.now (read_view m)) }
     ensures refused { (c : Config) → IsReadWith c features synthetic

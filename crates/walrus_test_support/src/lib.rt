@@ -1,6 +1,11 @@
-//! What tests of modules that a program edits are written with: functions and references to add, and whether emission answered so.
+//! What tests are written with that run the program, or that edit modules: rows of what goes in and comes out, functions and
+//! references to add, and whether emission answered so.
 #![tactic(auto)]
 
 mod modules;
+mod program;
+mod rows;
 
 pub use modules::{add_function, is_output, listed, reference};
+pub use program::{Outcome, add_words, ended, is_invalid, passed, refused, run};
+pub use rows::{comes_out, each_comes_out, each_is_refused};

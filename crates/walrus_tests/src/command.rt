@@ -1,9 +1,9 @@
 //! The words of the program, its statuses and its messages.
 
-use crate::devices::{add_words, passed, refused, run};
 use std::alloc::Global;
 use std::test::Fail;
 use test_support::{add_bytes, demand};
+use walrus_test_support::{add_words, passed, refused, run};
 
 const EMPTY: &str = "00 61 73 6D 01 00 00 00";
 

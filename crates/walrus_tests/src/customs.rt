@@ -1,9 +1,8 @@
 //! Worked modules with custom sections: which stay, and where they are written.
 
-use crate::devices::add_words;
-use crate::rows::{each_comes_out, each_is_refused};
 use std::test::Fail;
 use test_support::demand;
+use walrus_test_support::{add_words, each_comes_out, each_is_refused};
 
 // Modules, and what they are written as without producers.
 const ROWS: [(&str, &str); 4] = [
@@ -37,6 +36,20 @@ const INVALID: [&str; 2] = [
     "00 61 73 6D 01 00 00 00 00 02 01 FF",
 ];
 
+// Modules with producers, and what they are written as with walrus 0.28.0 among them.
+const PRODUCED: [(&str, &str); 2] = [
+    // two fields, of which the second isn't whole
+    (
+        "00 61 73 6D 01 00 00 00 00 15 09 70 72 6F 64 75 63 65 72 73 02 03 73 64 6B 01 01 61 01 31 05",
+        "00 61 73 6D 01 00 00 00 00 30 09 70 72 6F 64 75 63 65 72 73 02 03 73 64 6B 01 01 61 01 31 0C 70 72 6F 63 65 73 73 65 64 2D 62 79 01 06 77 61 6C 72 75 73 06 30 2E 32 38 2E 30",
+    ),
+    // two fields of one name
+    (
+        "00 61 73 6D 01 00 00 00 00 1D 09 70 72 6F 64 75 63 65 72 73 02 03 73 64 6B 01 01 61 01 31 03 73 64 6B 01 01 61 01 32",
+        "00 61 73 6D 01 00 00 00 00 39 09 70 72 6F 64 75 63 65 72 73 03 03 73 64 6B 01 01 61 01 31 03 73 64 6B 01 01 61 01 32 0C 70 72 6F 63 65 73 73 65 64 2D 62 79 01 06 77 61 6C 72 75 73 06 30 2E 32 38 2E 30",
+    ),
+];
+
 #[test]
 fn custom_sections_come_out(rt: HostRuntime) -> Result<(), Fail> {
     let mut words = Vec::new(rt.alloc());
@@ -55,4 +68,9 @@ fn invalid_custom_sections_are_refused(rt: HostRuntime) -> Result<(), Fail> {
         "memory",
     )?;
     each_is_refused(rt.alloc(), &words, &INVALID)
+}
+
+#[test]
+fn producers_come_out(rt: HostRuntime) -> Result<(), Fail> {
+    each_comes_out(rt.alloc(), &[], &PRODUCED)
 }

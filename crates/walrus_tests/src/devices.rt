@@ -3,66 +3,6 @@
 use std::alloc::Global;
 use std::io;
 use std::io::{Read, Write};
-use test_support::are;
-use walrus::tool::{FromRead, FromWrite, command};
-
-/// What a run of the program answered and wrote.
-#[derive(Drop)]
-pub struct Outcome {
-    pub status: u8,
-    pub output: Vec<u8>,
-    pub errors: Vec<u8>,
-}
-
-/// Runs the program on these words and these bytes.
-pub fn run(alloc: Global, words: &[String], input: &[u8]) -> Outcome {
-    let mut output = Vec::new(alloc);
-    let mut errors = Vec::new(alloc);
-    let status = command(
-        alloc,
-        words,
-        &mut FromRead::new(input),
-        &mut FromWrite::new(&mut output),
-        &mut FromWrite::new(&mut errors),
-    );
-    Outcome {
-        status,
-        output,
-        errors,
-    }
-}
-
-/// Whether a run ended with this status and told this.
-pub fn ended(outcome: &Outcome, status: u8, told: &str) -> bool {
-    outcome.status == status && outcome.errors.as_slice() == told.as_bytes()
-}
-
-/// Whether a run told nothing and wrote the bytes that the text says.
-pub fn passed(alloc: Global, outcome: &Outcome, text: &str) -> bool {
-    ended(outcome, 0, "") && are(alloc, &outcome.output, text)
-}
-
-/// Whether a run ended with this status, told this and wrote nothing.
-pub fn refused(outcome: &Outcome, status: u8, told: &str) -> bool {
-    ended(outcome, status, told) && outcome.output.is_empty()
-}
-
-fn add_word(alloc: Global, words: &mut Vec<String>, word: &str) -> bool {
-    match String::from_str(alloc, word) {
-        Ok(text) => words.push(text).is_ok(),
-        Err(_) => false,
-    }
-}
-
-/// Whether memory suffices for the words of the text, with a comma between them.
-pub fn add_words(alloc: Global, words: &mut Vec<String>, text: &str) -> bool {
-    for word in text.split(',') {
-        if !add_word(alloc, words, word) {
-            return false;
-        }
-    }
-    true
-}
 
 /// A reader that gives these bytes one at a time, and then fails or ends.
 #[derive(Drop)]

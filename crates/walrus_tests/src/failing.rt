@@ -1,10 +1,11 @@
 //! Devices that fail in mid-stream.
 
-use crate::devices::{Narrow, Outcome, Trickle, add_words, ended, refused};
+use crate::devices::{Narrow, Trickle};
 use std::alloc::Global;
 use std::test::Fail;
 use test_support::{add_bytes, are, demand};
 use walrus::tool::{FromRead, FromWrite, command};
+use walrus_test_support::{Outcome, add_words, ended, refused};
 
 // Two empty functions, of which the second is exported, and what comes of them.
 const INPUT: &str =

@@ -1,9 +1,9 @@
 //! Worked modules: what goes in and what has to come out, byte for byte.
 
-use crate::devices::{add_words, passed, refused, run};
 use std::alloc::Global;
 use std::test::Fail;
 use test_support::{add_bytes, demand};
+use walrus_test_support::{add_words, each_comes_out, each_is_refused, is_invalid, run};
 
 // A legacy try with an i32 as result, and a catch of a tag that carries an i32.
 const LEGACY: &str =
@@ -257,22 +257,6 @@ const INVALID: [&str; 22] = [
     "00 61 73 6D 01 00 00 00 04 09 01 40 00 70 00 00 23 00 0B 06 06 01 70 00 D0 70 0B",
 ];
 
-const TEXT_OF_INVALID: &str = "walrus-gc: The input WebAssembly is invalid\n";
-
-/// Whether the program makes this output of this input.
-pub fn comes_out(alloc: Global, words: &[String], input: &str, output: &str) -> bool {
-    let mut bytes = Vec::new(alloc);
-    add_bytes(&mut bytes, input) && passed(alloc, &run(alloc, words, &bytes), output)
-}
-
-/// Fails where an input comes to something else than its output.
-pub fn each_comes_out(alloc: Global, words: &[String], rows: &[(&str, &str)]) -> Result<(), Fail> {
-    for (input, output) in rows {
-        demand(comes_out(alloc, words, input, output), input)?;
-    }
-    Ok(())
-}
-
 #[test]
 fn rows_come_out(rt: HostRuntime) -> Result<(), Fail> {
     let mut words = Vec::new(rt.alloc());
@@ -281,19 +265,6 @@ fn rows_come_out(rt: HostRuntime) -> Result<(), Fail> {
         "memory",
     )?;
     each_comes_out(rt.alloc(), &words, &ROWS)
-}
-
-fn is_refused(alloc: Global, words: &[String], input: &str) -> bool {
-    let mut bytes = Vec::new(alloc);
-    add_bytes(&mut bytes, input) && refused(&run(alloc, words, &bytes), 1, TEXT_OF_INVALID)
-}
-
-/// Fails where an input isn't refused as invalid.
-pub fn each_is_refused(alloc: Global, words: &[String], rows: &[&str]) -> Result<(), Fail> {
-    for input in rows {
-        demand(is_refused(alloc, words, input), input)?;
-    }
-    Ok(())
 }
 
 #[test]
@@ -316,26 +287,16 @@ fn legacy_exceptions_are_refused_where_they_are_off(rt: HostRuntime) -> Result<(
     each_is_refused(rt.alloc(), &words, &[LEGACY])
 }
 
-// Modules, and how long the two beginnings are that are modules too: they end where a section does, and no rule refuses them.
-const BEGINNINGS: [(&str, usize, usize); 3] = [
+// Modules, with a bar behind each beginning that is a module too: it ends where a section does, and no rule refuses it.
+const BEGINNINGS: [&str; 4] = [
     // two empty functions, of which the second is exported
-    (
-        "00 61 73 6D 01 00 00 00 01 04 01 60 00 00 03 03 02 00 00 07 05 01 01 66 00 01 0A 07 02 02 00 0B 02 00 0B",
-        8,
-        14,
-    ),
+    "00 61 73 6D 01 00 00 00 | 01 04 01 60 00 00 | 03 03 02 00 00 07 05 01 01 66 00 01 0A 07 02 02 00 0B 02 00 0B",
     // a memory and a passive data segment
-    (
-        "00 61 73 6D 01 00 00 00 05 03 01 00 01 0C 01 01 0B 04 01 01 01 AA",
-        8,
-        13,
-    ),
+    "00 61 73 6D 01 00 00 00 | 05 03 01 00 01 | 0C 01 01 0B 04 01 01 01 AA",
     // a function that drops a data segment
-    (
-        "00 61 73 6D 01 00 00 00 01 04 01 60 00 00 03 02 01 00 05 03 01 00 01 07 05 01 01 66 00 00 0C 01 01 0A 07 01 05 00 FC 09 00 0B 0B 04 01 01 01 AA",
-        8,
-        14,
-    ),
+    "00 61 73 6D 01 00 00 00 | 01 04 01 60 00 00 | 03 02 01 00 05 03 01 00 01 07 05 01 01 66 00 00 0C 01 01 0A 07 01 05 00 FC 09 00 0B 0B 04 01 01 01 AA",
+    // sections `a` and `b`, debug information, and dynamic linking between two sections
+    "00 61 73 6D 01 00 00 00 | 00 03 01 61 01 | 00 0D 0B 2E 64 65 62 75 67 5F 69 6E 66 6F 02 | 01 04 01 60 00 00 | 03 02 01 00 07 05 01 01 66 00 00 00 0A 08 64 79 6C 69 6E 6B 2E 30 03 0A 04 01 02 00 0B | 00 03 01 62 04",
 ];
 
 fn is_beginning_answered(
@@ -348,48 +309,46 @@ fn is_beginning_answered(
     if is_module {
         outcome.status == 0
     } else {
-        refused(&outcome, 1, TEXT_OF_INVALID)
+        is_invalid(&outcome)
     }
 }
 
-fn each_beginning_is_answered(
+fn is_step_answered(
     alloc: Global,
     words: &[String],
-    whole: &[u8],
-    first: usize,
-    second: usize,
+    beginning: &mut Vec<u8>,
+    byte: &str,
+    is_module: bool,
 ) -> bool {
-    for length in 0..whole.len() {
-        let (beginning, _) = whole.split_at(length);
-        let is_module = length == first || length == second;
-        if !is_beginning_answered(alloc, words, beginning, is_module) {
+    is_beginning_answered(alloc, words, beginning, is_module) && add_bytes(beginning, byte)
+}
+
+// Whether each beginning that ends in this part is answered, and the one in front of it, which is a module unless it is empty.
+fn is_part_answered(alloc: Global, words: &[String], beginning: &mut Vec<u8>, part: &str) -> bool {
+    let mut is_module = !beginning.is_empty();
+    for byte in part.split_whitespace() {
+        if !is_step_answered(alloc, words, beginning, byte, is_module) {
+            return false;
+        }
+        is_module = false;
+    }
+    true
+}
+
+// Whether each beginning is answered, from the empty one to that without the last byte.
+fn are_beginnings_answered(alloc: Global, words: &[String], text: &str) -> bool {
+    let mut beginning = Vec::new(alloc);
+    for part in text.split('|') {
+        if !is_part_answered(alloc, words, &mut beginning, part) {
             return false;
         }
     }
     true
 }
 
-fn are_beginnings_answered(
-    alloc: Global,
-    words: &[String],
-    input: &str,
-    first: usize,
-    second: usize,
-) -> bool {
-    let mut whole = Vec::new(alloc);
-    add_bytes(&mut whole, input) && each_beginning_is_answered(alloc, words, &whole, first, second)
-}
-
-fn each_is_cut_off(
-    alloc: Global,
-    words: &[String],
-    rows: &[(&str, usize, usize)],
-) -> Result<(), Fail> {
-    for (input, first, second) in rows {
-        demand(
-            are_beginnings_answered(alloc, words, input, *first, *second),
-            input,
-        )?;
+fn each_is_cut_off(alloc: Global, words: &[String], rows: &[&str]) -> Result<(), Fail> {
+    for text in rows {
+        demand(are_beginnings_answered(alloc, words, text), text)?;
     }
     Ok(())
 }

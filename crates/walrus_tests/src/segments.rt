@@ -1,10 +1,9 @@
 //! Worked modules of segments in all their forms: which of them stay, and with which flags they are written.
 
-use crate::devices::add_words;
-use crate::rows::{comes_out, each_comes_out, each_is_refused};
 use std::alloc::Global;
 use std::test::Fail;
 use test_support::demand;
+use walrus_test_support::{add_words, comes_out, each_comes_out, each_is_refused};
 
 // Modules that are written as they are read.
 const SAME: [&str; 13] = [
