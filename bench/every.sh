@@ -3,7 +3,7 @@
 # bytes, the processor seconds, the least of three runs, and the megabytes at the peak of both, and the bytes of memory for each byte that
 # isn't code. Says below it whether the time grows as the size, which is that the largest module takes at most three times as long for a
 # byte as the smallest, and whether the peak is at most that of the code alone and 16 bytes for each other byte; the status is 1 where
-# one of these doesn't hold. With PARTS="functions tables names,customs" it also measures the code with one of these parts alone.
+# one of these doesn't hold. With PARTS="types tables exports,globals" it also measures the code with one of these parts, or some, alone.
 # bench/every.sh [MEGABYTES..], 1 10 100 where none are given; PROGRAM names another program than the proved one. No part of the gate.
 set -eu
 here=$(cd "$(dirname "$0")" && pwd)

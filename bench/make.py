@@ -11,15 +11,19 @@ KIND: small    many functions of a few operators each
       tables   tables, each with an active segment of one function, so that all of them stay
       every    every section: a fifth is code as that of bodies, and the rest the parts named below
       every:code, or every:PART,PART..: of that module the code alone, or the code and these parts
-Of the first five every function is exported or called by one that is, so nothing of it is dropped, and nothing of every but one of its
-custom sections, of debug information. The parts of every: as many items of each kind, each of which stays, and custom sections.
-      functions  imports of functions, each of a type of its own, and exported
+Of the first five every function is exported or called by one that is, so nothing of it is dropped. Of every, all stays but the debug
+information and the data count, which nothing needs. Its parts, items of each kind and as many of one as of the other:
+      types      function types, no two of them the same
+      functions  imports of functions, each of a type of its own
       tables     tables, each with an active segment that lists ten functions
       memories   memories, each with an active segment of a hundred bytes
-      tags, globals  these, each exported
-      names      a name for each item, local and field of what the other parts are, and for the module
-      producers  a tool for each of the items
+      tags
+      globals
+      exports    as many of functions, and of each tag and each global
+      names      for each item of the other parts, locals, and the module
+      producers  as many tools
       customs    ten custom sections of other names, one of them of debug information
+The parts that keep others are exports and tables: without them, what they would keep is dropped.
 """
 import collections
 import sys
@@ -146,6 +150,7 @@ def entry_sections(size):
     segments, segment_count = entries_until(part, lambda i: b"\x01\x14" + b"twenty bytes of data")
     return [(1, types), (2, imports), (6, globals_), (7, exports), (9, elements), (12, unsigned(segment_count)), (11, segments)]
 
+PARTS = "types functions tables memories tags globals exports names producers customs".split()
 # The bytes that the items of one row of the kind every take, one of each part but custom sections.
 ROW = 410
 
@@ -156,8 +161,8 @@ def parameters(i):
     return b"\x60" + sized(digits) + b"\x01\x7F"
 
 
-def export(word, kind, index):
-    return sized(b"%s %07d" % (word, index)) + bytes([kind]) + unsigned(index)
+def export(word, number, kind, index):
+    return sized(b"%s %07d" % (word, number)) + bytes([kind]) + unsigned(index)
 
 
 def namings(indices, word):
@@ -181,10 +186,11 @@ def name_section(entries, functions, bodies):
 def add_rows(entries, parts, count, functions):
     """The entries of so many items of each part, beside those of the code; functions is how many there are of all."""
     rows = range(count)
-    if "functions" in parts:
+    if "types" in parts:
         entries[1] += map(parameters, rows)
-        entries[2] += (sized(b"env") + sized(b"function %07d" % i) + b"\x00" + unsigned(i + 1) for i in rows)
-        entries[7] += (export(b"function", 0, i) for i in rows)
+    if "functions" in parts:
+        own_type = 1 if "types" in parts else 0
+        entries[2] += (sized(b"env") + sized(b"function %07d" % i) + b"\x00" + unsigned(own_type * (i + 1)) for i in rows)
     if "tables" in parts:
         entries[4] += (b"\x70\x01\x0A" + unsigned(100 + i) for i in rows)
         ten = lambda i: b"".join(unsigned((i * 10 + j) % functions) for j in range(10))
@@ -194,10 +200,12 @@ def add_rows(entries, parts, count, functions):
         entries[11] += (b"\x02" + unsigned(i + 1) + b"\x41\x00\x0B" + sized(b"ten bytes\n" * 10) for i in rows)
     if "tags" in parts:
         entries[13] += (b"\x00\x00" for i in rows)
-        entries[7] += (export(b"tag", 4, i) for i in rows)
     if "globals" in parts:
         entries[6] += (b"\x7F\x01\x41" + unsigned(i) + b"\x0B" for i in rows)
-        entries[7] += (export(b"global", 3, i) for i in rows)
+    if "exports" in parts:
+        entries[7] += (export(b"function", i, 0, i % functions) for i in rows)
+        entries[7] += (export(b"tag", i, 4, i) for i in range(len(entries[13])))
+        entries[7] += (export(b"global", i, 3, i) for i in range(len(entries[6])))
 
 
 def custom_sections(entries, parts, count, functions, bodies, size):
@@ -221,7 +229,7 @@ def every_sections(parts, size):
     first = count if "functions" in parts else 0
     bodies = mixed_bodies(size // 5, first)
     functions = first + len(bodies)
-    entries = collections.defaultdict(list, {1: [b"\x60\x00\x00"], 5: [b"\x00\x01"], 7: [export(b"start", 0, first)]})
+    entries = collections.defaultdict(list, {1: [b"\x60\x00\x00"], 5: [b"\x00\x01"], 7: [export(b"start", 0, 0, first)]})
     entries[3] = [b"\x00"] * len(bodies)
     add_rows(entries, parts, count, functions)
     entries[10] = list(map(sized, bodies))
@@ -236,7 +244,7 @@ def every_sections(parts, size):
 
 def parts_of(kind):
     """The parts that a kind every or every:PART,PART.. asks for."""
-    return kind.partition(":")[2].split(",") if ":" in kind else "functions tables memories tags globals names producers customs".split()
+    return kind.partition(":")[2].split(",") if ":" in kind else PARTS
 
 
 def code_sections(kind, size):

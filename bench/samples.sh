@@ -2,7 +2,7 @@
 # Runs the built program on the modules of tests/samples and of ../shared/samples, beside binaryen's `wasm-opt -all
 # --remove-unused-module-elements`, which drops what nothing reaches, and names too, and, where PARITY names it, a program that copies a module
 # from standard input to standard output by the crate parity-wasm, which drops nothing. Prints a table of Markdown: of each module the
-# bytes, and of each program the milliseconds, the megabytes at the peak and the bytes that come out; nothing where it refuses the module.
+# bytes, and of each program the processor's milliseconds, the megabytes at the peak and the bytes that come out; nothing where it refuses it.
 # The programs take turns, and each time is the least of nine. bench/samples.sh [PROGRAM], the proved one where none is given. No part of the gate.
 set -eu
 here=$(cd "$(dirname "$0")" && pwd)
@@ -38,7 +38,7 @@ def cells(module):
     took = {name: [] for name, command in commands.items() if accepts(command(module)[0], module)}
     for _ in range(ROUNDS):
         for name, times in took.items():
-            times.append(run(commands[name](module)[0], module, commands[name](module)[1])[0])
+            times.append(run(commands[name](module)[0], module, commands[name](module)[1])[1])
     for name, times in took.items():
         command, sink = commands[name](module)
         peak = peak_of(command, module, sink)
