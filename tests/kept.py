@@ -217,7 +217,7 @@ def main():
     program, wasm_copy, *paths = sys.argv[1:]
     missing = [it for it in ("wasm-objdump", "wasm-validate", "wasm-opt") if not shutil.which(it)]
     if missing:
-        print(f"there is no {', '.join(missing)} (wabt, binaryen), so what comes of the program is compared and validated without")
+        print(f"there is no {', '.join(missing)} (wabt, binaryen), so what comes out is compared and validated without")
     count = collections.Counter()
     with tempfile.TemporaryDirectory() as folder:
         for path in map(pathlib.Path, paths):
