@@ -46,6 +46,7 @@ FILES_OF_NUMBERS = (
     "walrus_rules/specs/WorkedHandler.antt",
     "walrus_rules/specs/WorkedSections.antt",
     # bytes and patterns of bits that tests write and read back
+    "wasm_wire_tests/src/",
     "walrus_parts_tests/src/",
 )
 
