@@ -13,11 +13,14 @@ refused or one of these doesn't hold. Items have other indices behind a run, and
   module has its own name; the producers are those of before with this program put in.
 Where wabt is installed, and reads the input:
 - By `wasm-objdump -x`: exports and start function are those of before, with the names of what they are. Each import, function, table,
-  memory, tag, global, segment and byte of data stands in the input, as often, the functions with their signature and their name. No more
-  functions, tables, memories and globals are without a name than before, so that none has lost it.
-- By `wasm-objdump -d`: the operators of each function, with the names of what they name, are those of a function of the same name, but for
-  those that are dropped since nothing reaches them. So a name has stayed where it was, and what is called has the name that it had.
-- `wasm-validate` accepts the output, or binaryen's `wasm-opt` where only that accepts the input.
+  memory, tag, global, segment and byte of data stands in the input, as often, the functions with their signature and their name; one segment
+  may be more, which declares functions. No more functions, tables, memories and globals are without a name than before, so that none has
+  lost it.
+- By `wasm-objdump -d`, where it reads all operators: those of each function, with the names of what they name, are those of a function of the
+  same name, but for those that are dropped since nothing reaches them. So a name has stayed where it was, and what is called has the name
+  that it had. Names of tags aren't compared, and none where it warns of the input's.
+- `wasm-validate` accepts the output, or binaryen's `wasm-opt` where only that accepts the input; errors in custom sections are let pass where
+  one is of an object file, or metadata of code.
 """
 import collections
 import pathlib
