@@ -133,4 +133,5 @@ def main():
     say(f"{crate} is built")
 
 
-main()
+if __name__ == "__main__":
+    main()
