@@ -6,12 +6,13 @@
 Refused are: a file of src that doesn't begin with `//!`, or has more than 800 lines; a line of a clause of more than 110 columns;
 a body of a function of more than 40 lines; a bare hexadecimal number in src or specs outside the files that name such numbers; a
 README.md of more than 100 lines, or with one of more than 100 columns; a crate of the repository that crates.txt lists for another one
-whose files don't name it; more wrong edits in the gate than its time allows; and a wrong edit, of the gate or of tests/edits, whose old
-text doesn't stand exactly once in its file.
+whose files don't name it; more wrong edits in the gate than its time allows; a wrong edit, of the gate or of tests/edits, whose old
+text doesn't stand exactly once in its file; and a page docs/CALLS.md that isn't what tests/calls.py makes of the sources.
 """
 import collections
 import pathlib
 import re
+import subprocess
 import sys
 
 TOP = pathlib.Path(__file__).resolve().parent.parent
@@ -193,10 +194,16 @@ def wrong_in_edits():
             yield f"{name_of(edit)}: {why}"
 
 
+def wrong_in_calls():
+    told = subprocess.run([TOP / "tests" / "calls.py"], capture_output=True, check=False).stdout
+    if told != (TOP / "docs" / "CALLS.md").read_bytes():
+        yield "docs/CALLS.md isn't what tests/calls.py prints: tests/calls.py --write writes it anew"
+
+
 def main():
     checks = (
         wrong_in_sources, wrong_in_clauses, wrong_in_bodies, wrong_in_numbers, wrong_in_readme, wrong_in_crates, wrong_in_gate,
-        wrong_in_edits)
+        wrong_in_edits, wrong_in_calls)
     wrong = [line for check in checks for line in check()]
     for line in wrong:
         print(line)

@@ -1,0 +1,254 @@
+#!/usr/bin/env python3
+"""Makes docs/CALLS.md, the public calls of the crate `walrus` in a line each; `tests/form.py` compares the two.
+
+    tests/calls.py          prints the page
+    tests/calls.py --write  writes it
+
+A call is a public function of what `crates/walrus/src/lib.rt` hands on, of its public modules and of the types there, followed down the
+`pub use` lines to where it stands; and of types that have no name there but come from such a call. The sources are taken apart with
+regular expressions, and Rust's grammar isn't known here: heads of items stand at the beginning of a line, those of methods four columns
+behind it, as `rt fmt` lays them out.
+"""
+import functools
+import pathlib
+import re
+import sys
+
+TOP = pathlib.Path(__file__).resolve().parent.parent
+CRATES = TOP / "crates"
+PAGE = TOP / "docs" / "CALLS.md"
+HEAD = """# The calls of `walrus`
+
+Made by `tests/calls.py --write` from the sources: each public call with its signature, the first sentence of what its source says of it,
+and the names of its clauses, where they have names: what it requires, and what it ensures. docs/PROMISES.md has what the main ones say,
+docs/DEFINITIONS.md the words in them. A type stands once, where it is first handed on, or behind what names it where it has no name there
+(unnamed). Fields, cases of enums, constants and types without a call are left out. Names of traits stand for the calls that they bring.
+"""
+ITEM = r"^pub(?:\(crate\))? (?:const )?(struct|enum|trait|type|fn|mod) "
+FUNCTION = re.compile(r"^( *)(pub )?(?:const )?fn (\w+)", re.M)
+IMPL = re.compile(r"^impl(?:<[^{\n]*?>)? (?:(\S[^{\n]*?) for )?((\w+)(?:<[^{\n]*>)?) \{(?:\}|(.*?)^\})", re.M | re.S)
+USE = re.compile(r"^(?:pub(?:\(crate\))? )?use ([\w:]+?)(?:::\{([^}]*)\}| as (\w+))?;", re.M)
+
+
+@functools.cache
+def source(path):
+    return path.read_text(encoding="utf-8")
+
+
+@functools.cache
+def file_of(crate, module):
+    return CRATES / crate / "src" / ("/".join(module) + ".rt" if module else "lib.rt")
+
+
+@functools.cache
+def uses(path):
+    """The names that a file takes from elsewhere: for each the path that it stands for."""
+    found = {}
+    for way, names, renamed in USE.findall(source(path)):
+        for name in names.split(",") if names else [f"{way.rpartition('::')[2]} as {renamed}" if renamed else ""]:
+            inner, _, alias = name.strip().partition(" as ")
+            full = way.split("::") if renamed or not inner else [*way.split("::"), inner]
+            found[alias or full[-1]] = full
+    return found
+
+
+@functools.cache
+def find(crate, module, name):
+    """Where a name of a module is defined: crate, module, kind and name, or None where that is no crate of the repository."""
+    path = file_of(crate, module)
+    here = re.search(ITEM + name + r"\b", source(path), re.M)
+    if here:
+        return crate, module, here[1], name
+    way = uses(path).get(name)
+    if way is None:
+        return None
+    if way[0] in ("crate", "self"):
+        return find(crate, tuple(way[1:-1]), way[-1])
+    if (CRATES / way[0]).is_dir():
+        return find(way[0], tuple(way[1:-1]), way[-1])
+    inner = (*module, *way[:-1])
+    return find(crate, inner, way[-1]) if file_of(crate, inner).exists() else None
+
+
+def handed_on(module):
+    """What a public module of `walrus` hands on, and then its public modules: the module, the name, and where that stands."""
+    text = source(file_of("walrus", module))
+    named = re.findall(ITEM.replace(r"(?:\(crate\))?", "") + r"(\w+)", text, re.M)
+    for line in re.findall(r"^pub use [^;]*;", text, re.M):
+        names = uses(file_of("walrus", module))
+        named += [("", name) for name in re.findall(r"\w+", line) if name in names]
+    for kind, name in dict.fromkeys(named):
+        if kind != "mod":
+            yield module, name, find("walrus", module, name)
+    for kind, name in named:
+        if kind == "mod":
+            yield from handed_on((*module, name))
+
+
+def above(text, at):
+    """The lines of comments and attributes in front of a place, the last one first."""
+    for line in reversed(text[:at].split("\n")[:-1]):
+        if not re.match(r"\s*(///|//|#\[|[^\n]*\)\]$)", line):
+            return
+        yield line.strip()
+
+
+def sentence(text, at):
+    """The first sentence of the comment in front of a place."""
+    said = [line[3:].strip() for line in above(text, at) if line.startswith("///")][::-1]
+    first = re.split(r"(?<=\.)\s", " ".join(said).split("  ")[0])[0]
+    return re.sub(r"\[(`[^`]*`)\](?:\([^)]*\))?", r"\1", first)
+
+
+def derived(text, at):
+    lines = " ".join(line for line in above(text, at) if line.startswith("#["))
+    return {name.strip() for names in re.findall(r"derive(?:_where)?\(([^)]*)\)", lines) for name in names.split(",")}
+
+
+class Call:
+    """A function: its signature, the first sentence on it, and the names of its clauses."""
+
+    def __init__(self, text, head):
+        end = re.compile(rf"^{head[1]}(?=\{{)|(?=\{{$)|(?=;$)", re.M).search(text, head.end()).end()
+        rest = text[head.start():end]
+        clauses = re.findall(r"^\s*(requires|ensures)\*? (?:(\w+) )?\{", rest, re.M)
+        self.clauses = {word: [name for kind, name in clauses if kind == word] for word in ("requires", "ensures")}
+        line = " ".join(re.split(r"^\s*(?:requires|ensures)\b", rest, maxsplit=1, flags=re.M)[0].split())
+        self.signature = line.removeprefix("pub ").removeprefix("fn ").replace("( ", "(").replace(", )", ")").rstrip(" ,")
+        self.is_law = text[end:end + 2] == "{}" and "->" not in self.signature
+        self.said = sentence(text, head.start())
+
+    def line(self):
+        clauses = [" ".join([word, ", ".join(filter(None, names))]).strip() for word, names in self.clauses.items() if names]
+        return f"- `{self.signature}` {self.said}" + (f" *{'; '.join(clauses)}*" if clauses else "")
+
+
+def calls_in(text, is_trait=False):
+    for head in FUNCTION.finditer(text):
+        if head[2] or is_trait:
+            yield Call(text, head)
+
+
+@functools.cache
+def impls():
+    """All blocks `impl` of the libraries: crate, module, head, trait, type with its arguments, name of the type, and text."""
+    found = []
+    for path in sorted(CRATES.glob("*/src/**/*.rt")):
+        crate, inner = path.relative_to(CRATES).parts[0], path.relative_to(CRATES).with_suffix("").parts[2:]
+        if crate.startswith("walrus") and not crate.endswith("_tests"):
+            module = () if inner == ("lib",) else inner
+            for block in IMPL.finditer(source(path)):
+                found.append((crate, module, block[0].partition(" {")[0], block[1], block[2], block[3], block[4] or ""))
+    return found
+
+
+def whole(place):
+    """The text of an item: its head, and what stands in its braces, if it has some."""
+    crate, module, kind, name = place
+    text = source(file_of(crate, module))
+    head = re.search(rf"^pub(?:\(crate\))? (?:const )?{kind} {name}\b", text, re.M)
+    end = re.compile(r";$" if kind == "type" else r"^\}|^pub.*(\{\}|;)$", re.M).search(text, head.start())
+    return text, head.start(), text[head.start():end.end()]
+
+
+def traits_of(place, blocks, named):
+    """The traits whose calls a type has: those of std and those that `walrus` hands on, derived or written."""
+    text, at, _ = whole(place)
+    written = {it[3] for it in blocks if it[3] and (find(it[0], it[1], it[3].partition("<")[0]) or place) in {*named, place}}
+    names = {name.rpartition("::")[2] for name in written | derived(text, at)}
+    return ", ".join(sorted(names - {"", "Drop", "Model"}))
+
+
+def told_of(block):
+    """The head of a block of calls, and for which types it is, where it asks for a trait of the repository's own."""
+    crate, module, head, _, _, name, _ = block
+    bounds = [it for it in re.findall(r": (\w+)", head.rpartition(name)[0]) if find(crate, module, it)]
+    types = [it[4] for it in impls() if it[3] in bounds]
+    return f"`{head}`" + (f", where `{bounds[0]}` are {', '.join(f'`{it}`' for it in types)}" if types else "") + ":"
+
+
+class Page:
+    """The page as it is put together: each place once, in the part where it is first met."""
+
+    def __init__(self, named):
+        self.named, self.seen, self.lines, self.plain, self.laws, self.waiting = named, set(), [], [], [], []
+
+    def add_calls(self, calls, crate, module, of=""):
+        for call in calls:
+            if call.is_law:
+                self.laws.append(call.line().replace("`", f"`{of}", 1))
+            else:
+                self.lines.append(call.line())
+            self.reach(call.signature, crate, module)
+
+    def reach(self, text, crate, module):
+        """Notes the types that a text names: those without a name of their own are listed behind what names them."""
+        places = (find(crate, module, word) for word in re.findall(r"\b[A-Z]\w+", text))
+        self.waiting += [it for it in places if it and it not in self.named and it[2] in ("struct", "enum", "type")]
+
+    def add_type(self, shown, place):
+        crate, module, kind, name = place
+        text, at, mine = whole(place)
+        target = re.search(r"= (.*);", mine)[1] if kind == "type" else name
+        blocks = [it for it in impls() if (it[4] == target if kind == "type" else find(it[0], it[1], it[5]) == place)]
+        own = [it for it in blocks if it[3] is None and any(calls_in(it[6])) and (kind == "type" or "<" not in it[4] or "impl<" in it[2])]
+        self.reach("\n".join(re.findall(r"^pub type.*|^    pub \w+:.*|^    \w+\(.*", mine, re.M)), crate, module)
+        unnamed = "" if place in self.named else " (unnamed)"
+        traits = traits_of(place, blocks, self.named)
+        if own or kind == "trait":
+            alias = f" = {target}" if kind == "type" else ""
+            self.lines.append(f"\n**`{shown}{alias}`**{unnamed} {sentence(text, at)}" + (f" Traits: {traits}." if traits else ""))
+        elif traits and kind != "type":
+            self.plain.append(f"- `{shown}`{unnamed}: {traits}")
+        if kind == "trait":
+            self.add_calls(calls_in(mine, True), crate, module)
+        heads = [it[2] for it in own]
+        for block, before in zip(own, [None, *heads]):
+            if len({*heads}) > 1 and block[2] != before:
+                self.lines.append(f"\n{told_of(block)}\n")
+            self.add_calls(calls_in(block[6]), block[0], block[1], f"{shown}::")
+
+    def add(self, shown, place):
+        if place is None or place in self.seen:
+            return
+        self.seen.add(place)
+        if place[2] != "fn":
+            self.add_type(shown, place)
+            return
+        text = source(file_of(place[0], place[1]))
+        call = Call(text, next(it for it in FUNCTION.finditer(text) if it[2] and it[3] == place[3]))
+        call.signature = call.signature.replace(place[3], shown, 1)
+        self.add_calls([call], place[0], place[1])
+
+    def add_part(self, module, items):
+        """A module: its functions, its types with what they lead to, and then types that have the calls of traits alone."""
+        begin = len(self.lines)
+        for shown, place in sorted(items, key=lambda it: it[1] is not None and it[1][2] != "fn"):
+            self.add(shown, place)
+            while self.waiting:
+                reached = self.waiting.pop(0)
+                self.add(reached[3], reached)
+        if self.plain:
+            self.lines += ["\nTypes with the calls of traits alone:\n", *self.plain]
+        if len(self.lines) > begin:
+            self.lines.insert(begin, f"\n## {'::'.join(('walrus', *module))}\n")
+        self.plain = []
+
+
+def page():
+    items = [*handed_on(())]
+    made = Page({place for _, _, place in items})
+    for module in dict.fromkeys(it[0] for it in items):
+        made.add_part(module, [it[1:] for it in items if it[0] == module])
+    laws = ["\n## Laws\n\nThey do nothing, and their clauses are statements.\n", *made.laws]
+    return HEAD + re.sub(r"\n{3,}", "\n\n", "\n".join([*made.lines, *(laws if made.laws else [])])) + "\n"
+
+
+def main():
+    if sys.argv[1:] == ["--write"]:
+        PAGE.write_text(page(), encoding="utf-8")
+    else:
+        print(page(), end="")
+
+
+main()
