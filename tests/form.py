@@ -7,7 +7,8 @@ Refused are: a file of src that doesn't begin with `//!`, or has more than 800 l
 a body of a function of more than 40 lines; a bare hexadecimal number in src or specs outside the files that name such numbers; a
 README.md of more than 100 lines, or with one of more than 100 columns; a crate of the repository that crates.txt lists for another one
 whose files don't name it; more wrong edits in the gate than its time allows; a wrong edit, of the gate or of tests/edits, whose old
-text doesn't stand exactly once in its file; and a page docs/CALLS.md that isn't what tests/calls.py makes of the sources.
+text doesn't stand exactly once in its file; a page docs/CALLS.md that isn't what tests/calls.py makes of the sources; and a file of
+definitions that docs/DEFINITIONS.md doesn't name.
 """
 import collections
 import pathlib
@@ -194,16 +195,27 @@ def wrong_in_edits():
             yield f"{name_of(edit)}: {why}"
 
 
-def wrong_in_calls():
+def wrong_in_pages():
+    """Pages that the sources have left behind. DEFINITIONS names a file by its path, or by its name behind such a one."""
     told = subprocess.run([TOP / "tests" / "calls.py"], capture_output=True, check=False).stdout
     if told != (TOP / "docs" / "CALLS.md").read_bytes():
         yield "docs/CALLS.md isn't what tests/calls.py prints: tests/calls.py --write writes it anew"
+    named, heading = set(), None
+    for line in lines_of(TOP / "docs" / "DEFINITIONS.md"):
+        crate = heading
+        for folder, file in re.findall(r"`(?:(\w+)/specs)?/?(?:specs/)?(?:(\w+)\.antt)?`", line):
+            crate = folder or crate
+            named.add((crate, file))
+        heading = crate if line.startswith("#") else heading
+    for path in sorted(CRATES.glob("*/specs/*.antt")):
+        if path.name != "Lib.antt" and (path.parts[-3], path.stem) not in named:
+            yield f"docs/DEFINITIONS.md doesn't name {name_of(path)}"
 
 
 def main():
     checks = (
         wrong_in_sources, wrong_in_clauses, wrong_in_bodies, wrong_in_numbers, wrong_in_readme, wrong_in_crates, wrong_in_gate,
-        wrong_in_edits, wrong_in_calls)
+        wrong_in_edits, wrong_in_pages)
     wrong = [line for check in checks for line in check()]
     for line in wrong:
         print(line)
