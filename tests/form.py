@@ -5,12 +5,13 @@
 
 Refused are: a file of src that doesn't begin with `//!`, or has more than 800 lines; a line of a clause of more than 110 columns;
 a body of a function of more than 40 lines; a bare hexadecimal number in src or specs outside the files that name such numbers; a
-README.md of more than 100 lines, or with one of more than 100 columns; a crate of the repository that crates.txt lists for another one
-whose files don't name it; more wrong edits in the gate than its time allows; a wrong edit, of the gate or of tests/edits, whose old
+README.md of more than 100 lines, or with one of more than 100 columns; a crate that crates.txt lists for another one whose files don't
+name it; more ways down the crates than rt can sum up in a few minutes; more wrong edits in the gate than its time allows; a wrong edit, of the gate or of tests/edits, whose old
 text doesn't stand exactly once in its file; a page docs/CALLS.md that isn't what tests/calls.py makes of the sources; and a file of
 definitions that docs/DEFINITIONS.md doesn't name.
 """
 import collections
+import functools
 import pathlib
 import re
 import subprocess
@@ -24,8 +25,10 @@ MOST_LINES_OF_A_BODY = 40
 WIDEST_CLAUSE = 110
 MOST_LINES_OF_THE_README = 100
 MOST_COLUMNS_OF_THE_README = 100
-MOST_EDITS = 90
-MOST_CRATES_WITH_EDITS = 14
+# Ways down the crates, from each crate to each that it lists, and on from there.
+MOST_WAYS = 200_000
+MOST_EDITS = 75
+MOST_CRATES_WITH_EDITS = 12
 # The dearest crates, since an edit costs by the size of its crate.
 UPPER_CRATES = ("walrus_module", "walrus")
 MOST_EDITS_OF_THE_UPPER_CRATES = 24
@@ -139,14 +142,30 @@ def words_of(crate):
     return {word for path in files for word in re.findall(r"\w+", re.sub(r"(//|--).*", "", path.read_text(encoding="utf-8")))}
 
 
-def wrong_in_crates():
+def listed_crates():
+    """The crates of crates.txt, each with those that it lists."""
     rows = [line.partition("#")[0].partition(":") for line in lines_of(TOP / "crates.txt")]
-    listed = {name.strip(): below.split() for name, _, below in rows if name.strip()}
-    for crate, below in listed.items():
+    return {name.strip(): below.split() for name, _, below in rows if name.strip()}
+
+
+def wrong_in_crates():
+    for crate, below in listed_crates().items():
         words = words_of(crate)
         for other in below:
-            if other in listed and other not in words:
+            if other not in words:
                 yield f"crates.txt: {crate} lists {other}, which its files don't name (rt sums up all below once for each way down)"
+
+
+def wrong_in_ways():
+    listed = listed_crates()
+
+    @functools.cache
+    def ways(crate):
+        return 1 + sum(ways(other) for other in listed[crate] if other in listed)
+
+    count = sum(map(ways, listed))
+    if count > MOST_WAYS:
+        yield f"crates.txt: {count} ways lead down the crates, more than {MOST_WAYS} (rt sums up all below once for each of them)"
 
 
 def wrong_in_gate():
@@ -214,7 +233,7 @@ def wrong_in_pages():
 
 def main():
     checks = (
-        wrong_in_sources, wrong_in_clauses, wrong_in_bodies, wrong_in_numbers, wrong_in_readme, wrong_in_crates, wrong_in_gate,
+        wrong_in_sources, wrong_in_clauses, wrong_in_bodies, wrong_in_numbers, wrong_in_readme, wrong_in_crates, wrong_in_ways, wrong_in_gate,
         wrong_in_edits, wrong_in_pages)
     wrong = [line for check in checks for line in check()]
     for line in wrong:

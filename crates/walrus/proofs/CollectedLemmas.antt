@@ -44,7 +44,7 @@ use Rattle.walrus_model.specs.Reached.{step}
 use Rattle.walrus_model.specs.Refers.{named_by, type_names}
 use Rattle.walrus_model.proofs.Lists.{Contains-map}
 use Rattle.walrus_contents.specs.View.{function, handlers_at}
-use Rattle.walrus_writing.proofs.SameItems.{with_own}
+use Rattle.walrus_rules.proofs.SameItems.{with_own}
 use Rattle.walrus.specs.Collected as slots
 
 length-kept_by : {T : Type 0} (keeps : ℕ → Bool) (xs : List (Option T)) → length (kept_by keeps xs) ≡ length xs

@@ -22,8 +22,8 @@ use Rattle.walrus_rules.proofs.StepRead.{read_is_plain, steps_come_out_lem}
 use Rattle.walrus_rules.proofs.WellStays.{collected_well}
 use Rattle.walrus_rules.proofs.WritableParsed.{parsed_is_well}
 use Rattle.walrus_contents.specs.There.{IsSound}
-use Rattle.walrus_reading.specs.Parsed.{IsParsed}
-use Rattle.walrus_writing.specs.Emitted.{EmittedAs, IsEmitted, told}
+use Rattle.walrus_module.specs.Parsed.{IsParsed}
+use Rattle.walrus_module.specs.Emitted.{EmittedAs, IsEmitted, told}
 use Rattle.walrus_module.specs.Flags.{Flags, config_of}
 use Rattle.walrus_module.specs.Left.{LeavesBy}
 use Rattle.walrus_parts.specs.declared.error.Error.{Error}

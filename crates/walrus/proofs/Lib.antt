@@ -7,6 +7,6 @@ pub mod CollectedLemmas
 pub mod Marking
 pub mod Spare
 pub mod Room
-pub mod SameItems
+pub mod SameSearch
 pub mod SameRoots
 pub mod AskedItems

@@ -26,7 +26,7 @@ use Rattle.walrus_module.specs.View.{held_view, meanings, view}
 use Rattle.walrus_module.specs.declared.module.Module.{Module}
 use Rattle.walrus_parts.specs.Roots.{RootLists, no_roots, with_roots}
 use Rattle.walrus_parts.specs.declared.custom.CustomSection.{Ghosts}
-use Rattle.walrus_writing.proofs.SameItems.{live_back, with_own}
+use Rattle.walrus_rules.proofs.SameItems.{live_back, with_own}
 use Rattle.walrus_parts.specs.declared.error.Error.{Error}
 use Rattle.walrus_parts.specs.declared.error.Error.TheVariants as errors
 use Rattle.walrus_module.specs.Asked.{IsRefusedBy}
@@ -169,11 +169,12 @@ asked_refused P Q _ h = absurd h
 
 -- what is found where just that is asked for which custom sections ask to keep is found of their module
 pub found_of : {V : Type 0} {O : V → Type 0} (G : (v : V) → Ghosts (O v)) (m : Module V O) (asked : RootLists)
-    → asked ≡ with_roots no_roots (flat_map (λ (s : Meaning). s.roots) (meanings G m)) → (r : Result (MarkedItems × ℕ) Error)
-    → IsFound (with_own (held_view m) [] (asked_items asked)) r → IsFound (view G m) r
-found_of G m asked is r found =
+    → asked ≡ with_roots no_roots (flat_map (λ (s : Meaning). s.roots) (meanings G m)) → (parts : abstract.Abstract) → parts ≡ held_view m
+    → (r : Result (MarkedItems × ℕ) Error) → IsFound (with_own parts [] (asked_items asked)) r → IsFound (view G m) r
+found_of G m asked is parts are r found =
     answers_still (with_own (held_view m) [] (asked_items asked)) (view G m).customs (view G m).section_roots
-    (asked_are_kept asked (flat_map (λ (s : Meaning). s.roots) (meanings G m)) is) r found
+    (asked_are_kept asked (flat_map (λ (s : Meaning). s.roots) (meanings G m)) is) r
+    (subst (λ (p : abstract.Abstract). IsFound (with_own p [] (asked_items asked)) r) are found)
 
 -- those reached are no more than those that are live
 pub at_most_live : (held : Contents) (customs : List abstract.Custom) (roots : List Item) (n : ℕ) → ReachedCount (with_own (contents_view held) customs roots) n

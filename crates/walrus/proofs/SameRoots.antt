@@ -10,10 +10,10 @@ use Rattle.walrus_model.specs.Roots.{IsRoot, exported, start, data_segment, elem
 use Rattle.walrus_parts.specs.declared.error.Error.{Error}
 use Rattle.walrus_contents.specs.There.{IsRefusal}
 use Rattle.walrus_contents.proofs.NamedLemmas.{refusal_map}
-use Rattle.walrus_writing.proofs.SameItems.{with_own}
+use Rattle.walrus_rules.proofs.SameItems.{with_own}
 use Rattle.walrus.specs.Marked.{Finds, ReachesSound, ReachesUnsound}
 use Rattle.walrus.specs.declared.passes.marks.MarkedItems.{MarkedItems}
-use Rattle.walrus.proofs.SameItems.{sound_back, sound_on}
+use Rattle.walrus.proofs.SameSearch.{sound_back, sound_on}
 
 -- the same items are in both, however often and wherever
 abbrev pub SameMembers : List Item → List Item → Type 0

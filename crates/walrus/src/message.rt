@@ -4,12 +4,11 @@ ghost use Rattle.std.specs.Prelude.{◌≡◌, OnOk, OnErr, ◌++◌, codes};
 ghost use Rattle.std.specs.Io.KnownBytes.{Appends};
 ghost use Rattle.walrus.specs.Device.{Counts, WroteFront};
 ghost use Rattle.walrus.specs.Message.{Tells, line};
-ghost use Rattle.walrus.specs.Text.{error_text_lem, tool_text};
+ghost use Rattle.walrus.specs.Text.{tool_text};
 
 use crate::device::{DeviceFailed, Sink};
 use crate::tool::ToolError;
 use crate::transfer::write_all;
-use walrus_module::Error;
 
 /// Writes the program's name, the text and a line end. Where that fails, a beginning of the line may have been written.
 pub fn write_line<E: Sink>(errors: &mut E, text: &str) -> Result<(), DeviceFailed>
@@ -29,29 +28,7 @@ pub fn text_of(error: &ToolError) -> &str
     match error {
         ToolError::Read => "read failed",
         ToolError::Write => "write failed",
-        ToolError::Module(error) => error_text(error),
-    }
-}
-
-fn error_text(error: &Error) -> &str
-    ensures { result.now ≡ error_text_lem error.now }
-{
-    match error {
-        Error::Memory(_) => "out of memory",
-        Error::InvalidWasm(_) => "The input WebAssembly is invalid",
-        Error::DeadItem => "reference to an item that is not live",
-        Error::NoIndex => "an item has no index",
-        Error::TwoIndices => "an item has two indices",
-        Error::TooLarge => "a count or size passes 32 bits",
-        Error::NotWritable => "a form that cannot be written",
-        Error::NotFound => "not found",
-        Error::SeveralMemories => "multiple memories unsupported",
-        Error::NoMemory => "module does not export a memory",
-        Error::SeveralFunctionTables => "module contains more than one function table",
-        Error::NotExported => "no exported function with this id",
-        Error::NotImported => "no imported function with this id",
-        Error::NotReplaceable => "cannot replace function",
-        Error::Caller(text) => text.as_str(),
+        ToolError::Module(error) => error.text(),
     }
 }
 

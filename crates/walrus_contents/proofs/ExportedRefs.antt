@@ -13,14 +13,14 @@ use Rattle.walrus_types.specs.Operators.{Types, Functions, Tables, Memories, Tag
 use Rattle.walrus_types.proofs.ShapesEnd.{has_contained}
 use Rattle.walrus_code.specs.declared.function.LocalFunction.{LocalFunction}
 use Rattle.walrus_items.specs.Exports.{ExportValue, exports}
-use Rattle.walrus_parts.specs.Kinds.{exported}
+use Rattle.walrus_items.specs.Kinds.{exported}
 use Rattle.walrus_items.specs.Elements.{ElementValue, elements}
 use Rattle.walrus_items.specs.Functions.{FunctionValue, functions}
 use Rattle.walrus_items.specs.Globals.{GlobalValue, globals}
-use Rattle.walrus_parts.specs.declared.function_kind.FunctionKind.{FunctionKind}
-use Rattle.walrus_parts.specs.declared.function_kind.FunctionKind.TheVariants as kind
-use Rattle.walrus_parts.specs.declared.segments.ElementItems.{ElementItems}
-use Rattle.walrus_parts.specs.declared.segments.ElementItems.TheVariants as element_contents
+use Rattle.walrus_items.specs.FunctionKind.{FunctionKind}
+use Rattle.walrus_items.specs.FunctionKind.TheVariants as kind
+use Rattle.walrus_items.specs.ElementItems.{ElementItems}
+use Rattle.walrus_items.specs.ElementItems.TheVariants as element_contents
 use Rattle.walrus_model.specs.Abstract.{Abstract, Body, Export}
 use Rattle.walrus_model.specs.Abstract as abstract
 use Rattle.walrus_model.specs.Declared.{ref_func, AreUndeclared, IsRefInBody, IsRefInGlobal, IsUndeclared, Lists}

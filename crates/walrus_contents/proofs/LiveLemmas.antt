@@ -5,7 +5,7 @@ use Rattle.walrus_base.specs.Arena.{item_at, items}
 use Rattle.walrus_types.specs.Operators.{Space, Types, Functions, Tables, Memories, Tags, Globals, Elements, DataSegments, Item}
 use Rattle.walrus_code.specs.Code.{item_of}
 use Rattle.walrus_code.specs.declared.items.ItemId.{ItemId}
-use Rattle.walrus_parts.specs.Kinds.{exported, imported}
+use Rattle.walrus_items.specs.Kinds.{exported, imported}
 use Rattle.walrus_items.specs.Data.{DataValue}
 use Rattle.walrus_items.specs.Elements.{ElementValue}
 use Rattle.walrus_items.specs.Exports.{ExportValue, exports}
@@ -17,7 +17,7 @@ use Rattle.walrus_model.specs.Names.{body_of_kind, body_of_function}
 use Rattle.walrus_model.specs.Refers.{named_by, written_in, type_names, function_names, table_names, memory_names, tag_names, global_names, element_names, data_names}
 use Rattle.walrus_model.proofs.Lists.{Contains-map, Contains-none}
 use Rattle.walrus_model.proofs.Reach.{Contains-unmap}
-use Rattle.walrus_parts.specs.declared.error.Error.{Error}
+use Rattle.walrus_items.specs.Error.{Error}
 use Rattle.walrus_contents.specs.Named.{active_names, export_names, own_written, root_elements, root_names, start_names}
 use Rattle.walrus_contents.specs.There.{AreLive, AreWhole, ImportsAreLive, IsRefusal, IsSound, IsThere, IsUnsound, IsWhole, NoBody, NoLocal, OneIsDead}
 use Rattle.walrus_items.specs.Imports.{ImportValue}

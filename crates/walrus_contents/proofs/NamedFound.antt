@@ -6,7 +6,7 @@ use Rattle.wasm_forms.specs.Reading.{◌>>=◌}
 use Rattle.walrus_base.specs.Types.{HeapType, OfHeap, Concrete, Exact, ValType, I32, I64, F32, F64, V128, Ref, heap_names, val_names}
 use Rattle.walrus_types.specs.Operators.{Item, Types, Memories, BlockType, NoResult, OneResult, OfType, Arg, Index, Label, Local, Number, Count, Byte, S32, S64, Bits32, Bits64, Value, Heap, Block, Access, Op, type_item, block_names, arg_names, arg_locals, op_names, op_locals, names_of, locals_of}
 use Rattle.walrus_code.specs.Names.{Lookup, named_heap, named_val, named_block, named_arg, named_args, named_op, named_ops}
-use Rattle.walrus_bodies.specs.Blocks.{block_holds, args_hold, blocks_hold}
+use Rattle.walrus_model.specs.Blocks.{block_holds, args_hold, blocks_hold}
 use Rattle.walrus_model.proofs.Lists.{Contains-uncons, Contains-none}
 use Rattle.walrus_contents.proofs.Named.{through}
 use Rattle.walrus_model.proofs.Standing.{some_inj}

@@ -15,14 +15,14 @@ use Rattle.walrus_code.specs.Function.{body_of}
 use Rattle.walrus_code.specs.declared.function.LocalFunction.{LocalFunction}
 use Rattle.walrus_code.specs.declared.items.ItemId.{ItemId}
 use Rattle.walrus_items.specs.Functions.{FunctionValue, functions}
-use Rattle.walrus_parts.specs.declared.function_kind.FunctionKind.{FunctionKind}
-use Rattle.walrus_parts.specs.declared.function_kind.FunctionKind.TheVariants.{Import, Local, Uninitialized}
+use Rattle.walrus_items.specs.FunctionKind.{FunctionKind}
+use Rattle.walrus_items.specs.FunctionKind.TheVariants.{Import, Local, Uninitialized}
 use Rattle.walrus_model.specs.Abstract as abstract
 use Rattle.walrus_model.specs.Refers.{IsUsed, body_names, function_names, named_by, written_in}
 use Rattle.walrus_contents.specs.View.{body, contents_view, function, kind_of}
 use Rattle.walrus_contents.specs.declared.parts.Contents.{Contents}
-use Rattle.walrus_parts.specs.declared.error.Error.{Error}
-use Rattle.walrus_parts.specs.declared.error.Error.TheVariants.{Memory, DeadItem}
+use Rattle.walrus_items.specs.Error.{Error}
+use Rattle.walrus_items.specs.Error.TheVariants.{Memory, DeadItem}
 use Rattle.walrus_model.proofs.Lists.{Contains-head, Contains-tail, Contains-none}
 use Rattle.walrus_contents.specs.Named.{AreThere, IsReady, IsUnready, OneIsMissing, Puts, items_in, local_type_names, type_at}
 use Rattle.walrus_contents.specs.There.{IsRefusal, IsSound, IsUnsound, NoBody, NoLocal}

@@ -10,8 +10,8 @@ use Rattle.walrus_base.specs.Arena.{item_at}
 use Rattle.walrus_types.specs.ModuleTypes.{type_slots}
 use Rattle.walrus_types.specs.TypeDef.{TypeDef}
 use Rattle.walrus_types.specs.declared.module_types.ModuleTypes.{ModuleTypes}
-use Rattle.walrus_bodies.specs.FunctionTypes.{is_function_def, is_function_at}
-use Rattle.walrus_groups.specs.Groups.{types_from}
+use Rattle.walrus_model.specs.FunctionTypes.{is_function_def, is_function_at}
+use Rattle.walrus_model.specs.Groups.{types_from}
 use Rattle.walrus_model.specs.Reads.{is_function}
 use Rattle.walrus_model.specs.Sections.{types_of}
 use Rattle.walrus_contents.proofs.Taking.{get_own, get_past}

@@ -7,7 +7,7 @@ use Rattle.std.proofs.lemmas.List.FromFn.{length-range_with_len, get_or-range_wi
 use Rattle.std.proofs.lemmas.List.Sums.{sum_by-cons}
 use Rattle.wasm_entries.specs.Record.{Sub, Group}
 use Rattle.walrus_types.specs.TypeDef.{TypeDef}
-use Rattle.walrus_groups.specs.Groups.{sub_of, members_of, types_from}
+use Rattle.walrus_model.specs.Groups.{sub_of, members_of, types_from}
 use Rattle.walrus_contents.proofs.Lookups.{mapped_some, got_map}
 
 -- ---- how many

@@ -13,15 +13,15 @@ use Rattle.walrus_types.specs.declared.locals.ModuleLocals.{ModuleLocals}
 use Rattle.walrus_code.specs.Code.{item_of}
 use Rattle.walrus_code.specs.Function.{body_of}
 use Rattle.walrus_code.specs.declared.items.ItemId.{ItemId}
-use Rattle.walrus_functions.specs.EmittedBody.{types_of as local_types}
-use Rattle.walrus_parts.specs.Kinds.{exported}
+use Rattle.walrus_model.specs.EmittedBody.{types_of as local_types}
+use Rattle.walrus_items.specs.Kinds.{exported}
 use Rattle.walrus_items.specs.Data.{data_segments, is_passive_data, ModuleData}
 use Rattle.walrus_items.specs.Elements.{elements, ModuleElements}
 use Rattle.walrus_items.specs.Exports.{exports, ModuleExports}
-use Rattle.walrus_parts.specs.declared.function_kind.FunctionKind.{FunctionKind}
-use Rattle.walrus_parts.specs.declared.function_kind.FunctionKind.TheVariants.{Import, Local, Uninitialized}
-use Rattle.walrus_parts.specs.declared.segments.ElementKind.TheVariants as element_kinds
-use Rattle.walrus_parts.specs.declared.segments.ElementKind.{ElementKind}
+use Rattle.walrus_items.specs.FunctionKind.{FunctionKind}
+use Rattle.walrus_items.specs.FunctionKind.TheVariants.{Import, Local, Uninitialized}
+use Rattle.walrus_items.specs.ElementKind.TheVariants as element_kinds
+use Rattle.walrus_items.specs.ElementKind.{ElementKind}
 use Rattle.walrus_model.specs.Abstract.{Abstract, TypeDef}
 use Rattle.walrus_model.specs.Refers.{KeepsToo, named_by, written_in}
 use Rattle.walrus_contents.specs.declared.parts.Contents.{Contents}

@@ -6,8 +6,8 @@ use Rattle.walrus_model.specs.Closed.{NamesAreLive}
 use Rattle.walrus_model.specs.Live.{Has, IsLive}
 use Rattle.walrus_model.specs.Names.{body_of}
 use Rattle.walrus_model.specs.Refers.{IsUsed, written_in}
-use Rattle.walrus_parts.specs.declared.error.Error.{Error}
-use Rattle.walrus_parts.specs.declared.error.Error.TheVariants.{Memory, DeadItem}
+use Rattle.walrus_items.specs.Error.{Error}
+use Rattle.walrus_items.specs.Error.TheVariants.{Memory, DeadItem}
 
 -- what each import brings is there
 abbrev pub ImportsAreLive : Abstract → Type 0

@@ -15,20 +15,20 @@ use Rattle.walrus_types.specs.declared.locals.ModuleLocals.{ModuleLocals}
 use Rattle.walrus_types.specs.declared.module_types.ModuleTypes.{ModuleTypes}
 use Rattle.walrus_code.specs.Function.{body_of}
 use Rattle.walrus_code.specs.declared.function.LocalFunction.{LocalFunction}
-use Rattle.walrus_functions.specs.EmittedBody.{types_of as local_types}
-use Rattle.walrus_parts.specs.Kinds.{exported, imported}
+use Rattle.walrus_model.specs.EmittedBody.{types_of as local_types}
+use Rattle.walrus_items.specs.Kinds.{exported, imported}
 use Rattle.walrus_items.specs.Exports.{ExportValue, exports, ModuleExports}
-use Rattle.walrus_parts.specs.FunctionKinds.{kind_type}
+use Rattle.walrus_items.specs.FunctionKinds.{kind_type}
 use Rattle.walrus_items.specs.Functions.{FunctionValue, functions, ModuleFunctions}
 use Rattle.walrus_items.specs.Imports.{ImportValue, imports, ModuleImports}
-use Rattle.walrus_parts.specs.declared.function_kind.FunctionKind.TheVariants as kind
-use Rattle.walrus_parts.specs.declared.function_kind.FunctionKind.{FunctionKind}
-use Rattle.walrus_parts.specs.declared.segments.DataKind.TheVariants.{Active, Passive}
-use Rattle.walrus_parts.specs.declared.segments.DataKind.{DataKind}
-use Rattle.walrus_parts.specs.declared.segments.ElementItems.TheVariants as element_contents
-use Rattle.walrus_parts.specs.declared.segments.ElementItems.{ElementItems}
-use Rattle.walrus_parts.specs.declared.segments.ElementKind.TheVariants as element_kinds
-use Rattle.walrus_parts.specs.declared.segments.ElementKind.{ElementKind}
+use Rattle.walrus_items.specs.FunctionKind.TheVariants as kind
+use Rattle.walrus_items.specs.FunctionKind.{FunctionKind}
+use Rattle.walrus_items.specs.DataKind.TheVariants.{Active, Passive}
+use Rattle.walrus_items.specs.DataKind.{DataKind}
+use Rattle.walrus_items.specs.ElementItems.TheVariants as element_contents
+use Rattle.walrus_items.specs.ElementItems.{ElementItems}
+use Rattle.walrus_items.specs.ElementKind.TheVariants as element_kinds
+use Rattle.walrus_items.specs.ElementKind.{ElementKind}
 use Rattle.walrus_items.specs.Data.{DataValue, data_segments, ModuleData}
 use Rattle.walrus_items.specs.Elements.{ElementValue, elements, ModuleElements}
 use Rattle.walrus_items.specs.Globals.{GlobalValue, globals, ModuleGlobals}

@@ -3,7 +3,7 @@ ghost use Rattle.std.specs.Prelude.{◌≡◌, MatchResult, map};
 ghost use Rattle.walrus_code.specs.Code.{item_of};
 ghost use Rattle.walrus_model.specs.Dead.{HasDead};
 ghost use Rattle.walrus_model.specs.Live.{IsLive};
-ghost use Rattle.walrus_parts.specs.Kinds.{imported};
+ghost use Rattle.walrus_items.specs.Kinds.{imported};
 ghost use Rattle.walrus_types.specs.Operators.{DataSegments, Elements, Functions, Globals, Tables, Tags, Types};
 ghost use Rattle.walrus_contents.specs.There.{AreLive, AreWhole, ImportsAreLive, IsRefusal, IsWhole, OneIsDead};
 ghost use Rattle.walrus_contents.specs.View.{parts_view};

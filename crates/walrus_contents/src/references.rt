@@ -11,7 +11,7 @@ ghost use Rattle.walrus_items.specs.Elements.{elements};
 ghost use Rattle.walrus_items.specs.Exports.{exports};
 ghost use Rattle.walrus_types.specs.ConstOps.{const_op, const_ops};
 ghost use Rattle.walrus_types.specs.PlaceList.{has};
-ghost use Rattle.walrus_parts.specs.Errors.{out_of_memory};
+ghost use Rattle.walrus_items.specs.Errors.{out_of_memory};
 ghost use Rattle.walrus_model.specs.Declared.{AreUndeclared};
 ghost use Rattle.walrus_model.specs.Live.{IsLive};
 ghost use Rattle.walrus_contents.specs.References.{arg_ref, args_ref, op_ref, kind_refs, function_refs, init_refs, global_refs, named_refs, declared_refs, export_refs, listed_in, listed_refs, only_ref};

@@ -15,3 +15,11 @@ pub mod Searches
 pub mod Seen
 pub mod Tables
 pub mod Tags
+pub use Rattle.walrus_parts.specs.Errors
+pub use Rattle.walrus_parts.specs.FunctionKinds
+pub use Rattle.walrus_parts.specs.Kinds
+pub use Rattle.walrus_parts.specs.declared.error.Error
+pub use Rattle.walrus_parts.specs.declared.function_kind.FunctionKind
+pub use Rattle.walrus_parts.specs.declared.segments.DataKind
+pub use Rattle.walrus_parts.specs.declared.segments.ElementItems
+pub use Rattle.walrus_parts.specs.declared.segments.ElementKind

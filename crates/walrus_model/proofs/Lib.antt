@@ -34,3 +34,5 @@ pub mod Living
 pub mod Indices
 pub mod Rising
 pub mod Arenas
+pub use Rattle.walrus_functions.proofs.CountLemmas
+pub use Rattle.walrus_functions.proofs.LawOrder

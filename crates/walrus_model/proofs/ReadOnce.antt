@@ -10,10 +10,10 @@ use Rattle.wasm_operators.specs.Operators as wire_ops
 use Rattle.wasm_operators.specs.Forms.{operator}
 use Rattle.walrus_base.specs.Types.{ValType}
 use Rattle.walrus_types.specs.Operators.{Op}
-use Rattle.walrus_code.specs.Names.{named_ops}
-use Rattle.walrus_code.specs.FromRaw.{ops_of}
-use Rattle.walrus_bodies.specs.declared.features.Features.{Features}
-use Rattle.walrus_bodies.specs.Body.{Context, BodyReads, declarations, declared_types}
+use Rattle.walrus_functions.specs.Names.{named_ops}
+use Rattle.walrus_functions.specs.FromRaw.{ops_of}
+use Rattle.walrus_functions.specs.Features.{Features}
+use Rattle.walrus_functions.specs.Body.{Context, BodyReads, declarations, declared_types}
 use Rattle.walrus_functions.specs.ReadFunction.{locals_from}
 use Rattle.walrus_model.specs.Reads.{arity, context_with, ReadsBodyWith}
 use Rattle.walrus_model.specs.Sections.{Said}

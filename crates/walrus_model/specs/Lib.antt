@@ -32,3 +32,10 @@ pub mod Ordered
 pub mod Plan
 pub mod Imported
 pub mod RulesCarried
+pub use Rattle.walrus_functions.specs.EmittedBody
+pub use Rattle.walrus_functions.specs.Blocks
+pub use Rattle.walrus_functions.specs.FunctionTypes
+pub use Rattle.walrus_groups.specs.Groups
+pub use Rattle.walrus_functions.specs.Handlers as BlockHandlers
+pub use Rattle.walrus_functions.specs.DeclaredLocals
+pub use Rattle.walrus_functions.specs.ReadFunction

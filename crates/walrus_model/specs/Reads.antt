@@ -2,10 +2,10 @@
 use Rattle.std.specs.Prelude.{ℕ, Bool, ◌+◌, length, Option, Some, None, unwrap_or, nat_lt, if◌then◌else◌}
 use Rattle.wasm_frames.specs.Record as wire
 use Rattle.walrus_types.specs.Operators.{Types, Functions, Tables, Memories, Tags, Globals, Elements, DataSegments}
-use Rattle.walrus_code.specs.Names.{Lookup}
-use Rattle.walrus_bodies.specs.declared.features.Features.{Features}
-use Rattle.walrus_bodies.specs.Body.{Context, context, BodyReads}
-use Rattle.walrus_bodies.specs.FunctionTypes.{is_function_def}
+use Rattle.walrus_functions.specs.Names.{Lookup}
+use Rattle.walrus_functions.specs.Features.{Features}
+use Rattle.walrus_functions.specs.Body.{Context, context, BodyReads}
+use Rattle.walrus_functions.specs.FunctionTypes.{is_function_def}
 use Rattle.walrus_functions.specs.Handlers.{params_of}
 use Rattle.walrus_groups.specs.Groups.{types_from}
 use Rattle.walrus_functions.specs.ReadFunction.{locals_from}

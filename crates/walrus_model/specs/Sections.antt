@@ -13,7 +13,7 @@ use Rattle.wasm_entries.specs.Record as entries
 use Rattle.wasm_frames.specs.Record as wire
 use Rattle.walrus_base.specs.Types.{RefType, ValType}
 use Rattle.walrus_types.specs.Operators.{Space, Functions, Tables, Memories, Tags, Globals, Item, Op}
-use Rattle.walrus_code.specs.FromRaw.{val_of, heap_of}
+use Rattle.walrus_functions.specs.FromRaw.{val_of, heap_of}
 use Rattle.walrus_groups.specs.Groups.{types_from}
 use Rattle.walrus_functions.specs.Handlers.{params_of}
 use Rattle.walrus_model.specs.Abstract.{Abstract, Name, ImportedBy, Defined, TypeDef, Body, Limits, TableType, MemoryType, GlobalType, ImportedFunction, LocalFunction, Function, Table, Memory, Tag, Global, ElementKind, PassiveElements, DeclaredElements, ActiveElements, ElementItems, ListedFunctions, Expressions, Element, DataKind, PassiveData, ActiveData, DataSegment, Import, Export, Custom}

@@ -13,7 +13,7 @@ use Rattle.walrus_reading.specs.Customs.{section_seen}
 use Rattle.walrus_reading.specs.Parsed.{read_view}
 use Rattle.walrus_reading.specs.declared.module.ReadModule.{ReadModule}
 use Rattle.walrus_reading.proofs.Parsing.{each_in}
-use Rattle.walrus_writing.proofs.SameItems.{with_own}
+use Rattle.walrus_rules.proofs.SameItems.{with_own}
 use Rattle.walrus_module.specs.Asked.{OneAskedMayRefuse, OneMayRefuse}
 use Rattle.walrus_module.specs.Customs as customs
 use Rattle.walrus_module.specs.Meaning.{Meaning, meaning, raw_meaning}

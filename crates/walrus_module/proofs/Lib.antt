@@ -1,4 +1,3 @@
-pub mod Found
 pub mod KeptRaw
 pub mod RawLemmas
 pub mod Asking

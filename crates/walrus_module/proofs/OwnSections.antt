@@ -14,7 +14,7 @@ use Rattle.walrus_model.specs.Live.{IsLive}
 use Rattle.walrus_rules.specs.Chain.{AddsSegment, HasSegment, Leaves}
 use Rattle.walrus_rules.specs.Refused.{Refusal, Memory, DeadItem, NoIndex, TwoIndices, TooLarge, NotWritable, Caller, Another, RefusesToWrite}
 use Rattle.walrus_writing.specs.Emitted.{told}
-use Rattle.walrus_writing.proofs.SameItems.{dead_back, dead_on, with_own}
+use Rattle.walrus_rules.proofs.SameItems.{dead_back, dead_on, with_own}
 use Rattle.walrus_module.specs.Asked.{IsRefusedBy}
 use Rattle.walrus_module.specs.Left.{ChangesElements, LeavesBy}
 use Rattle.walrus_module.specs.View.{held_view, view}

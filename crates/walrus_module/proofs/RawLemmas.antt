@@ -7,7 +7,7 @@ use Rattle.walrus_module.specs.declared.entry.SectionEntry.{SectionEntry}
 use Rattle.walrus_module.specs.declared.entry.SectionEntry.TheVariants.{Raw}
 use Rattle.walrus_module.specs.Entry.{names_raw, raw_of}
 use Rattle.walrus_module.specs.Raws.{first_raw}
-use Rattle.walrus_module.proofs.Found.{IsFound, is_found}
+use Rattle.walrus_items.proofs.Found.{IsFound, is_found}
 
 module _ {V : Type 0} {O : V → Type 0} (name : List ℕ) (ss : List (Option (SectionEntry V O))) (n : ℕ) (h : Some n ≡ option_map (λ e. e.0) (first_raw name ss)) where
   known : IsFound (λ (e : ℕ × SectionEntry V O). names_raw name e.1) ss n

@@ -10,3 +10,5 @@ pub mod Raws
 pub mod Settings
 pub mod View
 pub mod OnlyMemory
+pub use Rattle.walrus_writing.specs.Emitted
+pub use Rattle.walrus_reading.specs.Parsed

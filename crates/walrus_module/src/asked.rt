@@ -6,7 +6,7 @@ ghost use Rattle.wasm_frames.specs.Record.{custom_record};
 ghost use Rattle.walrus_base.specs.Arena.{items};
 ghost use Rattle.walrus_code.specs.Indices.{index_of};
 ghost use Rattle.walrus_parts.specs.Errors.{out_of_memory};
-ghost use Rattle.walrus_module.specs.Asked.{is_dylink_name, is_in_turn, section_seen};
+ghost use Rattle.walrus_module.specs.Asked.{is_in_turn, section_seen};
 
 use crate::customs::ModuleCustomSections;
 use crate::entry::SectionEntry;
@@ -14,7 +14,7 @@ use crate::module::Module;
 use std::alloc::Global;
 use walrus_ir::IdsToIndices;
 use walrus_parts::{CustomSection, Result, Roots};
-use wasm_wire::RawCustom;
+use wasm_wire::{CustomGroup, RawCustom, is_debug};
 
 // The data of a section: that of a raw one lent, that of a caller's own made.
 #[derive(Drop)]
@@ -61,22 +61,15 @@ pub(crate) fn raw_customs<'a>(
     Ok(raws)
 }
 
-// Whether the name is that of a section of dynamic linking (tool-conventions, "Dynamic Linking").
-fn is_dylink(name: &str) -> bool
-    ensures { result ≡ is_dylink_name name.now }
-{
-    name == "dylink" || name == "dylink.0"
-}
-
 // Whether a section of this name is asked in this turn: those of dynamic linking in the first, all others but debug information in the
 // second.
 fn is_in_turn(name: &str, first: bool) -> bool
     ensures { result ≡ is_in_turn first name.now }
 {
     if first {
-        is_dylink(name)
+        CustomGroup::Dylink.has(name)
     } else {
-        !(is_dylink(name) || name.starts_with(".debug"))
+        !(CustomGroup::Dylink.has(name) || is_debug(name))
     }
 }
 

@@ -78,8 +78,8 @@ impl Module {
         Ok(())
     }
 
-    // The parts of which the module's sections are written.
-    fn parts(&self) -> Parts<'_>
+    /// The parts of the module, lent: all that it holds but its custom sections.
+    pub fn parts(&self) -> Parts<'_>
         ensures { parts_view result ≡ held_view self.now }
     {
         Parts {

@@ -12,7 +12,7 @@ use crate::synthetic::fill_names;
 use std::alloc::Global;
 use walrus_contents::Contents;
 use walrus_parts::Result;
-use wasm_wire::{RawCustom, read_names};
+use wasm_wire::{CustomGroup, RawCustom, read_names};
 
 // Takes the namings of a custom section, if it is called `name`. A fault in its payload refuses nothing: the namings before it are taken.
 fn take_section(custom: &RawCustom<'_>, namer: &mut Namer) -> Result<()>
@@ -21,7 +21,7 @@ fn take_section(custom: &RawCustom<'_>, namer: &mut Namer) -> Result<()>
     ensures same { OnOk result (bounds_of namer.new.bounds ≡ bounds_of namer.old.bounds) }
     ensures fails { IsOkUnless result out_of_memory }
 {
-    if custom.name != "name" {
+    if !CustomGroup::Names.has(custom.name) {
         return Ok(());
     }
     read_names(custom.bytes, namer)?;

@@ -2,7 +2,7 @@
 
 ghost use Rattle.std.specs.Prelude.{◌≡◌, alloc_error};
 ghost use Rattle.walrus_parts.specs.declared.error.Error.TheVariants.{Memory};
-ghost use Rattle.walrus_parts.specs.Errors.{error_of_wire, error_of_ir};
+ghost use Rattle.walrus_parts.specs.Errors.{error_of_ir, error_of_wire, error_text};
 
 use std::alloc::{AllocError, AllocFailed};
 use std::{error, fmt, result};
@@ -25,54 +25,72 @@ impl fmt::Display for ErrorKind {
 impl error::Error for ErrorKind {}
 
 /// Why a call was refused.
-#[derive(Debug, Drop, thiserror::Error)]
+#[derive(Debug, Drop)]
 pub enum Error {
     /// A request for memory was refused.
-    #[error("out of memory")]
     Memory(AllocError),
     /// The bytes aren't in the grammar of modules with its rules ("Binary Format > Modules").
-    #[error("{0}")]
     InvalidWasm(ErrorKind),
     /// Something refers to an item, or names a local, that isn't live, or a function has no body and no import.
-    #[error("reference to an item that is not live")]
     DeadItem,
     /// A live item has no index where one is needed.
-    #[error("an item has no index")]
     NoIndex,
     /// An item would be numbered twice.
-    #[error("an item has two indices")]
     TwoIndices,
     /// A count, a size or a 32-bit limit that is to be written passes 32 bits.
-    #[error("a count or size passes 32 bits")]
     TooLarge,
     /// An exact heap type, a constant expression with no instruction, or a body that isn't well formed.
-    #[error("a form that cannot be written")]
     NotWritable,
     /// A search by name found nothing.
-    #[error("not found")]
     NotFound,
     /// The module has more than one memory.
-    #[error("multiple memories unsupported")]
     SeveralMemories,
     /// The module has no memory.
-    #[error("module does not export a memory")]
     NoMemory,
     /// The module has more than one table of functions.
-    #[error("module contains more than one function table")]
     SeveralFunctionTables,
     /// No export names the function.
-    #[error("no exported function with this id")]
     NotExported,
     /// No import names the function.
-    #[error("no imported function with this id")]
     NotImported,
     /// The function is exported and not local, or imported by name and not of import kind.
-    #[error("cannot replace function")]
     NotReplaceable,
     /// A caller's section or closure refused, with this text.
-    #[error("{0}")]
     Caller(String),
 }
+
+impl Error {
+    /// What went wrong, in a few words without a full stop. A caller's own refusal has the text that it was made with.
+    pub fn text(&self) -> &str
+        ensures { result.now ≡ error_text self.now }
+    {
+        match self {
+            Error::Memory(_) => "out of memory",
+            Error::InvalidWasm(_) => "The input WebAssembly is invalid",
+            Error::DeadItem => "reference to an item that is not live",
+            Error::NoIndex => "an item has no index",
+            Error::TwoIndices => "an item has two indices",
+            Error::TooLarge => "a count or size passes 32 bits",
+            Error::NotWritable => "a form that cannot be written",
+            Error::NotFound => "not found",
+            Error::SeveralMemories => "multiple memories unsupported",
+            Error::NoMemory => "module does not export a memory",
+            Error::SeveralFunctionTables => "module contains more than one function table",
+            Error::NotExported => "no exported function with this id",
+            Error::NotImported => "no imported function with this id",
+            Error::NotReplaceable => "cannot replace function",
+            Error::Caller(text) => text.as_str(),
+        }
+    }
+}
+
+impl fmt::Display for Error {
+    fn fmt<W: fmt::Write>(&self, f: &mut fmt::Formatter<W>) -> fmt::Result {
+        f.write_str(self.text())
+    }
+}
+
+impl error::Error for Error {}
 
 /// The answer of a call that may be refused.
 pub type Result<T> = result::Result<T, Error>;

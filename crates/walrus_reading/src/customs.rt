@@ -7,13 +7,13 @@ ghost use Rattle.walrus_reading.specs.Customs.{kept_customs, section_seen};
 
 use std::alloc::Global;
 use walrus_parts::{RawCustomSection, Result};
-use wasm_wire::RawCustom;
+use wasm_wire::{CustomGroup, RawCustom, is_debug};
 
 // Whether a section of this name is kept as it was read: one of names, producers or debug information isn't.
 fn is_kept(name: &str) -> bool
     ensures { result ≡ not (is_apart name.now) }
 {
-    !(name == "name" || (name == "producers" || name.starts_with(".debug")))
+    !(CustomGroup::Names.has(name) || (CustomGroup::Producers.has(name) || is_debug(name)))
 }
 
 // The section, with a name and bytes of its own.

@@ -11,7 +11,7 @@ ghost use Rattle.walrus_reading.specs.Producers.{AddsSections, HoldsProducers, o
 use std::alloc::Global;
 use walrus_parts::Result;
 use walrus_producers::ModuleProducers;
-use wasm_wire::{RawCustom, RawField, read_producers};
+use wasm_wire::{CustomGroup, RawCustom, RawField, read_producers};
 
 // These fields go behind the others.
 fn push_fields(fields: &[RawField<'_>], made: &mut ModuleProducers) -> Result<()>
@@ -32,7 +32,7 @@ fn add_fields(alloc: Global, custom: &RawCustom<'_>, made: &mut ModuleProducers)
         (producers made.new)) }
     ensures fails { IsOkUnless result out_of_memory }
 {
-    if custom.name != "producers" {
+    if !CustomGroup::Producers.has(custom.name) {
         return Ok(());
     }
     let fields = read_producers(alloc, custom.bytes)?;

@@ -23,10 +23,10 @@ use Rattle.walrus_bodies.specs.Blocks.{are_nested, blocks_hold}
 use Rattle.walrus_bodies.specs.Emitting.{AllStand}
 use Rattle.walrus_bodies.specs.Features.{are_allowed}
 use Rattle.walrus_bodies.specs.FunctionTypes.{is_function_def}
-use Rattle.walrus_functions.specs.EmittedBody.{declarations_bytes}
-use Rattle.walrus_functions.specs.Handlers.{params_of}
-use Rattle.walrus_functions.proofs.CountLemmas.{how_many, declarations_stand}
-use Rattle.walrus_groups.specs.Groups.{types_from}
+use Rattle.walrus_model.specs.EmittedBody.{declarations_bytes}
+use Rattle.walrus_model.specs.BlockHandlers.{params_of}
+use Rattle.walrus_model.proofs.CountLemmas.{how_many, declarations_stand}
+use Rattle.walrus_model.specs.Groups.{types_from}
 use Rattle.walrus_model.specs.Abstract.{Abstract, Body, Function, LocalFunction, FunctionKind}
 use Rattle.walrus_model.specs.Config.{Config}
 use Rattle.walrus_model.specs.Live.{IsLive}

@@ -16,7 +16,7 @@ use Rattle.wasm_entries.specs.Forms.{desc, desc_from, import_form, table_from, t
 use Rattle.wasm_operators.proofs.OneRead.{chosen}
 use Rattle.walrus_types.specs.TypeDef.{TypeDef, type_params}
 use Rattle.walrus_code.specs.FromRaw.{val_of}
-use Rattle.walrus_groups.specs.Groups.{comp_of, sub_of, members_of, types_from}
+use Rattle.walrus_model.specs.Groups.{comp_of, sub_of, members_of, types_from}
 use Rattle.walrus_rules.proofs.LeastLengths.{behind_byte}
 use Rattle.walrus_rules.proofs.TextShaped.{all_append}
 

@@ -117,3 +117,4 @@ pub mod WorkedProducers
 pub mod WorkedCustoms
 pub mod WorkedNames
 pub mod WorkedHandler
+pub mod SameItems

@@ -7,8 +7,8 @@ use Rattle.walrus_base.specs.Types.{ValType, CompType, Func, Struct, Array, map_
 use Rattle.walrus_types.specs.TypeDef.{type_params}
 use Rattle.walrus_types.specs.Operators.{Types, Functions, type_item, locals_of}
 use Rattle.walrus_types.specs.Shape.{place_in}
-use Rattle.walrus_functions.specs.Handlers.{params_of}
-use Rattle.walrus_functions.proofs.LawOrder.{In}
+use Rattle.walrus_model.specs.BlockHandlers.{params_of}
+use Rattle.walrus_model.proofs.LawOrder.{In}
 use Rattle.walrus_model.specs.Abstract.{Abstract, TypeDef, Body, LocalFunction, Function}
 use Rattle.walrus_model.specs.Config.{Config}
 use Rattle.walrus_model.specs.Live.{IsLive}

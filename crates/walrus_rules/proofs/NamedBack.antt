@@ -10,7 +10,7 @@ use Rattle.walrus_types.specs.Operators.{Memories, Types, Item, type_item, Block
 use Rattle.walrus_code.specs.Names.{Lookup, named_heap, named_val, named_block, named_arg, named_args, named_op, named_ops}
 use Rattle.walrus_code.specs.FromRaw.{val_of}
 use Rattle.walrus_bodies.specs.Body.{declared_types}
-use Rattle.walrus_functions.specs.ReadFunction.{locals_from}
+use Rattle.walrus_model.specs.ReadFunction.{locals_from}
 use Rattle.walrus_model.specs.Reads.{below}
 use Rattle.walrus_model.proofs.Lists.{Contains-head, Contains-append_1, Contains-append_2}
 

@@ -15,7 +15,7 @@ use Rattle.walrus_model.specs.Abstract.{Body, FunctionKind, ImportedFunction, Lo
 use Rattle.walrus_model.specs.Sections.{Said, body_with}
 use Rattle.walrus_rules.specs.Text.{BodyText, said}
 use Rattle.walrus_rules.specs.Spelling.{BodyStands}
-use Rattle.walrus_functions.proofs.LawOrder.{Sorted, sorted_of, one_grouping, spread_of, Apart, Filled}
+use Rattle.walrus_model.proofs.LawOrder.{Sorted, sorted_of, one_grouping, spread_of, Apart, Filled}
 use Rattle.walrus_rules.proofs.OneGroup.{split_same, val_stands}
 use Rattle.walrus_rules.proofs.OneText.{OpGood, one_text, one_val}
 use Rattle.walrus_rules.proofs.TextsStand.{operator_good}

@@ -21,7 +21,7 @@ use Rattle.walrus_base.specs.Types.{StorageType, Unpacked, I8, I16, FieldType, C
 use Rattle.walrus_base.specs.Types as types
 use Rattle.walrus_types.specs.TypeDef.{TypeDef}
 use Rattle.walrus_code.specs.FromRaw.{val_of}
-use Rattle.walrus_groups.specs.Groups.{storage_of, field_of, comp_of, sub_of, members_of, types_from}
+use Rattle.walrus_model.specs.Groups.{storage_of, field_of, comp_of, sub_of, members_of, types_from}
 use Rattle.walrus_model.proofs.Lists.{map-map}
 use Rattle.walrus_rules.proofs.OneText.{raw_val_of, val_back}
 

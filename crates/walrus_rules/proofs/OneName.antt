@@ -6,7 +6,7 @@ use Rattle.std.proofs.lemmas.Bool.Decides.{eqb_tells}
 use Rattle.std.proofs.lemmas.List.{append-nil}
 use Rattle.walrus_model.specs.Abstract.{Name}
 use Rattle.walrus_rules.specs.Text.{NameMap}
-use Rattle.walrus_functions.proofs.LawOrder.{Sorted}
+use Rattle.walrus_model.proofs.LawOrder.{Sorted}
 
 -- ---- rising keys: what all entries of a key give tells the entries
 

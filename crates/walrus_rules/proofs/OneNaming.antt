@@ -14,7 +14,7 @@ use Rattle.walrus_model.specs.Abstract.{Abstract, Name, Subject, TheModule, AnIt
 use Rattle.walrus_rules.specs.Namings.{space_of, naming_of, subsection, is_same, is_in_range, names_given, names_in_range}
 use Rattle.walrus_rules.specs.Text.{NameMap, NameText, further_spaces, module_naming, space_namings, function_namings, namings_of}
 use Rattle.walrus_rules.specs.Spelling.{MapStands, NamesStand}
-use Rattle.walrus_functions.proofs.LawOrder.{Sorted, sorted_of}
+use Rattle.walrus_model.proofs.LawOrder.{Sorted, sorted_of}
 use Rattle.wasm_operators.proofs.OneStands.{and_both}
 use Rattle.walrus_rules.proofs.OneName.{looked, looked_at, Lower, MapGood, one_map, one_maps}
 use Rattle.walrus_rules.proofs.TextNames.{given_append}

@@ -6,8 +6,8 @@ use Rattle.wasm_entries.specs.Spelling.{ElementStands, DataStands, TableStands, 
 use Rattle.wasm_frames.specs.Record as wire
 use Rattle.walrus_base.specs.Types.{ValType}
 use Rattle.walrus_types.specs.Operators.{Types, Functions, Tables, Memories, Tags, Globals, Elements, DataSegments}
-use Rattle.walrus_functions.specs.Handlers.{params_of}
-use Rattle.walrus_groups.specs.Groups.{types_from}
+use Rattle.walrus_model.specs.BlockHandlers.{params_of}
+use Rattle.walrus_model.specs.Groups.{types_from}
 use Rattle.walrus_model.specs.Abstract.{Abstract, Subject, TheModule, AnItem, ALocal, Memory, Tag}
 use Rattle.walrus_rules.specs.Namings.{is_in_range, names_given, names_in_range}
 use Rattle.walrus_model.specs.Sections.{imports_after, function_with, table_of, memory_of, tag_of, global_of, element_of, data_of, export_of}

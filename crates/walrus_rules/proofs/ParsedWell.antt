@@ -10,8 +10,8 @@ use Rattle.wasm_forms.proofs.Bind.{some_same}
 use Rattle.walrus_base.specs.Types.{ValType}
 use Rattle.walrus_types.specs.Operators.{Types, Functions, Tables, Memories, Tags, Globals, Elements, DataSegments, Item, type_item}
 use Rattle.walrus_bodies.specs.FunctionTypes.{is_function_def}
-use Rattle.walrus_functions.specs.Handlers.{params_of}
-use Rattle.walrus_functions.specs.ReadFunction.{locals_from}
+use Rattle.walrus_model.specs.BlockHandlers.{params_of}
+use Rattle.walrus_model.specs.ReadFunction.{locals_from}
 use Rattle.walrus_model.specs.Abstract.{Abstract, Body, Function, FunctionKind, LocalFunction, ImportedFunction, Uninitialised, Import}
 use Rattle.walrus_model.specs.Config.{Config}
 use Rattle.walrus_model.specs.Kept.{IsImportOf}

@@ -2,7 +2,7 @@
 use Rattle.std.proofs.Common.{◌≡◌, ℕ, zero, suc, ◌+◌, ◌<◌, ◌≤◌, List, [], ◌∷◌, length, map, refl, sym, ap, ◌∙◌, subst, arith, inl, inr}
 use Rattle.std.specs.Prelude.{AllPairs, All}
 use Rattle.std.proofs.lemmas.List.Elements.{recursion_from_All}
-use Rattle.walrus_functions.proofs.LawOrder.{In, Sorted, sorted_of}
+use Rattle.walrus_model.proofs.LawOrder.{In, Sorted, sorted_of}
 use Rattle.walrus_rules.proofs.SameVal.{Told, told_nat}
 use Rattle.walrus_rules.proofs.SpaceList.{look_up}
 

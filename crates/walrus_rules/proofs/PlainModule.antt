@@ -11,7 +11,7 @@ use Rattle.wasm_frames.specs.Record as wire
 use Rattle.wasm_payloads.specs.Names.{Named}
 use Rattle.walrus_base.specs.Types.{IsNotExact, val_heaps}
 use Rattle.walrus_types.specs.Operators.{Byte, Op}
-use Rattle.walrus_groups.specs.Groups.{types_from}
+use Rattle.walrus_model.specs.Groups.{types_from}
 use Rattle.walrus_model.specs.Abstract.{Abstract, TypeDef, Table, Global, Element, DataSegment, ProducerField}
 use Rattle.walrus_model.specs.Config.{Config}
 use Rattle.walrus_model.specs.Sections.{Said, imported, imported_table, imported_global, table_of, global_of, element_of, data_of}

@@ -15,8 +15,8 @@ use Rattle.walrus_types.specs.Composite.{FunctionType, function_comp}
 use Rattle.walrus_types.specs.Operators.{BlockType, NoResult, OneResult, OfType, Arg, Block, Index, Op}
 use Rattle.walrus_types.specs.TypeDef.{TypeDef, type_params, type_results}
 use Rattle.walrus_code.specs.FromRaw.{heap_of, val_of}
-use Rattle.walrus_functions.specs.Handlers.{params_of, results_of, OpenBlock, Try, OtherBlock, opens_other, closes, without_innermost, catch_type, catch_all_type, tag_params, block_results, opened_results, caught_params, blocks_after, handler_at, handlers_from}
-use Rattle.walrus_groups.specs.Groups.{storage_of, field_of, comp_of, sub_of, members_of, types_from}
+use Rattle.walrus_model.specs.BlockHandlers.{params_of, results_of, OpenBlock, Try, OtherBlock, opens_other, closes, without_innermost, catch_type, catch_all_type, tag_params, block_results, opened_results, caught_params, blocks_after, handler_at, handlers_from}
+use Rattle.walrus_model.specs.Groups.{storage_of, field_of, comp_of, sub_of, members_of, types_from}
 use Rattle.walrus_model.specs.WellMade.{block_heaps, arg_heaps, op_heaps}
 use Rattle.walrus_model.proofs.Lists.{Contains-none, Contains-uncons}
 use Rattle.walrus_rules.proofs.TextShaped.{all_append}

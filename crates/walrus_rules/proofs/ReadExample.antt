@@ -19,7 +19,7 @@ use Rattle.wasm_operators.specs.Operators as wire
 use Rattle.wasm_operators.specs.Forms.{args_form, operator_of, operator_from, operator}
 use Rattle.wasm_operators.specs.Table.{kinds_of}
 use Rattle.walrus_bodies.specs.Body.{declarations, BodyReads}
-use Rattle.walrus_functions.specs.ReadFunction.{locals_from}
+use Rattle.walrus_model.specs.ReadFunction.{locals_from}
 use Rattle.wasm_frames.specs.Record as frames
 use Rattle.walrus_model.specs.Config.{Config}
 use Rattle.walrus_model.specs.Reads.{context_with}

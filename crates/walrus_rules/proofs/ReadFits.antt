@@ -25,9 +25,9 @@ use Rattle.walrus_types.specs.Operators.{Space, Types, Functions, Tables, Memori
 use Rattle.walrus_types.specs.TypeDef.{TypeDef}
 use Rattle.walrus_code.specs.FromRaw.{arg_of, ops_of}
 use Rattle.walrus_bodies.specs.Body.{declarations}
-use Rattle.walrus_functions.specs.Handlers.{params_of}
-use Rattle.walrus_functions.specs.ReadFunction.{locals_from}
-use Rattle.walrus_groups.specs.Groups.{types_from}
+use Rattle.walrus_model.specs.BlockHandlers.{params_of}
+use Rattle.walrus_model.specs.ReadFunction.{locals_from}
+use Rattle.walrus_model.specs.Groups.{types_from}
 use Rattle.walrus_model.specs.Abstract.{Abstract, Body, FunctionKind, LocalFunction, Function, Table, Memory, ProducerField}
 use Rattle.walrus_model.specs.Config.{Config}
 use Rattle.walrus_model.specs.Live.{Has}

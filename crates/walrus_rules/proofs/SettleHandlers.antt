@@ -6,7 +6,7 @@ use Rattle.walrus_base.specs.Types.{ValType, CompType, Func, Struct, Array, SubT
 use Rattle.walrus_types.specs.Composite.{FunctionType, function_comp}
 use Rattle.walrus_types.specs.TypeDef.{type_params, type_results}
 use Rattle.walrus_types.specs.Operators.{Types, Tags, Item, type_item, BlockType, NoResult, OneResult, OfType, block_names, Arg, Index, Label, Local, Number, Count, Byte, S32, S64, Bits32, Bits64, Value, Heap, Block, Access, Op, arg_names, op_names, names_of}
-use Rattle.walrus_functions.specs.Handlers.{params_of, results_of, OpenBlock, Try, OtherBlock, opens_other, closes, without_innermost, catch_type, catch_all_type, tag_params, block_results, opened_results, caught_params, blocks_after, handler_at, handlers_from}
+use Rattle.walrus_model.specs.BlockHandlers.{params_of, results_of, OpenBlock, Try, OtherBlock, opens_other, closes, without_innermost, catch_type, catch_all_type, tag_params, block_results, opened_results, caught_params, blocks_after, handler_at, handlers_from}
 use Rattle.walrus_model.specs.Abstract.{Abstract, TypeDef, Body, Tag}
 use Rattle.walrus_model.specs.Handlers.{tag_type, handlers_of}
 use Rattle.walrus_model.specs.Kept.{Kept}

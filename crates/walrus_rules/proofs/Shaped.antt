@@ -2,7 +2,7 @@
 use Rattle.std.proofs.Common.{◌≡◌, ℕ, ◌<◌, ◌≤◌, [], length}
 use Rattle.std.specs.Prelude.{Option, Some, IsSome}
 use Rattle.walrus_types.specs.Operators.{Types}
-use Rattle.walrus_functions.specs.Handlers.{params_of}
+use Rattle.walrus_model.specs.BlockHandlers.{params_of}
 use Rattle.walrus_model.specs.Abstract.{Abstract, Subject, AnItem, Body, LocalFunction, Function}
 use Rattle.walrus_model.specs.Config.{Config}
 use Rattle.walrus_model.specs.Names.{body_of, own_name}

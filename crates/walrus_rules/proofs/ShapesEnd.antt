@@ -7,7 +7,7 @@ use Rattle.std.specs.List.{range_with_len}
 use Rattle.std.specs.Prelude.{Option, Some, None, option_map, slice_get, Contains, flat_map, filter_map}
 use Rattle.wasm_entries.specs.Record.{Sub, Group}
 use Rattle.walrus_base.specs.Types.{SubType, map_sub, sub_names, comp_names}
-use Rattle.walrus_groups.specs.Groups.{sub_of, members_of, types_from}
+use Rattle.walrus_model.specs.Groups.{sub_of, members_of, types_from}
 use Rattle.walrus_types.specs.Operators.{Types, type_item}
 use Rattle.walrus_types.specs.Shape.{place_in, Seen, seen_at, seen_from, in_its_group, slot, other_type, others_named, AreMembers, Shape, OfGroup, Shapes, NoShapes, AndShape, HasShape, HaveShapes}
 use Rattle.walrus_model.specs.Abstract.{Abstract, TypeDef}

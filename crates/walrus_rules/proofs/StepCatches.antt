@@ -16,8 +16,8 @@ use Rattle.wasm_forms.proofs.Bind.{some_same, bind_some}
 use Rattle.walrus_types.specs.Operators.{Tags, Item, Arg, Index, Op}
 use Rattle.walrus_code.specs.FromRaw.{arg_of, op_of, ops_of}
 use Rattle.walrus_code.specs.Names.{Lookup, named_arg, named_args, named_op, named_ops}
-use Rattle.walrus_functions.specs.Handlers.{params_of}
-use Rattle.walrus_functions.specs.ReadFunction.{locals_from}
+use Rattle.walrus_model.specs.BlockHandlers.{params_of}
+use Rattle.walrus_model.specs.ReadFunction.{locals_from}
 use Rattle.walrus_model.specs.Abstract.{Body, Function}
 use Rattle.walrus_model.specs.Config.{Config}
 use Rattle.walrus_model.specs.Names.{body_of_kind, body_of_function}

@@ -18,8 +18,8 @@ use Rattle.wasm_operators.specs.Spelling.{arg_bytes, code_bytes, op_bytes}
 use Rattle.wasm_writer.specs.Spelling.{SectionFits}
 use Rattle.walrus_types.specs.Operators.{Arg, Index, Label, Local, Number, Count, Byte, S32, S64, Bits32, Bits64, Value, Heap, Block, Access, Op, arg_locals, op_locals, locals_of}
 use Rattle.walrus_code.specs.FromRaw.{arg_of, op_of, ops_of}
-use Rattle.walrus_functions.specs.EmittedBody.{declaration_bytes, declarations_bytes}
-use Rattle.walrus_functions.specs.Handlers.{params_of}
+use Rattle.walrus_model.specs.EmittedBody.{declaration_bytes, declarations_bytes}
+use Rattle.walrus_model.specs.BlockHandlers.{params_of}
 use Rattle.walrus_model.specs.Abstract.{Body, Function, LocalFunction}
 use Rattle.walrus_model.specs.Names.{body_of}
 use Rattle.walrus_model.specs.Sections.{body_with, types_of, imported, imported_function, function_with}

@@ -9,7 +9,7 @@ use Rattle.wasm_payloads.specs.declared.naming.NameSpace.TheVariants as spaces
 use Rattle.wasm_payloads.specs.Names.{Named, ItemName, LocalName}
 use Rattle.wasm_operators.proofs.OneStands.{and_both}
 use Rattle.walrus_types.specs.Operators.{Space, Types, Functions, Tables, Memories, Tags, Globals, Elements, DataSegments, Item}
-use Rattle.walrus_functions.proofs.LawOrder.{Sorted, sorted_of}
+use Rattle.walrus_model.proofs.LawOrder.{Sorted, sorted_of}
 use Rattle.walrus_model.specs.Abstract.{Abstract, Name, Subject, TheModule, AnItem, ALocal}
 use Rattle.walrus_rules.specs.Namings.{space_of, naming_of, subsection, is_same, names_given}
 use Rattle.walrus_rules.specs.Spelling.{MapStands, NamesStand}

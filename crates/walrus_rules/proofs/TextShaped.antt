@@ -9,7 +9,7 @@ use Rattle.wasm_frames.specs.Frames.{gathered}
 use Rattle.wasm_frames.specs.Record as wire
 use Rattle.wasm_payloads.specs.Names.{Named}
 use Rattle.walrus_types.specs.Operators.{Types}
-use Rattle.walrus_functions.specs.Handlers.{params_of}
+use Rattle.walrus_model.specs.BlockHandlers.{params_of}
 use Rattle.walrus_model.specs.Abstract.{Abstract, Name, Subject, AnItem, Body, LocalFunction, Function, ProducerField}
 use Rattle.walrus_model.specs.Config.{Config}
 use Rattle.walrus_model.specs.Names.{last_name, body_of}

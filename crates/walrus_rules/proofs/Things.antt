@@ -4,7 +4,7 @@ use Rattle.std.specs.Prelude.{Option, Some, None, IsSome, Contains, option_map, 
 pub use Rattle.wasm_forms.proofs.Bind.{some_same}
 use Rattle.walrus_base.specs.Types.{ValType, sub_names, val_names}
 use Rattle.walrus_types.specs.Operators.{Types, Functions, Tables, Memories, Tags, Globals, Elements, DataSegments, Item, type_item, function_item, Op, op_names, names_of}
-use Rattle.walrus_functions.specs.Handlers.{params_of}
+use Rattle.walrus_model.specs.BlockHandlers.{params_of}
 use Rattle.walrus_model.specs.Abstract.{Abstract, TypeDef, Body, FunctionKind, ImportedFunction, LocalFunction, Uninitialised, Function, Table, Memory, Tag, Global, Element, DeclaredElements, ListedFunctions, DataSegment, Import}
 use Rattle.walrus_model.specs.Carried.{Carries, In}
 use Rattle.walrus_model.specs.Config.{Config}

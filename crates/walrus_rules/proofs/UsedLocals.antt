@@ -8,7 +8,7 @@ use Rattle.std.proofs.lemmas.List.FromFn.{length-range_with_len}
 use Rattle.walrus_base.specs.Types.{ValType, map_val, val_names}
 use Rattle.walrus_types.specs.Operators.{Types, Item, Op, type_item, locals_of, names_of}
 use Rattle.walrus_types.specs.Shape.{place_in}
-use Rattle.walrus_functions.specs.DeclaredLocals.{rank}
+use Rattle.walrus_model.specs.DeclaredLocals.{rank}
 use Rattle.walrus_model.specs.Abstract.{Body}
 use Rattle.walrus_model.specs.Sections.{Said, body_with}
 use Rattle.walrus_model.specs.Refers.{named_by, IsUsed, used_locals, local_names}

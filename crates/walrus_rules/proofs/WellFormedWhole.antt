@@ -9,8 +9,8 @@ use Rattle.walrus_base.specs.Types.{ValType}
 use Rattle.walrus_code.specs.Names.{Lookup}
 use Rattle.walrus_bodies.specs.Body.{context, BodyReads}
 use Rattle.walrus_bodies.specs.FunctionTypes.{is_function_def}
-use Rattle.walrus_functions.specs.Handlers.{params_of}
-use Rattle.walrus_functions.specs.ReadFunction.{locals_from}
+use Rattle.walrus_model.specs.BlockHandlers.{params_of}
+use Rattle.walrus_model.specs.ReadFunction.{locals_from}
 use Rattle.walrus_model.specs.Abstract.{Abstract, Body}
 use Rattle.walrus_model.specs.Config.{Config}
 use Rattle.walrus_model.specs.Sections.{Said, body_with}

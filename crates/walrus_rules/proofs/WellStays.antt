@@ -11,7 +11,7 @@ use Rattle.walrus_rules.specs.Features.{features_of}
 use Rattle.walrus_types.specs.Operators.{Types, Functions, Tables, Memories, Tags, Globals, Elements, DataSegments, Item, type_item, OfType, NoResult, OneResult, Arg, Block, Index, Access, Value, Heap, Label, Local, Number, Count, Byte, S32, S64, Bits32, Bits64, Op, names_of, op_names, arg_names}
 use Rattle.walrus_bodies.specs.Blocks.{block_holds, args_hold, blocks_hold}
 use Rattle.walrus_bodies.specs.FunctionTypes.{is_function_def}
-use Rattle.walrus_functions.specs.Handlers.{params_of}
+use Rattle.walrus_model.specs.BlockHandlers.{params_of}
 use Rattle.walrus_model.specs.Abstract.{Abstract, TypeDef, Body, Function, FunctionKind, LocalFunction, Element, Import}
 use Rattle.walrus_model.specs.Config.{Config}
 use Rattle.walrus_model.specs.Declared.{AreUndeclared, NothingUndeclared}

@@ -4,7 +4,7 @@ use Rattle.std.specs.Prelude.{Option, Some, None, IsSome, Contains, flat_map, sl
 use Rattle.std.proofs.lemmas.Bool.{cases_lt}
 use Rattle.walrus_base.specs.Types.{HeapType, ValType, CompType, IsNotExact, val_heaps, comp_heaps}
 use Rattle.walrus_types.specs.Operators.{Types, Functions, Tables, Memories, Tags, Globals, Elements, DataSegments, Item, Arg, Local, Op}
-use Rattle.walrus_functions.specs.Handlers.{params_of}
+use Rattle.walrus_model.specs.BlockHandlers.{params_of}
 use Rattle.walrus_model.specs.Abstract.{Abstract, TypeDef, Body, Function, FunctionKind, LocalFunction, ImportedFunction, Uninitialised}
 use Rattle.walrus_model.specs.Config.{Config}
 use Rattle.walrus_model.specs.Handlers.{tag_type}

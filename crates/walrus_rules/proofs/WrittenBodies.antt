@@ -6,7 +6,7 @@ use Rattle.std.proofs.lemmas.Bool.{cases_lt}
 use Rattle.std.proofs.lemmas.List.FromFn.{length-range_with_len, get_or-range_with_len}
 use Rattle.walrus_base.specs.Types.{ValType}
 use Rattle.walrus_types.specs.Operators.{Arg, Local, Op}
-use Rattle.walrus_functions.specs.Handlers.{params_of}
+use Rattle.walrus_model.specs.BlockHandlers.{params_of}
 use Rattle.walrus_model.specs.Abstract.{Abstract, Body}
 use Rattle.walrus_model.specs.Config.{Config}
 use Rattle.walrus_model.specs.Names.{body_of, body_of_function, body_of_kind}

@@ -2,7 +2,7 @@
 use Rattle.std.proofs.Common.{◌≡◌, ℕ, ◌≤◌, length, get_or, sym, ap, ◌∙◌, subst, arith}
 use Rattle.std.specs.Prelude.{true, Some, IsSome, Contains}
 use Rattle.wasm_forms.proofs.Bind.{some_same}
-use Rattle.walrus_functions.specs.Handlers.{params_of}
+use Rattle.walrus_model.specs.BlockHandlers.{params_of}
 use Rattle.walrus_bodies.specs.Blocks.{are_nested}
 use Rattle.walrus_bodies.specs.Features.{are_allowed}
 use Rattle.walrus_model.specs.Abstract.{Abstract, Body, Function, LocalFunction}

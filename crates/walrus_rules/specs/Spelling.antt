@@ -13,7 +13,7 @@ use Rattle.wasm_writer.specs.Spelling.{SectionStands, SectionFits, all_spelled}
 use Rattle.walrus_types.specs.Operators.{DataSegments, names_of}
 use Rattle.walrus_code.specs.FromRaw.{val_of}
 use Rattle.walrus_bodies.specs.Emitting.{AllStand}
-use Rattle.walrus_functions.specs.DeclaredLocals.{rank}
+use Rattle.walrus_model.specs.DeclaredLocals.{rank}
 use Rattle.walrus_model.specs.Abstract.{Abstract, Name, Body, Table, PassiveData, DataSegment, ProducerValue, ProducerField}
 use Rattle.walrus_model.specs.Names.{body_of}
 use Rattle.walrus_model.specs.Refers.{IsUsed}

@@ -19,7 +19,7 @@ use Rattle.wasm_payloads.specs.Spelling as spelled
 -- names have the one spelling of their payload
 pub use Rattle.wasm_payloads.specs.Spelling.{NameMap, NameText, entry_bytes, map_bytes, function_bytes, part_bytes, module_name_bytes, space_bytes, further_spaces, names_bytes}
 use Rattle.walrus_code.specs.FromRaw.{val_of, ops_of}
-use Rattle.walrus_functions.specs.EmittedBody.{declarations_bytes}
+use Rattle.walrus_model.specs.EmittedBody.{declarations_bytes}
 use Rattle.walrus_model.specs.Abstract.{Abstract, Name, ProducerValue, ProducerField}
 use Rattle.walrus_model.specs.Sections.{Said}
 use Rattle.walrus_rules.specs.Sections.{module_of}

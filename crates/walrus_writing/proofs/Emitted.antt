@@ -29,7 +29,7 @@ use Rattle.walrus_writing.proofs.CountCarried.{count_carried}
 use Rattle.walrus_writing.proofs.OwnCustoms.{CustomText, Say, said_of, says_so}
 use Rattle.walrus_writing.proofs.Placed.{bytes_text, fits_text, text_fits}
 use Rattle.walrus_writing.proofs.ProducersSpelled.{chosen_text}
-use Rattle.walrus_writing.proofs.SameItems.{with_own}
+use Rattle.walrus_rules.proofs.SameItems.{with_own}
 use Rattle.walrus_writing.proofs.TextStands.{all_bodies_stand, as_many_texts, sections_stand}
 use Rattle.walrus_writing.proofs.TypesEntered.{as_many_functions}
 use Rattle.walrus_writing.proofs.WithCustoms.{carried_with, flags_with, module_with, text_with}

@@ -27,7 +27,7 @@ use Rattle.walrus_writing.proofs.Emitted.{choices_of, chosen_so, emitted, say_so
 use Rattle.walrus_writing.proofs.NoCauseAll.{none_unspelled}
 use Rattle.walrus_writing.proofs.OwnCustoms.{CustomText, only_made, only_so, sayable_by}
 use Rattle.walrus_writing.proofs.Placed.{fits_without, text_fits}
-use Rattle.walrus_writing.proofs.SameItems.{dead_back, limits_back, unspelled_back, with_own}
+use Rattle.walrus_rules.proofs.SameItems.{dead_back, limits_back, unspelled_back, with_own}
 use Rattle.walrus_writing.proofs.WithCustoms.{module_with, text_with}
 use Rattle.walrus_writing.proofs.WrittenLemmas.{written_as_said}
 

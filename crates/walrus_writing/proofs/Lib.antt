@@ -39,7 +39,6 @@ pub mod RefusesUnspelled
 pub mod Refusing
 pub mod Renamed
 pub mod SameBodies
-pub mod SameItems
 pub mod Sections
 pub mod Spelled
 pub mod SpellsLemmas

@@ -43,7 +43,7 @@ use Rattle.walrus_writing.proofs.NamesStand.{all_names, all_there, among_get, is
 use Rattle.walrus_writing.proofs.OwnCustoms.{CustomText}
 use Rattle.walrus_writing.proofs.Parted.{body_among}
 use Rattle.walrus_writing.proofs.SameBodies.{placed, rest_of}
-use Rattle.walrus_writing.proofs.SameItems.{live_back, live_on, with_own}
+use Rattle.walrus_rules.proofs.SameItems.{live_back, live_on, with_own}
 use Rattle.walrus_writing.proofs.UsedRows.{IsAt, at_place, first, planned, used}
 use Rattle.walrus_writing.proofs.WithCustoms.{carried_with, module_with, text_with}
 use Rattle.walrus_writing.proofs.WrittenAs.{renaming_of}

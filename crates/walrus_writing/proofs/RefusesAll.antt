@@ -26,7 +26,7 @@ use Rattle.walrus_writing.specs.Records.{DoesNotFit, Spells}
 use Rattle.walrus_writing.specs.Refusals.{RefusesItems}
 use Rattle.walrus_writing.proofs.Emitted.{choices_of, chosen_so}
 use Rattle.walrus_writing.proofs.NoCauseAll.{none_unspelled}
-use Rattle.walrus_writing.proofs.SameItems.{dead_back, lacks_back, lacks_on, two_back, two_on, unspelled_back, unspelled_on, with_own}
+use Rattle.walrus_rules.proofs.SameItems.{dead_back, lacks_back, lacks_on, two_back, two_on, unspelled_back, unspelled_on, with_own}
 use Rattle.walrus_writing.proofs.RefusesLarge.{passes, too_many_items}
 use Rattle.walrus_writing.proofs.RefusesUnspelled.{unspelled}
 

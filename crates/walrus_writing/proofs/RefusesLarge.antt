@@ -26,7 +26,7 @@ use Rattle.walrus_writing.specs.Records.{DoesNotFit}
 use Rattle.walrus_writing.specs.Refusals as refusals
 use Rattle.walrus_writing.specs.Refusals.{HasBody}
 use Rattle.walrus_writing.proofs.Emitted.{choices_of}
-use Rattle.walrus_writing.proofs.SameItems.{live_on, with_own}
+use Rattle.walrus_rules.proofs.SameItems.{live_on, with_own}
 
 -- ---- declared locals
 

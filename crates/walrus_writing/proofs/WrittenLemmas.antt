@@ -34,7 +34,7 @@ use Rattle.walrus_writing.proofs.CarriedOver.{pinned_locals}
 use Rattle.walrus_writing.proofs.ImportsCarried.{imports_ordered}
 use Rattle.walrus_writing.proofs.OwnCustoms.{CustomText, Say}
 use Rattle.walrus_writing.proofs.OwnSaid.{own_said}
-use Rattle.walrus_writing.proofs.SameItems.{before_back, live_back, live_on, with_own}
+use Rattle.walrus_rules.proofs.SameItems.{before_back, live_back, live_on, with_own}
 use Rattle.walrus_writing.proofs.WithCustoms.{carried_with, module_with, text_with}
 use Rattle.walrus_writing.proofs.WrittenAs.{renaming_of}
 

@@ -52,15 +52,13 @@ type_index_of names ty abstract.Uninitialised = None
 abbrev pub type_index : Lookup → Function → Option ℕ
 type_index names f = type_index_of names f.ty f.kind
 
+-- limits of these numbers
+abbrev pub limits_with : ℕ → Option ℕ → Bool → Bool → Option ℕ → RawLimits
+limits_with minimum maximum shared wide page = record { minimum = minimum; maximum = maximum; shared = shared; wide = wide; page = page }
+
 -- a memory that the module defines: it names nothing
 abbrev pub memory_limits : abstract.Memory → RawLimits
-memory_limits m = record {
-  minimum = m.ty.limits.minimum;
-  maximum = m.ty.limits.maximum;
-  shared = m.ty.shared;
-  wide = m.ty.limits.wide;
-  page = m.ty.page_exponent;
-}
+memory_limits m = limits_with m.ty.limits.minimum m.ty.limits.maximum m.ty.shared m.ty.limits.wide m.ty.page_exponent
 
 -- a tag: the index of its type
 abbrev pub tag_index : Lookup → abstract.Tag → Option ℕ

@@ -79,7 +79,7 @@ fn one_body(alloc: Global, under: Indexed<'_, '_, '_>, id: FunctionId) -> Result
     ensures fails { IfErr result (RefusesBodies under.entry.parts under.entry.features.now) }
 {
     let Some(local) = local_of(under.parts.funcs, id) else {
-        return Err(Error::NoIndex);
+        unreachable!();
     };
     let body = emit_body(
         alloc,

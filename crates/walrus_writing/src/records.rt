@@ -1,5 +1,5 @@
 //! The records of the sections that a module is written as ("Binary Format > Modules").
-ghost use Rattle.std.specs.Prelude.{◌≡◌, ◌<◌, ◌^◌, map, All, Some, IsSome, IfOk, IfErr, IfSome, IsOkUnless, option_and_then, option_map};
+ghost use Rattle.std.specs.Prelude.{◌≡◌, map, All, Some, IsSome, IfOk, IfErr, IfSome, IsOkUnless, option_and_then, option_map};
 ghost use Rattle.std.specs.Str.{IsUtf8};
 ghost use Rattle.walrus_base.specs.Arena.{items};
 ghost use Rattle.walrus_base.specs.Id.{place};
@@ -14,12 +14,11 @@ ghost use Rattle.walrus_items.specs.Memories.{memories, memory_value};
 ghost use Rattle.walrus_items.specs.Tags.{tags, tag_value};
 ghost use Rattle.walrus_contents.specs.View.{export_of, memory_of, parts_view, tag_of};
 ghost use Rattle.walrus_parts.specs.Errors.{out_of_memory};
-ghost use Rattle.wasm_entries.specs.Record.{data_entry, element_entry, group, export_entry, global_entry, import_entry, table_entry};
-ghost use Rattle.wasm_entries.specs.TypeSpelling.{IsBelow, LimitsStand};
-ghost use Rattle.wasm_frames.specs.Record.{body_record, custom_record, sections};
+ghost use Rattle.wasm_entries.specs.Record.{group, export_entry};
+ghost use Rattle.wasm_entries.specs.TypeSpelling.{LimitsStand};
+ghost use Rattle.wasm_frames.specs.Record.{body_record};
 ghost use Rattle.walrus_plan.specs.Brought.{own_of};
-ghost use Rattle.walrus_writing.specs.Parts.{index_at, kind_in, type_index, memory_limits, tag_index, export_with_index, unplaced};
-ghost use Rattle.walrus_writing.specs.Records.{sections_with};
+ghost use Rattle.walrus_writing.specs.Parts.{index_at, kind_in, type_index, limits_with, memory_limits, tag_index, export_with_index, unplaced};
 ghost use Rattle.walrus_writing.specs.Refusals.{RefusesTypes};
 
 use crate::bodies::local_of;
@@ -33,10 +32,7 @@ use walrus_items::{
 use walrus_names::WrittenBody;
 use walrus_parts::{Error, Result};
 use walrus_plan::tag_import;
-use wasm_wire::{
-    Raw, RawBody, RawCustom, RawData, RawElement, RawExport, RawExportKind, RawGlobal, RawGroup,
-    RawImport, RawLimits, RawTable,
-};
+use wasm_wire::{RawBody, RawExport, RawExportKind, RawGroup, RawLimits};
 
 // The groups of the type section.
 pub fn raw_types(
@@ -86,40 +82,30 @@ pub fn raw_functions(
     let mut raw = Vec::with_capacity(alloc, order.len())?;
     for id in order {
         let Some(index) = raw_function(parts, *id, indices) else {
-            return Err(Error::NoIndex);
+            unreachable!();
         };
         raw.push(index)?;
     }
     Ok(raw)
 }
 
-// How many pages there are at first is a number of 64 bits.
-pub fn pages_of(initial: u64) -> u64
-    ensures same { result ≡ initial }
-    ensures stands { result < 2 ^ 64 }
+// Limits of these numbers, which are of 64 and of 32 bits.
+pub fn raw_limits(
+    minimum: u64,
+    maximum: Option<u64>,
+    shared: bool,
+    wide: bool,
+    page: Option<u32>,
+) -> RawLimits
+    ensures value { result ≡ limits_with minimum maximum shared wide page }
+    ensures stands { LimitsStand result }
 {
-    initial
-}
-
-// A limit is a number of 64 bits.
-pub fn limit_of(maximum: Option<u64>) -> Option<u64>
-    ensures same { result ≡ maximum }
-    ensures stands { IsBelow (2 ^ 64) result }
-{
-    match maximum {
-        Some(number) => Some(number),
-        None => None,
-    }
-}
-
-// The exponent of a page's size is a number of 32 bits.
-fn exponent_of(page: Option<u32>) -> Option<u32>
-    ensures same { result ≡ page }
-    ensures stands { IsBelow (2 ^ 32) result }
-{
-    match page {
-        Some(number) => Some(number),
-        None => None,
+    RawLimits {
+        minimum,
+        maximum,
+        shared,
+        wide,
+        page,
     }
 }
 
@@ -128,13 +114,13 @@ pub fn raw_memory(memory: &Memory) -> RawLimits
     ensures value { result ≡ memory_limits (memory_of (memory_value memory.now)) }
     ensures stands { LimitsStand result }
 {
-    RawLimits {
-        minimum: pages_of(memory.initial),
-        maximum: limit_of(memory.maximum),
-        shared: memory.shared,
-        wide: memory.memory64,
-        page: exponent_of(memory.page_size_log2),
-    }
+    raw_limits(
+        memory.initial,
+        memory.maximum,
+        memory.shared,
+        memory.memory64,
+        memory.page_size_log2,
+    )
 }
 
 // The limits of each memory that the module defines, by rising id.
@@ -173,7 +159,7 @@ pub fn raw_tags(alloc: Global, all: &ModuleTags, indices: &IdsToIndices) -> Resu
     for tag in all.iter() {
         if tag_import(&tag.kind).is_none() {
             let Some(index) = raw_tag(tag, indices) else {
-                return Err(Error::NoIndex);
+                unreachable!();
             };
             raw.push(index)?;
         }
@@ -236,7 +222,7 @@ pub fn raw_exports<'a>(
     let mut raw = Vec::new(alloc);
     for export in all_exports.iter() {
         let Some(one) = raw_export(export, indices) else {
-            return Err(Error::NoIndex);
+            unreachable!();
         };
         raw.push(one)?;
     }
@@ -263,48 +249,4 @@ pub fn raw_bodies<'a>(alloc: Global, bodies: &'a [WrittenBody]) -> Result<Vec<Ra
         })?;
     }
     Ok(raw)
-}
-
-// A module of these sections.
-pub fn raw_module<'a>(
-    alloc: Global,
-    types: Vec<RawGroup>,
-    imports: Vec<RawImport<'a>>,
-    functions: Vec<u32>,
-    tables: Vec<RawTable>,
-    memories: Vec<RawLimits>,
-    tags: Vec<u32>,
-    globals: Vec<RawGlobal>,
-    exports: Vec<RawExport<'a>>,
-    start: Option<u32>,
-    elements: Vec<RawElement>,
-    data_count: Option<u32>,
-    bodies: Vec<RawBody<'a>>,
-    data_segments: Vec<RawData<'a>>,
-    customs: Vec<RawCustom<'a>>,
-) -> Raw<'a>
-    ensures { sections result ≡ sections_with (map group types.items)
-        (map import_entry imports.entry.items) functions.items
-        (map table_entry tables.items) memories.items tags.items (map global_entry globals.items)
-        (map export_entry exports.entry.items) start (map element_entry elements.items) data_count
-        (map body_record bodies.entry.items) (map data_entry data_segments.entry.items)
-        (map custom_record customs.entry.items) }
-{
-    Raw {
-        order: Vec::new(alloc),
-        types,
-        imports,
-        functions,
-        tables,
-        memories,
-        tags,
-        globals,
-        exports,
-        start,
-        elements,
-        data_count,
-        bodies,
-        data_: data_segments,
-        customs,
-    }
 }

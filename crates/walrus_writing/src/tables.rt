@@ -16,14 +16,14 @@ ghost use Rattle.walrus_model.specs.Sections as said;
 ghost use Rattle.walrus_plan.specs.Brought.{own_of};
 ghost use Rattle.walrus_writing.specs.Tables.{IndexesInitial, IndexesTable, IsSpelledTable, RefusesTables};
 
-use crate::records::{limit_of, pages_of};
+use crate::records::raw_limits;
 use std::alloc::Global;
 use walrus_code::index_value;
 use walrus_constants::raw_const;
 use walrus_ir::{ConstExpr, IdsToIndices, IrError, RefType, ValType};
 use walrus_items::{ModuleTables, Table};
 use walrus_parts::Error;
-use wasm_wire::{RawConst, RawLimits, RawRef, RawTable, RawTableType, RawVal};
+use wasm_wire::{RawConst, RawRef, RawTable, RawTableType, RawVal};
 
 /// The type of the elements of a table, or of what a segment holds.
 pub(crate) fn raw_reference(ty: RefType, indices: &IdsToIndices) -> Result<RawRef, IrError>
@@ -53,13 +53,7 @@ pub fn raw_table_type(table: &Table, indices: &IdsToIndices) -> Result<RawTableT
     ensures memory { NeedsNoMemory result }
 {
     let element = raw_reference(table.element_ty, indices)?;
-    let limits = RawLimits {
-        minimum: pages_of(table.initial),
-        maximum: limit_of(table.maximum),
-        shared: false,
-        wide: table.table64,
-        page: None,
-    };
+    let limits = raw_limits(table.initial, table.maximum, false, table.table64, None);
     Ok(RawTableType { element, limits })
 }
 

@@ -28,8 +28,7 @@ use crate::elements::raw_elements;
 use crate::globals::raw_globals;
 use crate::imported::raw_imports;
 use crate::records::{
-    raw_bodies, raw_exports, raw_functions, raw_memories, raw_module, raw_start, raw_tags,
-    raw_types,
+    raw_bodies, raw_exports, raw_functions, raw_memories, raw_start, raw_tags, raw_types,
 };
 use crate::tables::raw_tables;
 use std::alloc::Global;
@@ -38,7 +37,7 @@ use walrus_ir::Features;
 use walrus_names::{WrittenBody, names_payload};
 use walrus_parts::{Error, Result};
 use walrus_plan::Prepared;
-use wasm_wire::{RawCustom, written_module};
+use wasm_wire::{Raw, RawCustom, written_module};
 
 /// What a module is written under.
 #[derive(Clone, Copy, Debug)]
@@ -150,8 +149,8 @@ fn write_items<'a>(
     if lent.payloads.is_none() {
         return Err(Error::TooLarge);
     }
-    let raw = raw_module(
-        alloc,
+    let raw = Raw {
+        order: Vec::new(alloc),
         types,
         imports,
         functions,
@@ -162,11 +161,11 @@ fn write_items<'a>(
         exports,
         start,
         elements,
-        prepared.data_count,
-        code,
-        data_segments,
+        data_count: prepared.data_count,
+        bodies: code,
+        data_: data_segments,
         customs,
-    );
+    };
     let bytes = written_module(alloc, &raw)?;
     Ok(bytes)
 }

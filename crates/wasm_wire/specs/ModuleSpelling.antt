@@ -1,5 +1,6 @@
 -- What a module is written as: its sections in their order, each in its one spelling (Binary Format > Modules).
-use Rattle.std.specs.Prelude.{◌≡◌, ℕ, ◌+◌, Bool, ◌||◌, not, List, [], ◌∷◌, ◌++◌, length, map, filter, All, Option, Some, None, IfSome, Result, Ok, Err, Vec, codes, bytes_eq}
+use Rattle.std.specs.Prelude.{◌≡◌, ℕ, ◌+◌, Bool, ◌||◌, not, List, [], ◌∷◌, ◌++◌, length, map, filter, All, Option, Some, None, IfSome, Result, Ok, Err, Vec, codes, bytes_eq, nat_eq}
+use Rattle.std.specs.List.{starts_with}
 use Rattle.std.specs.declared.alloc.Global.{Global}
 use Rattle.wasm_forms.specs.declared.error.WireError.{WireError}
 use Rattle.wasm_forms.specs.declared.error.WireError.TheVariants.{Malformed, Memory, TooLarge}
@@ -30,6 +31,10 @@ is_in Dylink name = is_dylink name
 is_in Names name = is_names name
 is_in Producers name = is_producers name
 is_in Others name = is_other name
+
+-- whether a custom section of this name is debug information
+abbrev pub is_debug_name : List ℕ → Bool
+is_debug_name name = starts_with nat_eq name (codes ".debug")
 
 -- the custom sections of a group, in the order in which they were
 abbrev pub group_of : CustomGroup → List Custom → List Custom

@@ -17,4 +17,4 @@ pub use wasm_payloads::{
     NameSink, NameSpace, Naming, RawField, fields_once, names_once, read_names, read_producers,
 };
 pub use wasm_writer::{CodePlaces, Section, Writer, measure, measure_code, written_frames};
-pub use written::{CustomGroup, written_module, written_module_frames};
+pub use written::{CustomGroup, is_debug, written_module, written_module_frames};

@@ -6,7 +6,7 @@ ghost use Rattle.wasm_frames.specs.Frames.{CustomSection, Start, DataCount};
 ghost use Rattle.wasm_writer.specs.Measuring.{Tells};
 ghost use Rattle.wasm_writer.specs.Spelling.{SectionFits};
 ghost use Rattle.wasm_writer.specs.Writing.{written};
-ghost use Rattle.wasm_wire.specs.ModuleSpelling.{is_in, group_of, if_given, up_to_globals, before_code, sections_in_order};
+ghost use Rattle.wasm_wire.specs.ModuleSpelling.{is_debug_name, is_in, group_of, if_given, up_to_globals, before_code, sections_in_order};
 ghost use Rattle.wasm_wire.specs.ModuleSpelling.{ModuleFits, WritesModule, ModuleFrames};
 ghost use Rattle.wasm_wire.specs.ModuleWriting.{Tried, Appends};
 
@@ -42,6 +42,13 @@ impl CustomGroup {
             }
         }
     }
+}
+
+/// Whether a custom section of this name is debug information (DWARF, "Object Files": names that begin with `.debug`).
+pub fn is_debug(name: &str) -> bool
+    ensures { result ≡ is_debug_name name.now }
+{
+    name.starts_with(".debug")
 }
 
 /// How many bytes the start section has, none where there is none.

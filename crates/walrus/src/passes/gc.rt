@@ -17,7 +17,7 @@ ghost use Rattle.walrus_model.specs.Pipeline.{Collected};
 ghost use Rattle.walrus_module.specs.Asked.{OneMayRefuse};
 ghost use Rattle.walrus_module.specs.Settings.{settings};
 ghost use Rattle.walrus_module.specs.View.{contents_of, meanings, view};
-ghost use Rattle.walrus_reading.specs.Parsed.{ItemsAtOwnIds};
+ghost use Rattle.walrus_module.specs.Parsed.{ItemsAtOwnIds};
 ghost use Rattle.walrus.specs.Collected.{KeepsOnly};
 ghost use Rattle.walrus.specs.Marked.{ReachesSound, ReachesUnsound};
 ghost use Rattle.walrus.specs.Used.{RefusesSearch};

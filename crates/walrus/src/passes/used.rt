@@ -147,26 +147,10 @@ fn marked_and_counted(alloc: Global, module: &Module) -> Result<(MarkedItems, us
         (OneMayRefuse (meanings ⟦<dyn CustomSection as CustomSection>⟧ «module».now))) }
 {
     let asked = module.section_roots(alloc)?;
-    let parts = Parts {
-        types: &module.types,
-        locals: &module.locals,
-        imports: &module.imports,
-        funcs: &module.funcs,
-        tables: &module.tables,
-        memories: &module.memories,
-        tags: &module.tags,
-        globals: &module.globals,
-        elements: &module.elements,
-        data_: &module.data_,
-        exports: &module.exports,
-        start: module.start,
-        producers: &module.producers,
-        name: &module.name,
-    };
     search(
         alloc,
         Searched {
-            parts,
+            parts: module.parts(),
             asked: &asked,
         },
     )

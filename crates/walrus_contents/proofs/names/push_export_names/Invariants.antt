@@ -1,5 +1,5 @@
 use Rattle.std.proofs.Common.{◌≡◌, ◌++◌, map}
-use Rattle.walrus_parts.specs.Kinds.{exported}
+use Rattle.walrus_items.specs.Kinds.{exported}
 use Rattle.walrus_items.specs.Exports.{exports_left}
 use Rattle.walrus_contents.specs.Named.{export_names, items_in}
 use Rattle.walrus_contents.proofs.names.push_export_names.Given as goal

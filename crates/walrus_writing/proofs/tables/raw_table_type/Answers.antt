@@ -1,4 +1,4 @@
-use Rattle.std.proofs.Common.{refl}
+use Rattle.std.proofs.Common.{ap, refl}
 use Rattle.std.proofs.lemmas.Result.{err_from_is_err_and}
 use Rattle.walrus_writing.proofs.tables.raw_table_type.Goals as goal
 
@@ -13,7 +13,12 @@ returns-in_err-element-clause-memory c =
     rw (p.1, p.2) c.in_err-element.ensures.memory
 
 pub returns-clause-limits : goal.returns-clause-limits
-returns-clause-limits c = rw (c.pages_of.ensures.same, c.limit_of.ensures.same) refl
+returns-clause-limits c = rw c.raw_limits-limits.ensures.value refl
 
 pub returns-clause-spelled : goal.returns-clause-spelled
-returns-clause-spelled c = record { element = c.in_ok-element.ensures.spelled; limits = record { minimum = c.pages_of.ensures.stands; maximum = c.limit_of.ensures.stands; page = tt }; not_shared = refl; no_page = refl }
+returns-clause-spelled c = record {
+  element = c.in_ok-element.ensures.spelled;
+  limits = c.raw_limits-limits.ensures.stands;
+  not_shared = ap (λ l. l.shared) c.raw_limits-limits.ensures.value;
+  no_page = ap (λ l. l.page) c.raw_limits-limits.ensures.value;
+}

@@ -1,4 +1,5 @@
 use Rattle.std.proofs.lemmas.Result.{err_from_is_err_and}
+use Rattle.walrus_contents.specs.View.{parts_view}
 use Rattle.walrus_module.specs.Asked.{OneMayRefuse}
 use Rattle.walrus_module.specs.View.{meanings, view}
 use Rattle.walrus.specs.Marked.{ReachesUnsound}
@@ -16,22 +17,22 @@ pub returns-clause-kept : goal.returns-clause-kept
 returns-clause-kept g c =
     let G = λ (i : g.dyn-1.0.I). (g.dyn-1.0.entry i).1 in
     let m = c.args.module.now in
-    kept_by (view G m) c.search.result (found_of G m c.in_ok-asked.asked c.in_ok-asked.ensures.value c.search.result c.search.ensures)
+    kept_by (view G m) c.search.result (found_of G m c.in_ok-asked.asked c.in_ok-asked.ensures.value (parts_view c.parts.result) c.parts.ensures c.search.result c.search.ensures)
 
 pub returns-clause-count : goal.returns-clause-count
 returns-clause-count g c =
     let G = λ (i : g.dyn-1.0.I). (g.dyn-1.0.entry i).1 in
     let m = c.args.module.now in
-    counted_by (view G m) c.search.result (found_of G m c.in_ok-asked.asked c.in_ok-asked.ensures.value c.search.result c.search.ensures)
+    counted_by (view G m) c.search.result (found_of G m c.in_ok-asked.asked c.in_ok-asked.ensures.value (parts_view c.parts.result) c.parts.ensures c.search.result c.search.ensures)
 
 pub returns-clause-sound : goal.returns-clause-sound
 returns-clause-sound g c =
     let G = λ (i : g.dyn-1.0.I). (g.dyn-1.0.entry i).1 in
     let m = c.args.module.now in
-    sound_by (view G m) c.search.result (found_of G m c.in_ok-asked.asked c.in_ok-asked.ensures.value c.search.result c.search.ensures)
+    sound_by (view G m) c.search.result (found_of G m c.in_ok-asked.asked c.in_ok-asked.ensures.value (parts_view c.parts.result) c.parts.ensures c.search.result c.search.ensures)
 
 pub returns-clause-refused : goal.returns-clause-refused
 returns-clause-refused g c =
     let G = λ (i : g.dyn-1.0.I). (g.dyn-1.0.entry i).1 in
     let m = c.args.module.now in
-    refused_by (view G m) (OneMayRefuse (meanings G m)) c.search.result (found_of G m c.in_ok-asked.asked c.in_ok-asked.ensures.value c.search.result c.search.ensures)
+    refused_by (view G m) (OneMayRefuse (meanings G m)) c.search.result (found_of G m c.in_ok-asked.asked c.in_ok-asked.ensures.value (parts_view c.parts.result) c.parts.ensures c.search.result c.search.ensures)

@@ -10,7 +10,7 @@ use Rattle.walrus_contents.specs.View.{lent, parts_view}
 use Rattle.walrus.specs.Used.{Enters, NamesDead}
 use Rattle.walrus.proofs.Followed.{follows_init, none_taken, refused_dead, unsound_root}
 use Rattle.walrus.proofs.ReachedLemmas.{roots_are}
-use Rattle.walrus.proofs.SameItems.{enters_on, names_dead_on}
+use Rattle.walrus.proofs.SameSearch.{enters_on, names_dead_on}
 use Rattle.walrus.proofs.passes.used.reached.Goals as goal
 
 pub returns-in_err-enter_all : goal.returns-in_err-enter_all

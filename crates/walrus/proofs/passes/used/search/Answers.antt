@@ -3,7 +3,7 @@ use Rattle.walrus.specs.Asked.{asked_items, searched_view}
 use Rattle.walrus.specs.MarkedItems.{HavePlaces}
 use Rattle.walrus.specs.declared.passes.marks.MarkedItems.{MarkedItems}
 use Rattle.walrus_contents.specs.View.{parts_view}
-use Rattle.walrus.proofs.SameItems.{places_back, spare_on}
+use Rattle.walrus.proofs.SameSearch.{places_back, spare_on}
 use Rattle.walrus.proofs.Spare.{finds_spare}
 use Rattle.walrus.proofs.passes.used.search.Goals as goal
 

@@ -21,7 +21,7 @@ use Rattle.walrus_writing.specs.Customs.{IsAsked}
 use Rattle.walrus_writing.specs.Emitted.{IsWrittenWith, told}
 use Rattle.walrus_writing.specs.declared.write.Choices.{Choices}
 use Rattle.walrus_writing.proofs.RefusesAll.{plan_refused_of}
-use Rattle.walrus_writing.proofs.SameItems.{dead_back, with_own}
+use Rattle.walrus_rules.proofs.SameItems.{dead_back, with_own}
 use Rattle.walrus_module.specs.Asked.{IsRefusedBy, OneAskedMayRefuse, section_seen}
 use Rattle.walrus_module.specs.Flags.{Flags, choices_of, config_of}
 use Rattle.walrus_module.specs.Settings.{settings}

@@ -6,7 +6,7 @@ use Rattle.walrus_model.specs.Abstract.{Abstract, Custom}
 use Rattle.walrus_model.specs.Live.{IsLive}
 use Rattle.walrus_contents.specs.Named.{NamesItself, group_names}
 use Rattle.walrus_contents.specs.There.{IsSound}
-use Rattle.walrus_writing.proofs.SameItems.{live_back, live_on, with_own}
+use Rattle.walrus_rules.proofs.SameItems.{live_back, live_on, with_own}
 use Rattle.walrus.specs.Marked.{IsFirst, MarksSpare}
 use Rattle.walrus.specs.MarkedItems.{HavePlaces}
 use Rattle.walrus.specs.Used.{Enters, EntersAll, HoldGroups, IsOf, NamesDead, OneDead}
