@@ -1,15 +1,17 @@
-//! Tests of the collections: functions, imports and exports; tables, memories, globals and tags; segments. And of what bodies name
-//! and nothing declares.
+//! Tests of the collections: each public call once, where it succeeds, its answer compared. And of what bodies name and nothing
+//! declares.
 #![tactic(auto)]
 
 #[cfg(test)]
-mod entities;
+mod added;
 #[cfg(test)]
 mod exports;
 #[cfg(test)]
-mod imports;
+mod functions;
 #[cfg(test)]
-mod items;
+mod held;
+#[cfg(test)]
+mod imports;
 #[cfg(test)]
 mod references;
 #[cfg(test)]

@@ -17,22 +17,12 @@ fn naming(alloc: Global, other: FunctionId) -> Result<LocalFunction, AllocError>
     Ok(LocalFunction::new(alloc, first_id(alloc), Vec::new(alloc), body))
 }
 
-fn adds_naming(alloc: Global, contents: &mut Contents, other: FunctionId) -> bool {
-    match naming(alloc, other) {
-        Ok(function) => contents.funcs.add_local(function).is_ok(),
-        Err(_) => false,
-    }
-}
-
-fn name_each_other(alloc: Global, contents: &mut Contents) -> bool {
-    adds_naming(alloc, contents, second_id(alloc)) && adds_naming(alloc, contents, first_id(alloc))
-}
-
-fn are_both(alloc: Global, ids: &[FunctionId]) -> bool {
-    match ids {
-        [first, second] => *first == first_id(alloc) && *second == second_id(alloc),
-        _ => false,
-    }
+// Two functions that name each other, of which the first is exported.
+fn add_two(alloc: Global, contents: &mut Contents) -> Result<(), Fail> {
+    let first = contents.funcs.add_local(naming(alloc, second_id(alloc))?)?;
+    contents.funcs.add_local(naming(alloc, first)?)?;
+    contents.exports.add("f", first.into())?;
+    Ok(())
 }
 
 fn is_second(alloc: Global, ids: &[FunctionId]) -> bool {
@@ -42,47 +32,13 @@ fn is_second(alloc: Global, ids: &[FunctionId]) -> bool {
     }
 }
 
-fn are_both_undeclared(alloc: Global, contents: &Contents) -> bool {
-    match undeclared_functions(alloc, contents.parts()) {
-        Ok(ids) => are_both(alloc, &ids),
-        Err(_) => false,
-    }
-}
-
-fn is_second_undeclared(alloc: Global, contents: &Contents) -> bool {
-    match undeclared_functions(alloc, contents.parts()) {
-        Ok(ids) => is_second(alloc, &ids),
-        Err(_) => false,
-    }
-}
-
-fn are_all_declared(alloc: Global, contents: &Contents) -> bool {
-    match undeclared_functions(alloc, contents.parts()) {
-        Ok(ids) => ids.is_empty(),
-        Err(_) => false,
-    }
-}
-
-fn exports_function(contents: &mut Contents, function: FunctionId) -> bool {
-    contents.exports.add("f", function.into()).is_ok()
-}
-
-// Of two functions that name each other, those are undeclared that aren't exported.
-fn exports_declare(alloc: Global, contents: &mut Contents) -> bool {
-    name_each_other(alloc, contents)
-        && are_both_undeclared(alloc, contents)
-        && exports_function(contents, first_id(alloc))
-        && is_second_undeclared(alloc, contents)
-        && !are_all_declared(alloc, contents)
-        && exports_function(contents, second_id(alloc))
-        && are_all_declared(alloc, contents)
-}
-
 #[test]
-fn functions_are_declared_by_exports(rt: HostRuntime) -> Result<(), Fail> {
+fn a_function_is_declared_by_its_export(rt: HostRuntime) -> Result<(), Fail> {
     let mut contents = Contents::new(rt.alloc())?;
+    add_two(rt.alloc(), &mut contents)?;
+    let undeclared = undeclared_functions(rt.alloc(), contents.parts())?;
     demand(
-        exports_declare(rt.alloc(), &mut contents),
-        "two functions that name each other",
+        is_second(rt.alloc(), &undeclared),
+        "the function that isn't exported",
     )
 }

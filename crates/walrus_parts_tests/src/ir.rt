@@ -28,8 +28,8 @@ fn function_by_index(alloc: Global, id: FunctionId) -> Result<IndicesToIds, Allo
     Ok(ids)
 }
 
-/// A table in which the function has the index 0.
-pub fn index_of_function(alloc: Global, id: FunctionId) -> Result<IdsToIndices, AllocError> {
+// A table in which the function has the index 0.
+fn index_of_function(alloc: Global, id: FunctionId) -> Result<IdsToIndices, AllocError> {
     let mut indices = IdsToIndices::new(alloc);
     indices.push_func(id)?;
     Ok(indices)
@@ -48,14 +48,6 @@ fn is_written(
     match emit_body(alloc, function, types, locals, &indices, &ALL) {
         Ok(body) => are(alloc, &body.bytes, WRITTEN),
         Err(_) => false,
-    }
-}
-
-// Whether there are seven operators, of which the fourth was read at the place 49.
-fn are_placed(function: &LocalFunction) -> bool {
-    match function.operators.as_slice() {
-        [_, _, _, fourth, _, _, _] => fourth.loc.value() == 49,
-        _ => false,
     }
 }
 
@@ -91,9 +83,7 @@ fn comes_back(alloc: Global, id: FunctionId, bytes: &[u8]) -> bool {
     let mut types = ModuleTypes::new(alloc);
     let mut locals = ModuleLocals::new(alloc);
     match read(alloc, id, bytes, &mut types, &mut locals) {
-        Some(function) => {
-            are_placed(&function) && is_written(alloc, id, &function, &types, &locals)
-        }
+        Some(function) => is_written(alloc, id, &function, &types, &locals),
         None => false,
     }
 }

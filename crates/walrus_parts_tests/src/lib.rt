@@ -11,5 +11,3 @@ mod ir;
 mod parts;
 #[cfg(test)]
 mod producers_held;
-#[cfg(test)]
-mod sample;

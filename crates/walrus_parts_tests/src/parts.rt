@@ -1,181 +1,90 @@
 //! Errors and their texts, roots, and custom sections.
 
-use crate::ir::index_of_function;
-use crate::sample::Sample;
 use std::alloc::{AllocError, Global};
 use std::test::Fail;
 use test_support::{add_bytes, are, demand, first_id, is_text};
-use walrus_ir::{FunctionId, IdsToIndices};
+use walrus_ir::IdsToIndices;
 use walrus_parts::{CustomSection, Error, ErrorKind, RawCustomSection, Roots};
 
-fn says(alloc: Global, error: Error, text: &str) -> bool {
-    match error.to_string(alloc) {
-        Ok(shown) => is_text(&shown, text),
-        Err(_) => false,
-    }
+fn says(alloc: Global, error: Error, text: &str) -> Result<(), Fail> {
+    demand(is_text(&error.to_string(alloc)?, text), text)
 }
 
-fn kind_says(alloc: Global, kind: ErrorKind, text: &str) -> bool {
-    match kind.to_string(alloc) {
-        Ok(shown) => is_text(&shown, text),
-        Err(_) => false,
-    }
-}
+const INVALID: &str = "The input WebAssembly is invalid";
 
-fn invalid_has_its_text(alloc: Global) -> bool {
-    let text = "The input WebAssembly is invalid";
-    says(alloc, Error::InvalidWasm(ErrorKind::InvalidWasm), text)
-        && kind_says(alloc, ErrorKind::InvalidWasm, text)
-}
-
-fn items_have_their_texts(alloc: Global) -> bool {
-    says(
-        alloc,
-        Error::DeadItem,
-        "reference to an item that is not live",
-    ) && says(alloc, Error::NoIndex, "an item has no index")
-        && says(alloc, Error::TwoIndices, "an item has two indices")
-        && says(alloc, Error::NotFound, "not found")
-}
-
-fn sizes_have_their_texts(alloc: Global) -> bool {
+fn bytes_are_told(alloc: Global) -> Result<(), Fail> {
+    demand(
+        is_text(&ErrorKind::InvalidWasm.to_string(alloc)?, INVALID),
+        INVALID,
+    )?;
+    says(alloc, Error::InvalidWasm(ErrorKind::InvalidWasm), INVALID)?;
+    says(alloc, Error::TooLarge, "a count or size passes 32 bits")?;
+    says(alloc, Error::NotWritable, "a form that cannot be written")?;
     says(alloc, Error::Memory(AllocError), "out of memory")
-        && says(alloc, Error::TooLarge, "a count or size passes 32 bits")
-        && says(alloc, Error::NotWritable, "a form that cannot be written")
 }
 
-fn memories_and_tables_have_their_texts(alloc: Global) -> bool {
-    says(
-        alloc,
-        Error::SeveralMemories,
-        "multiple memories unsupported",
-    ) && says(alloc, Error::NoMemory, "module does not export a memory")
-        && says(
-            alloc,
-            Error::SeveralFunctionTables,
-            "module contains more than one function table",
-        )
+fn items_are_told(alloc: Global) -> Result<(), Fail> {
+    let dead = "reference to an item that is not live";
+    says(alloc, Error::DeadItem, dead)?;
+    says(alloc, Error::NoIndex, "an item has no index")?;
+    says(alloc, Error::TwoIndices, "an item has two indices")?;
+    says(alloc, Error::NotFound, "not found")
 }
 
-fn functions_have_their_texts(alloc: Global) -> bool {
-    says(
-        alloc,
-        Error::NotExported,
-        "no exported function with this id",
-    ) && says(
-        alloc,
-        Error::NotImported,
-        "no imported function with this id",
-    ) && says(alloc, Error::NotReplaceable, "cannot replace function")
+fn memories_and_tables_are_told(alloc: Global) -> Result<(), Fail> {
+    let several = "multiple memories unsupported";
+    says(alloc, Error::SeveralMemories, several)?;
+    says(alloc, Error::NoMemory, "module does not export a memory")?;
+    let tables = "module contains more than one function table";
+    says(alloc, Error::SeveralFunctionTables, tables)
 }
 
-fn caller_has_its_text(alloc: Global) -> bool {
-    match String::from_str(alloc, "a text of its own") {
-        Ok(text) => says(alloc, Error::Caller(text), "a text of its own"),
-        Err(_) => false,
-    }
+fn functions_are_told(alloc: Global) -> Result<(), Fail> {
+    let exported = "no exported function with this id";
+    says(alloc, Error::NotExported, exported)?;
+    let imported = "no imported function with this id";
+    says(alloc, Error::NotImported, imported)?;
+    says(alloc, Error::NotReplaceable, "cannot replace function")
 }
 
 #[test]
 fn each_error_has_its_text(rt: HostRuntime) -> Result<(), Fail> {
-    demand(invalid_has_its_text(rt.alloc()), "invalid")?;
-    demand(items_have_their_texts(rt.alloc()), "items")?;
-    demand(sizes_have_their_texts(rt.alloc()), "sizes")?;
-    demand(
-        memories_and_tables_have_their_texts(rt.alloc()),
-        "memories and tables",
-    )?;
-    demand(functions_have_their_texts(rt.alloc()), "functions")?;
-    demand(caller_has_its_text(rt.alloc()), "a caller's")
+    bytes_are_told(rt.alloc())?;
+    items_are_told(rt.alloc())?;
+    memories_and_tables_are_told(rt.alloc())?;
+    functions_are_told(rt.alloc())?;
+    let own = "a text of its own";
+    let text = String::from_str(rt.alloc(), own)?;
+    says(rt.alloc(), Error::Caller(text), own)
 }
 
-fn asks_for(section: &Sample, roots: &mut Roots, function: FunctionId) -> bool {
-    section.add_gc_roots(roots).is_ok() && matches!(roots.funcs(), [id] if *id == function)
-}
-
-fn refuses_without_an_index(alloc: Global, section: &Sample) -> bool {
-    matches!(
-        section.data(&IdsToIndices::new(alloc)),
-        Err(Error::Caller(_))
-    )
-}
-
-fn gives(alloc: Global, section: &Sample, indices: &IdsToIndices) -> bool {
-    match section.data(indices) {
-        Ok(bytes) => are(alloc, &bytes, "00"),
-        Err(_) => false,
-    }
-}
-
-fn gives_the_index(alloc: Global, section: &Sample) -> bool {
-    match index_of_function(alloc, section.function) {
-        Ok(indices) => gives(alloc, section, &indices),
-        Err(_) => false,
-    }
-}
-
-#[test]
-fn a_section_of_a_caller(rt: HostRuntime) -> Result<(), Fail> {
-    let alloc = rt.alloc();
-    let function = first_id(alloc);
-    let section = Sample { alloc, function };
-    let mut roots = Roots::new(alloc);
-    demand(
-        asks_for(&section, &mut roots, function) && is_text(section.name(), "s"),
-        "its function and its name",
-    )?;
-    demand(
-        refuses_without_an_index(alloc, &section) && gives_the_index(alloc, &section),
-        "its data",
-    )
-}
-
-fn ask_for_first(alloc: Global, roots: &mut Roots) -> Result<(), Error> {
+fn ask_for_each(alloc: Global, roots: &mut Roots) -> Result<(), Error> {
     roots
         .push_func(first_id(alloc))?
         .push_table(first_id(alloc))?
         .push_memory(first_id(alloc))?;
-    Ok(())
-}
-
-fn ask_for_last(alloc: Global, roots: &mut Roots) -> Result<(), Error> {
     roots
         .push_global(first_id(alloc))?
-        .push_tag(first_id(alloc))?
-        .push_func(first_id(alloc))?;
+        .push_tag(first_id(alloc))?;
     Ok(())
-}
-
-fn has_first_items(alloc: Global, roots: &Roots) -> bool {
-    matches!(roots.tables(), [table] if *table == first_id(alloc))
-        && matches!(roots.memories(), [memory] if *memory == first_id(alloc))
-        && matches!(roots.globals(), [global] if *global == first_id(alloc))
-        && matches!(roots.tags(), [tag] if *tag == first_id(alloc))
 }
 
 #[test]
 fn roots_of_each_kind(rt: HostRuntime) -> Result<(), Fail> {
     let mut roots = Roots::new(rt.alloc());
-    let are_taken = ask_for_first(rt.alloc(), &mut roots).is_ok()
-        && ask_for_last(rt.alloc(), &mut roots).is_ok();
-    demand(
-        are_taken && roots.funcs().len() == 2 && has_first_items(rt.alloc(), &roots),
-        "six items",
-    )
+    ask_for_each(rt.alloc(), &mut roots)?;
+    demand(roots.funcs().len() == 1, "a function")?;
+    demand(roots.tables().len() == 1, "a table")?;
+    demand(roots.memories().len() == 1, "a memory")?;
+    demand(roots.globals().len() == 1, "a global")?;
+    demand(roots.tags().len() == 1, "a tag")
 }
 
-fn is_cloned(section: &RawCustomSection) -> bool {
-    match section.try_clone() {
-        Ok(copy) => copy == *section,
-        Err(_) => false,
-    }
-}
-
-fn gives_its_bytes(alloc: Global, section: &RawCustomSection) -> bool {
-    match section.data(&IdsToIndices::new(alloc)) {
-        Ok(bytes) => are(alloc, &bytes, "01 02"),
-        Err(_) => false,
-    }
+fn tell_section(alloc: Global, section: &RawCustomSection) -> Result<(), Fail> {
+    let bytes = section.data(&IdsToIndices::new(alloc))?;
+    demand(are(alloc, &bytes, "01 02"), "its bytes")?;
+    let copy = section.try_clone()?;
+    demand(copy == *section, "its clone")
 }
 
 #[test]
@@ -184,10 +93,6 @@ fn a_raw_section(rt: HostRuntime) -> Result<(), Fail> {
         name: String::from_str(rt.alloc(), "a")?,
         data_: Vec::new(rt.alloc()),
     };
-    demand(
-        add_bytes(&mut section.data_, "01 02")
-            && is_cloned(&section)
-            && gives_its_bytes(rt.alloc(), &section),
-        "two bytes",
-    )
+    demand(add_bytes(&mut section.data_, "01 02"), "two bytes")?;
+    tell_section(rt.alloc(), &section)
 }

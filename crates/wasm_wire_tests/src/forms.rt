@@ -35,28 +35,22 @@ fn write_64(bytes: &mut Vec<u8>) -> bool {
         && write_f64(bytes, 0x3FF0_0000_0000_0000).is_ok()
 }
 
-// Whether the index 64 and two floats of the value 1 stand here, and nothing else.
-fn read_index_and_floats(bytes: &[u8]) -> bool {
-    let Ok((first, rest)) = read_byte(bytes) else {
-        return false;
-    };
-    let Ok((index, rest)) = read_index_from(first, rest) else {
-        return false;
-    };
-    let Ok((one, rest)) = read_f32(rest) else {
-        return false;
-    };
-    index == 64 && one == 0x3F80_0000 && matches!(read_f64(rest), Ok((0x3FF0_0000_0000_0000, [])))
-}
-
-fn read_64(bytes: &[u8]) -> bool {
-    let Ok((most, rest)) = read_u64(bytes) else {
-        return false;
-    };
-    let Ok((least, rest)) = read_s64(rest) else {
-        return false;
-    };
-    most == u64::MAX && least == i64::MIN && read_index_and_floats(rest)
+// The same numbers, read again.
+fn read_64(bytes: &[u8]) -> Result<(), Fail> {
+    let (most, rest) = read_u64(bytes)?;
+    demand(most == u64::MAX, "the largest")?;
+    let (least, rest) = read_s64(rest)?;
+    demand(least == i64::MIN, "the smallest")?;
+    let (first, rest) = read_byte(rest)?;
+    let (index, rest) = read_index_from(first, rest)?;
+    demand(index == 64, "an index")?;
+    let (single, rest) = read_f32(rest)?;
+    demand(single == 0x3F80_0000, "1 in 32 bits")?;
+    let (double, rest) = read_f64(rest)?;
+    demand(
+        double == 0x3FF0_0000_0000_0000 && rest.is_empty(),
+        "1 in 64 bits",
+    )
 }
 
 #[test]
@@ -67,9 +61,10 @@ fn numbers_of_64_bits_are_written_as_other_encoders_write_them(
     let known =
         "FF FF FF FF FF FF FF FF FF 01 80 80 80 80 80 80 80 80 80 7F C0 00 00 00 80 3F 00 00 00 00 00 00 F0 3F";
     demand(
-        write_64(&mut bytes) && are(rt.alloc(), &bytes, known) && read_64(&bytes),
+        write_64(&mut bytes) && are(rt.alloc(), &bytes, known),
         known,
-    )
+    )?;
+    read_64(&bytes)
 }
 
 fn is_three_and_a_byte(bytes: &[u8]) -> bool {

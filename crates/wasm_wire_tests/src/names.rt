@@ -4,21 +4,17 @@ use crate::told::Told;
 use std::alloc::Global;
 use std::test::Fail;
 use test_support::{add_bytes, demand, is_text};
-use wasm_wire::{WireError, read_names};
-
-fn takes(told: &mut Told, bytes: &[u8]) -> bool {
-    read_names(bytes, told).is_ok()
-}
-
-fn takes_text(alloc: Global, told: &mut Told, text: &str) -> bool {
-    let mut bytes = Vec::new(alloc);
-    add_bytes(&mut bytes, text) && takes(told, &bytes)
-}
+use wasm_wire::read_names;
 
 // Whether this is told of the payload, where the functions 0 and 1 are known.
+fn says(alloc: Global, payload: &[u8], wanted: &str) -> bool {
+    let mut told = Told::new(alloc, 2);
+    read_names(payload, &mut told).is_ok() && is_text(&told.text, wanted)
+}
+
 fn tells(alloc: Global, text: &str, wanted: &str) -> bool {
-    let mut told = Told::new(alloc, 2, 100);
-    takes_text(alloc, &mut told, text) && is_text(&told.text, wanted)
+    let mut bytes = Vec::new(alloc);
+    add_bytes(&mut bytes, text) && says(alloc, &bytes, wanted)
 }
 
 // Each payload, and what is told of it.
@@ -75,45 +71,4 @@ fn each_is_told(alloc: Global, rows: &[(&str, &str)]) -> Result<(), Fail> {
 #[test]
 fn namings_are_told(rt: HostRuntime) -> Result<(), Fail> {
     each_is_told(rt.alloc(), &ROWS)
-}
-
-fn takes_both(alloc: Global, told: &mut Told, first: &str, second: &str) -> bool {
-    takes_text(alloc, told, first) && takes_text(alloc, told, second)
-}
-
-// Two name sections that name one function: a sink is handed both names.
-#[test]
-fn payloads_are_told_in_turn(rt: HostRuntime) -> Result<(), Fail> {
-    let mut told = Told::new(rt.alloc(), 1, 100);
-    let are_taken = takes_both(
-        rt.alloc(),
-        &mut told,
-        "01 04 01 00 01 61",
-        "01 04 01 00 01 62",
-    );
-    demand(
-        are_taken && is_text(&told.text, "function 0 a;function 0 b;"),
-        "both names",
-    )
-}
-
-fn is_refused(told: &mut Told, bytes: &[u8]) -> bool {
-    matches!(read_names(bytes, told), Err(WireError::TooLarge))
-}
-
-fn is_text_refused(alloc: Global, told: &mut Told, text: &str) -> bool {
-    let mut bytes = Vec::new(alloc);
-    add_bytes(&mut bytes, text) && is_refused(told, &bytes)
-}
-
-// A sink that refuses is answered, and no more is told.
-#[test]
-fn a_refusal_is_answered(rt: HostRuntime) -> Result<(), Fail> {
-    let mut told = Told::new(rt.alloc(), 1, 1);
-    let text = "01 0A 03 00 01 61 01 01 62 02 01 63";
-    demand(
-        is_text_refused(rt.alloc(), &mut told, text)
-            && is_text(&told.text, "function 0 a;function 1 b;"),
-        text,
-    )
 }

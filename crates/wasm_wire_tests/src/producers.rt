@@ -22,20 +22,15 @@ fn tell_fields(text: &mut String, fields: &[RawField<'_>]) -> bool {
     true
 }
 
-fn tells_bytes(alloc: Global, bytes: &[u8], text: &mut String) -> bool {
-    match read_producers(alloc, bytes) {
-        Ok(fields) => tell_fields(text, &fields),
+// Whether these are the fields of the payload.
+fn says(alloc: Global, payload: &[u8], wanted: &str) -> bool {
+    let mut text = String::new(alloc);
+    match read_producers(alloc, payload) {
+        Ok(fields) => tell_fields(&mut text, &fields) && is_text(&text, wanted),
         Err(_) => false,
     }
 }
 
-/// Whether these are the fields of the payload.
-pub fn says(alloc: Global, payload: &[u8], wanted: &str) -> bool {
-    let mut text = String::new(alloc);
-    tells_bytes(alloc, payload, &mut text) && is_text(&text, wanted)
-}
-
-// Whether these are the fields of the payload that the text says.
 fn tells(alloc: Global, payload: &str, wanted: &str) -> bool {
     let mut bytes = Vec::new(alloc);
     add_bytes(&mut bytes, payload) && says(alloc, &bytes, wanted)

@@ -5,22 +5,19 @@ ghost use Rattle.std.specs.Prelude.{ltb};
 use std::alloc::{AllocError, Global};
 use wasm_wire::{NameSink, NameSpace, Naming, WireError};
 
-/// Writes each naming that it is handed as text. It knows the functions below a number, and takes so many namings; one that
-/// comes then is written too, and refused with `TooLarge`.
+/// Writes each naming that it is handed as text. It knows the functions below a number.
 #[derive(Drop)]
 pub struct Told {
     pub text: String,
     functions: u32,
-    room: u32,
 }
 
 impl Told {
     /// Nothing is told so far.
-    pub fn new(alloc: Global, functions: u32, room: u32) -> Told {
+    pub fn new(alloc: Global, functions: u32) -> Told {
         Told {
             text: String::new(alloc),
             functions,
-            room,
         }
     }
 }
@@ -63,10 +60,6 @@ impl NameSink for Told {
 
     fn naming(&mut self, naming: Naming<'_>) -> Result<(), WireError> {
         tell_name(&mut self.text, naming)?;
-        if self.room == 0 {
-            return Err(WireError::TooLarge);
-        }
-        self.room -= 1;
         Ok(())
     }
 }
