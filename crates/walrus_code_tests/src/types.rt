@@ -66,25 +66,20 @@ fn are_of_one_group(types: &ModuleTypes, first: TypeId, second: TypeId) -> bool 
         && types.len() == 2
 }
 
-fn group_is_added(alloc: Global) -> bool {
-    let mut types = ModuleTypes::new(alloc);
-    let Ok(ids) = types.next_ids(alloc, 2) else {
-        return false;
-    };
+fn add_group(alloc: Global, types: &mut ModuleTypes) -> Result<(), Fail> {
+    let ids = types.next_ids(alloc, 2)?;
     let [first, second] = ids.as_slice() else {
-        return false;
+        return demand(false, "two ids");
     };
-    let Ok(members) = members(alloc, *second) else {
-        return false;
-    };
-    types.add_group(members).is_ok()
-        && names_it(alloc, &types, *first, *second)
-        && are_of_one_group(&types, *first, *second)
+    types.add_group(members(alloc, *second)?)?;
+    demand(names_it(alloc, types, *first, *second), "what is named")?;
+    demand(are_of_one_group(types, *first, *second), "one group")
 }
 
 #[test]
 fn a_group_is_added(rt: HostRuntime) -> Result<(), Fail> {
-    demand(group_is_added(rt.alloc()), "a group of two types")
+    let mut types = ModuleTypes::new(rt.alloc());
+    add_group(rt.alloc(), &mut types)
 }
 
 fn has_its_parts(types: &ModuleTypes, id: TypeId) -> bool {
@@ -186,10 +181,8 @@ fn expression_is_cloned(alloc: Global) -> bool {
 
 #[test]
 fn clones_are_equal(rt: HostRuntime) -> Result<(), Fail> {
-    demand(
-        function_is_cloned(rt.alloc()) && expression_is_cloned(rt.alloc()),
-        "a function type and an expression",
-    )
+    demand(function_is_cloned(rt.alloc()), "a function type")?;
+    demand(expression_is_cloned(rt.alloc()), "an expression")
 }
 
 fn has_a_local(locals: &mut ModuleLocals, name: String) -> bool {
@@ -206,10 +199,8 @@ fn has_a_local(locals: &mut ModuleLocals, name: String) -> bool {
 fn locals_are_added(rt: HostRuntime) -> Result<(), Fail> {
     let mut locals = ModuleLocals::new(rt.alloc());
     let name = String::from_str(rt.alloc(), "x")?;
-    demand(
-        locals.reserve(1).is_ok() && has_a_local(&mut locals, name),
-        "the local",
-    )
+    demand(locals.reserve(1).is_ok(), "memory")?;
+    demand(has_a_local(&mut locals, name), "the local")
 }
 
 fn open_function(alloc: Global, supertype: Option<TypeId>) -> Result<Vec<NewType>, AllocError> {
@@ -263,8 +254,9 @@ fn has_a_subtype(alloc: Global, types: &mut ModuleTypes) -> bool {
 #[test]
 fn a_subtype_has_its_parts(rt: HostRuntime) -> Result<(), Fail> {
     let mut types = ModuleTypes::new(rt.alloc());
+    demand(types.is_empty(), "no type")?;
     demand(
-        types.is_empty() && has_a_subtype(rt.alloc(), &mut types),
+        has_a_subtype(rt.alloc(), &mut types),
         "a type of functions and its subtype",
     )
 }
@@ -319,8 +311,7 @@ fn are_listed(locals: &mut ModuleLocals) -> bool {
 #[test]
 fn locals_are_listed(rt: HostRuntime) -> Result<(), Fail> {
     let mut locals = ModuleLocals::new(rt.alloc());
-    demand(
-        locals.is_empty() && are_listed(&mut locals) && !locals.is_empty(),
-        "two locals",
-    )
+    demand(locals.is_empty(), "no local")?;
+    demand(are_listed(&mut locals), "two locals")?;
+    demand(!locals.is_empty(), "not empty behind them")
 }

@@ -1,4 +1,4 @@
-//! Operators, read and written back. They are given as text, in hexadecimal.
+//! Operators over indices, read and written back. They are given as text, in hexadecimal.
 
 use std::alloc::Global;
 use std::test::Fail;
