@@ -95,19 +95,19 @@ fn has_its_parts(types: &ModuleTypes, id: TypeId) -> bool {
     }
 }
 
-// Added twice, it is one type.
-fn is_added_once(types: &mut ModuleTypes) -> bool {
-    let Ok(id) = types.add(&[ValType::I32], &[ValType::F64, ValType::V128]) else {
-        return false;
-    };
-    let again = types.add(&[ValType::I32], &[ValType::F64, ValType::V128]);
-    matches!(again, Ok(found) if found == id) && has_its_parts(types, id) && types.len() == 1
+// Fails where it isn't one type, added twice.
+fn add_twice(types: &mut ModuleTypes) -> Result<(), Fail> {
+    let id = types.add(&[ValType::I32], &[ValType::F64, ValType::V128])?;
+    let again = types.add(&[ValType::I32], &[ValType::F64, ValType::V128])?;
+    demand(again == id, "the same id")?;
+    demand(has_its_parts(types, id), "its parts")?;
+    demand(types.len() == 1, "one type")
 }
 
 #[test]
 fn function_types_are_added(rt: HostRuntime) -> Result<(), Fail> {
     let mut types = ModuleTypes::new(rt.alloc());
-    demand(is_added_once(&mut types), "a function type")
+    add_twice(&mut types)
 }
 
 // A group of one final type of functions, which takes a reference to this type.
@@ -140,25 +140,23 @@ fn add_naming_itself(alloc: Global, types: &mut ModuleTypes) -> Option<TypeId> {
     }
 }
 
-// A type that names it from outside is another, which is found from then on.
-fn is_not_found(alloc: Global, types: &mut ModuleTypes) -> bool {
+// Fails where a type that names it from outside isn't another, which is found from then on.
+fn name_from_outside(alloc: Global, types: &mut ModuleTypes) -> Result<(), Fail> {
     let Some(own) = add_naming_itself(alloc, types) else {
-        return false;
+        return demand(false, "a type that names itself");
     };
-    let Ok(other) = types.add(&[reference_to(own)], &[]) else {
-        return false;
-    };
-    let again = types.add(&[reference_to(own)], &[]);
-    own.index() == 0
-        && other.index() == 1
-        && types.len() == 2
-        && matches!(again, Ok(found) if found == other)
+    let other = types.add(&[reference_to(own)], &[])?;
+    let again = types.add(&[reference_to(own)], &[])?;
+    demand(own.index() == 0, "the first place")?;
+    demand(other.index() == 1, "the second place")?;
+    demand(types.len() == 2, "two types")?;
+    demand(again == other, "the second type again")
 }
 
 #[test]
 fn a_type_that_names_itself_is_not_found(rt: HostRuntime) -> Result<(), Fail> {
     let mut types = ModuleTypes::new(rt.alloc());
-    demand(is_not_found(rt.alloc(), &mut types), "a type of its own")
+    name_from_outside(rt.alloc(), &mut types)
 }
 
 fn function_is_cloned(alloc: Global) -> bool {
@@ -277,13 +275,13 @@ fn is_deleted(types: &mut ModuleTypes, id: TypeId) -> bool {
     !types.contains(id) && types.is_empty()
 }
 
-// It is found once it is added, gets a name, and goes.
-fn comes_and_goes(types: &mut ModuleTypes, function: &FunctionType, name: String) -> bool {
-    let is_new = types.find(function).is_none();
-    let Ok(id) = types.add(function.params(), function.results()) else {
-        return false;
-    };
-    is_new && types.find(function) == Some(id) && is_named(types, id, name) && is_deleted(types, id)
+// Fails where it isn't found once it is added, gets no name, or doesn't go.
+fn come_and_go(types: &mut ModuleTypes, function: &FunctionType, name: String) -> Result<(), Fail> {
+    demand(types.find(function).is_none(), "no type")?;
+    let id = types.add(function.params(), function.results())?;
+    demand(types.find(function) == Some(id), "the type")?;
+    demand(is_named(types, id, name), "its name")?;
+    demand(is_deleted(types, id), "no type behind it")
 }
 
 #[test]
@@ -291,10 +289,7 @@ fn a_type_comes_and_goes(rt: HostRuntime) -> Result<(), Fail> {
     let mut types = ModuleTypes::new(rt.alloc());
     let function = FunctionType::new(Vec::new(rt.alloc()), Vec::new(rt.alloc()));
     let name = String::from_str(rt.alloc(), "t")?;
-    demand(
-        comes_and_goes(&mut types, &function, name),
-        "a type of functions",
-    )
+    come_and_go(&mut types, &function, name)
 }
 
 fn is_local(locals: &ModuleLocals, id: LocalId) -> bool {
