@@ -62,7 +62,7 @@ fn refuse_emission(alloc: Global, name: &'static str) -> Result<(), Fail> {
     let mut module = with_section(alloc, name, Refuses::Data)?;
     demand(
         matches!(module.emit_wasm(alloc), Err(Error::Caller(_))),
-        "Caller of emission",
+        name,
     )?;
     demand(has_both_and_a_section(&module), "what emission leaves")
 }
