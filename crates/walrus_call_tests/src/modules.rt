@@ -1,5 +1,6 @@
 //! Modules that are built and edited: each public call of a module and its configuration.
 
+use crate::made::bare_module;
 use std::alloc::Global;
 use std::test::Fail;
 use test_support::{add_bytes, are, demand, is_text};
@@ -8,6 +9,7 @@ use walrus::{
     ModuleConfig, ModuleCustomSections, RawCustomSection, Roots, SectionEntry,
     UntypedCustomSectionId, ValType,
 };
+use walrus_test_support::demand_output;
 
 // A function that gives the number 5.
 fn five(alloc: Global, module: &mut Module) -> Result<LocalFunction, Error> {
@@ -27,29 +29,17 @@ fn add_five(alloc: Global, module: &mut Module) -> Result<FunctionId, Error> {
 const FIVE: &str =
     "00 61 73 6D 01 00 00 00 01 05 01 60 00 01 7F 03 02 01 00 07 05 01 01 66 00 00 0A 06 01 04 00 41 05 0B";
 
-fn is_written(alloc: Global, module: &mut Module, text: &str) -> bool {
-    match module.emit_wasm(alloc) {
-        Ok(bytes) => are(alloc, &bytes, text),
-        Err(_) => false,
-    }
-}
-
-fn is_built(alloc: Global, config: ModuleConfig) -> bool {
-    let Ok(mut module) = Module::with_config(alloc, config) else {
-        return false;
-    };
-    let is_empty = is_written(alloc, &mut module, "00 61 73 6D 01 00 00 00");
-    match add_five(alloc, &mut module) {
-        Ok(id) => is_empty && module.funcs.contains(id) && is_written(alloc, &mut module, FIVE),
-        Err(_) => false,
-    }
+fn build(alloc: Global, module: &mut Module) -> Result<(), Fail> {
+    demand_output(alloc, module.emit_wasm(alloc), "00 61 73 6D 01 00 00 00")?;
+    let id = add_five(alloc, module)?;
+    demand(module.funcs.contains(id), "the function")?;
+    demand_output(alloc, module.emit_wasm(alloc), FIVE)
 }
 
 #[test]
 fn a_module_is_built(rt: HostRuntime) -> Result<(), Fail> {
-    let mut config = ModuleConfig::new();
-    config.generate_producers_section(false);
-    demand(is_built(rt.alloc(), config), FIVE)
+    let mut module = bare_module(rt.alloc())?;
+    build(rt.alloc(), &mut module)
 }
 
 // A function whose body adds two numbers of 128 bits, an operator that isn't stable.
@@ -116,11 +106,9 @@ fn add_section(
     alloc: Global,
     customs: &mut ModuleCustomSections,
     name: &str,
-) -> Option<UntypedCustomSectionId> {
-    match raw_section(alloc, name) {
-        Ok(section) => customs.add(section).ok(),
-        Err(_) => None,
-    }
+) -> Result<UntypedCustomSectionId, Error> {
+    let section = raw_section(alloc, name)?;
+    customs.add(section)
 }
 
 fn gives_its_byte(alloc: Global, section: &SectionEntry) -> bool {
@@ -182,27 +170,18 @@ fn are_removed(
         && customs.iter().take(3).count() == 1
 }
 
-fn are_sections(alloc: Global, customs: &mut ModuleCustomSections) -> bool {
-    let Some(first) = add_section(alloc, customs, "a") else {
-        return false;
-    };
-    let Some(other) = add_section(alloc, customs, "b") else {
-        return false;
-    };
-    let Some(second) = add_section(alloc, customs, "a") else {
-        return false;
-    };
-    is_section(alloc, customs, first, "a")
-        && is_section(alloc, customs, other, "b")
-        && follows(alloc, customs, other)
-        && are_removed(customs, first, second)
+fn are_sections(alloc: Global, customs: &mut ModuleCustomSections) -> Result<(), Fail> {
+    let first = add_section(alloc, customs, "a")?;
+    let other = add_section(alloc, customs, "b")?;
+    let second = add_section(alloc, customs, "a")?;
+    demand(is_section(alloc, customs, first, "a"), "the first section")?;
+    demand(is_section(alloc, customs, other, "b"), "the other section")?;
+    demand(follows(alloc, customs, other), "a transform of code")?;
+    demand(are_removed(customs, first, second), "sections removed")
 }
 
 #[test]
 fn custom_sections_by_id_and_name(rt: HostRuntime) -> Result<(), Fail> {
     let mut customs = ModuleCustomSections::<SectionEntry>::new(rt.alloc());
-    demand(
-        are_sections(rt.alloc(), &mut customs),
-        "two sections of one name, and another",
-    )
+    are_sections(rt.alloc(), &mut customs)
 }

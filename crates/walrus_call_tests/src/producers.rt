@@ -1,11 +1,12 @@
 //! The producers section of a module that was read: its fields stay in their order, a value is put into the first field of its name,
 //! this program stands behind them, and the section isn't written where that is turned off.
 
+use crate::made::{bare_module, read};
 use std::alloc::Global;
 use std::test::Fail;
 use test_support::{add_bytes, demand, is_text};
-use walrus::{Error, Module, ModuleConfig};
-use walrus_test_support::is_output;
+use walrus::{Error, Module};
+use walrus_test_support::demand_output;
 
 const EMPTY: &str = "00 61 73 6D 01 00 00 00";
 
@@ -17,40 +18,33 @@ const TWO_FIELDS: &str =
 const PUT_IN: &str =
     "00 61 73 6D 01 00 00 00 00 39 09 70 72 6F 64 75 63 65 72 73 03 03 73 64 6B 01 01 61 01 33 03 73 64 6B 01 01 61 01 32 0C 70 72 6F 63 65 73 73 65 64 2D 62 79 01 06 77 61 6C 72 75 73 06 30 2E 32 38 2E 30";
 
-fn read(alloc: Global, generate: bool) -> Result<Module, Error> {
+fn read_with_producers(alloc: Global) -> Result<Module, Error> {
     let mut bytes = Vec::new(alloc);
     add_bytes(&mut bytes, TWO_FIELDS);
-    let mut config = ModuleConfig::new();
-    config.generate_producers_section(generate);
-    Module::from_buffer_with_config(alloc, &bytes, &config)
+    Module::from_buffer(alloc, &bytes)
 }
 
-fn puts_in(alloc: Global) -> bool {
-    let Ok(mut module) = read(alloc, true) else {
-        return false;
-    };
-    module.producers.add_sdk("a", "3").is_ok()
-        && module.producers.fields().len() == 3
-        && is_output(alloc, module.emit_wasm(alloc), PUT_IN)
+fn put_in(alloc: Global, module: &mut Module) -> Result<(), Fail> {
+    module.producers.add_sdk("a", "3")?;
+    demand(module.producers.fields().len() == 3, "three fields")?;
+    demand_output(alloc, module.emit_wasm(alloc), PUT_IN)
 }
 
 #[test]
 fn a_value_goes_into_the_first_field(rt: HostRuntime) -> Result<(), Fail> {
-    demand(puts_in(rt.alloc()), PUT_IN)
+    let mut module = read_with_producers(rt.alloc())?;
+    put_in(rt.alloc(), &mut module)
 }
 
-fn leaves_out(alloc: Global) -> bool {
-    match read(alloc, false) {
-        Ok(mut module) => {
-            module.producers.fields().len() == 3 && is_output(alloc, module.emit_wasm(alloc), EMPTY)
-        }
-        Err(_) => false,
-    }
+fn leave_out(alloc: Global, module: &mut Module) -> Result<(), Fail> {
+    demand(module.producers.fields().len() == 3, "three fields")?;
+    demand_output(alloc, module.emit_wasm(alloc), EMPTY)
 }
 
 #[test]
 fn producers_are_left_out(rt: HostRuntime) -> Result<(), Fail> {
-    demand(leaves_out(rt.alloc()), EMPTY)
+    let mut module = read(rt.alloc(), TWO_FIELDS)?;
+    leave_out(rt.alloc(), &mut module)
 }
 
 // Whether the one field is `sdk`, and the one value in it `a` of version 2.
@@ -64,16 +58,14 @@ fn holds_the_last(module: &Module) -> bool {
     is_text(field.name(), "sdk") && is_text(value.name(), "a") && is_text(value.version(), "2")
 }
 
-fn puts_in_twice(alloc: Global) -> bool {
-    let Ok(mut module) = Module::with_config(alloc, ModuleConfig::new()) else {
-        return false;
-    };
-    module.producers.add_sdk("a", "1").is_ok()
-        && module.producers.add_sdk("a", "2").is_ok()
-        && holds_the_last(&module)
+fn put_in_twice(module: &mut Module) -> Result<(), Fail> {
+    module.producers.add_sdk("a", "1")?;
+    module.producers.add_sdk("a", "2")?;
+    demand(holds_the_last(module), "one field of one value")
 }
 
 #[test]
 fn a_value_takes_the_place_of_one_of_its_name(rt: HostRuntime) -> Result<(), Fail> {
-    demand(puts_in_twice(rt.alloc()), "one field of one value")
+    let mut module = bare_module(rt.alloc())?;
+    put_in_twice(&mut module)
 }

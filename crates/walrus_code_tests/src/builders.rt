@@ -37,20 +37,15 @@ fn are_built(alloc: Global, operators: &[Operator]) -> bool {
 }
 
 // One operator behind another, before they are a function's.
-fn is_sequence(alloc: Global) -> bool {
-    let mut sequence = InstrSeqBuilder::new(alloc);
-    match build(alloc, &mut sequence) {
-        Ok(()) => {
-            sequence.len() == 6
-                && matches!(sequence.operators(), [first, ..] if is(first, UNREACHABLE, &[]))
-        }
-        Err(_) => false,
-    }
-}
-
 #[test]
 fn a_sequence_is_built(rt: HostRuntime) -> Result<(), Fail> {
-    demand(is_sequence(rt.alloc()), "a sequence of six operators")
+    let mut sequence = InstrSeqBuilder::new(rt.alloc());
+    build(rt.alloc(), &mut sequence)?;
+    demand(sequence.len() == 6, "six operators")?;
+    demand(
+        matches!(sequence.operators(), [first, ..] if is(first, UNREACHABLE, &[])),
+        "unreachable first",
+    )
 }
 
 fn function(alloc: Global, types: &mut ModuleTypes) -> Result<LocalFunction, AllocError> {
@@ -60,19 +55,14 @@ fn function(alloc: Global, types: &mut ModuleTypes) -> Result<LocalFunction, All
     builder.local_func(Vec::new(alloc))
 }
 
-fn is_built(alloc: Global) -> bool {
-    let mut types = ModuleTypes::new(alloc);
-    match function(alloc, &mut types) {
-        Ok(function) => {
-            is_name(&function.name, "f")
-                && types.len() == 1
-                && are_built(alloc, function.operators.as_slice())
-        }
-        Err(_) => false,
-    }
-}
-
 #[test]
 fn a_function_is_built(rt: HostRuntime) -> Result<(), Fail> {
-    demand(is_built(rt.alloc()), "a function of seven operators")
+    let mut types = ModuleTypes::new(rt.alloc());
+    let built = function(rt.alloc(), &mut types)?;
+    demand(is_name(&built.name, "f"), "its name")?;
+    demand(types.len() == 1, "one type")?;
+    demand(
+        are_built(rt.alloc(), built.operators.as_slice()),
+        "seven operators",
+    )
 }

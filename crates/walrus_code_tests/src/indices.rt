@@ -105,33 +105,26 @@ fn locals_are_numbered(alloc: Global) -> bool {
 
 #[test]
 fn a_space_has_indices(rt: HostRuntime) -> Result<(), Fail> {
-    demand(
-        items_are_found(rt.alloc()) && items_are_in_place(rt.alloc()),
-        "a space",
-    )
+    demand(items_are_found(rt.alloc()), "items pushed")?;
+    demand(items_are_in_place(rt.alloc()), "items in place")
 }
 
 #[test]
 fn a_numbering_has_indices(rt: HostRuntime) -> Result<(), Fail> {
-    demand(
-        items_are_numbered(rt.alloc()) && items_are_numbered_along(rt.alloc()),
-        "a numbering",
-    )
+    demand(items_are_numbered(rt.alloc()), "items pushed")?;
+    demand(items_are_numbered_along(rt.alloc()), "items in order")
 }
 
 #[test]
 fn all_spaces_have_indices(rt: HostRuntime) -> Result<(), Fail> {
-    demand(
-        types_have_indices(rt.alloc())
-            && functions_have_indices(rt.alloc())
-            && tables_have_indices(rt.alloc())
-            && memories_have_indices(rt.alloc())
-            && tags_have_indices(rt.alloc())
-            && globals_have_indices(rt.alloc())
-            && elements_have_indices(rt.alloc())
-            && segments_have_indices(rt.alloc()),
-        "all spaces",
-    )
+    demand(types_have_indices(rt.alloc()), "types")?;
+    demand(functions_have_indices(rt.alloc()), "functions")?;
+    demand(tables_have_indices(rt.alloc()), "tables")?;
+    demand(memories_have_indices(rt.alloc()), "memories")?;
+    demand(tags_have_indices(rt.alloc()), "tags")?;
+    demand(globals_have_indices(rt.alloc()), "globals")?;
+    demand(elements_have_indices(rt.alloc()), "element segments")?;
+    demand(segments_have_indices(rt.alloc()), "data segments")
 }
 
 #[test]

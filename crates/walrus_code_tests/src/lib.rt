@@ -1,4 +1,5 @@
-//! Tests of `walrus_types`, `walrus_code`, `walrus_constants` and `walrus_builder`: each call that takes memory, once, where it succeeds.
+//! Tests of `walrus_types`, `walrus_code`, `walrus_constants` and `walrus_builder`: each call that takes memory, once, where it succeeds;
+//! and of `wasm_operators`: operators of each kind of argument, known from the standard and from other encoders.
 #![tactic(auto)]
 
 #[cfg(test)]
@@ -9,5 +10,7 @@ mod constants;
 mod indices;
 #[cfg(test)]
 mod operators;
+#[cfg(test)]
+mod raw_operators;
 #[cfg(test)]
 mod types;

@@ -83,10 +83,8 @@ fn is_indexed(alloc: Global, id: FunctionId) -> bool {
 #[test]
 fn an_operator_is_named_and_indexed(rt: HostRuntime) -> Result<(), Fail> {
     let id = second_id(rt.alloc());
-    demand(
-        is_named(rt.alloc(), id) && is_indexed(rt.alloc(), id),
-        "a call",
-    )
+    demand(is_named(rt.alloc(), id), "a call over ids")?;
+    demand(is_indexed(rt.alloc(), id), "a call over indices")
 }
 
 // A nullable reference to the type with the index 0, and with the id.
@@ -119,10 +117,8 @@ fn value_is_indexed(alloc: Global, id: TypeId) -> bool {
 #[test]
 fn a_value_type_is_named_and_indexed(rt: HostRuntime) -> Result<(), Fail> {
     let id = second_id(rt.alloc());
-    demand(
-        value_is_named(rt.alloc(), id) && value_is_indexed(rt.alloc(), id),
-        "a reference",
-    )
+    demand(value_is_named(rt.alloc(), id), "a reference over ids")?;
+    demand(value_is_indexed(rt.alloc(), id), "one over indices")
 }
 
 // Whether the arguments, as a vector, are the wanted ones.
@@ -151,52 +147,42 @@ fn many_are_given_back(alloc: Global) -> bool {
 #[test]
 fn arguments_are_given_back(rt: HostRuntime) -> Result<(), Fail> {
     let one = Arg::S32(-1);
+    demand(are_given_back(rt.alloc(), Args::None, &[]), "none")?;
     demand(
-        are_given_back(rt.alloc(), Args::None, &[])
-            && are_given_back(rt.alloc(), Args::One(one), &[Arg::S32(-1)])
-            && many_are_given_back(rt.alloc()),
-        "none, one and three",
-    )
+        are_given_back(rt.alloc(), Args::One(one), &[Arg::S32(-1)]),
+        "one",
+    )?;
+    demand(many_are_given_back(rt.alloc()), "three")
 }
 
 #[test]
 fn what_came_from_nowhere_has_the_default_location(_rt: HostRuntime) -> Result<(), Fail> {
-    demand(
-        InstrLocId::DEFAULT.is_default() && !InstrLocId::new(7).is_default(),
-        "the largest number, and another",
-    )?;
+    demand(InstrLocId::DEFAULT.is_default(), "the largest number")?;
+    demand(!InstrLocId::new(7).is_default(), "another")?;
     demand(
         Operator::new(Operator::END, Args::None).loc.is_default(),
         "an operator",
     )
 }
 
-fn takes_another_type(alloc: Global) -> bool {
-    let (first, second) = (first_id(alloc), second_id(alloc));
-    let mut function = LocalFunction::new(alloc, first, Vec::new(alloc), Vec::new(alloc));
-    function.set_ty(second);
-    function.ty() == second && function.size() == 0
-}
-
 #[test]
 fn a_function_takes_another_type(rt: HostRuntime) -> Result<(), Fail> {
-    demand(takes_another_type(rt.alloc()), "a function")
-}
-
-fn has_its_parts(alloc: Global) -> bool {
-    let mut operators = Vec::new(alloc);
-    if operators
-        .push(Operator::new(Operator::END, Args::None))
-        .is_err()
-    {
-        return false;
-    }
-    let ty = second_id(alloc);
-    let function = LocalFunction::new(alloc, ty, Vec::new(alloc), operators);
-    function.ty() == ty && function.size() == 1 && function.handler_types.is_empty()
+    let (first, second) = (first_id(rt.alloc()), second_id(rt.alloc()));
+    let (args, operators) = (Vec::new(rt.alloc()), Vec::new(rt.alloc()));
+    let mut function = LocalFunction::new(rt.alloc(), first, args, operators);
+    function.set_ty(second);
+    demand(function.ty() == second, "the other type")?;
+    demand(function.size() == 0, "no operator")
 }
 
 #[test]
 fn a_function_has_its_parts(rt: HostRuntime) -> Result<(), Fail> {
-    demand(has_its_parts(rt.alloc()), "a function")
+    let ty = second_id(rt.alloc());
+    let mut operators = Vec::new(rt.alloc());
+    let end = Operator::new(Operator::END, Args::None);
+    demand(operators.push(end).is_ok(), "memory")?;
+    let function = LocalFunction::new(rt.alloc(), ty, Vec::new(rt.alloc()), operators);
+    demand(function.ty() == ty, "its type")?;
+    demand(function.size() == 1, "one operator")?;
+    demand(function.handler_types.is_empty(), "no handler's type")
 }

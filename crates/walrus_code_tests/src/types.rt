@@ -66,25 +66,20 @@ fn are_of_one_group(types: &ModuleTypes, first: TypeId, second: TypeId) -> bool 
         && types.len() == 2
 }
 
-fn group_is_added(alloc: Global) -> bool {
-    let mut types = ModuleTypes::new(alloc);
-    let Ok(ids) = types.next_ids(alloc, 2) else {
-        return false;
-    };
+fn add_group(alloc: Global, types: &mut ModuleTypes) -> Result<(), Fail> {
+    let ids = types.next_ids(alloc, 2)?;
     let [first, second] = ids.as_slice() else {
-        return false;
+        return demand(false, "two ids");
     };
-    let Ok(members) = members(alloc, *second) else {
-        return false;
-    };
-    types.add_group(members).is_ok()
-        && names_it(alloc, &types, *first, *second)
-        && are_of_one_group(&types, *first, *second)
+    types.add_group(members(alloc, *second)?)?;
+    demand(names_it(alloc, types, *first, *second), "what is named")?;
+    demand(are_of_one_group(types, *first, *second), "one group")
 }
 
 #[test]
 fn a_group_is_added(rt: HostRuntime) -> Result<(), Fail> {
-    demand(group_is_added(rt.alloc()), "a group of two types")
+    let mut types = ModuleTypes::new(rt.alloc());
+    add_group(rt.alloc(), &mut types)
 }
 
 fn has_its_parts(types: &ModuleTypes, id: TypeId) -> bool {
@@ -100,19 +95,19 @@ fn has_its_parts(types: &ModuleTypes, id: TypeId) -> bool {
     }
 }
 
-// Added twice, it is one type.
-fn is_added_once(types: &mut ModuleTypes) -> bool {
-    let Ok(id) = types.add(&[ValType::I32], &[ValType::F64, ValType::V128]) else {
-        return false;
-    };
-    let again = types.add(&[ValType::I32], &[ValType::F64, ValType::V128]);
-    matches!(again, Ok(found) if found == id) && has_its_parts(types, id) && types.len() == 1
+// Fails where it isn't one type, added twice.
+fn add_twice(types: &mut ModuleTypes) -> Result<(), Fail> {
+    let id = types.add(&[ValType::I32], &[ValType::F64, ValType::V128])?;
+    let again = types.add(&[ValType::I32], &[ValType::F64, ValType::V128])?;
+    demand(again == id, "the same id")?;
+    demand(has_its_parts(types, id), "its parts")?;
+    demand(types.len() == 1, "one type")
 }
 
 #[test]
 fn function_types_are_added(rt: HostRuntime) -> Result<(), Fail> {
     let mut types = ModuleTypes::new(rt.alloc());
-    demand(is_added_once(&mut types), "a function type")
+    add_twice(&mut types)
 }
 
 // A group of one final type of functions, which takes a reference to this type.
@@ -145,25 +140,23 @@ fn add_naming_itself(alloc: Global, types: &mut ModuleTypes) -> Option<TypeId> {
     }
 }
 
-// A type that names it from outside is another, which is found from then on.
-fn is_not_found(alloc: Global, types: &mut ModuleTypes) -> bool {
+// Fails where a type that names it from outside isn't another, which is found from then on.
+fn name_from_outside(alloc: Global, types: &mut ModuleTypes) -> Result<(), Fail> {
     let Some(own) = add_naming_itself(alloc, types) else {
-        return false;
+        return demand(false, "a type that names itself");
     };
-    let Ok(other) = types.add(&[reference_to(own)], &[]) else {
-        return false;
-    };
-    let again = types.add(&[reference_to(own)], &[]);
-    own.index() == 0
-        && other.index() == 1
-        && types.len() == 2
-        && matches!(again, Ok(found) if found == other)
+    let other = types.add(&[reference_to(own)], &[])?;
+    let again = types.add(&[reference_to(own)], &[])?;
+    demand(own.index() == 0, "the first place")?;
+    demand(other.index() == 1, "the second place")?;
+    demand(types.len() == 2, "two types")?;
+    demand(again == other, "the second type again")
 }
 
 #[test]
 fn a_type_that_names_itself_is_not_found(rt: HostRuntime) -> Result<(), Fail> {
     let mut types = ModuleTypes::new(rt.alloc());
-    demand(is_not_found(rt.alloc(), &mut types), "a type of its own")
+    name_from_outside(rt.alloc(), &mut types)
 }
 
 fn function_is_cloned(alloc: Global) -> bool {
@@ -186,10 +179,8 @@ fn expression_is_cloned(alloc: Global) -> bool {
 
 #[test]
 fn clones_are_equal(rt: HostRuntime) -> Result<(), Fail> {
-    demand(
-        function_is_cloned(rt.alloc()) && expression_is_cloned(rt.alloc()),
-        "a function type and an expression",
-    )
+    demand(function_is_cloned(rt.alloc()), "a function type")?;
+    demand(expression_is_cloned(rt.alloc()), "an expression")
 }
 
 fn has_a_local(locals: &mut ModuleLocals, name: String) -> bool {
@@ -206,10 +197,8 @@ fn has_a_local(locals: &mut ModuleLocals, name: String) -> bool {
 fn locals_are_added(rt: HostRuntime) -> Result<(), Fail> {
     let mut locals = ModuleLocals::new(rt.alloc());
     let name = String::from_str(rt.alloc(), "x")?;
-    demand(
-        locals.reserve(1).is_ok() && has_a_local(&mut locals, name),
-        "the local",
-    )
+    demand(locals.reserve(1).is_ok(), "memory")?;
+    demand(has_a_local(&mut locals, name), "the local")
 }
 
 fn open_function(alloc: Global, supertype: Option<TypeId>) -> Result<Vec<NewType>, AllocError> {
@@ -263,8 +252,9 @@ fn has_a_subtype(alloc: Global, types: &mut ModuleTypes) -> bool {
 #[test]
 fn a_subtype_has_its_parts(rt: HostRuntime) -> Result<(), Fail> {
     let mut types = ModuleTypes::new(rt.alloc());
+    demand(types.is_empty(), "no type")?;
     demand(
-        types.is_empty() && has_a_subtype(rt.alloc(), &mut types),
+        has_a_subtype(rt.alloc(), &mut types),
         "a type of functions and its subtype",
     )
 }
@@ -285,13 +275,13 @@ fn is_deleted(types: &mut ModuleTypes, id: TypeId) -> bool {
     !types.contains(id) && types.is_empty()
 }
 
-// It is found once it is added, gets a name, and goes.
-fn comes_and_goes(types: &mut ModuleTypes, function: &FunctionType, name: String) -> bool {
-    let is_new = types.find(function).is_none();
-    let Ok(id) = types.add(function.params(), function.results()) else {
-        return false;
-    };
-    is_new && types.find(function) == Some(id) && is_named(types, id, name) && is_deleted(types, id)
+// Fails where it isn't found once it is added, gets no name, or doesn't go.
+fn come_and_go(types: &mut ModuleTypes, function: &FunctionType, name: String) -> Result<(), Fail> {
+    demand(types.find(function).is_none(), "no type")?;
+    let id = types.add(function.params(), function.results())?;
+    demand(types.find(function) == Some(id), "the type")?;
+    demand(is_named(types, id, name), "its name")?;
+    demand(is_deleted(types, id), "no type behind it")
 }
 
 #[test]
@@ -299,10 +289,7 @@ fn a_type_comes_and_goes(rt: HostRuntime) -> Result<(), Fail> {
     let mut types = ModuleTypes::new(rt.alloc());
     let function = FunctionType::new(Vec::new(rt.alloc()), Vec::new(rt.alloc()));
     let name = String::from_str(rt.alloc(), "t")?;
-    demand(
-        comes_and_goes(&mut types, &function, name),
-        "a type of functions",
-    )
+    come_and_go(&mut types, &function, name)
 }
 
 fn is_local(locals: &ModuleLocals, id: LocalId) -> bool {
@@ -319,8 +306,7 @@ fn are_listed(locals: &mut ModuleLocals) -> bool {
 #[test]
 fn locals_are_listed(rt: HostRuntime) -> Result<(), Fail> {
     let mut locals = ModuleLocals::new(rt.alloc());
-    demand(
-        locals.is_empty() && are_listed(&mut locals) && !locals.is_empty(),
-        "two locals",
-    )
+    demand(locals.is_empty(), "no local")?;
+    demand(are_listed(&mut locals), "two locals")?;
+    demand(!locals.is_empty(), "not empty behind them")
 }

@@ -1,6 +1,6 @@
 //! Data segments of a module that a program edits: which of them gc keeps, what is found dead, and what is written.
 
-use crate::made::{bare_module, leaves};
+use crate::made::{bare_module, demand_left};
 use std::alloc::Global;
 use std::test::Fail;
 use test_support::demand;
@@ -9,7 +9,7 @@ use walrus::{
     Arg, Args, ConstExpr, DataId, DataKind, Error, ExportItem, FunctionBuilder, MemoryId, Module,
     Operator, Value,
 };
-use walrus_test_support::is_output;
+use walrus_test_support::demand_output;
 
 const EMPTY: &str = "00 61 73 6D 01 00 00 00";
 
@@ -54,16 +54,11 @@ fn with_active(alloc: Global) -> Result<(Module, MemoryId), Error> {
     Ok((module, memory))
 }
 
-fn active_stays(alloc: Global) -> bool {
-    let Ok((mut module, _memory)) = with_active(alloc) else {
-        return false;
-    };
-    is_output(alloc, module.emit_wasm(alloc), ACTIVE) && leaves(alloc, &mut module, ACTIVE)
-}
-
 #[test]
 fn an_active_segment_stays_with_its_memory(rt: HostRuntime) -> Result<(), Fail> {
-    demand(active_stays(rt.alloc()), ACTIVE)
+    let (mut module, _memory) = with_active(rt.alloc())?;
+    demand_output(rt.alloc(), module.emit_wasm(rt.alloc()), ACTIVE)?;
+    demand_left(rt.alloc(), &mut module, ACTIVE)
 }
 
 fn with_passive(alloc: Global) -> Result<Module, Error> {
@@ -72,34 +67,33 @@ fn with_passive(alloc: Global) -> Result<Module, Error> {
     Ok(module)
 }
 
-fn passive_goes(alloc: Global) -> bool {
-    let Ok(mut module) = with_passive(alloc) else {
-        return false;
-    };
-    is_output(alloc, module.emit_wasm(alloc), PASSIVE) && leaves(alloc, &mut module, EMPTY)
-}
-
 #[test]
 fn a_passive_segment_that_nothing_names_goes(rt: HostRuntime) -> Result<(), Fail> {
-    demand(passive_goes(rt.alloc()), EMPTY)
+    let mut module = with_passive(rt.alloc())?;
+    demand_output(rt.alloc(), module.emit_wasm(rt.alloc()), PASSIVE)?;
+    demand_left(rt.alloc(), &mut module, EMPTY)
 }
 
-// Whether the memory of an active segment that was deleted is found by gc and by emission.
-fn dead_memory_is_found(alloc: Global) -> bool {
-    let Ok((mut module, memory)) = with_active(alloc) else {
-        return false;
-    };
+// Fails where the memory of an active segment that is deleted isn't found by gc and by emission.
+fn delete_memory(alloc: Global, module: &mut Module, memory: MemoryId) -> Result<(), Fail> {
     if !module.memories.contains(memory) {
-        return false;
+        return demand(false, "the memory");
     }
     module.memories.delete(memory);
-    matches!(gc::run(alloc, &mut module), Err(Error::DeadItem))
-        && matches!(module.emit_wasm(alloc), Err(Error::DeadItem))
+    demand(
+        matches!(gc::run(alloc, module), Err(Error::DeadItem)),
+        "DeadItem of gc",
+    )?;
+    demand(
+        matches!(module.emit_wasm(alloc), Err(Error::DeadItem)),
+        "DeadItem of emission",
+    )
 }
 
 #[test]
 fn a_deleted_memory_of_a_segment_is_found(rt: HostRuntime) -> Result<(), Fail> {
-    demand(dead_memory_is_found(rt.alloc()), "DeadItem")
+    let (mut module, memory) = with_active(rt.alloc())?;
+    delete_memory(rt.alloc(), &mut module, memory)
 }
 
 // ---- the set of a memory
@@ -120,54 +114,53 @@ fn with_set(alloc: Global) -> Result<(Module, MemoryId, DataId), Error> {
     Ok((module, memory, segment))
 }
 
-fn set_is_kept(alloc: Global) -> bool {
-    let Ok((mut module, _memory, _segment)) = with_set(alloc) else {
-        return false;
-    };
-    leaves(alloc, &mut module, KEPT)
-}
-
 #[test]
 fn a_segment_in_the_set_of_a_memory_stays(rt: HostRuntime) -> Result<(), Fail> {
-    demand(set_is_kept(rt.alloc()), KEPT)
+    let (mut module, _memory, _segment) = with_set(rt.alloc())?;
+    demand_left(rt.alloc(), &mut module, KEPT)
 }
 
-fn taken_out_goes(alloc: Global) -> bool {
-    let Ok((mut module, memory, segment)) = with_set(alloc) else {
-        return false;
-    };
+// Fails where a segment that is taken out of the set doesn't go.
+fn take_out(
+    alloc: Global,
+    module: &mut Module,
+    memory: MemoryId,
+    segment: DataId,
+) -> Result<(), Fail> {
     if !module.memories.contains(memory) {
-        return false;
+        return demand(false, "the memory");
     }
     module
         .memories
         .get_mut(memory)
         .data_segments
         .remove(segment);
-    leaves(alloc, &mut module, EXPORTED)
+    demand_left(alloc, module, EXPORTED)
 }
 
 #[test]
 fn a_segment_taken_out_of_the_set_goes(rt: HostRuntime) -> Result<(), Fail> {
-    demand(taken_out_goes(rt.alloc()), EXPORTED)
+    let (mut module, memory, segment) = with_set(rt.alloc())?;
+    take_out(rt.alloc(), &mut module, memory, segment)
 }
 
-// Whether a segment that was deleted while it is in the set is found by gc, and is in no one's way where the module is written.
-fn dead_in_set_is_found(alloc: Global) -> bool {
-    let Ok((mut module, _memory, segment)) = with_set(alloc) else {
-        return false;
-    };
+// Fails where a segment that is deleted while it is in the set isn't found by gc, or is in the way where the module is written.
+fn delete_segment(alloc: Global, module: &mut Module, segment: DataId) -> Result<(), Fail> {
     if !module.data_.contains(segment) {
-        return false;
+        return demand(false, "the segment");
     }
     module.data_.delete(segment);
-    matches!(gc::run(alloc, &mut module), Err(Error::DeadItem))
-        && is_output(alloc, module.emit_wasm(alloc), EXPORTED)
+    demand(
+        matches!(gc::run(alloc, module), Err(Error::DeadItem)),
+        "DeadItem of gc",
+    )?;
+    demand_output(alloc, module.emit_wasm(alloc), EXPORTED)
 }
 
 #[test]
 fn a_deleted_segment_in_the_set_is_found(rt: HostRuntime) -> Result<(), Fail> {
-    demand(dead_in_set_is_found(rt.alloc()), "DeadItem")
+    let (mut module, _memory, segment) = with_set(rt.alloc())?;
+    delete_segment(rt.alloc(), &mut module, segment)
 }
 
 // ---- the spare memory
@@ -187,14 +180,8 @@ fn with_spare(alloc: Global) -> Result<Module, Error> {
     Ok(module)
 }
 
-fn spare_stays(alloc: Global) -> bool {
-    let Ok(mut module) = with_spare(alloc) else {
-        return false;
-    };
-    leaves(alloc, &mut module, SPARE)
-}
-
 #[test]
 fn the_first_memory_stays_with_data(rt: HostRuntime) -> Result<(), Fail> {
-    demand(spare_stays(rt.alloc()), SPARE)
+    let mut module = with_spare(rt.alloc())?;
+    demand_left(rt.alloc(), &mut module, SPARE)
 }

@@ -6,7 +6,7 @@ use std::test::Fail;
 use test_support::demand;
 use walrus::passes::{Used, gc};
 use walrus::{Error, ExportItem, FunctionId, FunctionKind, Module};
-use walrus_test_support::{add_function, is_output};
+use walrus_test_support::{add_function, demand_output};
 
 // What is left of the module where nothing is exported: the function that nothing reaches.
 const UNREACHED: &str = "00 61 73 6D 01 00 00 00 01 04 01 60 00 00 03 02 01 00 0A 04 01 02 00 0B";
@@ -34,13 +34,16 @@ fn is_emitted(alloc: Global, module: &mut Module) -> Result<(), Error> {
     Ok(())
 }
 
-// Whether a search, gc and emission find it dead, each twice.
-fn is_found(alloc: Global, module: &mut Module) -> bool {
-    is_dead(is_searched(alloc, module))
-        && is_dead(gc::run(alloc, module))
-        && is_dead(is_emitted(alloc, module))
-        && is_dead(gc::run(alloc, module))
-        && is_dead(is_emitted(alloc, module))
+// Fails where a search, gc or emission doesn't find it dead, the two that might change something twice.
+fn find(alloc: Global, module: &mut Module) -> Result<(), Fail> {
+    demand(is_dead(is_searched(alloc, module)), "DeadItem of a search")?;
+    demand(is_dead(gc::run(alloc, module)), "DeadItem of gc")?;
+    demand(is_dead(is_emitted(alloc, module)), "DeadItem of emission")?;
+    demand(is_dead(gc::run(alloc, module)), "DeadItem of a second gc")?;
+    demand(
+        is_dead(is_emitted(alloc, module)),
+        "DeadItem of a second emission",
+    )
 }
 
 // Whether the module has its export, the other function and so many functions still.
@@ -52,30 +55,27 @@ fn stands(module: &Module, unreached: FunctionId, count: usize) -> bool {
         && module.elements.is_empty()
 }
 
-// Whether the rest is written once the export is gone too.
-fn leaves_the_other(alloc: Global, module: &mut Module) -> bool {
-    if module.exports.remove("f").is_err() {
-        return false;
-    }
-    is_output(alloc, module.emit_wasm(alloc), UNREACHED)
-}
-
-fn deleted_is_found(alloc: Global) -> bool {
-    let Ok((mut module, exported, unreached)) = with_exported(alloc) else {
-        return false;
-    };
+// Fails where the function isn't found dead once it is deleted, or the rest isn't written once the export is gone too.
+fn delete(
+    alloc: Global,
+    module: &mut Module,
+    exported: FunctionId,
+    unreached: FunctionId,
+) -> Result<(), Fail> {
     if !module.funcs.contains(exported) {
-        return false;
+        return demand(false, "the function");
     }
     module.funcs.delete(exported);
-    is_found(alloc, &mut module)
-        && stands(&module, unreached, 1)
-        && leaves_the_other(alloc, &mut module)
+    find(alloc, module)?;
+    demand(stands(module, unreached, 1), "what is left")?;
+    module.exports.remove("f")?;
+    demand_output(alloc, module.emit_wasm(alloc), UNREACHED)
 }
 
 #[test]
 fn a_deleted_function_that_is_exported_is_found(rt: HostRuntime) -> Result<(), Fail> {
-    demand(deleted_is_found(rt.alloc()), "DeadItem")
+    let (mut module, exported, unreached) = with_exported(rt.alloc())?;
+    delete(rt.alloc(), &mut module, exported, unreached)
 }
 
 fn lose_body(module: &mut Module, function: FunctionId) -> bool {
@@ -87,16 +87,10 @@ fn lose_body(module: &mut Module, function: FunctionId) -> bool {
     true
 }
 
-fn bodiless_is_found(alloc: Global) -> bool {
-    let Ok((mut module, exported, unreached)) = with_exported(alloc) else {
-        return false;
-    };
-    lose_body(&mut module, exported)
-        && is_found(alloc, &mut module)
-        && stands(&module, unreached, 2)
-}
-
 #[test]
 fn an_exported_function_without_a_body_is_found(rt: HostRuntime) -> Result<(), Fail> {
-    demand(bodiless_is_found(rt.alloc()), "DeadItem")
+    let (mut module, exported, unreached) = with_exported(rt.alloc())?;
+    demand(lose_body(&mut module, exported), "the function")?;
+    find(rt.alloc(), &mut module)?;
+    demand(stands(&module, unreached, 2), "what is left")
 }

@@ -1,12 +1,12 @@
 //! The start function of a module that a program edits: it stays with all that it calls, and one that was deleted is found.
 
-use crate::made::bare_module;
+use crate::made::{bare_module, demand_left};
 use std::alloc::Global;
 use std::test::Fail;
 use test_support::demand;
 use walrus::passes::gc;
 use walrus::{Error, FunctionId, Module};
-use walrus_test_support::{add_function, is_output};
+use walrus_test_support::add_function;
 
 // One function, the start function.
 const ONE_START: &str =
@@ -21,45 +21,46 @@ fn with_start(alloc: Global) -> Result<(Module, FunctionId, FunctionId), Error> 
     Ok((module, other, start))
 }
 
-// Whether gc keeps the start function alone, and it is written.
-fn start_stays(alloc: Global) -> bool {
-    let Ok((mut module, other, start)) = with_start(alloc) else {
-        return false;
-    };
-    if gc::run(alloc, &mut module).is_err() {
-        return false;
-    }
-    is_output(alloc, module.emit_wasm(alloc), ONE_START)
-        && module.start == Some(start)
-        && module.funcs.contains(start)
-        && !module.funcs.contains(other)
+// Fails where gc doesn't keep the start function alone.
+fn keep_start(
+    alloc: Global,
+    module: &mut Module,
+    other: FunctionId,
+    start: FunctionId,
+) -> Result<(), Fail> {
+    demand_left(alloc, module, ONE_START)?;
+    demand(module.start == Some(start), "the start function")?;
+    demand(module.funcs.contains(start), "its id")?;
+    demand(!module.funcs.contains(other), "not the other one")
 }
 
 #[test]
 fn the_start_function_stays(rt: HostRuntime) -> Result<(), Fail> {
-    demand(start_stays(rt.alloc()), ONE_START)
+    let (mut module, other, start) = with_start(rt.alloc())?;
+    keep_start(rt.alloc(), &mut module, other, start)
 }
 
-// Whether a start function that was deleted is found by gc and by emission, and none is missed.
-fn dead_start_is_found(alloc: Global) -> bool {
-    let Ok((mut module, _other, start)) = with_start(alloc) else {
-        return false;
-    };
+// Fails where a start function that is deleted isn't found by gc and by emission, or is missed where there is none.
+fn delete_start(alloc: Global, module: &mut Module, start: FunctionId) -> Result<(), Fail> {
     if !module.funcs.contains(start) {
-        return false;
+        return demand(false, "the start function");
     }
     module.funcs.delete(start);
-    if !matches!(gc::run(alloc, &mut module), Err(Error::DeadItem)) {
-        return false;
-    }
-    if !matches!(module.emit_wasm(alloc), Err(Error::DeadItem)) {
-        return false;
-    }
+    demand(
+        matches!(gc::run(alloc, module), Err(Error::DeadItem)),
+        "DeadItem of gc",
+    )?;
+    demand(
+        matches!(module.emit_wasm(alloc), Err(Error::DeadItem)),
+        "DeadItem of emission",
+    )?;
     module.start = None;
-    module.emit_wasm(alloc).is_ok()
+    module.emit_wasm(alloc)?;
+    Ok(())
 }
 
 #[test]
 fn a_deleted_start_function_is_found(rt: HostRuntime) -> Result<(), Fail> {
-    demand(dead_start_is_found(rt.alloc()), "DeadItem, and none behind")
+    let (mut module, _other, start) = with_start(rt.alloc())?;
+    delete_start(rt.alloc(), &mut module, start)
 }

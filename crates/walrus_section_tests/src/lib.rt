@@ -1,8 +1,17 @@
-//! Tests of modules with custom sections of a caller's own.
+//! Tests of custom sections of a caller's own, and of names: of modules that are read with them, of those that a program gives, and of
+//! those that are made of indices.
 #![tactic(auto)]
 
 #[cfg(test)]
+mod found_names;
+#[cfg(test)]
+mod given_names;
+#[cfg(test)]
 mod made;
+#[cfg(test)]
+mod made_names;
+#[cfg(test)]
+mod names;
 pub mod noted;
 #[cfg(test)]
 mod raw;

@@ -1,21 +1,35 @@
-//! The modules that these tests begin with.
+//! The modules that these tests begin with, and what gc leaves of one.
 
 use crate::noted::{Noted, Refuses};
 use std::alloc::Global;
+use std::test::Fail;
 use test_support::add_bytes;
+use walrus::passes::gc;
 use walrus::{Error, FunctionId, Module, ModuleConfig, SectionEntry};
+use walrus_test_support::demand_output;
 
 // Two functions of one type, neither exported.
 const TWO_FUNCTIONS: &str =
     "00 61 73 6D 01 00 00 00 01 04 01 60 00 00 03 03 02 00 00 0A 07 02 02 00 0B 02 00 0B";
 
-/// Two functions of one type, neither exported; to be written without producers.
-pub(crate) fn two_functions(alloc: Global) -> Result<Module, Error> {
+/// The module that the text says, to be written without producers.
+pub(crate) fn read(alloc: Global, text: &str) -> Result<Module, Error> {
     let mut bytes = Vec::new(alloc);
-    add_bytes(&mut bytes, TWO_FUNCTIONS);
+    add_bytes(&mut bytes, text);
     let mut config = ModuleConfig::new();
     config.generate_producers_section(false);
     Module::from_buffer_with_config(alloc, &bytes, &config)
+}
+
+/// Two functions of one type, neither exported; to be written without producers.
+pub(crate) fn two_functions(alloc: Global) -> Result<Module, Error> {
+    read(alloc, TWO_FUNCTIONS)
+}
+
+/// Fails where gc doesn't pass, or leaves what is written otherwise.
+pub(crate) fn demand_left(alloc: Global, module: &mut Module, expected: &str) -> Result<(), Fail> {
+    gc::run(alloc, module)?;
+    demand_output(alloc, module.emit_wasm(alloc), expected)
 }
 
 /// The second function.

@@ -1,12 +1,12 @@
 //! Sections that were read, and raw ones beside a caller's own.
 
-use crate::made::{add_noted, two_functions};
+use crate::made::{add_noted, read, two_functions};
 use crate::noted::Refuses;
 use std::alloc::Global;
 use std::test::Fail;
-use test_support::{add_bytes, demand, is_text};
-use walrus::{Error, Module, ModuleConfig, RawCustomSection, SectionEntry};
-use walrus_test_support::is_output;
+use test_support::{demand, is_text};
+use walrus::{Error, Module, RawCustomSection, SectionEntry};
+use walrus_test_support::demand_output;
 
 // Sections `a` and `b`, debug information, and dynamic linking between two sections.
 const READ: &str =
@@ -16,23 +16,11 @@ const READ: &str =
 const WRITTEN: &str =
     "00 61 73 6D 01 00 00 00 00 0A 08 64 79 6C 69 6E 6B 2E 30 03 01 04 01 60 00 00 03 02 01 00 07 05 01 01 66 00 00 0A 04 01 02 00 0B 00 03 01 61 01 00 03 01 62 04";
 
-fn is_written_twice(alloc: Global) -> bool {
-    let mut bytes = Vec::new(alloc);
-    let mut config = ModuleConfig::new();
-    config.generate_producers_section(false);
-    if !add_bytes(&mut bytes, READ) {
-        return false;
-    }
-    let Ok(mut module) = Module::from_buffer_with_config(alloc, &bytes, &config) else {
-        return false;
-    };
-    is_output(alloc, module.emit_wasm(alloc), WRITTEN)
-        && is_output(alloc, module.emit_wasm(alloc), WRITTEN)
-}
-
 #[test]
 fn sections_that_were_read_are_written_twice(rt: HostRuntime) -> Result<(), Fail> {
-    demand(is_written_twice(rt.alloc()), WRITTEN)
+    let mut module = read(rt.alloc(), READ)?;
+    demand_output(rt.alloc(), module.emit_wasm(rt.alloc()), WRITTEN)?;
+    demand_output(rt.alloc(), module.emit_wasm(rt.alloc()), WRITTEN)
 }
 
 fn raw_section(alloc: Global, name: &str) -> Result<SectionEntry, Error> {
@@ -44,33 +32,29 @@ fn raw_section(alloc: Global, name: &str) -> Result<SectionEntry, Error> {
     }))
 }
 
-fn takes_raw_and_boxed(alloc: Global, module: &mut Module) -> bool {
+fn take_raw_and_boxed(alloc: Global, module: &mut Module) -> Result<(), Fail> {
     let Some((boxed, _)) = module.customs.iter().next() else {
-        return false;
+        return demand(false, "a boxed section");
     };
-    let Ok(section) = raw_section(alloc, "s") else {
-        return false;
-    };
-    if module.customs.add(section).is_err() {
-        return false;
-    }
+    let section = raw_section(alloc, "s")?;
+    module.customs.add(section)?;
     let Some(raw) = module.customs.remove_raw("s") else {
-        return false;
+        return demand(false, "the raw one");
     };
-    is_text(&raw.name, "s")
-        && matches!(module.customs.delete(boxed), Some(SectionEntry::Boxed(_)))
-        && module.customs.delete(boxed).is_none()
+    demand(is_text(&raw.name, "s"), "its name")?;
+    demand(
+        matches!(module.customs.delete(boxed), Some(SectionEntry::Boxed(_))),
+        "the boxed one",
+    )?;
+    demand(module.customs.delete(boxed).is_none(), "it once")
 }
 
 #[test]
 fn a_raw_section_behind_a_boxed_one_of_its_name(rt: HostRuntime) -> Result<(), Fail> {
-    let alloc = rt.alloc();
-    let Ok(mut module) = two_functions(alloc) else {
-        return demand(false, "memory");
-    };
+    let mut module = two_functions(rt.alloc())?;
     demand(
-        add_noted(alloc, &mut module, "s", Refuses::Nothing),
+        add_noted(rt.alloc(), &mut module, "s", Refuses::Nothing),
         "a boxed section",
     )?;
-    demand(takes_raw_and_boxed(alloc, &mut module), "both are taken")
+    take_raw_and_boxed(rt.alloc(), &mut module)
 }

@@ -1,7 +1,7 @@
 //! Element segments of a module that a program edits: which of them gc keeps, what is found dead, what they declare, and with which
 //! flag they are written.
 
-use crate::made::{bare_module, leaves};
+use crate::made::{bare_module, demand_left};
 use std::alloc::Global;
 use std::test::Fail;
 use test_support::demand;
@@ -10,7 +10,7 @@ use walrus::{
     AbstractHeapType, Arg, Args, ConstExpr, ElementItems, ElementKind, Error, ExportItem,
     FunctionBuilder, FunctionId, Module, Operator, RefType, TableId, Value,
 };
-use walrus_test_support::{add_function, is_output, listed, reference};
+use walrus_test_support::{add_function, demand_output, listed, reference};
 
 const EMPTY: &str = "00 61 73 6D 01 00 00 00";
 
@@ -67,16 +67,11 @@ fn with_active(alloc: Global) -> Result<(Module, TableId), Error> {
     Ok((module, table))
 }
 
-fn active_stays(alloc: Global) -> bool {
-    let Ok((mut module, _table)) = with_active(alloc) else {
-        return false;
-    };
-    is_output(alloc, module.emit_wasm(alloc), ACTIVE) && leaves(alloc, &mut module, ACTIVE)
-}
-
 #[test]
 fn an_active_segment_stays_with_its_table(rt: HostRuntime) -> Result<(), Fail> {
-    demand(active_stays(rt.alloc()), ACTIVE)
+    let (mut module, _table) = with_active(rt.alloc())?;
+    demand_output(rt.alloc(), module.emit_wasm(rt.alloc()), ACTIVE)?;
+    demand_left(rt.alloc(), &mut module, ACTIVE)
 }
 
 // A segment of a function, of this kind.
@@ -87,46 +82,40 @@ fn with_kind(alloc: Global, kind: ElementKind) -> Result<Module, Error> {
     Ok(module)
 }
 
-fn passive_goes(alloc: Global) -> bool {
-    let Ok(mut module) = with_kind(alloc, ElementKind::Passive) else {
-        return false;
-    };
-    is_output(alloc, module.emit_wasm(alloc), PASSIVE) && leaves(alloc, &mut module, EMPTY)
-}
-
 #[test]
 fn a_passive_segment_that_nothing_names_goes(rt: HostRuntime) -> Result<(), Fail> {
-    demand(passive_goes(rt.alloc()), EMPTY)
-}
-
-fn declared_stays(alloc: Global) -> bool {
-    let Ok(mut module) = with_kind(alloc, ElementKind::Declared) else {
-        return false;
-    };
-    is_output(alloc, module.emit_wasm(alloc), DECLARED) && leaves(alloc, &mut module, DECLARED)
+    let mut module = with_kind(rt.alloc(), ElementKind::Passive)?;
+    demand_output(rt.alloc(), module.emit_wasm(rt.alloc()), PASSIVE)?;
+    demand_left(rt.alloc(), &mut module, EMPTY)
 }
 
 #[test]
 fn a_declared_segment_stays_with_its_function(rt: HostRuntime) -> Result<(), Fail> {
-    demand(declared_stays(rt.alloc()), DECLARED)
+    let mut module = with_kind(rt.alloc(), ElementKind::Declared)?;
+    demand_output(rt.alloc(), module.emit_wasm(rt.alloc()), DECLARED)?;
+    demand_left(rt.alloc(), &mut module, DECLARED)
 }
 
-// Whether the table of an active segment that was deleted is found by gc and by emission.
-fn dead_table_is_found(alloc: Global) -> bool {
-    let Ok((mut module, table)) = with_active(alloc) else {
-        return false;
-    };
+// Fails where the table of an active segment that is deleted isn't found by gc and by emission.
+fn delete(alloc: Global, module: &mut Module, table: TableId) -> Result<(), Fail> {
     if !module.tables.contains(table) {
-        return false;
+        return demand(false, "the table");
     }
     module.tables.delete(table);
-    matches!(gc::run(alloc, &mut module), Err(Error::DeadItem))
-        && matches!(module.emit_wasm(alloc), Err(Error::DeadItem))
+    demand(
+        matches!(gc::run(alloc, module), Err(Error::DeadItem)),
+        "DeadItem of gc",
+    )?;
+    demand(
+        matches!(module.emit_wasm(alloc), Err(Error::DeadItem)),
+        "DeadItem of emission",
+    )
 }
 
 #[test]
 fn a_deleted_table_of_a_segment_is_found(rt: HostRuntime) -> Result<(), Fail> {
-    demand(dead_table_is_found(rt.alloc()), "DeadItem")
+    let (mut module, table) = with_active(rt.alloc())?;
+    delete(rt.alloc(), &mut module, table)
 }
 
 // ---- flags
@@ -167,40 +156,22 @@ fn with_other_type(alloc: Global) -> Result<Module, Error> {
     Ok(module)
 }
 
-fn by_expression(alloc: Global) -> bool {
-    match with_expression(alloc) {
-        Ok(mut module) => is_output(alloc, module.emit_wasm(alloc), BY_EXPRESSION),
-        Err(_) => false,
-    }
-}
-
 #[test]
 fn expressions_of_functions_leave_the_table_out(rt: HostRuntime) -> Result<(), Fail> {
-    demand(by_expression(rt.alloc()), BY_EXPRESSION)
-}
-
-fn in_wide_table(alloc: Global) -> bool {
-    match with_wide_table(alloc) {
-        Ok(mut module) => is_output(alloc, module.emit_wasm(alloc), IN_WIDE_TABLE),
-        Err(_) => false,
-    }
+    let mut module = with_expression(rt.alloc())?;
+    demand_output(rt.alloc(), module.emit_wasm(rt.alloc()), BY_EXPRESSION)
 }
 
 #[test]
 fn a_table_with_wide_indices_is_named(rt: HostRuntime) -> Result<(), Fail> {
-    demand(in_wide_table(rt.alloc()), IN_WIDE_TABLE)
-}
-
-fn of_other_type(alloc: Global) -> bool {
-    match with_other_type(alloc) {
-        Ok(mut module) => is_output(alloc, module.emit_wasm(alloc), OF_OTHER_TYPE),
-        Err(_) => false,
-    }
+    let mut module = with_wide_table(rt.alloc())?;
+    demand_output(rt.alloc(), module.emit_wasm(rt.alloc()), IN_WIDE_TABLE)
 }
 
 #[test]
 fn a_table_of_another_type_is_named(rt: HostRuntime) -> Result<(), Fail> {
-    demand(of_other_type(rt.alloc()), OF_OTHER_TYPE)
+    let mut module = with_other_type(rt.alloc())?;
+    demand_output(rt.alloc(), module.emit_wasm(rt.alloc()), OF_OTHER_TYPE)
 }
 
 // ---- what segments declare
@@ -227,30 +198,22 @@ fn with_declaration(alloc: Global) -> Result<Module, Error> {
     Ok(module)
 }
 
-// Whether emission adds the segment, and a second one nothing.
-fn declares_once(alloc: Global) -> bool {
-    let Ok((mut module, _other)) = with_reference(alloc) else {
-        return false;
-    };
-    is_output(alloc, module.emit_wasm(alloc), REFERRED)
-        && module.elements.len() == 1
-        && is_output(alloc, module.emit_wasm(alloc), REFERRED)
-        && module.elements.len() == 1
+// Fails where emission doesn't add the segment, or a second one adds another.
+fn declare_once(alloc: Global, module: &mut Module) -> Result<(), Fail> {
+    demand_output(alloc, module.emit_wasm(alloc), REFERRED)?;
+    demand(module.elements.len() == 1, "one segment")?;
+    demand_output(alloc, module.emit_wasm(alloc), REFERRED)?;
+    demand(module.elements.len() == 1, "still one segment")
 }
 
 #[test]
 fn emission_declares_a_reference(rt: HostRuntime) -> Result<(), Fail> {
-    demand(declares_once(rt.alloc()), REFERRED)
-}
-
-fn declared_before(alloc: Global) -> bool {
-    match with_declaration(alloc) {
-        Ok(mut module) => is_output(alloc, module.emit_wasm(alloc), REFERRED),
-        Err(_) => false,
-    }
+    let (mut module, _other) = with_reference(rt.alloc())?;
+    declare_once(rt.alloc(), &mut module)
 }
 
 #[test]
 fn a_segment_declares_a_reference(rt: HostRuntime) -> Result<(), Fail> {
-    demand(declared_before(rt.alloc()), REFERRED)
+    let mut module = with_declaration(rt.alloc())?;
+    demand_output(rt.alloc(), module.emit_wasm(rt.alloc()), REFERRED)
 }

@@ -1,9 +1,10 @@
 //! The module that these tests begin with, and what gc leaves of one.
 
 use std::alloc::Global;
+use std::test::Fail;
 use walrus::passes::gc;
 use walrus::{Error, Module, ModuleConfig};
-use walrus_test_support::is_output;
+use walrus_test_support::demand_output;
 
 /// A module that holds nothing, to be written without producers.
 pub(crate) fn bare_module(alloc: Global) -> Result<Module, Error> {
@@ -12,7 +13,8 @@ pub(crate) fn bare_module(alloc: Global) -> Result<Module, Error> {
     Module::with_config(alloc, config)
 }
 
-/// Whether gc passes, and leaves what is written so.
-pub(crate) fn leaves(alloc: Global, module: &mut Module, expected: &str) -> bool {
-    gc::run(alloc, module).is_ok() && is_output(alloc, module.emit_wasm(alloc), expected)
+/// Fails where gc doesn't pass, or leaves what is written otherwise.
+pub(crate) fn demand_left(alloc: Global, module: &mut Module, expected: &str) -> Result<(), Fail> {
+    gc::run(alloc, module)?;
+    demand_output(alloc, module.emit_wasm(alloc), expected)
 }

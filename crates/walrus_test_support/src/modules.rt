@@ -1,7 +1,8 @@
-//! Adding to a module, and looking at what emission answered.
+//! Adding to a module, and failing where emission answered otherwise.
 
 use std::alloc::Global;
-use test_support::are;
+use std::test::Fail;
+use test_support::demand_bytes;
 use walrus::{
     AbstractHeapType, ElementItems, Error, FunctionBuilder, FunctionId, HeapType, Module, RefType,
 };
@@ -28,10 +29,11 @@ pub fn listed(alloc: Global, function: FunctionId) -> Result<ElementItems, Error
     Ok(ElementItems::Functions(functions))
 }
 
-/// Whether emission answered with these bytes, each in two hexadecimal digits.
-pub fn is_output(alloc: Global, emitted: Result<Vec<u8>, Error>, expected: &str) -> bool {
-    match emitted {
-        Ok(bytes) => are(alloc, &bytes, expected),
-        Err(_) => false,
-    }
+/// Fails a test where emission refused, or answered with other bytes than these, and tells the first that differs.
+pub fn demand_output(
+    alloc: Global,
+    emitted: Result<Vec<u8>, Error>,
+    expected: &str,
+) -> Result<(), Fail> {
+    demand_bytes(alloc, &emitted?, expected, expected)
 }

@@ -1,20 +1,28 @@
 //! Tables of modules that the program is run on: what goes in and what has to come out, byte for byte.
 
-use crate::program::{is_invalid, passed, run};
+use crate::program::{ended, is_invalid, run};
 use std::alloc::Global;
 use std::test::Fail;
-use test_support::{add_bytes, demand};
+use test_support::{add_bytes, demand, demand_bytes};
 
-/// Whether the program makes this output of this input.
-pub fn comes_out(alloc: Global, words: &[String], input: &str, output: &str) -> bool {
+/// Fails where the program makes something else of this input than this output, and tells the first byte that differs.
+pub fn demand_comes_out(
+    alloc: Global,
+    words: &[String],
+    input: &str,
+    output: &str,
+) -> Result<(), Fail> {
     let mut bytes = Vec::new(alloc);
-    add_bytes(&mut bytes, input) && passed(alloc, &run(alloc, words, &bytes), output)
+    demand(add_bytes(&mut bytes, input), "memory")?;
+    let outcome = run(alloc, words, &bytes);
+    demand(ended(&outcome, 0, ""), input)?;
+    demand_bytes(alloc, &outcome.output, output, input)
 }
 
 /// Fails where an input comes to something else than its output.
 pub fn each_comes_out(alloc: Global, words: &[String], rows: &[(&str, &str)]) -> Result<(), Fail> {
     for (input, output) in rows {
-        demand(comes_out(alloc, words, input, output), input)?;
+        demand_comes_out(alloc, words, input, output)?;
     }
     Ok(())
 }

@@ -3,7 +3,7 @@
 use crate::devices::{Narrow, Trickle};
 use std::alloc::Global;
 use std::test::Fail;
-use test_support::{add_bytes, are, demand};
+use test_support::{add_bytes, demand, demand_bytes};
 use walrus::tool::{FromRead, FromWrite, command};
 use walrus_test_support::{Outcome, add_words, ended, refused};
 
@@ -36,23 +36,21 @@ fn is_read_refused(alloc: Global, left: &[u8]) -> bool {
     refused(&run_on_failing(alloc, left), 1, "walrus-gc: read failed\n")
 }
 
-fn each_read_is_refused(alloc: Global, whole: &[u8]) -> bool {
+fn each_read_is_refused(alloc: Global, whole: &[u8]) -> Result<(), Fail> {
     for length in 0..whole.len() {
         let (front, _) = whole.split_at(length);
         if !is_read_refused(alloc, front) {
-            return false;
+            return Err(Fail::new(format_args!("a read fails at byte {length}")));
         }
     }
-    true
+    Ok(())
 }
 
 #[test]
 fn a_read_that_fails(rt: HostRuntime) -> Result<(), Fail> {
     let mut whole = Vec::new(rt.alloc());
-    demand(
-        add_bytes(&mut whole, INPUT) && each_read_is_refused(rt.alloc(), &whole),
-        "reads that fail",
-    )
+    demand(add_bytes(&mut whole, INPUT), "memory")?;
+    each_read_is_refused(rt.alloc(), &whole)
 }
 
 // What a run answers and writes, whose sink has this much room.
@@ -86,26 +84,23 @@ fn is_front_written(alloc: Global, input: &[u8], front: &[u8]) -> bool {
         && is_cut_off(&run_into_narrow(alloc, input, front.len(), false), front)
 }
 
-fn each_front_is_written(alloc: Global, input: &[u8], whole: &[u8]) -> bool {
+fn each_front_is_written(alloc: Global, input: &[u8], whole: &[u8]) -> Result<(), Fail> {
     for room in 0..whole.len() {
         let (front, _) = whole.split_at(room);
         if !is_front_written(alloc, input, front) {
-            return false;
+            return Err(Fail::new(format_args!("a write fails at byte {room}")));
         }
     }
-    true
+    Ok(())
 }
 
 #[test]
 fn a_write_that_fails(rt: HostRuntime) -> Result<(), Fail> {
     let mut input = Vec::new(rt.alloc());
     let mut whole = Vec::new(rt.alloc());
-    demand(
-        add_bytes(&mut input, INPUT)
-            && add_bytes(&mut whole, OUTPUT)
-            && each_front_is_written(rt.alloc(), &input, &whole),
-        "writes that fail",
-    )
+    demand(add_bytes(&mut input, INPUT), "memory")?;
+    demand(add_bytes(&mut whole, OUTPUT), "memory")?;
+    each_front_is_written(rt.alloc(), &input, &whole)
 }
 
 // The status of a run that can't tell anything.
@@ -126,23 +121,25 @@ fn untold_status(
     )
 }
 
-// Whether a run writes the output, and a second one, whose refusal can't be told, has the same status and writes nothing.
-fn writes_once(alloc: Global, words: &[String], input: &[u8]) -> bool {
+// Fails where a run doesn't write the output, or a second one, whose refusal can't be told, has another status or writes something.
+fn write_once(alloc: Global, words: &[String], input: &[u8]) -> Result<(), Fail> {
     let mut output = Narrow::new(alloc, 1000, true);
-    untold_status(alloc, words, input, false, &mut output) == 0
-        && are(alloc, &output.taken, OUTPUT)
-        && untold_status(alloc, words, input, true, &mut output) == 1
-        && are(alloc, &output.taken, OUTPUT)
+    let first = untold_status(alloc, words, input, false, &mut output);
+    demand(first == 0, "the status 0")?;
+    demand_bytes(alloc, &output.taken, OUTPUT, "first")?;
+    let second = untold_status(alloc, words, input, true, &mut output);
+    demand(second == 1, "the status 1 of the second")?;
+    demand_bytes(alloc, &output.taken, OUTPUT, "behind the second")
 }
 
 #[test]
 fn one_byte_at_a_time(rt: HostRuntime) -> Result<(), Fail> {
     let mut input = Vec::new(rt.alloc());
     let mut words = Vec::new(rt.alloc());
+    demand(add_bytes(&mut input, INPUT), "memory")?;
     demand(
-        add_bytes(&mut input, INPUT)
-            && add_words(rt.alloc(), &mut words, "--no-producers")
-            && writes_once(rt.alloc(), &words, &input),
-        "one byte at a time",
-    )
+        add_words(rt.alloc(), &mut words, "--no-producers"),
+        "memory",
+    )?;
+    write_once(rt.alloc(), &words, &input)
 }

@@ -1,4 +1,5 @@
-//! Tests of the program: worked modules byte for byte, its words, devices that fail.
+//! Tests of the program: worked modules byte for byte, its words, devices that fail; and of modules that a program edits: what gc and
+//! emission answer then.
 #![tactic(auto)]
 
 #[cfg(test)]
@@ -8,7 +9,11 @@ mod customs;
 #[cfg(test)]
 mod devices;
 #[cfg(test)]
+mod edited;
+#[cfg(test)]
 mod failing;
+#[cfg(test)]
+mod made;
 #[cfg(test)]
 mod rows;
 #[cfg(test)]

@@ -3,7 +3,7 @@
 use std::alloc::Global;
 use std::test::Fail;
 use test_support::demand;
-use walrus_test_support::{add_words, comes_out, each_comes_out, each_is_refused};
+use walrus_test_support::{add_words, demand_comes_out, each_comes_out, each_is_refused};
 
 // Modules that are written as they are read.
 const SAME: [&str; 13] = [
@@ -100,7 +100,7 @@ const INVALID: [&str; 14] = [
 
 fn each_stays(alloc: Global, words: &[String], rows: &[&str]) -> Result<(), Fail> {
     for row in rows {
-        demand(comes_out(alloc, words, row, row), row)?;
+        demand_comes_out(alloc, words, row, row)?;
     }
     Ok(())
 }

@@ -1,6 +1,6 @@
 //! Element segments in the set of their table: what gc keeps of them, and what it finds dead.
 
-use crate::made::{bare_module, leaves};
+use crate::made::{bare_module, demand_left};
 use std::alloc::Global;
 use std::test::Fail;
 use test_support::demand;
@@ -8,7 +8,7 @@ use walrus::passes::gc;
 use walrus::{
     AbstractHeapType, ConstExpr, ElementId, ElementKind, Error, ExportItem, Module, TableId, Value,
 };
-use walrus_test_support::{add_function, is_output, listed, reference};
+use walrus_test_support::{add_function, demand_output, listed, reference};
 
 // An exported table, with it a passive segment of the function, and the function without a segment.
 const KEPT: &str =
@@ -40,50 +40,64 @@ fn with_set(alloc: Global) -> Result<(Module, TableId, ElementId), Error> {
     Ok((module, table, segment))
 }
 
-fn set_is_kept(alloc: Global) -> bool {
-    let Ok((mut module, _table, _segment)) = with_set(alloc) else {
-        return false;
-    };
-    leaves(alloc, &mut module, KEPT)
-}
-
 #[test]
 fn a_segment_in_the_set_of_a_table_stays(rt: HostRuntime) -> Result<(), Fail> {
-    demand(set_is_kept(rt.alloc()), KEPT)
+    let (mut module, _table, _segment) = with_set(rt.alloc())?;
+    demand_left(rt.alloc(), &mut module, KEPT)
 }
 
-fn taken_out_goes(alloc: Global) -> bool {
-    let Ok((mut module, table, segment)) = with_set(alloc) else {
-        return false;
-    };
+// Fails where a segment that is taken out of the set doesn't go.
+fn take_out(
+    alloc: Global,
+    module: &mut Module,
+    table: TableId,
+    segment: ElementId,
+) -> Result<(), Fail> {
     if !module.tables.contains(table) {
-        return false;
+        return demand(false, "the table");
     }
     module.tables.get_mut(table).elem_segments.remove(segment);
-    leaves(alloc, &mut module, EXPORTED)
+    demand_left(alloc, module, EXPORTED)
 }
 
 #[test]
 fn a_segment_taken_out_of_the_set_goes(rt: HostRuntime) -> Result<(), Fail> {
-    demand(taken_out_goes(rt.alloc()), EXPORTED)
+    let (mut module, table, segment) = with_set(rt.alloc())?;
+    take_out(rt.alloc(), &mut module, table, segment)
 }
 
-// Whether a segment that was deleted while it is in the set is found by gc, and is in no one's way where the module is written.
-fn dead_in_set_is_found(alloc: Global) -> bool {
-    let Ok((mut module, _table, segment)) = with_set(alloc) else {
-        return false;
-    };
+// Fails where a segment that is deleted isn't found by gc, which changes nothing, or is in the way where the module is written.
+fn delete(
+    alloc: Global,
+    module: &mut Module,
+    table: TableId,
+    segment: ElementId,
+) -> Result<(), Fail> {
     if !module.elements.contains(segment) {
-        return false;
+        return demand(false, "the segment");
     }
     module.elements.delete(segment);
-    matches!(gc::run(alloc, &mut module), Err(Error::DeadItem))
-        && is_output(alloc, module.emit_wasm(alloc), WITHOUT_SEGMENT)
+    demand(
+        matches!(gc::run(alloc, module), Err(Error::DeadItem)),
+        "DeadItem of gc",
+    )?;
+    demand(has_entered(module, table, segment), "what gc leaves")?;
+    demand_output(alloc, module.emit_wasm(alloc), WITHOUT_SEGMENT)
+}
+
+// Whether the table has the segment in its set, and nothing else of the module went.
+fn has_entered(module: &Module, table: TableId, segment: ElementId) -> bool {
+    module.tables.contains(table)
+        && module.tables.get(table).elem_segments.contains(segment)
+        && module.elements.is_empty()
+        && module.funcs.len() == 1
+        && module.exports.len() == 1
 }
 
 #[test]
 fn a_deleted_segment_in_the_set_is_found(rt: HostRuntime) -> Result<(), Fail> {
-    demand(dead_in_set_is_found(rt.alloc()), "DeadItem")
+    let (mut module, table, segment) = with_set(rt.alloc())?;
+    delete(rt.alloc(), &mut module, table, segment)
 }
 
 // ---- an active segment of an exported table
@@ -112,57 +126,28 @@ fn enter(module: &mut Module, table: TableId, segment: ElementId) -> bool {
     )
 }
 
-// Whether the segment stays though no set has it.
-fn added_stays(alloc: Global) -> bool {
-    let Ok((mut module, _table, segment)) = with_exported(alloc) else {
-        return false;
-    };
-    leaves(alloc, &mut module, ACTIVE_EXPORTED) && module.elements.contains(segment)
+// Fails where the segment doesn't stay with its function.
+fn demand_kept(alloc: Global, module: &mut Module, segment: ElementId) -> Result<(), Fail> {
+    demand_left(alloc, module, ACTIVE_EXPORTED)?;
+    demand(module.elements.contains(segment), "the segment's id")
 }
 
 #[test]
 fn an_active_segment_in_no_set_stays(rt: HostRuntime) -> Result<(), Fail> {
-    demand(added_stays(rt.alloc()), ACTIVE_EXPORTED)
-}
-
-fn entered_stays(alloc: Global) -> bool {
-    let Ok((mut module, table, segment)) = with_exported(alloc) else {
-        return false;
-    };
-    enter(&mut module, table, segment)
-        && leaves(alloc, &mut module, ACTIVE_EXPORTED)
-        && module.elements.contains(segment)
+    let (mut module, _table, segment) = with_exported(rt.alloc())?;
+    demand_kept(rt.alloc(), &mut module, segment)
 }
 
 #[test]
 fn an_active_segment_in_the_set_stays(rt: HostRuntime) -> Result<(), Fail> {
-    demand(entered_stays(rt.alloc()), ACTIVE_EXPORTED)
-}
-
-// Whether the table has the segment in its set, and nothing else of the module went.
-fn has_entered(module: &Module, table: TableId, segment: ElementId) -> bool {
-    module.tables.contains(table)
-        && module.tables.get(table).elem_segments.contains(segment)
-        && module.elements.is_empty()
-        && module.funcs.len() == 1
-        && module.exports.len() == 1
-}
-
-// Whether a segment that was entered and then deleted is found by gc, which changes nothing.
-fn deleted_is_found(alloc: Global) -> bool {
-    let Ok((mut module, table, segment)) = with_exported(alloc) else {
-        return false;
-    };
-    if !enter(&mut module, table, segment) || !module.elements.contains(segment) {
-        return false;
-    }
-    module.elements.delete(segment);
-    matches!(gc::run(alloc, &mut module), Err(Error::DeadItem))
-        && has_entered(&module, table, segment)
-        && is_output(alloc, module.emit_wasm(alloc), WITHOUT_SEGMENT)
+    let (mut module, table, segment) = with_exported(rt.alloc())?;
+    demand(enter(&mut module, table, segment), "new in the set")?;
+    demand_kept(rt.alloc(), &mut module, segment)
 }
 
 #[test]
 fn a_deleted_active_segment_in_the_set_is_found(rt: HostRuntime) -> Result<(), Fail> {
-    demand(deleted_is_found(rt.alloc()), "DeadItem")
+    let (mut module, table, segment) = with_exported(rt.alloc())?;
+    demand(enter(&mut module, table, segment), "new in the set")?;
+    delete(rt.alloc(), &mut module, table, segment)
 }

@@ -4,7 +4,7 @@ use std::alloc::Global;
 use std::test::Fail;
 use test_support::{add_bytes, demand};
 use walrus::{Error, FunctionId, FunctionKind, LocalId, Module, ModuleConfig};
-use walrus_test_support::is_output;
+use walrus_test_support::demand_output;
 
 // An exported function that drops its parameter.
 const UNNAMED: &str =
@@ -48,16 +48,14 @@ fn name_all(alloc: Global, module: &mut Module) -> Result<bool, Error> {
     Ok(true)
 }
 
-fn is_written(alloc: Global, names: bool, expected: &str) -> bool {
-    let Ok(mut module) = read(alloc, names) else {
-        return false;
-    };
-    matches!(name_all(alloc, &mut module), Ok(true))
-        && is_output(alloc, module.emit_wasm(alloc), expected)
+fn demand_written(alloc: Global, names: bool, expected: &str) -> Result<(), Fail> {
+    let mut module = read(alloc, names)?;
+    demand(name_all(alloc, &mut module)?, "the function, its parameter")?;
+    demand_output(alloc, module.emit_wasm(alloc), expected)
 }
 
 #[test]
 fn names_are_written(rt: HostRuntime) -> Result<(), Fail> {
-    demand(is_written(rt.alloc(), true, NAMED), NAMED)?;
-    demand(is_written(rt.alloc(), false, UNNAMED), UNNAMED)
+    demand_written(rt.alloc(), true, NAMED)?;
+    demand_written(rt.alloc(), false, UNNAMED)
 }

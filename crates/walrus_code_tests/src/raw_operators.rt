@@ -1,30 +1,32 @@
-//! Operators, read and written back. They are given as text, in hexadecimal.
+//! Operators over indices, read and written back. They are given as text, in hexadecimal.
 
 use std::alloc::Global;
 use std::test::Fail;
-use test_support::{add_bytes, are, demand};
+use test_support::{add_bytes, demand, demand_bytes};
 use wasm_operators::{RawOperator, is_operator, kinds, read_operator, write_operator};
 
-// Whether the operator is one that bytes spell, and is written so.
-fn is_written(alloc: Global, operator: &RawOperator, text: &str) -> bool {
+// Fails where the operator is none that bytes spell, or isn't written so.
+fn demand_written(alloc: Global, operator: &RawOperator, text: &str) -> Result<(), Fail> {
+    demand(kinds(operator.op).is_some(), text)?;
+    demand(is_operator(operator), text)?;
     let mut written = Vec::new(alloc);
-    kinds(operator.op).is_some()
-        && is_operator(operator)
-        && write_operator(&mut written, operator).is_ok()
-        && are(alloc, &written, text)
+    write_operator(&mut written, operator)?;
+    demand_bytes(alloc, &written, text, text)
 }
 
-// Whether an operator stands there, and nothing behind it, and is written so.
-fn reads(alloc: Global, bytes: &[u8], text: &str) -> bool {
-    match read_operator(alloc, bytes) {
-        Ok((operator, rest)) => rest.is_empty() && is_written(alloc, &operator, text),
-        Err(_) => false,
-    }
+// Fails where no operator stands there, or something behind it, or it isn't written so.
+fn come_back(alloc: Global, bytes: &[u8], text: &str) -> Result<(), Fail> {
+    let Ok((operator, rest)) = read_operator(alloc, bytes) else {
+        return demand(false, text);
+    };
+    demand(rest.is_empty(), text)?;
+    demand_written(alloc, &operator, text)
 }
 
-fn comes_back(alloc: Global, input: &str, output: &str) -> bool {
+fn text_comes_back(alloc: Global, input: &str, output: &str) -> Result<(), Fail> {
     let mut bytes = Vec::new(alloc);
-    add_bytes(&mut bytes, input) && reads(alloc, &bytes, output)
+    demand(add_bytes(&mut bytes, input), "memory")?;
+    come_back(alloc, &bytes, output)
 }
 
 fn is_refused(alloc: Global, input: &str) -> bool {
@@ -78,7 +80,7 @@ const ROWS: [(&str, &str); 24] = [
 #[test]
 fn operators_come_back(rt: HostRuntime) -> Result<(), Fail> {
     for (input, output) in &ROWS {
-        demand(comes_back(rt.alloc(), input, output), input)?;
+        text_comes_back(rt.alloc(), input, output)?;
     }
     Ok(())
 }

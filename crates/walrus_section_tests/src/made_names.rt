@@ -1,11 +1,10 @@
 //! Names that are made of indices, for functions and locals that have none.
 
+use crate::made::demand_left;
 use std::alloc::Global;
 use std::test::Fail;
 use test_support::{add_bytes, demand};
-use walrus::passes::gc;
 use walrus::{Error, Module, ModuleConfig};
-use walrus_test_support::is_output;
 
 // Modules, and what they are written as, once they are read so and what nothing reaches is dropped.
 const ROWS: [(&str, &str); 4] = [
@@ -41,23 +40,17 @@ fn read(alloc: Global, input: &str) -> Result<Module, Error> {
     Module::from_buffer_with_config(alloc, &bytes, &config)
 }
 
-fn leaves(alloc: Global, input: &str, output: &str) -> bool {
-    match read(alloc, input) {
-        Ok(mut module) => {
-            gc::run(alloc, &mut module).is_ok() && is_output(alloc, module.emit_wasm(alloc), output)
-        }
-        Err(_) => false,
-    }
-}
-
-fn each_leaves(alloc: Global, rows: &[(&str, &str)]) -> Result<(), Fail> {
-    for (input, output) in rows {
-        demand(leaves(alloc, input, output), input)?;
-    }
-    Ok(())
+fn demand_named(alloc: Global, input: &str, output: &str) -> Result<(), Fail> {
+    let Ok(mut module) = read(alloc, input) else {
+        return demand(false, input);
+    };
+    demand_left(alloc, &mut module, output)
 }
 
 #[test]
 fn names_are_made(rt: HostRuntime) -> Result<(), Fail> {
-    each_leaves(rt.alloc(), &ROWS)
+    for (input, output) in &ROWS {
+        demand_named(rt.alloc(), input, output)?;
+    }
+    Ok(())
 }

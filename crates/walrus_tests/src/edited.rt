@@ -6,10 +6,10 @@ use std::test::Fail;
 use test_support::demand;
 use walrus::passes::gc;
 use walrus::{
-    AbstractHeapType, ConstExpr, Error, ExportItem, FunctionBuilder, FunctionId, GlobalId,
-    GlobalKind, HeapType, ImportKind, Module, RefType, ValType, Value,
+    AbstractHeapType, ConstExpr, Error, ExportItem, GlobalId, GlobalKind, HeapType, ImportKind,
+    Module, RefType, ValType, Value,
 };
-use walrus_test_support::{is_output, reference};
+use walrus_test_support::{add_function, demand_output, reference};
 
 // What emission refuses with before gc and behind it, where gc passes.
 fn refusals(alloc: Global, edited: Result<Module, Error>) -> Option<(Error, Error)> {
@@ -156,14 +156,15 @@ fn unneeded_import_is_deleted(alloc: Global) -> Result<Module, Error> {
     Ok(module)
 }
 
-// Whether a module isn't written before gc, as an item has no index, and is the empty one behind it.
-fn is_written_behind_gc(alloc: Global, edited: Result<Module, Error>) -> bool {
-    let Ok(mut module) = edited else {
-        return false;
-    };
-    let before = matches!(module.emit_wasm(alloc), Err(Error::NoIndex));
-    let kept = gc::run(alloc, &mut module).is_ok();
-    before && kept && is_output(alloc, module.emit_wasm(alloc), "00 61 73 6D 01 00 00 00")
+// Fails where a module is written before gc, though an item has no index, or isn't the empty one behind it.
+fn is_written_behind_gc(alloc: Global, edited: Result<Module, Error>) -> Result<(), Fail> {
+    let mut module = edited?;
+    demand(
+        matches!(module.emit_wasm(alloc), Err(Error::NoIndex)),
+        "a function that nothing needs, and whose import is deleted",
+    )?;
+    gc::run(alloc, &mut module)?;
+    demand_output(alloc, module.emit_wasm(alloc), "00 61 73 6D 01 00 00 00")
 }
 
 // An imported function that is exported, and which another import names than the one that it says.
@@ -178,16 +179,8 @@ fn another_import_names_it(alloc: Global) -> Result<Module, Error> {
     Ok(module)
 }
 
-// A function of the module.
-fn add_function(alloc: Global, module: &mut Module) -> Result<FunctionId, Error> {
-    let mut builder = FunctionBuilder::new(alloc, &mut module.types, &[], &[])?;
-    builder.func_body().i32_const(1234)?.drop_()?;
-    let local = builder.local_func(Vec::new(alloc))?;
-    module.funcs.add_local(local)
-}
-
-// Whether a function of the module that an import names is found under the names of the import, and isn't written.
-fn local_function_is_imported(alloc: Global) -> Result<bool, Error> {
+// Fails where a function of the module that an import names isn't found under the names of the import, or is written.
+fn import_local_function(alloc: Global) -> Result<(), Fail> {
     let mut module = bare_module(alloc)?;
     let function = add_function(alloc, &mut module)?;
     let import = module
@@ -197,8 +190,13 @@ fn local_function_is_imported(alloc: Global) -> Result<bool, Error> {
         Some(by) => by.id() == import,
         None => false,
     };
+    demand(found, "the import of a function of the module")?;
     let named = matches!(module.imports.get_func("mod", "dummy"), Ok(id) if id == function);
-    Ok(found && named && matches!(module.emit_wasm(alloc), Err(Error::TwoIndices)))
+    demand(named, "the function under the names of its import")?;
+    demand(
+        matches!(module.emit_wasm(alloc), Err(Error::TwoIndices)),
+        "a function of the module that an import names",
+    )
 }
 
 #[test]
@@ -212,18 +210,12 @@ fn imports_and_items_that_do_not_match(rt: HostRuntime) -> Result<(), Fail> {
         lacks_an_index(alloc, import_is_deleted(alloc)),
         "a function whose import is deleted",
     )?;
-    demand(
-        is_written_behind_gc(alloc, unneeded_import_is_deleted(alloc)),
-        "a function that nothing needs, and whose import is deleted",
-    )?;
+    is_written_behind_gc(alloc, unneeded_import_is_deleted(alloc))?;
     demand(
         lacks_an_index(alloc, another_import_names_it(alloc)),
         "a function that another import names",
     )?;
-    demand(
-        matches!(local_function_is_imported(alloc), Ok(true)),
-        "a function of the module that an import names",
-    )
+    import_local_function(alloc)
 }
 
 #[test]

@@ -3,7 +3,7 @@
 use std::alloc::Global;
 use std::test::Fail;
 use test_support::demand;
-use walrus_test_support::{add_words, comes_out, each_comes_out};
+use walrus_test_support::{add_words, demand_comes_out, each_comes_out};
 
 // Modules, and what they are written as without producers.
 const NAMED: [(&str, &str); 7] = [
@@ -150,5 +150,5 @@ const BEHIND: &str =
 
 #[test]
 fn names_stand_before_producers(rt: HostRuntime) -> Result<(), Fail> {
-    demand(comes_out(rt.alloc(), &[], IN_FRONT, BEHIND), IN_FRONT)
+    demand_comes_out(rt.alloc(), &[], IN_FRONT, BEHIND)
 }

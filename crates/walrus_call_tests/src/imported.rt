@@ -1,10 +1,11 @@
 //! Items that are added with the imports that bring them: both name each other, and nothing else changes.
 
+use crate::made::bare_module;
 use std::test::Fail;
 use test_support::demand;
 use walrus::{
     AbstractHeapType, FunctionId, FunctionKind, GlobalId, GlobalKind, ImportId, ImportKind,
-    MemoryId, Module, ModuleConfig, TableId, TagId, TagKind, TypeId, ValType,
+    MemoryId, Module, TableId, TagId, TagKind, TypeId, ValType,
 };
 use walrus_test_support::reference;
 
@@ -116,23 +117,18 @@ fn adds_tag(module: &mut Module, ty: TypeId) -> bool {
     is_import(module, import, ImportKind::Tag(id), "e") && is_tag(module, id, import, ty)
 }
 
-fn adds_each(module: &mut Module) -> bool {
-    let Ok(ty) = module.types.add(&[], &[]) else {
-        return false;
-    };
-    adds_function(module, ty)
-        && adds_table(module)
-        && adds_memory(module)
-        && adds_global(module)
-        && adds_tag(module, ty)
-        && module.imports.len() == 5
+fn add_each(module: &mut Module) -> Result<(), Fail> {
+    let ty = module.types.add(&[], &[])?;
+    demand(adds_function(module, ty), "a function")?;
+    demand(adds_table(module), "a table")?;
+    demand(adds_memory(module), "a memory")?;
+    demand(adds_global(module), "a global")?;
+    demand(adds_tag(module, ty), "a tag")?;
+    demand(module.imports.len() == 5, "five imports")
 }
 
 #[test]
 fn each_kind_of_import(rt: HostRuntime) -> Result<(), Fail> {
-    let added = match Module::with_config(rt.alloc(), ModuleConfig::new()) {
-        Ok(mut module) => adds_each(&mut module),
-        Err(_) => false,
-    };
-    demand(added, "items that are imported")
+    let mut module = bare_module(rt.alloc())?;
+    add_each(&mut module)
 }

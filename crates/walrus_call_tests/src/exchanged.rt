@@ -1,12 +1,13 @@
 //! A function of another module in the place of one of this module.
 
+use crate::made::read;
 use std::alloc::Global;
 use std::mem::swap;
 use std::test::Fail;
-use test_support::{add_bytes, demand};
+use test_support::demand;
 use walrus::passes::gc;
-use walrus::{FunctionId, Module, ModuleConfig};
-use walrus_test_support::is_output;
+use walrus::{FunctionId, Module};
+use walrus_test_support::demand_output;
 
 // Two functions, of which the first is exported, and what is kept where the second stands in its place.
 const TWO_FUNCTIONS: &str =
@@ -48,30 +49,20 @@ fn has_id(module: &Module, place: FunctionId, id: FunctionId) -> bool {
     module.funcs.contains(place) && module.funcs.get(place).id() == id
 }
 
-// Whether a function of another module, with its own id there, stands for the one in whose place it is.
-fn stands_in_its_place(alloc: Global, bytes: &[u8]) -> bool {
-    let mut config = ModuleConfig::new();
-    config.generate_producers_section(false);
-    let (Ok(mut module), Ok(mut other)) = (
-        Module::from_buffer_with_config(alloc, bytes, &config),
-        Module::from_buffer_with_config(alloc, bytes, &config),
-    ) else {
-        return false;
+// Fails where a function of another module, with its own id there, doesn't stand for the one in whose place it is.
+fn stand_in_its_place(alloc: Global, module: &mut Module, other: &mut Module) -> Result<(), Fail> {
+    let Some((first, second)) = two_functions(module) else {
+        return demand(false, "two functions");
     };
-    let (Some((first, second)), Some(_)) = (two_functions(&module), two_functions(&other)) else {
-        return false;
-    };
-    exchange(&mut module, first, &mut other, second)
-        && has_id(&module, first, second)
-        && gc::run(alloc, &mut module).is_ok()
-        && is_output(alloc, module.emit_wasm(alloc), THE_OTHER)
+    demand(exchange(module, first, other, second), "an exchange")?;
+    demand(has_id(module, first, second), "the id of the other")?;
+    gc::run(alloc, module)?;
+    demand_output(alloc, module.emit_wasm(alloc), THE_OTHER)
 }
 
 #[test]
 fn a_function_of_another_module(rt: HostRuntime) -> Result<(), Fail> {
-    let mut bytes = Vec::new(rt.alloc());
-    demand(
-        add_bytes(&mut bytes, TWO_FUNCTIONS) && stands_in_its_place(rt.alloc(), &bytes),
-        TWO_FUNCTIONS,
-    )
+    let mut module = read(rt.alloc(), TWO_FUNCTIONS)?;
+    let mut other = read(rt.alloc(), TWO_FUNCTIONS)?;
+    stand_in_its_place(rt.alloc(), &mut module, &mut other)
 }

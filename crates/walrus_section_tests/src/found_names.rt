@@ -1,17 +1,11 @@
 //! Names that were read, as a program finds them: by name, and with the items.
 
-use crate::rows::ALL;
-use std::alloc::Global;
+use crate::made::read;
+use crate::names::ALL;
 use std::test::Fail;
-use test_support::{add_bytes, demand, is_name};
+use test_support::{demand, is_name};
+use walrus::Module;
 use walrus::passes::gc;
-use walrus::{Error, Module};
-
-fn read(alloc: Global, text: &str) -> Result<Module, Error> {
-    let mut bytes = Vec::new(alloc);
-    add_bytes(&mut bytes, text);
-    Module::from_buffer(alloc, &bytes)
-}
 
 fn finds_functions(module: &Module) -> bool {
     match module.exports.get_func("f") {
@@ -89,33 +83,40 @@ fn others_are_named(module: &Module, local: &str, elements: &str, data: &str) ->
         && is_first_data(module, data)
 }
 
-fn is_found(module: &Module) -> bool {
-    is_name(&module.name, "m")
-        && finds_functions(module)
-        && module.funcs.by_name("dead").is_some()
-        && first_are_named(module, "gone", "t0", "m0", "g0")
-        && others_are_named(module, "p", "e0", "d0")
+// Fails where not all is found, also what nothing reaches.
+fn find_all(module: &Module) -> Result<(), Fail> {
+    demand(is_name(&module.name, "m"), "the module's name")?;
+    demand(finds_functions(module), "functions")?;
+    demand(module.funcs.by_name("dead").is_some(), "the dead one")?;
+    demand(
+        first_are_named(module, "gone", "t0", "m0", "g0"),
+        "the first type, table, memory and global",
+    )?;
+    demand(
+        others_are_named(module, "p", "e0", "d0"),
+        "the first local and segments",
+    )
 }
 
 // The same, once what nothing reaches is dropped.
-fn is_found_alone(module: &Module) -> bool {
-    is_name(&module.name, "m")
-        && finds_functions(module)
-        && module.funcs.by_name("dead").is_none()
-        && first_are_named(module, "tv", "t", "mem", "g")
-        && others_are_named(module, "p", "e", "d")
-}
-
-fn finds_before_and_behind(alloc: Global) -> bool {
-    match read(alloc, ALL) {
-        Ok(mut module) => {
-            is_found(&module) && gc::run(alloc, &mut module).is_ok() && is_found_alone(&module)
-        }
-        Err(_) => false,
-    }
+fn find_reached(module: &Module) -> Result<(), Fail> {
+    demand(is_name(&module.name, "m"), "the module's name behind gc")?;
+    demand(finds_functions(module), "functions behind gc")?;
+    demand(module.funcs.by_name("dead").is_none(), "no dead one")?;
+    demand(
+        first_are_named(module, "tv", "t", "mem", "g"),
+        "the first type, table, memory and global behind gc",
+    )?;
+    demand(
+        others_are_named(module, "p", "e", "d"),
+        "the first local and segments behind gc",
+    )
 }
 
 #[test]
 fn names_are_found(rt: HostRuntime) -> Result<(), Fail> {
-    demand(finds_before_and_behind(rt.alloc()), ALL)
+    let mut module = read(rt.alloc(), ALL)?;
+    find_all(&module)?;
+    gc::run(rt.alloc(), &mut module)?;
+    find_reached(&module)
 }
