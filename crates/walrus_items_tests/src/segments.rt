@@ -7,16 +7,33 @@ use walrus_base::DataId;
 use walrus_ir::{AbstractHeapType, ConstExpr, HeapType, RefType, Value};
 use walrus_items::{DataKind, Element, ElementItems, ElementKind, ModuleData, ModuleElements};
 
-fn clones_active(alloc: Global, element: &Element) -> bool {
-    matches!(
-        element.kind.try_clone(alloc),
-        Ok(ElementKind::Active { .. })
-    ) && matches!(element.items.try_clone(alloc), Ok(ElementItems::Expressions(_, all)) if all.len() == 1)
+fn is_declared(kind: &ElementKind) -> bool {
+    matches!(kind, ElementKind::Declared)
 }
 
-fn clones_declared(alloc: Global, element: &Element) -> bool {
-    matches!(element.kind.try_clone(alloc), Ok(ElementKind::Declared))
-        && matches!(element.items.try_clone(alloc), Ok(ElementItems::Functions(all)) if all.len() == 1)
+fn is_kind_cloned(alloc: Global, kind: &ElementKind) -> bool {
+    match kind.try_clone(alloc) {
+        Ok(copy) => is_declared(&copy) == is_declared(kind),
+        Err(_) => false,
+    }
+}
+
+fn length_of(items: &ElementItems) -> usize {
+    match items {
+        ElementItems::Functions(all) => all.len(),
+        ElementItems::Expressions(_, all) => all.len(),
+    }
+}
+
+fn are_items_cloned(alloc: Global, items: &ElementItems) -> bool {
+    match items.try_clone(alloc) {
+        Ok(copy) => length_of(&copy) == length_of(items),
+        Err(_) => false,
+    }
+}
+
+fn is_cloned(alloc: Global, element: &Element) -> bool {
+    is_kind_cloned(alloc, &element.kind) && are_items_cloned(alloc, &element.items)
 }
 
 fn add_active(alloc: Global, elements: &mut ModuleElements) -> Result<(), Fail> {
@@ -36,7 +53,7 @@ fn add_active(alloc: Global, elements: &mut ModuleElements) -> Result<(), Fail> 
         "an active segment",
     )?;
     demand(
-        elements.contains(id) && clones_active(alloc, elements.get(id)),
+        elements.contains(id) && is_cloned(alloc, elements.get(id)),
         "its clones",
     )
 }
@@ -47,7 +64,7 @@ fn add_declared(alloc: Global, elements: &mut ModuleElements) -> Result<(), Fail
     let id = elements.add(ElementKind::Declared, ElementItems::Functions(functions))?;
     demand(id.index() == 1, "a declared segment")?;
     demand(
-        elements.contains(id) && clones_declared(alloc, elements.get(id)),
+        elements.contains(id) && is_cloned(alloc, elements.get(id)),
         "its clones",
     )
 }
