@@ -157,7 +157,7 @@ fn unneeded_import_is_deleted(alloc: Global) -> Result<Module, Error> {
 }
 
 // Fails where a module is written before gc, though an item has no index, or isn't the empty one behind it.
-fn is_written_behind_gc(alloc: Global, edited: Result<Module, Error>) -> Result<(), Fail> {
+fn demand_written_behind_gc(alloc: Global, edited: Result<Module, Error>) -> Result<(), Fail> {
     let mut module = edited?;
     demand(
         matches!(module.emit_wasm(alloc), Err(Error::NoIndex)),
@@ -210,7 +210,7 @@ fn imports_and_items_that_do_not_match(rt: HostRuntime) -> Result<(), Fail> {
         lacks_an_index(alloc, import_is_deleted(alloc)),
         "a function whose import is deleted",
     )?;
-    is_written_behind_gc(alloc, unneeded_import_is_deleted(alloc))?;
+    demand_written_behind_gc(alloc, unneeded_import_is_deleted(alloc))?;
     demand(
         lacks_an_index(alloc, another_import_names_it(alloc)),
         "a function that another import names",
