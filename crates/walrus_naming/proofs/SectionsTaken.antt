@@ -45,14 +45,6 @@ pub bounds_stay : (old new : Namer) (refuses : Namer → Named → WireError →
     → bounds_of new.bounds ≡ bounds_of old.bounds
 bounds_stay old new refuses X x bytes (names, (read, handed)) = ap (λ (p : Bounds × Shown). p.0) (handed ∙ told (bounds_of old.bounds) (shown old.contents) names)
 
--- a section of another name
-pub passed_over : (b : Bounds) (c : wire.Custom) (old : Shown) → bytes_eq c.name (codes "name") ≡ false → TakesNames b (c ∷ []) old old
-passed_over b c old is = record {
-  namings = [];
-  read = subst (λ ps. AllZip (Names (is_known b.starts)) ps []) (sym (passed c false is)) tt;
-  are = refl;
-}
-
 -- ---- section by section
 
 payloads-append : (xs ys : List wire.Custom) → name_payloads (xs ++ ys) ≡ name_payloads xs ++ name_payloads ys
@@ -91,9 +83,3 @@ one_more_section b own xs i d old middle new lt same h k =
 -- all of them
 pub all_taken : (b : Bounds) (xs : List RawCustom) (i : ℕ) (old new : Shown) → length xs ≤ i → TakesNames b (map custom_record (take i xs)) old new → TakesNames b (map custom_record xs) old new
 all_taken b xs i old new le h = subst (λ l. TakesNames b (map custom_record l) old new) (take_all i xs le) h
-
--- ---- a test and its opposite
-
-pub turned : (r t b : Bool) → r ≡ t → r ≡ not b → b ≡ not t
-turned r t true p q = sym (ap not (sym p ∙ q))
-turned r t false p q = sym (ap not (sym p ∙ q))

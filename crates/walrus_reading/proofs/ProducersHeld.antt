@@ -74,10 +74,6 @@ one_more_section xs i d a b c lt h k =
 
 -- ---- one section
 
-pub turned : (r t b : Bool) → r ≡ t → r ≡ not b → b ≡ not t
-turned r t true p q = sym (ap not (sym p ∙ q))
-turned r t false p q = sym (ap not (sym p ∙ q))
-
 passed : (c : wire.Custom) (b : Bool) → bytes_eq c.name (codes "producers") ≡ b → read_from (c ∷ []) ≡ map (λ (d : wire.Custom). d.bytes) (cond b (c ∷ []) [])
 passed c b is = ap (λ (t : Bool). map (λ (d : wire.Custom). d.bytes) (cond t (c ∷ []) [])) is
 
@@ -86,13 +82,6 @@ fields_read c fields old new is read are = record {
   fields = fields ∷ [];
   read = subst (λ ps. AllZip Fields ps (fields ∷ [])) (sym (passed c true is)) (read, tt);
   are = are ∙ ap (λ l. old ++ l) (sym (append-nil (map field_of fields)));
-}
-
-pub passed_over : (c : wire.Custom) (old : List ProducerField) → bytes_eq c.name (codes "producers") ≡ false → AddsSections (c ∷ []) old old
-passed_over c old is = record {
-  fields = [];
-  read = subst (λ ps. AllZip Fields ps []) (sym (passed c false is)) tt;
-  are = sym (append-nil old);
 }
 
 -- ---- all of them, and this program

@@ -267,13 +267,16 @@ module _ (p : Parts) (job : Task) (names : Lookup) (named : names ≡ job.names)
   })
 
   -- the module of these sections
-  module _ (m : wire.Module) (code : List wire.Body) (customs : List wire.Custom) (sections : m ≡ sections_with (map group raws) (map import_entry raw_imports) raw_functions (map table_entry raw_tables) raw_memories raw_tags (map global_entry raw_globals) (map export_entry exported) started (map element_entry raw_elements) count code (map data_entry raw_segments) customs) (codes : code ≡ map (λ (b : WrittenBody). unplaced b.bytes.items) bodies) (customs_are : customs ≡ job.sections ++ sections_made names_given producers_chosen) where
+  module _ (order : List ℕ) (code : List wire.Body) (customs : List wire.Custom) (none : order ≡ []) (codes : code ≡ map (λ (b : WrittenBody). unplaced b.bytes.items) bodies) (customs_are : customs ≡ job.sections ++ sections_made names_given producers_chosen) where
     abbrev with_rest : List wire.Body → List wire.Custom → wire.Module
     with_rest all behind = sections_with (map group raws) (map import_entry raw_imports) raw_functions (map table_entry raw_tables) raw_memories raw_tags (map global_entry raw_globals) (map export_entry exported) started (map element_entry raw_elements) count all (map data_entry raw_segments) behind
 
+    abbrev m : wire.Module
+    m = record (with_rest code customs) { order = order }
+
     module_is : m ≡ module_of records_of (customs_written job records_of)
     module_is =
-        sections
+        ap (λ (ids : List ℕ). record (with_rest code customs) { order = ids }) none
         ∙ ap (λ (all : List wire.Body). with_rest all customs) (codes ∙ sym (map-map unplaced (λ (b : WrittenBody). b.bytes.items) bodies))
         ∙ ap (with_rest (map unplaced (map (λ (b : WrittenBody). b.bytes.items) bodies))) (customs_are ∙ ap (λ (names : NameText). job.sections ++ sections_made names producers_chosen) names_same)
 

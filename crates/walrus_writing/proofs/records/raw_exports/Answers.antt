@@ -22,7 +22,7 @@ loop-export-preserved c =
           ∙ list_turn (λ e. Some (export_entry e)) (λ v. export_with_index (index_of c.args.indices.now) (export_of v)) c.loop-export.raw.items c.in-Some-raw_export.one _ _ _ all c.loop-export.invariant.3 c.in-Some.ensures.steps c.in-Some-raw_export.ensures.value,
     )
 
-pub returns-in_default-clause-fails : goal.returns-in_default-clause-fails
-returns-in_default-clause-fails c =
+pub unreachable-requires : goal.unreachable-requires
+unreachable-requires c =
     let all = map (λ v. export_with_index (index_of c.args.indices.now) (export_of v)) (items (exports c.args.all_exports.now)) in
-    absurd (next_has (map (λ e. Some (export_entry e)) c.loop-export.raw.items) (λ v. export_with_index (index_of c.args.indices.now) (export_of v)) _ _ _ all c.loop-export.invariant.3 c.in-Some.ensures.steps c.requires.indexed c.in_default.ensures.value)
+    next_has (map (λ e. Some (export_entry e)) c.loop-export.raw.items) (λ v. export_with_index (index_of c.args.indices.now) (export_of v)) _ _ _ all c.loop-export.invariant.3 c.in-Some.ensures.steps c.requires.indexed c.in_default.ensures.value

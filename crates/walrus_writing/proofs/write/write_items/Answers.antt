@@ -138,7 +138,7 @@ returns-in_err-bytes-clause-refused c =
     c.in_ok-made.ensures.bodies
     plan.elements c.in_ok-elements.ensures.value c.in_ok-elements.ensures.stand c.in_ok-elements.ensures.chosen c.in_ok-elements.ensures.spelled
     plan.data_segments c.in_ok-data_segments.ensures.value c.in_ok-data_segments.ensures.stand c.in_ok-data_segments.ensures.spelled plan.data_count
-    _ _ _ refl (c.in_ok-code.ensures.value ∙ ap (map (λ (b : WrittenBody). unplaced b.bytes.items)) c.as_slice.ensures.value)
+    _ _ _ c.new.ensures.items (c.in_ok-code.ensures.value ∙ ap (map (λ (b : WrittenBody). unplaced b.bytes.items)) c.as_slice.ensures.value)
     (c.in_ok-customs.ensures.value ∙ ap (λ l. map custom_record c.args.own.now ++ l) (sections_given said producers c.in_ok-made.made.payloads (c.is_none.ensures ∙ ap not c.if-is_none.false) c.in_ok-made.ensures.payloads)) (Vec ℕ) _ c.in_err-bytes.ensures)
 
 pub returns-then-is_none-clause-refused : goal.returns-then-is_none-clause-refused
@@ -181,5 +181,5 @@ returns-clause-spells c =
     c.in_ok-made.ensures.bodies
     plan.elements c.in_ok-elements.ensures.value c.in_ok-elements.ensures.stand c.in_ok-elements.ensures.chosen c.in_ok-elements.ensures.spelled
     plan.data_segments c.in_ok-data_segments.ensures.value c.in_ok-data_segments.ensures.stand c.in_ok-data_segments.ensures.spelled plan.data_count
-    _ _ _ refl (c.in_ok-code.ensures.value ∙ ap (map (λ (b : WrittenBody). unplaced b.bytes.items)) c.as_slice.ensures.value)
+    _ _ _ c.new.ensures.items (c.in_ok-code.ensures.value ∙ ap (map (λ (b : WrittenBody). unplaced b.bytes.items)) c.as_slice.ensures.value)
     (c.in_ok-customs.ensures.value ∙ ap (λ l. map custom_record c.args.own.now ++ l) (sections_given said producers c.in_ok-made.made.payloads (c.is_none.ensures ∙ ap not c.if-is_none.false) c.in_ok-made.ensures.payloads)) c.in_ok-bytes.bytes.items c.in_ok-bytes.ensures.0 c.in_ok-bytes.ensures.1
