@@ -1,0 +1,91 @@
+#!/usr/bin/env python3
+"""What tests/refused.sh does: refused.py PROGRAM LIBRARY FOLDER.., of which a folder that isn't there is passed over.
+
+LIBRARY is refused.c as a shared library. A module's words stand in NAME.args, one a line, where that is there.
+"""
+import os
+import pathlib
+import resource
+import subprocess
+import sys
+
+# Of larger modules only the address space is made less.
+MOST_BYTES = 6_000
+OUT_OF_MEMORY = (1, b"", b"walrus-gc: out of memory\n")
+# Rows whose counts lie, and under how many bytes of address space they have to be answered as with ample memory.
+LYING_ROWS = ("01-20", "R12.3")
+LITTLE = 64 << 20
+# From one try to the next, and where that begins.
+SHARE, AMPLE = 0.9, 1 << 30
+
+
+def run(command, data, space=None, **how):
+    """Status, output and what is told of a run, within so much address space."""
+    limit = space and (lambda: resource.setrlimit(resource.RLIMIT_AS, (space, space)))
+    ran = subprocess.run(command, input=data, capture_output=True, preexec_fn=limit, timeout=120, check=False, **how)
+    return ran.returncode, ran.stdout, ran.stderr
+
+
+def words_of(path):
+    words = path.with_suffix(".args")
+    return words.read_text(encoding="utf-8").splitlines() if words.exists() else []
+
+
+def requests_of(command, data, library):
+    """How a run with ample memory ends, and how many requests it makes."""
+    reader, writer = os.pipe()
+    ample = run(command, data, env={**os.environ, "LD_PRELOAD": library, "REFUSED": "0", "TOLD": str(writer)}, pass_fds=(writer,))
+    os.close(writer)
+    with os.fdopen(reader) as told:
+        return ample, int(told.read())
+
+
+def refused_in_turn(command, data, library):
+    """The runs of which one request each fails: how many, and those that end as none should."""
+    ample, count = requests_of(command, data, library)
+    for number in range(1, count + 1):
+        ended = run(command, data, env={**os.environ, "LD_PRELOAD": library, "REFUSED": str(number)})
+        yield number, None if ended in (ample, OUT_OF_MEMORY) else ended
+
+
+def starts(program, space):
+    """Whether the program is started at all within so much address space: an unknown word is answered then."""
+    return run([program, "--unknown"], b"", space)[0] == 2
+
+
+def in_less_space(program, command, data):
+    """The same of runs within less and less address space."""
+    ample, space = run(command, data), AMPLE
+    while starts(program, space):
+        ended = run(command, data, space)
+        yield f"{space >> 20} MB", None if ended in (ample, OUT_OF_MEMORY) else ended
+        space = int(space * SHARE)
+
+
+def lies(path, command, data):
+    """A row whose counts lie, in little space."""
+    if path.stem in LYING_ROWS:
+        ended = run(command, data, LITTLE)
+        yield f"{LITTLE >> 20} MB", None if ended == run(command, data) else ended
+
+
+def main():
+    program, library, *folders = sys.argv[1:]
+    runs = finds = 0
+    for path in (it for folder in folders for it in sorted(pathlib.Path(folder).glob("*.wasm"))):
+        data, command, is_row = path.read_bytes(), [program, *words_of(path)], path.parent.name == "rows"
+        tries = [*lies(path, command, data)]
+        if len(data) <= MOST_BYTES:
+            tries += refused_in_turn(command, data, library)
+        if not is_row:
+            tries += in_less_space(program, command, data)
+        for what, ended in tries:
+            runs += 1
+            if ended:
+                finds += 1
+                print(f"FIND {path.name}, {what}: status {ended[0]}, {len(ended[1])} bytes, {ended[2][:80]!r}")
+    print(f"tests/refused.sh: {runs} runs with less memory, {finds} finds")
+    sys.exit(finds > 0 or runs == 0)
+
+
+main()
