@@ -7,13 +7,15 @@ Refused are: a file of src that doesn't begin with `//!`, or has more than 800 l
 a body of a function of more than 40 lines; a bare hexadecimal number in src or specs outside the files that name such numbers; a
 README.md of more than 100 lines, or with one of more than 100 columns; a crate that crates.txt lists for another one whose files don't
 name it; more ways down the crates than rt can sum up in a few minutes; more wrong edits in the gate than its time allows; a wrong edit, of the gate or of tests/edits, whose old
-text doesn't stand exactly once in its file; a page docs/CALLS.md that isn't what tests/calls.py makes of the sources; and a file of
-definitions that docs/DEFINITIONS.md doesn't name.
+text doesn't stand exactly once in its file; a page docs/CALLS.md that isn't what tests/calls.py makes of the sources; a file of
+definitions that docs/DEFINITIONS.md doesn't name; and a file that isn't in the layout of `rt fmt`.
 """
 import collections
+import concurrent.futures
 import functools
 import pathlib
 import re
+import shutil
 import subprocess
 import sys
 
@@ -231,10 +233,29 @@ def wrong_in_pages():
             yield f"docs/DEFINITIONS.md doesn't name {name_of(path)}"
 
 
+def wrong_in_layout_of(rattle, crate):
+    files = sorted(path for part in ("src", "specs", "proofs") for path in (crate / part).rglob("*") if path.suffix in (".rt", ".antt"))
+    told = subprocess.run([rattle, "fmt", "--check", *files], capture_output=True, text=True, check=False)
+    return re.findall(r"(?m)^(.*) is not in the layout$", told.stdout + told.stderr)
+
+
+def wrong_in_layout():
+    """Files that `rt fmt` would write otherwise: `rt ci` refuses a crate with one, after all below it is proved."""
+    rt = shutil.which("rt")
+    if not rt:
+        yield "there is no command rt, so nothing tells whether the files are in its layout"
+        return
+    rattle = pathlib.Path(rt).resolve().parent / "rattle"
+    with concurrent.futures.ThreadPoolExecutor(4) as pool:
+        for files in pool.map(functools.partial(wrong_in_layout_of, rattle), sorted(CRATES.iterdir())):
+            for file in files:
+                yield f"{name_of(pathlib.Path(file))} isn't in the layout of `rt fmt`"
+
+
 def main():
     checks = (
         wrong_in_sources, wrong_in_clauses, wrong_in_bodies, wrong_in_numbers, wrong_in_readme, wrong_in_crates, wrong_in_ways, wrong_in_gate,
-        wrong_in_edits, wrong_in_pages)
+        wrong_in_edits, wrong_in_pages, wrong_in_layout)
     wrong = [line for check in checks for line in check()]
     for line in wrong:
         print(line)

@@ -2,7 +2,7 @@
 # Copies each module of a folder with the built program, which also reads the copy and compares the records, and copies the
 # copy, which has to stay as it is. Compares the names that the program lists with those that other tools found (tests/names),
 # first those of the program's stored run. Then reads each body of each module as operators over ids, writes it, reads what was
-# written, and compares, with the built program wasm_bodies. Last runs walrus_gc over each module, and compares what comes out with what went
+# written, and compares, with the built program wasm_bodies. Before all of that it looks whether walrus_gc gets its words. Last runs walrus_gc over each module, and compares what comes out with what went
 # in (kept.py, which says in what). Prints a line a file and the counts. `.ci/run` runs it behind the gate.
 # tests/samples.sh [FOLDER..], where none is given tests/samples and, where it is there, ../shared/samples.
 set -eu
@@ -46,6 +46,31 @@ is_listed() {
 is_same() {
   "$bodies" < "$1" 2> "$files/told" || { echo "status $?: $(cat "$files/told")"; return 1; }
 }
+
+# Writes the bytes that the digits say.
+bytes() {
+  printf "$(sed 's/../\\x&/g' <<< "$1")"
+}
+
+# Whether the program gets each of its words: over a module with names and a legacy try two words leave the names out and add no producers,
+# and a third refuses it.
+are_heard() {
+  bytes "0061736D0100000001080260000060017F00030201000D03010001070501016600000A0C010A00067F410007000B1A0B000F046E616D650002016D010401000161" > "$files/named"
+  bytes "0061736D01000000010D0360000060017F0060017F017F030201000D03010001070501016600000A0C010A00067F410007000B1A0B" > "$files/wanted"
+  "$smaller" --no-names --no-producers < "$files/named" > "$files/heard" 2> "$files/told" || { echo "status $?: $(cat "$files/told")"; return 1; }
+  cmp -s "$files/heard" "$files/wanted" || { echo "other bytes at two words"; return 1; }
+  if "$smaller" --no-names --no-producers --no-legacy < "$files/named" > "$files/heard" 2> "$files/told"; then
+    echo "not refused at three words"
+    return 1
+  fi
+  [ "$(cat "$files/told")" = "walrus-gc: The input WebAssembly is invalid" ] && [ ! -s "$files/heard" ] || { echo "not refused as invalid"; return 1; }
+}
+
+if told=$(are_heard); then
+  echo "the words of walrus_gc: heard"
+else
+  echo "the words of walrus_gc: FAILED: $told" && exit 1
+fi
 
 if told=$(is_listed "$top/crates/wasm_copy/stdin" "$top/tests/names/every.txt"); then
   echo "the stored run: $told"

@@ -17,6 +17,7 @@ use Rattle.walrus_rules.specs.Refused.{Refusal, Memory, DeadItem, NoIndex, TwoIn
 use Rattle.walrus_rules.specs.RunLaws.{AreFine, IsFew}
 use Rattle.walrus_rules.proofs.NoCause.{well_no_cause}
 use Rattle.walrus_rules.proofs.Runs.{runs_few, runs_fine, runs_too_large}
+use Rattle.walrus_rules.proofs.SettleAll.{runs_settle}
 use Rattle.walrus_rules.proofs.StepParsed.{live_v}
 use Rattle.walrus_rules.proofs.StepRead.{read_is_plain, steps_come_out_lem}
 use Rattle.walrus_rules.proofs.WellStays.{collected_well}
@@ -28,7 +29,7 @@ use Rattle.walrus_module.specs.Flags.{Flags, config_of}
 use Rattle.walrus_module.specs.Left.{LeavesBy}
 use Rattle.walrus_parts.specs.declared.error.Error.{Error}
 use Rattle.walrus_parts.specs.declared.error.Error.TheVariants as error
-use Rattle.walrus.specs.Headline.{ComesTo, ComesOutTooLarge, Answers}
+use Rattle.walrus.specs.Headline.{Accepts, Answers, ComesOut, ComesTo, ComesOutTooLarge, RunsOn}
 use Rattle.walrus.specs.Marked.{ReachesSound, ReachesUnsound}
 use Rattle.walrus.specs.Used.{RefusesSearch}
 
@@ -103,8 +104,10 @@ module _ (c : Config) (bytes : List ℕ) (v w : Abstract) (parsed : IsParsed c b
 
 module _ {X : Type 0} (c : Config) (view : X → List ℕ) where
   answers_for : (bytes : List ℕ) (v w u : Abstract) (result : Result X Error) → IsParsed c bytes v → Collected v w → LeavesBy w u (told result)
-      → IfOk result (λ o. IsEmitted c u (view o)) → RefusesToWrite ⊥ c u (told result) → Answers c bytes view result
-  answers_for bytes v w u (Ok x) parsed collected left emitted refused = comes_to c bytes v w parsed collected u left (view x) emitted
+      → IfOk result (λ o. IsEmitted c u (view o)) → RefusesToWrite ⊥ c u (told result) → RunsOn c bytes view result
+  answers_for bytes v w u (Ok x) parsed collected left emitted refused =
+      let comes = comes_to c bytes v w parsed collected u left (view x) emitted in
+      record { comes = comes; settled = λ before first. runs_settle c before bytes (view x) first comes }
   answers_for bytes v w u (Err (error.Memory e)) parsed collected left emitted refused = tt
   answers_for bytes v w u (Err error.TooLarge) parsed collected left emitted refused = too_large c bytes v w parsed collected u left refused
   answers_for bytes v w u (Err error.DeadItem) parsed collected left emitted refused = absurd (nothing_dead_left c bytes v w parsed collected (subst HasDead left refused))
@@ -123,23 +126,25 @@ module _ {X : Type 0} (c : Config) (view : X → List ℕ) where
 
   -- what emission answers is the answer for the bytes
   pub answers : (bytes text : List ℕ) → text ≡ bytes → (v w u : Abstract) (result : Result X Error) → IsParsed c text v → Collected v w → LeavesBy w u (told result)
-      → IfOk result (λ o. IsEmitted c u (view o)) → RefusesToWrite ⊥ c u (told result) → Answers c bytes view result
+      → IfOk result (λ o. IsEmitted c u (view o)) → RefusesToWrite ⊥ c u (told result) → RunsOn c bytes view result
   answers bytes text same v w u result parsed collected left emitted refused =
-      subst (λ (b : List ℕ). Answers c b view result) same (answers_for text v w u result parsed collected left emitted refused)
+      subst (λ (b : List ℕ). RunsOn c b view result) same (answers_for text v w u result parsed collected left emitted refused)
 
-  gc_refused : (Q : Type 0) (bytes : List ℕ) (v : Abstract) (e : Error) → IsParsed c bytes v → (Q → ⊥) → RefusesSearch (ReachesUnsound v) Q e → Answers c bytes view (Err e)
-  gc_refused Q bytes v (error.Memory m) parsed never h = tt
-  gc_refused Q bytes v error.DeadItem parsed never h = absurd (sound_read c bytes v parsed h)
-  gc_refused Q bytes v (error.Caller text) parsed never h = absurd (never h)
-  gc_refused Q bytes v _ parsed never h = absurd h
+  -- a search of what was parsed is refused for want of memory alone, where no custom section may refuse, whatever is made of it
+  pub search_refused : (Makes : List ℕ → List ℕ → Type 0) (IsLarge : List ℕ → Type 0) (Q : Type 0) (bytes : List ℕ) (v : Abstract) (e : Error) → IsParsed c bytes v → (Q → ⊥) → RefusesSearch (ReachesUnsound v) Q e
+      → Answers Makes (Accepts c) IsLarge bytes view (Err e)
+  search_refused Makes IsLarge Q bytes v (error.Memory m) parsed never h = tt
+  search_refused Makes IsLarge Q bytes v error.DeadItem parsed never h = absurd (sound_read c bytes v parsed h)
+  search_refused Makes IsLarge Q bytes v (error.Caller text) parsed never h = absurd (never h)
+  search_refused Makes IsLarge Q bytes v _ parsed never h = absurd h
 
   -- so is a refusal of gc, which is for want of memory where no custom section may refuse
   pub answers_gc : (Q : Type 0) (bytes text : List ℕ) → text ≡ bytes → (v : Abstract) (e : Error) (result : Result X Error)
-      → IsParsed c text v → (Q → ⊥) → RefusesSearch (ReachesUnsound v) Q e → IsErrAnd result (λ f. f ≡ e) → Answers c bytes view result
+      → IsParsed c text v → (Q → ⊥) → RefusesSearch (ReachesUnsound v) Q e → IsErrAnd result (λ f. f ≡ e) → RunsOn c bytes view result
   answers_gc Q bytes text same v e result parsed never refused given =
       let known = err_from_is_err_and result given in
-      subst (λ (r : Result X Error). Answers c bytes view r) (sym (known.1 ∙ ap Err known.2))
-      (subst (λ (b : List ℕ). Answers c b view (Err e)) same (gc_refused Q text v e parsed never refused))
+      subst (λ (r : Result X Error). RunsOn c bytes view r) (sym (known.1 ∙ ap Err known.2))
+      (subst (λ (b : List ℕ). RunsOn c b view (Err e)) same (search_refused (ComesOut c) (ComesOutTooLarge c) Q text v e parsed never refused))
 
 -- where no custom section that is asked may refuse, none does
 none_refused : {X : Type 0} (Q : Type 0) → (Q → ⊥) → (c : Config) (u : Abstract) (result : Result X Refusal) → RefusesToWrite Q c u result → RefusesToWrite ⊥ c u result
@@ -156,7 +161,7 @@ none_refused Q never c u (Err Another) r = r
 -- the same as emission says it of the flags that the module keeps, and of what custom sections refuse
 pub answers_kept : {X : Type 0} (view : X → List ℕ) (Q : Type 0) → (Q → ⊥) → (f g : Flags) → g ≡ f → (bytes text : List ℕ) → text ≡ bytes → (v w u : Abstract) (result : Result X Error)
     → IsParsed (config_of f) text v → Collected v w → LeavesBy w u (told result)
-    → IfOk result (λ o. IsEmitted (config_of g) u (view o)) → RefusesToWrite Q (config_of g) u (told result) → Answers (config_of f) bytes view result
+    → IfOk result (λ o. IsEmitted (config_of g) u (view o)) → RefusesToWrite Q (config_of g) u (told result) → RunsOn (config_of f) bytes view result
 answers_kept view Q never f g keeps bytes text same v w u result parsed collected left emitted refused =
     answers (config_of f) view bytes text same v w u result parsed collected left
     (subst (λ (h : Flags). IfOk result (λ o. IsEmitted (config_of h) u (view o))) keeps emitted)

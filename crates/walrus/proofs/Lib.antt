@@ -1,5 +1,7 @@
 pub mod DeviceLemmas
 pub mod HeadlineLemmas
+pub mod ReportLemmas
+pub mod ReportedLemmas
 pub mod Entered
 pub mod Followed
 pub mod ReachedLemmas

@@ -29,7 +29,7 @@ use Rattle.walrus.specs.declared.passes.marks.MarkedItems.{MarkedItems}
 
 -- ---- a mark for each live item
 
-below : {T : Type 0} (xs : List (Option T)) (i : ℕ) → IsSome (item_at xs i) → i < length xs
+pub below : {T : Type 0} (xs : List (Option T)) (i : ℕ) → IsSome (item_at xs i) → i < length xs
 below [] i h = absurd cc
 below (x ∷ xs) zero h = omega arith
 below (x ∷ xs) (suc i) h = let lt : i < length xs = below xs i h in omega (arith, lt)

@@ -5,15 +5,16 @@ use Rattle.std.specs.List.{list_any, list_all}
 use Rattle.std.specs.declared.alloc.Global.{Global}
 use Rattle.walrus_model.specs.Config.{Config}
 use Rattle.walrus_module.specs.Flags.{Flags, defaults}
-use Rattle.walrus.specs.Headline.{Runs}
 use Rattle.walrus.specs.Message.{Tells, line}
+use Rattle.walrus.specs.Reported.{ReportsOrRuns}
 use Rattle.walrus.specs.Text.{tool_text}
 use Rattle.walrus.specs.Tool.{CountsReads, CountsWrites}
 use Rattle.walrus.specs.declared.tool.ToolError.{ToolError}
 
 -- the program knows this word
 abbrev pub is_known : List ℕ → Bool
-is_known word = bytes_eq word (codes "--no-names") || (bytes_eq word (codes "--no-producers") || bytes_eq word (codes "--no-legacy"))
+is_known word =
+    bytes_eq word (codes "--no-names") || (bytes_eq word (codes "--no-producers") || (bytes_eq word (codes "--no-legacy") || bytes_eq word (codes "--report")))
 
 -- the program knows each of these words
 abbrev pub are_known : List (String Global) → Bool
@@ -31,15 +32,20 @@ flags_for words = record defaults {
   legacy_exceptions = not (stands_in words (codes "--no-legacy"));
 }
 
--- what a run answered, as the program tells it: status 0, and nothing is said; or status 1, and the refusal in a line
+-- a report is to be written in place of the smaller module
+abbrev pub asks_for_report : List (String Global) → Bool
+asks_for_report words = stands_in words (codes "--report")
+
+-- what a run or a report answered, as the program tells it: status 0, and nothing is said; or status 1, and the refusal in a line
 abbrev pub IsTold : Result Unit ToolError → (status : ℕ) → (old new : Option (List ℕ)) → (failures_old failures_new : ℕ) → Type 0
 IsTold (Ok u) status old new failures_old failures_new = (status ≡ 0) × Keeps old new × (failures_new ≡ failures_old)
 IsTold (Err e) status old new failures_old failures_new = (status ≡ 1) × Tells old new failures_old failures_new (line (tool_text e))
 
--- there was a run, its two devices counted the failure of which it answers and no other, and its answer was told
-pub record RunsAndTells (c : Config) (from_old from_new to_old to_new : Option (List ℕ)) (reads_old reads_new writes_old writes_new : ℕ) (status : ℕ) (old new : Option (List ℕ)) (failures_old failures_new : ℕ) : Type 0 where
+-- there was a report, where one is asked for, and else a run; its two devices counted the failure of which it answers and no other, and its
+-- answer was told
+pub record RunsAndTells (is_report : Bool) (c : Config) (from_old from_new to_old to_new : Option (List ℕ)) (reads_old reads_new writes_old writes_new : ℕ) (status : ℕ) (old new : Option (List ℕ)) (failures_old failures_new : ℕ) : Type 0 where
   pub answer : Result Unit ToolError
-  pub ran : Runs c from_old from_new to_old to_new answer
+  pub ran : ReportsOrRuns is_report c from_old from_new to_old to_new answer
   pub reads : CountsReads reads_old reads_new answer
   pub writes : CountsWrites writes_old writes_new answer
   pub told : IsTold answer status old new failures_old failures_new

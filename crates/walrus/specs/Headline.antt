@@ -6,8 +6,15 @@ use Rattle.walrus_model.specs.Config.{Config}
 use Rattle.walrus_parts.specs.declared.error.Error.{Error}
 use Rattle.walrus_parts.specs.declared.error.Error.TheVariants.{Memory, InvalidWasm, TooLarge}
 pub use Rattle.walrus_rules.specs.Headline.{Accepts, ComesTo, ComesOutTooLarge}
+use Rattle.walrus_rules.specs.SettledLaw.{IsSettled}
 use Rattle.walrus.specs.declared.tool.ToolError.{ToolError}
 use Rattle.walrus.specs.declared.tool.ToolError.TheVariants as tool
+
+-- What the bytes come to. Where a run under the same configuration wrote the bytes, the output is all of what they say: no item is dropped, no
+-- segment and no shape of a type is added, and custom sections, producers and names stay, but for those of types.
+pub record ComesOut (c : Config) (bytes output : List ℕ) : Type 0 where
+  pub comes : ComesTo c bytes output
+  pub settled : (before : List ℕ) → ComesTo c before bytes → IsSettled c bytes output
 
 -- ---- the devices; where their bytes aren't known, this says nothing of them
 
@@ -16,45 +23,58 @@ pub record ReadsWhole (old new : Option (List ℕ)) (bytes : List ℕ) : Type 0 
   pub consumed : Consumes old new bytes
   pub ended : IsAtEnd new
 
--- all of the source is read, and what it comes to is written
-pub record Writes (c : Config) (from_old from_new to_old to_new : Option (List ℕ)) : Type 0 where
+-- ---- what is made of all that was read: `Makes` says what of which bytes, `Takes` which bytes aren't refused as invalid, and `IsLarge` of
+-- which the outcome is too large
+
+-- all of the source is read, and what is made of it is written
+pub record Writes (Makes : List ℕ → List ℕ → Type 0) (from_old from_new to_old to_new : Option (List ℕ)) : Type 0 where
   pub bytes : List ℕ
   pub output : List ℕ
   pub whole : ReadsWhole from_old from_new bytes
-  pub comes : ComesTo c bytes output
+  pub made : Makes bytes output
   pub appended : Appends to_old to_new output
 
--- all of the source is read, and a beginning of what it comes to is written
-pub record WritesFront (c : Config) (from_old from_new to_old to_new : Option (List ℕ)) : Type 0 where
+-- all of the source is read, and a beginning of what is made of it is written
+pub record WritesFront (Makes : List ℕ → List ℕ → Type 0) (from_old from_new to_old to_new : Option (List ℕ)) : Type 0 where
   pub bytes : List ℕ
   pub front : List ℕ
   pub rest : List ℕ
   pub whole : ReadsWhole from_old from_new bytes
-  pub comes : ComesTo c bytes (front ++ rest)
+  pub made : Makes bytes (front ++ rest)
   pub appended : Appends to_old to_new front
 
 -- all of the source is read, and there is a cause to refuse it
 abbrev pub RefusesAll : (List ℕ → Type 0) → Option (List ℕ) → Option (List ℕ) → Type 0
 RefusesAll Cause old new = (bytes : List ℕ) × ReadsWhole old new bytes × Cause bytes
 
--- why a module is refused: memory ran out, or all was read and isn't accepted, or what comes out is too large
-abbrev pub RefusesRead : Config → Option (List ℕ) → Option (List ℕ) → Error → Type 0
-RefusesRead c old new (Memory e) = ⊤
-RefusesRead c old new (InvalidWasm kind) = RefusesAll (λ bytes. Accepts c bytes → ⊥) old new
-RefusesRead c old new TooLarge = RefusesAll (ComesOutTooLarge c) old new
-RefusesRead c old new _ = ⊥
+-- why a module is refused: memory ran out, or all was read and isn't taken, or the outcome is too large
+abbrev pub RefusesRead : (Takes IsLarge : List ℕ → Type 0) → Option (List ℕ) → Option (List ℕ) → Error → Type 0
+RefusesRead Takes IsLarge old new (Memory e) = ⊤
+RefusesRead Takes IsLarge old new (InvalidWasm kind) = RefusesAll (λ bytes. Takes bytes → ⊥) old new
+RefusesRead Takes IsLarge old new TooLarge = RefusesAll IsLarge old new
+RefusesRead Takes IsLarge old new _ = ⊥
 
--- what a run comes to: the output, or a beginning of it where the sink failed; refused before, nothing is written
+-- from the source to the sink: the output, or a beginning of it where the sink failed; refused before, nothing is written
+abbrev pub Transfers : {X : Type 0} → (Makes : List ℕ → List ℕ → Type 0) → (Takes IsLarge : List ℕ → Type 0) → (from_old from_new to_old to_new : Option (List ℕ)) → Result X ToolError → Type 0
+Transfers Makes Takes IsLarge from_old from_new to_old to_new (Ok x) = Writes Makes from_old from_new to_old to_new
+Transfers Makes Takes IsLarge from_old from_new to_old to_new (Err tool.Write) = WritesFront Makes from_old from_new to_old to_new
+Transfers Makes Takes IsLarge from_old from_new to_old to_new (Err tool.Read) = Keeps to_old to_new
+Transfers Makes Takes IsLarge from_old from_new to_old to_new (Err (tool.Module e)) = Keeps to_old to_new × RefusesRead Takes IsLarge from_old from_new e
+
+-- known bytes: what is made of them, or a refusal with its cause
+abbrev pub Answers : {X : Type 0} → (Makes : List ℕ → List ℕ → Type 0) → (Takes IsLarge : List ℕ → Type 0) → List ℕ → (X → List ℕ) → Result X Error → Type 0
+Answers Makes Takes IsLarge bytes view (Ok x) = Makes bytes (view x)
+Answers Makes Takes IsLarge bytes view (Err (Memory e)) = ⊤
+Answers Makes Takes IsLarge bytes view (Err (InvalidWasm kind)) = Takes bytes → ⊥
+Answers Makes Takes IsLarge bytes view (Err TooLarge) = IsLarge bytes
+Answers Makes Takes IsLarge bytes view (Err _) = ⊥
+
+-- ---- a run
+
+-- what a run comes to
 abbrev pub Runs : {X : Type 0} → Config → (from_old from_new to_old to_new : Option (List ℕ)) → Result X ToolError → Type 0
-Runs c from_old from_new to_old to_new (Ok x) = Writes c from_old from_new to_old to_new
-Runs c from_old from_new to_old to_new (Err tool.Write) = WritesFront c from_old from_new to_old to_new
-Runs c from_old from_new to_old to_new (Err tool.Read) = Keeps to_old to_new
-Runs c from_old from_new to_old to_new (Err (tool.Module e)) = Keeps to_old to_new × RefusesRead c from_old from_new e
+Runs c = Transfers (ComesOut c) (Accepts c) (ComesOutTooLarge c)
 
--- what known bytes come to: the output, or a refusal with its cause
-abbrev pub Answers : {X : Type 0} → Config → List ℕ → (X → List ℕ) → Result X Error → Type 0
-Answers c bytes view (Ok x) = ComesTo c bytes (view x)
-Answers c bytes view (Err (Memory e)) = ⊤
-Answers c bytes view (Err (InvalidWasm kind)) = Accepts c bytes → ⊥
-Answers c bytes view (Err TooLarge) = ComesOutTooLarge c bytes
-Answers c bytes view (Err _) = ⊥
+-- what a run makes of known bytes
+abbrev pub RunsOn : {X : Type 0} → Config → List ℕ → (X → List ℕ) → Result X Error → Type 0
+RunsOn c = Answers (ComesOut c) (Accepts c) (ComesOutTooLarge c)

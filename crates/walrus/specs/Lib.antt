@@ -8,6 +8,7 @@ pub mod Used
 pub mod Asked
 pub mod Collected
 pub mod Headline
+pub mod Reported
 pub mod Marked
 pub mod MarkedItems
 pub mod LiveCount

@@ -1,4 +1,4 @@
--- What a run says of its two devices.
+-- What a run or a report says of its two devices.
 use Rattle.std.specs.Prelude.{◌≡◌, ℕ, ◌+◌, ◌-◌, ◌^◌, min, Result, Ok, Err}
 use Rattle.walrus.specs.declared.tool.ToolError.{ToolError}
 use Rattle.walrus.specs.declared.tool.ToolError.TheVariants.{Read, Write, Module}

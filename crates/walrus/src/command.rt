@@ -1,14 +1,16 @@
 //! The program as a function of its words and its three streams.
 
-ghost use Rattle.std.specs.Prelude.{◌≡◌, codes, false, true};
+ghost use Rattle.std.specs.Prelude.{◌≡◌, OnOk, codes, false, true};
 ghost use Rattle.std.specs.Io.KnownBytes.{Keeps};
-ghost use Rattle.walrus.specs.Command.{RunsAndTells, are_known, is_known, flags_for, stands_in};
+ghost use Rattle.walrus.specs.Command.{RunsAndTells, are_known, asks_for_report, is_known, flags_for, stands_in};
 ghost use Rattle.walrus.specs.Message.{Tells, line};
+ghost use Rattle.walrus.specs.Reported.{ReportsOrRuns};
+ghost use Rattle.walrus.specs.Tool.{CountsReads, CountsWrites};
 ghost use Rattle.walrus_module.specs.Flags.{config_of, flags};
 
 use crate::device::{Sink, Source};
 use crate::message::{refuse, text_of, write_line};
-use crate::tool::run;
+use crate::tool::{ToolError, report, run};
 use std::alloc::Global;
 use walrus_module::ModuleConfig;
 
@@ -16,7 +18,7 @@ use walrus_module::ModuleConfig;
 fn knows(word: &str) -> bool
     ensures { result ≡ is_known word.now }
 {
-    word == "--no-names" || word == "--no-producers" || word == "--no-legacy"
+    word == "--no-names" || word == "--no-producers" || word == "--no-legacy" || word == "--report"
 }
 
 // Whether the word stands among these.
@@ -44,9 +46,31 @@ fn config_for(words: &[String]) -> ModuleConfig
     config
 }
 
+// The run that the words ask for, or the report.
+fn run_or_report<R: Source, W: Sink>(
+    alloc: Global,
+    words: &[String],
+    input: &mut R,
+    output: &mut W,
+) -> Result<(), ToolError>
+    ensures headline { ReportsOrRuns (asks_for_report words.now) (config_of (flags_for words.now))
+        (R.left input.old) (R.left input.new) (W.held output.old) (W.held output.new) result }
+    ensures flushed { OnOk result (W.is_flushed output.new ≡ true) }
+    ensures reads { CountsReads (R.read_failures input.old) (R.read_failures input.new) result }
+    ensures writes { CountsWrites (W.write_failures output.old) (W.write_failures output.new) result }
+{
+    let config = config_for(words);
+    if has(words, "--report") {
+        report(alloc, input, output, &config)
+    } else {
+        run(alloc, input, output, &config)
+    }
+}
+
 /// Runs the program on its words, its standard input, output and error, and answers its status: 0 where the smaller
-/// module was written, 1 where that was refused, 2 where a word isn't known, and then nothing is read or written.
-/// A refusal is told in one line on the last stream; where that can't be written, the status is the same.
+/// module, or the report in its place, was written, 1 where that was refused, 2 where a word isn't known, and then
+/// nothing is read or written. A refusal is told in one line on the last stream; where that can't be written, the
+/// status is the same.
 pub fn command<R: Source, W: Sink, E: Sink>(
     alloc: Global,
     words: &[String],
@@ -60,17 +84,19 @@ pub fn command<R: Source, W: Sink, E: Sink>(
         × (W.write_failures output.new ≡ W.write_failures output.old)
         × Tells (E.held errors.old) (E.held errors.new) (E.write_failures errors.old)
         (E.write_failures errors.new) (line (codes "unknown word")) }
-    ensures known { are_known words.now ≡ true → RunsAndTells (config_of (flags_for words.now))
+    ensures known { are_known words.now ≡ true → RunsAndTells (asks_for_report words.now)
+        (config_of (flags_for words.now))
         (R.left input.old) (R.left input.new) (W.held output.old) (W.held output.new)
         (R.read_failures input.old) (R.read_failures input.new) (W.write_failures output.old)
         (W.write_failures output.new) result (E.held errors.old) (E.held errors.new)
         (E.write_failures errors.old) (E.write_failures errors.new) }
+    ensures flushed { result ≡ 0 → W.is_flushed output.new ≡ true }
 {
     if !all_known(words) {
         let _told = write_line(errors, "unknown word");
         return 2;
     }
-    match run(alloc, input, output, &config_for(words)) {
+    match run_or_report(alloc, words, input, output) {
         Ok(()) => 0,
         Err(error) => refuse(errors, text_of(&error)),
     }

@@ -1,6 +1,6 @@
 //! Where bytes come from and where they go: the two ends of the program, as its contracts see them.
 
-ghost use Rattle.std.specs.Prelude.{◌≡◌, ℕ, ◌+◌, ◌-◌, ◌≤◌, ◌^◌, List, Option, IfOk, length, min};
+ghost use Rattle.std.specs.Prelude.{◌≡◌, ℕ, ◌+◌, ◌-◌, ◌<◌, ◌≤◌, ◌^◌, Bool, false, true, List, Option, IfOk, OnOk, length, min};
 ghost use Rattle.std.specs.Io.KnownBytes.{ReadConsumes, WriteAppends, Keeps};
 ghost use Rattle.walrus.specs.Device.{Counts, TakesSome};
 
@@ -26,22 +26,26 @@ pub trait Source {
 }
 
 /// Something that bytes are written to. It tells the bytes that it holds, where they are known, and counts its
-/// failures, among them a write that takes nothing.
+/// failures, among them a write that takes nothing. It also tells whether it was flushed, and took nothing since.
 pub trait Sink {
     ghost held: { Self → Option (List ℕ) };
 
     ghost write_failures: { Self → ℕ };
+
+    ghost is_flushed: { Self → Bool };
 
     /// Takes bytes from the front of these, and answers how many: at least one, where there is one.
     fn write(&mut self, bytes: &[u8]) -> Result<usize, DeviceFailed>
         ensures bound { IfOk result (λ n. n ≤ length bytes.now) }
         ensures takes { TakesSome result bytes.now }
         ensures bytes { WriteAppends (held self.old) (held self.new) result bytes.now }
+        ensures waits { IfOk result (λ n. 0 < n → is_flushed self.new ≡ false) }
         ensures counts { Counts (write_failures self.old) (write_failures self.new) result };
 
     /// Passes on what was written.
     fn flush(&mut self) -> Result<(), DeviceFailed>
         ensures bytes { Keeps (held self.old) (held self.new) }
+        ensures flushed { OnOk result (is_flushed self.new ≡ true) }
         ensures counts { Counts (write_failures self.old) (write_failures self.new) result };
 }
 
@@ -86,15 +90,21 @@ impl<R: Read> Source for FromRead<R> {
 pub struct FromWrite<W: Write> {
     writer: W,
     failed: u64,
+    is_flushed: bool,
 }
 
 impl<W: Write> FromWrite<W> {
-    /// The writer, with no failure counted yet.
+    /// The writer, with no failure counted yet. It isn't flushed, since the writer may have taken bytes before.
     pub fn new(writer: W) -> FromWrite<W>
         ensures held { ⟦<FromWrite<W> as Sink>⟧.held result ≡ W.contents writer }
         ensures failures { ⟦<FromWrite<W> as Sink>⟧.write_failures result ≡ 0 }
+        ensures waits { ⟦<FromWrite<W> as Sink>⟧.is_flushed result ≡ false }
     {
-        FromWrite { writer, failed: 0 }
+        FromWrite {
+            writer,
+            failed: 0,
+            is_flushed: false,
+        }
     }
 
     // Counts a failure.
@@ -111,7 +121,10 @@ impl<W: Write> Sink for FromWrite<W> {
 
     ghost write_failures = { λ s. s.failed };
 
+    ghost is_flushed = { λ s. s.is_flushed };
+
     fn write(&mut self, bytes: &[u8]) -> Result<usize, DeviceFailed> {
+        self.is_flushed = false;
         match self.writer.write(bytes) {
             Ok(0) if !bytes.is_empty() => Err(self.count()),
             Ok(count) => Ok(count),
@@ -121,7 +134,10 @@ impl<W: Write> Sink for FromWrite<W> {
 
     fn flush(&mut self) -> Result<(), DeviceFailed> {
         match self.writer.flush() {
-            Ok(()) => Ok(()),
+            Ok(()) => {
+                self.is_flushed = true;
+                Ok(())
+            }
             Err(_) => Err(self.count()),
         }
     }

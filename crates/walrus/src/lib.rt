@@ -6,8 +6,10 @@ mod command;
 mod device;
 mod message;
 pub mod passes;
+mod report;
 pub mod tool;
 mod transfer;
+mod work;
 
 pub use walrus_ir::{
     CustomSectionKey, DataKey, ElementKey, ExportKey, FunctionKey, GlobalKey, ImportKey, LocalKey,

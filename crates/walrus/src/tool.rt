@@ -1,18 +1,19 @@
 //! The program's work, over any source and any sink.
 
-ghost use Rattle.walrus.specs.Headline.{Answers, Runs};
+ghost use Rattle.std.specs.Prelude.{◌≡◌, OnOk, true};
+ghost use Rattle.walrus.specs.Headline.{Runs};
+ghost use Rattle.walrus.specs.Reported.{Reports};
 ghost use Rattle.walrus.specs.Tool.{CountsReads, CountsWrites};
 ghost use Rattle.walrus_module.specs.Flags.{config_of, flags};
 
 pub use crate::command::command;
 pub use crate::device::{DeviceFailed, FromRead, FromWrite, Sink, Source};
 pub use crate::message::refuse;
-use crate::passes::gc;
-use crate::transfer::{ReadAllError, read_all, write_all};
+use crate::work::{Report, Run, transfer};
 use std::alloc::Global;
 use walrus_module::{Error, ModuleConfig};
 
-/// Why a run was refused.
+/// Why a run or a report was refused.
 #[derive(Debug, Drop)]
 pub enum ToolError {
     /// The source failed; it has counted the failure.
@@ -23,7 +24,7 @@ pub enum ToolError {
     Module(Error),
 }
 
-/// Reads all of the source as a module, drops what nothing reaches, and writes what is left to the sink.
+/// Reads all of the source as a module, drops what nothing reaches, writes what is left to the sink, and flushes.
 pub fn run<R: Source, W: Sink>(
     alloc: Global,
     source: &mut R,
@@ -32,30 +33,29 @@ pub fn run<R: Source, W: Sink>(
 ) -> Result<(), ToolError>
     ensures headline { Runs (config_of (flags config.now)) (R.left source.old) (R.left source.new)
         (W.held sink.old) (W.held sink.new) result }
+    ensures flushed { OnOk result (W.is_flushed sink.new ≡ true) }
     ensures reads { CountsReads (R.read_failures source.old) (R.read_failures source.new) result }
     ensures writes { CountsWrites (W.write_failures sink.old) (W.write_failures sink.new) result }
 {
-    let bytes = match read_all(alloc, source) {
-        Ok(bytes) => bytes,
-        Err(ReadAllError::Device) => return Err(ToolError::Read),
-        Err(ReadAllError::Memory(error)) => return Err(ToolError::Module(Error::Memory(error))),
-    };
-    let output = match smaller(alloc, bytes, config) {
-        Ok(output) => output,
-        Err(error) => return Err(ToolError::Module(error)),
-    };
-    match write_all(sink, &output) {
-        Ok(()) => Ok(()),
-        Err(_) => Err(ToolError::Write),
-    }
+    transfer(alloc, source, sink, &Run { config })
 }
 
-// The bytes of the module without what nothing reaches.
-fn smaller(alloc: Global, bytes: Vec<u8>, config: &ModuleConfig) -> Result<Vec<u8>, Error>
-    ensures { Answers (config_of (flags config.now)) bytes.items (λ output. output.items) result }
+/// Reads all of the source as a module, writes to the sink how many of its items [`run`] keeps and how many it drops, and flushes. Nothing is
+/// dropped.
+///
+/// The text has seven lines, `functions kept 1 dropped 2` and the like, for functions, tables, memories, tags, globals, element segments
+/// (`elements`) and data segments (`data`), imported items among them.
+pub fn report<R: Source, W: Sink>(
+    alloc: Global,
+    source: &mut R,
+    sink: &mut W,
+    config: &ModuleConfig,
+) -> Result<(), ToolError>
+    ensures headline { Reports (config_of (flags config.now)) (R.left source.old) (R.left source.new)
+        (W.held sink.old) (W.held sink.new) result }
+    ensures flushed { OnOk result (W.is_flushed sink.new ≡ true) }
+    ensures reads { CountsReads (R.read_failures source.old) (R.read_failures source.new) result }
+    ensures writes { CountsWrites (W.write_failures sink.old) (W.write_failures sink.new) result }
 {
-    let mut module = config.parse(alloc, &bytes)?;
-    drop(bytes);
-    gc::run(alloc, &mut module)?;
-    module.emit_wasm(alloc)
+    transfer(alloc, source, sink, &Report { config })
 }

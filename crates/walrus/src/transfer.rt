@@ -1,6 +1,6 @@
 //! Reading all of a source, and writing all of some bytes to a sink.
 
-ghost use Rattle.std.specs.Prelude.{◌≡◌, ℕ, ◌+◌, ◌<◌, ◌≤◌, ◌^◌, List, OnOk, OnErr, IfOk, vec_len};
+ghost use Rattle.std.specs.Prelude.{◌≡◌, true, ℕ, ◌+◌, ◌<◌, ◌≤◌, ◌^◌, List, OnOk, OnErr, IfOk, vec_len};
 ghost use Rattle.std.specs.Io.KnownBytes.{Consumes, Appends, Keeps, IsAtEnd};
 ghost use Rattle.walrus.specs.Device.{WroteFront, Counts};
 ghost use Rattle.walrus.specs.Transfer.{CountsRead};
@@ -48,6 +48,7 @@ pub fn read_all<R: Source>(alloc: Global, source: &mut R) -> Result<Vec<u8>, Rea
 /// Writes all of the bytes, and flushes. Where that fails, a beginning of them may have been written.
 pub fn write_all<W: Sink>(sink: &mut W, bytes: &[u8]) -> Result<(), DeviceFailed>
     ensures ok { OnOk result (Appends (W.held sink.old) (W.held sink.new) bytes.now) }
+    ensures flushed { OnOk result (W.is_flushed sink.new ≡ true) }
     ensures begun { OnErr result (WroteFront (W.held sink.old) (W.held sink.new) bytes.now) }
     ensures counts { Counts (W.write_failures sink.old) (W.write_failures sink.new) result }
 {

@@ -17,5 +17,5 @@ pub(crate) fn read(alloc: Global, text: &str) -> Result<Module, Error> {
     add_bytes(&mut bytes, text);
     let mut config = ModuleConfig::new();
     config.generate_producers_section(false);
-    Module::from_buffer_with_config(alloc, &bytes, &config)
+    config.parse(alloc, &bytes)
 }

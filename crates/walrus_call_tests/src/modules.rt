@@ -1,38 +1,37 @@
-//! Modules that are built and edited: each public call of a module and its configuration.
+//! Modules that are built, and each public call of a configuration and of custom sections.
 
 use crate::made::bare_module;
 use std::alloc::Global;
 use std::test::Fail;
 use test_support::{add_bytes, are, demand, is_text};
 use walrus::{
-    CodeTransform, Error, FunctionBuilder, FunctionId, IdsToIndices, LocalFunction, Module,
-    ModuleConfig, ModuleCustomSections, RawCustomSection, Roots, SectionEntry,
+    CodeTransform, Error, ExportId, FunctionBuilder, IdsToIndices, LocalFunction, Module,
+    ModuleConfig, ModuleCustomSections, ModuleTypes, RawCustomSection, Roots, SectionEntry,
     UntypedCustomSectionId, ValType,
 };
 use walrus_test_support::demand_output;
 
-// A function that gives the number 5.
-fn five(alloc: Global, module: &mut Module) -> Result<LocalFunction, Error> {
-    let mut builder = FunctionBuilder::new(alloc, &mut module.types, &[], &[ValType::I32])?;
+const EMPTY: &str = "00 61 73 6D 01 00 00 00";
+
+// A function that gives the number 5, exported as `f`, and nothing else.
+const FIVE: &str =
+    "00 61 73 6D 01 00 00 00 01 05 01 60 00 01 7F 03 02 01 00 07 05 01 01 66 00 00 0A 06 01 04 00 41 05 0B";
+
+fn five(alloc: Global, types: &mut ModuleTypes) -> Result<LocalFunction, Error> {
+    let mut builder = FunctionBuilder::new(alloc, types, &[], &[ValType::I32])?;
     builder.func_body().i32_const(5)?;
     Ok(builder.local_func(Vec::new(alloc))?)
 }
 
-fn add_five(alloc: Global, module: &mut Module) -> Result<FunctionId, Error> {
-    let function = five(alloc, module)?;
+fn add_five(alloc: Global, module: &mut Module) -> Result<ExportId, Error> {
+    let function = five(alloc, &mut module.types)?;
     let id = module.funcs.add_local(function)?;
-    module.exports.add("f", id.into())?;
-    Ok(id)
+    module.exports.add("f", id.into())
 }
 
-// The function, exported as `f`, and nothing else.
-const FIVE: &str =
-    "00 61 73 6D 01 00 00 00 01 05 01 60 00 01 7F 03 02 01 00 07 05 01 01 66 00 00 0A 06 01 04 00 41 05 0B";
-
 fn build(alloc: Global, module: &mut Module) -> Result<(), Fail> {
-    demand_output(alloc, module.emit_wasm(alloc), "00 61 73 6D 01 00 00 00")?;
-    let id = add_five(alloc, module)?;
-    demand(module.funcs.contains(id), "the function")?;
+    demand_output(alloc, module.emit_wasm(alloc), EMPTY)?;
+    add_five(alloc, module)?;
     demand_output(alloc, module.emit_wasm(alloc), FIVE)
 }
 
@@ -46,18 +45,9 @@ fn a_module_is_built(rt: HostRuntime) -> Result<(), Fail> {
 const WIDE: &str =
     "00 61 73 6D 01 00 00 00 01 04 01 60 00 00 03 02 01 00 0A 10 01 0E 00 42 00 42 00 42 00 42 00 FC 13 1A 1A 0B";
 
-fn parses(alloc: Global, config: &ModuleConfig, bytes: &[u8]) -> bool {
-    config.parse(alloc, bytes).is_ok()
-}
-
-#[test]
-fn a_configuration_refuses_what_is_not_stable(rt: HostRuntime) -> Result<(), Fail> {
-    let mut bytes = Vec::new(rt.alloc());
-    demand(add_bytes(&mut bytes, WIDE), "memory")?;
-    let mut config = ModuleConfig::new();
-    demand(parses(rt.alloc(), &config, &bytes), "by default")?;
-    config.only_stable_features(true);
-    demand(!parses(rt.alloc(), &config, &bytes), "only what is stable")
+fn parses_wide(alloc: Global, config: &ModuleConfig) -> bool {
+    let mut bytes = Vec::new(alloc);
+    add_bytes(&mut bytes, WIDE) && config.parse(alloc, &bytes).is_ok()
 }
 
 fn change_all(config: &mut ModuleConfig) {
@@ -85,12 +75,19 @@ fn is_shown(alloc: Global, config: &ModuleConfig, text: &str) -> bool {
     }
 }
 
+// Fails where a configuration isn't as it is by default, or not all is changed, or it reads the function whatever is stable.
+fn change(alloc: Global, config: &mut ModuleConfig) -> Result<(), Fail> {
+    demand(is_shown(alloc, config, DEFAULTS), DEFAULTS)?;
+    demand(parses_wide(alloc, config), "wide arithmetic by default")?;
+    change_all(config);
+    demand(is_shown(alloc, config, CHANGED), CHANGED)?;
+    demand(!parses_wide(alloc, config), "only what is stable")
+}
+
 #[test]
 fn a_configuration_is_changed(rt: HostRuntime) -> Result<(), Fail> {
     let mut config = ModuleConfig::new();
-    demand(is_shown(rt.alloc(), &config, DEFAULTS), DEFAULTS)?;
-    change_all(&mut config);
-    demand(is_shown(rt.alloc(), &config, CHANGED), CHANGED)
+    change(rt.alloc(), &mut config)
 }
 
 fn raw_section(alloc: Global, name: &str) -> Result<SectionEntry, Error> {
@@ -156,28 +153,21 @@ fn is_removed(customs: &mut ModuleCustomSections, name: &str) -> bool {
     }
 }
 
-// Of two sections of one name the first is removed by its name, and the second by its id.
-fn are_removed(
-    customs: &mut ModuleCustomSections,
-    first: UntypedCustomSectionId,
-    second: UntypedCustomSectionId,
-) -> bool {
-    is_removed(customs, "a")
-        && customs.get(first).is_none()
-        && customs.get(second).is_some()
-        && customs.delete(second).is_some()
-        && customs.remove_raw("a").is_none()
-        && customs.iter().take(3).count() == 1
+fn is_deleted(customs: &mut ModuleCustomSections, id: UntypedCustomSectionId, name: &str) -> bool {
+    match customs.delete(id) {
+        Some(section) => is_text(section.name(), name),
+        None => false,
+    }
 }
 
+// Fails where a call of sections doesn't answer what was added, the first of which goes by its name and the second by its id.
 fn are_sections(alloc: Global, customs: &mut ModuleCustomSections) -> Result<(), Fail> {
     let first = add_section(alloc, customs, "a")?;
-    let other = add_section(alloc, customs, "b")?;
-    let second = add_section(alloc, customs, "a")?;
+    let second = add_section(alloc, customs, "b")?;
     demand(is_section(alloc, customs, first, "a"), "the first section")?;
-    demand(is_section(alloc, customs, other, "b"), "the other section")?;
-    demand(follows(alloc, customs, other), "a transform of code")?;
-    demand(are_removed(customs, first, second), "sections removed")
+    demand(follows(alloc, customs, second), "a transform of code")?;
+    demand(is_removed(customs, "a"), "the first one, removed")?;
+    demand(is_deleted(customs, second, "b"), "the second one, deleted")
 }
 
 #[test]

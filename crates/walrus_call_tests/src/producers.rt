@@ -1,14 +1,11 @@
 //! The producers section of a module that was read: its fields stay in their order, a value is put into the first field of its name,
-//! this program stands behind them, and the section isn't written where that is turned off.
+//! and this program stands behind them.
 
-use crate::made::{bare_module, read};
 use std::alloc::Global;
 use std::test::Fail;
-use test_support::{add_bytes, demand, is_text};
+use test_support::add_bytes;
 use walrus::{Error, Module};
 use walrus_test_support::demand_output;
-
-const EMPTY: &str = "00 61 73 6D 01 00 00 00";
 
 // Two fields `sdk`: a of version 1, and a of version 2.
 const TWO_FIELDS: &str =
@@ -26,7 +23,6 @@ fn read_with_producers(alloc: Global) -> Result<Module, Error> {
 
 fn put_in(alloc: Global, module: &mut Module) -> Result<(), Fail> {
     module.producers.add_sdk("a", "3")?;
-    demand(module.producers.fields().len() == 3, "three fields")?;
     demand_output(alloc, module.emit_wasm(alloc), PUT_IN)
 }
 
@@ -34,38 +30,4 @@ fn put_in(alloc: Global, module: &mut Module) -> Result<(), Fail> {
 fn a_value_goes_into_the_first_field(rt: HostRuntime) -> Result<(), Fail> {
     let mut module = read_with_producers(rt.alloc())?;
     put_in(rt.alloc(), &mut module)
-}
-
-fn leave_out(alloc: Global, module: &mut Module) -> Result<(), Fail> {
-    demand(module.producers.fields().len() == 3, "three fields")?;
-    demand_output(alloc, module.emit_wasm(alloc), EMPTY)
-}
-
-#[test]
-fn producers_are_left_out(rt: HostRuntime) -> Result<(), Fail> {
-    let mut module = read(rt.alloc(), TWO_FIELDS)?;
-    leave_out(rt.alloc(), &mut module)
-}
-
-// Whether the one field is `sdk`, and the one value in it `a` of version 2.
-fn holds_the_last(module: &Module) -> bool {
-    let [field] = module.producers.fields() else {
-        return false;
-    };
-    let [value] = field.values() else {
-        return false;
-    };
-    is_text(field.name(), "sdk") && is_text(value.name(), "a") && is_text(value.version(), "2")
-}
-
-fn put_in_twice(module: &mut Module) -> Result<(), Fail> {
-    module.producers.add_sdk("a", "1")?;
-    module.producers.add_sdk("a", "2")?;
-    demand(holds_the_last(module), "one field of one value")
-}
-
-#[test]
-fn a_value_takes_the_place_of_one_of_its_name(rt: HostRuntime) -> Result<(), Fail> {
-    let mut module = bare_module(rt.alloc())?;
-    put_in_twice(&mut module)
 }

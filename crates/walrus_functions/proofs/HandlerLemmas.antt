@@ -48,8 +48,12 @@ pub stays_trans : {T : Type 0} (old middle new : List T) → StaysInFront old mi
 stays_trans {T = T} old middle new first next = (first.0 ++ next.0, next.1 ∙ ap (λ (xs : List T). xs ++ next.0) first.1 ∙ append_assoc old first.0 next.0)
 
 -- the types at the first places
-pub below_all : (old new : List (Option TypeDef)) → StaysInFront old new → types_below (length old) new ≡ item_at old
+below_all : (old new : List (Option TypeDef)) → StaysInFront old new → types_below (length old) new ≡ item_at old
 below_all old new stays = ap item_at (ap (take (length old)) stays.1 ∙ take_at old stays.0 (length old) refl)
+
+-- and those below a bound that is how many there were
+pub types_are : (bound : ℕ) (old new : List (Option TypeDef)) → bound ≡ length old → StaysInFront old new → types_below bound new ≡ item_at old
+types_are bound old new is stays = ap (λ (n : ℕ). types_below n new) is ∙ below_all old new stays
 
 -- ---- open blocks
 

@@ -17,7 +17,7 @@ use Rattle.walrus_bodies.specs.Body.{declared_types}
 use Rattle.walrus_bodies.specs.Emitting.{IsNotWritable}
 use Rattle.walrus_functions.specs.DeclaredLocals.{IsDeclared}
 use Rattle.walrus_functions.specs.EmittedBody.{Source, index_in}
-use Rattle.walrus_functions.specs.Laws.{IsWellFormed, UnwritableIsIllFormed}
+use Rattle.walrus_functions.specs.Laws.{SourceIsWellFormed, UnwritableIsIllFormed}
 use Rattle.walrus_functions.proofs.LawNamed.{via, plain, each_append, NoExact, val_inexact, HasIndex, ops_found, ReadOp, each_read, no_unspelled}
 
 -- ---- the types that are declared
@@ -52,7 +52,7 @@ module _ (slots : List (Option (ValType ℕ))) where
 at_index : (xs : List ℕ) (n x : ℕ) → slice_get xs n ≡ Some x → Contains xs x
 at_index xs n x is = (n, slice_get_within xs n x is, get_or_from_slice_get xs n x x is)
 
-module _ (s : Source) (w : IsWellFormed s) where
+module _ (s : Source) (w : SourceIsWellFormed s) where
   Declared : ℕ → Type 0
   Declared x = IsDeclared s.slots (locals_of s.ops) s.parameters x
 

@@ -1,5 +1,6 @@
 mod AmongLemmas
 mod HandlerLemmas
+mod KnownLemmas
 mod LawSpelled
 mod LawTags
 mod ParameterLemmas

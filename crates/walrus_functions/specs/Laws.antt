@@ -15,7 +15,7 @@ BodiesReadOnce = (c : Context) (locals : ℕ → Option ℕ) (bytes : List ℕ) 
 
 -- A body that is well formed: some bytes read as its operators, where indices lead to the items, and to the function's parameters and
 -- then some further locals, whose types these bytes declare. The parameters fit the function's type.
-pub record IsWellFormed (s : Source) : Type 0 where
+pub record SourceIsWellFormed (s : Source) : Type 0 where
   pub fits : FitsType s.def s.slots s.parameters
   pub names : Lookup
   pub further : List ℕ
@@ -26,7 +26,7 @@ pub record IsWellFormed (s : Source) : Type 0 where
 
 -- what emission refuses as not writable isn't well formed
 abbrev pub UnwritableIsIllFormed : Type 0
-UnwritableIsIllFormed = (s : Source) → CantBeWritten s → IsWellFormed s → ⊥
+UnwritableIsIllFormed = (s : Source) → CantBeWritten s → SourceIsWellFormed s → ⊥
 
 -- an operator with each local in it so many places further
 abbrev pub moved_arg : ℕ → Arg → Arg

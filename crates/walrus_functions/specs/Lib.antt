@@ -2,6 +2,7 @@ pub mod DeclaredLocals
 pub mod Declaring
 pub mod EmittedBody
 pub mod Handlers
+pub mod Known
 pub mod Laws
 pub mod ReadFunction
 pub mod Signatures

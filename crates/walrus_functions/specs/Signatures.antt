@@ -1,24 +1,29 @@
 -- For the functions that find the types of handlers.
 use Rattle.std.specs.Borrow.{Bor}
-use Rattle.wasm_opcodes.specs.declared.one_byte.TheConstants.{TRY}
-use Rattle.std.specs.Prelude.{◌≡◌, ℕ, List, [], ◌∷◌, map, option_map, Option, Some, None, reverse, slice_get, take, ◌==◌, if◌then◌else◌}
+use Rattle.wasm_opcodes.specs.declared.one_byte.TheConstants.{TRY, CATCH, CATCH_ALL}
+use Rattle.std.specs.Prelude.{◌≡◌, ℕ, List, [], ◌∷◌, map, option_map, option_and_then, Option, Some, None, reverse, slice_get, take, ◌==◌, if◌then◌else◌}
 use Rattle.walrus_base.specs.Arena.{item_at}
 use Rattle.walrus_base.specs.Id.{place}
+use Rattle.walrus_base.specs.Types.{ValType}
 use Rattle.walrus_base.specs.declared.id.Id.{Id}
 use Rattle.walrus_base.specs.declared.keys.TypeKey.{TypeKey}
 use Rattle.walrus_types.specs.Composite.{FunctionType, function_type}
 use Rattle.walrus_types.specs.ModuleTypes.{type_slots, type_names}
-use Rattle.walrus_types.specs.Operators.{BlockType, NoResult, Arg, Index, Label, Local, Number, Count, Byte, S32, S64, Bits32, Bits64, Value, Heap, Block, Access, Op}
+use Rattle.walrus_types.specs.Operators.{BlockType, NoResult, OneResult, OfType, Arg, Index, Label, Local, Number, Count, Byte, S32, S64, Bits32, Bits64, Value, Heap, Block, Access, Op}
 use Rattle.walrus_types.specs.TypeDef.{TypeDef}
+use Rattle.walrus_types.specs.Value.{val_type}
 use Rattle.walrus_types.specs.declared.composite.FunctionType.{FunctionType as DeclaredFunctionType}
 use Rattle.walrus_types.specs.declared.module_types.ModuleTypes.{ModuleTypes}
 use Rattle.walrus_code.specs.Code.{block_of}
-use Rattle.walrus_functions.specs.Handlers.{OpenBlock, Try, OtherBlock, opens_other, closes, block_results, handler_at, params_of, results_of}
+use Rattle.walrus_functions.specs.Handlers.{OpenBlock, Try, OtherBlock, opens_other, closes, block_results, catch_type, handler_at, params_of, results_of, tag_params}
 use Rattle.walrus_functions.specs.ReadFunction.{Slots}
 use Rattle.walrus_functions.specs.declared.blocks.Opened.{Opened}
 use Rattle.walrus_functions.specs.declared.blocks.Opened.TheVariants as declared
 use Rattle.walrus_functions.specs.declared.blocks.OpenBlocks.{OpenBlocks}
 use Rattle.walrus_functions.specs.declared.handlers.Signatures.{Signatures}
+use Rattle.walrus_functions.specs.declared.tag_and_try.TagAndTry.{TagAndTry}
+use Rattle.walrus_functions.specs.declared.tag_and_try.TryType.{TryType}
+use Rattle.walrus_functions.specs.declared.tag_and_try.TryType.TheVariants as declared_try
 
 abbrev pub slots_of : ModuleTypes → Slots
 slots_of types = record { types = type_slots types; names = type_names types }
@@ -33,9 +38,6 @@ tag_places ids tag = option_map place (slice_get ids tag)
 
 abbrev pub types_in : Signatures → ℕ → Option TypeDef
 types_in s = types_below s.bound (type_slots s.types.now)
-
-abbrev pub tags_in : Signatures → ℕ → Option ℕ
-tags_in s = tag_places s.tag_types.now
 
 -- the function type that a type is, and none where it is none
 abbrev pub IsFunctionOf : Option TypeDef → Option (Bor DeclaredFunctionType) → Type 0
@@ -63,6 +65,43 @@ arg_place (Access flags memory offset) = None
 abbrev pub first_place : List Arg → Option ℕ
 first_place [] = None
 first_place (arg ∷ args) = arg_place arg
+
+-- ---- what the types of handlers are made of: the type of a tag, if there is one, and that of a try
+
+abbrev pub try_block : TryType → BlockType
+try_block declared_try.NoResult = NoResult
+try_block (declared_try.OneResult v) = OneResult (val_type v)
+try_block (declared_try.OfType id) = OfType (place id)
+
+abbrev pub pair_of : TagAndTry → Option ℕ × BlockType
+pair_of handler = (option_map place handler.tag_type, try_block handler.try_type)
+
+-- that of the handler that an operator begins directly in such a block, if it begins one
+abbrev pub pair_in : (tags : ℕ → Option ℕ) → Option BlockType → Op → Option (Option ℕ × BlockType)
+pair_in tags None o = None
+pair_in tags (Some b) o =
+    if o.op == CATCH then Some (option_and_then tags (first_place o.args), b)
+    else (if o.op == CATCH_ALL then Some (None, b)
+    else None)
+
+abbrev pub no_tags : ℕ → Option ℕ
+no_tags tag = None
+
+module _ (types : ℕ → Option TypeDef) where
+  -- what a handler takes whose tag has this type, and what the block gives back that it stands in
+  abbrev pub taken_by : Option ℕ → List (ValType ℕ)
+  taken_by tag_type = tag_params types no_tags tag_type
+
+  abbrev pub given_by : BlockType → List (ValType ℕ)
+  given_by block = block_results types no_tags block
+
+  -- the type that such a handler needs, if it needs one
+  abbrev pub pair_type : Option ℕ × BlockType → List FunctionType
+  pair_type pair = catch_type (taken_by pair.0) (given_by pair.1)
+
+  abbrev pub needed_by : Option (Option ℕ × BlockType) → List FunctionType
+  needed_by None = []
+  needed_by (Some pair) = pair_type pair
 
 -- ---- open blocks: the type of a try, or none for another block
 

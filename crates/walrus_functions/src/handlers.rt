@@ -1,29 +1,32 @@
 //! The function types of legacy exception handlers (Instructions > Control Instructions of the legacy exception handling proposal).
-ghost use Rattle.std.specs.Prelude.{◌≡◌, ◌++◌, ◌∷◌, [], ℕ, List, IfOk, length, map, option_and_then, option_map, option_to_list};
+ghost use Rattle.std.specs.Prelude.{◌≡◌, ◌<◌, ◌∷◌, [], IfOk, length, map, option_and_then, option_map, option_to_list};
 ghost use Rattle.walrus_base.specs.Arena.{item_at};
 ghost use Rattle.walrus_base.specs.Id.{place};
+ghost use Rattle.walrus_types.specs.Alone.{StandsFirst};
 ghost use Rattle.walrus_types.specs.Composite.{function_type};
 ghost use Rattle.walrus_types.specs.ModuleTypes.{type_slots};
 ghost use Rattle.walrus_types.specs.Value.{val_type};
 ghost use Rattle.walrus_code.specs.Code.{arg_of, block_of, op_of, ops_of};
-ghost use Rattle.walrus_functions.specs.Handlers.{params_of, results_of, block_results, caught_params, catch_type, handlers_of};
+ghost use Rattle.walrus_functions.specs.Handlers.{params_of, results_of, catch_type, handlers_of};
+ghost use Rattle.walrus_functions.specs.Known.{AddsIds, AreKnown, NotesOnly};
 ghost use Rattle.walrus_functions.specs.ReadFunction.{AddsTypes, StaysInFront};
-ghost use Rattle.walrus_functions.specs.Signatures.{IsFunctionOf, arg_place, first_place, handler_in, slots_of, tag_places, tags_in, types_in, types_below};
+ghost use Rattle.walrus_functions.specs.Signatures.{IsFunctionOf, arg_place, first_place, given_by, needed_by, pair_in, pair_of, pair_type, slots_of, tag_places, taken_by, try_block, types_in, types_below};
 
 use crate::blocks::OpenBlocks;
+use crate::tag_and_try::{TagAndTry, TryType};
 use std::alloc::{AllocError, Global};
+use std::collections::BTreeMap;
 use std::slice;
 use walrus_base::TypeId;
 use walrus_code::{Arg, BlockType, Operator};
 use walrus_types::{FunctionType, ModuleTypes, ValType};
 use wasm_opcodes::one_byte::{CATCH, CATCH_ALL};
 
-/// The types of functions at the places below a bound, and the types of tags.
+/// The types of functions at the places below a bound.
 #[derive(Clone, Copy)]
 pub(crate) struct Signatures<'a> {
     types: &'a ModuleTypes,
     bound: usize,
-    tag_types: &'a [TypeId],
 }
 
 impl<'a> Signatures<'a> {
@@ -58,59 +61,35 @@ impl<'a> Signatures<'a> {
         }
     }
 
-    // What a block of the type gives back.
-    fn block_results<'b>(&'b self, block: &'b BlockType) -> &'b [ValType]
-        ensures { map val_type result.now ≡ block_results (types_in self.now) (tags_in self.now)
-            (block_of block.now) }
+    // What a handler takes whose tag has the type, if it has one.
+    fn taken_by(&self, tag_type: Option<TypeId>) -> &[ValType]
+        ensures { map val_type result.now ≡ taken_by (types_in self.now) (option_map place tag_type) }
     {
-        match block {
-            BlockType::NoResult => &[],
-            BlockType::OneResult(value) => slice::from_ref(value),
-            BlockType::OfType(id) => self.results(*id),
-        }
-    }
-
-    // The type of the tag that a `catch` with these arguments names.
-    fn tag_type(&self, args: &[Arg]) -> Option<TypeId>
-        ensures { option_map place result ≡ option_and_then (tags_in self.now)
-            (first_place (map arg_of args.now)) }
-    {
-        let tag = first_place(args)?;
-        self.tag_types.get(tag).copied()
-    }
-
-    // The parameters of the tag that a `catch` with these arguments names.
-    #[tactic(auto, using(crate::proofs::HandlerLemmas::caught_is))]
-    fn caught(&self, args: &[Arg]) -> &[ValType]
-        ensures { map val_type result.now ≡ caught_params (types_in self.now) (tags_in self.now)
-            (map arg_of args.now) }
-    {
-        match self.tag_type(args) {
+        match tag_type {
             Some(id) => self.params(id),
             None => &[],
         }
     }
 
-    // The type that an operator needs directly in a try of this type, or in another block.
-    fn needed(
-        &self,
-        alloc: Global,
-        block: Option<BlockType>,
-        operator: &Operator,
-    ) -> Result<Option<FunctionType>, AllocError>
-        ensures { IfOk result (λ needed. map function_type (option_to_list needed)
-            ≡ handler_in (types_in self.now) (tags_in self.now) (option_map block_of block)
-            (op_of operator.now)) }
+    // What a try of the type gives back.
+    fn given_by<'b>(&'b self, try_type: &'b TryType) -> &'b [ValType]
+        ensures { map val_type result.now ≡ given_by (types_in self.now) (try_block try_type.now) }
     {
-        let Some(block) = block else {
-            return Ok(None);
-        };
-        let results = self.block_results(&block);
-        match operator.op {
-            CATCH => handler_type(alloc, self.caught(operator.args.as_slice()), results),
-            CATCH_ALL => handler_type(alloc, &[], results),
-            _ => Ok(None),
+        match try_type {
+            TryType::NoResult => &[],
+            TryType::OneResult(value) => slice::from_ref(value),
+            TryType::OfType(id) => self.results(*id),
         }
+    }
+
+    // The type that a handler needs, if it needs one.
+    fn needed(&self, alloc: Global, handler: &TagAndTry) -> Result<Option<FunctionType>, AllocError>
+        ensures { IfOk result (λ needed. map function_type (option_to_list needed)
+            ≡ pair_type (types_in self.now) (pair_of handler.now)) }
+    {
+        let params = self.taken_by(handler.tag_type);
+        let results = self.given_by(&handler.try_type);
+        handler_type(alloc, params, results)
     }
 }
 
@@ -137,6 +116,34 @@ fn named_place(arg: &Arg) -> Option<usize>
         Arg::Tag(id) => Some(id.index()),
         Arg::Element(id) => Some(id.index()),
         Arg::Data(id) => Some(id.index()),
+        _ => None,
+    }
+}
+
+// The type of the tag that a `catch` with these arguments names.
+fn tag_type(tag_types: &[TypeId], args: &[Arg]) -> Option<TypeId>
+    ensures { option_map place result ≡ option_and_then (tag_places tag_types.now)
+        (first_place (map arg_of args.now)) }
+{
+    let tag = first_place(args)?;
+    tag_types.get(tag).copied()
+}
+
+// The handler that an operator begins directly in a try of this type, or in another block, which has none.
+fn handler_begun(
+    tag_types: &[TypeId],
+    block: Option<BlockType>,
+    operator: &Operator,
+) -> Option<TagAndTry>
+    ensures { option_map pair_of result ≡ pair_in (tag_places tag_types.now) (option_map block_of block)
+        (op_of operator.now) }
+{
+    let Some(block) = block else {
+        return None;
+    };
+    match operator.op {
+        CATCH => Some(TagAndTry::new(tag_type(tag_types, operator.args.as_slice()), block)),
+        CATCH_ALL => Some(TagAndTry::new(None, block)),
         _ => None,
     }
 }
@@ -169,57 +176,101 @@ fn count_places(alloc: Global, types: &ModuleTypes) -> Result<usize, AllocError>
     }
 }
 
-// Finds or adds a type, and puts its id behind the others.
+// Notes the id of a handler's type that was found, which stands below `next`. One that was added isn't noted: where it names itself, it isn't what
+// is looked for the next time.
+fn note_found(
+    known: &mut BTreeMap<TagAndTry, TypeId>,
+    handler: TagAndTry,
+    id: TypeId,
+    next: TypeId,
+) -> Result<(), AllocError>
+    ensures { IfOk result (λ _. NotesOnly (λ p. (p ≡ place id) × (p < place next))
+        handler known.old known.new) }
+{
+    if id.index() < next.index() {
+        known.insert(handler, id)?;
+    }
+    Ok(())
+}
+
+// Finds or adds the type that a handler needs, and puts its id behind the others.
 fn add_type(
     types: &mut ModuleTypes,
     needed: &FunctionType,
+    handler: TagAndTry,
+    known: &mut BTreeMap<TagAndTry, TypeId>,
     ids: &mut Vec<TypeId>,
 ) -> Result<(), AllocError>
-    ensures added { IfOk result (λ _. (p : ℕ) × ((map place ids.new.items ≡ map place ids.old.items ++ p ∷ [])
-        × AddsTypes (function_type needed.now ∷ []) (slots_of types.old) (slots_of types.new) (p ∷ []))) }
+    ensures added { IfOk result (λ _. AddsIds (function_type needed.now ∷ []) (slots_of types.old)
+        (slots_of types.new) ids.old.items ids.new.items) }
+    ensures noted { IfOk result (λ _. NotesOnly (StandsFirst (function_type needed.now)
+        (type_slots types.old)) handler known.old known.new) }
     ensures stays { StaysInFront (type_slots types.old) (type_slots types.new) }
 {
+    let next = types.next_id();
     let id = types.add(needed.params(), needed.results())?;
+    note_found(known, handler, id, next)?;
     ids.push(id)?;
     Ok(())
 }
 
-// An operator of a body, the block that it stands in if that is a legacy try, and what its indices mean: the types of tags, and the
-// places of types below a bound.
-#[derive(Clone, Copy)]
-struct Placed<'a> {
-    operator: &'a Operator,
-    block: Option<BlockType>,
-    bound: usize,
-    tag_types: &'a [TypeId],
-}
-
-// Finds or adds the type that an operator needs, if it needs one.
-fn add_needed(
+// Finds or adds the type of a handler that isn't known, if it needs one.
+fn add_unknown(
     alloc: Global,
     types: &mut ModuleTypes,
-    placed: &Placed,
+    bound: usize,
+    handler: TagAndTry,
+    known: &mut BTreeMap<TagAndTry, TypeId>,
     ids: &mut Vec<TypeId>,
 ) -> Result<(), AllocError>
-    ensures added { IfOk result
-        (λ _. (ps : List ℕ) × ((map place ids.new.items ≡ map place ids.old.items ++ ps)
-        × AddsTypes (handler_in (types_below placed.now.bound (type_slots types.old))
-        (tag_places placed.now.tag_types.now) (option_map block_of placed.now.block)
-        (op_of placed.now.operator.now)) (slots_of types.old) (slots_of types.new) ps)) }
+    requires { AreKnown (types_below bound (type_slots types.old)) (type_slots types.old) known.old }
+    ensures added { IfOk result (λ _. AddsIds (pair_type (types_below bound (type_slots types.old))
+        (pair_of handler)) (slots_of types.old) (slots_of types.new) ids.old.items ids.new.items) }
+    ensures kept { IfOk result (λ _. AreKnown (types_below bound (type_slots types.old))
+        (type_slots types.new) known.new) }
     ensures stays { StaysInFront (type_slots types.old) (type_slots types.new) }
 {
-    let signatures = Signatures {
-        types,
-        bound: placed.bound,
-        tag_types: placed.tag_types,
-    };
-    match signatures.needed(alloc, placed.block, placed.operator)? {
-        Some(needed) => add_type(types, &needed, ids),
+    let signatures = Signatures { types, bound };
+    match signatures.needed(alloc, &handler)? {
+        Some(needed) => {
+            add_type(types, &needed, handler, known, ids)?;
+            Ok(())
+        }
         None => Ok(()),
     }
 }
 
-// The types of the legacy exception handlers of a body, in order: each is found among the types, or added behind them.
+// Puts the id of the type of a handler behind the others, if an operator begins one and it needs a type: the id that is known, or that of a type
+// that is found or added.
+fn add_needed(
+    alloc: Global,
+    types: &mut ModuleTypes,
+    bound: usize,
+    begun: Option<TagAndTry>,
+    known: &mut BTreeMap<TagAndTry, TypeId>,
+    ids: &mut Vec<TypeId>,
+) -> Result<(), AllocError>
+    requires { AreKnown (types_below bound (type_slots types.old)) (type_slots types.old) known.old }
+    ensures added { IfOk result (λ _. AddsIds (needed_by (types_below bound (type_slots types.old))
+        (option_map pair_of begun)) (slots_of types.old) (slots_of types.new) ids.old.items ids.new.items) }
+    ensures kept { IfOk result (λ _. AreKnown (types_below bound (type_slots types.old))
+        (type_slots types.new) known.new) }
+    ensures stays { StaysInFront (type_slots types.old) (type_slots types.new) }
+{
+    let Some(handler) = begun else {
+        return Ok(());
+    };
+    match known.get(&handler) {
+        Some(id) => {
+            ids.push(*id)?;
+            Ok(())
+        }
+        None => add_unknown(alloc, types, bound, handler, known, ids),
+    }
+}
+
+// The types of the legacy exception handlers of a body, in order: each is found among the types, or added behind them. The type of each pair of a
+// tag's type and a try's is found once.
 pub(crate) fn add_handler_types(
     alloc: Global,
     types: &mut ModuleTypes,
@@ -233,16 +284,12 @@ pub(crate) fn add_handler_types(
 {
     let bound = count_places(alloc, types)?;
     let mut blocks = OpenBlocks::new(alloc)?;
+    let mut known = BTreeMap::new(alloc);
     let mut ids = Vec::new(alloc);
     for operator in operators {
         let block = blocks.innermost_try();
-        let placed = Placed {
-            operator,
-            block,
-            bound,
-            tag_types,
-        };
-        add_needed(alloc, types, &placed, &mut ids)?;
+        let handler = handler_begun(tag_types, block, operator);
+        add_needed(alloc, types, bound, handler, &mut known, &mut ids)?;
         blocks.step(operator)?;
     }
     Ok(ids)

@@ -9,6 +9,7 @@ mod groups;
 mod handlers;
 mod law;
 mod read;
+mod tag_and_try;
 
 pub use emit::{EmittedBody, emit_body};
 pub use law::{bodies_read_once, declared_in_one_order, locals_move, unwritable_is_ill_formed};

@@ -12,7 +12,7 @@ use Rattle.walrus_model.specs.Kept.{Kept, IsSpareMemory, IsImportOf}
 use Rattle.walrus_model.specs.Same.{SameType, SameFunction, BothAnd}
 use Rattle.walrus_model.specs.Renaming.{Renaming}
 use Rattle.walrus_model.specs.Carried.{Carries, Carried, In, KeepsApart}
-use Rattle.walrus_model.specs.Out.{IsAdded, IsHandlerType, Out}
+use Rattle.walrus_model.specs.Out.{MayBeAdded, IsHandlerType, Out}
 use Rattle.walrus_model.specs.Order.{ByIndex}
 use Rattle.walrus_model.specs.Names.{body_of}
 use Rattle.walrus_model.specs.Declared.{ref_func, IsUndeclared, Declares}
@@ -25,14 +25,14 @@ use Rattle.walrus_model.proofs.Least.{lies_within}
 
 -- ---- what is kept of the two functions
 
-second_reached : Reached two_functions (Functions, 1)
+pub second_reached : Reached two_functions (Functions, 1)
 second_reached = root (Functions, 1) (exported (export_of (export_f 1)) (Contains-head (export_of (export_f 1)) []) refl)
 
 type_reached : Reached two_functions (Types, 0)
 type_reached = step (Functions, 1) (Types, 0) second_reached (inl (Contains-head (Types, 0) []))
 
 -- these two and nothing else
-is_kept : Item → Bool
+unfoldable pub is_kept : Item → Bool
 is_kept (Types, zero) = true
 is_kept (Types, suc i) = false
 is_kept (Functions, zero) = false
@@ -80,9 +80,9 @@ no_spare : (x : Item) → IsSpareMemory two_functions x → ⊥
 no_spare x spare = let live = spare.first.live in absurd (cc)
 
 kept_is : (x : Item) → Kept two_functions x → IsTrue (is_kept x)
-kept_is x k = ⊎_elim (λ h. lies_within two_functions is_kept holds_roots is_closed x h) (λ spare. absurd (no_spare x spare)) k
+kept_is x k = ⊎_elim (λ h. lies_within two_functions (λ y. IsTrue (is_kept y)) holds_roots is_closed x h) (λ spare. absurd (no_spare x spare)) k
 
-first_is_not : Kept two_functions (Functions, 0) → ⊥
+pub first_is_not : Kept two_functions (Functions, 0) → ⊥
 unfolding is_kept
 first_is_not k = let yes : false ≡ true = kept_is (Functions, 0) k in cc
 
@@ -102,7 +102,7 @@ renaming : Renaming
 renaming = record { numbers = new_numbers; imports = λ i. i; locals = λ f x. x }
 
 Added : Item → Type 0
-Added = IsAdded (Kept two_functions) renaming two_functions one_function None
+Added = MayBeAdded (Kept two_functions) renaming two_functions one_function None
 
 types_carried : Carries (In (Kept two_functions) Types) (In Added Types) (renaming.numbers Types) (SameType (renaming.numbers Types)) two_functions.types one_function.types
 unfolding is_kept renaming new_numbers
@@ -137,7 +137,7 @@ functions_carried = record { same = same; onto = onto } where
 
 -- nothing of another kind is kept, and none is there
 
-not_kept : (x : Item) → is_kept x ≡ false → Kept two_functions x → ⊥
+pub not_kept : (x : Item) → is_kept x ≡ false → Kept two_functions x → ⊥
 not_kept x isn k = let yes : is_kept x ≡ true = kept_is x k in cc
 
 none_carried : {X : Type 0} (K A : ℕ → Type 0) (r : ℕ → ℕ) (S : ℕ → X → X → Type 0) → ((i : ℕ) → K i → ⊥) → Carries K A r S (λ i. None) (λ i. None)
@@ -146,7 +146,7 @@ none_carried K A r S none = record { same = λ i k. absurd (none i k); onto = λ
 no_import : (i : ℕ) → IsImportOf (Kept two_functions) two_functions i → ⊥
 no_import i (x, is, k) = cc
 
-only_second : (i : ℕ) → Kept two_functions (Functions, i) → i ≡ 1
+pub only_second : (i : ℕ) → Kept two_functions (Functions, i) → i ≡ 1
 unfolding is_kept
 only_second zero k = absurd (first_is_not k)
 only_second (suc zero) k = refl

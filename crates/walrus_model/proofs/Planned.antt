@@ -12,7 +12,7 @@ use Rattle.walrus_model.specs.Renaming.{Renaming}
 use Rattle.walrus_model.specs.Same.{BothAnd}
 use Rattle.walrus_model.specs.Spaces.{Thing, look, SameThing, origin_in}
 use Rattle.walrus_model.proofs.Spaces.{live_to, live_from}
-use Rattle.walrus_model.specs.Ordered.{Lists, Ordered}
+use Rattle.walrus_model.specs.Ordered.{ListsEach, Ordered}
 use Rattle.walrus_model.proofs.Orders.{carries_in_order, rises_in_order, apart_in_order, lists_both, is_some_by}
 use Rattle.walrus_model.proofs.Standing.{some_of, some_inj}
 use mathlib.Core.Path.{fun_ext}
@@ -96,7 +96,7 @@ module _ (v : Abstract) (s : Space) where
   one_origin p x (Some Defined) at e = inr (own_by p x (Some Defined) at e (λ k f. cc))
   one_origin p x None at e = inr (own_by p x None at e (λ k f. cc))
 
-  pub imported_first : (xs ys : List ℕ) → Lists (IsImportedIn v s) xs → Lists (IsOwnIn v s) ys → Ordered (look v s) (xs ++ ys)
+  pub imported_first : (xs ys : List ℕ) → ListsEach (IsImportedIn v s) xs → ListsEach (IsOwnIn v s) ys → Ordered (look v s) (xs ++ ys)
   imported_first xs ys a b =
       lists_both (IsImportedIn v s) (IsOwnIn v s) (λ p. IsSome (look v s p))
       (λ p h g. g.1 h)

@@ -14,7 +14,7 @@ ghost use Rattle.walrus_model.specs.Laws.{CarriesAll};
 ghost use Rattle.walrus_model.specs.Customs.{AreIndices};
 ghost use Rattle.walrus_model.specs.Live.{Has, IsLive};
 ghost use Rattle.walrus_model.specs.Order.{ByImport};
-ghost use Rattle.walrus_model.specs.Ordered.{FilledFrom, Lists, Ordered, StandsFor};
+ghost use Rattle.walrus_model.specs.Ordered.{FilledFrom, ListsEach, Ordered, StandsFor};
 ghost use Rattle.walrus_model.specs.Pipeline.{Collected, KeepsOnly, ReachedIsLive};
 ghost use Rattle.walrus_model.specs.Plan.{AreNumbered, IsImportedIn, IsOwnIn, IsPlan, IsWrittenAlong, Plan, numbers_by};
 ghost use Rattle.walrus_model.specs.Refers.{named_by, written_in};
@@ -88,8 +88,8 @@ pub fn orders_are_made()
     ensures nothing { Ordered {X = Table} (λ i. None) [] }
     ensures permuted { (v : Abstract) (s : Space) (xs ys : List ℕ) → IsPermutation xs ys
         → Ordered (look v s) xs → Ordered (look v s) ys }
-    ensures imported_first { (v : Abstract) (s : Space) (xs ys : List ℕ) → Lists (IsImportedIn v s) xs
-        → Lists (IsOwnIn v s) ys → Ordered (look v s) (xs ++ ys) }
+    ensures imported_first { (v : Abstract) (s : Space) (xs ys : List ℕ) → ListsEach (IsImportedIn v s) xs
+        → ListsEach (IsOwnIn v s) ys → Ordered (look v s) (xs ++ ys) }
     ensures filled { (r : Renaming) (s : Space) (things : List (Thing s)) (slots : List (Option (Thing s)))
         → ((i : ℕ) → r.numbers s i ≡ i) → FilledFrom (λ x. x) (SameThing r s) 0 things slots
         → Carries (λ i. IsSome (slice_get things i)) (λ j. ⊥) (r.numbers s) (SameThing r s) (slice_get things)

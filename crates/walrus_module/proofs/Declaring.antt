@@ -1,8 +1,9 @@
 -- The segment that declares what `ref.func` names: what a module is left as with it.
-use Rattle.std.proofs.Common.{◌≡◌, ℕ, zero, suc, ◌<◌, false, true, List, [], ◌∷◌, ◌++◌, map, length, refl, sym, ap, ◌∙◌, subst, arith, inl, ⊎_elim}
+use Rattle.std.proofs.Common.{◌≡◌, ℕ, zero, suc, ◌<◌, false, true, List, [], ◌∷◌, ◌++◌, map, length, refl, sym, ap, ◌∙◌, subst, arith, ⊎_elim}
 use mathlib.Core.Path.{fun_ext}
 use Rattle.std.specs.Prelude.{Option, Some, None, IsSome, option_map, Contains, OnErr, Result, Ok, Err}
 use Rattle.std.specs.Global.{Vec}
+use Rattle.std.proofs.lemmas.Bool.Decides.{eqb_tells}
 use Rattle.walrus_base.specs.Arena.{item_at}
 use Rattle.walrus_base.specs.Id.{place}
 use Rattle.walrus_base.specs.declared.id.Id.{Id}
@@ -11,6 +12,7 @@ use Rattle.walrus_types.specs.Operators.{Types, Functions, Tables, Memories, Tag
 use Rattle.walrus_parts.specs.declared.segments.ElementItems.TheVariants as element_contents
 use Rattle.walrus_parts.specs.declared.segments.ElementKind.TheVariants as element_kinds
 use Rattle.walrus_items.specs.Elements.{ElementValue, ModuleElements, elements as elements_in}
+use Rattle.walrus_items.specs.OwnIds.{AtOwnIds}
 use Rattle.walrus_contents.specs.View.{contents_view, element_of, name_at, named_of}
 use Rattle.walrus_contents.specs.declared.parts.Contents.{Contents}
 use Rattle.walrus_model.specs.Abstract.{Abstract, TheModule, AnItem, ALocal, Element, Name, Subject}
@@ -22,10 +24,14 @@ use Rattle.walrus_model.specs.Refers.{named_by, written_in, element_names}
 use Rattle.walrus_model.proofs.Lists.{Contains-head}
 use Rattle.walrus_model.proofs.Living.{AllLive, all_live, none_dead}
 use Rattle.walrus_model.proofs.PipelineOps.{from_map}
+use Rattle.walrus_model.proofs.Standing.{some_inj}
+use Rattle.walrus_reading.specs.Parsed.{ItemsAtOwnIds}
 use Rattle.walrus_rules.specs.Chain.{AddsSegment, HasSegment, Leaves}
 use Rattle.walrus_rules.proofs.SegmentStep.{live_too, live_undeclared, the_segment}
 use Rattle.walrus_rules.proofs.StepLeaves.{Between, between, is_segment, nothing_undeclared}
-use Rattle.walrus_module.specs.Left.{AddsDeclared, AndOne}
+use Rattle.walrus_module.specs.Left.{AddsDeclared, AndOne, AsTheyWere, ChangesElements}
+use Rattle.walrus_module.specs.View.{contents_of}
+use Rattle.walrus_module.specs.declared.module.Module.{Module}
 
 -- ---- slots with one more behind
 
@@ -194,3 +200,32 @@ module _ (v u : Abstract) (leaves : Leaves v u) where
 
   pub leaves_nothing : NothingUndeclared u
   leaves_nothing = subst NothingUndeclared (sym (between v u leaves).same) (nothing_undeclared v u.elements leaves.functions stands_between leaves.undeclared)
+
+-- ---- items stay at their own ids, and the segment stands at its own
+
+own_behind : {X : Type 0} (own : X → ℕ) (xs : List (Option X)) (x : X) → own x ≡ length xs → AtOwnIds own xs → AtOwnIds own (xs ++ Some x ∷ [])
+own_behind own xs x is h i y at = ⊎_elim
+    (λ here. ap own (sym (some_inj x y (sym (item_last xs (Some x) i here.1) ∙ at))) ∙ is ∙ sym here.1)
+    (λ away. h i y (sym (item_front xs (Some x) i away.1) ∙ at))
+    (eqb_tells i (length xs))
+
+segments_own : (old new : List (Option ElementValue)) → AddsDeclared old new → AtOwnIds (λ (e : ElementValue). e.id) old → AtOwnIds (λ (e : ElementValue). e.id) new
+segments_own old new (AsTheyWere same) h = subst (λ (slots : List (Option ElementValue)). AtOwnIds (λ (e : ElementValue). e.id) slots) (sym same) h
+segments_own old new (AndOne functions is) h =
+    subst (λ (slots : List (Option ElementValue)). AtOwnIds (λ (e : ElementValue). e.id) slots) (sym is)
+    (own_behind (λ (e : ElementValue). e.id) old (declaring (length old) functions) refl h)
+
+module _ {V : Type 0} {O : V → Type 0} (old new : Module V O) (others : ChangesElements old new) (adds : AddsDeclared (elements_in old.elements) (elements_in new.elements)) where
+  pub ids_left : ItemsAtOwnIds (contents_of old) → ItemsAtOwnIds (contents_of new)
+  ids_left h = subst (λ (m : Module V O). ItemsAtOwnIds (contents_of m)) (sym others) (record {
+    functions = h.functions;
+    exports = h.exports;
+    locals = h.locals;
+    imports = h.imports;
+    tables = h.tables;
+    memories = h.memories;
+    tags = h.tags;
+    globals = h.globals;
+    elements = segments_own (elements_in old.elements) (elements_in new.elements) adds h.elements;
+    data_segments = h.data_segments;
+  })

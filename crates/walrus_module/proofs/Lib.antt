@@ -3,3 +3,5 @@ pub mod RawLemmas
 pub mod Asking
 pub mod Declaring
 pub mod OwnSections
+pub mod WellWritten
+pub mod CountedBodies

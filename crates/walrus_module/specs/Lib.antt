@@ -1,8 +1,10 @@
+pub mod Answered
 pub mod Asked
 pub mod Customs
 pub mod Entry
 pub mod Flags
 pub mod Imported
+pub mod Laws
 pub mod Left
 pub mod LendsSection
 pub mod Meaning

@@ -5,12 +5,15 @@ ghost use Rattle.walrus_items.specs.Elements.{elements};
 ghost use Rattle.walrus_model.specs.Declared.{NothingUndeclared};
 ghost use Rattle.walrus_parts.specs.Errors.{out_of_memory};
 ghost use Rattle.walrus_rules.specs.Chain.{Leaves};
-ghost use Rattle.walrus_rules.specs.Refused.{RefusesToWrite};
+ghost use Rattle.walrus_reading.specs.Parsed.{ItemsAtOwnIds};
+ghost use Rattle.walrus_rules.specs.Refused.{PassesLimits, RefusesToWrite};
+ghost use Rattle.walrus_rules.specs.WellMade.{IsWellMade};
+ghost use Rattle.walrus_module.specs.Answered.{IsWellWritten, WritesUnless};
 ghost use Rattle.walrus_module.specs.Asked.{OneAskedMayRefuse};
 ghost use Rattle.walrus_module.specs.Flags.{config_of};
 ghost use Rattle.walrus_module.specs.Left.{AddsDeclared, ChangesElements, LeavesBy};
 ghost use Rattle.walrus_module.specs.Settings.{settings};
-ghost use Rattle.walrus_module.specs.View.{held_view, meanings, view};
+ghost use Rattle.walrus_module.specs.View.{contents_of, held_view, meanings, view};
 ghost use Rattle.walrus_writing.specs.Emitted.{IsEmitted, told};
 
 use crate::asked::raw_customs;
@@ -48,6 +51,16 @@ impl Module {
             (OneAskedMayRefuse (meanings ⟦<dyn CustomSection as CustomSection>⟧ self.old))
             (config_of (settings self.old))
             (view ⟦<dyn CustomSection as CustomSection>⟧ self.new) (told result) }
+        ensures declared { OnOk result (NothingUndeclared
+            (view ⟦<dyn CustomSection as CustomSection>⟧ self.new)) }
+        ensures well_made { IsWellMade (config_of (settings self.old))
+            (view ⟦<dyn CustomSection as CustomSection>⟧ self.old) → WritesUnless
+            (PassesLimits (config_of (settings self.old))
+            (view ⟦<dyn CustomSection as CustomSection>⟧ self.new))
+            (OneAskedMayRefuse (meanings ⟦<dyn CustomSection as CustomSection>⟧ self.old))
+            (λ bytes. IsWellWritten (config_of (settings self.old))
+            (view ⟦<dyn CustomSection as CustomSection>⟧ self.new) bytes.items) (told result) }
+        ensures own_ids { ItemsAtOwnIds (contents_of self.old) → ItemsAtOwnIds (contents_of self.new) }
     {
         check_live(alloc, self.parts())?;
         self.declare_references(alloc)?;

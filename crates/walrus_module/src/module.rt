@@ -108,7 +108,7 @@ impl Module {
         ensures refused { IfErr result (RefusesBytes (config_of defaults) bytes.now) }
         ensures configured { IfOk result (λ m. settings m ≡ defaults) }
         ensures taken { IfOk result (λ m. TakenFrom (features_of (config_of defaults))
-            (config_of defaults).synthetic_names bytes.now (contents_of m)) }
+            bytes.now (contents_of m)) }
         ensures own_ids { IfOk result (λ m. ItemsAtOwnIds (contents_of m)) }
         ensures located { IfOk result (λ m. AreLocated bytes.now m.funcs) }
         ensures kept { IfOk result (λ m. KeepsRead bytes.now m) }
@@ -127,7 +127,7 @@ impl Module {
         ensures refused { IfErr result (RefusesBytes (config_of (flags config.now)) bytes.now) }
         ensures configured { IfOk result (λ m. settings m ≡ flags config.now) }
         ensures taken { IfOk result (λ m. TakenFrom (features_of (config_of (flags config.now)))
-            (config_of (flags config.now)).synthetic_names bytes.now (contents_of m)) }
+            bytes.now (contents_of m)) }
         ensures own_ids { IfOk result (λ m. ItemsAtOwnIds (contents_of m)) }
         ensures located { IfOk result (λ m. AreLocated bytes.now m.funcs) }
         ensures kept { IfOk result (λ m. KeepsRead bytes.now m) }

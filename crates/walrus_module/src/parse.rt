@@ -26,7 +26,7 @@ impl ModuleConfig {
         ensures refused { IfErr result (RefusesBytes (config_of (flags self.now)) bytes.now) }
         ensures configured { IfOk result (λ m. settings m ≡ flags self.now) }
         ensures taken { IfOk result (λ m. TakenFrom (features_of (config_of (flags self.now)))
-            (config_of (flags self.now)).synthetic_names bytes.now (contents_of m)) }
+            bytes.now (contents_of m)) }
         ensures own_ids { IfOk result (λ m. ItemsAtOwnIds (contents_of m)) }
         ensures located { IfOk result (λ m. AreLocated bytes.now m.funcs) }
         ensures kept { IfOk result (λ m. KeepsRead bytes.now m) }

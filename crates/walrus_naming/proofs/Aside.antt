@@ -49,50 +49,53 @@ module _ (m : Abstract) (n : Subject → List Name) where
   imports_live_too i (x, is, h) = (x, is, live_too x.item h)
 
 module _ (before c : Config) (m v : Abstract) (n k : Subject → List Name) (h : ParsedAs before m v) where
-  -- with what the names have to be
+  -- with what the names have to be; each number stays
   pub parsed_aside : own_name (record v { named = k }) TheModule ≡ name_of c (other m n) TheModule
       → ((x : Item) → IsLive m x → own_name (record v { named = k }) (AnItem x) ≡ name_of c (other m n) (AnItem x))
       → ((i : ℕ) → length h.types ≤ i → own_name (record v { named = k }) (AnItem (Types, i)) ≡ None)
       → ((f : ℕ) (b : Body) (x : ℕ) → body_of m f ≡ Some b → IsSome (b.local_type x) → own_name (record v { named = k }) (ALocal f (h.renaming.locals f x)) ≡ name_of c (other m n) (ALocal f x))
-      → ParsedAs c (other m n) (record v { named = k })
-  parsed_aside own items added locals = record {
-    types = h.types;
-    functions = h.functions;
-    all_types = h.all_types;
-    types_read = h.types_read;
-    functions_read = h.functions_read;
-    handlers = handlers_too m n v.handler_types _ h.types h.all_types h.handlers;
-    types_made = h.types_made;
-    no_handlers = h.no_handlers;
-    renaming = h.renaming;
-    carried = record {
-      types = h.carried.types;
-      imports = record {
-        same = λ i live_one. h.carried.imports.same i (imports_live m n i live_one);
-        onto = λ j there. ⊎_elim (λ found. inl (found.0, imports_live_too m n found.0 found.1, found.2)) (λ none. inr none) (h.carried.imports.onto j there);
+      → (p : ParsedAs c (other m n) (record v { named = k })) × (p.renaming ≡ h.renaming)
+  parsed_aside own items added locals = (
+    record {
+      types = h.types;
+      functions = h.functions;
+      all_types = h.all_types;
+      types_read = h.types_read;
+      functions_read = h.functions_read;
+      handlers = handlers_too m n v.handler_types _ h.types h.all_types h.handlers;
+      types_made = h.types_made;
+      no_handlers = h.no_handlers;
+      renaming = h.renaming;
+      carried = record {
+        types = h.carried.types;
+        imports = record {
+          same = λ i live_one. h.carried.imports.same i (imports_live m n i live_one);
+          onto = λ j there. ⊎_elim (λ found. inl (found.0, imports_live_too m n found.0 found.1, found.2)) (λ none. inr none) (h.carried.imports.onto j there);
+        };
+        functions = h.carried.functions;
+        tables = h.carried.tables;
+        memories = h.carried.memories;
+        tags = h.carried.tags;
+        globals = h.carried.globals;
+        elements = h.carried.elements;
+        data_segments = h.carried.data_segments;
+        imports_apart = λ i j one two. h.carried.imports_apart i j (imports_live m n i one) (imports_live m n j two);
+        apart = λ space no i j one two. h.carried.apart space no i j (live m n (space, i) one) (live m n (space, j) two);
+        exports = h.carried.exports;
+        start = h.carried.start;
       };
-      functions = h.carried.functions;
-      tables = h.carried.tables;
-      memories = h.carried.memories;
-      tags = h.carried.tags;
-      globals = h.carried.globals;
-      elements = h.carried.elements;
-      data_segments = h.carried.data_segments;
-      imports_apart = λ i j one two. h.carried.imports_apart i j (imports_live m n i one) (imports_live m n j two);
-      apart = λ space no i j one two. h.carried.apart space no i j (live m n (space, i) one) (live m n (space, j) two);
-      exports = h.carried.exports;
-      start = h.carried.start;
-    };
-    bodies = h.bodies;
-    in_place = h.in_place;
-    imports_in_place = h.imports_in_place;
-    table_segments = h.table_segments;
-    memory_segments = h.memory_segments;
-    section_roots = h.section_roots;
-    customs = h.customs;
-    producers = h.producers;
-    own = own;
-    items = λ x there. items x (live m n x there);
-    added = added;
-    locals = locals;
-  }
+      bodies = h.bodies;
+      in_place = h.in_place;
+      imports_in_place = h.imports_in_place;
+      table_segments = h.table_segments;
+      memory_segments = h.memory_segments;
+      section_roots = h.section_roots;
+      customs = h.customs;
+      producers = h.producers;
+      own = own;
+      items = λ x there. items x (live m n x there);
+      added = added;
+      locals = locals;
+    },
+    refl,
+  )

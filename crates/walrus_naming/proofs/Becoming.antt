@@ -1,5 +1,5 @@
 -- What becomes of the names of items that stand place by place.
-use Rattle.std.proofs.Common.{◌≡◌, ℕ, zero, suc, ◌+◌, ◌<◌, ◌≤◌, Bool, true, false, List, [], ◌∷◌, ◌++◌, length, map, refl, sym, ap, ap₂, ◌∙◌, arith, eqb-true}
+use Rattle.std.proofs.Common.{◌≡◌, ℕ, zero, suc, ◌+◌, ◌<◌, ◌≤◌, Bool, true, false, List, [], ◌∷◌, ◌++◌, map, refl, sym, ap, ap₂, ◌∙◌, arith, eqb-true}
 use Rattle.std.specs.Prelude.{Option, Some, None, IsSome, option_map, slice_set, ◌==◌}
 use Rattle.std.proofs.lemmas.Bool.{eqb-false}
 use mathlib.Core.Path.{fun_ext}
@@ -33,10 +33,6 @@ module _ {X : Type 0} (mend : Becomes → X → X) where
   item_renamed names k [] i = refl
   item_renamed names k (s ∷ slots) zero = ap (λ (n : ℕ). option_map (mend (names n)) s) (sym (nothing_more k))
   item_renamed names k (s ∷ slots) (suc i) = item_renamed names (k + 1) slots i ∙ ap (λ (n : ℕ). option_map (mend (names n)) (item_at slots i)) (one_later k i)
-
-  pub length_renamed : (names : ℕ → Becomes) (k : ℕ) (slots : List (Option X)) → length (renamed_from mend names k slots) ≡ length slots
-  length_renamed names k [] = refl
-  length_renamed names k (s ∷ slots) = ap suc (length_renamed names (k + 1) slots)
 
   -- what is seen of an item beside its name stays
   pub seen_renamed : {Y : Type 0} (f : X → Y) → ((becomes : Becomes) (x : X) → f (mend becomes x) ≡ f x) → (names : ℕ → Becomes) (k : ℕ) (slots : List (Option X)) → map (option_map f) (renamed_from mend names k slots) ≡ map (option_map f) slots

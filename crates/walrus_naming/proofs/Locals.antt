@@ -22,7 +22,8 @@ let_through : (p q end : ℕ) (t : Bool) → nat_lt p end ≡ t → (if t then S
 let_through p q end true e is = (some_is p q is, ltb-true p end e)
 let_through p q end false e is = absurd cc
 
-in_front : (k n : ℕ) (ns : List ℕ) (x p : ℕ) → place_of (starts_from k (n ∷ ns)) 0 x ≡ Some p → (k + x ≡ p) × (k + x < k + n)
+-- the local of the function at the front, from its first place on
+pub in_front : (k n : ℕ) (ns : List ℕ) (x p : ℕ) → place_of (starts_from k (n ∷ ns)) 0 x ≡ Some p → (k + x ≡ p) × (k + x < k + n)
 in_front k n ns x p is = let_through (k + x) p (k + n) (nat_lt (k + x) (k + n)) refl (sym (at_front k n ns x) ∙ is)
 
 -- each stands from the first place on

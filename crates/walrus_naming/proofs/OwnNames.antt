@@ -27,18 +27,18 @@ use Rattle.walrus_contents.specs.View as view
 use Rattle.walrus_contents.specs.View.{contents_view, named_of, name_at}
 use Rattle.walrus_contents.specs.declared.parts.Contents.{Contents}
 use Rattle.walrus_naming.specs.Renamed.{last_given, renamed_from}
-use Rattle.walrus_naming.specs.Shown.{IsRenamed, LocalValue, Shown, local_value, shown, mend_type_name, mend_function, mend_table, mend_memory, mend_tag, mend_global, mend_element, mend_data, mend_local}
+use Rattle.walrus_naming.specs.Shown.{LocalValue, Shown, local_value, shown, mend_type_name, mend_function, mend_table, mend_memory, mend_tag, mend_global, mend_element, mend_data, mend_local}
 use Rattle.walrus_naming.specs.Synthetic.{filled_if, named_by as all_by, parameters_at, parameters_by, text_of_function, text_of_local}
 use Rattle.walrus_naming.specs.Taken.{Bounds, all_named, place_of, starts_from, that_count, type_in}
 use Rattle.walrus_naming.proofs.AfterAll.{by, functions_after, given, module_after, type_names_after, types_given, types_not_given}
 use Rattle.walrus_naming.proofs.Becoming.{item_renamed}
 use Rattle.walrus_naming.proofs.Locals.{local_given}
 use Rattle.walrus_naming.proofs.Put.{both_there}
-use Rattle.walrus_naming.proofs.Whole.{field_stays, finishing, is_renamed}
+use Rattle.walrus_naming.proofs.Whole.{Renames, field_stays, finishing, names_become}
 
 -- ---- the name at a place
 
-last_of_one : (o : Option Name) → last_or None (option_to_list o) ≡ o
+pub last_of_one : (o : Option Name) → last_or None (option_to_list o) ≡ o
 last_of_one None = refl
 last_of_one (Some name) = refl
 
@@ -73,7 +73,7 @@ module _ {X : Type 0} (mend : (Option Name → Option Name) → X → X) (name :
     unnamed_then keeps none = at_place ∙ still_none (names i) (item_at old i) keeps none
 
 -- the name of a local is that of its value
-name_of_value : (slots : List (Option Local)) (p : ℕ) → name_at (λ (l : Local). name_bytes l.name) (item_at slots p) ≡ name_at (λ (l : LocalValue). l.name) (item_at (map (option_map local_value) slots) p)
+pub name_of_value : (slots : List (Option Local)) (p : ℕ) → name_at (λ (l : Local). name_bytes l.name) (item_at slots p) ≡ name_at (λ (l : LocalValue). l.name) (item_at (map (option_map local_value) slots) p)
 name_of_value [] p = refl
 name_of_value (None ∷ slots) zero = refl
 name_of_value (Some l ∷ slots) zero = refl
@@ -116,8 +116,8 @@ module _ (b : Bounds) (namings : List Named) (old new : Contents) (are : shown n
   abbrev s : Shown
   s = shown old
 
-  abbrev made : IsRenamed s (all_by b namings s)
-  made = is_renamed b namings s
+  abbrev made : Renames s (all_by b namings s)
+  made = names_become b namings s
 
   parameters_taken : (i : ℕ) → parameters_at (item_at (all_named b s namings).functions i) ≡ parameters_at (item_at (functions old.funcs) i)
   parameters_taken i =

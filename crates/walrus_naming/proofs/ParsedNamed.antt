@@ -231,10 +231,12 @@ module _ (before c : Config) (m : Abstract) (b : Bounds) (namings : List Named) 
             AllSeen (Some c) = IsSome (c.local_type p)
           by_kind (kind.Uninitialized ty) e = absurd (let no : ◌≡◌ {A = Option Body} None (Some b) = e in cc)
 
-  -- the module with its names is what was read with the names that are given to it
-  pub parsed_named : ParsedAs c (record m { named = names_in_range m namings }) (contents_view new)
-  parsed_named =
+  -- the module with its names is what was read with the names that are given to it, and each number stays
+  pub parsed_in_place : (p : ParsedAs c (other m n) (contents_view new)) × (p.renaming ≡ h.renaming)
+  parsed_in_place =
       let same : contents_view new ≡ record (contents_view old) { named = named_of new } = same_but_named old new (subst (λ s. IsRenamed (shown old) s) (sym are) (is_renamed b namings (shown old))) in
-      let on_old : (x : Subject) → own_name (record (contents_view old) { named = named_of new }) x ≡ own_name (contents_view new) x = λ x. refl in
-      subst (λ (v : Abstract). ParsedAs c (other m n) v) (sym same)
+      subst (λ (v : Abstract). (p : ParsedAs c (other m n) v) × (p.renaming ≡ h.renaming)) (sym same)
       (parsed_aside before c m (contents_view old) n (named_of new) h own items added local_named)
+
+  pub parsed_named : ParsedAs c (record m { named = names_in_range m namings }) (contents_view new)
+  parsed_named = parsed_in_place.0

@@ -8,12 +8,12 @@ use Rattle.walrus_base.specs.Arena.{item_at}
 use Rattle.walrus_types.specs.Operators.{Functions, Tables, Memories, Tags, Globals, Elements, DataSegments}
 use Rattle.walrus_items.specs.Functions.{FunctionValue}
 use Rattle.walrus_model.specs.Abstract.{Name}
-use Rattle.walrus_naming.specs.Renamed.{last_given, renamed_from}
-use Rattle.walrus_naming.specs.Shown.{IsRenamed, LocalValue, Shown, mend_function, mend_local}
+use Rattle.walrus_naming.specs.Renamed.{last_given, nameless, renamed_from}
+use Rattle.walrus_naming.specs.Shown.{IsRenamed, LocalValue, Shown, mend_function, mend_table, mend_memory, mend_tag, mend_global, mend_element, mend_data, mend_local}
 use Rattle.walrus_naming.specs.Synthetic.{AreNamed, all_filled, filled_if, finished, named_by as all_by, parameters_at, text_of_function, text_of_local}
 use Rattle.walrus_naming.specs.Taken.{Bounds, TakesNames, all_named, local_in, place_of, starts_from}
 use Rattle.walrus_naming.proofs.AfterAll.{by, data_after, elements_after, functions_after, given, globals_after, locals_after, memories_after, others_after, tables_after, tags_after}
-use Rattle.walrus_naming.proofs.Becoming.{renamed_same, renamed_twice}
+use Rattle.walrus_naming.proofs.Becoming.{renamed_same, renamed_twice, seen_renamed}
 use Rattle.walrus_naming.proofs.Finished.{AreFilled, are_filled, others_filled}
 
 -- the namings are taken, and then names are given
@@ -29,6 +29,57 @@ Becomes = Option Name → Option Name
 
 abbrev as_it_was : Becomes
 as_it_was old = old
+
+-- ---- all but the names
+
+-- each item, and each local, is as it was but for its name, which becomes this, and all else is as it was
+pub record Renames (old new : Shown) : Type 0 where
+  pub types : new.types ≡ old.types
+  pub functions_become : ℕ → Becomes
+  pub functions : new.functions ≡ renamed_from mend_function functions_become 0 old.functions
+  pub tables_become : ℕ → Becomes
+  pub tables : new.tables ≡ renamed_from mend_table tables_become 0 old.tables
+  pub memories_become : ℕ → Becomes
+  pub memories : new.memories ≡ renamed_from mend_memory memories_become 0 old.memories
+  pub tags_become : ℕ → Becomes
+  pub tags : new.tags ≡ renamed_from mend_tag tags_become 0 old.tags
+  pub globals_become : ℕ → Becomes
+  pub globals : new.globals ≡ renamed_from mend_global globals_become 0 old.globals
+  pub elements_become : ℕ → Becomes
+  pub elements : new.elements ≡ renamed_from mend_element elements_become 0 old.elements
+  pub data_become : ℕ → Becomes
+  pub data_segments : new.data_segments ≡ renamed_from mend_data data_become 0 old.data_segments
+  pub locals_become : ℕ → Becomes
+  pub locals : new.locals ≡ renamed_from mend_local locals_become 0 old.locals
+  pub imports : new.imports ≡ old.imports
+  pub exports : new.exports ≡ old.exports
+  pub start : new.start ≡ old.start
+  pub producers : new.producers ≡ old.producers
+
+-- without names, renamed items are as they were
+nameless_then : {X : Type 0} (mend : Becomes → X → X) → ((g : Becomes) (x : X) → mend (λ name. None) (mend g x) ≡ mend (λ name. None) x)
+    → (becomes : ℕ → Becomes) (old new : List (Option X)) → new ≡ renamed_from mend becomes 0 old → nameless mend new ≡ nameless mend old
+nameless_then mend same becomes old new are = ap (nameless mend) are ∙ seen_renamed mend (mend (λ name. None)) same becomes 0 old
+
+-- and so all is the same but for names
+pub nothing_else : (old new : Shown) → Renames old new → IsRenamed old new
+nothing_else old new h = λ j. record {
+  types = h.types j;
+  type_names = [];
+  functions = nameless_then mend_function (λ g x. refl) h.functions_become old.functions new.functions h.functions j;
+  tables = nameless_then mend_table (λ g x. refl) h.tables_become old.tables new.tables h.tables j;
+  memories = nameless_then mend_memory (λ g x. refl) h.memories_become old.memories new.memories h.memories j;
+  tags = nameless_then mend_tag (λ g x. refl) h.tags_become old.tags new.tags h.tags j;
+  globals = nameless_then mend_global (λ g x. refl) h.globals_become old.globals new.globals h.globals j;
+  elements = nameless_then mend_element (λ g x. refl) h.elements_become old.elements new.elements h.elements j;
+  data_segments = nameless_then mend_data (λ g x. refl) h.data_become old.data_segments new.data_segments h.data_segments j;
+  locals = nameless_then mend_local (λ g x. refl) h.locals_become old.locals new.locals h.locals j;
+  name = None;
+  imports = h.imports j;
+  exports = h.exports j;
+  start = h.start j;
+  producers = h.producers j;
+}
 
 -- ---- where names are given, or not
 
@@ -88,8 +139,8 @@ module _ (b : Bounds) (namings : List Named) (s : Shown) where
   pub field_stays : {Y : Type 0} (field : Shown → Y) → ((s : Shown) (fs : List (Option FunctionValue)) (ls : List (Option LocalValue)) → field (record s { functions = fs; locals = ls }) ≡ field s) → field (all_by b namings s) ≡ field taken
   field_stays field same = other_field field same b.synthetic b.starts taken
 
-  abbrev pub is_renamed : IsRenamed s (all_by b namings s)
-  is_renamed = record {
+  abbrev pub names_become : Renames s (all_by b namings s)
+  names_become = record {
     types = field_stays (λ t. t.types) (λ t fs ls. refl) ∙ others_after (λ t. t.types) b (λ t naming. refl) namings s;
     functions_become = λ i old. finishing.functions_become i (by namings Functions i old);
     functions = finishing.functions ∙ ap (renamed_from mend_function finishing.functions_become 0) (functions_after b namings s) ∙ renamed_twice mend_function (λ f g x. refl) (by namings Functions) finishing.functions_become 0 s.functions;
@@ -112,3 +163,7 @@ module _ (b : Bounds) (namings : List Named) (s : Shown) where
     start = field_stays (λ t. t.start) (λ t fs ls. refl) ∙ others_after (λ t. t.start) b (λ t naming. refl) namings s;
     producers = field_stays (λ t. t.producers) (λ t fs ls. refl) ∙ others_after (λ t. t.producers) b (λ t naming. refl) namings s;
   }
+
+  -- only names become others
+  pub is_renamed : IsRenamed s (all_by b namings s)
+  is_renamed = nothing_else s (all_by b namings s) names_become

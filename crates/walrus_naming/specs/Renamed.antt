@@ -1,5 +1,5 @@
 -- What becomes of the names of items that stand place by place.
-use Rattle.std.specs.Prelude.{ℕ, ◌+◌, Bool, true, false, ◌==◌, List, [], ◌∷◌, Option, Some, None, option_map}
+use Rattle.std.specs.Prelude.{ℕ, ◌+◌, Bool, true, false, ◌==◌, List, [], ◌∷◌, Option, Some, None, map, option_map}
 use Rattle.std.specs.List.{last_or}
 use Rattle.walrus_model.specs.Abstract.{Name}
 
@@ -13,6 +13,10 @@ named_if true name old = Some name
 named_if false name old = old
 
 module _ {X : Type 0} (mend : (Option Name → Option Name) → X → X) where
+  -- each item without its name
+  abbrev pub nameless : List (Option X) → List (Option X)
+  nameless slots = map (option_map (mend (λ name. None))) slots
+
   -- from this place on, each item with what becomes of its name
   abbrev pub renamed_from : (names : ℕ → Option Name → Option Name) → ℕ → List (Option X) → List (Option X)
   renamed_from names place [] = []

@@ -1,5 +1,5 @@
 -- What a module holds, with the names of its items as bytes.
-use Rattle.std.specs.Prelude.{ℕ, List, Option, map, option_map, ◌≡◌}
+use Rattle.std.specs.Prelude.{ℕ, List, [], Option, None, map, option_map, ◌≡◌}
 use Rattle.walrus_base.specs.declared.id.Id.{Id}
 use Rattle.walrus_base.specs.declared.keys.FunctionKey.{FunctionKey}
 use Rattle.walrus_types.specs.Locals.{locals, local_place, local_type}
@@ -20,7 +20,7 @@ use Rattle.walrus_items.specs.Tags.{TagValue, tags}
 use Rattle.walrus_producers.specs.declared.producers.ModuleProducers.{ModuleProducers}
 use Rattle.walrus_model.specs.Abstract.{Name}
 use Rattle.walrus_contents.specs.declared.parts.Contents.{Contents}
-use Rattle.walrus_naming.specs.Renamed.{renamed_from}
+use Rattle.walrus_naming.specs.Renamed.{nameless}
 
 -- the place of a local's own id, its type, and the bytes of its name
 pub record LocalValue : Type 0 where
@@ -103,26 +103,21 @@ mend_local becomes l = record l { name = becomes l.name }
 
 -- ---- all but the names
 
--- each item, and each local, is as it was but for its name, and all else is as it was
-pub record IsRenamed (old new : Shown) : Type 0 where
-  pub types : new.types ≡ old.types
-  pub functions_become : ℕ → Option Name → Option Name
-  pub functions : new.functions ≡ renamed_from mend_function functions_become 0 old.functions
-  pub tables_become : ℕ → Option Name → Option Name
-  pub tables : new.tables ≡ renamed_from mend_table tables_become 0 old.tables
-  pub memories_become : ℕ → Option Name → Option Name
-  pub memories : new.memories ≡ renamed_from mend_memory memories_become 0 old.memories
-  pub tags_become : ℕ → Option Name → Option Name
-  pub tags : new.tags ≡ renamed_from mend_tag tags_become 0 old.tags
-  pub globals_become : ℕ → Option Name → Option Name
-  pub globals : new.globals ≡ renamed_from mend_global globals_become 0 old.globals
-  pub elements_become : ℕ → Option Name → Option Name
-  pub elements : new.elements ≡ renamed_from mend_element elements_become 0 old.elements
-  pub data_become : ℕ → Option Name → Option Name
-  pub data_segments : new.data_segments ≡ renamed_from mend_data data_become 0 old.data_segments
-  pub locals_become : ℕ → Option Name → Option Name
-  pub locals : new.locals ≡ renamed_from mend_local locals_become 0 old.locals
-  pub imports : new.imports ≡ old.imports
-  pub exports : new.exports ≡ old.exports
-  pub start : new.start ≡ old.start
-  pub producers : new.producers ≡ old.producers
+-- all that is shown, without a name; those of types are a list of their own
+abbrev pub without_names : Shown → Shown
+without_names s = record s {
+  type_names = [];
+  functions = nameless mend_function s.functions;
+  tables = nameless mend_table s.tables;
+  memories = nameless mend_memory s.memories;
+  tags = nameless mend_tag s.tags;
+  globals = nameless mend_global s.globals;
+  elements = nameless mend_element s.elements;
+  data_segments = nameless mend_data s.data_segments;
+  locals = nameless mend_local s.locals;
+  name = None;
+}
+
+-- all but the names is the same
+abbrev pub IsRenamed : (old new : Shown) → Type 0
+IsRenamed old new = without_names new ≡ without_names old

@@ -45,7 +45,8 @@ pub trait CustomSection: Drop {
         ensures fails { FailsAsSection (may_refuse self.now) result };
 
     /// Asks to keep what the section refers to, behind what was asked for before, and does nothing else. A section
-    /// that refers to nothing answers `Ok(())`.
+    /// that refers to nothing answers `Ok(())`. [`Roots`] has no call for types, element segments and data segments, so that none is
+    /// asked for.
     fn add_gc_roots(&self, roots: &mut Roots) -> Result<()>
         ensures value { OnOk result (roots.new ≡ with_roots roots.old (own_roots self.now)) }
         ensures fails { FailsAsSection (may_refuse self.now) result };

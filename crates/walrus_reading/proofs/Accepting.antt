@@ -14,7 +14,7 @@ use Rattle.walrus_model.specs.Reads.{declared, ReadsBodyWith}
 use Rattle.walrus_model.specs.Sections.{custom_of, customs_of}
 use Rattle.walrus_rules.specs.Chain.{ParsedAs}
 use Rattle.walrus_rules.specs.Features.{features_of}
-use Rattle.walrus_rules.specs.Headline.{Reads, field_of}
+use Rattle.walrus_rules.specs.Headline.{ReadsModule, field_of}
 use Rattle.walrus_rules.specs.Sections.{module_of}
 use Rattle.walrus_contents.specs.View.{contents_view}
 use Rattle.walrus_contents.specs.declared.parts.Contents.{Contents}
@@ -23,7 +23,7 @@ use Rattle.walrus_records.specs.Rules.{OnlyRecords}
 use Rattle.walrus_records.proofs.Agree.{agree, reads_agree}
 use Rattle.walrus_reading.specs.Customs.{kept_customs}
 use Rattle.walrus_reading.specs.Named.{HasNames}
-use Rattle.walrus_reading.specs.Parsed.{IsParsed}
+use Rattle.walrus_reading.specs.Parsed.{IsParsed, LocalsInTurn}
 use Rattle.walrus_reading.specs.Producers.{HoldsProducers}
 use Rattle.walrus_reading.specs.Stays.{AllStay}
 use Rattle.walrus_reading.proofs.KeptSegments.{no_elements_past, none_past}
@@ -46,10 +46,10 @@ is_parsed c features bytes r m customs same framed rules h held kept =
     let renamed = renamed_by_names h.bounds r.customs h.before m h.named in
     let known : AllZip (Names (is_known h.starts)) (name_payloads r.customs) h.named.namings =
     subst (λ (starts : List ℕ). AllZip (Names (is_known starts)) (name_payloads r.customs) h.named.namings) h.are_bounds.starts_are h.named.read in
-    let made : ParsedAs c (module_of r t.bodies ps names) (record (contents_view m) { customs = customs_of r.customs }) =
+    let made : (p : ParsedAs c (module_of r t.bodies ps names) (record (contents_view m) { customs = customs_of r.customs })) × LocalsInTurn (module_of r t.bodies ps names) p.renaming =
     comes_out c features r h.before m h.starts h.taken ps names h.bounds only.as_many_bodies (record { tables = no_elements_past r all.elements; memories = none_past r all.data_segments })
     (ap producers (sym renamed.producers) ∙ held.are) h.are_bounds h.asked h.named.are in
-    let reads : Reads c bytes (module_of r t.bodies ps names) = record {
+    let reads : ReadsModule c bytes (module_of r t.bodies ps names) = record {
       sections = r;
       framed = framed;
       in_order = only.in_order;
@@ -63,9 +63,12 @@ is_parsed c features bytes r m customs same framed rules h held kept =
       produced = held.read;
       is = refl;
     } in
+    let kept_too : (p : ParsedAs c (module_of r t.bodies ps names) (record (contents_view m) { customs = map custom_of customs })) × LocalsInTurn (module_of r t.bodies ps names) p.renaming =
+    subst (λ (cs : List Custom). (p : ParsedAs c (module_of r t.bodies ps names) (record (contents_view m) { customs = cs })) × LocalsInTurn (module_of r t.bodies ps names) p.renaming) (sym (ap (map custom_of) kept)) made in
     record {
       module_read = module_of r t.bodies ps names;
       reads = reads;
       holds = (reads_agree c bytes (module_of r t.bodies ps names) reads).0 rules;
-      parsed = subst (λ (cs : List Custom). ParsedAs c (module_of r t.bodies ps names) (record (contents_view m) { customs = cs })) (sym (ap (map custom_of) kept)) made;
+      parsed = kept_too.0;
+      in_turn = kept_too.1;
     }

@@ -17,7 +17,7 @@ use Rattle.walrus_contents.proofs.ExportedRefs.{contained_has}
 use Rattle.walrus_contents.proofs.TypeLists.{in_range}
 use Rattle.walrus_model.proofs.Lists.{Contains-head, Contains-tail, Contains-uncons, Contains-none}
 use Rattle.walrus_model.proofs.Standing.{none_there}
-use Rattle.walrus_rules.specs.Pinned.{IsDeclared}
+use Rattle.walrus_rules.specs.Pinned.{DeclaresLocal}
 use Rattle.walrus_rules.specs.WellMade.{IsCounted}
 use Rattle.walrus_reading.proofs.BothTests.{both_pass, pass_both}
 
@@ -65,12 +65,12 @@ module _ (f : LocalFunction) (all : ModuleLocals) where
   abbrev ones : List ℕ
   ones = filter (is_declared f) (range_with_len 0 (length (locals all)))
 
-  one_is : (x : ℕ) → Contains ones x → IsDeclared (body all f) x
+  one_is : (x : ℕ) → Contains ones x → DeclaresLocal (body all f) x
   one_is x c =
       let parts = both_pass (has (locals_of (body_of f)) x) (not (has (map place f.args.items) x)) (passed (is_declared f) (range_with_len 0 (length (locals all))) x c) in
       (contained_has (locals_of (body_of f)) x parts.0, λ among. not_true (has (map place f.args.items) x) parts.1 (has_contained (map place f.args.items) x among))
 
-  is_one : (x : ℕ) → x < length (locals all) → IsDeclared (body all f) x → Contains ones x
+  is_one : (x : ℕ) → x < length (locals all) → DeclaresLocal (body all f) x → Contains ones x
   is_one x within d =
       let ranged : Contains (range_with_len 0 (length (locals all))) x = subst (Contains (range_with_len 0 (length (locals all)))) (let e : 0 + x ≡ x = omega arith in e) (in_range 0 (length (locals all)) x within) in
       in_filter (is_declared f) (range_with_len 0 (length (locals all))) x ranged

@@ -34,10 +34,10 @@ by_value true none = absurd (none refl)
 by_value false none = refl
 
 module _ (f : FunctionType) (ts : List TypeDef) (p : ℕ) where
-  in_list : slots.StandsAt f (map Some ts) p → chain.StandsAt (function_comp f) ts p
+  in_list : slots.StandsAt f (map Some ts) p → chain.IsLoneTypeAt (function_comp f) ts p
   in_list h = (sym (item_there ts p) ∙ h.0, λ at. let yes : has (comp_names (function_comp f)) p ≡ true = has_contained (comp_names (function_comp f)) p at in let no : has (comp_names (function_comp f)) p ≡ false = h.1 in absurd (cc))
 
-  in_slots : chain.StandsAt (function_comp f) ts p → slots.StandsAt f (map Some ts) p
+  in_slots : chain.IsLoneTypeAt (function_comp f) ts p → slots.StandsAt f (map Some ts) p
   in_slots h = (item_there ts p ∙ h.0, by_value (has (comp_names (function_comp f)) p) (λ yes. h.1 (contained_has (comp_names (function_comp f)) p yes)))
 
 -- a list of types that is found, or one longer
@@ -45,7 +45,7 @@ abbrev pub Grows : (ts : List TypeDef) (new : List (Option TypeDef)) → (List T
 Grows ts new P = (next : List TypeDef) × ((new ≡ map Some next) × P next)
 
 one_found : (f : FunctionType) (ts : List TypeDef) (new : List (Option TypeDef)) (old_names new_names : List (Option (Option (List ℕ)))) (p : ℕ) → slots.FoundOrAdded f (map Some ts) new old_names new_names p
-    → Grows ts new (λ next. chain.FoundOrAdded (function_comp f) ts next p)
+    → Grows ts new (λ next. chain.TypeIsFoundOrAdded (function_comp f) ts next p)
 one_found f ts new old_names new_names p (slots.Found stands same names) = (ts, (same, chain.Found (in_list f ts p stands.0) (λ q lt at. stands.1 q lt (in_slots f ts q at)) refl))
 one_found f ts new old_names new_names p (slots.Added none at made names) =
     let one : TypeDef = chain.alone p (function_comp f) in
@@ -68,7 +68,7 @@ pub types_stay : (fs : List FunctionType) (old new : Slots) (ps : List ℕ) → 
 types_stay _ _ _ _ (Nothing s) = stays_same s.types s.types refl
 types_stay _ _ _ _ (AndOne f fs old middle new p ps one rest) = stays_trans old.types middle.types new.types (one_stays f old middle p one) (types_stay fs middle new ps rest)
 
-one_longer : (comp : CompType ℕ) (old new : List TypeDef) (p : ℕ) → chain.FoundOrAdded comp old new p → StaysInFront old new
+one_longer : (comp : CompType ℕ) (old new : List TypeDef) (p : ℕ) → chain.TypeIsFoundOrAdded comp old new p → StaysInFront old new
 one_longer comp old new p (chain.Found stands first same) = stays_same old new same
 one_longer comp old new p (chain.Added none at made) = (chain.alone p comp ∷ [], made)
 

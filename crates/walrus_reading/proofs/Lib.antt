@@ -12,9 +12,12 @@ pub mod Grown
 pub mod Held
 pub mod KeptSegments
 pub mod LocalStarts
+pub mod LocalsCounted
+pub mod LocalsStand
 pub mod Locating
 pub mod NamesJoined
 pub mod NamesTaken
+pub mod NamesTold
 pub mod NarrowRules
 pub mod Numbered
 pub mod Parsing

@@ -13,6 +13,7 @@ use Rattle.walrus_model.specs.Abstract.{Abstract, Name, ProducerField, Subject, 
 use Rattle.walrus_model.specs.Config.{Config}
 use Rattle.walrus_model.specs.Producers.{produced}
 use Rattle.walrus_model.specs.Reads.{ReadsBodyWith}
+use Rattle.walrus_model.specs.Renaming.{Renaming}
 use Rattle.walrus_model.specs.Sections.{Said, customs_of, data_segments_of, elements_of, function_types, imported, imported_function, imported_type, memories_of, tables_of, types_of}
 use Rattle.walrus_rules.specs.Chain.{ParsedAs}
 use Rattle.walrus_rules.specs.Headline.{has_function, payloads}
@@ -20,15 +21,18 @@ use Rattle.walrus_rules.specs.Namings.{is_in_range, names_given, names_in_range}
 use Rattle.walrus_rules.specs.Sections.{items_of, module_of}
 use Rattle.walrus_contents.specs.View.{contents_view}
 use Rattle.walrus_contents.specs.declared.parts.Contents.{Contents}
+use Rattle.walrus_naming.specs.Laws.{IsUnnamed}
 use Rattle.walrus_naming.specs.Shown.{shown}
 use Rattle.walrus_naming.specs.Synthetic.{named_by}
 use Rattle.walrus_naming.specs.Taken.{Bounds, is_known, name_payloads, starts_from}
-use Rattle.walrus_naming.proofs.ParsedNamed.{parsed_named}
+use Rattle.walrus_naming.proofs.ParsedNamed.{parsed_in_place}
 use Rattle.walrus_reading.specs.Held.{memory_keeps, table_keeps}
 use Rattle.walrus_reading.specs.Named.{AreBounds}
+use Rattle.walrus_reading.specs.Parsed.{LocalsInTurn}
 use Rattle.walrus_reading.specs.Taken.{HasTakenWith, local_counts, locals_said, starts_of}
 use Rattle.walrus_reading.proofs.BeforeNames.{is_unnamed, unnamed_module}
-use Rattle.walrus_reading.proofs.CustomsAside.{customs_aside, with_customs}
+use Rattle.walrus_reading.proofs.CustomsAside.{customs_aside, renaming_aside, with_customs}
+use Rattle.walrus_reading.proofs.LocalsCounted.{counted_up_to}
 use Rattle.walrus_reading.proofs.Numbered.{types_many}
 
 -- no table keeps an element segment, and no memory a data segment, past the last of these
@@ -110,12 +114,19 @@ module _ (r : wire.Module) (bodies : List Said) (ps : List ProducerField) where
 
 pub comes_out : (c : Config) (features : Features) (r : wire.Module) (old new : Contents) (starts : List ℕ) (t : HasTakenWith features r old starts) (ps : List ProducerField) (namings : List Named) (b : Bounds)
     → length r.bodies ≡ length r.functions → KeepNonePast r → (contents_view old).producers ≡ produced ps → AreBounds r starts b → b.synthetic ≡ c.synthetic_names → shown new ≡ named_by b namings (shown old)
-    → ParsedAs c (module_of r t.taken.bodies ps namings) (record (contents_view new) { customs = customs_of r.customs })
+    → (p : ParsedAs c (module_of r t.taken.bodies ps namings) (record (contents_view new) { customs = customs_of r.customs })) × LocalsInTurn (module_of r t.taken.bodies ps namings) p.renaming
 comes_out c features r old new starts t ps namings b many past put_in bounds asked are =
     let before : Config = record c { synthetic_names = false } in
     let m : Abstract = without r t.taken.bodies ps in
-    let unnamed = is_unnamed features r old many t.taken ps before refl past.tables past.memories put_in b bounds.types (bounds.starts_are ∙ t.starts_are) in
-    let named : ParsedAs c (record m { named = names_in_range m namings }) (contents_view new) = parsed_named before c m b namings old new unnamed asked are in
+    let unnamed : IsUnnamed before m b old = is_unnamed features r old many t.taken ps before refl past.tables past.memories put_in b bounds.types (bounds.starts_are ∙ t.starts_are) in
+    let named = parsed_in_place before c m b namings old new unnamed asked are in
+    let given : Abstract = record m { named = names_in_range m namings } in
     let whole : ParsedAs c (record (items_of r t.taken.bodies ps) { named = names_in_range m namings }) (with_customs (contents_view new) (customs_of r.customs)) =
-    customs_aside c (record m { named = names_in_range m namings }) (contents_view new) (customs_of r.customs) named in
-    subst (λ (n : Subject → List Name). ParsedAs c (record (items_of r t.taken.bodies ps) { named = n }) (with_customs (contents_view new) (customs_of r.customs))) (same_names r t.taken.bodies ps namings) whole
+    customs_aside c given (contents_view new) (customs_of r.customs) named.0 in
+    let stays : whole.renaming ≡ unnamed.parsed.renaming = renaming_aside c given (contents_view new) (customs_of r.customs) named.0 ∙ named.1 in
+    let first : LocalsInTurn m unnamed.parsed.renaming =
+    λ f a x is typed. counted_up_to r t.taken.bodies b.starts (bounds.starts_are ∙ t.starts_are) f x (unnamed.parsed.renaming.locals f x) (unnamed.places f a x is typed) in
+    let turn : LocalsInTurn (record (items_of r t.taken.bodies ps) { named = names_in_range m namings }) whole.renaming =
+    subst (λ (moves : Renaming). LocalsInTurn m moves) (sym stays) first in
+    subst (λ (n : Subject → List Name). (p : ParsedAs c (record (items_of r t.taken.bodies ps) { named = n }) (with_customs (contents_view new) (customs_of r.customs))) × LocalsInTurn (record (items_of r t.taken.bodies ps) { named = n }) p.renaming)
+    (same_names r t.taken.bodies ps namings) (whole, turn)

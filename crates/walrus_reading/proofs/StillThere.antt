@@ -15,7 +15,8 @@ use Rattle.walrus_model.specs.Sections.{imported, imported_function}
 use Rattle.walrus_model.proofs.Standing.{some_inj}
 use Rattle.walrus_contents.specs.declared.parts.Contents.{Contents}
 use Rattle.walrus_naming.specs.Renamed.{renamed_from}
-use Rattle.walrus_naming.specs.Shown.{IsRenamed, LocalValue, local_value, local_values, mend_data, mend_element, mend_function, mend_global, mend_local, mend_memory, mend_table, mend_tag, shown}
+use Rattle.walrus_naming.specs.Shown.{LocalValue, local_value, local_values, mend_data, mend_element, mend_function, mend_global, mend_local, mend_memory, mend_table, mend_tag, shown}
+use Rattle.walrus_naming.proofs.Whole.{Renames}
 use Rattle.walrus_producers.specs.declared.producers.ModuleProducers.{ModuleProducers}
 use Rattle.walrus_reading.specs.Parsed.{ItemsAtOwnIds}
 use Rattle.walrus_reading.specs.Producers.{HoldsProducers}
@@ -56,7 +57,7 @@ values_own slots h i v e = let x = local_at slots i v e in sym (ap (λ (u : Loca
 locals_own : (slots : List (Option Local)) → AtOwnIds (λ (v : LocalValue). v.id) (map (option_map local_value) slots) → AtOwnIds local_place slots
 locals_own slots h i x e = h i (local_value x) (value_at slots i x e)
 
-pub ids_still : (old new : Contents) → IsRenamed (shown old) (shown new) → ItemsAtOwnIds old → ItemsAtOwnIds new
+pub ids_still : (old new : Contents) → Renames (shown old) (shown new) → ItemsAtOwnIds old → ItemsAtOwnIds new
 ids_still old new r h = record {
   functions = own_still mend_function (λ f. f.id) (λ g f. refl) r.functions_become _ _ r.functions h.functions;
   exports = subst (λ (all : ModuleExports). AtOwnIds (λ e. e.id) (exports all)) (sym r.exports) h.exports;
@@ -92,10 +93,10 @@ behind_located bodies becomes k zero slots h = all_located bodies becomes k slot
 behind_located bodies becomes k (suc n) [] h = h
 behind_located bodies becomes k (suc n) (s ∷ slots) h = behind_located bodies becomes (k + 1) n slots h
 
-pub located_still : (r : wire.Module) (old new : Contents) → IsRenamed (shown old) (shown new) → AreLocatedIn r (functions old.funcs) → AreLocatedIn r (functions new.funcs)
+pub located_still : (r : wire.Module) (old new : Contents) → Renames (shown old) (shown new) → AreLocatedIn r (functions old.funcs) → AreLocatedIn r (functions new.funcs)
 located_still r old new is h =
     let n : ℕ = length (imported imported_function 0 r.imports) in
     subst (λ (l : List (Option FunctionValue)). AllZip IsLocated r.bodies (drop n l)) (sym is.functions) (behind_located r.bodies is.functions_become 0 n (functions old.funcs) h)
 
-pub produced_still : (r : wire.Module) (old new : Contents) → IsRenamed (shown old) (shown new) → HoldsProducers r old.producers → HoldsProducers r new.producers
+pub produced_still : (r : wire.Module) (old new : Contents) → Renames (shown old) (shown new) → HoldsProducers r old.producers → HoldsProducers r new.producers
 produced_still r old new is h = subst (λ (made : ModuleProducers). HoldsProducers r made) (sym is.producers) h

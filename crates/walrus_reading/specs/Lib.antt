@@ -10,3 +10,4 @@ pub mod Producers
 pub mod Sections
 pub mod Stays
 pub mod Taken
+pub mod Told

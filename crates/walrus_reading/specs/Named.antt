@@ -1,4 +1,4 @@
--- What sections hold, with the names that they give.
+-- What sections hold, with the names that they give: for the functions inside. What is promised of these names stands in `IsParsed`.
 use Rattle.std.specs.Prelude.{ℕ, Bool, List, length, zip, Result, Ok, Err, ◌≡◌}
 use Rattle.std.specs.List.{AllZip}
 use Rattle.wasm_frames.specs.Record as wire

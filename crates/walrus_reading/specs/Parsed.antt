@@ -1,16 +1,18 @@
 -- What parsing gives, and when it refuses.
 use Rattle.wasm_frames.specs.Record as wire
-use Rattle.std.specs.Prelude.{ℕ, Bool, List, map, zip, ◌≡◌, ⊤}
-use Rattle.walrus_model.specs.Abstract.{Abstract}
+use Rattle.std.specs.Prelude.{ℕ, ◌+◌, Bool, List, length, Option, Some, None, IsSome, map, sum_by, zip, ◌≡◌, ⊤}
+use Rattle.walrus_model.specs.Abstract.{Abstract, Body}
 use Rattle.walrus_model.specs.Config.{Config}
 use Rattle.walrus_rules.specs.Chain.{ParsedAs}
 use Rattle.walrus_rules.specs.Features.{features_of}
-use Rattle.walrus_rules.specs.Headline.{Accepts, Reads}
+use Rattle.walrus_rules.specs.Headline.{Accepts, ReadsModule}
 use Rattle.walrus_model.specs.Reads.{ReadsBodyWith}
 use Rattle.walrus_bodies.specs.declared.features.Features.{Features}
 use Rattle.walrus_model.specs.Sections.{Said, custom_of}
+use Rattle.walrus_model.specs.Names.{body_of}
+use Rattle.walrus_model.specs.Renaming.{Renaming}
 use Rattle.walrus_model.specs.Rules.{Holds}
-use Rattle.std.specs.List.{AllZip}
+use Rattle.std.specs.List.{AllZip, range_with_len}
 use Rattle.walrus_items.specs.Functions.{ModuleFunctions, functions}
 use Rattle.walrus_items.specs.Imports.{imports}
 use Rattle.walrus_items.specs.Data.{data_segments}
@@ -24,8 +26,8 @@ use Rattle.walrus_contents.specs.View.{contents_view}
 use Rattle.walrus_contents.specs.declared.parts.Contents.{Contents}
 use Rattle.walrus_reading.specs.Customs.{kept_customs, section_seen}
 use Rattle.walrus_reading.specs.declared.module.ReadModule.{ReadModule}
-use Rattle.walrus_reading.specs.Named.{HasNames}
-use Rattle.walrus_reading.specs.Taken.{AreLocatedIn}
+use Rattle.walrus_naming.specs.Shown.{IsRenamed, shown}
+use Rattle.walrus_reading.specs.Taken.{AreLocatedIn, HasTaken}
 use Rattle.wasm_frames.specs.Frames.{Frames}
 use Rattle.wasm_wire.specs.Rules.{Rules}
 use Rattle.walrus_parts.specs.declared.error.Error.{Error}
@@ -41,12 +43,26 @@ pub record IsReadWith (c : Config) (features : Features) (synthetic : Bool) : Ty
 abbrev pub read_view : ReadModule → Abstract
 read_view m = record (contents_view m.contents) { customs = map custom_of (map section_seen m.customs.items) }
 
--- the bytes read as a module that keeps the rules, and v is that module in memory
+-- how many locals a function has: its parameters, and those that its body declares
+abbrev pub local_count : Option Body → ℕ
+local_count None = 0
+local_count (Some b) = length b.parameters + b.declared
+
+-- how many locals the functions in front of f have
+abbrev pub locals_before : Abstract → ℕ → ℕ
+locals_before m f = sum_by (λ g. local_count (body_of m g)) (range_with_len 0 f)
+
+-- the locals of m stand function by function, each behind all those of the functions in front of its own
+abbrev pub LocalsInTurn : (m : Abstract) → Renaming → Type 0
+LocalsInTurn m r = (f : ℕ) (b : Body) (x : ℕ) → body_of m f ≡ Some b → IsSome (b.local_type x) → r.locals f x ≡ locals_before m f + x
+
+-- the bytes read as a module that keeps the rules, and v is that module in memory, where the locals stand function by function
 pub record IsParsed (c : Config) (bytes : List ℕ) (v : Abstract) : Type 0 where
   pub module_read : Abstract
-  pub reads : Reads c bytes module_read
+  pub reads : ReadsModule c bytes module_read
   pub holds : Holds module_read
   pub parsed : ParsedAs c module_read v
+  pub in_turn : LocalsInTurn module_read parsed.renaming
 
 -- parsing is refused for want of memory, or since the bytes aren't accepted
 abbrev pub RefusesBytes : Config → List ℕ → Error → Type 0
@@ -60,13 +76,15 @@ pub record AreLocated (bytes : List ℕ) (funcs : ModuleFunctions) : Type 0 wher
   pub framed : Frames bytes sections
   pub located : AreLocatedIn sections (functions funcs)
 
--- The bytes frame sections that keep the rules, and the module holds exactly them, with their names: beside its view, where each item sits, that
--- nothing is deleted, and which locals there are.
-pub record TakenFrom (features : Features) (synthetic : Bool) (bytes : List ℕ) (m : Contents) : Type 0 where
+-- The bytes frame sections that keep the rules, some contents without names hold exactly these, and m is the same but for names, which `IsParsed`
+-- tells. Beside the view: where each item sits, that nothing is deleted, and which locals there are.
+pub record TakenFrom (features : Features) (bytes : List ℕ) (m : Contents) : Type 0 where
   pub sections : wire.Module
   pub framed : Frames bytes sections
   pub rules : Rules sections
-  pub names : HasNames features synthetic sections m
+  pub unnamed : Contents
+  pub taken : HasTaken features sections unnamed
+  pub renamed : IsRenamed (shown unnamed) (shown m)
 
 -- the bytes frame sections, and of the custom ones these are kept, in their order
 pub record KeepsCustoms (bytes : List ℕ) (customs : List RawCustomSection) : Type 0 where

@@ -1,8 +1,14 @@
-//! Where what reading asks for comes from, as a contract. Nothing runs here.
+//! Where what reading asks for comes from, and what it leaves open, as contracts. Nothing runs here.
 ghost use Rattle.walrus_reading.specs.Stays.{RulesKeepIndices};
+ghost use Rattle.walrus_reading.specs.Told.{NamesTold};
 
 /// Where each declared item has the place of its index, each index that sections name leads to an item of that number, by the rules on
 /// indices.
 pub(crate) fn rules_keep_indices()
     ensures { RulesKeepIndices }
+{}
+
+/// Two modules that the same bytes are read as, and that are the same but for names, have the same names.
+pub fn names_told()
+    ensures { NamesTold }
 {}

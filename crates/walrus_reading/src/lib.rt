@@ -6,7 +6,7 @@ mod customs;
 mod elements;
 mod entities;
 mod imports;
-mod law;
+pub mod law;
 mod module;
 mod naming;
 mod numbers;

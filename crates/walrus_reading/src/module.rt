@@ -36,7 +36,7 @@ pub fn read(alloc: Global, bytes: &[u8], features: Features, synthetic: bool) ->
         → IfOk result (λ m. IsParsed c bytes.now (read_view m)) }
     ensures refused { (c : Config) → IsReadWith c features synthetic
         → IfErr result (RefusesBytes c bytes.now) }
-    ensures taken { IfOk result (λ m. TakenFrom features synthetic bytes.now m.contents) }
+    ensures taken { IfOk result (λ m. TakenFrom features bytes.now m.contents) }
     ensures own_ids { IfOk result (λ m. ItemsAtOwnIds m.contents) }
     ensures located { IfOk result (λ m. AreLocated bytes.now m.contents.funcs) }
     ensures kept { IfOk result (λ m. KeepsCustoms bytes.now m.customs.items) }

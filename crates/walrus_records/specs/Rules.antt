@@ -10,13 +10,13 @@ use Rattle.walrus_model.specs.Config.{Config}
 use Rattle.walrus_model.specs.Reads.{ReadsBodyWith}
 use Rattle.walrus_model.specs.Rules.{Holds}
 use Rattle.walrus_model.specs.Sections.{Said, module_of}
-use Rattle.walrus_rules.specs.Headline.{CountHolds, Reads}
+use Rattle.walrus_rules.specs.Headline.{DataCountHolds, ReadsModule}
 
 -- the rules that only records can break: the module that they say has no order of sections, no count, and no function without a body
 pub record OnlyRecords (s : wire.Module) : Type 0 where
   pub in_order : InOrder s.order
   pub as_many_bodies : length s.bodies ≡ length s.functions
-  pub data_count : CountHolds s
+  pub data_count : DataCountHolds s
 
 -- records whose bodies say this keep the rules exactly where their module does, and they keep the rules that only records can break
 abbrev pub RulesAgree : Type 0
@@ -24,4 +24,4 @@ RulesAgree = (features : Features) (s : wire.Module) (bodies : List Said) → Al
 
 -- what bytes read as keeps the rules exactly where its records do
 abbrev pub ReadsAgree : Type 0
-ReadsAgree = (c : Config) (bytes : List ℕ) (m : Abstract) (r : Reads c bytes m) → records.Rules r.sections ↔ Holds m
+ReadsAgree = (c : Config) (bytes : List ℕ) (m : Abstract) (r : ReadsModule c bytes m) → records.Rules r.sections ↔ Holds m

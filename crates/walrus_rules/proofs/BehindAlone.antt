@@ -6,7 +6,7 @@ use Rattle.wasm_forms.proofs.Bind.{some_same}
 use Rattle.walrus_base.specs.Types.{CompType}
 use Rattle.walrus_model.specs.Abstract.{Abstract, TypeDef}
 use Rattle.walrus_model.specs.Names.{body_of}
-use Rattle.walrus_rules.specs.Chain.{alone, FoundOrAdded, Found, Added, AreFoundOrAdded, NoMore, AndThen, AddsHandlers, NoFunction, AndThose, handlers_by}
+use Rattle.walrus_rules.specs.Chain.{alone, TypeIsFoundOrAdded, Found, Added, AreFoundOrAdded, NoMore, AndThen, AddsHandlers, NoFunction, AndThose, handlers_by}
 use Rattle.walrus_model.proofs.Lists.{Contains-head, Contains-tail}
 use Rattle.walrus_rules.proofs.StepHandlers.{AllBelow, Below}
 
@@ -27,7 +27,7 @@ module _ (n : ℕ) (P : CompType ℕ → Type 0) where
   abbrev pub AllAlone : List TypeDef → Type 0
   AllAlone l = (j : ℕ) (y : TypeDef) → n ≤ j → slice_get l j ≡ Some y → IsAlone n P j y
 
-  one_alone : (comp : CompType ℕ) (old new : List TypeDef) (p : ℕ) → FoundOrAdded comp old new p → Below n comp → P comp → AllAlone old → AllAlone new
+  one_alone : (comp : CompType ℕ) (old new : List TypeDef) (p : ℕ) → TypeIsFoundOrAdded comp old new p → Below n comp → P comp → AllAlone old → AllAlone new
   one_alone comp old new p (Found stands first same) below of h = λ j y le at. h j y le (subst (λ (l : List TypeDef). slice_get l j ≡ Some y) same at)
   one_alone comp old new p (Added none place made) below of h = λ j y le at. ⊎_elim
       (λ e. h j y le e)

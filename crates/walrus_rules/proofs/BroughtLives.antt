@@ -10,7 +10,7 @@ use Rattle.walrus_model.specs.Order.{ByImport}
 use Rattle.walrus_model.specs.Pipeline.{Collected, ReachedIsLive}
 use Rattle.walrus_model.specs.Rules.{Holds, IndicesHold}
 use Rattle.walrus_rules.specs.Chain.{BringsTo, Leaves}
-use Rattle.walrus_rules.specs.Headline.{Reads}
+use Rattle.walrus_rules.specs.Headline.{ReadsModule}
 use Rattle.walrus_rules.specs.Refused.{HasDead}
 use Rattle.walrus_model.proofs.Living.{none_dead}
 use Rattle.walrus_model.proofs.ItemRules.{indices_hold}
@@ -57,7 +57,7 @@ leaves_lives w u leaves l =
     let b = between w u leaves in
     subst Lives (sym b.same) (lives_with w leaves.functions leaves.undeclared l u.elements (subst (λ (x : Abstract). Between w x leaves.functions) b.same b))
 
-pub brought_lives : (c : Config) (bytes : List ℕ) (m u : Abstract) → Reads c bytes m → Holds m → BringsTo c m u → Lives u
+pub brought_lives : (c : Config) (bytes : List ℕ) (m u : Abstract) → ReadsModule c bytes m → Holds m → BringsTo c m u → Lives u
 brought_lives c bytes m u reads holds brings =
     let plain = read_is_plain c bytes m reads in
     let v = brings.module_parsed in

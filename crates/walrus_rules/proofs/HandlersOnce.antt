@@ -4,7 +4,7 @@ use Rattle.std.specs.Prelude.{Contains}
 use Rattle.walrus_base.specs.Types.{CompType}
 use Rattle.walrus_model.specs.Abstract.{Abstract, TypeDef}
 use Rattle.walrus_model.specs.Names.{body_of}
-use Rattle.walrus_rules.specs.Chain.{alone, StandsAt, FoundOrAdded, Found, Added, AreFoundOrAdded, NoMore, AndThen, handlers_by, AddsHandlers, NoFunction, AndThose}
+use Rattle.walrus_rules.specs.Chain.{alone, IsLoneTypeAt, TypeIsFoundOrAdded, Found, Added, AreFoundOrAdded, NoMore, AndThen, handlers_by, AddsHandlers, NoFunction, AndThose}
 use Rattle.walrus_rules.specs.OneRun.{HandlersOnce}
 use Rattle.walrus_rules.proofs.Agree.{Compared, compared}
 use Rattle.walrus_model.proofs.Lists.{Contains-uncons, Contains-none}
@@ -13,12 +13,12 @@ abbrev Same : List TypeDef → List TypeDef → ℕ → ℕ → Type 0
 Same a b p q = (a ≡ b) × (p ≡ q)
 
 module _ (comp : CompType ℕ) (old : List TypeDef) where
-  first_one : (p q : ℕ) → StandsAt comp old p → ((k : ℕ) → k < p → StandsAt comp old k → ⊥) → StandsAt comp old q → ((k : ℕ) → k < q → StandsAt comp old k → ⊥) → Compared p q → p ≡ q
+  first_one : (p q : ℕ) → IsLoneTypeAt comp old p → ((k : ℕ) → k < p → IsLoneTypeAt comp old k → ⊥) → IsLoneTypeAt comp old q → ((k : ℕ) → k < q → IsLoneTypeAt comp old k → ⊥) → Compared p q → p ≡ q
   first_one p q s f t g (inl h) = absurd (g p h s)
   first_one p q s f t g (inr (inl h)) = h
   first_one p q s f t g (inr (inr h)) = absurd (f q h t)
 
-  found_once : (a b : List TypeDef) (p q : ℕ) → FoundOrAdded comp old a p → FoundOrAdded comp old b q → Same a b p q
+  found_once : (a b : List TypeDef) (p q : ℕ) → TypeIsFoundOrAdded comp old a p → TypeIsFoundOrAdded comp old b q → Same a b p q
   found_once a b p q (Found s f e) (Found t g h) = (e ∙ sym h, first_one p q s f t g (compared p q))
   found_once a b p q (Found s f e) (Added away at is) = absurd (away p s)
   found_once a b p q (Added away at is) (Found t g h) = absurd (away q t)

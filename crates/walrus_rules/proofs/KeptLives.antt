@@ -17,7 +17,7 @@ use Rattle.walrus_model.specs.Renaming.{Renaming, renamed, renamed_table, rename
 use Rattle.walrus_model.specs.Roots.{exported, start}
 use Rattle.walrus_model.specs.Rules.{Holds}
 use Rattle.walrus_model.specs.Same.{BothAnd}
-use Rattle.walrus_rules.specs.Chain.{IsBehind, ParsedAs, alone, FoundOrAdded, Found, Added, AreFoundOrAdded, NoMore, AndThen, handlers_by, AddsHandlers, NoFunction, AndThose}
+use Rattle.walrus_rules.specs.Chain.{IsBehind, ParsedAs, alone, TypeIsFoundOrAdded, Found, Added, AreFoundOrAdded, NoMore, AndThen, handlers_by, AddsHandlers, NoFunction, AndThose}
 use Rattle.walrus_rules.specs.Once.{Premises}
 use Rattle.walrus_rules.specs.OneRun.{HandlersLive, KeptLives}
 use Rattle.walrus_rules.proofs.HandlersLive.{handlers_live}
@@ -97,7 +97,7 @@ module _ (count : ℕ) where
   one_alone place comp size t below le lt (inl at) = ⊎_elim (λ (e : place ≡ t). subst (λ n. n < size) e lt) (λ none. absurd (Contains-none t none)) (Contains-uncons place t [] at)
   one_alone place comp size t below le lt (inr at) = let h : t < count = below t at in omega (arith, h, le)
 
-  good_one : (comp : CompType ℕ) → Below comp → (old new : List TypeDef) (p : ℕ) → FoundOrAdded comp old new p → Good old → Good new
+  good_one : (comp : CompType ℕ) → Below comp → (old new : List TypeDef) (p : ℕ) → TypeIsFoundOrAdded comp old new p → Good old → Good new
   good_one comp below old new p (Found s f e) good = subst Good (sym e) good
   good_one comp below old new p (Added away at is) good = subst Good (sym is) (le, closed)
     where

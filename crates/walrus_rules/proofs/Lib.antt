@@ -107,6 +107,7 @@ pub mod ReadPlain
 pub mod Runs
 pub mod ReadExample
 pub mod WorkedRun
+pub mod WorkedReport
 pub mod WrittenOver
 pub mod OkReads
 pub mod WorkedSingle

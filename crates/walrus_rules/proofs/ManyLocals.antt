@@ -20,7 +20,7 @@ use Rattle.walrus_model.specs.Renaming.{Renaming}
 use Rattle.walrus_model.specs.Rules.{Holds}
 use Rattle.walrus_model.specs.Same.{SameType, SameBody, SameKind, SameFunction}
 use Rattle.walrus_rules.specs.Chain.{ParsedAs}
-use Rattle.walrus_rules.specs.Headline.{Reads}
+use Rattle.walrus_rules.specs.Headline.{ReadsModule}
 use Rattle.walrus_rules.specs.Once.{Premises}
 use Rattle.walrus_rules.specs.OneRun.{Fits}
 use Rattle.walrus_rules.specs.Pinned.{IsWrittenAs}
@@ -93,10 +93,10 @@ unmasked (Some x) q y e = e
 abbrev HasBodies : Abstract → Type 0
 HasBodies z = (i : ℕ) (g : Function) (a : Body) → z.functions i ≡ Some g → g.kind ≡ LocalFunction a → (said : Said) × (a ≡ body_with (params_of (z.types g.ty)) said)
 
-read_bodies : (c : Config) (bytes : List ℕ) (m : Abstract) → Reads c bytes m → HasBodies m
+read_bodies : (c : Config) (bytes : List ℕ) (m : Abstract) → ReadsModule c bytes m → HasBodies m
 read_bodies c bytes m h = subst HasBodies (sym h.is) (λ i g a e k. all_at (Fine h.sections) _ i g (functions_fine h.sections h.bodies [] []) e a k)
 
-module _ (c : Config) (bytes : List ℕ) (m v w n : Abstract) (reads : Reads c bytes m) (holds : Holds m) (p : ParsedAs c m v) (k : Collected v w) (premises : Premises (plain c m w)) (t : Text) (spells : IsSpelling n t) (is : IsWrittenAs c (plain c m w) n) (fits : Fits n) where
+module _ (c : Config) (bytes : List ℕ) (m v w n : Abstract) (reads : ReadsModule c bytes m) (holds : Holds m) (p : ParsedAs c m v) (k : Collected v w) (premises : Premises (plain c m w)) (t : Text) (spells : IsSpelling n t) (is : IsWrittenAs c (plain c m w) n) (fits : Fits n) where
   abbrev u : Abstract
   u = plain c m w
 

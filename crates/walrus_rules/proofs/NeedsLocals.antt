@@ -29,7 +29,7 @@ use Rattle.walrus_model.specs.Same.{SameType, SameBody, SameFunction}
 use Rattle.walrus_rules.specs.Examples.{no_values, the_end}
 use Rattle.walrus_rules.specs.Needs.{plain_config, IsWrittenTwice, local_text}
 use Rattle.walrus_rules.specs.Once.{NamesLive, ExportsLive, StartsLive}
-use Rattle.walrus_rules.specs.Pinned.{IsWrittenAs, GoesBefore}
+use Rattle.walrus_rules.specs.Pinned.{IsWrittenAs, LocalGoesBefore}
 use Rattle.walrus_rules.specs.Spelling.{BodyStands, NeedsCount, UsesAll, IsSpelling}
 use Rattle.walrus_rules.specs.Text.{BodyText, unplaced, said_by}
 use Rattle.walrus_model.proofs.Lists.{Contains-none, Contains-uncons}
@@ -133,9 +133,9 @@ local_names_none f u = ⊎_elim
     (λ (h : IsRefInGlobal (IsLive (said_by (local_text 0))) (said_by (local_text 0)) f). no_item h.0 h.3)
     u.named
 
-no_type : (k f : ℕ) (b : Body) (x y : ℕ) → body_of (said_by (local_text k)) f ≡ Some b → GoesBefore b x y → ⊥
+no_type : (k f : ℕ) (b : Body) (x y : ℕ) → body_of (said_by (local_text k)) f ≡ Some b → LocalGoesBefore b x y → ⊥
 no_type k f b x y e g =
-    let here : GoesBefore (the_body k) x y = subst (λ (d : Body). GoesBefore d x y) (sym (body_there k f b e)) g in
+    let here : LocalGoesBefore (the_body k) x y = subst (λ (d : Body). LocalGoesBefore d x y) (sym (body_there k f b e)) g in
     let typed : None ≡ Some here.0 = here.1.1.0 in
     cc
 

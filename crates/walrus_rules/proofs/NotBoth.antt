@@ -14,7 +14,7 @@ use Rattle.walrus_model.specs.Refers.{IsUsed}
 use Rattle.walrus_model.specs.Renaming.{renamed_table, renamed_memory}
 use Rattle.walrus_model.specs.Rules.{Holds}
 use Rattle.walrus_rules.specs.Chain.{AddsSegment, HasSegment, BringsTo}
-use Rattle.walrus_rules.specs.Headline.{Reads, NotBoth}
+use Rattle.walrus_rules.specs.Headline.{ReadsModule, NotBoth}
 use Rattle.walrus_rules.specs.Once.{Premises}
 use Rattle.walrus_rules.specs.OneRun.{Fits}
 use Rattle.walrus_rules.specs.Pinned.{IsWrittenAs}
@@ -38,7 +38,7 @@ use Rattle.walrus_rules.proofs.ReadsOnce.{reads_once_lem}
 use Rattle.walrus_rules.proofs.Things.{both_there, some_same}
 
 -- d is brought from m too; n is what m is written as, and fits
-module _ (c : Config) (bytes : List ℕ) (m d n : Abstract) (reads : Reads c bytes m) (holds : Holds m) (b : BringsTo c m d) (t : Text) (spells : IsSpelling n t) (premises : Premises (kept c m d b)) (is : IsWrittenAs c (kept c m d b) n) (fits : Fits n) (sections : (s : Section) → Contains (sections_of t) s → SectionFits s) where
+module _ (c : Config) (bytes : List ℕ) (m d n : Abstract) (reads : ReadsModule c bytes m) (holds : Holds m) (b : BringsTo c m d) (t : Text) (spells : IsSpelling n t) (premises : Premises (kept c m d b)) (is : IsWrittenAs c (kept c m d b) n) (fits : Fits n) (sections : (s : Section) → Contains (sections_of t) s → SectionFits s) where
   abbrev w : Abstract
   w = b.module_kept
 
@@ -134,11 +134,11 @@ module _ (c : Config) (bytes : List ℕ) (m d n : Abstract) (reads : Reads c byt
   fits_all (MemoryLimit i x e h) = memory_fits i x (ap (λ f. f i) (sym same.1.1) ∙ e) h
   fits_all (Unfit there h) = writes_fit h
 
-outputs : (c : Config) (bytes a : List ℕ) (m u d n : Abstract) → Reads c bytes m → Holds m → BringsTo c m u → BringsTo c m d → IsWrittenAs c u n → IsSpelledAs n a → Reads c a n → PassesLimits c d → ⊥
+outputs : (c : Config) (bytes a : List ℕ) (m u d n : Abstract) → ReadsModule c bytes m → Holds m → BringsTo c m u → BringsTo c m d → IsWrittenAs c u n → IsSpelledAs n a → ReadsModule c a n → PassesLimits c d → ⊥
 outputs c bytes a m u d n reads holds bu bd wn sa back =
     let is : IsWrittenAs c (kept c m d bd) n = subst (λ z. IsWrittenAs c z n) (one_way c m u d holds bu bd) (from_read c bytes m u n reads holds bu wn) in
     let premises : Premises (kept c m d bd) = plain_premises c m bd.module_parsed bd.module_kept bd.parsed bd.collected holds (kept_lives c bytes m bd.module_parsed bd.module_kept reads holds bd.parsed bd.collected) in
-    let again : Reads c (written_as sa.text) n = subst (λ z. Reads c z n) sa.written back in
+    let again : ReadsModule c (written_as sa.text) n = subst (λ z. ReadsModule c z n) sa.written back in
     fits_all c bytes m d n reads holds bd sa.text sa.spells premises is (read_fits c a n back) (λ s at. spelled_fits c n sa.text s sa.spells again at)
 
 pub not_both : NotBoth

@@ -12,7 +12,7 @@ use Rattle.walrus_model.specs.Renaming.{renamed_import}
 use Rattle.walrus_model.specs.Rules.{Holds}
 use Rattle.walrus_model.specs.WellMade.{import_of, ImportsMatch}
 use Rattle.walrus_rules.specs.Chain.{ParsedAs, BringsTo}
-use Rattle.walrus_rules.specs.Headline.{Reads, OneOutput}
+use Rattle.walrus_rules.specs.Headline.{ReadsModule, OneOutput}
 use Rattle.walrus_rules.specs.Once.{Premises}
 use Rattle.walrus_rules.specs.OneRun.{KeptLives}
 use Rattle.walrus_rules.specs.Pinned.{IsWrittenAs}
@@ -42,10 +42,10 @@ one_custom (x ∷ xs) s at a b = ⊎_elim
     (λ (rest : Contains (map custom_of xs) s). one_custom xs s rest a b)
     (Contains-uncons (custom_of x) s (map custom_of xs) at)
 
-pub read_customs : (c : Config) (bytes : List ℕ) (m : Abstract) → Reads c bytes m → PlainCustoms m
+pub read_customs : (c : Config) (bytes : List ℕ) (m : Abstract) → ReadsModule c bytes m → PlainCustoms m
 read_customs c bytes m h = subst PlainCustoms (sym h.is) (λ s at. one_custom _ s at)
 
-pub read_imports : (c : Config) (bytes : List ℕ) (m : Abstract) → Reads c bytes m → ImportsMatch m
+pub read_imports : (c : Config) (bytes : List ℕ) (m : Abstract) → ReadsModule c bytes m → ImportsMatch m
 read_imports c bytes m h = subst ImportsMatch (sym h.is) (imports_match h.sections h.bodies _ _)
 
 no_segment : (m : Abstract) → ImportsMatch m → BringsNoSegment m
@@ -108,7 +108,7 @@ module _ (c : Config) (m v w x y : Abstract) (p : ParsedAs c m v) (q : ParsedAs 
 abbrev pub kept : (c : Config) (m u : Abstract) → BringsTo c m u → Abstract
 kept c m u b = plain c m b.module_kept
 
-pub from_read : (c : Config) (bytes : List ℕ) (m u n : Abstract) → Reads c bytes m → Holds m → (b : BringsTo c m u) → IsWrittenAs c u n → IsWrittenAs c (kept c m u b) n
+pub from_read : (c : Config) (bytes : List ℕ) (m u n : Abstract) → ReadsModule c bytes m → Holds m → (b : BringsTo c m u) → IsWrittenAs c u n → IsWrittenAs c (kept c m u b) n
 from_read c bytes m u n reads holds b is =
     plain_written c m b.module_parsed b.module_kept b.parsed b.collected holds n
     (left_written c b.module_kept u n
@@ -119,7 +119,7 @@ from_read c bytes m u n reads holds b is =
 pub one_way : (c : Config) (m u d : Abstract) → Holds m → (a : BringsTo c m u) (b : BringsTo c m d) → kept c m u a ≡ kept c m d b
 one_way c m u d holds a b = plain_same c m a.module_parsed b.module_parsed a.module_kept b.module_kept a.parsed b.parsed a.collected b.collected holds
 
-outputs : KeptLives → (c : Config) (bytes a b : List ℕ) (m u d n e : Abstract) → Reads c bytes m → Holds m → BringsTo c m u → BringsTo c m d → IsWrittenAs c u n → IsWrittenAs c d e → IsSpelledAs n a → IsSpelledAs e b → a ≡ b
+outputs : KeptLives → (c : Config) (bytes a b : List ℕ) (m u d n e : Abstract) → ReadsModule c bytes m → Holds m → BringsTo c m u → BringsTo c m d → IsWrittenAs c u n → IsWrittenAs c d e → IsSpelledAs n a → IsSpelledAs e b → a ≡ b
 outputs lives c bytes a b m u d n e reads holds bu bd wn we sa sb =
     let premises : Premises (kept c m u bu) = plain_premises c m bu.module_parsed bu.module_kept bu.parsed bu.collected holds (lives c bytes m bu.module_parsed bu.module_kept reads holds bu.parsed bu.collected) in
     let other : IsWrittenAs c (kept c m u bu) e = subst (λ z. IsWrittenAs c z e) (sym (one_way c m u d holds bu bd)) (from_read c bytes m d e reads holds bd we) in

@@ -1,9 +1,11 @@
 -- A module has one report.
-use Rattle.std.proofs.Common.{◌≡◌, ℕ, List, ◌++◌, length, sym, ap, ap₂, ◌∙◌}
+use Rattle.std.proofs.Common.{◌≡◌, ℕ, List, ◌++◌, length, sym, ap, ap₂, ◌∙◌, subst}
 use Rattle.std.specs.Prelude.{codes}
 use Rattle.walrus_types.specs.Operators.{Space}
 use Rattle.walrus_model.specs.Abstract.{Abstract}
-use Rattle.walrus_rules.specs.Report.{line, Counts, IsLine, IsReport}
+use Rattle.walrus_model.specs.Config.{Config}
+use Rattle.walrus_rules.specs.Report.{line, Counts, IsLine, IsReport, IsReportOf}
+use Rattle.walrus_rules.proofs.ReadsOnce.{reads_once_lem}
 use Rattle.walrus_rules.proofs.SpaceList.{one_rising}
 
 one_count : (P : ℕ → Type 0) (i j : ℕ) → Counts P i → Counts P j → j ≡ i
@@ -29,3 +31,8 @@ one_report m text other a b =
     (one_line m _ (codes "elements") a.elements b.elements a.elements_are b.elements_are))
     (one_line m _ (codes "data") a.data_segments b.data_segments a.data_segments_are b.data_segments_are)
     ∙ sym a.is
+
+pub one_report_of : (c : Config) (bytes text other : List ℕ) → IsReportOf c bytes text → IsReportOf c bytes other → other ≡ text
+one_report_of c bytes text other a b =
+    let same : b.module_read ≡ a.module_read = reads_once_lem c bytes a.module_read b.module_read a.reads b.reads in
+    one_report a.module_read text other a.report (subst (λ (m : Abstract). IsReport m other) same b.report)

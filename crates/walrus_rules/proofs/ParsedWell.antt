@@ -26,7 +26,7 @@ use Rattle.walrus_model.specs.Same.{BothAnd, SameBody, SameKind, SameFunction}
 use Rattle.walrus_model.specs.WellMade.{ImportsMatch, IsWritable, import_in, import_of, kind_import, origin_import}
 use Rattle.walrus_rules.specs.Chain.{IsWholeBody, ParsedAs}
 use Rattle.walrus_rules.specs.Features.{features_of}
-use Rattle.walrus_rules.specs.Pinned.{IsDeclared}
+use Rattle.walrus_rules.specs.Pinned.{DeclaresLocal}
 use Rattle.walrus_rules.specs.WellMade.{IsWellFormed, IsWellMade}
 use Rattle.walrus_rules.proofs.Counting.{one_place, has_room}
 use Rattle.walrus_model.proofs.Follow.{used_follow}
@@ -61,7 +61,7 @@ module _ (r : Renaming) (i : ℕ) (ps : List (ValType ℕ)) (said : Said) (b : B
   within_by None x e h = let no : false ≡ true = h in absurd (cc)
 
   -- where a declared local of the new body comes from
-  from_declared : (y : ℕ) → IsDeclared b y → (k : ℕ) × (k < length said.0) × (l (length ps + k) ≡ y)
+  from_declared : (y : ℕ) → DeclaresLocal b y → (k : ℕ) × (k < length said.0) × (l (length ps + k) ≡ y)
   from_declared y d =
       let u = unmap l (used_locals (body_with ps said)) y (subst (λ xs. Contains xs y) (used_follow r i (body_with ps said) b same) d.0) in
       let high : u.0 < length (ps ++ said.0) = within_by (slice_get (ps ++ said.0) u.0) u.0 refl (typed u.0 u.1) in

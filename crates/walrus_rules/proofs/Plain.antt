@@ -21,7 +21,7 @@ use Rattle.walrus_model.proofs.Orders.{is_some_by}
 use Rattle.walrus_model.proofs.Standing.{some_of}
 use Rattle.walrus_rules.specs.Chain.{IsBehind, IsWholeBody, ParsedAs}
 use Rattle.walrus_rules.specs.Once.{Premises}
-use Rattle.walrus_rules.specs.Pinned.{HasType, IsDeclared, BeginsBefore, TypeGoesBefore, GoesBefore, IsWrittenAs}
+use Rattle.walrus_rules.specs.Pinned.{LocalHasType, DeclaresLocal, LocalTypeBeginsBefore, LocalTypeGoesBefore, LocalGoesBefore, IsWrittenAs}
 use Rattle.walrus_rules.proofs.Alike.{table_one, memory_one, tag_one, global_one, element_one, data_one}
 use Rattle.walrus_rules.proofs.JoinedSteps.{used_there, used_back, refs_there, refs_back, by_kinds, function_joined}
 use Rattle.walrus_rules.proofs.SameVal.{placed, unplaced}
@@ -217,16 +217,16 @@ module _ (c : Config) (m v w : Abstract) (p : ParsedAs c m v) (k : Collected v w
         let e : Some q.0 ≡ None = sym q.1 ∙ sym (z.same.parameters x h) ∙ unplaced b.parameters (move i x) away in
         cc
 
-    declared : (x : ℕ) → IsDeclared a x → IsDeclared b (move i x)
+    declared : (x : ℕ) → DeclaresLocal a x → DeclaresLocal b (move i x)
     declared x d = (used_there move i a b z.same x d.0, no_parameter x d.0 d.1)
 
     one_type : (x : ℕ) (s t : ValType ℕ) → a.local_type x ≡ Some s → b.local_type (move i x) ≡ Some t → s ≡ t
     one_type x s t e f = let g : Some s ≡ Some t = sym (z.whole.types x s e) ∙ f in cc
 
-    begins : (s t : ValType ℕ) → BeginsBefore a s t → BeginsBefore b s t
+    begins : (s t : ValType ℕ) → LocalTypeBeginsBefore a s t → LocalTypeBeginsBefore b s t
     begins s t h = (move i h.0, (declared h.0 h.1.0, z.whole.types h.0 s h.1.1, behind))
       where
-        behind : (y : ℕ) → IsDeclared b y → HasType b y t → move i h.0 < y
+        behind : (y : ℕ) → DeclaresLocal b y → LocalHasType b y t → move i h.0 < y
         behind y d e =
             let x = used_back move i a b z.same y d.0 in
             let ty = some_of (a.local_type x.0) (typed x.0 x.1) in
@@ -235,15 +235,15 @@ module _ (c : Config) (m v w : Abstract) (p : ParsedAs c m v) (k : Collected v w
             let lt : h.0 < x.0 = h.1.2 x.0 (x.1, away) (ty.1 ∙ ap Some one) in
             subst (λ n. move i h.0 < n) x.2 (z.whole.rise h.0 x.0 (is_some_by (a.local_type h.0) s h.1.1) (typed x.0 x.1) lt)
 
-    type_goes : (s t : ValType ℕ) → TypeGoesBefore a s t → TypeGoesBefore b s t
+    type_goes : (s t : ValType ℕ) → LocalTypeGoesBefore a s t → LocalTypeGoesBefore b s t
     type_goes s t (inl h) = inl h
     type_goes s t (inr h) = inr (h.0, begins s t h.1)
 
-    goes_by : (s t : ValType ℕ) (x y : ℕ) → HasType a x s → HasType a y t → (TypeGoesBefore a s t) ⊎ ((s ≡ t) × (x < y)) → (TypeGoesBefore b s t) ⊎ ((s ≡ t) × (move i x < move i y))
+    goes_by : (s t : ValType ℕ) (x y : ℕ) → LocalHasType a x s → LocalHasType a y t → (LocalTypeGoesBefore a s t) ⊎ ((s ≡ t) × (x < y)) → (LocalTypeGoesBefore b s t) ⊎ ((s ≡ t) × (move i x < move i y))
     goes_by s t x y e f (inl h) = inl (type_goes s t h)
     goes_by s t x y e f (inr h) = inr (h.0, z.whole.rise x y (is_some_by (a.local_type x) s e) (is_some_by (a.local_type y) t f) h.1)
 
-    goes : (x y : ℕ) → GoesBefore a x y → GoesBefore b (move i x) (move i y)
+    goes : (x y : ℕ) → LocalGoesBefore a x y → LocalGoesBefore b (move i x) (move i y)
     goes x y (s, (t, (e, f, h))) = (s, (t, (z.whole.types x s e, z.whole.types y t f, goes_by s t x y e f h)))
 
   -- ---- what is named
@@ -430,7 +430,7 @@ module _ (c : Config) (m v w : Abstract) (p : ParsedAs c m v) (k : Collected v w
       customs = is.written.customs;
     }
 
-    new_local : (f : ℕ) (a : Body) (x y : ℕ) → body_of u f ≡ Some a → IsDeclared a x → IsDeclared a y → GoesBefore a x y → s.locals f (move f x) < s.locals f (move f y)
+    new_local : (f : ℕ) (a : Body) (x y : ℕ) → body_of u f ≡ Some a → DeclaresLocal a x → DeclaresLocal a y → LocalGoesBefore a x y → s.locals f (move f x) < s.locals f (move f y)
     new_local f a x y e dx dy h =
         let z = from_u f a e in
         is.pinned.locals f z.0 (move f x) (move f y) z.1.in_w (declared f a z.0 z.1 x dx) (declared f a z.0 z.1 y dy) (goes f a z.0 z.1 x y h)

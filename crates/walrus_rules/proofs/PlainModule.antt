@@ -17,7 +17,7 @@ use Rattle.walrus_model.specs.Config.{Config}
 use Rattle.walrus_model.specs.Sections.{Said, imported, imported_table, imported_global, table_of, global_of, element_of, data_of}
 use Rattle.walrus_model.specs.WellMade.{arg_heaps, op_heaps, option_consts, element_kind_consts, element_item_consts, data_kind_consts, element_item_heaps}
 use Rattle.walrus_model.specs.Constants.{const_of, consts_of}
-use Rattle.walrus_rules.specs.Headline.{Reads}
+use Rattle.walrus_rules.specs.Headline.{ReadsModule}
 use Rattle.walrus_rules.specs.Sections.{module_of}
 use Rattle.walrus_rules.proofs.FilledConsts.{Filled, TableFilled, GlobalFilled, ElementFilled, SegmentFilled, AllFilled, all_filled}
 use Rattle.walrus_rules.proofs.PlainTypes.{Plain, plain_append, heap_plain, val_plain, TypePlain, types_plain}
@@ -139,5 +139,5 @@ module_fine s bodies fields namings h = record {
   data_segments = λ i x at. all_at DataFine (map data_of s.data_segments) i x (all_mapped SegmentFilled DataFine data_of (λ d f. data_by d.mode d.bytes f) s.data_segments h.data_segments) at;
 }
 
-pub read_fine : (c : Config) (bytes : List ℕ) (m : Abstract) → Reads c bytes m → AllFine m
+pub read_fine : (c : Config) (bytes : List ℕ) (m : Abstract) → ReadsModule c bytes m → AllFine m
 read_fine c bytes m read = subst AllFine (sym read.is) (module_fine read.sections read.bodies _ _ (all_filled bytes read.sections read.framed))

@@ -22,7 +22,7 @@ use Rattle.walrus_model.specs.Reads.{declared}
 use Rattle.walrus_model.specs.Sections.{Said, body_with, types_of, imported, imported_function, function_with, is_apart, custom_of}
 use Rattle.walrus_model.specs.WellMade.{ImportsMatch}
 use Rattle.walrus_rules.specs.Features.{features_of}
-use Rattle.walrus_rules.specs.Headline.{ReadsBody, Reads}
+use Rattle.walrus_rules.specs.Headline.{ReadsBody, ReadsModule}
 use Rattle.walrus_rules.specs.Sections.{module_of}
 use Rattle.walrus_model.proofs.PipelineOps.{from_map}
 use Rattle.walrus_rules.proofs.TextImports.{imports_match}
@@ -108,5 +108,5 @@ module _ (c : Config) (s : wire.Module) where
           (not_apart found.0.name (filtered (λ (c : wire.Custom). not (is_apart c.name)) s.customs found.0 found.1));
     }
 
-pub is_read : (c : Config) (bytes : List ℕ) (m : Abstract) → Reads c bytes m → IsRead c m
+pub is_read : (c : Config) (bytes : List ℕ) (m : Abstract) → ReadsModule c bytes m → IsRead c m
 is_read c bytes m read = subst (IsRead c) (sym read.is) (is_read_by c read.sections read.bodies _ _ read.read)

@@ -24,7 +24,7 @@ use Rattle.wasm_frames.specs.Record as frames
 use Rattle.walrus_model.specs.Config.{Config}
 use Rattle.walrus_model.specs.Reads.{context_with}
 use Rattle.walrus_rules.specs.Features.{features_of}
-use Rattle.walrus_rules.specs.Headline.{Reads}
+use Rattle.walrus_rules.specs.Headline.{ReadsModule}
 use Rattle.walrus_rules.proofs.ReadPlain.{reads_plain, said_alone}
 use Rattle.walrus_rules.specs.Examples as worked
 use Rattle.walrus_rules.specs.Examples.{two_functions_bytes, one_function_bytes}
@@ -222,12 +222,12 @@ in_order =
 no_count : (n : ℕ) {X : Type 0} → ◌≡◌ {A = Option ℕ} None (Some n) → X
 no_count n e = absurd (cc)
 
-pub two_functions_read : (c : Config) → Reads c two_functions_bytes two_functions
+pub two_functions_read : (c : Config) → ReadsModule c two_functions_bytes two_functions
 two_functions_read c =
     reads_plain c two_functions_bytes two_functions_sections (([], just_end) ∷ ([], just_end) ∷ []) two_frames refl in_order refl (λ n is. no_count n is)
     (body_read c two_functions_sections (locals_from 0 0), (body_read c two_functions_sections (locals_from 0 0), tt))
 
-pub one_function_read : (c : Config) → Reads c one_function_bytes one_function
+pub one_function_read : (c : Config) → ReadsModule c one_function_bytes one_function
 one_function_read c =
     reads_plain c one_function_bytes one_function_sections (([], just_end) ∷ []) one_frames refl in_order refl (λ n is. no_count n is)
     (body_read c one_function_sections (locals_from 0 0), tt)

@@ -12,7 +12,7 @@ use Rattle.walrus_model.specs.Abstract.{Name, Subject}
 use Rattle.walrus_model.specs.Config.{Config}
 use Rattle.walrus_model.specs.Sections as sections
 use Rattle.walrus_model.specs.Sections.{Said}
-use Rattle.walrus_rules.specs.Headline.{ReadsBody, Reads, has_function, payloads, CountHolds}
+use Rattle.walrus_rules.specs.Headline.{ReadsBody, ReadsModule, has_function, payloads, DataCountHolds}
 use Rattle.walrus_rules.specs.Namings.{is_in_range}
 use Rattle.walrus_rules.specs.Sections.{module_of}
 
@@ -28,8 +28,8 @@ no_payloads : (name : Name) (s : wire.Module) → s.customs ≡ [] → payloads 
 no_payloads name s e = ap (λ (cs : List wire.Custom). map (λ (c : wire.Custom). c.bytes) (filter (λ (c : wire.Custom). bytes_eq c.name name) cs)) e
 
 -- sections without custom ones read as what they say
-pub reads_plain : (c : Config) (bytes : List ℕ) (s : wire.Module) (bodies : List Said) → Frames bytes s → s.customs ≡ [] → InOrder s.order → length s.bodies ≡ length s.functions → CountHolds s
-    → AllZip (ReadsBody c s) (zip s.functions s.bodies) bodies → Reads c bytes (sections.module_of s bodies)
+pub reads_plain : (c : Config) (bytes : List ℕ) (s : wire.Module) (bodies : List Said) → Frames bytes s → s.customs ≡ [] → InOrder s.order → length s.bodies ≡ length s.functions → DataCountHolds s
+    → AllZip (ReadsBody c s) (zip s.functions s.bodies) bodies → ReadsModule c bytes (sections.module_of s bodies)
 reads_plain c bytes s bodies framed none in_order as_many counted read =
     record {
       sections = s;

@@ -19,7 +19,7 @@ use Rattle.wasm_writer.proofs.WrittenModule.{written_frames_lem}
 use Rattle.walrus_model.specs.Abstract.{Abstract, ProducerField}
 use Rattle.walrus_model.specs.Config.{Config}
 use Rattle.walrus_model.specs.Sections.{Said}
-use Rattle.walrus_rules.specs.Headline.{ReadsBody, Reads, has_function, payloads, field_of, CountHolds}
+use Rattle.walrus_rules.specs.Headline.{ReadsBody, ReadsModule, has_function, payloads, field_of, DataCountHolds}
 use Rattle.walrus_rules.specs.Sections.{module_of}
 use Rattle.walrus_rules.specs.Spelling.{IsCount, IsSpelling, written_as}
 use Rattle.walrus_rules.specs.Text.{Text, listed, if_some, custom, sections_of, said, said_by, unplaced, names_bytes, field_bytes, namings_of}
@@ -219,7 +219,7 @@ module _ (c : Config) (t : Text) (spells : IsSpelling (said_by t) t) (fits : All
   as_many : length (held t).bodies ≡ length (held t).functions
   as_many = sym (length-map (held t).bodies un) ∙ ap length bytes_same ∙ length-map (map unplaced t.bodies) un ∙ length-map t.bodies unplaced ∙ spells.as_many_bodies ∙ ap length (sym functions)
 
-  count : CountHolds (held t)
+  count : DataCountHolds (held t)
   count k is =
       count_holds (said_by t) (length t.data_segments) t.data_count spells.data_count k (sym (later_none t.data_count) ∙ sym (ap (λ (m : wire.Module). m.data_count) e) ∙ is)
       ∙ ap length (sym (ap (λ (m : wire.Module). m.data_segments) e))
@@ -230,7 +230,7 @@ module _ (c : Config) (t : Text) (spells : IsSpelling (said_by t) t) (fits : All
       ∙ ap (λ (m : wire.Module). module_of m (map said t.bodies) t.producers (namings_of t.names)) (sym e)
       ∙ ap₂ (λ (p : List ProducerField) (l : List Named). module_of (held t) (map said t.bodies) p l) (sym are_produced) (sym are_named)
 
-  pub reads_back : Reads c (written_as t) (said_by t)
+  pub reads_back : ReadsModule c (written_as t) (said_by t)
   reads_back = record {
     sections = held t;
     framed = framed_back t spells.stand fits;

@@ -9,7 +9,7 @@ use Rattle.walrus_model.specs.Pipeline.{Collected, ReachedIsLive}
 use Rattle.walrus_model.specs.Rules.{Holds}
 use Rattle.walrus_model.proofs.Lists.{Contains-none}
 use Rattle.walrus_rules.specs.Chain.{BringsTo, Leaves, ParsedAs}
-use Rattle.walrus_rules.specs.Headline.{Reads, ComesTo, ComesOutTooLarge}
+use Rattle.walrus_rules.specs.Headline.{ReadsModule, ComesTo, ComesOutTooLarge}
 use Rattle.walrus_rules.specs.Pinned.{IsWrittenAs}
 use Rattle.walrus_rules.specs.Refused.{Refusal, Memory, DeadItem, NoIndex, TwoIndices, TooLarge, NotWritable, Caller, Another, PassesLimits, IsSayable, RefusesToWrite}
 use Rattle.walrus_rules.specs.RunLaws.{CanBeWritten, RunsFine, RunsOutput, RunsOk, RunsTooLarge, IsFew}
@@ -43,7 +43,7 @@ pub well_sayable : (c : Config) (w : Abstract) → IsWellMade c w → IsSayable 
 well_sayable c w made = made.customs
 
 -- the output that is the one spelling of what the steps bring a module to, all of whose sections fit
-pub comes_to : (c : Config) (bytes output : List ℕ) (m u n : Abstract) → Reads c bytes m → Holds m → BringsTo c m u → IsWrittenAs c u n → (spelled : IsSpelledAs n output) → All SectionFits (sections_of spelled.text) → ComesTo c bytes output
+pub comes_to : (c : Config) (bytes output : List ℕ) (m u n : Abstract) → ReadsModule c bytes m → Holds m → BringsTo c m u → IsWrittenAs c u n → (spelled : IsSpelledAs n output) → All SectionFits (sections_of spelled.text) → ComesTo c bytes output
 comes_to c bytes output m u n reads holds brings written spelled fits =
     let fine = brought_well c bytes m u reads holds brings in
     let back = written_reads c u n output fine.made fine.declared written spelled fits in
@@ -61,12 +61,12 @@ comes_to c bytes output m u n reads holds brings written spelled fits =
       out = steps_come_out_lem c bytes m u n reads holds brings written;
     }
 
-pub comes_out_too_large : (c : Config) (bytes : List ℕ) (m u : Abstract) → Reads c bytes m → Holds m → BringsTo c m u → PassesLimits c u → ComesOutTooLarge c bytes
+pub comes_out_too_large : (c : Config) (bytes : List ℕ) (m u : Abstract) → ReadsModule c bytes m → Holds m → BringsTo c m u → PassesLimits c u → ComesOutTooLarge c bytes
 comes_out_too_large c bytes m u reads holds brings large = record { module_read = m; reads = reads; holds = holds; module_left = u; brought = brings; too_large = large }
 
 -- ---- of what was read
 
-module _ (c : Config) (bytes : List ℕ) (m v w u : Abstract) (read : Reads c bytes m) (holds : Holds m) (parsed : ParsedAs c m v) (collected : Collected v w) (leaves : Leaves w u) where
+module _ (c : Config) (bytes : List ℕ) (m v w u : Abstract) (read : ReadsModule c bytes m) (holds : Holds m) (parsed : ParsedAs c m v) (collected : Collected v w) (leaves : Leaves w u) where
   pub reached_live : ReachedIsLive v
   reached_live = live_v c m v parsed (read_is_plain c bytes m read) holds
 

@@ -6,7 +6,7 @@ use Rattle.walrus_model.specs.Customs.{no_indices, written_customs}
 use Rattle.walrus_model.specs.Out.{Out}
 use Rattle.walrus_model.specs.Producers.{produced, if_written}
 use Rattle.walrus_model.specs.Rules.{Holds}
-use Rattle.walrus_rules.specs.Headline.{Reads}
+use Rattle.walrus_rules.specs.Headline.{ReadsModule}
 use Rattle.walrus_rules.specs.Pinned.{IsWrittenAs}
 use Rattle.walrus_rules.specs.Settled.{Settles}
 use Rattle.walrus_rules.specs.SettledLaw.{OutSettles, RunsSettle}
@@ -21,10 +21,10 @@ use Rattle.walrus_rules.proofs.SettleNames.{names_again, only_here}
 use Rattle.walrus_rules.proofs.SettleTypes.{s, named_to, carried_again}
 use Rattle.walrus_rules.proofs.SettleLike.{like}
 
-sets_read : (c : Config) (bytes : List ℕ) (m : Abstract) → Reads c bytes m → SetsAre m
+sets_read : (c : Config) (bytes : List ℕ) (m : Abstract) → ReadsModule c bytes m → SetsAre m
 sets_read c bytes m read = subst SetsAre (sym read.is) (record { tables = λ t e. refl; memories = λ i d. refl })
 
-whole_read : (c : Config) (bytes : List ℕ) (m : Abstract) → Reads c bytes m → Whole m.types
+whole_read : (c : Config) (bytes : List ℕ) (m : Abstract) → ReadsModule c bytes m → Whole m.types
 whole_read c bytes m read = subst (λ (x : Abstract). Whole x.types) (sym read.is) (whole_types read.sections.types)
 
 module _ (c : Config) (m n v n2 : Abstract) (o : Out c m n) (t : OutTold c n v n2) (plain : IsPlain m) (holds : Holds m) (sets_m : SetsAre m) (plain_n : IsPlain n) (holds_n : Holds n) (sets_n : SetsAre n) (whole : Whole n.types) where

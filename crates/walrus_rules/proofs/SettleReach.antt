@@ -13,7 +13,7 @@ use Rattle.walrus_model.specs.Carried.{Carried}
 use Rattle.walrus_model.specs.Rules.{Holds}
 use Rattle.walrus_model.specs.Config.{Config}
 use Rattle.walrus_model.specs.Declared.{HasDeclaredSegment}
-use Rattle.walrus_model.specs.Out.{IsAdded, Out}
+use Rattle.walrus_model.specs.Out.{MayBeAdded, Out}
 use Rattle.walrus_model.specs.Sections.{is_on_table, is_on_memory, passes}
 use Rattle.walrus_model.proofs.Lists.{Contains-none, Contains-map}
 use Rattle.walrus_model.proofs.Steps.{given, live_under}
@@ -251,7 +251,7 @@ module _ (c : Config) (m n : Abstract) (o : Out c m n) (plain : IsPlain m) (hold
   r = o.renaming
 
   abbrev pub Added : Item → Type 0
-  Added x = IsAdded (Kept m) o.renaming m n o.segment x
+  Added x = MayBeAdded (Kept m) o.renaming m n o.segment x
 
   -- the declared segment
   segment_is : (fs : List ℕ) (j : ℕ) → o.segment ≡ Some j → HasDeclaredSegment (Kept m) r m n fs o.segment → n.elements j ≡ Some (record { kind = DeclaredElements; items = ListedFunctions (map (r.numbers Functions) fs) })

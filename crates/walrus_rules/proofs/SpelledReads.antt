@@ -21,7 +21,7 @@ use Rattle.walrus_types.proofs.Noted.{or_cases}
 use Rattle.walrus_model.specs.Abstract.{Abstract, Name, Body, Function, ProducerValue, ProducerField}
 use Rattle.walrus_model.specs.Config.{Config}
 use Rattle.walrus_model.specs.Names.{body_of, body_of_function}
-use Rattle.walrus_rules.specs.Headline.{ReadsBody, Reads, has_function, value_of, field_of}
+use Rattle.walrus_rules.specs.Headline.{ReadsBody, ReadsModule, has_function, value_of, field_of}
 use Rattle.walrus_rules.specs.Namings.{naming_of, space_of, has, has_local, is_in_range}
 use Rattle.walrus_rules.specs.OneRun.{Fits}
 use Rattle.walrus_model.specs.Sections.{function_types, is_apart}
@@ -297,7 +297,7 @@ module _ (c : Config) (t : Text) (spells : IsSpelling (said_by t) t) (fits : All
   others : AllByRecursion (λ d. is_other d ≡ true) t.others
   others = recursion_from_All (λ d. is_other d ≡ true) t.others spells.others
 
-  pub all_back_again : Reads c (written_as t) (said_by t)
+  pub all_back_again : ReadsModule c (written_as t) (said_by t)
   unfolding bytes_in
   all_back_again =
       reads_back c t spells fits bodies
@@ -309,11 +309,11 @@ module _ (c : Config) (t : Text) (spells : IsSpelling (said_by t) t) (fits : All
       (field_zip t.producers (λ lt. fields_back t.producers spells.producers (fields_small t.producers (All-back SectionFits (before_names ++ with_names) with_producers up_to_producers) lt))))
       (field_all t.producers)
 
-pub nested_reads : (c : Config) (n : Abstract) (bytes : List ℕ) (spelled : IsSpelledAs n bytes) → All SectionFits (sections_of spelled.text) → BodiesNest c n → BodiesHold n → Reads c bytes n
+pub nested_reads : (c : Config) (n : Abstract) (bytes : List ℕ) (spelled : IsSpelledAs n bytes) → All SectionFits (sections_of spelled.text) → BodiesNest c n → BodiesHold n → ReadsModule c bytes n
 nested_reads c n bytes sp fits nest holds =
     let is = sp.spells.says in
-    let back : Reads c (written_as sp.text) (said_by sp.text) = all_back_again c sp.text (subst (λ z. IsSpelling z sp.text) is sp.spells) fits (subst (BodiesNest c) is nest) (subst BodiesHold is holds) in
-    subst (λ z. Reads c bytes z) (sym is) (subst (λ l. Reads c l (said_by sp.text)) (sym sp.written) back)
+    let back : ReadsModule c (written_as sp.text) (said_by sp.text) = all_back_again c sp.text (subst (λ z. IsSpelling z sp.text) is sp.spells) fits (subst (BodiesNest c) is nest) (subst BodiesHold is holds) in
+    subst (λ z. ReadsModule c bytes z) (sym is) (subst (λ l. ReadsModule c l (said_by sp.text)) (sym sp.written) back)
 
 pub spelled_reads : SpelledReads
 spelled_reads c n bytes sp fits formed holds =

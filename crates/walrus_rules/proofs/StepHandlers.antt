@@ -13,7 +13,7 @@ use Rattle.walrus_model.specs.Abstract.{Abstract, TypeDef, Body, Function, Funct
 use Rattle.walrus_model.specs.Names.{body_of, body_of_function, body_of_kind}
 use Rattle.walrus_model.specs.Handlers.{tag_type, handlers_of}
 use Rattle.walrus_model.specs.Refers.{named_by, type_names, tag_names, function_names, kind_names, local_names, used_locals, written_in}
-use Rattle.walrus_rules.specs.Chain.{alone, StandsAt, FoundOrAdded, Found, Added, AreFoundOrAdded, NoMore, AndThen, handlers_by, AddsHandlers, NoFunction, AndThose}
+use Rattle.walrus_rules.specs.Chain.{alone, IsLoneTypeAt, TypeIsFoundOrAdded, Found, Added, AreFoundOrAdded, NoMore, AndThen, handlers_by, AddsHandlers, NoFunction, AndThose}
 use Rattle.walrus_rules.proofs.StepPlain.{CatchesTags}
 use Rattle.walrus_model.proofs.Lists.{Contains-head, Contains-tail, Contains-map, Contains-append_1, Contains-append_2, Contains-uncons, Contains-none}
 
@@ -225,8 +225,8 @@ abbrev pub Extends : List TypeDef → List TypeDef → Type 0
 Extends old new = (i : ℕ) (x : TypeDef) → slice_get old i ≡ Some x → slice_get new i ≡ Some x
 
 pub record Placed (comps : List (CompType ℕ)) (types : List TypeDef) (places : List ℕ) : Type 0 where
-  pub there : (comp : CompType ℕ) → Contains comps comp → (p : ℕ) × Contains places p × StandsAt comp types p
-  pub back : (p : ℕ) → Contains places p → (comp : CompType ℕ) × Contains comps comp × StandsAt comp types p
+  pub there : (comp : CompType ℕ) → Contains comps comp → (p : ℕ) × Contains places p × IsLoneTypeAt comp types p
+  pub back : (p : ℕ) → Contains places p → (comp : CompType ℕ) × Contains comps comp × IsLoneTypeAt comp types p
 
 abbrev pub Below : ℕ → CompType ℕ → Type 0
 Below n comp = (t : ℕ) → Contains (comp_names comp) t → t < n
@@ -234,7 +234,7 @@ Below n comp = (t : ℕ) → Contains (comp_names comp) t → t < n
 abbrev pub AllBelow : ℕ → List (CompType ℕ) → Type 0
 AllBelow n comps = (comp : CompType ℕ) → Contains comps comp → Below n comp
 
-stands_later : (old new : List TypeDef) → Extends old new → (comp : CompType ℕ) (p : ℕ) → StandsAt comp old p → StandsAt comp new p
+stands_later : (old new : List TypeDef) → Extends old new → (comp : CompType ℕ) (p : ℕ) → IsLoneTypeAt comp old p → IsLoneTypeAt comp new p
 stands_later old new e comp p s = (e p (alone p comp) s.0, s.1)
 
 placed_later : (old new : List TypeDef) → Extends old new → (comps : List (CompType ℕ)) (places : List ℕ) → Placed comps old places → Placed comps new places
@@ -247,13 +247,13 @@ module _ (n : ℕ) where
   record OnePlaced (comp : CompType ℕ) (old new : List TypeDef) (p : ℕ) : Type 0 where
     extends : Extends old new
     long : n ≤ length new
-    stands : StandsAt comp new p
+    stands : IsLoneTypeAt comp new p
 
-  one_placed : (comp : CompType ℕ) (old new : List TypeDef) (p : ℕ) → FoundOrAdded comp old new p → Below n comp → n ≤ length old → OnePlaced comp old new p
+  one_placed : (comp : CompType ℕ) (old new : List TypeDef) (p : ℕ) → TypeIsFoundOrAdded comp old new p → Below n comp → n ≤ length old → OnePlaced comp old new p
   one_placed comp old new p (Found stands first same) below long = record {
     extends = λ i x e. subst (λ (l : List TypeDef). slice_get l i ≡ Some x) (sym same) e;
     long = subst (λ (l : List TypeDef). n ≤ length l) (sym same) long;
-    stands = subst (λ (l : List TypeDef). StandsAt comp l p) (sym same) stands;
+    stands = subst (λ (l : List TypeDef). IsLoneTypeAt comp l p) (sym same) stands;
   }
   one_placed comp old new p (Added none place made) below long = record {
     extends = λ i x e. subst (λ (l : List TypeDef). slice_get l i ≡ Some x) (sym made) (slice_get-front old (alone p comp ∷ []) i x e);
@@ -278,17 +278,17 @@ module _ (n : ℕ) where
   many_placed whole first last places (AndThen comp comps old middle new p ps one rest) below long =
       let a = one_placed comp old middle p one (below comp (Contains-head comp comps)) long in
       let b = many_placed comps middle new ps rest (λ c at. below c (Contains-tail comp c comps at)) a.long in
-      let here : StandsAt comp new p = stands_later middle new b.extends comp p a.stands in
+      let here : IsLoneTypeAt comp new p = stands_later middle new b.extends comp p a.stands in
       record {
         extends = λ i x e. b.extends i x (a.extends i x e);
         long = b.long;
         placed = record {
           there = λ c at. ⊎_elim
-              (λ e. (p, Contains-head p ps, subst (λ d. StandsAt d new p) e here))
+              (λ e. (p, Contains-head p ps, subst (λ d. IsLoneTypeAt d new p) e here))
               (λ later. let h = b.placed.there c later in (h.0, Contains-tail p h.0 ps h.1, h.2))
               (Contains-uncons comp c comps at);
           back = λ q at. ⊎_elim
-              (λ e. (comp, Contains-head comp comps, subst (λ r. StandsAt comp new r) e here))
+              (λ e. (comp, Contains-head comp comps, subst (λ r. IsLoneTypeAt comp new r) e here))
               (λ later. let h = b.placed.back q later in (h.0, Contains-tail comp h.0 comps h.1, h.2))
               (Contains-uncons p q ps at);
         };

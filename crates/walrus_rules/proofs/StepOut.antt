@@ -20,10 +20,10 @@ use Rattle.walrus_model.specs.Producers.{if_written}
 use Rattle.walrus_model.specs.Customs.{is_dylink, is_debug_name, no_indices, fixed, written_customs}
 use Rattle.walrus_model.specs.Declared.{ref_func, IsRefInBody, IsRefInGlobal, IsUndeclared, AreUndeclared, HasDeclaredSegment, Declares}
 use Rattle.walrus_model.specs.Laws.{Joins}
-use Rattle.walrus_model.specs.Out.{IsAdded, IsTheSegment, IsHandlerType, IsTypeOf, Out, Written}
+use Rattle.walrus_model.specs.Out.{MayBeAdded, IsTheSegment, IsHandlerType, IsTypeOf, Out, Written}
 use Rattle.walrus_model.specs.Rules.{Holds}
 use Rattle.walrus_model.specs.Pipeline.{IsSubjectOf, Collected}
-use Rattle.walrus_rules.specs.Chain.{alone, StandsAt, handlers_by, ParsedAs, BringsTo}
+use Rattle.walrus_rules.specs.Chain.{alone, IsLoneTypeAt, handlers_by, ParsedAs, BringsTo}
 use Rattle.walrus_rules.specs.Pinned.{IsWrittenAs}
 use Rattle.walrus_rules.proofs.SameVal.{Told}
 use Rattle.walrus_rules.proofs.StepPlain.{IsPlain}
@@ -94,7 +94,7 @@ module _ (c : Config) (m v w n : Abstract) (elements : ℕ → Option Element) (
   segment = option_map (o.renaming.numbers Elements) b.segment
 
   abbrev Final : Item → Type 0
-  Final x = IsAdded (Kept m) whole m n segment x
+  Final x = MayBeAdded (Kept m) whole m n segment x
 
   live_m : (x : Item) → Kept m x → IsLive m x
   live_m x k = kept_live c m v p plain holds x k
@@ -147,7 +147,7 @@ module _ (c : Config) (m v w n : Abstract) (elements : ℕ → Option Element) (
 
   -- ---- types of handlers
 
-  type_at : (t : ℕ) → Kept v (Types, t) → (comp : CompType ℕ) → StandsAt comp p.all_types t → IsTypeOf whole n comp (o.renaming.numbers Types t)
+  type_at : (t : ℕ) → Kept v (Types, t) → (comp : CompType ℕ) → IsLoneTypeAt comp p.all_types t → IsTypeOf whole n comp (o.renaming.numbers Types t)
   type_at t k comp stands =
       let at : after.types t ≡ Some (alone t comp) = l.types.kept t k ∙ p.types_made t ∙ stands.0 in
       let there = given (SameType (o.renaming.numbers Types) t) (after.types t) (n.types (o.renaming.numbers Types t)) (alone t comp) (o.carried.types.same t (ap is_some at)) at in
@@ -156,7 +156,7 @@ module _ (c : Config) (m v w n : Abstract) (elements : ℕ → Option Element) (
   place_added : (t : ℕ) → Kept v (Types, t) → IsPlace c m v p plain holds (Types, t) → Final (Types, o.renaming.numbers Types t)
   place_added t k h =
       let is : h.place ≡ t = sym (ap (λ (y : Item). y.1) h.is) in
-      (h.comp, (h.function, h.body, inl h.reached, h.at, h.needed), type_at t k h.comp (subst (λ q. StandsAt h.comp p.all_types q) is h.stands))
+      (h.comp, (h.function, h.body, inl h.reached, h.at, h.needed), type_at t k h.comp (subst (λ q. IsLoneTypeAt h.comp p.all_types q) is h.stands))
 
   type_splits : (t : ℕ) → Kept v (Types, t) → Kept m (Types, t) ⊎ Final (Types, o.renaming.numbers Types t)
   type_splits t k = ⊎_elim (λ h. inl h) (λ h. inr (place_added t k h)) (kept_either c m v p plain holds (Types, t) k)

@@ -20,7 +20,7 @@ use Rattle.walrus_model.specs.Same.{BothAnd, SameType, SameKind, SameFunction}
 use Rattle.walrus_model.specs.Carried.{Carries, Carried}
 use Rattle.walrus_model.specs.Rules.{Holds}
 use Rattle.walrus_model.specs.Pipeline.{ReachedIsLive}
-use Rattle.walrus_rules.specs.Chain.{alone, StandsAt, IsBehind, handlers_by, ParsedAs}
+use Rattle.walrus_rules.specs.Chain.{alone, IsLoneTypeAt, IsBehind, handlers_by, ParsedAs}
 use Rattle.walrus_rules.proofs.StepPlain.{IsPlain}
 use Rattle.walrus_model.proofs.Lists.{map-itself, Contains-none, Contains-uncons}
 use Rattle.walrus_model.proofs.Steps.{given, live_under}
@@ -149,6 +149,16 @@ module _ (c : Config) (m v : Abstract) (p : ParsedAs c m v) where
   pub live_forth : (x : Item) → IsLive m x → IsLive v x
   live_forth (space, i) live = live_under (IsLive m) Behind in_place m v carried_parsed space i live
 
+  pub live_back : (x : Item) → (x.0 ≡ Types → ⊥) → IsLive v x → IsLive m x
+  live_back (Types, i) other live = absurd (other refl)
+  live_back (Functions, i) other live = sym (functions_stay i) ∙ live
+  live_back (Tables, i) other live = subst IsSome (tables_stay i) live
+  live_back (Memories, i) other live = subst IsSome (memories_stay i) live
+  live_back (Tags, i) other live = subst IsSome (tags_stay i) live
+  live_back (Globals, i) other live = subst IsSome (globals_stay i) live
+  live_back (Elements, i) other live = subst IsSome (elements_stay i) live
+  live_back (DataSegments, i) other live = subst IsSome (datas_stay i) live
+
   -- ---- types of handlers
 
   module _ (plain : IsPlain m) (holds : Holds m) where
@@ -177,12 +187,12 @@ module _ (c : Config) (m v : Abstract) (p : ParsedAs c m v) where
       pub at : body_of m function ≡ Some body
       pub needed : Contains (handlers_of m body) comp
       pub is : x ≡ (Types, place)
-      pub stands : StandsAt comp p.all_types place
+      pub stands : IsLoneTypeAt comp p.all_types place
 
     abbrev pub IsEither : Item → Type 0
     IsEither x = Reached m x ⊎ IsPlace x
 
-    needs : (f : ℕ) (t : ℕ) (y : Item) → y ≡ type_item t → Reached m (Functions, f) → (o : Option Body) → body_of m f ≡ o → (comp : CompType ℕ) → Contains (handlers_by m o) comp → StandsAt comp p.all_types t → IsPlace y
+    needs : (f : ℕ) (t : ℕ) (y : Item) → y ≡ type_item t → Reached m (Functions, f) → (o : Option Body) → body_of m f ≡ o → (comp : CompType ℕ) → Contains (handlers_by m o) comp → IsLoneTypeAt comp p.all_types t → IsPlace y
     needs f t y is h None at comp has stands = absurd (Contains-none comp has)
     needs f t y is h (Some b) at comp has stands = record { function = f; body = b; comp = comp; place = t; reached = h; at = at; needed = has; is = is; stands = stands }
 

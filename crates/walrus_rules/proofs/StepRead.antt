@@ -20,7 +20,7 @@ use Rattle.walrus_model.specs.Sections.{Said, imported, imported_function, impor
 use Rattle.walrus_model.specs.Out.{Out}
 use Rattle.walrus_model.specs.Rules.{Holds}
 use Rattle.walrus_rules.specs.Chain.{BringsTo}
-use Rattle.walrus_rules.specs.Headline.{Reads}
+use Rattle.walrus_rules.specs.Headline.{ReadsModule}
 use Rattle.walrus_rules.specs.Pinned.{IsWrittenAs}
 use Rattle.walrus_rules.proofs.StepPlain.{IsPlain}
 use Rattle.walrus_rules.specs.Sections.{module_of}
@@ -265,12 +265,12 @@ module _ (c : Config) (s : wire.Module) (bodies : List Said) (fields : List Prod
     sets = sets_there;
   }
 
-pub read_is_plain : (c : Config) (bytes : List ℕ) (m : Abstract) → Reads c bytes m → IsPlain m
+pub read_is_plain : (c : Config) (bytes : List ℕ) (m : Abstract) → ReadsModule c bytes m → IsPlain m
 read_is_plain c bytes m read = subst IsPlain (sym read.is)
     (plain_of c read.sections read.bodies _ _
     (local_catches c read.sections read.sections.functions read.bodies (all_said c read.sections (zip read.sections.functions read.sections.bodies) read.bodies read.read)))
 
 -- ---- the law of the headline
 
-pub steps_come_out_lem : (c : Config) (bytes : List ℕ) (m u n : Abstract) → Reads c bytes m → Holds m → BringsTo c m u → IsWrittenAs c u n → Out c m n
+pub steps_come_out_lem : (c : Config) (bytes : List ℕ) (m u n : Abstract) → ReadsModule c bytes m → Holds m → BringsTo c m u → IsWrittenAs c u n → Out c m n
 steps_come_out_lem c bytes m u n reads holds brings written = plain_steps_come_out c m u n (read_is_plain c bytes m reads) holds brings written

@@ -14,7 +14,7 @@ use Rattle.walrus_model.specs.Sections.{Said, body_with}
 use Rattle.walrus_model.specs.Refers.{named_by, IsUsed, used_locals, local_names}
 use Rattle.walrus_model.specs.Renaming.{Renaming}
 use Rattle.walrus_model.specs.Same.{SameBody}
-use Rattle.walrus_rules.specs.Pinned.{HasType, IsDeclared, BeginsBefore, TypeGoesBefore, GoesBefore}
+use Rattle.walrus_rules.specs.Pinned.{LocalHasType, DeclaresLocal, LocalTypeBeginsBefore, LocalTypeGoesBefore, LocalGoesBefore}
 use Rattle.walrus_rules.specs.Spelling.{UsesAll}
 use Rattle.walrus_model.proofs.Lists.{Contains-head, Contains-tail, Contains-uncons, Contains-none}
 use Rattle.walrus_rules.proofs.Agree.{Ordered, Rising, NoGap, Compared, compared, agree}
@@ -28,7 +28,7 @@ use Rattle.walrus_rules.proofs.OneList.{got_at}
 
 module _ (a : Body) where
   abbrev Of : ValType ℕ → ℕ → Type 0
-  Of v x = IsDeclared a x × HasType a x v
+  Of v x = DeclaresLocal a x × LocalHasType a x v
 
   told_of : (v : ValType ℕ) (x : ℕ) → Told (Of v x)
   told_of v x = told_both (told_both (told_in (used_locals a) x) (told_not (told_in a.parameters x))) (told_type (a.local_type x) v)
@@ -37,36 +37,36 @@ module _ (a : Body) where
   one_type o v w e f = let p : Some v ≡ Some w = sym e ∙ f in cc
 
   -- of two types the one begins before the other
-  begin : (v w : ValType ℕ) (x y : ℕ) → Of v x → Of w y → (v ≡ w → ⊥) → BeginsBefore a v w ⊎ BeginsBefore a w v
+  begin : (v w : ValType ℕ) (x y : ℕ) → Of v x → Of w y → (v ≡ w → ⊥) → LocalTypeBeginsBefore a v w ⊎ LocalTypeBeginsBefore a w v
   begin v w x y px py apart =
       let m = least (Of v) (told_of v) x px in
       let n = least (Of w) (told_of w) y py in
       begins m.0 n.0 m.1 n.1 (compared m.0 n.0)
     where
-      begins : (i j : ℕ) → (Of v i × ((z : ℕ) → Of v z → i ≤ z)) → (Of w j × ((z : ℕ) → Of w z → j ≤ z)) → Compared i j → BeginsBefore a v w ⊎ BeginsBefore a w v
+      begins : (i j : ℕ) → (Of v i × ((z : ℕ) → Of v z → i ≤ z)) → (Of w j × ((z : ℕ) → Of w z → j ≤ z)) → Compared i j → LocalTypeBeginsBefore a v w ⊎ LocalTypeBeginsBefore a w v
       begins i j p q (inl h) = inl (i, (p.0.0, p.0.1, λ z dz tz. let far : j ≤ z = q.1 z (dz, tz) in omega (arith, h, far)))
-      begins i j p q (inr (inl h)) = absurd (apart (one_type (a.local_type j) v w (subst (λ z. HasType a z v) h p.0.1) q.0.1))
+      begins i j p q (inr (inl h)) = absurd (apart (one_type (a.local_type j) v w (subst (λ z. LocalHasType a z v) h p.0.1) q.0.1))
       begins i j p q (inr (inr h)) = inr (j, (q.0.0, q.0.1, λ z dz tz. let far : i ≤ z = p.1 z (dz, tz) in omega (arith, h, far)))
 
   module _ (v w : ValType ℕ) (x y : ℕ) (px : Of v x) (py : Of w y) where
-    forth : (TypeGoesBefore a v w ⊎ ((v ≡ w) × (x < y))) → GoesBefore a x y
+    forth : (LocalTypeGoesBefore a v w ⊎ ((v ≡ w) × (x < y))) → LocalGoesBefore a x y
     forth h = (v, (w, (px.1, py.1, h)))
 
-    back : (TypeGoesBefore a w v ⊎ ((w ≡ v) × (y < x))) → GoesBefore a y x
+    back : (LocalTypeGoesBefore a w v ⊎ ((w ≡ v) × (y < x))) → LocalGoesBefore a y x
     back h = (w, (v, (py.1, px.1, h)))
 
-    by_number : v ≡ w → Compared x y → Ordered (GoesBefore a) x y
+    by_number : v ≡ w → Compared x y → Ordered (LocalGoesBefore a) x y
     by_number e (inl h) = inl (forth (inr (e, h)))
     by_number e (inr (inl h)) = inr (inl h)
     by_number e (inr (inr h)) = inr (inr (back (inr (sym e, h))))
 
-    by_beginning : rank v ≡ rank w → (v ≡ w → ⊥) → Ordered (GoesBefore a) x y
+    by_beginning : rank v ≡ rank w → (v ≡ w → ⊥) → Ordered (LocalGoesBefore a) x y
     by_beginning e apart = ⊎_elim
         (λ b. inl (forth (inl (inr (e, b)))))
         (λ b. inr (inr (back (inl (inr (sym e, b))))))
         (begin v w x y px py apart)
 
-    by_rank : Compared (rank v) (rank w) → Ordered (GoesBefore a) x y
+    by_rank : Compared (rank v) (rank w) → Ordered (LocalGoesBefore a) x y
     by_rank (inl h) = inl (forth (inl (inl h)))
     by_rank (inr (inl h)) = ⊎_elim (λ e. by_number e (compared x y)) (λ apart. by_beginning h apart) (told_val v w)
     by_rank (inr (inr h)) = inr (inr (back (inl (inl h))))
@@ -75,7 +75,7 @@ module _ (a : Body) where
   type_of (Some v) h = (v, refl)
   type_of None h = absurd (cc)
 
-  pub total : ((x : ℕ) → IsUsed a x → IsSome (a.local_type x)) → (x y : ℕ) → IsDeclared a x → IsDeclared a y → Ordered (GoesBefore a) x y
+  pub total : ((x : ℕ) → IsUsed a x → IsSome (a.local_type x)) → (x y : ℕ) → DeclaresLocal a x → DeclaresLocal a y → Ordered (LocalGoesBefore a) x y
   total typed x y dx dy =
       let v = type_of (a.local_type x) (typed x dx.0) in
       let w = type_of (a.local_type y) (typed y dy.0) in
@@ -121,13 +121,13 @@ module _ (a : Body) (i : ℕ) (ps : List (ValType ℕ)) (typed : (x : ℕ) → I
   pub record Comes (r : Renaming) (said : Said) : Type 0 where
     pub same : SameBody r i a (body_with ps said)
     pub uses : UsesAll (body_with ps said)
-    pub rises : Rising (IsDeclared a) (GoesBefore a) (r.locals i)
+    pub rises : Rising (DeclaresLocal a) (LocalGoesBefore a) (r.locals i)
 
   module _ (r : Renaming) (said : Said) (c : Comes r said) where
     at_parameter : (x k : ℕ) → IsUsed a x → place_in a.parameters x ≡ Some k → r.locals i x ≡ k
     at_parameter x k u e = (in_range (length ps) (r.locals i x) k (c.same.parameters x u ∙ e)).0
 
-    low : (x : ℕ) → IsDeclared a x → length ps ≤ r.locals i x
+    low : (x : ℕ) → DeclaresLocal a x → length ps ≤ r.locals i x
     low x d = past_range (length ps) (r.locals i x) (c.same.parameters x d.0 ∙ unplaced a.parameters x d.1)
 
     high : (x : ℕ) → IsUsed a x → r.locals i x < length ps + length said.0
@@ -149,7 +149,7 @@ module _ (a : Body) (i : ℕ) (ps : List (ValType ℕ)) (typed : (x : ℕ) → I
         let lt : r.locals i k < length ps = (in_range (length ps) (r.locals i k) p.0 (c.same.parameters k u ∙ p.1)).1 in
         omega (arith, lt, le, e)
 
-    full : NoGap (IsDeclared a) (length ps) (r.locals i)
+    full : NoGap (DeclaresLocal a) (length ps) (r.locals i)
     full x m d le lt =
         let h : r.locals i x < length ps + length said.0 = high x d.0 in
         let k = stands_for m le (omega (arith, lt, h)) in
@@ -159,7 +159,7 @@ module _ (a : Body) (i : ℕ) (ps : List (ValType ℕ)) (typed : (x : ℕ) → I
     pub used_one : (x : ℕ) → IsUsed a x → r.locals i x ≡ s.locals i x
     used_one x u = ⊎_elim
         (λ (at : Contains a.parameters x). let p = placed a.parameters x at in at_parameter r said c x p.0 u p.1 ∙ sym (at_parameter s other d x p.0 u p.1))
-        (λ away. agree (IsDeclared a) (GoesBefore a) (total a typed) (length ps) (r.locals i) (s.locals i) c.rises d.rises (low r said c) (low s other d) (full r said c) (full s other d) x (u, away))
+        (λ away. agree (DeclaresLocal a) (LocalGoesBefore a) (total a typed) (length ps) (r.locals i) (s.locals i) c.rises d.rises (low r said c) (low s other d) (full r said c) (full s other d) x (u, away))
         (told_in a.parameters x)
 
     type_one : (o : Option (ValType ℕ)) → On r s (named_by (λ v. map type_item (val_names v)) o) → option_map (map_val (r.numbers Types)) o ≡ option_map (map_val (s.numbers Types)) o

@@ -15,16 +15,18 @@ use Rattle.walrus_model.specs.Producers.{produced, if_written}
 use Rattle.walrus_model.specs.Renaming.{unchanged}
 use Rattle.walrus_model.specs.Sections.{custom_of}
 use Rattle.walrus_rules.specs.Examples.{no_values, empty_body}
-use Rattle.walrus_rules.specs.Headline.{Reads, ComesTo}
+use Rattle.walrus_rules.specs.Headline.{ReadsModule, ComesTo}
 use Rattle.walrus_rules.specs.Pinned.{IsWrittenAs}
 use Rattle.walrus_rules.specs.Spelling.{BodyStands, IsSpelledAs, is_dylink, is_other}
 use Rattle.walrus_rules.specs.Text.{said, sections_of, said_by}
-use Rattle.walrus_rules.specs.WorkedSections.{Runs, linking, another, customs_text, customs_bytes}
+use Rattle.walrus_rules.specs.SettledLaw.{IsSettled}
+use Rattle.walrus_rules.specs.WorkedSections.{ComesToAlone, linking, another, customs_text, customs_bytes}
 use Rattle.walrus_rules.proofs.BodiesBack.{bodies_hold}
 use Rattle.walrus_rules.proofs.Runs.{comes_to}
 use Rattle.walrus_rules.proofs.SpelledReads.{nested_reads}
 use Rattle.walrus_rules.proofs.WorkedEmpty.{empty_function, in_memory, empty_uses, empty_needs_no_count, empty_nests, empty_holds, empty_brings, empty_written}
 use Rattle.walrus_rules.proofs.WorkedParts.{runs, said_unnamed, no_name, is_text, all_one, IsFilled, not_empty, body_stands, type_section, function_section, export_section, code_section, empty_stand, empty_fit}
+use Rattle.walrus_rules.proofs.SettleAll.{runs_settle}
 
 abbrev customs : List Custom
 customs = custom_of linking ∷ custom_of another ∷ []
@@ -77,7 +79,7 @@ spelled = record {
 }
 
 module _ (c : Config) where
-  is_read : Reads c customs_bytes the_module
+  is_read : ReadsModule c customs_bytes the_module
   unfolding spelled
   is_read = nested_reads c the_module customs_bytes spelled fits (empty_nests customs [] (λ y. []) c) (bodies_hold the_module (empty_holds customs [] (λ y. [])))
 
@@ -96,5 +98,11 @@ module _ (c : Config) where
   comes no_names no_producers = comes_to c customs_bytes customs_bytes the_module kept the_module is_read (empty_holds customs [] (λ y. []))
       (empty_brings c customs [] (λ y. []) (λ i past. no_name c the_module (Types, i) refl refl)) (is_written no_names no_producers) spelled fits
 
-pub customs_run : (c : Config) → c.writes_names ≡ false → c.writes_producers ≡ false → Runs c customs_bytes customs_bytes
+pub customs_run : (c : Config) → c.writes_names ≡ false → c.writes_producers ≡ false → ComesToAlone c customs_bytes customs_bytes
 customs_run c no_names no_producers = runs c customs_bytes customs_bytes (comes c no_names no_producers)
+
+-- a run on these bytes writes them, so that they are settled in themselves
+pub customs_settled : (c : Config) → c.writes_names ≡ false → c.writes_producers ≡ false → IsSettled c customs_bytes customs_bytes
+customs_settled c no_names no_producers =
+    let comes_out = comes c no_names no_producers in
+    runs_settle c customs_bytes customs_bytes customs_bytes comes_out comes_out

@@ -38,13 +38,13 @@ use Rattle.walrus_rules.specs.Examples.{no_values, the_end}
 use Rattle.walrus_bodies.specs.Blocks.{are_nested}
 use Rattle.walrus_bodies.specs.Features.{are_allowed}
 use Rattle.walrus_rules.specs.Features.{features_of}
-use Rattle.walrus_rules.specs.Headline.{Reads, ComesTo}
-use Rattle.walrus_rules.specs.Pinned.{IsWrittenAs, GoesBefore}
+use Rattle.walrus_rules.specs.Headline.{ReadsModule, ComesTo}
+use Rattle.walrus_rules.specs.Pinned.{IsWrittenAs, LocalGoesBefore}
 use Rattle.walrus_rules.specs.Spelling.{BodyStands, UsesAll, NeedsCount, IsChosen, IsSpelledAs}
 use Rattle.walrus_rules.specs.SpelledLaws.{BodiesNest}
 use Rattle.walrus_rules.specs.Text.{said, sections_of, said_by, unplaced}
 use Rattle.walrus_rules.specs.WorkedDeclared.{names_itself, undeclared_text, undeclared_bytes, declared_text, declared_bytes}
-use Rattle.walrus_rules.specs.WorkedSections.{Runs}
+use Rattle.walrus_rules.specs.WorkedSections.{ComesToAlone}
 use Rattle.walrus_rules.proofs.BodiesBack.{bodies_hold}
 use Rattle.walrus_rules.proofs.NeedsBase.{no_item, given, are_given, declares_none, NamesNone}
 use Rattle.walrus_rules.proofs.ReadPlain.{said_alone}
@@ -339,7 +339,7 @@ read_holds = record {
 read_nests : (c : Config) → BodiesNest c module_read
 read_nests c f g b is kind = subst (λ (d : Body). (are_nested d.operators ≡ true) × (are_allowed (features_of c) d.operators ≡ true)) (at_body f b (ap body_of_function is ∙ ap body_of_kind kind)) (refl, refl)
 
-is_read : (c : Config) → Reads c undeclared_bytes module_read
+is_read : (c : Config) → ReadsModule c undeclared_bytes module_read
 unfolding read_spelled
 is_read c = nested_reads c module_read undeclared_bytes read_spelled read_fits (read_nests c) (bodies_hold module_read read_holds)
 
@@ -420,9 +420,9 @@ module _ (c : Config) where
   none_undeclared : NamesNone (module_left c)
   none_undeclared f u = u.not_listed 0 the_segment refl refl (subst (Contains (0 ∷ [])) (named_zero (the_segment ∷ []) [] f names (produced []) u) (Contains-head 0 []))
 
-  no_local : (f : ℕ) (b : Body) (x y : ℕ) → body_of (module_left c) f ≡ Some b → GoesBefore b x y → ⊥
+  no_local : (f : ℕ) (b : Body) (x y : ℕ) → body_of (module_left c) f ≡ Some b → LocalGoesBefore b x y → ⊥
   no_local f b x y e g =
-      let here : GoesBefore (the_body the_ops [] (Some 0)) x y = subst (λ (d : Body). GoesBefore d x y) (sym (body_at the_ops [] (Some 0) (the_segment ∷ []) [] [] (produced []) names f b e)) g in
+      let here : LocalGoesBefore (the_body the_ops [] (Some 0)) x y = subst (λ (d : Body). LocalGoesBefore d x y) (sym (body_at the_ops [] (Some 0) (the_segment ∷ []) [] [] (produced []) names f b e)) g in
       nothing_there here.0 here.1.1.0
 
   is_written : c.writes_names ≡ false → c.writes_producers ≡ false → IsWrittenAs c (module_left c) module_written
@@ -450,5 +450,5 @@ module _ (c : Config) where
   unfolding written_spelled
   comes no_names no_producers = comes_to c undeclared_bytes declared_bytes module_read (module_left c) module_written (is_read c) read_holds brings (is_written no_names no_producers) written_spelled written_fits
 
-pub declared_runs : (c : Config) → c.writes_names ≡ false → c.writes_producers ≡ false → Runs c undeclared_bytes declared_bytes
+pub declared_runs : (c : Config) → c.writes_names ≡ false → c.writes_producers ≡ false → ComesToAlone c undeclared_bytes declared_bytes
 declared_runs c no_names no_producers = runs c undeclared_bytes declared_bytes (comes c no_names no_producers)

@@ -25,7 +25,7 @@ use Rattle.walrus_model.proofs.Examples.{only_one}
 use Rattle.walrus_model.proofs.Lists.{Contains-head, Contains-none}
 use Rattle.walrus_rules.specs.Chain.{BringsTo}
 use Rattle.walrus_rules.specs.Features.{features_of}
-use Rattle.walrus_rules.specs.Pinned.{IsWrittenAs, GoesBefore}
+use Rattle.walrus_rules.specs.Pinned.{IsWrittenAs, LocalGoesBefore}
 use Rattle.walrus_rules.specs.Spelling.{UsesAll, NeedsCount}
 use Rattle.walrus_rules.specs.SpelledLaws.{BodiesNest}
 use Rattle.walrus_rules.proofs.NeedsBase.{given, are_given, declares_none, NamesNone}
@@ -126,9 +126,9 @@ module _ (customs : List Custom) (producers : List ProducerField) (named : Subje
       (λ (h : IsRefInGlobal (IsLive m) m f). nothing_there h.1 h.4)
       u.named
 
-  no_local : (f : ℕ) (b : Body) (x y : ℕ) → body_of m f ≡ Some b → GoesBefore b x y → ⊥
+  no_local : (f : ℕ) (b : Body) (x y : ℕ) → body_of m f ≡ Some b → LocalGoesBefore b x y → ⊥
   no_local f b x y e g =
-      let here : GoesBefore (the_body just_end f_exported None) x y = subst (λ (d : Body). GoesBefore d x y) (sym (at_body f b e)) g in
+      let here : LocalGoesBefore (the_body just_end f_exported None) x y = subst (λ (d : Body). LocalGoesBefore d x y) (sym (at_body f b e)) g in
       nothing_there here.0 here.1.1.0
 
 -- ---- the steps: all of it is parsed and kept, and no segment is added

@@ -46,16 +46,16 @@ use Rattle.walrus_model.specs.Same.{BothAnd, SameType}
 use Rattle.walrus_model.specs.Sections.{body_with}
 use Rattle.walrus_model.proofs.Examples.{only_one}
 use Rattle.walrus_model.proofs.Lists.{Contains-head, Contains-tail, Contains-none, Contains-uncons}
-use Rattle.walrus_rules.specs.Chain.{ParsedAs, BringsTo, AndThose, NoFunction, NoMore, AndThen, FoundOrAdded, Added, StandsAt, alone, IsBehind, IsWholeBody}
+use Rattle.walrus_rules.specs.Chain.{ParsedAs, BringsTo, AndThose, NoFunction, NoMore, AndThen, TypeIsFoundOrAdded, Added, IsLoneTypeAt, alone, IsBehind, IsWholeBody}
 use Rattle.walrus_rules.specs.Examples.{the_end}
 use Rattle.walrus_rules.specs.Features.{features_of}
-use Rattle.walrus_rules.specs.Headline.{Reads, ComesTo}
+use Rattle.walrus_rules.specs.Headline.{ReadsModule, ComesTo}
 use Rattle.walrus_rules.specs.Pinned.{IsWrittenAs}
 use Rattle.walrus_rules.specs.Spelling.{BodyStands, UsesAll, NeedsCount, IsSpelledAs}
 use Rattle.walrus_rules.specs.SpelledLaws.{BodiesNest}
 use Rattle.walrus_rules.specs.Text.{said, sections_of, said_by, unplaced}
 use Rattle.walrus_rules.specs.WorkedHandler.{takes_one, catches, catching_text, catching_bytes, handled_text, handled_bytes}
-use Rattle.walrus_rules.specs.WorkedSections.{Runs}
+use Rattle.walrus_rules.specs.WorkedSections.{ComesToAlone}
 use Rattle.walrus_rules.proofs.BodiesBack.{bodies_hold}
 use Rattle.walrus_rules.proofs.NeedsBase.{no_item, one_item, given, are_given, declares_none, NamesNone}
 use Rattle.walrus_rules.proofs.Runs.{comes_to, brings_itself}
@@ -426,7 +426,7 @@ read_nests : (c : Config) → c.legacy_exceptions ≡ true → BodiesNest c modu
 read_nests c legacy f g b is kind = subst (λ (d : Body). (are_nested d.operators ≡ true) × (are_allowed (features_of c) d.operators ≡ true)) (at_body f b (ap body_of_function is ∙ ap body_of_kind kind))
     (refl, is_allowed_with c.legacy_exceptions c.only_stable_features legacy)
 
-is_read : (c : Config) → c.legacy_exceptions ≡ true → Reads c catching_bytes module_read
+is_read : (c : Config) → c.legacy_exceptions ≡ true → ReadsModule c catching_bytes module_read
 unfolding read_spelled
 is_read c legacy = nested_reads c module_read catching_bytes read_spelled read_fits (read_nests c legacy) (bodies_hold module_read read_holds)
 
@@ -445,11 +445,11 @@ results_of None = 0
 results_of (Some t) = results_in t.sub.comp
 
 -- no type that is there is the one of the handler
-not_found : (p : ℕ) → StandsAt (Func (I32 ∷ []) (I32 ∷ [])) (from_one ∷ []) p → ⊥
+not_found : (p : ℕ) → IsLoneTypeAt (Func (I32 ∷ []) (I32 ∷ [])) (from_one ∷ []) p → ⊥
 not_found zero h = let same : 0 ≡ 1 = ap results_of h.0 in omega (arith, same)
 not_found (suc p) h = nothing_there (alone (suc p) (Func (I32 ∷ []) (I32 ∷ []))) h.0
 
-is_added : FoundOrAdded (Func (I32 ∷ []) (I32 ∷ [])) (from_one ∷ []) (from_one ∷ to_one ∷ []) 1
+is_added : TypeIsFoundOrAdded (Func (I32 ∷ []) (I32 ∷ [])) (from_one ∷ []) (from_one ∷ to_one ∷ []) 1
 is_added = Added not_found refl refl
 
 same_type : SameType (λ i. i) 0 from_one from_one
@@ -642,5 +642,5 @@ module _ (c : Config) where
   unfolding written_spelled
   comes no_names no_producers legacy = comes_to c catching_bytes handled_bytes module_read v module_written (is_read c legacy) read_holds brings (is_written no_names no_producers) written_spelled written_fits
 
-pub handler_runs : (c : Config) → c.writes_names ≡ false → c.writes_producers ≡ false → c.legacy_exceptions ≡ true → Runs c catching_bytes handled_bytes
+pub handler_runs : (c : Config) → c.writes_names ≡ false → c.writes_producers ≡ false → c.legacy_exceptions ≡ true → ComesToAlone c catching_bytes handled_bytes
 handler_runs c no_names no_producers legacy = runs c catching_bytes handled_bytes (comes c no_names no_producers legacy)

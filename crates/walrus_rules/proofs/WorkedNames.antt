@@ -20,12 +20,12 @@ use Rattle.walrus_model.specs.Refers.{IsUsed}
 use Rattle.walrus_model.specs.Renaming.{unchanged}
 use Rattle.walrus_model.proofs.Lists.{Contains-none}
 use Rattle.walrus_rules.specs.Examples.{no_values, empty_body}
-use Rattle.walrus_rules.specs.Headline.{Reads, ComesTo}
+use Rattle.walrus_rules.specs.Headline.{ReadsModule, ComesTo}
 use Rattle.walrus_rules.specs.Namings.{naming_of, has_local, is_in_range, names_in_range}
 use Rattle.walrus_rules.specs.Pinned.{IsWrittenAs}
 use Rattle.walrus_rules.specs.Spelling.{BodyStands, MapStands, IsSpelledAs}
 use Rattle.walrus_rules.specs.Text.{custom, names_bytes, namings_of, sections_of, said_by}
-use Rattle.walrus_rules.specs.WorkedSections.{Runs, a_function, named_text, named_bytes}
+use Rattle.walrus_rules.specs.WorkedSections.{ComesToAlone, a_function, named_text, named_bytes}
 use Rattle.walrus_rules.proofs.BodiesBack.{bodies_hold}
 use Rattle.walrus_rules.proofs.NeedsBase.{no_item, empty_if}
 use Rattle.walrus_rules.proofs.Runs.{comes_to}
@@ -106,7 +106,7 @@ type_unnamed : (i : ℕ) → the_names (AnItem (Types, i)) ≡ []
 type_unnamed i = empty_if (is_some (slice_get (the_type ∷ []) i)) [] refl
 
 module _ (c : Config) where
-  is_read : Reads c named_bytes the_module
+  is_read : ReadsModule c named_bytes the_module
   unfolding spelled
   is_read = nested_reads c the_module named_bytes spelled fits (empty_nests [] [] the_names c) (bodies_hold the_module (empty_holds [] [] the_names))
 
@@ -183,5 +183,5 @@ module _ (c : Config) where
   comes has_names no_producers = comes_to c named_bytes named_bytes the_module kept the_module is_read (empty_holds [] [] the_names)
       (empty_brings c [] [] the_names (λ i past. no_name c the_module (Types, i) (type_unnamed i) refl)) (is_written has_names no_producers) spelled fits
 
-pub names_run : (c : Config) → c.writes_names ≡ true → c.writes_producers ≡ false → Runs c named_bytes named_bytes
+pub names_run : (c : Config) → c.writes_names ≡ true → c.writes_producers ≡ false → ComesToAlone c named_bytes named_bytes
 names_run c has_names no_producers = runs c named_bytes named_bytes (comes c has_names no_producers)

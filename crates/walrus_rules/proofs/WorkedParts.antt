@@ -31,12 +31,12 @@ use Rattle.walrus_rules.specs.Examples.{no_values, the_end, empty_body}
 use Rattle.walrus_rules.specs.Headline.{ComesTo}
 use Rattle.walrus_rules.specs.Spelling.{BodyStands}
 use Rattle.walrus_rules.specs.Text.{unplaced}
-use Rattle.walrus_rules.specs.WorkedSections.{Runs}
+use Rattle.walrus_rules.specs.WorkedSections.{ComesToAlone}
 use Rattle.walrus_rules.proofs.NeedsBase.{empty_if}
 use Rattle.walrus_rules.proofs.NotBoth.{not_both}
 use Rattle.walrus_rules.proofs.OneOutput.{one_output}
 
-pub runs : (c : Config) (input output : List ℕ) → ComesTo c input output → Runs c input output
+pub runs : (c : Config) (input output : List ℕ) → ComesTo c input output → ComesToAlone c input output
 runs c input output comes = record { comes = comes; alone = λ other run. one_output c input output other comes run; not_too_large = not_both c input output comes }
 
 -- a text without names says what its sections say, with its producers

@@ -13,11 +13,11 @@ use Rattle.walrus_model.specs.Names.{own_name, WritesNames}
 use Rattle.walrus_model.specs.Producers.{produced, walrus, if_written}
 use Rattle.walrus_model.specs.Renaming.{unchanged}
 use Rattle.walrus_rules.specs.Examples.{no_values, one_text, one_function_bytes, empty_body}
-use Rattle.walrus_rules.specs.Headline.{Reads, ComesTo}
+use Rattle.walrus_rules.specs.Headline.{ReadsModule, ComesTo}
 use Rattle.walrus_rules.specs.Pinned.{IsWrittenAs}
 use Rattle.walrus_rules.specs.Spelling.{BodyStands, IsSpelledAs, FieldIsText, ValueIsText}
 use Rattle.walrus_rules.specs.Text.{custom, field_bytes, said, sections_of, said_by}
-use Rattle.walrus_rules.specs.WorkedSections.{Runs, produced_text, produced_bytes}
+use Rattle.walrus_rules.specs.WorkedSections.{ComesToAlone, produced_text, produced_bytes}
 use Rattle.walrus_rules.proofs.BodiesBack.{bodies_hold}
 use Rattle.walrus_rules.proofs.Runs.{comes_to}
 use Rattle.walrus_rules.proofs.SpelledReads.{nested_reads}
@@ -110,7 +110,7 @@ written_spelled = record {
 }
 
 module _ (c : Config) where
-  is_read : Reads c one_function_bytes module_read
+  is_read : ReadsModule c one_function_bytes module_read
   unfolding read_spelled
   is_read = nested_reads c module_read one_function_bytes read_spelled read_fits (empty_nests [] [] (λ y. []) c) (bodies_hold module_read (empty_holds [] [] (λ y. [])))
 
@@ -126,5 +126,5 @@ module _ (c : Config) where
   comes no_names producers = comes_to c one_function_bytes produced_bytes module_read (in_memory c [] [] (λ y. [])) module_written is_read (empty_holds [] [] (λ y. []))
       (empty_brings c [] [] (λ y. []) (λ i past. no_name c module_read (Types, i) refl refl)) (is_written no_names producers) written_spelled written_fits
 
-pub producers_run : (c : Config) → c.writes_names ≡ false → c.writes_producers ≡ true → Runs c one_function_bytes produced_bytes
+pub producers_run : (c : Config) → c.writes_names ≡ false → c.writes_producers ≡ true → ComesToAlone c one_function_bytes produced_bytes
 producers_run c no_names producers = runs c one_function_bytes produced_bytes (comes c no_names producers)

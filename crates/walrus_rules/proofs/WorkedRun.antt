@@ -28,8 +28,8 @@ use Rattle.walrus_model.proofs.Lists.{Contains-head, Contains-none}
 use Rattle.walrus_model.proofs.Examples.{only_one as one_alone}
 use Rattle.walrus_rules.specs.Chain.{ParsedAs, AndThose, NoFunction, NoMore, IsWholeBody, IsBehind}
 use Rattle.walrus_rules.specs.Examples.{one_function, one_function_bytes, two_functions_bytes, RowRuns}
-use Rattle.walrus_rules.specs.Headline.{Reads, ComesTo}
-use Rattle.walrus_rules.specs.Pinned.{IsWrittenAs, GoesBefore}
+use Rattle.walrus_rules.specs.Headline.{ReadsModule, ComesTo}
+use Rattle.walrus_rules.specs.Pinned.{IsWrittenAs, LocalGoesBefore}
 use Rattle.walrus_rules.specs.Text.{sections_of}
 use Rattle.walrus_rules.specs.Spelling.{written_as}
 use Rattle.walrus_rules.proofs.NeedsBase.{no_item, one_carried, no_items, given, are_given, empty_if, NamesNone, declares_none}
@@ -59,7 +59,7 @@ no_type_name : (synthetic : Bool) (i : ℕ) → or_else (last_name (names_that_c
 no_type_name true i = refl
 no_type_name false i = refl
 
-two_there : (f : ℕ) → IsSome (two_functions.functions f) ↔ (f < 2)
+pub two_there : (f : ℕ) → IsSome (two_functions.functions f) ↔ (f < 2)
 two_there zero = (λ h. omega arith, λ l. refl)
 two_there (suc zero) = (λ h. omega arith, λ l. refl)
 two_there (suc (suc f)) = (λ h. absurd (no_item f h), λ (l : suc (suc f) < 2). absurd (omega (arith, l)))
@@ -205,7 +205,7 @@ module _ (c : Config) where
   no_spare x spare = no_item spare.memory spare.first.live
 
   first_is_not : Kept (parsed c) (Functions, 0) → ⊥
-  first_is_not k = ⊎_elim (λ h. let no : false ≡ true = lies_within (parsed c) isnt_first has_roots is_closed (Functions, 0) h in cc) (λ spare. no_spare (Functions, 0) spare) k
+  first_is_not k = ⊎_elim (λ h. let no : false ≡ true = lies_within (parsed c) (λ y. IsTrue (isnt_first y)) has_roots is_closed (Functions, 0) h in cc) (λ spare. no_spare (Functions, 0) spare) k
 
 -- function 1 alone
 abbrev only_second : ℕ → Option Function
@@ -326,9 +326,9 @@ module _ (c : Config) where
       (λ (h : IsRefInGlobal (IsLive (left c)) (left c) f). no_item h.0 h.3)
       u.named
 
-  no_type : (f : ℕ) (b : Body) (x y : ℕ) → body_of (left c) f ≡ Some b → GoesBefore b x y → ⊥
+  no_type : (f : ℕ) (b : Body) (x y : ℕ) → body_of (left c) f ≡ Some b → LocalGoesBefore b x y → ⊥
   no_type f b x y e g =
-      let here : GoesBefore the_body x y = subst (λ (d : Body). GoesBefore d x y) (sym (body_left f b e)) g in
+      let here : LocalGoesBefore the_body x y = subst (λ (d : Body). LocalGoesBefore d x y) (sym (body_left f b e)) g in
       let typed : None ≡ Some here.0 = here.1.1.0 in
       cc
 
@@ -373,8 +373,8 @@ module _ (c : Config) where
 
 -- ---- the run
 
-read_again : (c : Config) → Reads c (written_as one_spelled.text) one_function
-read_again c = subst (λ bytes. Reads c bytes one_function) one_spelled.written (subst (Reads c one_function_bytes) (sym same_modules) (one_function_read c))
+read_again : (c : Config) → ReadsModule c (written_as one_spelled.text) one_function
+read_again c = subst (λ bytes. ReadsModule c bytes one_function) one_spelled.written (subst (ReadsModule c one_function_bytes) (sym same_modules) (one_function_read c))
 
 row_fits : (c : Config) → All SectionFits (sections_of one_spelled.text)
 row_fits c = let ss = sections_of one_spelled.text in λ i s less. spelled_fits c one_function one_spelled.text (get_or ss i s) one_spelled.spells (read_again c) (All-contains_itself ss i s less)

@@ -16,7 +16,7 @@ use Rattle.walrus_model.specs.Same.{SameType, SameBody, SameFunction}
 use Rattle.walrus_rules.specs.Examples.{one_function}
 use Rattle.walrus_rules.specs.Needs.{plain_config, IsWrittenOnce}
 use Rattle.walrus_rules.specs.Once.{NamesLive}
-use Rattle.walrus_rules.specs.Pinned.{IsWrittenAs, GoesBefore}
+use Rattle.walrus_rules.specs.Pinned.{IsWrittenAs, LocalGoesBefore}
 use Rattle.walrus_model.proofs.Lists.{Contains-none, Contains-uncons}
 use Rattle.walrus_rules.proofs.Worked.{one_spelled}
 use Rattle.walrus_rules.proofs.NeedsBase.{no_item, one_item, one_carried, no_items, given, are_given, IsSmall, small_rises, empty_if, NamesNone, declares_none}
@@ -83,9 +83,9 @@ row_names_none f u = ⊎_elim
     (λ (h : IsRefInGlobal (IsLive one_function) one_function f). no_item h.0 h.3)
     u.named
 
-no_type : (f : ℕ) (b : Body) (x y : ℕ) → body_of one_function f ≡ Some b → GoesBefore b x y → ⊥
+no_type : (f : ℕ) (b : Body) (x y : ℕ) → body_of one_function f ≡ Some b → LocalGoesBefore b x y → ⊥
 no_type f b x y e g =
-    let here : GoesBefore the_body x y = subst (λ (d : Body). GoesBefore d x y) (sym (body_there f b e)) g in
+    let here : LocalGoesBefore the_body x y = subst (λ (d : Body). LocalGoesBefore d x y) (sym (body_there f b e)) g in
     let typed : None ≡ Some here.0 = here.1.1.0 in
     cc
 

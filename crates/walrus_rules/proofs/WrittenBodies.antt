@@ -16,7 +16,7 @@ use Rattle.walrus_model.specs.Rules.{Holds}
 use Rattle.walrus_model.specs.Sections.{Said, body_with}
 use Rattle.walrus_model.proofs.Lists.{map-itself}
 use Rattle.walrus_rules.specs.Chain.{IsWholeBody}
-use Rattle.walrus_rules.specs.Pinned.{IsDeclared, IsWrittenAs}
+use Rattle.walrus_rules.specs.Pinned.{DeclaresLocal, IsWrittenAs}
 use Rattle.walrus_rules.specs.SpelledLaws.{BodiesNest, HasBodies, WrittenBodies}
 use Rattle.walrus_rules.specs.Spelling.{IsSpelling, UsesAll}
 use Rattle.walrus_rules.specs.Text.{said, namings_of}
@@ -56,14 +56,14 @@ module _ (ps : List (ValType ℕ)) (words : Said) (uses : UsesAll (body_with ps 
       let first : j < length words.0 = omega (arith, before, second) in
       omega (arith, before, same, get_or-range_with_len (length ps) (length words.0) j d first, get_or-range_with_len (length ps) (length words.0) k d second)
 
-  is_declared : (x : ℕ) → Contains declared x → IsDeclared b x
+  is_declared : (x : ℕ) → Contains declared x → DeclaresLocal b x
   is_declared x at =
       let within = range_in (length ps) (length words.0) x at in (
         uses x (omega (arith, within.0, long)) (omega (arith, within.1, long)),
         λ parameter. omega (arith, within.0, (range_in 0 (length ps) x parameter).1),
       )
 
-  was_declared : (x : ℕ) → IsDeclared b x → Contains declared x
+  was_declared : (x : ℕ) → DeclaresLocal b x → Contains declared x
   was_declared x d =
       let high : x < length (ps ++ words.0) = some_there (ps ++ words.0) x (typed x d.0) in
       ⊎_elim

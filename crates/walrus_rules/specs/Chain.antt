@@ -22,17 +22,17 @@ abbrev pub alone : ℕ → CompType ℕ → TypeDef
 alone place comp = record { group = place ∷ []; sub = record { is_final = true; supertypes = []; comp = comp } }
 
 -- Such a type stands at p, and it does not name itself: one that does has another shape than what is looked for.
-abbrev pub StandsAt : CompType ℕ → List TypeDef → ℕ → Type 0
-StandsAt comp types p = (slice_get types p ≡ Some (alone p comp)) × (Contains (comp_names comp) p → ⊥)
+abbrev pub IsLoneTypeAt : CompType ℕ → List TypeDef → ℕ → Type 0
+IsLoneTypeAt comp types p = (slice_get types p ≡ Some (alone p comp)) × (Contains (comp_names comp) p → ⊥)
 
 -- the first such type, or a new one behind all others
-pub data FoundOrAdded (comp : CompType ℕ) (old new : List TypeDef) (place : ℕ) : Type 0 where
-  Found : StandsAt comp old place → ((p : ℕ) → p < place → StandsAt comp old p → ⊥) → new ≡ old → FoundOrAdded comp old new place
-  Added : ((p : ℕ) → StandsAt comp old p → ⊥) → place ≡ length old → new ≡ old ++ alone place comp ∷ [] → FoundOrAdded comp old new place
+pub data TypeIsFoundOrAdded (comp : CompType ℕ) (old new : List TypeDef) (place : ℕ) : Type 0 where
+  Found : IsLoneTypeAt comp old place → ((p : ℕ) → p < place → IsLoneTypeAt comp old p → ⊥) → new ≡ old → TypeIsFoundOrAdded comp old new place
+  Added : ((p : ℕ) → IsLoneTypeAt comp old p → ⊥) → place ≡ length old → new ≡ old ++ alone place comp ∷ [] → TypeIsFoundOrAdded comp old new place
 
 pub data AreFoundOrAdded : (comps : List (CompType ℕ)) (old new : List TypeDef) (places : List ℕ) → Type 0 where
   NoMore : (types : List TypeDef) → AreFoundOrAdded [] types types []
-  AndThen : (comp : CompType ℕ) (comps : List (CompType ℕ)) (old middle new : List TypeDef) (p : ℕ) (ps : List ℕ) → FoundOrAdded comp old middle p → AreFoundOrAdded comps middle new ps → AreFoundOrAdded (comp ∷ comps) old new (p ∷ ps)
+  AndThen : (comp : CompType ℕ) (comps : List (CompType ℕ)) (old middle new : List TypeDef) (p : ℕ) (ps : List ℕ) → TypeIsFoundOrAdded comp old middle p → AreFoundOrAdded comps middle new ps → AreFoundOrAdded (comp ∷ comps) old new (p ∷ ps)
 
 abbrev pub handlers_by : Abstract → Option Body → List (CompType ℕ)
 handlers_by m None = []

@@ -10,7 +10,7 @@ use Rattle.walrus_model.specs.Abstract.{Abstract, Body, Table}
 use Rattle.walrus_model.specs.Config.{Config}
 use Rattle.walrus_model.specs.Examples.{two_functions}
 use Rattle.walrus_model.specs.Examples as small
-use Rattle.walrus_rules.specs.Headline.{Reads, ComesTo, ComesOutTooLarge}
+use Rattle.walrus_rules.specs.Headline.{ReadsModule, ComesTo, ComesOutTooLarge}
 use Rattle.walrus_rules.specs.Text.{BodyText, NameText, Text, said_by}
 use Rattle.walrus_rules.specs.Spelling.{BodyStands, UsesAll, IsChosen, IsCount, MapStands, IsSpelling, IsSpelledAs, SpelledOnce}
 
@@ -123,8 +123,8 @@ two_functions_bytes =
 
 -- these bytes, and those of the worked row, read as the two modules, under any configuration; and the second is spelled so
 pub record AreRead : Type 0 where
-  pub reads : (c : Config) → Reads c two_functions_bytes two_functions
-  pub written_reads : (c : Config) → Reads c one_function_bytes small.one_function
+  pub reads : (c : Config) → ReadsModule c two_functions_bytes two_functions
+  pub written_reads : (c : Config) → ReadsModule c one_function_bytes small.one_function
   pub spelled : IsSpelledAs small.one_function one_function_bytes
 
 -- where neither names nor producers are written, a run on the first bytes comes to the second, to no others, and isn't too large

@@ -34,8 +34,8 @@ abbrev pub has_function : wire.Module → ℕ → Bool
 has_function s f = nat_lt f (length (function_types s))
 
 -- a data count counts the data segments
-abbrev pub CountHolds : wire.Module → Type 0
-CountHolds s = (n : ℕ) → s.data_count ≡ Some n → n ≡ length s.data_segments
+abbrev pub DataCountHolds : wire.Module → Type 0
+DataCountHolds s = (n : ℕ) → s.data_count ≡ Some n → n ≡ length s.data_segments
 
 abbrev pub value_of : List ℕ × List ℕ → ProducerValue
 value_of v = record { name = v.0; version = v.1 }
@@ -43,12 +43,12 @@ value_of v = record { name = v.0; version = v.1 }
 abbrev pub field_of : Field → ProducerField
 field_of f = record { name = f.0; values = map value_of f.1 }
 
-pub record Reads (c : Config) (bytes : List ℕ) (m : Abstract) : Type 0 where
+pub record ReadsModule (c : Config) (bytes : List ℕ) (m : Abstract) : Type 0 where
   pub sections : wire.Module
   pub framed : Frames bytes sections
   pub in_order : InOrder sections.order
   pub as_many_bodies : length sections.bodies ≡ length sections.functions
-  pub data_count : CountHolds sections
+  pub data_count : DataCountHolds sections
   pub bodies : List Said
   pub read : AllZip (ReadsBody c sections) (zip sections.functions sections.bodies) bodies
   pub namings : List (List Named)
@@ -59,27 +59,27 @@ pub record Reads (c : Config) (bytes : List ℕ) (m : Abstract) : Type 0 where
 
 -- the bytes are accepted: they read as a module that keeps the rules
 abbrev pub Accepts : Config → List ℕ → Type 0
-Accepts c bytes = (m : Abstract) × Reads c bytes m × Holds m
+Accepts c bytes = (m : Abstract) × ReadsModule c bytes m × Holds m
 
 -- The bytes read as a module that keeps the rules. The steps bring it to one module in memory, and the output is the one spelling of what
 -- that is written as, and keeps the rules. What this comes to for a reader is `out`.
 pub record ComesTo (c : Config) (bytes output : List ℕ) : Type 0 where
   pub module_read : Abstract
-  pub reads : Reads c bytes module_read
+  pub reads : ReadsModule c bytes module_read
   pub holds : Holds module_read
   pub module_left : Abstract
   pub brought : BringsTo c module_read module_left
   pub module_written : Abstract
   pub written : IsWrittenAs c module_left module_written
   pub spelled : IsSpelledAs module_written output
-  pub output_reads : Reads c output module_written
+  pub output_reads : ReadsModule c output module_written
   pub output_holds : Holds module_written
   pub out : Out c module_read module_written
 
 -- the bytes are accepted, but what the same steps bring them to has a count, a size or a limit past 32 bits
 pub record ComesOutTooLarge (c : Config) (bytes : List ℕ) : Type 0 where
   pub module_read : Abstract
-  pub reads : Reads c bytes module_read
+  pub reads : ReadsModule c bytes module_read
   pub holds : Holds module_read
   pub module_left : Abstract
   pub brought : BringsTo c module_read module_left
@@ -97,4 +97,4 @@ NotBoth = (c : Config) (bytes output : List ℕ) → ComesTo c bytes output → 
 
 -- what is said of the steps gives what is said of the module that was read
 abbrev pub StepsComeOut : Type 0
-StepsComeOut = (c : Config) (bytes : List ℕ) (m u n : Abstract) → Reads c bytes m → Holds m → BringsTo c m u → IsWrittenAs c u n → Out c m n
+StepsComeOut = (c : Config) (bytes : List ℕ) (m u n : Abstract) → ReadsModule c bytes m → Holds m → BringsTo c m u → IsWrittenAs c u n → Out c m n

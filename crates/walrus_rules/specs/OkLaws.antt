@@ -5,7 +5,7 @@ use Rattle.walrus_model.specs.Config.{Config}
 use Rattle.walrus_model.specs.Names.{body_of}
 use Rattle.walrus_model.specs.Order.{ByImport}
 use Rattle.walrus_model.specs.Rules.{Holds, RulesHold}
-use Rattle.walrus_rules.specs.Headline.{Reads}
+use Rattle.walrus_rules.specs.Headline.{ReadsModule}
 use Rattle.walrus_rules.specs.Pinned.{IsWrittenAs}
 use Rattle.walrus_rules.specs.Refused.{HasNoCause}
 use Rattle.walrus_rules.specs.Spelling.{IsSpelledAs}
@@ -13,8 +13,8 @@ use Rattle.walrus_rules.specs.WellMade.{IsCounted}
 
 -- the bytes read as this module, and as no other
 pub record ReadsAs (c : Config) (bytes : List ℕ) (n : Abstract) : Type 0 where
-  pub reads : Reads c bytes n
-  pub alone : (m : Abstract) → Reads c bytes m → m ≡ n
+  pub reads : ReadsModule c bytes n
+  pub alone : (m : Abstract) → ReadsModule c bytes m → m ≡ n
 
 -- There is no cause to refuse v, which an answer Ok says; n is what it is written as, and the bytes are the one spelling of that. Then they
 -- read as n. That v is well made isn't asked, nor that it keeps any rule.

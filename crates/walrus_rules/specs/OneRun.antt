@@ -13,7 +13,7 @@ use Rattle.walrus_model.specs.Config.{Config}
 use Rattle.walrus_model.specs.Pipeline.{Collected}
 use Rattle.walrus_model.specs.Rules.{Holds}
 use Rattle.walrus_rules.specs.Chain.{ParsedAs, AddsHandlers}
-use Rattle.walrus_rules.specs.Headline.{Reads}
+use Rattle.walrus_rules.specs.Headline.{ReadsModule}
 use Rattle.walrus_rules.specs.Once.{Premises}
 use Rattle.walrus_rules.specs.Refused.{PassesLimit}
 use Rattle.walrus_rules.specs.Spelling.{IsSpelling, written_as}
@@ -21,11 +21,11 @@ use Rattle.walrus_rules.specs.Text.{Text, sections_of}
 
 -- no bytes read as two modules
 abbrev pub ReadsOnce : Type 0
-ReadsOnce = (c : Config) (bytes : List ℕ) (m n : Abstract) → Reads c bytes m → Reads c bytes n → n ≡ m
+ReadsOnce = (c : Config) (bytes : List ℕ) (m n : Abstract) → ReadsModule c bytes m → ReadsModule c bytes n → n ≡ m
 
 -- what gc leaves of what was parsed names nothing dead
 abbrev pub KeptLives : Type 0
-KeptLives = (c : Config) (bytes : List ℕ) (m v w : Abstract) → Reads c bytes m → Holds m → ParsedAs c m v → Collected v w → Premises w
+KeptLives = (c : Config) (bytes : List ℕ) (m v w : Abstract) → ReadsModule c bytes m → Holds m → ParsedAs c m v → Collected v w → Premises w
 
 -- the types that legacy handlers need name types that are there
 abbrev pub HandlersLive : Type 0
@@ -46,8 +46,8 @@ pub record Fits (n : Abstract) : Type 0 where
   pub memories : (i : ℕ) (t : Memory) → n.memories i ≡ Some t → PassesLimit t.ty.limits → ⊥
 
 abbrev pub ReadFits : Type 0
-ReadFits = (c : Config) (bytes : List ℕ) (n : Abstract) → Reads c bytes n → Fits n
+ReadFits = (c : Config) (bytes : List ℕ) (n : Abstract) → ReadsModule c bytes n → Fits n
 
 -- sections that are spelled and read again fit
 abbrev pub SpelledFits : Type 0
-SpelledFits = (c : Config) (n : Abstract) (t : Text) (s : Section) → IsSpelling n t → Reads c (written_as t) n → Contains (sections_of t) s → SectionFits s
+SpelledFits = (c : Config) (n : Abstract) (t : Text) (s : Section) → IsSpelling n t → ReadsModule c (written_as t) n → Contains (sections_of t) s → SectionFits s

@@ -8,7 +8,7 @@ use Rattle.walrus_model.specs.Declared.{NothingUndeclared}
 use Rattle.walrus_model.specs.Pipeline.{Collected, ReachedIsLive}
 use Rattle.walrus_model.specs.Rules.{Holds}
 use Rattle.walrus_rules.specs.Chain.{BringsTo, Leaves, ParsedAs}
-use Rattle.walrus_rules.specs.Headline.{Reads, ComesTo, ComesOutTooLarge}
+use Rattle.walrus_rules.specs.Headline.{ReadsModule, ComesTo, ComesOutTooLarge}
 use Rattle.walrus_rules.specs.Pinned.{IsWrittenAs}
 use Rattle.walrus_rules.specs.Refused.{Refusal, Memory, DeadItem, NoIndex, TwoIndices, TooLarge, NotWritable, Caller, Another, IsSayable, RefusesToWrite}
 use Rattle.walrus_rules.specs.Spelling.{IsSpelledAs}
@@ -32,7 +32,7 @@ pub record AreFine (c : Config) (m v w u : Abstract) : Type 0 where
   pub brings : BringsTo c m u
 
 abbrev pub RunsFine : Type 0
-RunsFine = (c : Config) (bytes : List ℕ) (m v w u : Abstract) → Reads c bytes m → Holds m → ParsedAs c m v → Collected v w → Leaves w u → AreFine c m v w u
+RunsFine = (c : Config) (bytes : List ℕ) (m v w u : Abstract) → ReadsModule c bytes m → Holds m → ParsedAs c m v → Collected v w → Leaves w u → AreFine c m v w u
 
 -- what emission says where it writes the module u: the output is the one spelling of what u is written as, and all sections of that fit
 pub record IsOutput (c : Config) (u : Abstract) (output : List ℕ) : Type 0 where
@@ -45,21 +45,21 @@ pub record IsOutput (c : Config) (u : Abstract) (output : List ℕ) : Type 0 whe
 abbrev pub RunsOutput : Type 0
 RunsOutput =
     (c : Config) (bytes output : List ℕ) (m v w u : Abstract)
-    → Reads c bytes m → Holds m → ParsedAs c m v → Collected v w → Leaves w u
+    → ReadsModule c bytes m → Holds m → ParsedAs c m v → Collected v w → Leaves w u
     → IsOutput c u output → ComesTo c bytes output
 
 -- the same where emission says that it refuses nothing: then the sections fit
 abbrev pub RunsOk : Type 0
 RunsOk =
     (c : Config) (bytes output : List ℕ) (m v w u n : Abstract)
-    → Reads c bytes m → Holds m → ParsedAs c m v → Collected v w → Leaves w u
+    → ReadsModule c bytes m → Holds m → ParsedAs c m v → Collected v w → Leaves w u
     → RefusesToWrite ⊥ c u (Ok output) → IsWrittenAs c u n → IsSpelledAs n output → ComesTo c bytes output
 
 -- what is refused for its size comes out too large
 abbrev pub RunsTooLarge : Type 0
 RunsTooLarge =
     (c : Config) (bytes : List ℕ) (m v w u : Abstract)
-    → Reads c bytes m → Holds m → ParsedAs c m v → Collected v w → Leaves w u
+    → ReadsModule c bytes m → Holds m → ParsedAs c m v → Collected v w → Leaves w u
     → RefusesToWrite {X = List ℕ} ⊥ c u (Err TooLarge) → ComesOutTooLarge c bytes
 
 -- written, or refused for lack of memory or for its size

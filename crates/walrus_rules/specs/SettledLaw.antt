@@ -4,7 +4,7 @@ use Rattle.walrus_model.specs.Abstract.{Abstract}
 use Rattle.walrus_model.specs.Config.{Config}
 use Rattle.walrus_model.specs.Rules.{Holds}
 use Rattle.walrus_rules.specs.Chain.{BringsTo}
-use Rattle.walrus_rules.specs.Headline.{Reads, ComesTo}
+use Rattle.walrus_rules.specs.Headline.{ReadsModule, ComesTo}
 use Rattle.walrus_rules.specs.Pinned.{IsWrittenAs}
 use Rattle.walrus_rules.specs.Settled.{Settles}
 
@@ -12,16 +12,16 @@ use Rattle.walrus_rules.specs.Settled.{Settles}
 abbrev pub OutSettles : Type 0
 OutSettles =
     (c : Config) (bytes : List ℕ) (m u n : Abstract) (bytes2 : List ℕ) (u2 n2 : Abstract)
-    → Reads c bytes m → Holds m → BringsTo c m u → IsWrittenAs c u n
-    → Reads c bytes2 n → Holds n → BringsTo c n u2 → IsWrittenAs c u2 n2
+    → ReadsModule c bytes m → Holds m → BringsTo c m u → IsWrittenAs c u n
+    → ReadsModule c bytes2 n → Holds n → BringsTo c n u2 → IsWrittenAs c u2 n2
     → Settles c n n2
 
 -- what the bytes read as is settled in what those others read as
 pub record IsSettled (c : Config) (bytes output : List ℕ) : Type 0 where
   pub module_read : Abstract
-  pub reads : Reads c bytes module_read
+  pub reads : ReadsModule c bytes module_read
   pub module_written : Abstract
-  pub output_reads : Reads c output module_written
+  pub output_reads : ReadsModule c output module_written
   pub settles : Settles c module_read module_written
 
 -- the program on what the program wrote

@@ -8,7 +8,7 @@ use Rattle.walrus_model.specs.Config.{Config}
 use Rattle.walrus_model.specs.Declared.{NothingUndeclared}
 use Rattle.walrus_model.specs.Rules.{Holds}
 use Rattle.walrus_rules.specs.Features.{features_of}
-use Rattle.walrus_rules.specs.Headline.{Reads}
+use Rattle.walrus_rules.specs.Headline.{ReadsModule}
 use Rattle.walrus_rules.specs.Pinned.{IsWrittenAs}
 use Rattle.walrus_rules.specs.Spelling.{IsSpelling, IsSpelledAs}
 use Rattle.walrus_rules.specs.Text.{Text, sections_of}
@@ -24,7 +24,7 @@ BodiesNest c n = (f : ℕ) (g : Function) (b : Body) → n.functions f ≡ Some 
 
 -- The one spelling of a module reads as the module, where its sections fit, its bodies are well formed and it keeps the rules.
 abbrev pub SpelledReads : Type 0
-SpelledReads = (c : Config) (n : Abstract) (bytes : List ℕ) (spelled : IsSpelledAs n bytes) → All SectionFits (sections_of spelled.text) → HasBodies c n → Holds n → Reads c bytes n
+SpelledReads = (c : Config) (n : Abstract) (bytes : List ℕ) (spelled : IsSpelledAs n bytes) → All SectionFits (sections_of spelled.text) → HasBodies c n → Holds n → ReadsModule c bytes n
 
 -- what a well-made module is written with are well-formed bodies, where nothing is undeclared
 abbrev pub WrittenBodies : Type 0
@@ -34,4 +34,4 @@ WrittenBodies = (c : Config) (u n : Abstract) (t : Text) → IsWellMade c u → 
 abbrev pub WrittenReads : Type 0
 WrittenReads =
     (c : Config) (u n : Abstract) (bytes : List ℕ) → IsWellMade c u → NothingUndeclared u → IsWrittenAs c u n
-    → (spelled : IsSpelledAs n bytes) → All SectionFits (sections_of spelled.text) → Reads c bytes n × Holds n
+    → (spelled : IsSpelledAs n bytes) → All SectionFits (sections_of spelled.text) → ReadsModule c bytes n × Holds n

@@ -12,7 +12,7 @@ use Rattle.walrus_model.specs.Order.{ByImport}
 use Rattle.walrus_model.specs.Rules.{IsFunctionType, RulesHold}
 use Rattle.walrus_model.specs.WellMade.{ImportsMatch, IsWritable}
 use Rattle.walrus_rules.specs.Features.{features_of}
-use Rattle.walrus_rules.specs.Pinned.{IsDeclared}
+use Rattle.walrus_rules.specs.Pinned.{DeclaresLocal}
 
 -- ---- bodies
 
@@ -33,7 +33,7 @@ pub record IsWellFormed (c : Config) (m : Abstract) (ty : ℕ) (b : Body) : Type
 pub record IsCounted (b : Body) : Type 0 where
   pub locals : List ℕ
   pub distinct : AllPairs (λ (x : ℕ) (y : ℕ). x ≢ y) locals
-  pub are : (x : ℕ) → Contains locals x ↔ IsDeclared b x
+  pub are : (x : ℕ) → Contains locals x ↔ DeclaresLocal b x
   pub count : b.declared ≡ length locals
 
 -- ---- all of it; that an item in memory sits at its own id isn't said by it

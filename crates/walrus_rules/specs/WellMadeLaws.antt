@@ -6,7 +6,7 @@ use Rattle.walrus_model.specs.Declared.{NothingUndeclared}
 use Rattle.walrus_model.specs.Rules.{Holds}
 use Rattle.walrus_model.specs.Pipeline.{Collected, ReachedIsLive}
 use Rattle.walrus_rules.specs.Chain.{BringsTo, Leaves, ParsedAs}
-use Rattle.walrus_rules.specs.Headline.{Reads}
+use Rattle.walrus_rules.specs.Headline.{ReadsModule}
 use Rattle.walrus_rules.specs.Pinned.{IsWrittenAs}
 use Rattle.walrus_rules.specs.Refused.{HasDead, HasTwoIndices, LacksIndex, HasUnspelled}
 use Rattle.walrus_rules.specs.Spelling.{IsSpelling}
@@ -15,7 +15,7 @@ use Rattle.walrus_rules.specs.WellMade.{IsWellMade}
 
 -- nothing of what the steps bring a module to is named and not there
 abbrev pub BroughtLives : Type 0
-BroughtLives = (c : Config) (bytes : List ℕ) (m u : Abstract) → Reads c bytes m → Holds m → BringsTo c m u → HasDead u → ⊥
+BroughtLives = (c : Config) (bytes : List ℕ) (m u : Abstract) → ReadsModule c bytes m → Holds m → BringsTo c m u → HasDead u → ⊥
 
 -- what is written of a well-made module keeps the rules
 abbrev pub WrittenHolds : Type 0
@@ -41,7 +41,7 @@ WellNoCause = (c : Config) (u : Abstract) → IsWellMade c u → HasNoOther c u
 
 -- what is parsed from bytes is well made
 abbrev pub ParsedWell : Type 0
-ParsedWell = (c : Config) (bytes : List ℕ) (m v : Abstract) → Reads c bytes m → Holds m → ParsedAs c m v → IsWellMade c v
+ParsedWell = (c : Config) (bytes : List ℕ) (m v : Abstract) → ReadsModule c bytes m → Holds m → ParsedAs c m v → IsWellMade c v
 
 -- what the steps bring a module to is well made, so it has none of these causes, and what is written of it keeps the rules
 pub record IsFine (c : Config) (u : Abstract) : Type 0 where
@@ -51,4 +51,4 @@ pub record IsFine (c : Config) (u : Abstract) : Type 0 where
   pub written : (t : Text) → IsWrittenAs c u (said_by t) → IsSpelling (said_by t) t → Holds (said_by t)
 
 abbrev pub BroughtWell : Type 0
-BroughtWell = (c : Config) (bytes : List ℕ) (m u : Abstract) → Reads c bytes m → Holds m → BringsTo c m u → IsFine c u
+BroughtWell = (c : Config) (bytes : List ℕ) (m u : Abstract) → ReadsModule c bytes m → Holds m → BringsTo c m u → IsFine c u

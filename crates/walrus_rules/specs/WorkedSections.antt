@@ -11,7 +11,7 @@ use Rattle.walrus_rules.specs.Headline.{ComesTo, ComesOutTooLarge}
 use Rattle.walrus_rules.specs.Text.{NameMap, Text}
 
 -- a run on the first bytes comes to the second, to no others, and isn't too large
-pub record Runs (c : Config) (input output : List ℕ) : Type 0 where
+pub record ComesToAlone (c : Config) (input output : List ℕ) : Type 0 where
   pub comes : ComesTo c input output
   pub alone : (other : List ℕ) → ComesTo c input other → other ≡ output
   pub not_too_large : ComesOutTooLarge c input → ⊥

@@ -14,7 +14,7 @@ mod well_made;
 mod written;
 
 pub use run::runs_come_out;
-pub use settled::{one_report, settles_again};
+pub use settled::{one_report, settles_again, worked_report};
 pub use spelling::{has_alternatives, reads_once, spelled_once, spelled_reads, worked_row};
 pub use steps::{
     brought_lives, one_run, steps_come_out, worked_declared, worked_handler, worked_run,

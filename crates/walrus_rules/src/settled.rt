@@ -2,7 +2,9 @@
 
 ghost use Rattle.std.specs.Prelude.{ℕ, List, ◌≡◌};
 ghost use Rattle.walrus_model.specs.Abstract.{Abstract};
-ghost use Rattle.walrus_rules.specs.Report.{IsReport};
+ghost use Rattle.walrus_model.specs.Config.{Config};
+ghost use Rattle.walrus_model.specs.Examples.{two_functions};
+ghost use Rattle.walrus_rules.specs.Report.{IsReport, IsReportOf, two_functions_report};
 ghost use Rattle.walrus_rules.specs.SettledLaw.{OutSettles, RunsSettle};
 
 /// What a run wrote, the next one under the same configuration writes again: all of it under one renaming, with no
@@ -12,7 +14,16 @@ pub fn settles_again()
     ensures runs { RunsSettle }
 {}
 
-/// The report on a module, how many items of each index space gc keeps and how many it drops, is one text.
+/// The report on a module, how many items of each index space gc keeps and how many it drops, is one text. So is that on what bytes read
+/// as.
 pub fn one_report()
-    ensures { (v : Abstract) (text other : List ℕ) → IsReport v text → IsReport v other → other ≡ text }
+    ensures modules { (v : Abstract) (text other : List ℕ) → IsReport v text → IsReport v other
+        → other ≡ text }
+    ensures bytes { (c : Config) (bytes text other : List ℕ) → IsReportOf c bytes text
+        → IsReportOf c bytes other → other ≡ text }
+{}
+
+/// The report at work, on a module of two functions, of which the second is exported.
+pub fn worked_report()
+    ensures { IsReport two_functions two_functions_report }
 {}

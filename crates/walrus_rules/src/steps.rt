@@ -5,10 +5,11 @@ ghost use Rattle.walrus_model.specs.Config.{Config};
 ghost use Rattle.walrus_rules.specs.Examples.{one_function_bytes, RowRuns};
 ghost use Rattle.walrus_rules.specs.Headline.{NotBoth, OneOutput, StepsComeOut};
 ghost use Rattle.walrus_rules.specs.OneRun.{HandlersLive, HandlersOnce, KeptLives};
+ghost use Rattle.walrus_rules.specs.SettledLaw.{IsSettled};
 ghost use Rattle.walrus_rules.specs.WellMadeLaws.{BroughtLives};
 ghost use Rattle.walrus_rules.specs.WorkedDeclared.{declared_bytes, undeclared_bytes};
 ghost use Rattle.walrus_rules.specs.WorkedHandler.{catching_bytes, handled_bytes};
-ghost use Rattle.walrus_rules.specs.WorkedSections.{Runs, customs_bytes, named_bytes, produced_bytes};
+ghost use Rattle.walrus_rules.specs.WorkedSections.{ComesToAlone, customs_bytes, named_bytes, produced_bytes};
 
 /// What is said of the steps (parsing, gc, the declared segment, writing) gives the relation between the module that was
 /// read and the one that came out, which a reader reads.
@@ -42,24 +43,26 @@ pub fn worked_run()
 /// segment more, which declares it.
 pub fn worked_declared()
     ensures { (c : Config) → c.writes_names ≡ false → c.writes_producers ≡ false
-        → Runs c undeclared_bytes declared_bytes }
+        → ComesToAlone c undeclared_bytes declared_bytes }
 {}
 
 /// The same on a module of one function, which is exported. Where producers are written, this program stands among them.
 /// A section of dynamic linking and another custom section stay, in front and behind. Where names are written, those of
-/// the module and of its function stay.
+/// the module and of its function stay. What a run leaves as it is is settled.
 pub fn worked_sections()
     ensures producers { (c : Config) → c.writes_names ≡ false → c.writes_producers ≡ true
-        → Runs c one_function_bytes produced_bytes }
+        → ComesToAlone c one_function_bytes produced_bytes }
     ensures customs { (c : Config) → c.writes_names ≡ false → c.writes_producers ≡ false
-        → Runs c customs_bytes customs_bytes }
+        → ComesToAlone c customs_bytes customs_bytes }
     ensures names { (c : Config) → c.writes_names ≡ true → c.writes_producers ≡ false
-        → Runs c named_bytes named_bytes }
+        → ComesToAlone c named_bytes named_bytes }
+    ensures settled { (c : Config) → c.writes_names ≡ false → c.writes_producers ≡ false
+        → IsSettled c customs_bytes customs_bytes }
 {}
 
 /// The same on a legacy handler, where legacy exceptions are taken: the function type that it needs isn't there, and what
 /// the bytes come to has it behind the others.
 pub fn worked_handler()
     ensures { (c : Config) → c.writes_names ≡ false → c.writes_producers ≡ false → c.legacy_exceptions ≡ true
-        → Runs c catching_bytes handled_bytes }
+        → ComesToAlone c catching_bytes handled_bytes }
 {}

@@ -2,10 +2,14 @@
 
 use crate::made::read;
 use crate::names::ALL;
+use std::alloc::Global;
 use std::test::Fail;
 use test_support::{demand, is_name};
-use walrus::Module;
 use walrus::passes::gc;
+use walrus::{
+    Module, ModuleData, ModuleElements, ModuleGlobals, ModuleLocals, ModuleMemories, ModuleTables,
+    ModuleTypes,
+};
 
 fn finds_functions(module: &Module) -> bool {
     match module.exports.get_func("f") {
@@ -19,50 +23,50 @@ fn finds_functions(module: &Module) -> bool {
 }
 
 // Whether the first of a kind has this name.
-fn is_first_type(module: &Module, name: &str) -> bool {
-    match module.types.iter().next() {
+fn is_first_type(types: &ModuleTypes, name: &str) -> bool {
+    match types.iter().next() {
         Some(first) => is_name(&first.name, name),
         None => false,
     }
 }
 
-fn is_first_table(module: &Module, name: &str) -> bool {
-    match module.tables.iter().next() {
+fn is_first_table(tables: &ModuleTables, name: &str) -> bool {
+    match tables.iter().next() {
         Some(first) => is_name(&first.name, name),
         None => false,
     }
 }
 
-fn is_first_memory(module: &Module, name: &str) -> bool {
-    match module.memories.iter().next() {
+fn is_first_memory(memories: &ModuleMemories, name: &str) -> bool {
+    match memories.iter().next() {
         Some(first) => is_name(&first.name, name),
         None => false,
     }
 }
 
-fn is_first_global(module: &Module, name: &str) -> bool {
-    match module.globals.iter().next() {
+fn is_first_global(globals: &ModuleGlobals, name: &str) -> bool {
+    match globals.iter().next() {
         Some(first) => is_name(&first.name, name),
         None => false,
     }
 }
 
-fn is_first_local(module: &Module, name: &str) -> bool {
-    match module.locals.iter().next() {
+fn is_first_local(locals: &ModuleLocals, name: &str) -> bool {
+    match locals.iter().next() {
         Some(first) => is_name(&first.name, name),
         None => false,
     }
 }
 
-fn is_first_element(module: &Module, name: &str) -> bool {
-    match module.elements.iter().next() {
+fn is_first_element(elements: &ModuleElements, name: &str) -> bool {
+    match elements.iter().next() {
         Some(first) => is_name(&first.name, name),
         None => false,
     }
 }
 
-fn is_first_data(module: &Module, name: &str) -> bool {
-    match module.data_.iter().next() {
+fn is_first_data(segments: &ModuleData, name: &str) -> bool {
+    match segments.iter().next() {
         Some(first) => is_name(&first.name, name),
         None => false,
     }
@@ -70,17 +74,17 @@ fn is_first_data(module: &Module, name: &str) -> bool {
 
 // Whether the first type, table, memory and global have these names.
 fn first_are_named(module: &Module, ty: &str, table: &str, memory: &str, global: &str) -> bool {
-    is_first_type(module, ty)
-        && is_first_table(module, table)
-        && is_first_memory(module, memory)
-        && is_first_global(module, global)
+    is_first_type(&module.types, ty)
+        && is_first_table(&module.tables, table)
+        && is_first_memory(&module.memories, memory)
+        && is_first_global(&module.globals, global)
 }
 
 // The same of the first local and the first segments.
 fn others_are_named(module: &Module, local: &str, elements: &str, data: &str) -> bool {
-    is_first_local(module, local)
-        && is_first_element(module, elements)
-        && is_first_data(module, data)
+    is_first_local(&module.locals, local)
+        && is_first_element(&module.elements, elements)
+        && is_first_data(&module.data_, data)
 }
 
 // Fails where not all is found, also what nothing reaches.
@@ -113,10 +117,14 @@ fn find_reached(module: &Module) -> Result<(), Fail> {
     )
 }
 
+fn find_in_turn(alloc: Global, module: &mut Module) -> Result<(), Fail> {
+    find_all(module)?;
+    gc::run(alloc, module)?;
+    find_reached(module)
+}
+
 #[test]
 fn names_are_found(rt: HostRuntime) -> Result<(), Fail> {
     let mut module = read(rt.alloc(), ALL)?;
-    find_all(&module)?;
-    gc::run(rt.alloc(), &mut module)?;
-    find_reached(&module)
+    find_in_turn(rt.alloc(), &mut module)
 }

@@ -2,7 +2,7 @@
 
 use std::alloc::Global;
 use std::test::Fail;
-use test_support::{add_bytes, demand};
+use test_support::add_bytes;
 use walrus::{Error, FunctionId, FunctionKind, LocalId, Module, ModuleConfig};
 use walrus_test_support::demand_output;
 
@@ -34,24 +34,43 @@ fn parameter(module: &Module, id: FunctionId) -> Option<LocalId> {
     }
 }
 
-fn name_all(alloc: Global, module: &mut Module) -> Result<bool, Error> {
+fn set_name(alloc: Global, name: &mut Option<String>, text: &str) -> Result<(), Error> {
+    *name = Some(String::from_str(alloc, text)?);
+    Ok(())
+}
+
+// Names the function, and this parameter of it, where both are there.
+fn name_function(
+    alloc: Global,
+    module: &mut Module,
+    id: FunctionId,
+    local: LocalId,
+) -> Result<(), Error> {
+    if !module.funcs.contains(id) || !module.locals.contains(local) {
+        return Err(Error::NotFound);
+    }
+    set_name(alloc, &mut module.funcs.get_mut(id).name, "a")?;
+    set_name(alloc, &mut module.locals.get_mut(local).name, "x")
+}
+
+fn name_all(alloc: Global, module: &mut Module) -> Result<(), Error> {
     let id = module.exports.get_func("f")?;
     let Some(local) = parameter(module, id) else {
-        return Ok(false);
+        return Err(Error::NotFound);
     };
-    if !module.funcs.contains(id) || !module.locals.contains(local) {
-        return Ok(false);
-    }
-    module.name = Some(String::from_str(alloc, "m")?);
-    module.funcs.get_mut(id).name = Some(String::from_str(alloc, "a")?);
-    module.locals.get_mut(local).name = Some(String::from_str(alloc, "x")?);
-    Ok(true)
+    set_name(alloc, &mut module.name, "m")?;
+    name_function(alloc, module, id, local)
+}
+
+// Fails where the names can't be given, or are written otherwise.
+fn name_and_write(alloc: Global, module: &mut Module, expected: &str) -> Result<(), Fail> {
+    name_all(alloc, module)?;
+    demand_output(alloc, module.emit_wasm(alloc), expected)
 }
 
 fn demand_written(alloc: Global, names: bool, expected: &str) -> Result<(), Fail> {
     let mut module = read(alloc, names)?;
-    demand(name_all(alloc, &mut module)?, "the function, its parameter")?;
-    demand_output(alloc, module.emit_wasm(alloc), expected)
+    name_and_write(alloc, &mut module, expected)
 }
 
 #[test]

@@ -5,7 +5,7 @@ use std::alloc::Global;
 use std::test::Fail;
 use test_support::add_bytes;
 use walrus::passes::gc;
-use walrus::{Error, FunctionId, Module, ModuleConfig, SectionEntry};
+use walrus::{Error, FunctionId, Module, ModuleConfig, ModuleFunctions, SectionEntry};
 use walrus_test_support::demand_output;
 
 // Two functions of one type, neither exported.
@@ -32,9 +32,15 @@ pub(crate) fn demand_left(alloc: Global, module: &mut Module, expected: &str) ->
     demand_output(alloc, module.emit_wasm(alloc), expected)
 }
 
-/// The second function.
-pub(crate) fn second(module: &Module) -> Option<FunctionId> {
-    let mut all = module.funcs.iter();
+/// Fails where the module isn't written so twice.
+pub(crate) fn demand_twice(alloc: Global, module: &mut Module, expected: &str) -> Result<(), Fail> {
+    demand_output(alloc, module.emit_wasm(alloc), expected)?;
+    demand_output(alloc, module.emit_wasm(alloc), expected)
+}
+
+// The second function.
+fn second(functions: &ModuleFunctions) -> Option<FunctionId> {
+    let mut all = functions.iter();
     all.next()?;
     Some(all.next()?.id())
 }
@@ -46,7 +52,7 @@ pub(crate) fn add_noted(
     name: &'static str,
     refuses: Refuses,
 ) -> bool {
-    let Some(function) = second(module) else {
+    let Some(function) = second(&module.funcs) else {
         return false;
     };
     let noted = Noted {

@@ -1,12 +1,13 @@
 //! Sections that were read, and raw ones beside a caller's own.
 
-use crate::made::{add_noted, read, two_functions};
+use crate::made::{add_noted, demand_twice, read, two_functions};
 use crate::noted::Refuses;
 use std::alloc::Global;
 use std::test::Fail;
 use test_support::{demand, is_text};
-use walrus::{Error, Module, RawCustomSection, SectionEntry};
-use walrus_test_support::demand_output;
+use walrus::{
+    Error, Module, ModuleCustomSections, RawCustomSection, SectionEntry, UntypedCustomSectionId,
+};
 
 // Sections `a` and `b`, debug information, and dynamic linking between two sections.
 const READ: &str =
@@ -19,8 +20,7 @@ const WRITTEN: &str =
 #[test]
 fn sections_that_were_read_are_written_twice(rt: HostRuntime) -> Result<(), Fail> {
     let mut module = read(rt.alloc(), READ)?;
-    demand_output(rt.alloc(), module.emit_wasm(rt.alloc()), WRITTEN)?;
-    demand_output(rt.alloc(), module.emit_wasm(rt.alloc()), WRITTEN)
+    demand_twice(rt.alloc(), &mut module, WRITTEN)
 }
 
 fn raw_section(alloc: Global, name: &str) -> Result<SectionEntry, Error> {
@@ -32,29 +32,37 @@ fn raw_section(alloc: Global, name: &str) -> Result<SectionEntry, Error> {
     }))
 }
 
-fn take_raw_and_boxed(alloc: Global, module: &mut Module) -> Result<(), Fail> {
-    let Some((boxed, _)) = module.customs.iter().next() else {
+fn takes_raw(customs: &mut ModuleCustomSections, name: &str) -> bool {
+    match customs.remove_raw(name) {
+        Some(section) => is_text(&section.name, name),
+        None => false,
+    }
+}
+
+fn takes_boxed(customs: &mut ModuleCustomSections, id: UntypedCustomSectionId) -> bool {
+    matches!(customs.delete(id), Some(SectionEntry::Boxed(_)))
+}
+
+// Fails where a raw section isn't taken by its name, or the boxed one in front of it, which has the same, not by its id.
+fn take_raw_and_boxed(alloc: Global, customs: &mut ModuleCustomSections) -> Result<(), Fail> {
+    let Some((boxed, _)) = customs.iter().next() else {
         return demand(false, "a boxed section");
     };
-    let section = raw_section(alloc, "s")?;
-    module.customs.add(section)?;
-    let Some(raw) = module.customs.remove_raw("s") else {
-        return demand(false, "the raw one");
-    };
-    demand(is_text(&raw.name, "s"), "its name")?;
+    customs.add(raw_section(alloc, "s")?)?;
+    demand(takes_raw(customs, "s"), "the raw one, by its name")?;
+    demand(takes_boxed(customs, boxed), "the boxed one, by its id")
+}
+
+fn take_by_name_and_id(alloc: Global, module: &mut Module) -> Result<(), Fail> {
     demand(
-        matches!(module.customs.delete(boxed), Some(SectionEntry::Boxed(_))),
-        "the boxed one",
+        add_noted(alloc, module, "s", Refuses::Nothing),
+        "a boxed section",
     )?;
-    demand(module.customs.delete(boxed).is_none(), "it once")
+    take_raw_and_boxed(alloc, &mut module.customs)
 }
 
 #[test]
 fn a_raw_section_behind_a_boxed_one_of_its_name(rt: HostRuntime) -> Result<(), Fail> {
     let mut module = two_functions(rt.alloc())?;
-    demand(
-        add_noted(rt.alloc(), &mut module, "s", Refuses::Nothing),
-        "a boxed section",
-    )?;
-    take_raw_and_boxed(rt.alloc(), &mut module)
+    take_by_name_and_id(rt.alloc(), &mut module)
 }

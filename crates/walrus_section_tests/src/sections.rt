@@ -1,13 +1,13 @@
-//! What sections of a caller's own keep, what is written of them, and what stays where they refuse.
+//! What sections of a caller's own keep, what is written of them, and that gc and emission refuse where they do.
 
-use crate::made::{add_noted, demand_left, two_functions};
+use crate::made::{add_noted, demand_twice, two_functions};
 use crate::noted::Refuses;
 use std::alloc::Global;
 use std::test::Fail;
-use test_support::demand;
+use test_support::{demand, is_text};
 use walrus::passes::gc;
 use walrus::{Error, Module};
-use walrus_test_support::demand_output;
+use walrus_test_support::{demand_output, is_as_before, shown};
 
 // The second function alone, and its index as the data of the section `s`.
 const NOTED: &str =
@@ -20,56 +20,93 @@ const DYLINK_FIRST: &str =
 // The second function alone, which a section of debug information keeps that isn't written.
 const DEBUG_KEPT: &str = "00 61 73 6D 01 00 00 00 01 04 01 60 00 00 03 02 01 00 0A 04 01 02 00 0B";
 
-fn with_section(alloc: Global, name: &'static str, refuses: Refuses) -> Result<Module, Fail> {
+// What the module with such a section is written as behind gc.
+fn write_with(
+    alloc: Global,
+    module: &mut Module,
+    name: &'static str,
+    refuses: Refuses,
+) -> Result<Vec<u8>, Error> {
+    if !add_noted(alloc, module, name, refuses) {
+        return Err(Error::NotFound);
+    }
+    gc::run(alloc, module)?;
+    module.emit_wasm(alloc)
+}
+
+// The same of a module of two functions.
+fn written(alloc: Global, name: &'static str, refuses: Refuses) -> Result<Vec<u8>, Error> {
     let mut module = two_functions(alloc)?;
-    demand(add_noted(alloc, &mut module, name, refuses), name)?;
-    Ok(module)
+    write_with(alloc, &mut module, name, refuses)
 }
 
 #[test]
 fn a_section_keeps_a_function_and_names_its_index(rt: HostRuntime) -> Result<(), Fail> {
-    let mut module = with_section(rt.alloc(), "s", Refuses::Nothing)?;
-    demand_left(rt.alloc(), &mut module, NOTED)
-}
-
-#[test]
-fn dynamic_linking_stands_first(rt: HostRuntime) -> Result<(), Fail> {
-    let mut module = with_section(rt.alloc(), "dylink", Refuses::Nothing)?;
-    demand_output(rt.alloc(), module.emit_wasm(rt.alloc()), DYLINK_FIRST)?;
-    demand_output(rt.alloc(), module.emit_wasm(rt.alloc()), DYLINK_FIRST)
+    let found = written(rt.alloc(), "s", Refuses::Nothing);
+    demand_output(rt.alloc(), found, NOTED)
 }
 
 #[test]
 fn debug_information_keeps_and_is_not_written(rt: HostRuntime) -> Result<(), Fail> {
-    let mut module = with_section(rt.alloc(), ".debug_line", Refuses::Data)?;
-    demand_left(rt.alloc(), &mut module, DEBUG_KEPT)
+    let found = written(rt.alloc(), ".debug_line", Refuses::Data);
+    demand_output(rt.alloc(), found, DEBUG_KEPT)
 }
 
-fn has_both_and_a_section(module: &Module) -> bool {
-    module.funcs.len() == 2 && module.customs.iter().take(2).count() == 1
+fn says_no(answer: Result<(), Error>) -> bool {
+    match answer {
+        Err(Error::Caller(text)) => is_text(&text, "no"),
+        _ => false,
+    }
 }
 
-fn refuse_gc(alloc: Global) -> Result<(), Fail> {
-    let mut module = with_section(alloc, "s", Refuses::Roots)?;
-    demand(
-        matches!(gc::run(alloc, &mut module), Err(Error::Caller(_))),
-        "Caller of gc",
-    )?;
-    demand(has_both_and_a_section(&module), "what gc leaves")
+fn emitted(alloc: Global, module: &mut Module) -> Result<(), Error> {
+    module.emit_wasm(alloc)?;
+    Ok(())
 }
 
-fn refuse_emission(alloc: Global, name: &'static str) -> Result<(), Fail> {
-    let mut module = with_section(alloc, name, Refuses::Data)?;
-    demand(
-        matches!(module.emit_wasm(alloc), Err(Error::Caller(_))),
-        name,
-    )?;
-    demand(has_both_and_a_section(&module), "what emission leaves")
+// Whether gc refuses since the section does so, in its words, and leaves the module as it was; and emission where gc passes.
+fn refuses_so(alloc: Global, module: &mut Module, refuses: Refuses) -> bool {
+    let before = shown(alloc, module);
+    if refuses == Refuses::Roots {
+        return says_no(gc::run(alloc, module)) && is_as_before(alloc, module, &before);
+    }
+    says_no(emitted(alloc, module))
+        && is_as_before(alloc, module, &before)
+        && gc::run(alloc, module).is_ok()
+}
+
+fn is_refused(alloc: Global, name: &'static str, refuses: Refuses) -> bool {
+    match two_functions(alloc) {
+        Ok(mut module) => add_noted(alloc, &mut module, name, refuses)
+            && refuses_so(alloc, &mut module, refuses),
+        Err(_) => false,
+    }
 }
 
 #[test]
-fn all_stays_where_a_section_refuses(rt: HostRuntime) -> Result<(), Fail> {
-    refuse_gc(rt.alloc())?;
-    refuse_emission(rt.alloc(), "s")?;
-    refuse_emission(rt.alloc(), "dylink")
+fn what_a_section_refuses_is_refused(rt: HostRuntime) -> Result<(), Fail> {
+    demand(
+        is_refused(rt.alloc(), "s", Refuses::Roots),
+        "Caller of gc, from s",
+    )?;
+    demand(
+        is_refused(rt.alloc(), "s", Refuses::Data),
+        "Caller of emission, from s",
+    )?;
+    demand(
+        is_refused(rt.alloc(), "dylink", Refuses::Data),
+        "Caller of emission, from dylink",
+    )
+}
+
+fn write_first(alloc: Global, module: &mut Module) -> Result<(), Fail> {
+    let is_added = add_noted(alloc, module, "dylink", Refuses::Nothing);
+    demand(is_added, "a section dylink")?;
+    demand_twice(alloc, module, DYLINK_FIRST)
+}
+
+#[test]
+fn dynamic_linking_stands_first(rt: HostRuntime) -> Result<(), Fail> {
+    let mut module = two_functions(rt.alloc())?;
+    write_first(rt.alloc(), &mut module)
 }

@@ -1,16 +1,17 @@
 //! Element segments of a module that a program edits: which of them gc keeps, what is found dead, what they declare, and with which
 //! flag they are written.
 
-use crate::made::{bare_module, demand_left};
+use crate::made::{add_active, add_listed, bare_module, demand_left, gc_finds_dead};
 use std::alloc::Global;
 use std::test::Fail;
 use test_support::demand;
 use walrus::passes::gc;
 use walrus::{
-    AbstractHeapType, Arg, Args, ConstExpr, ElementItems, ElementKind, Error, ExportItem,
-    FunctionBuilder, FunctionId, Module, Operator, RefType, TableId, Value,
+    AbstractHeapType, Arg, Args, ConstExpr, ElementId, ElementItems, ElementKind, Error,
+    ExportItem, FunctionBuilder, FunctionId, LocalFunction, Module, ModuleTypes, Operator, RefType,
+    TableId, Value,
 };
-use walrus_test_support::{add_function, demand_output, listed, reference};
+use walrus_test_support::{add_function, demand_output, is_as_before, listed, reference, shown};
 
 const EMPTY: &str = "00 61 73 6D 01 00 00 00";
 
@@ -47,53 +48,27 @@ const REF_FUNC: u32 = 210;
 
 const DROP: u32 = 26;
 
-fn expression(alloc: Global, ty: RefType, item: ConstExpr) -> Result<ElementItems, Error> {
-    let mut items = Vec::new(alloc);
-    items.push(item)?;
-    Ok(ElementItems::Expressions(ty, items))
-}
-
 // ---- segments of each kind
 
-// A segment of a function, active at the beginning of a table.
-fn with_active(alloc: Global) -> Result<(Module, TableId), Error> {
-    let mut module = bare_module(alloc)?;
+// Fails where this isn't written, or gc leaves something else than that.
+fn demand_both(alloc: Global, module: &mut Module, written: &str, left: &str) -> Result<(), Fail> {
+    demand_output(alloc, module.emit_wasm(alloc), written)?;
+    demand_left(alloc, module, left)
+}
+
+// A table of functions, and a segment of one that is active at its beginning.
+fn add_active_table(alloc: Global, module: &mut Module) -> Result<TableId, Error> {
     let functions = reference(AbstractHeapType::Func);
     let table = module.tables.add_local(false, 1, None, functions)?;
-    let function = add_function(alloc, &mut module)?;
-    let offset = ConstExpr::Value(Value::I32(0));
-    let kind = ElementKind::Active { table, offset };
-    module.elements.add(kind, listed(alloc, function)?)?;
-    Ok((module, table))
+    let items = add_listed(alloc, module)?;
+    add_active(module, table, Value::I32(0), items)?;
+    Ok(table)
 }
 
-#[test]
-fn an_active_segment_stays_with_its_table(rt: HostRuntime) -> Result<(), Fail> {
-    let (mut module, _table) = with_active(rt.alloc())?;
-    demand_output(rt.alloc(), module.emit_wasm(rt.alloc()), ACTIVE)?;
-    demand_left(rt.alloc(), &mut module, ACTIVE)
-}
-
-// A segment of a function, of this kind.
-fn with_kind(alloc: Global, kind: ElementKind) -> Result<Module, Error> {
-    let mut module = bare_module(alloc)?;
-    let function = add_function(alloc, &mut module)?;
-    module.elements.add(kind, listed(alloc, function)?)?;
-    Ok(module)
-}
-
-#[test]
-fn a_passive_segment_that_nothing_names_goes(rt: HostRuntime) -> Result<(), Fail> {
-    let mut module = with_kind(rt.alloc(), ElementKind::Passive)?;
-    demand_output(rt.alloc(), module.emit_wasm(rt.alloc()), PASSIVE)?;
-    demand_left(rt.alloc(), &mut module, EMPTY)
-}
-
-#[test]
-fn a_declared_segment_stays_with_its_function(rt: HostRuntime) -> Result<(), Fail> {
-    let mut module = with_kind(rt.alloc(), ElementKind::Declared)?;
-    demand_output(rt.alloc(), module.emit_wasm(rt.alloc()), DECLARED)?;
-    demand_left(rt.alloc(), &mut module, DECLARED)
+// Whether emission refuses since something is dead, and leaves the module as it was.
+fn emission_finds_dead(alloc: Global, module: &mut Module) -> bool {
+    let before = shown(alloc, module);
+    matches!(module.emit_wasm(alloc), Err(Error::DeadItem)) && is_as_before(alloc, module, &before)
 }
 
 // Fails where the table of an active segment that is deleted isn't found by gc and by emission.
@@ -102,118 +77,159 @@ fn delete(alloc: Global, module: &mut Module, table: TableId) -> Result<(), Fail
         return demand(false, "the table");
     }
     module.tables.delete(table);
-    demand(
-        matches!(gc::run(alloc, module), Err(Error::DeadItem)),
-        "DeadItem of gc",
-    )?;
-    demand(
-        matches!(module.emit_wasm(alloc), Err(Error::DeadItem)),
-        "DeadItem of emission",
-    )
+    demand(gc_finds_dead(alloc, module), "DeadItem of gc")?;
+    demand(emission_finds_dead(alloc, module), "DeadItem of emission")
+}
+
+// Fails where the segment doesn't stay with its table, or misses it once it is deleted.
+fn keep_active(alloc: Global, module: &mut Module) -> Result<(), Fail> {
+    let table = add_active_table(alloc, module)?;
+    demand_both(alloc, module, ACTIVE, ACTIVE)?;
+    delete(alloc, module, table)
 }
 
 #[test]
-fn a_deleted_table_of_a_segment_is_found(rt: HostRuntime) -> Result<(), Fail> {
-    let (mut module, table) = with_active(rt.alloc())?;
-    delete(rt.alloc(), &mut module, table)
+fn an_active_segment_stays_with_its_table(rt: HostRuntime) -> Result<(), Fail> {
+    let mut module = bare_module(rt.alloc())?;
+    keep_active(rt.alloc(), &mut module)
+}
+
+// Fails where a passive segment that nothing names stays, or what it lists.
+fn lose_passive(alloc: Global, module: &mut Module) -> Result<(), Fail> {
+    let items = add_listed(alloc, module)?;
+    module.elements.add(ElementKind::Passive, items)?;
+    demand_both(alloc, module, PASSIVE, EMPTY)
+}
+
+// Fails where a declared segment doesn't stay with its function.
+fn keep_declared(alloc: Global, module: &mut Module) -> Result<(), Fail> {
+    let items = add_listed(alloc, module)?;
+    module.elements.add(ElementKind::Declared, items)?;
+    demand_both(alloc, module, DECLARED, DECLARED)
+}
+
+// Fails where either isn't so, the second in the module of which gc left nothing.
+fn add_in_no_table(alloc: Global, module: &mut Module) -> Result<(), Fail> {
+    lose_passive(alloc, module)?;
+    keep_declared(alloc, module)
+}
+
+#[test]
+fn a_passive_segment_goes_and_a_declared_one_stays(rt: HostRuntime) -> Result<(), Fail> {
+    let mut module = bare_module(rt.alloc())?;
+    add_in_no_table(rt.alloc(), &mut module)
 }
 
 // ---- flags
 
-fn with_expression(alloc: Global) -> Result<Module, Error> {
-    let mut module = bare_module(alloc)?;
+fn expression(alloc: Global, ty: RefType, item: ConstExpr) -> Result<ElementItems, Error> {
+    let mut items = Vec::new(alloc);
+    items.push(item)?;
+    Ok(ElementItems::Expressions(ty, items))
+}
+
+fn add_expression(alloc: Global, module: &mut Module) -> Result<ElementId, Error> {
     let functions = reference(AbstractHeapType::Func);
     let table = module.tables.add_local(false, 1, None, functions)?;
-    let function = add_function(alloc, &mut module)?;
+    let function = add_function(alloc, module)?;
     let items = expression(alloc, functions, ConstExpr::RefFunc(function))?;
-    let offset = ConstExpr::Value(Value::I32(0));
-    module
-        .elements
-        .add(ElementKind::Active { table, offset }, items)?;
-    Ok(module)
+    add_active(module, table, Value::I32(0), items)
 }
 
-fn with_wide_table(alloc: Global) -> Result<Module, Error> {
-    let mut module = bare_module(alloc)?;
+fn add_to_wide_table(alloc: Global, module: &mut Module) -> Result<ElementId, Error> {
     let functions = reference(AbstractHeapType::Func);
     let table = module.tables.add_local(true, 1, None, functions)?;
-    let function = add_function(alloc, &mut module)?;
-    let offset = ConstExpr::Value(Value::I64(0));
-    let kind = ElementKind::Active { table, offset };
-    module.elements.add(kind, listed(alloc, function)?)?;
-    Ok(module)
+    let items = add_listed(alloc, module)?;
+    add_active(module, table, Value::I64(0), items)
 }
 
-fn with_other_type(alloc: Global) -> Result<Module, Error> {
-    let mut module = bare_module(alloc)?;
+fn add_of_other_type(alloc: Global, module: &mut Module) -> Result<ElementId, Error> {
     let outer = reference(AbstractHeapType::Extern);
     let table = module.tables.add_local(false, 1, None, outer)?;
     let items = expression(alloc, outer, ConstExpr::RefNull(outer))?;
-    let offset = ConstExpr::Value(Value::I32(0));
-    module
-        .elements
-        .add(ElementKind::Active { table, offset }, items)?;
-    Ok(module)
+    add_active(module, table, Value::I32(0), items)
+}
+
+// Fails where the segment wasn't added, or the module with it is written otherwise; then it is taken away with all that it needs.
+fn demand_alone(
+    alloc: Global,
+    module: &mut Module,
+    added: Result<ElementId, Error>,
+    expected: &str,
+) -> Result<(), Fail> {
+    let segment = added?;
+    demand_output(alloc, module.emit_wasm(alloc), expected)?;
+    if module.elements.contains(segment) {
+        module.elements.delete(segment);
+    }
+    gc::run(alloc, module)?;
+    Ok(())
+}
+
+// Fails where the table isn't left out beside expressions of functions, or not named if it has wide indices or another type.
+fn write_flags(alloc: Global, module: &mut Module) -> Result<(), Fail> {
+    let added = add_expression(alloc, module);
+    demand_alone(alloc, module, added, BY_EXPRESSION)?;
+    let added = add_to_wide_table(alloc, module);
+    demand_alone(alloc, module, added, IN_WIDE_TABLE)?;
+    let added = add_of_other_type(alloc, module);
+    demand_alone(alloc, module, added, OF_OTHER_TYPE)
 }
 
 #[test]
-fn expressions_of_functions_leave_the_table_out(rt: HostRuntime) -> Result<(), Fail> {
-    let mut module = with_expression(rt.alloc())?;
-    demand_output(rt.alloc(), module.emit_wasm(rt.alloc()), BY_EXPRESSION)
-}
-
-#[test]
-fn a_table_with_wide_indices_is_named(rt: HostRuntime) -> Result<(), Fail> {
-    let mut module = with_wide_table(rt.alloc())?;
-    demand_output(rt.alloc(), module.emit_wasm(rt.alloc()), IN_WIDE_TABLE)
-}
-
-#[test]
-fn a_table_of_another_type_is_named(rt: HostRuntime) -> Result<(), Fail> {
-    let mut module = with_other_type(rt.alloc())?;
-    demand_output(rt.alloc(), module.emit_wasm(rt.alloc()), OF_OTHER_TYPE)
+fn an_active_segment_is_written_with_its_flags(rt: HostRuntime) -> Result<(), Fail> {
+    let mut module = bare_module(rt.alloc())?;
+    write_flags(rt.alloc(), &mut module)
 }
 
 // ---- what segments declare
 
-// An exported function that refers to another one, and that one.
-fn with_reference(alloc: Global) -> Result<(Module, FunctionId), Error> {
-    let mut module = bare_module(alloc)?;
-    let other = add_function(alloc, &mut module)?;
-    let mut builder = FunctionBuilder::new(alloc, &mut module.types, &[], &[])?;
-    let refers = Operator::new(REF_FUNC, Args::One(Arg::Function(other)));
+// A function that refers to this one.
+fn referring(
+    alloc: Global,
+    types: &mut ModuleTypes,
+    function: FunctionId,
+) -> Result<LocalFunction, Error> {
+    let mut builder = FunctionBuilder::new(alloc, types, &[], &[])?;
+    let refers = Operator::new(REF_FUNC, Args::One(Arg::Function(function)));
     builder.func_body().instr(refers)?;
     builder.func_body().instr(Operator::new(DROP, Args::None))?;
-    let local = builder.local_func(Vec::new(alloc))?;
+    Ok(builder.local_func(Vec::new(alloc))?)
+}
+
+// An exported function that refers to another one, which is answered.
+fn add_reference(alloc: Global, module: &mut Module) -> Result<FunctionId, Error> {
+    let other = add_function(alloc, module)?;
+    let local = referring(alloc, &mut module.types, other)?;
     let function = module.funcs.add_local(local)?;
     module.exports.add("f", ExportItem::Function(function))?;
-    Ok((module, other))
+    Ok(other)
 }
 
-// The same with a segment that declares the other one.
-fn with_declaration(alloc: Global) -> Result<Module, Error> {
-    let (mut module, other) = with_reference(alloc)?;
-    let items = listed(alloc, other)?;
-    module.elements.add(ElementKind::Declared, items)?;
-    Ok(module)
-}
-
-// Fails where emission doesn't add the segment, or a second one adds another.
+// Fails where emission doesn't add the segment that declares, or a second one adds another.
 fn declare_once(alloc: Global, module: &mut Module) -> Result<(), Fail> {
+    add_reference(alloc, module)?;
     demand_output(alloc, module.emit_wasm(alloc), REFERRED)?;
-    demand(module.elements.len() == 1, "one segment")?;
     demand_output(alloc, module.emit_wasm(alloc), REFERRED)?;
-    demand(module.elements.len() == 1, "still one segment")
+    demand(module.elements.len() == 1, "one segment")
 }
 
 #[test]
 fn emission_declares_a_reference(rt: HostRuntime) -> Result<(), Fail> {
-    let (mut module, _other) = with_reference(rt.alloc())?;
+    let mut module = bare_module(rt.alloc())?;
     declare_once(rt.alloc(), &mut module)
+}
+
+// The same functions, and a segment that declares the other one.
+fn add_declaration(alloc: Global, module: &mut Module) -> Result<ElementId, Error> {
+    let other = add_reference(alloc, module)?;
+    let items = listed(alloc, other)?;
+    module.elements.add(ElementKind::Declared, items)
 }
 
 #[test]
 fn a_segment_declares_a_reference(rt: HostRuntime) -> Result<(), Fail> {
-    let mut module = with_declaration(rt.alloc())?;
-    demand_output(rt.alloc(), module.emit_wasm(rt.alloc()), REFERRED)
+    let mut module = bare_module(rt.alloc())?;
+    let added = add_declaration(rt.alloc(), &mut module);
+    demand_alone(rt.alloc(), &mut module, added, REFERRED)
 }

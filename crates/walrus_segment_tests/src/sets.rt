@@ -1,14 +1,14 @@
 //! Element segments in the set of their table: what gc keeps of them, and what it finds dead.
 
-use crate::made::{bare_module, demand_left};
+use crate::made::{add_active, add_listed, bare_module, demand_left, gc_finds_dead};
 use std::alloc::Global;
 use std::test::Fail;
 use test_support::demand;
-use walrus::passes::gc;
 use walrus::{
-    AbstractHeapType, ConstExpr, ElementId, ElementKind, Error, ExportItem, Module, TableId, Value,
+    AbstractHeapType, ElementId, ElementKind, Error, ExportItem, Module, ModuleTables, TableId,
+    Value,
 };
-use walrus_test_support::{add_function, demand_output, listed, reference};
+use walrus_test_support::{demand_output, reference};
 
 // An exported table, with it a passive segment of the function, and the function without a segment.
 const KEPT: &str =
@@ -23,131 +23,91 @@ const WITHOUT_SEGMENT: &str =
 const ACTIVE_EXPORTED: &str =
     "00 61 73 6D 01 00 00 00 01 04 01 60 00 00 03 02 01 00 04 04 01 70 00 01 07 05 01 01 74 01 00 09 07 01 00 41 00 0B 01 00 0A 04 01 02 00 0B";
 
-// ---- the set of a table
-
-// An exported table with a passive segment in its set.
-fn with_set(alloc: Global) -> Result<(Module, TableId, ElementId), Error> {
-    let mut module = bare_module(alloc)?;
+// An exported table of functions, with no segment in its set.
+fn add_exported_table(module: &mut Module) -> Result<TableId, Error> {
     let functions = reference(AbstractHeapType::Func);
     let table = module.tables.add_local(false, 1, None, functions)?;
     module.exports.add("t", ExportItem::Table(table))?;
-    let function = add_function(alloc, &mut module)?;
-    let items = listed(alloc, function)?;
-    let segment = module.elements.add(ElementKind::Passive, items)?;
-    if module.tables.contains(table) {
-        module.tables.get_mut(table).elem_segments.insert(segment)?;
-    }
-    Ok((module, table, segment))
+    Ok(table)
 }
 
-#[test]
-fn a_segment_in_the_set_of_a_table_stays(rt: HostRuntime) -> Result<(), Fail> {
-    let (mut module, _table, _segment) = with_set(rt.alloc())?;
-    demand_left(rt.alloc(), &mut module, KEPT)
-}
-
-// Fails where a segment that is taken out of the set doesn't go.
-fn take_out(
-    alloc: Global,
-    module: &mut Module,
-    table: TableId,
-    segment: ElementId,
-) -> Result<(), Fail> {
-    if !module.tables.contains(table) {
-        return demand(false, "the table");
-    }
-    module.tables.get_mut(table).elem_segments.remove(segment);
-    demand_left(alloc, module, EXPORTED)
-}
-
-#[test]
-fn a_segment_taken_out_of_the_set_goes(rt: HostRuntime) -> Result<(), Fail> {
-    let (mut module, table, segment) = with_set(rt.alloc())?;
-    take_out(rt.alloc(), &mut module, table, segment)
-}
-
-// Fails where a segment that is deleted isn't found by gc, which changes nothing, or is in the way where the module is written.
-fn delete(
-    alloc: Global,
-    module: &mut Module,
-    table: TableId,
-    segment: ElementId,
-) -> Result<(), Fail> {
-    if !module.elements.contains(segment) {
-        return demand(false, "the segment");
-    }
-    module.elements.delete(segment);
-    demand(
-        matches!(gc::run(alloc, module), Err(Error::DeadItem)),
-        "DeadItem of gc",
-    )?;
-    demand(has_entered(module, table, segment), "what gc leaves")?;
-    demand_output(alloc, module.emit_wasm(alloc), WITHOUT_SEGMENT)
-}
-
-// Whether the table has the segment in its set, and nothing else of the module went.
-fn has_entered(module: &Module, table: TableId, segment: ElementId) -> bool {
-    module.tables.contains(table)
-        && module.tables.get(table).elem_segments.contains(segment)
-        && module.elements.is_empty()
-        && module.funcs.len() == 1
-        && module.exports.len() == 1
-}
-
-#[test]
-fn a_deleted_segment_in_the_set_is_found(rt: HostRuntime) -> Result<(), Fail> {
-    let (mut module, table, segment) = with_set(rt.alloc())?;
-    delete(rt.alloc(), &mut module, table, segment)
-}
-
-// ---- an active segment of an exported table
-
-// An exported table, and a segment of a function that is active at its beginning, in no set.
-fn with_exported(alloc: Global) -> Result<(Module, TableId, ElementId), Error> {
-    let mut module = bare_module(alloc)?;
-    let functions = reference(AbstractHeapType::Func);
-    let table = module.tables.add_local(false, 1, None, functions)?;
-    module.exports.add("t", ExportItem::Table(table))?;
-    let function = add_function(alloc, &mut module)?;
-    let offset = ConstExpr::Value(Value::I32(0));
-    let kind = ElementKind::Active { table, offset };
-    let segment = module.elements.add(kind, listed(alloc, function)?)?;
-    Ok((module, table, segment))
+// A passive segment of a function, in no set.
+fn add_passive(alloc: Global, module: &mut Module) -> Result<ElementId, Error> {
+    let items = add_listed(alloc, module)?;
+    module.elements.add(ElementKind::Passive, items)
 }
 
 // Whether the segment is new in the table's set.
-fn enter(module: &mut Module, table: TableId, segment: ElementId) -> bool {
-    if !module.tables.contains(table) {
+fn enter(tables: &mut ModuleTables, table: TableId, segment: ElementId) -> bool {
+    if !tables.contains(table) {
         return false;
     }
     matches!(
-        module.tables.get_mut(table).elem_segments.insert(segment),
+        tables.get_mut(table).elem_segments.insert(segment),
         Ok(true)
     )
 }
 
-// Fails where the segment doesn't stay with its function.
-fn demand_kept(alloc: Global, module: &mut Module, segment: ElementId) -> Result<(), Fail> {
+// Whether the segment was in the table's set, out of which it is taken.
+fn take_out(tables: &mut ModuleTables, table: TableId, segment: ElementId) -> bool {
+    if !tables.contains(table) {
+        return false;
+    }
+    tables.get_mut(table).elem_segments.remove(segment)
+}
+
+// Fails where a passive segment doesn't stay in the set, or stays once it is taken out.
+fn keep_while_entered(alloc: Global, module: &mut Module, table: TableId) -> Result<(), Fail> {
+    let segment = add_passive(alloc, module)?;
+    demand(enter(&mut module.tables, table, segment), "new in the set")?;
+    demand_left(alloc, module, KEPT)?;
+    demand(take_out(&mut module.tables, table, segment), "in the set")?;
+    demand_left(alloc, module, EXPORTED)
+}
+
+// Fails where a segment that is deleted isn't found by gc, or is in the way where the module is written.
+fn delete(alloc: Global, module: &mut Module, segment: ElementId) -> Result<(), Fail> {
+    if !module.elements.contains(segment) {
+        return demand(false, "the segment");
+    }
+    module.elements.delete(segment);
+    demand(gc_finds_dead(alloc, module), "DeadItem of gc")?;
+    demand_output(alloc, module.emit_wasm(alloc), WITHOUT_SEGMENT)
+}
+
+// Fails where a passive segment isn't found once it is deleted in the set.
+fn find_deleted(alloc: Global, module: &mut Module, table: TableId) -> Result<(), Fail> {
+    let segment = add_passive(alloc, module)?;
+    demand(enter(&mut module.tables, table, segment), "new in the set")?;
+    delete(alloc, module, segment)
+}
+
+// Fails where either isn't so, the second once the first segment is gone.
+fn enter_passive(alloc: Global, module: &mut Module) -> Result<(), Fail> {
+    let table = add_exported_table(module)?;
+    keep_while_entered(alloc, module, table)?;
+    find_deleted(alloc, module, table)
+}
+
+#[test]
+fn a_passive_segment_stays_in_the_set_and_is_found_deleted(rt: HostRuntime) -> Result<(), Fail> {
+    let mut module = bare_module(rt.alloc())?;
+    enter_passive(rt.alloc(), &mut module)
+}
+
+// Fails where an active segment doesn't stay in no set and in the set, or isn't found once it is deleted there.
+fn keep_active(alloc: Global, module: &mut Module) -> Result<(), Fail> {
+    let table = add_exported_table(module)?;
+    let items = add_listed(alloc, module)?;
+    let segment = add_active(module, table, Value::I32(0), items)?;
     demand_left(alloc, module, ACTIVE_EXPORTED)?;
-    demand(module.elements.contains(segment), "the segment's id")
+    demand(enter(&mut module.tables, table, segment), "new in the set")?;
+    demand_left(alloc, module, ACTIVE_EXPORTED)?;
+    delete(alloc, module, segment)
 }
 
 #[test]
-fn an_active_segment_in_no_set_stays(rt: HostRuntime) -> Result<(), Fail> {
-    let (mut module, _table, segment) = with_exported(rt.alloc())?;
-    demand_kept(rt.alloc(), &mut module, segment)
-}
-
-#[test]
-fn an_active_segment_in_the_set_stays(rt: HostRuntime) -> Result<(), Fail> {
-    let (mut module, table, segment) = with_exported(rt.alloc())?;
-    demand(enter(&mut module, table, segment), "new in the set")?;
-    demand_kept(rt.alloc(), &mut module, segment)
-}
-
-#[test]
-fn a_deleted_active_segment_in_the_set_is_found(rt: HostRuntime) -> Result<(), Fail> {
-    let (mut module, table, segment) = with_exported(rt.alloc())?;
-    demand(enter(&mut module, table, segment), "new in the set")?;
-    delete(rt.alloc(), &mut module, table, segment)
+fn an_active_segment_stays_in_no_set_and_in_the_set(rt: HostRuntime) -> Result<(), Fail> {
+    let mut module = bare_module(rt.alloc())?;
+    keep_active(rt.alloc(), &mut module)
 }

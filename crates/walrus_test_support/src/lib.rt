@@ -1,11 +1,13 @@
 //! What tests are written with that run the program, or that edit modules: rows of what goes in and comes out, functions and
-//! references to add, and failing where emission answered otherwise.
+//! references to add, what a module shows, and failing where emission answered otherwise.
 #![tactic(auto)]
 
+mod listing;
 mod modules;
 mod program;
 mod rows;
 
+pub use listing::{is_as_before, shown};
 pub use modules::{add_function, demand_output, listed, reference};
 pub use program::{Outcome, add_words, ended, is_invalid, passed, refused, run};
 pub use rows::{demand_comes_out, each_comes_out, each_is_refused};

@@ -52,7 +52,7 @@ fn is_text_unknown(alloc: Global, text: &str) -> bool {
     add_words(alloc, &mut words, text) && are_unknown(alloc, &words)
 }
 
-const UNKNOWN: [&str; 6] = [
+const UNKNOWN: [&str; 7] = [
     // one empty word
     "",
     "--no-name",
@@ -60,6 +60,7 @@ const UNKNOWN: [&str; 6] = [
     "--no-names ",
     "--no-names=1",
     "--no-legacy,x",
+    "--reports",
 ];
 
 fn each_is_unknown(alloc: Global, rows: &[&str]) -> Result<(), Fail> {

@@ -1,8 +1,9 @@
 //! Worked modules with custom sections: which stay, and where they are written.
 
+use crate::made::{each_comes_out_by, each_is_refused_by};
+use crate::reports::each_settles;
 use std::test::Fail;
-use test_support::demand;
-use walrus_test_support::{add_words, each_comes_out, each_is_refused};
+use walrus_test_support::each_comes_out;
 
 // Modules, and what they are written as without producers.
 const ROWS: [(&str, &str); 4] = [
@@ -52,22 +53,13 @@ const PRODUCED: [(&str, &str); 2] = [
 
 #[test]
 fn custom_sections_come_out(rt: HostRuntime) -> Result<(), Fail> {
-    let mut words = Vec::new(rt.alloc());
-    demand(
-        add_words(rt.alloc(), &mut words, "--no-producers"),
-        "memory",
-    )?;
-    each_comes_out(rt.alloc(), &words, &ROWS)
+    each_comes_out_by(rt.alloc(), "--no-producers", &ROWS)?;
+    each_settles(rt.alloc(), &ROWS)
 }
 
 #[test]
 fn invalid_custom_sections_are_refused(rt: HostRuntime) -> Result<(), Fail> {
-    let mut words = Vec::new(rt.alloc());
-    demand(
-        add_words(rt.alloc(), &mut words, "--no-producers"),
-        "memory",
-    )?;
-    each_is_refused(rt.alloc(), &words, &INVALID)
+    each_is_refused_by(rt.alloc(), "--no-producers", &INVALID)
 }
 
 #[test]

@@ -1,247 +1,219 @@
-//! Modules that a program has edited: what gc and emission answer then, mostly that they can't be written.
+//! Modules that a program has edited so that they can't be written: why emission refuses, before gc and behind it.
 
 use crate::made::bare_module;
 use std::alloc::Global;
 use std::test::Fail;
-use test_support::demand;
+use test_support::{demand, is_text};
 use walrus::passes::gc;
 use walrus::{
-    AbstractHeapType, ConstExpr, Error, ExportItem, GlobalId, GlobalKind, HeapType, ImportKind,
-    Module, RefType, ValType, Value,
+    AbstractHeapType, ConstExpr, Error, ExportId, ExportItem, FunctionId, GlobalId, GlobalKind,
+    HeapType, ImportKind, Module, ModuleGlobals, RefType, ValType, Value,
 };
-use walrus_test_support::{add_function, demand_output, reference};
+use walrus_test_support::{add_function, demand_output, is_as_before, reference, shown};
 
-// What emission refuses with before gc and behind it, where gc passes.
-fn refusals(alloc: Global, edited: Result<Module, Error>) -> Option<(Error, Error)> {
-    let mut module = edited.ok()?;
-    let before = module.emit_wasm(alloc).err()?;
-    gc::run(alloc, &mut module).ok()?;
-    let behind = module.emit_wasm(alloc).err()?;
-    Some((before, behind))
-}
+const EMPTY: &str = "00 61 73 6D 01 00 00 00";
 
-// Whether a module isn't written, since something has no index where one is needed.
-fn lacks_an_index(alloc: Global, edited: Result<Module, Error>) -> bool {
-    matches!(
-        refusals(alloc, edited),
-        Some((Error::NoIndex, Error::NoIndex))
-    )
-}
+// The texts of what emission refuses with.
+const NO_INDEX: &str = "an item has no index";
 
-// The same, since no bytes spell something.
-fn is_not_writable(alloc: Global, edited: Result<Module, Error>) -> bool {
-    matches!(
-        refusals(alloc, edited),
-        Some((Error::NotWritable, Error::NotWritable))
-    )
-}
+const TWO_INDICES: &str = "an item has two indices";
 
-// The same, since a number is too large.
-fn is_too_large(alloc: Global, edited: Result<Module, Error>) -> bool {
-    matches!(
-        refusals(alloc, edited),
-        Some((Error::TooLarge, Error::TooLarge))
-    )
-}
+const NOT_WRITABLE: &str = "a form that cannot be written";
 
-// The same, since an item would have two indices.
-fn has_two_indices(alloc: Global, edited: Result<Module, Error>) -> bool {
-    matches!(
-        refusals(alloc, edited),
-        Some((Error::TwoIndices, Error::TwoIndices))
-    )
-}
+const TOO_LARGE: &str = "a count or size passes 32 bits";
 
-fn add_global(module: &mut Module, ty: ValType, init: ConstExpr) -> Result<GlobalId, Error> {
-    module.globals.add_local(ty, false, false, init)
-}
-
-// An exported table whose initialiser reads a global of the module.
-fn table_reads_own(alloc: Global) -> Result<Module, Error> {
-    let mut module = bare_module(alloc)?;
-    let ty = reference(AbstractHeapType::Func);
-    let global = add_global(&mut module, ValType::Ref(ty), ConstExpr::RefNull(ty))?;
-    let init = Some(ConstExpr::Global(global));
-    let table = module.tables.add_local_with_init(false, 1, None, ty, init)?;
-    module.exports.add("t", ExportItem::Table(table))?;
-    Ok(module)
-}
-
-// The first of two globals now reads the second.
-fn read_later(module: &mut Module, first: GlobalId, second: GlobalId) {
-    if module.globals.contains(first) {
-        module.globals.get_mut(first).kind = GlobalKind::Local(ConstExpr::Global(second));
+// Whether emission refuses with this text, and leaves the module as it was.
+fn is_refused(alloc: Global, module: &mut Module, why: &str) -> bool {
+    let before = shown(alloc, module);
+    match module.emit_wasm(alloc) {
+        Ok(_) => false,
+        Err(refusal) => is_text(refusal.text(), why) && is_as_before(alloc, module, &before),
     }
 }
 
-// An exported global whose initialiser reads a later one.
-fn global_reads_later(alloc: Global) -> Result<Module, Error> {
-    let mut module = bare_module(alloc)?;
-    let one = ConstExpr::Value(Value::I32(1));
-    let first = add_global(&mut module, ValType::I32, one)?;
-    let two = ConstExpr::Value(Value::I32(2));
-    let second = add_global(&mut module, ValType::I32, two)?;
-    read_later(&mut module, first, second);
-    module.exports.add("g", ExportItem::Global(first))?;
-    Ok(module)
+// Fails where the module is written though its export is gone, or refused otherwise, or where gc then leaves something.
+fn demand_dropped(alloc: Global, module: &mut Module, why: &str, what: &str) -> Result<(), Fail> {
+    module.exports.remove("x")?;
+    demand(is_refused(alloc, module, why), what)?;
+    gc::run(alloc, module)?;
+    demand_output(alloc, module.emit_wasm(alloc), EMPTY)
 }
 
-// An exported global whose initialiser has no operator.
-fn empty_initialiser(alloc: Global) -> Result<Module, Error> {
-    let mut module = bare_module(alloc)?;
-    let none = ConstExpr::Extended(Vec::new(alloc));
-    let global = add_global(&mut module, ValType::I32, none)?;
-    module.exports.add("g", ExportItem::Global(global))?;
-    Ok(module)
+// Fails where the module, which was edited so, is written before gc or behind it, or refused otherwise, or gc leaves something without the export.
+fn demand_refused(
+    alloc: Global,
+    module: &mut Module,
+    edited: Result<ExportId, Error>,
+    why: &str,
+    what: &str,
+) -> Result<(), Fail> {
+    edited?;
+    demand(is_refused(alloc, module, why), what)?;
+    gc::run(alloc, module)?;
+    demand(is_refused(alloc, module, why), what)?;
+    demand_dropped(alloc, module, why, what)
 }
 
-// An exported global of an exact reference type.
-fn exact_type(alloc: Global) -> Result<Module, Error> {
-    let mut module = bare_module(alloc)?;
-    let ty = RefType {
-        nullable: true,
-        heap_type: HeapType::Exact(module.types.add(&[], &[])?),
-    };
-    let global = add_global(
-        &mut module,
-        ValType::Ref(ty),
-        ConstExpr::RefNull(reference(AbstractHeapType::Func)),
-    )?;
-    module.exports.add("g", ExportItem::Global(global))?;
-    Ok(module)
-}
-
-// An exported memory of 32-bit addresses and 2^32 pages.
-fn large_memory(alloc: Global) -> Result<Module, Error> {
-    let mut module = bare_module(alloc)?;
-    let memory = module
-        .memories
-        .add_local(false, false, 4_294_967_296, None, None)?;
-    module.exports.add("m", ExportItem::Memory(memory))?;
-    Ok(module)
-}
+// ---- imports and items
 
 // An imported function that is exported, and that a second import names.
-fn two_imports_name_one(alloc: Global) -> Result<Module, Error> {
-    let mut module = bare_module(alloc)?;
+fn import_twice(module: &mut Module) -> Result<ExportId, Error> {
     let ty = module.types.add(&[], &[])?;
     let (function, _) = module.add_import_func("m", "f", ty)?;
     module
         .imports
         .add("m", "again", ImportKind::Function(function))?;
-    module.exports.add("f", ExportItem::Function(function))?;
-    Ok(module)
+    module.exports.add("x", ExportItem::Function(function))
 }
 
-// An imported function that is exported, and whose import is deleted.
-fn import_is_deleted(alloc: Global) -> Result<Module, Error> {
-    let mut module = bare_module(alloc)?;
+// An imported function whose import is deleted.
+fn add_without_import(module: &mut Module) -> Result<FunctionId, Error> {
     let ty = module.types.add(&[], &[])?;
     let (function, import) = module.add_import_func("m", "f", ty)?;
-    module.exports.add("f", ExportItem::Function(function))?;
     if module.imports.contains(import) {
         module.imports.delete(import);
     }
-    Ok(module)
+    Ok(function)
 }
 
-// An imported function that nothing needs, and whose import is deleted.
-fn unneeded_import_is_deleted(alloc: Global) -> Result<Module, Error> {
-    let mut module = bare_module(alloc)?;
-    let ty = module.types.add(&[], &[])?;
-    let (_, import) = module.add_import_func("m", "f", ty)?;
-    if module.imports.contains(import) {
-        module.imports.delete(import);
-    }
-    Ok(module)
+// Such a function, exported.
+fn export_without_import(module: &mut Module) -> Result<ExportId, Error> {
+    let function = add_without_import(module)?;
+    module.exports.add("x", ExportItem::Function(function))
 }
 
-// Fails where a module is written before gc, though an item has no index, or isn't the empty one behind it.
-fn demand_written_behind_gc(alloc: Global, edited: Result<Module, Error>) -> Result<(), Fail> {
-    let mut module = edited?;
-    demand(
-        matches!(module.emit_wasm(alloc), Err(Error::NoIndex)),
-        "a function that nothing needs, and whose import is deleted",
-    )?;
-    gc::run(alloc, &mut module)?;
-    demand_output(alloc, module.emit_wasm(alloc), "00 61 73 6D 01 00 00 00")
-}
-
-// An imported function that is exported, and which another import names than the one that it says.
-fn another_import_names_it(alloc: Global) -> Result<Module, Error> {
-    let mut module = import_is_deleted(alloc)?;
-    let Some(function) = module.funcs.iter().next().map(|function| function.id()) else {
-        return Err(Error::NotFound);
-    };
+// Such a function, exported, which another import names than the one that it says.
+fn import_by_another(module: &mut Module) -> Result<ExportId, Error> {
+    let function = add_without_import(module)?;
     module
         .imports
         .add("m", "f", ImportKind::Function(function))?;
-    Ok(module)
+    module.exports.add("x", ExportItem::Function(function))
 }
 
-// Fails where a function of the module that an import names isn't found under the names of the import, or is written.
-fn import_local_function(alloc: Global) -> Result<(), Fail> {
-    let mut module = bare_module(alloc)?;
-    let function = add_function(alloc, &mut module)?;
-    let import = module
+// An exported function of the module that an import names.
+fn import_local(alloc: Global, module: &mut Module) -> Result<ExportId, Error> {
+    let function = add_function(alloc, module)?;
+    module
         .imports
         .add("mod", "dummy", ImportKind::Function(function))?;
-    let found = match module.imports.get_imported_func(function) {
-        Some(by) => by.id() == import,
-        None => false,
-    };
-    demand(found, "the import of a function of the module")?;
-    let named = matches!(module.imports.get_func("mod", "dummy"), Ok(id) if id == function);
-    demand(named, "the function under the names of its import")?;
-    demand(
-        matches!(module.emit_wasm(alloc), Err(Error::TwoIndices)),
-        "a function of the module that an import names",
-    )
+    module.exports.add("x", ExportItem::Function(function))
+}
+
+fn demand_matching(alloc: Global, module: &mut Module) -> Result<(), Fail> {
+    let edited = import_twice(module);
+    let what = "two imports of one function";
+    demand_refused(alloc, module, edited, TWO_INDICES, what)?;
+    let edited = export_without_import(module);
+    let what = "a function whose import is deleted";
+    demand_refused(alloc, module, edited, NO_INDEX, what)?;
+    let edited = import_by_another(module);
+    let what = "a function that another import names";
+    demand_refused(alloc, module, edited, NO_INDEX, what)?;
+    let edited = import_local(alloc, module);
+    let what = "a function of the module that an import names";
+    demand_refused(alloc, module, edited, TWO_INDICES, what)
 }
 
 #[test]
 fn imports_and_items_that_do_not_match(rt: HostRuntime) -> Result<(), Fail> {
-    let alloc = rt.alloc();
-    demand(
-        has_two_indices(alloc, two_imports_name_one(alloc)),
-        "two imports of one function",
-    )?;
-    demand(
-        lacks_an_index(alloc, import_is_deleted(alloc)),
-        "a function whose import is deleted",
-    )?;
-    demand_written_behind_gc(alloc, unneeded_import_is_deleted(alloc))?;
-    demand(
-        lacks_an_index(alloc, another_import_names_it(alloc)),
-        "a function that another import names",
-    )?;
-    import_local_function(alloc)
+    let mut module = bare_module(rt.alloc())?;
+    demand_matching(rt.alloc(), &mut module)
+}
+
+// ---- initialisers, types and limits
+
+fn add_global(
+    globals: &mut ModuleGlobals,
+    ty: ValType,
+    init: ConstExpr,
+) -> Result<GlobalId, Error> {
+    globals.add_local(ty, false, false, init)
+}
+
+// An exported table whose initialiser reads a global of the module.
+fn read_own(module: &mut Module) -> Result<ExportId, Error> {
+    let ty = reference(AbstractHeapType::Func);
+    let null = ConstExpr::RefNull(ty);
+    let global = add_global(&mut module.globals, ValType::Ref(ty), null)?;
+    let init = Some(ConstExpr::Global(global));
+    let table = module.tables.add_local_with_init(false, 1, None, ty, init)?;
+    module.exports.add("x", ExportItem::Table(table))
+}
+
+// Two globals, of which the first, which is answered, reads the second.
+fn add_reading_later(globals: &mut ModuleGlobals) -> Result<GlobalId, Error> {
+    let one = ConstExpr::Value(Value::I32(1));
+    let first = add_global(globals, ValType::I32, one)?;
+    let two = ConstExpr::Value(Value::I32(2));
+    let second = add_global(globals, ValType::I32, two)?;
+    if globals.contains(first) {
+        globals.get_mut(first).kind = GlobalKind::Local(ConstExpr::Global(second));
+    }
+    Ok(first)
+}
+
+// An exported global whose initialiser reads a later one.
+fn read_later(module: &mut Module) -> Result<ExportId, Error> {
+    let global = add_reading_later(&mut module.globals)?;
+    module.exports.add("x", ExportItem::Global(global))
+}
+
+// An exported global whose initialiser has no operator.
+fn initialise_by_nothing(alloc: Global, module: &mut Module) -> Result<ExportId, Error> {
+    let none = ConstExpr::Extended(Vec::new(alloc));
+    let global = add_global(&mut module.globals, ValType::I32, none)?;
+    module.exports.add("x", ExportItem::Global(global))
+}
+
+// An exported global of an exact reference type.
+fn add_exact(module: &mut Module) -> Result<ExportId, Error> {
+    let ty = RefType {
+        nullable: true,
+        heap_type: HeapType::Exact(module.types.add(&[], &[])?),
+    };
+    let null = ConstExpr::RefNull(reference(AbstractHeapType::Func));
+    let global = add_global(&mut module.globals, ValType::Ref(ty), null)?;
+    module.exports.add("x", ExportItem::Global(global))
+}
+
+// An exported memory of 32-bit addresses and 2^32 pages.
+fn add_large(module: &mut Module) -> Result<ExportId, Error> {
+    let pages = 4_294_967_296;
+    let memory = module.memories.add_local(false, false, pages, None, None)?;
+    module.exports.add("x", ExportItem::Memory(memory))
+}
+
+fn demand_reading_earlier(alloc: Global, module: &mut Module) -> Result<(), Fail> {
+    let edited = read_own(module);
+    demand_refused(alloc, module, edited, NO_INDEX, "an initialiser of a table")?;
+    let edited = read_later(module);
+    demand_refused(
+        alloc,
+        module,
+        edited,
+        NO_INDEX,
+        "an initialiser of a global",
+    )
 }
 
 #[test]
 fn initialisers_that_read_what_is_not_before(rt: HostRuntime) -> Result<(), Fail> {
-    let alloc = rt.alloc();
-    demand(lacks_an_index(alloc, table_reads_own(alloc)), "a table's")?;
-    demand(
-        lacks_an_index(alloc, global_reads_later(alloc)),
-        "a global's",
-    )
+    let mut module = bare_module(rt.alloc())?;
+    demand_reading_earlier(rt.alloc(), &mut module)
+}
+
+fn demand_spelled(alloc: Global, module: &mut Module) -> Result<(), Fail> {
+    let edited = initialise_by_nothing(alloc, module);
+    demand_refused(alloc, module, edited, NOT_WRITABLE, "no operator")?;
+    let edited = add_exact(module);
+    demand_refused(alloc, module, edited, NOT_WRITABLE, "an exact type")?;
+    let edited = add_large(module);
+    demand_refused(alloc, module, edited, TOO_LARGE, "2^32 pages")
 }
 
 #[test]
 fn what_no_bytes_spell(rt: HostRuntime) -> Result<(), Fail> {
-    let alloc = rt.alloc();
-    demand(
-        is_not_writable(alloc, empty_initialiser(alloc)),
-        "no operator",
-    )?;
-    demand(is_not_writable(alloc, exact_type(alloc)), "an exact type")
-}
-
-#[test]
-fn a_limit_past_its_bits(rt: HostRuntime) -> Result<(), Fail> {
-    demand(
-        is_too_large(rt.alloc(), large_memory(rt.alloc())),
-        "2^32 pages",
-    )
+    let mut module = bare_module(rt.alloc())?;
+    demand_spelled(rt.alloc(), &mut module)
 }

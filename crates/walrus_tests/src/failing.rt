@@ -98,8 +98,8 @@ fn each_front_is_written(alloc: Global, input: &[u8], whole: &[u8]) -> Result<()
 fn a_write_that_fails(rt: HostRuntime) -> Result<(), Fail> {
     let mut input = Vec::new(rt.alloc());
     let mut whole = Vec::new(rt.alloc());
-    demand(add_bytes(&mut input, INPUT), "memory")?;
-    demand(add_bytes(&mut whole, OUTPUT), "memory")?;
+    let has_memory = add_bytes(&mut input, INPUT) && add_bytes(&mut whole, OUTPUT);
+    demand(has_memory, "memory")?;
     each_front_is_written(rt.alloc(), &input, &whole)
 }
 
@@ -122,12 +122,16 @@ fn untold_status(
 }
 
 // Fails where a run doesn't write the output, or a second one, whose refusal can't be told, has another status or writes something.
-fn write_once(alloc: Global, words: &[String], input: &[u8]) -> Result<(), Fail> {
-    let mut output = Narrow::new(alloc, 1000, true);
-    let first = untold_status(alloc, words, input, false, &mut output);
+fn write_once(
+    alloc: Global,
+    words: &[String],
+    input: &[u8],
+    output: &mut Narrow,
+) -> Result<(), Fail> {
+    let first = untold_status(alloc, words, input, false, output);
     demand(first == 0, "the status 0")?;
     demand_bytes(alloc, &output.taken, OUTPUT, "first")?;
-    let second = untold_status(alloc, words, input, true, &mut output);
+    let second = untold_status(alloc, words, input, true, output);
     demand(second == 1, "the status 1 of the second")?;
     demand_bytes(alloc, &output.taken, OUTPUT, "behind the second")
 }
@@ -136,10 +140,9 @@ fn write_once(alloc: Global, words: &[String], input: &[u8]) -> Result<(), Fail>
 fn one_byte_at_a_time(rt: HostRuntime) -> Result<(), Fail> {
     let mut input = Vec::new(rt.alloc());
     let mut words = Vec::new(rt.alloc());
-    demand(add_bytes(&mut input, INPUT), "memory")?;
-    demand(
-        add_words(rt.alloc(), &mut words, "--no-producers"),
-        "memory",
-    )?;
-    write_once(rt.alloc(), &words, &input)
+    let has_memory = add_bytes(&mut input, INPUT)
+        && add_words(rt.alloc(), &mut words, "--no-producers");
+    demand(has_memory, "memory")?;
+    let mut output = Narrow::new(rt.alloc(), 1000, true);
+    write_once(rt.alloc(), &words, &input, &mut output)
 }

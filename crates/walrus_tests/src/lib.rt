@@ -1,5 +1,5 @@
-//! Tests of the program: worked modules byte for byte, its words, devices that fail; and of modules that a program edits: what gc and
-//! emission answer then.
+//! Tests of the program: worked modules byte for byte, reports, its words, devices that fail; and of modules that a program edits: items that it
+//! adds with the imports that bring them, and what gc and emission answer where a module can't be written.
 #![tactic(auto)]
 
 #[cfg(test)]
@@ -13,7 +13,13 @@ mod edited;
 #[cfg(test)]
 mod failing;
 #[cfg(test)]
+mod imported;
+#[cfg(test)]
+mod interrupted;
+#[cfg(test)]
 mod made;
+#[cfg(test)]
+mod reports;
 #[cfg(test)]
 mod rows;
 #[cfg(test)]

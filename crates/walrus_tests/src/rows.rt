@@ -1,9 +1,11 @@
 //! Worked modules: what goes in and what has to come out, byte for byte.
 
+use crate::made::{each_comes_out_by, each_is_refused_by};
+use crate::reports::each_settles;
 use std::alloc::Global;
 use std::test::Fail;
 use test_support::{add_bytes, demand};
-use walrus_test_support::{add_words, each_comes_out, each_is_refused, is_invalid, run};
+use walrus_test_support::{add_words, is_invalid, run};
 
 // A legacy try with an i32 as result, and a catch of a tag that carries an i32.
 const LEGACY: &str =
@@ -215,7 +217,13 @@ const ROWS: [(&str, &str); 41] = [
 ];
 
 // Inputs that are refused as invalid.
-const INVALID: [&str; 22] = [
+const INVALID: [&str; 27] = [
+    // the version of a component, a section of no known kind, a size past the end, one in six bytes, and a byte too many in a section
+    "00 61 73 6D 0D 00 01 00",
+    "00 61 73 6D 01 00 00 00 0E 00",
+    "00 61 73 6D 01 00 00 00 01 05 FF FF FF FF 0F",
+    "00 61 73 6D 01 00 00 00 01 85 80 80 80 80 00 00 60 00 00",
+    "00 61 73 6D 01 00 00 00 01 05 01 60 00 00 00",
     // seven bytes of the header
     "00 61 73 6D 01 00 00",
     // the function section before the type section
@@ -259,32 +267,18 @@ const INVALID: [&str; 22] = [
 
 #[test]
 fn rows_come_out(rt: HostRuntime) -> Result<(), Fail> {
-    let mut words = Vec::new(rt.alloc());
-    demand(
-        add_words(rt.alloc(), &mut words, "--no-producers"),
-        "memory",
-    )?;
-    each_comes_out(rt.alloc(), &words, &ROWS)
+    each_comes_out_by(rt.alloc(), "--no-producers", &ROWS)?;
+    each_settles(rt.alloc(), &ROWS)
 }
 
 #[test]
 fn invalid_rows_are_refused(rt: HostRuntime) -> Result<(), Fail> {
-    let mut words = Vec::new(rt.alloc());
-    demand(
-        add_words(rt.alloc(), &mut words, "--no-producers"),
-        "memory",
-    )?;
-    each_is_refused(rt.alloc(), &words, &INVALID)
+    each_is_refused_by(rt.alloc(), "--no-producers", &INVALID)
 }
 
 #[test]
 fn legacy_exceptions_are_refused_where_they_are_off(rt: HostRuntime) -> Result<(), Fail> {
-    let mut words = Vec::new(rt.alloc());
-    demand(
-        add_words(rt.alloc(), &mut words, "--no-producers,--no-legacy"),
-        "memory",
-    )?;
-    each_is_refused(rt.alloc(), &words, &[LEGACY])
+    each_is_refused_by(rt.alloc(), "--no-producers,--no-legacy", &[LEGACY])
 }
 
 // Modules, with a bar behind each beginning that is a module too: it ends where a section does, and no rule refuses it.

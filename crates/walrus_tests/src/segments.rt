@@ -1,9 +1,11 @@
 //! Worked modules of segments in all their forms: which of them stay, and with which flags they are written.
 
+use crate::made::{each_comes_out_by, each_is_refused_by};
+use crate::reports::each_settles;
 use std::alloc::Global;
 use std::test::Fail;
 use test_support::demand;
-use walrus_test_support::{add_words, demand_comes_out, each_comes_out, each_is_refused};
+use walrus_test_support::{add_words, demand_comes_out};
 
 // Modules that are written as they are read.
 const SAME: [&str; 13] = [
@@ -117,20 +119,11 @@ fn segments_stay(rt: HostRuntime) -> Result<(), Fail> {
 
 #[test]
 fn segments_come_out(rt: HostRuntime) -> Result<(), Fail> {
-    let mut words = Vec::new(rt.alloc());
-    demand(
-        add_words(rt.alloc(), &mut words, "--no-producers"),
-        "memory",
-    )?;
-    each_comes_out(rt.alloc(), &words, &OTHERS)
+    each_comes_out_by(rt.alloc(), "--no-producers", &OTHERS)?;
+    each_settles(rt.alloc(), &OTHERS)
 }
 
 #[test]
 fn invalid_segments_are_refused(rt: HostRuntime) -> Result<(), Fail> {
-    let mut words = Vec::new(rt.alloc());
-    demand(
-        add_words(rt.alloc(), &mut words, "--no-producers"),
-        "memory",
-    )?;
-    each_is_refused(rt.alloc(), &words, &INVALID)
+    each_is_refused_by(rt.alloc(), "--no-producers", &INVALID)
 }

@@ -46,7 +46,7 @@ use Rattle.walrus_model.proofs.Lists.{map-itself}
 use Rattle.walrus_model.proofs.Planned.{planned_apart, planned_carries}
 use Rattle.walrus_model.proofs.Spaces.{carried_from}
 use Rattle.walrus_model.proofs.Standing.{got_where, some_inj, zip_left, zip_right}
-use Rattle.walrus_rules.specs.Pinned.{HasType, IsDeclared, BeginsBefore, GoesBefore}
+use Rattle.walrus_rules.specs.Pinned.{LocalHasType, DeclaresLocal, LocalTypeBeginsBefore, LocalGoesBefore}
 use Rattle.walrus_rules.specs.Spelling.{UsesAll}
 use Rattle.walrus_rules.specs.Text.{said}
 use Rattle.walrus_plan.specs.Brought.{import_numbers}
@@ -275,11 +275,11 @@ module _ {p : Parts} {features : Features} (r : Records p features) where
       record { new = z.0; row = z.2; is = some_inj b (body p.locals.now z.2.has.local) (sym e ∙ ap body_of_function z.2.has.is) }
 
   -- declared locals get rising numbers in their order
-  locals_rise_of : (f : ℕ) (new : Function) (w : IsRow r f new) (x y : ℕ) → IsDeclared (body p.locals.now w.has.local) x → IsDeclared (body p.locals.now w.has.local) y → GoesBefore (body p.locals.now w.has.local) x y → renaming.locals f x < renaming.locals f y
+  locals_rise_of : (f : ℕ) (new : Function) (w : IsRow r f new) (x y : ℕ) → DeclaresLocal (body p.locals.now w.has.local) x → DeclaresLocal (body p.locals.now w.has.local) y → LocalGoesBefore (body p.locals.now w.has.local) x y → renaming.locals f x < renaming.locals f y
   locals_rise_of f new w x y dx dy g =
-      let as_declared : (z : ℕ) (t : ValType ℕ) → IsDeclared (body p.locals.now w.has.local) z → HasType (body p.locals.now w.has.local) z t → declared.IsDeclared (slots_of p) (locals_of (ops_in w.has.local)) (map place w.has.local.args.items) z =
+      let as_declared : (z : ℕ) (t : ValType ℕ) → DeclaresLocal (body p.locals.now w.has.local) z → LocalHasType (body p.locals.now w.has.local) z t → declared.IsDeclared (slots_of p) (locals_of (ops_in w.has.local)) (map place w.has.local.args.items) z =
       (λ z t d h. record { is_used = d.0; no_parameter = d.1; ty = t; typed = h }) in
-      let begins : BeginsBefore (body p.locals.now w.has.local) g.0 g.1.0 → declared.BeginsBefore (slots_of p) (locals_of (ops_in w.has.local)) (map place w.has.local.args.items) g.0 g.1.0 =
+      let begins : LocalTypeBeginsBefore (body p.locals.now w.has.local) g.0 g.1.0 → declared.BeginsBefore (slots_of p) (locals_of (ops_in w.has.local)) (map place w.has.local.args.items) g.0 g.1.0 =
       (λ b. (b.0, (as_declared b.0 g.0 b.1.0 b.1.1, b.1.1, λ z d h. b.1.2 z (d.is_used, d.no_parameter) h))) in
       locals_rise r f w.t w.bytes w.has w.typed w.locals_at x y (as_declared x g.0 dx g.1.1.0) (as_declared y g.1.0 dy g.1.1.1) (
         g.0,
@@ -293,7 +293,7 @@ module _ {p : Parts} {features : Features} (r : Records p features) where
         ),
       )
 
-  pub pinned_locals : (f : ℕ) (b : Body) (x y : ℕ) → body_of before f ≡ Some b → IsDeclared b x → IsDeclared b y → GoesBefore b x y → renaming.locals f x < renaming.locals f y
+  pub pinned_locals : (f : ℕ) (b : Body) (x y : ℕ) → body_of before f ≡ Some b → DeclaresLocal b x → DeclaresLocal b y → LocalGoesBefore b x y → renaming.locals f x < renaming.locals f y
   pinned_locals f b x y e dx dy g =
       let h = held_at f b e in
-      locals_rise_of f h.new h.row x y (subst (λ (z : Body). IsDeclared z x) h.is dx) (subst (λ (z : Body). IsDeclared z y) h.is dy) (subst (λ (z : Body). GoesBefore z x y) h.is g)
+      locals_rise_of f h.new h.row x y (subst (λ (z : Body). DeclaresLocal z x) h.is dx) (subst (λ (z : Body). DeclaresLocal z y) h.is dy) (subst (λ (z : Body). LocalGoesBefore z x y) h.is g)

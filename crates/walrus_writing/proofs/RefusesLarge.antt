@@ -71,6 +71,6 @@ module _ (c : Config) (p : Parts) (own : List Custom) (roots : List Item) where
       ManyLocals n (body p.locals.now f) order (ap body_of_function is) (order_differs (slots_of p) used parameters order declared) (order_used (slots_of p) used parameters order declared) (order_apart (slots_of p) used parameters order declared) many
 
   -- a count or a size passes 32 bits
-  pub passes : (names : Lookup) (sections : List wire.Custom) → (DoesNotFit p (task (choices_of c) names sections) → PassesLimits c W) → refusals.PassesLimits p (task (choices_of c) names sections) → PassesLimits c W
+  pub passes : (names : Lookup) (sections : List wire.Custom) → (DoesNotFit p (task (choices_of c) names sections) → PassesLimits c W) → refusals.TaskIsTooLarge p (task (choices_of c) names sections) → PassesLimits c W
   passes names sections unfit (inl h) = many_locals h
   passes names sections unfit (inr h) = unfit h

@@ -63,7 +63,7 @@ module _ (c : Config) (p : Parts) where
   abbrev types : List (Option TypeDef)
   types = type_slots p.types.now
 
-  view_well_formed : (names : Lookup) (f : LocalFunction) → IsWellFormed c V (place f.ty) (body p.locals.now f) → laws.IsWellFormed (source p names (features_of c) f)
+  view_well_formed : (names : Lookup) (f : LocalFunction) → IsWellFormed c V (place f.ty) (body p.locals.now f) → laws.SourceIsWellFormed (source p names (features_of c) f)
   view_well_formed names f w = record {
     fits = record {
       types = params_of (item_at types (place f.ty));

@@ -7,7 +7,7 @@ use Rattle.walrus_model.specs.Rules.{Holds}
 use Rattle.walrus_parts.specs.declared.error.Error.{Error}
 use Rattle.walrus_parts.specs.declared.error.Error.TheVariants as errors
 use Rattle.walrus_rules.specs.Features.{features_of}
-use Rattle.walrus_rules.specs.Headline.{Reads}
+use Rattle.walrus_rules.specs.Headline.{ReadsModule}
 use Rattle.walrus_rules.specs.Pinned.{IsWrittenAs}
 use Rattle.walrus_rules.specs.Refused.{IsSayable, Refusal}
 use Rattle.walrus_rules.specs.Refused as causes
@@ -27,7 +27,7 @@ pub record EmittedAs (c : Config) (v : Abstract) (bytes : List ℕ) : Type 0 whe
   pub module_written : Abstract
   pub written : IsWrittenAs c v module_written
   pub spelled : IsSpelledAs module_written bytes
-  pub reads : IsWellMade c v → NothingUndeclared v → Reads c bytes module_written
+  pub reads : IsWellMade c v → NothingUndeclared v → ReadsModule c bytes module_written
   pub holds : IsWellMade c v → NothingUndeclared v → Holds module_written
 
 -- so it is where a module of indices can say its custom sections

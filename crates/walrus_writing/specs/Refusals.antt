@@ -31,8 +31,8 @@ abbrev pub HasBody : Parts → Features → (Source → Type 0) → Type 0
 HasBody p features P = (names : Lookup) × ((number : ℕ) × ((local : LocalFunction) × (((parts_view p).functions number ≡ Some (function_seen p local)) × P (source p names features local))))
 
 -- a count or a size passes 32 bits: the locals of a function, or what is written
-abbrev pub PassesLimits : Parts → Task → Type 0
-PassesLimits p t = HasBody p t.choices.features HasTooManyLocals ⊎ DoesNotFit p t
+abbrev pub TaskIsTooLarge : Parts → Task → Type 0
+TaskIsTooLarge p t = HasBody p t.choices.features HasTooManyLocals ⊎ DoesNotFit p t
 
 -- what no bytes spell: a body, an exact heap type in a type, the type of an imported item, a table, a global, or a segment of elements or
 -- of data
@@ -49,7 +49,7 @@ pub data HasUnspellable (p : Parts) (features : Features) : Type 0 where
 abbrev pub RefusesItems : {X : Type 0} → Parts → Task → Result X Error → Type 0
 RefusesItems p t (Ok x) = ⊤
 RefusesItems p t (Err NotWritable) = HasUnspellable p t.choices.features
-RefusesItems p t (Err TooLarge) = PassesLimits p t
+RefusesItems p t (Err TooLarge) = TaskIsTooLarge p t
 RefusesItems p t (Err (Memory e)) = ⊤
 RefusesItems p t (Err _) = ⊥
 

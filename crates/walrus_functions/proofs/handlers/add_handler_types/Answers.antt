@@ -3,13 +3,16 @@ use Rattle.std.proofs.lemmas.List.{drop_all}
 use Rattle.std.proofs.lemmas.Result.{err_from_is_err_and}
 use Rattle.walrus_base.specs.Arena.{item_at}
 use Rattle.walrus_base.specs.Id.{place}
+use Rattle.walrus_types.specs.Composite.{FunctionType}
 use Rattle.walrus_types.specs.ModuleTypes.{type_slots}
 use Rattle.walrus_types.specs.Operators.{BlockType, Op}
 use Rattle.walrus_types.specs.TypeDef.{TypeDef}
 use Rattle.walrus_code.specs.Code.{block_of, op_of, ops_of}
+use Rattle.walrus_functions.specs.Known.{AreKnown}
 use Rattle.walrus_functions.specs.ReadFunction.{AddsTypes}
-use Rattle.walrus_functions.specs.Signatures.{handler_in, opened, slots_of, tag_places, types_below}
-use Rattle.walrus_functions.proofs.HandlerLemmas.{SoFar, below_all, next_op, so_far_all, so_far_none, so_far_more, stays_same, stays_trans}
+use Rattle.walrus_functions.specs.Signatures.{first_opened, handler_in, needed_by, opened, pair_of, slots_of, tag_places, types_below}
+use Rattle.walrus_functions.proofs.HandlerLemmas.{SoFar, next_op, so_far_all, so_far_none, so_far_more, stays_same, stays_trans, types_are}
+use Rattle.walrus_functions.proofs.KnownLemmas.{handler_is, known_none}
 use Rattle.walrus_functions.proofs.handlers.add_handler_types.Goals as goal
 
 pub loop-operator-init : goal.loop-operator-init
@@ -18,8 +21,16 @@ loop-operator-init c =
     let tags = tag_places c.args.tag_types.now in
     let old = slots_of c.args.types.now in
     let all = ops_of c.args.operators.now in
-    let none : map place c.new-ids.result.items ≡ [] = ap (map place) c.new-ids.ensures.items in
-    subst (λ (ps : List ℕ). SoFar types tags old old (opened c.in_ok-blocks.blocks) all all ps) (sym none) (so_far_none types tags old (opened c.in_ok-blocks.blocks) all c.in_ok-blocks.ensures)
+    let none : map place c.new-ids.result.items ≡ [] = ap (map place) c.new-ids.ensures.items in (
+      subst (λ (ps : List ℕ). SoFar types tags old old (opened c.in_ok-blocks.blocks) all all ps) (sym none) (so_far_none types tags old (opened c.in_ok-blocks.blocks) all c.in_ok-blocks.ensures),
+      known_none types (type_slots c.args.types.now) c.new-known.result c.new-known.ensures.empty,
+    )
+
+pub add_needed-requires : goal.add_needed-requires
+add_needed-requires c =
+    let old = type_slots c.args.types.now in
+    let now = type_slots c.loop-operator.types in
+    subst (λ (ts : ℕ → Option TypeDef). AreKnown ts now c.loop-operator.known) (sym (types_are c.in_ok-bound.bound old now c.in_ok-bound.ensures c.loop-operator.invariant.0.stays)) c.loop-operator.invariant.1
 
 pub loop-operator-preserved : goal.loop-operator-preserved
 loop-operator-preserved c =
@@ -35,13 +46,17 @@ loop-operator-preserved c =
     let next = slots_of c.add_needed.new.types in
     let blocks = opened c.loop-operator.blocks in
     let left = ops_of (drop (i + 1) xs) in
-    let so_far = subst (λ (os : List Op). SoFar types tags old now blocks os (ops_of xs) (map place c.loop-operator.ids.items)) (next_op xs i x below item) c.loop-operator.invariant in
-    let types_are : types_below c.in_ok-bound.bound (type_slots c.loop-operator.types) ≡ types =
-    ap (λ (n : ℕ). types_below n (type_slots c.loop-operator.types)) c.in_ok-bound.ensures ∙ below_all (type_slots c.args.types.now) (type_slots c.loop-operator.types) c.loop-operator.invariant.stays in
+    let begun = option_map pair_of c.handler_begun-handler.result in
+    let so_far = subst (λ (os : List Op). SoFar types tags old now blocks os (ops_of xs) (map place c.loop-operator.ids.items)) (next_op xs i x below item) c.loop-operator.invariant.0 in
+    let under = types_are c.in_ok-bound.bound (type_slots c.args.types.now) (type_slots c.loop-operator.types) c.in_ok-bound.ensures c.loop-operator.invariant.0.stays in
+    let needed : needed_by (types_below c.in_ok-bound.bound (type_slots c.loop-operator.types)) begun ≡ handler_in types tags (first_opened blocks) (op_of x) =
+    ap (λ (ts : ℕ → Option TypeDef). needed_by ts begun) under ∙ ap (needed_by types) c.handler_begun-handler.ensures ∙ sym (handler_is types tags (option_map block_of c.innermost_try-block.result) (op_of x))
+    ∙ ap (λ (b : Option BlockType). handler_in types tags b (op_of x)) c.innermost_try-block.ensures in
     let added = c.in_ok-add_needed.ensures.added in
-    let under_types = subst (λ (ts : ℕ → Option TypeDef). AddsTypes (handler_in ts tags (option_map block_of c.innermost_try-block.result) (op_of x)) now next added.0) types_are added.1.1 in
-    let under_block = subst (λ (b : Option BlockType). AddsTypes (handler_in types tags b (op_of x)) now next added.0) c.innermost_try-block.ensures under_types in
-    so_far_more types tags old now next blocks (opened c.step.new.self) (op_of x) left (ops_of xs) (map place c.loop-operator.ids.items) added.0 (map place c.add_needed.new.ids.items) so_far under_block c.in_ok-add_needed.ensures.stays c.in_ok-step.ensures added.1.0
+    let adds = subst (λ (fs : List FunctionType). AddsTypes fs now next added.0) needed added.1.1 in (
+      so_far_more types tags old now next blocks (opened c.step.new.self) (op_of x) left (ops_of xs) (map place c.loop-operator.ids.items) added.0 (map place c.add_needed.new.ids.items) so_far adds c.in_ok-add_needed.ensures.stays c.in_ok-step.ensures added.1.0,
+      subst (λ (ts : ℕ → Option TypeDef). AreKnown ts (type_slots c.add_needed.new.types) c.add_needed.new.known) under c.in_ok-add_needed.ensures.kept,
+    )
 
 pub returns-in_err-bound-clause-added : goal.returns-in_err-bound-clause-added
 returns-in_err-bound-clause-added c = let p = err_from_is_err_and c.from_residual.result c.from_residual.ensures.1 in rw p.1 tt
@@ -59,20 +74,20 @@ pub returns-in_err-add_needed-clause-added : goal.returns-in_err-add_needed-clau
 returns-in_err-add_needed-clause-added c = let p = err_from_is_err_and c.from_residual-in_err-add_needed.result c.from_residual-in_err-add_needed.ensures.1 in rw p.1 tt
 
 pub returns-in_err-add_needed-clause-stays : goal.returns-in_err-add_needed-clause-stays
-returns-in_err-add_needed-clause-stays c = stays_trans (type_slots c.args.types.now) (type_slots c.loop-operator.types) (type_slots c.add_needed.new.types) c.loop-operator.invariant.stays c.add_needed.ensures.stays
+returns-in_err-add_needed-clause-stays c = stays_trans (type_slots c.args.types.now) (type_slots c.loop-operator.types) (type_slots c.add_needed.new.types) c.loop-operator.invariant.0.stays c.add_needed.ensures.stays
 
 pub returns-in_err-step-clause-added : goal.returns-in_err-step-clause-added
 returns-in_err-step-clause-added c = let p = err_from_is_err_and c.from_residual-in_err-step.result c.from_residual-in_err-step.ensures.1 in rw p.1 tt
 
 pub returns-in_err-step-clause-stays : goal.returns-in_err-step-clause-stays
-returns-in_err-step-clause-stays c = stays_trans (type_slots c.args.types.now) (type_slots c.loop-operator.types) (type_slots c.add_needed.new.types) c.loop-operator.invariant.stays c.add_needed.ensures.stays
+returns-in_err-step-clause-stays c = stays_trans (type_slots c.args.types.now) (type_slots c.loop-operator.types) (type_slots c.add_needed.new.types) c.loop-operator.invariant.0.stays c.add_needed.ensures.stays
 
 pub returns-clause-added : goal.returns-clause-added
 returns-clause-added c =
     let xs = c.args.operators.now in
     let i = c.loop-operator.operator-index in
     let past : length xs ≤ i = omega arith in
-    so_far_all (item_at (type_slots c.args.types.now)) (tag_places c.args.tag_types.now) (slots_of c.args.types.now) (slots_of c.loop-operator.types) (opened c.loop-operator.blocks) (ops_of (drop i xs)) (ops_of xs) (map place c.loop-operator.ids.items) (ap ops_of (drop_all i xs past)) c.loop-operator.invariant
+    so_far_all (item_at (type_slots c.args.types.now)) (tag_places c.args.tag_types.now) (slots_of c.args.types.now) (slots_of c.loop-operator.types) (opened c.loop-operator.blocks) (ops_of (drop i xs)) (ops_of xs) (map place c.loop-operator.ids.items) (ap ops_of (drop_all i xs past)) c.loop-operator.invariant.0
 
 pub returns-clause-stays : goal.returns-clause-stays
-returns-clause-stays c = c.loop-operator.invariant.stays
+returns-clause-stays c = c.loop-operator.invariant.0.stays

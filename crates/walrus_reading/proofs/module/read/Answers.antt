@@ -4,6 +4,7 @@ use Rattle.wasm_frames.specs.Record.{custom_record, sections}
 use Rattle.walrus_reading.specs.Customs.{kept_customs, section_seen}
 use Rattle.walrus_reading.proofs.Accepting.{is_parsed}
 use Rattle.walrus_reading.specs.Named.{HasNames}
+use Rattle.walrus_reading.proofs.NamesTaken.{taken_from}
 use Rattle.walrus_reading.proofs.NarrowRules.{narrow_rules}
 use Rattle.walrus_reading.proofs.Refusals.{frames_refused, rules_refused, room_refused, bodies_refused, refused_bytes}
 use Rattle.walrus_reading.proofs.Rooms.{fits_indices}
@@ -37,12 +38,8 @@ returns-in_err-contents-clause-refused c = λ config with.
     (bodies_refused c.args.features c.args.synthetic c.args.bytes.now (sections c.in_ok-raw.raw) _ c.in_ok-raw.ensures.found c.in_err-contents.ensures.taken))
 
 pub returns-clause-taken : goal.returns-clause-taken
-returns-clause-taken c = record {
-  sections = sections c.in_ok-raw.raw;
-  framed = c.in_ok-raw.ensures.found;
-  rules = c.in_ok-check.ensures;
-  names = c.in_ok-contents.ensures.taken;
-}
+returns-clause-taken c =
+    taken_from c.args.features c.args.synthetic c.args.bytes.now (sections c.in_ok-raw.raw) c.in_ok-contents.contents c.in_ok-raw.ensures.found c.in_ok-check.ensures c.in_ok-contents.ensures.taken
 
 pub returns-clause-kept : goal.returns-clause-kept
 returns-clause-kept c = record {

@@ -1,4 +1,4 @@
-use Rattle.walrus_rules.proofs.WorkedCustoms.{customs_run}
+use Rattle.walrus_rules.proofs.WorkedCustoms.{customs_run, customs_settled}
 use Rattle.walrus_rules.proofs.WorkedNames.{names_run}
 use Rattle.walrus_rules.proofs.WorkedProducers.{producers_run}
 use Rattle.walrus_rules.proofs.steps.worked_sections.Goals as goal
@@ -11,3 +11,6 @@ returns-clause-customs c = customs_run
 
 pub returns-clause-names : goal.returns-clause-names
 returns-clause-names c = names_run
+
+pub returns-clause-settled : goal.returns-clause-settled
+returns-clause-settled c = customs_settled

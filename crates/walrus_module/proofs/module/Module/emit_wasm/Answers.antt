@@ -22,12 +22,14 @@ use Rattle.walrus_writing.specs.Emitted.{IsWrittenWith, told}
 use Rattle.walrus_writing.specs.declared.write.Choices.{Choices}
 use Rattle.walrus_writing.proofs.RefusesAll.{plan_refused_of}
 use Rattle.walrus_rules.proofs.SameItems.{dead_back, with_own}
+use Rattle.walrus_rules.proofs.WellStays.{leaves_well}
 use Rattle.walrus_module.specs.Asked.{IsRefusedBy, OneAskedMayRefuse, section_seen}
 use Rattle.walrus_module.specs.Flags.{Flags, choices_of, config_of}
 use Rattle.walrus_module.specs.Settings.{settings}
 use Rattle.walrus_module.specs.View.{held_view, meanings, view}
-use Rattle.walrus_module.proofs.Declaring.{leaves_none_dead, leaves_nothing}
+use Rattle.walrus_module.proofs.Declaring.{ids_left, leaves_none_dead, leaves_nothing}
 use Rattle.walrus_module.proofs.OwnSections.{asked_refused, dead_refused, module_leaves, module_unchanged, nothing_back, refused_anyway, written_leaves}
+use Rattle.walrus_module.proofs.WellWritten.{answers_well, fails_well, leaves_declared}
 use Rattle.walrus_module.proofs.module.Module.emit_wasm.Goals as goal
 
 -- what the configuration comes to
@@ -197,3 +199,77 @@ returns-clause-settled g c =
     let G = λ (i : g.dyn-1.0.I). (g.dyn-1.0.entry i).1 in
     let old = view G c.args.self.now in
     λ nothing. c.declare_references.ensures.settled (nothing_back (held_view c.args.self.now) old.customs old.section_roots nothing)
+
+-- ---- where there are bytes, nothing is undeclared in what is left
+
+pub returns-clause-declared : goal.returns-clause-declared
+returns-clause-declared g c =
+    let G = λ (i : g.dyn-1.0.I). (g.dyn-1.0.entry i).1 in
+    leaves_declared (view G c.args.self.now) (view G c.declare_references.new.self) c.write_prepared.result (returns-clause-left g c)
+
+-- ---- what is answered for a well-made module
+
+pub returns-in_err-check_live-clause-well_made : goal.returns-in_err-check_live-clause-well_made
+returns-in_err-check_live-clause-well_made g c =
+    let G = λ (i : g.dyn-1.0.I). (g.dyn-1.0.entry i).1 in
+    let old = c.args.self.now in
+    let p = err_from_is_err_and c.from_residual.result c.from_residual.ensures.1 in
+    fails_well (λ (bytes : Vec ℕ). bytes.items) (OneAskedMayRefuse (meanings G old)) (config_of (settings old)) (view G old) c.from_residual.result p.0 p.1 (returns-in_err-check_live-clause-refused g c)
+
+pub returns-in_err-declare_references-clause-well_made : goal.returns-in_err-declare_references-clause-well_made
+returns-in_err-declare_references-clause-well_made g c =
+    let p = err_from_is_err_and c.from_residual-in_err-declare_references.result c.from_residual-in_err-declare_references.ensures.1 in
+    λ made. rw (p.1, p.2, c.in_err-declare_references.ensures.fails) tt
+
+pub returns-in_err-prepared-clause-well_made : goal.returns-in_err-prepared-clause-well_made
+returns-in_err-prepared-clause-well_made g c =
+    let G = λ (i : g.dyn-1.0.I). (g.dyn-1.0.entry i).1 in
+    let old = c.args.self.now in
+    let new = c.declare_references.new.self in
+    let config = config_of (settings old) in
+    let p = err_from_is_err_and c.from_residual-in_err-prepared.result c.from_residual-in_err-prepared.ensures.1 in
+    λ made. fails_well (λ (bytes : Vec ℕ). bytes.items) (OneAskedMayRefuse (meanings G old)) config (view G new) c.from_residual-in_err-prepared.result p.0 p.1 (returns-in_err-prepared-clause-refused g c)
+    (leaves_well config (view G old) (view G new) made (module_leaves G old new c.in_ok-declare_references.ensures.others c.in_ok-declare_references.ensures.left)).0
+
+pub returns-in_err-asked-clause-well_made : goal.returns-in_err-asked-clause-well_made
+returns-in_err-asked-clause-well_made g c =
+    let G = λ (i : g.dyn-1.0.I). (g.dyn-1.0.entry i).1 in
+    let old = c.args.self.now in
+    let new = c.declare_references.new.self in
+    let config = config_of (settings old) in
+    let p = err_from_is_err_and c.from_residual-in_err-asked.result c.from_residual-in_err-asked.ensures.1 in
+    λ made. fails_well (λ (bytes : Vec ℕ). bytes.items) (OneAskedMayRefuse (meanings G old)) config (view G new) c.from_residual-in_err-asked.result p.0 p.1 (returns-in_err-asked-clause-refused g c)
+    (leaves_well config (view G old) (view G new) made (module_leaves G old new c.in_ok-declare_references.ensures.others c.in_ok-declare_references.ensures.left)).0
+
+pub returns-in_err-customs-clause-well_made : goal.returns-in_err-customs-clause-well_made
+returns-in_err-customs-clause-well_made g c =
+    let p = err_from_is_err_and c.from_residual-in_err-customs.result c.from_residual-in_err-customs.ensures.1 in
+    λ made. rw (p.1, p.2, c.in_err-customs.ensures.fails) tt
+
+pub returns-clause-well_made : goal.returns-clause-well_made
+returns-clause-well_made g c =
+    let G = λ (i : g.dyn-1.0.I). (g.dyn-1.0.entry i).1 in
+    let old = c.args.self.now in
+    let new = c.declare_references.new.self in
+    answers_well (λ (bytes : Vec ℕ). bytes.items) (OneAskedMayRefuse (meanings G old)) (config_of (settings old)) (view G new) (view G old) c.write_prepared.result
+    (module_leaves G old new c.in_ok-declare_references.ensures.others c.in_ok-declare_references.ensures.left) (returns-clause-emitted g c) (returns-clause-refused g c)
+
+-- ---- items stay at their own ids
+
+pub returns-in_err-check_live-clause-own_ids : goal.returns-in_err-check_live-clause-own_ids
+returns-in_err-check_live-clause-own_ids g c = λ own. own
+
+pub returns-in_err-declare_references-clause-own_ids : goal.returns-in_err-declare_references-clause-own_ids
+returns-in_err-declare_references-clause-own_ids g c = ids_left c.args.self.now c.declare_references.new.self c.declare_references.ensures.others c.declare_references.ensures.segments
+
+pub returns-in_err-prepared-clause-own_ids : goal.returns-in_err-prepared-clause-own_ids
+returns-in_err-prepared-clause-own_ids g c = ids_left c.args.self.now c.declare_references.new.self c.declare_references.ensures.others c.declare_references.ensures.segments
+
+pub returns-in_err-asked-clause-own_ids : goal.returns-in_err-asked-clause-own_ids
+returns-in_err-asked-clause-own_ids g c = ids_left c.args.self.now c.declare_references.new.self c.declare_references.ensures.others c.declare_references.ensures.segments
+
+pub returns-in_err-customs-clause-own_ids : goal.returns-in_err-customs-clause-own_ids
+returns-in_err-customs-clause-own_ids g c = ids_left c.args.self.now c.declare_references.new.self c.declare_references.ensures.others c.declare_references.ensures.segments
+
+pub returns-clause-own_ids : goal.returns-clause-own_ids
+returns-clause-own_ids g c = ids_left c.args.self.now c.declare_references.new.self c.declare_references.ensures.others c.declare_references.ensures.segments

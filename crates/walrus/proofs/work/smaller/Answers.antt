@@ -5,7 +5,7 @@ use Rattle.walrus_module.specs.View.{meanings}
 use Rattle.walrus_module.specs.Customs.{sections}
 use Rattle.walrus_module.proofs.KeptRaw.{none_asked_refuses, none_refuses}
 use Rattle.walrus.proofs.HeadlineLemmas.{answers_gc, answers_kept}
-use Rattle.walrus.proofs.tool.smaller.Goals as goal
+use Rattle.walrus.proofs.work.smaller.Goals as goal
 
 pub returns-in_err-run : goal.returns-in_err-run
 returns-in_err-run c =

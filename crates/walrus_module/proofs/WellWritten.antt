@@ -1,0 +1,122 @@
+-- What emission answers for a well-made module, and what a second emission does.
+use Rattle.std.proofs.Common.{◌≡◌, ℕ, List, sym, ap, subst}
+use Rattle.std.specs.Prelude.{IfOk, OnOk, Result, Ok, Err}
+use Rattle.std.specs.Global.{Vec}
+use Rattle.walrus_parts.specs.declared.custom.CustomSection.{Ghosts}
+use Rattle.walrus_parts.specs.declared.error.Error.{Error}
+use Rattle.walrus_model.specs.Abstract.{Abstract}
+use Rattle.walrus_model.specs.Config.{Config}
+use Rattle.walrus_model.specs.Declared.{NothingUndeclared}
+use Rattle.walrus_rules.specs.Chain.{Leaves}
+use Rattle.walrus_rules.specs.Refused.{Refusal, Memory, DeadItem, NoIndex, TwoIndices, TooLarge, NotWritable, Caller, Another, HasNoCause, IsSayable, PassesLimits, RefusesToWrite}
+use Rattle.walrus_rules.specs.WellMade.{IsWellMade}
+use Rattle.walrus_rules.proofs.BytesOnce.{bytes_once, living_keeps}
+use Rattle.walrus_rules.proofs.NoCause.{well_no_cause}
+use Rattle.walrus_rules.proofs.OneSpelling.{spelled_once}
+use Rattle.walrus_rules.proofs.WellStays.{leaves_well}
+use Rattle.walrus_writing.specs.Emitted.{EmittedAs, IsEmitted, refusal_of, told}
+use Rattle.walrus_module.specs.Answered.{IsWellWritten, WritesUnless}
+use Rattle.walrus_module.specs.Asked.{OneAskedMayRefuse}
+use Rattle.walrus_module.specs.Flags.{Flags, config_of}
+use Rattle.walrus_module.specs.Laws.{EmitsAgain, UnsayableIsOpen}
+use Rattle.walrus_module.specs.Left.{LeavesBy}
+use Rattle.walrus_module.specs.Settings.{settings}
+use Rattle.walrus_module.specs.View.{meanings, view}
+use Rattle.walrus_module.specs.declared.module.Module.{Module}
+use Rattle.walrus_module.proofs.Declaring.{leaves_nothing}
+
+-- ---- nothing is undeclared in what is left where there are bytes
+
+pub leaves_declared : {X : Type 0} (v u : Abstract) (result : Result X Error) → LeavesBy v u (told result) → OnOk result (NothingUndeclared u)
+leaves_declared v u (Ok x) leaves = leaves_nothing v u leaves
+leaves_declared v u (Err e) leaves = tt
+
+-- ---- a well-made module
+
+module _ {X : Type 0} (seen : X → List ℕ) (A : Type 0) (c : Config) (u : Abstract) where
+  abbrev pub AnswersWell : Result X Refusal → Type 0
+  AnswersWell result = WritesUnless (PassesLimits c u) A (λ (x : X). IsWellWritten c u (seen x)) result
+
+  -- it has few causes to be refused
+  well_refused : (r : Refusal) → IsWellMade c u → RefusesToWrite {X = X} A c u (Err r) → AnswersWell (Err r)
+  well_refused Memory made h = tt
+  well_refused DeadItem made h = (well_no_cause c u made).all_there h
+  well_refused NoIndex made h = (well_no_cause c u made).indices h
+  well_refused TwoIndices made h = (well_no_cause c u made).one_index h
+  well_refused TooLarge made h = h.2 made.customs
+  well_refused NotWritable made h = (well_no_cause c u made).spelled h
+  well_refused Caller made h = h
+  well_refused Another made h = h
+
+  -- where nothing is undeclared, what is emitted reads back
+  well_written : (bytes : List ℕ) → IsWellMade c u → NothingUndeclared u → IsEmitted c u bytes → IsWellWritten c u bytes
+  well_written bytes made nothing emitted =
+      let as_said : EmittedAs c u bytes = emitted made.customs in
+      record {
+        module_written = as_said.module_written;
+        written = as_said.written;
+        spelled = as_said.spelled;
+        reads = as_said.reads made nothing;
+        holds = as_said.holds made nothing;
+      }
+
+  -- what the exit of a `?` answers
+  pub fails_well : (result : Result X Error) (e : Error) → result ≡ Err e → RefusesToWrite A c u (told result) → IsWellMade c u → AnswersWell (told result)
+  fails_well result e is =
+      subst (λ (r : Result X Error). RefusesToWrite A c u (told r) → IsWellMade c u → AnswersWell (told r)) (sym is)
+      (λ refused made. well_refused (refusal_of e) made refused)
+
+  -- what is answered for what the declared segment leaves of a well-made module
+  pub answers_well : (v : Abstract) (result : Result X Error) → Leaves v u → IfOk result (λ x. IsEmitted c u (seen x)) → RefusesToWrite A c u (told result) → IsWellMade c v → AnswersWell (told result)
+  answers_well v (Ok x) leaves emitted refused made = let well = leaves_well c v u made leaves in well_written (seen x) well.0 well.1 emitted
+  answers_well v (Err e) leaves emitted refused made = well_refused (refusal_of e) (leaves_well c v u made leaves).0 refused
+
+-- ---- a second emission
+
+module _ (A : Type 0) (c : Config) (u : Abstract) (none : HasNoCause c u) (sayable : IsSayable u) where
+  refused_again : (P : Vec ℕ → Type 0) (r : Refusal) → RefusesToWrite {X = Vec ℕ} A c u (Err r) → WritesUnless ⊥ A P (Err r)
+  refused_again P Memory h = tt
+  refused_again P DeadItem h = none.all_there h
+  refused_again P NoIndex h = none.indices h
+  refused_again P TwoIndices h = none.one_index h
+  refused_again P TooLarge h = none.fits (h.2 sayable)
+  refused_again P NotWritable h = none.spelled h
+  refused_again P Caller h = h
+  refused_again P Another h = h
+
+  -- a module is written as one list of bytes
+  written_again : (first second : List ℕ) → IsEmitted c u first → IsEmitted c u second → second ≡ first
+  written_again first second one two =
+      let a : EmittedAs c u first = one sayable in
+      let b : EmittedAs c u second = two sayable in
+      bytes_once spelled_once c u b.module_written a.module_written second first (living_keeps u none.all_there) b.written a.written b.spelled a.spelled
+
+  answered_again : (first : List ℕ) (second : Result (Vec ℕ) Error) → IsEmitted c u first → IfOk second (λ bytes. IsEmitted c u bytes.items)
+      → RefusesToWrite A c u (told second) → WritesUnless ⊥ A (λ (bytes : Vec ℕ). bytes.items ≡ first) (told second)
+  answered_again first (Ok bytes) one two refused = written_again first bytes.items one two
+  answered_again first (Err e) one two refused = refused_again (λ (bytes : Vec ℕ). bytes.items ≡ first) (refusal_of e) refused
+
+module _ {V : Type 0} {O : V → Type 0} (G : (v : V) → Ghosts (O v)) where
+  pub emits_again : EmitsAgain G
+  emits_again old middle new first second sayable one two =
+      let c = config_of (settings old) in
+      let A = OneAskedMayRefuse (meanings G middle) in
+      let same : new ≡ middle = two.settled (leaves_nothing (view G old) (view G middle) one.left) in
+      let kept : settings middle ≡ settings old = ap settings one.others in
+      let says : IsSayable (view G middle) = subst (λ (m : Module V O). IsSayable (view G m)) (sym one.others) sayable in
+      let emitted : IfOk second (λ bytes. IsEmitted c (view G middle) bytes.items) =
+      subst (λ (m : Module V O). IfOk second (λ bytes. IsEmitted c (view G m) bytes.items)) same
+      (subst (λ (f : Flags). IfOk second (λ bytes. IsEmitted (config_of f) (view G new) bytes.items)) kept two.emitted) in
+      let refused : RefusesToWrite A c (view G middle) (told second) =
+      subst (λ (m : Module V O). RefusesToWrite A c (view G m) (told second)) same
+      (subst (λ (f : Flags). RefusesToWrite A (config_of f) (view G new) (told second)) kept two.refused) in
+      (same, answered_again A c (view G middle) one.refused says first.items second one.emitted emitted refused)
+
+  pub unsayable_open : UnsayableIsOpen G
+  unsayable_open old new first other not said = record {
+    left = said.left;
+    others = said.others;
+    settled = said.settled;
+    emitted = λ sayable. absurd (not (subst (λ (m : Module V O). IsSayable (view G m)) said.others sayable));
+    refused = said.refused;
+  }

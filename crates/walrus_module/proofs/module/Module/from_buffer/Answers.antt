@@ -1,0 +1,10 @@
+use Rattle.std.proofs.Common.{subst, IfOk}
+use Rattle.walrus_module.specs.Flags.{Flags, config_of}
+use Rattle.walrus_module.specs.Parsed.{IsParsed}
+use Rattle.walrus_module.specs.View.{view}
+use Rattle.walrus_module.proofs.module.Module.from_buffer.Goals as goal
+
+pub returns-clause-found : goal.returns-clause-found
+returns-clause-found g c =
+    let G = λ (i : g.dyn-1.0.I). (g.dyn-1.0.entry i).1 in
+    subst (λ (f : Flags). IfOk c.from_buffer_with_config.result (λ m. IsParsed (config_of f) c.args.bytes.now (view G m))) c.new.ensures c.from_buffer_with_config.ensures.found

@@ -1,0 +1,57 @@
+-- The laws of a module in memory: what a second emission answers, and what its bodies count.
+use Rattle.std.specs.Prelude.{ℕ, [], IfOk, Result, Ok, ◌≡◌}
+use Rattle.std.specs.Global.{Vec}
+use Rattle.walrus_parts.specs.declared.custom.CustomSection.{Ghosts}
+use Rattle.walrus_parts.specs.declared.error.Error.{Error}
+use Rattle.walrus_types.specs.Locals.{locals}
+use Rattle.walrus_types.specs.declared.locals.ModuleLocals.{ModuleLocals}
+use Rattle.walrus_code.specs.declared.function.LocalFunction.{LocalFunction}
+use Rattle.walrus_contents.specs.View.{body, contents_view}
+use Rattle.walrus_contents.specs.declared.parts.Contents.{Contents}
+use Rattle.walrus_model.specs.Declared.{NothingUndeclared}
+use Rattle.walrus_rules.specs.OkLaws.{AreCounted}
+use Rattle.walrus_rules.specs.Once.{TypesLocals}
+use Rattle.walrus_rules.specs.Pinned.{DeclaresLocal}
+use Rattle.walrus_rules.specs.Refused.{IsSayable, RefusesToWrite}
+use Rattle.walrus_rules.specs.WellMade.{IsCounted}
+use Rattle.walrus_writing.specs.Emitted.{IsEmitted, told}
+use Rattle.walrus_module.specs.Answered.{WritesUnless}
+use Rattle.walrus_module.specs.Asked.{OneAskedMayRefuse}
+use Rattle.walrus_module.specs.Flags.{config_of}
+use Rattle.walrus_module.specs.Left.{ChangesElements, LeavesBy}
+use Rattle.walrus_module.specs.Settings.{settings}
+use Rattle.walrus_module.specs.View.{meanings, view}
+use Rattle.walrus_module.specs.declared.module.Module.{Module}
+
+-- ---- bodies
+
+-- in what a module holds, each body counts the locals that it declares, where each local that a body uses is there
+abbrev pub HeldAreCounted : Type 0
+HeldAreCounted = (m : Contents) → TypesLocals (contents_view m) → AreCounted (contents_view m)
+
+-- without that not: a body that declares a local counts none where there are no locals
+abbrev pub AbsentIsUncounted : Type 0
+AbsentIsUncounted = (all : ModuleLocals) (f : LocalFunction) (x : ℕ) → locals all ≡ [] → DeclaresLocal (body all f) x → IsCounted (body all f) → ⊥
+
+-- ---- emission, twice
+
+module _ {V : Type 0} {O : V → Type 0} (G : (v : V) → Ghosts (O v)) where
+  -- what a call of emission says of the module before and after it, and of its answer: its clauses of these names
+  pub record Emits (old new : Module V O) (result : Result (Vec ℕ) Error) : Type 0 where
+    pub left : LeavesBy (view G old) (view G new) (told result)
+    pub others : ChangesElements old new
+    pub settled : NothingUndeclared (view G old) → new ≡ old
+    pub emitted : IfOk result (λ bytes. IsEmitted (config_of (settings old)) (view G new) bytes.items)
+    pub refused : RefusesToWrite (OneAskedMayRefuse (meanings G old)) (config_of (settings old)) (view G new) (told result)
+
+  -- What was written once is left as it is by a second emission, and written as the same bytes, unless memory runs out or a custom section that
+  -- is asked refuses. No custom section of its own is called as the name or the producers section is.
+  abbrev pub EmitsAgain : Type 0
+  EmitsAgain =
+      (old middle new : Module V O) (first : Vec ℕ) (second : Result (Vec ℕ) Error) → IsSayable (view G old)
+      → Emits old middle (Ok first) → Emits middle new second
+      → (new ≡ middle) × WritesUnless ⊥ (OneAskedMayRefuse (meanings G middle)) (λ bytes. bytes.items ≡ first.items) (told second)
+
+  -- where one is called so, the clauses that hold of the bytes hold of any others: they tell nothing of them
+  abbrev pub UnsayableIsOpen : Type 0
+  UnsayableIsOpen = (old new : Module V O) (first other : Vec ℕ) → (IsSayable (view G old) → ⊥) → Emits old new (Ok first) → Emits old new (Ok other)

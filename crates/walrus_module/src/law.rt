@@ -1,0 +1,26 @@
+//! The laws of a module in memory, as contracts. Nothing runs here.
+ghost use Rattle.walrus_rules.specs.OkLaws.{AreCounted};
+ghost use Rattle.walrus_rules.specs.Once.{TypesLocals};
+ghost use Rattle.walrus_module.specs.Laws.{AbsentIsUncounted, EmitsAgain, HeldAreCounted, UnsayableIsOpen};
+ghost use Rattle.walrus_module.specs.View.{view};
+
+use crate::module::Module;
+use walrus_parts::CustomSection;
+
+/// A module for which [`emit_wasm`](crate::Module::emit_wasm) answered bytes is left as it is by a second call, which answers
+/// the same bytes, or is refused for want of memory or by a custom section that is asked. So the clauses of the two calls say,
+/// of each module that has no custom section of its own called `name` or `producers`; of others they don't tell the bytes.
+/// The parameter only names the type of custom sections.
+pub fn second_emission_is_the_same(_module: &Module)
+    ensures same { EmitsAgain ⟦<dyn CustomSection as CustomSection>⟧ }
+    ensures needed { UnsayableIsOpen ⟦<dyn CustomSection as CustomSection>⟧ }
+{}
+
+/// As an abstract module, a module in memory counts in each body the locals that this declares, as well-made modules do,
+/// where each local that a body uses is there; and where it isn't, not always.
+pub fn bodies_are_counted(module: &Module)
+    ensures counted { TypesLocals (view ⟦<dyn CustomSection as CustomSection>⟧ «module».now)
+        → AreCounted (view ⟦<dyn CustomSection as CustomSection>⟧ «module».now) }
+    ensures held { HeldAreCounted }
+    ensures needed { AbsentIsUncounted }
+{}
