@@ -1,5 +1,5 @@
 #!/usr/bin/env python3
-"""What tests/refused.sh does: refused.py PROGRAM LIBRARY FOLDER.., of which a folder that isn't there is passed over.
+"""What tests/refused.sh does: refused.py PROGRAM SCENES LIBRARY FOLDER.., of which a folder that isn't there is passed over.
 
 LIBRARY is refused.c as a shared library. A module's words stand in NAME.args, one a line, where that is there.
 """
@@ -12,6 +12,8 @@ import sys
 # Of larger modules only the address space is made less.
 MOST_BYTES = 6_000
 OUT_OF_MEMORY = (1, b"", b"walrus-gc: out of memory\n")
+# How the program of scenes ends, whichever request fails.
+ALL_STANDS = (0, b"all stands\n", b"")
 # Rows whose counts lie, and under how many bytes of address space they have to be answered as with ample memory.
 LYING_ROWS = ("01-20", "R12.3")
 LITTLE = 64 << 20
@@ -48,6 +50,15 @@ def refused_in_turn(command, data, library):
         yield number, None if ended in (ample, OUT_OF_MEMORY) else ended
 
 
+def scenes_in_turn(command, library):
+    """The same of the program of scenes, which has to end as ever; and one with ample memory."""
+    ample, count = requests_of(command, b"", library)
+    yield 0, None if ample == ALL_STANDS else ample
+    for number in range(1, count + 1):
+        ended = run(command, b"", env={**os.environ, "LD_PRELOAD": library, "REFUSED": str(number)})
+        yield number, None if ended == ALL_STANDS else ended
+
+
 def starts(program, space):
     """Whether the program is started at all within so much address space: an unknown word is answered then."""
     return run([program, "--unknown"], b"", space)[0] == 2
@@ -69,23 +80,36 @@ def lies(path, command, data):
         yield f"{LITTLE >> 20} MB", None if ended == run(command, data) else ended
 
 
-def main():
-    program, library, *folders = sys.argv[1:]
+def tries_of(path, program, library):
+    """All tries of a module."""
+    data, command, is_row = path.read_bytes(), [program, *words_of(path)], path.parent.name == "rows"
+    yield from lies(path, command, data)
+    if len(data) <= MOST_BYTES:
+        yield from refused_in_turn(command, data, library)
+    if not is_row:
+        yield from in_less_space(program, command, data)
+
+
+def told(name, tries):
+    """Prints the finds among these tries, and answers how many there are of both."""
     runs = finds = 0
-    for path in (it for folder in folders for it in sorted(pathlib.Path(folder).glob("*.wasm"))):
-        data, command, is_row = path.read_bytes(), [program, *words_of(path)], path.parent.name == "rows"
-        tries = [*lies(path, command, data)]
-        if len(data) <= MOST_BYTES:
-            tries += refused_in_turn(command, data, library)
-        if not is_row:
-            tries += in_less_space(program, command, data)
-        for what, ended in tries:
-            runs += 1
-            if ended:
-                finds += 1
-                print(f"FIND {path.name}, {what}: status {ended[0]}, {len(ended[1])} bytes, {ended[2][:80]!r}")
+    for what, ended in tries:
+        runs += 1
+        if ended:
+            finds += 1
+            print(f"FIND {name}, {what}: status {ended[0]}, {len(ended[1])} bytes, {(ended[2] or ended[1])[:80]!r}")
+    return runs, finds
+
+
+def main():
+    program, scenes, library, *folders = sys.argv[1:]
+    modules = [path for folder in folders for path in sorted(pathlib.Path(folder).glob("*.wasm"))]
+    counts = [told("scenes", scenes_in_turn([scenes], library))]
+    print(f"tests/refused.sh: {counts[0][0]} runs of the scenes, {counts[0][1]} finds", flush=True)
+    counts += (told(path.name, tries_of(path, program, library)) for path in modules)
+    runs, finds = map(sum, zip(*counts))
     print(f"tests/refused.sh: {runs} runs with less memory, {finds} finds")
-    sys.exit(finds > 0 or runs == 0)
+    sys.exit(finds > 0 or not modules)
 
 
 main()
