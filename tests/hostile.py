@@ -146,23 +146,27 @@ def mutated(rng, all_bases):
     return joined(found)
 
 
-def ran(program, data, folder):
-    def limits():
-        resource.setrlimit(resource.RLIMIT_CPU, (10, 12))
-        resource.setrlimit(resource.RLIMIT_CORE, (0, 0))
+def spawned(command, source, sink, errors):
+    """Status of a run and what it used. What starts it makes no copy of this process, as a function called before the program would."""
+    files = [(os.POSIX_SPAWN_OPEN, 0, source, os.O_RDONLY, 0)]
+    for number, path in ((1, sink), (2, errors)):
+        files.append((os.POSIX_SPAWN_OPEN, number, path, os.O_WRONLY | os.O_CREAT | os.O_TRUNC, 0o600))
+    pid = os.posix_spawnp(command[0], command, os.environ, file_actions=files)
+    try:
+        resource.prlimit(pid, resource.RLIMIT_CPU, (10, 12))
+    except ProcessLookupError:
+        pass
+    _, status, use = os.wait4(pid, 0)
+    return os.waitstatus_to_exitcode(status), use
 
-    source, sink = f"{folder}/in", f"{folder}/out"
+
+def ran(program, data, folder):
+    source, sink, errors = f"{folder}/in", f"{folder}/out", f"{folder}/told"
     with open(source, "wb") as out:
         out.write(data)
-    with open(source, "rb") as given, open(sink, "wb") as taken:
-        it = subprocess.Popen([program], stdin=given, stdout=taken, stderr=subprocess.PIPE, preexec_fn=limits)
-        told = it.stderr.read()
-        _, status, use = os.wait4(it.pid, 0)
-        it.returncode = 0
-        it.stderr.close()
-    with open(sink, "rb") as taken:
-        output = taken.read()
-    return os.waitstatus_to_exitcode(status), output, told, use.ru_utime + use.ru_stime, use.ru_maxrss * 1024
+    status, use = spawned([program], source, sink, errors)
+    with open(sink, "rb") as taken, open(errors, "rb") as told:
+        return status, taken.read(), told.read(), use.ru_utime + use.ru_stime, use.ru_maxrss * 1024
 
 
 def without_linking(data):
@@ -186,7 +190,7 @@ def is_valid(data, folder):
     path = f"{folder}/valid"
     with open(path, "wb") as out:
         out.write(without_linking(data))
-    return subprocess.run(["wasm-validate", *FEATURES, path], capture_output=True, check=False, timeout=60).returncode == 0
+    return spawned(["wasm-validate", *FEATURES, path], os.devnull, os.devnull, os.devnull)[0] == 0
 
 
 def look(program, data, folder, has_wabt):
@@ -213,6 +217,7 @@ def part(words):
     program, seed, begin, step, end, bases, keep = words
     folder = tempfile.mkdtemp(prefix="hostile-", dir="/dev/shm" if os.path.isdir("/dev/shm") else None)
     has_wabt = shutil.which("wasm-validate") is not None
+    resource.setrlimit(resource.RLIMIT_CORE, (0, 0))
     counts, finds, slowest = collections.Counter(), [], 0
     for i in range(begin, end, step):
         data = mutated(random.Random(f"{seed}:{i}"), bases)
