@@ -23,6 +23,7 @@ use Rattle.walrus_contents.specs.declared.parts.Contents.{Contents}
 use Rattle.walrus_contents.specs.View.{export_of}
 use Rattle.walrus_module.specs.Meaning.{Meaning}
 use Rattle.walrus_module.specs.View.{held_view, meanings, view}
+use Rattle.walrus_module.specs.declared.entry.SectionEntry.{SectionEntry}
 use Rattle.walrus_module.specs.declared.module.Module.{Module}
 use Rattle.walrus_parts.specs.Roots.{RootLists, no_roots, with_roots}
 use Rattle.walrus_parts.specs.declared.custom.CustomSection.{Ghosts}
@@ -168,7 +169,7 @@ asked_refused P Q (errors.Caller text) h = h
 asked_refused P Q _ h = absurd h
 
 -- what is found where just that is asked for which custom sections ask to keep is found of their module
-pub found_of : {V : Type 0} {O : V → Type 0} (G : (v : V) → Ghosts (O v)) (m : Module V O) (asked : RootLists)
+pub found_of : {V : Type 0} {O : V → Type 0} (G : (v : V) → Ghosts (O v)) (m : Module (SectionEntry V O)) (asked : RootLists)
     → asked ≡ with_roots no_roots (flat_map (λ (s : Meaning). s.roots) (meanings G m)) → (parts : abstract.Abstract) → parts ≡ held_view m
     → (r : Result (MarkedItems × ℕ) Error) → IsFound (with_own parts [] (asked_items asked)) r → IsFound (view G m) r
 found_of G m asked is parts are r found =

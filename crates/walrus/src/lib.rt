@@ -11,20 +11,129 @@ pub mod tool;
 mod transfer;
 mod work;
 
-pub use walrus_ir::{
-    CustomSectionKey, DataKey, ElementKey, ExportKey, FunctionKey, GlobalKey, ImportKey, LocalKey,
-    MemoryKey, TableKey, TagKey, TypeKey,
-};
-pub use walrus_module::{
-    AbstractHeapType, Arg, Args, ArrayType, BlockType, CodeTransform, CompositeType, ConstExpr,
-    ConstOp, CustomSection, Data, DataId, DataKind, Element, ElementId, ElementItems, ElementKind,
-    Error, ErrorKind, Export, ExportId, ExportItem, FieldType, Function, FunctionBuilder,
-    FunctionId, FunctionKind, FunctionType, Global, GlobalId, GlobalKind, GroupIds, HeapType, Id,
-    IdHashSet, IdsToIndices, Import, ImportId, ImportKind, ImportedFunction, IndicesToIds,
-    InstrLocId, InstrSeqBuilder, ItemId, ItemMarks, Local, LocalFunction, LocalId, Marks, Memory,
-    MemoryId, Module, ModuleConfig, ModuleCustomSections, ModuleData, ModuleElements,
-    ModuleExports, ModuleFunctions, ModuleGlobals, ModuleImports, ModuleLocals, ModuleMemories,
-    ModuleProducers, ModuleTables, ModuleTags, ModuleTypes, NewType, Operator, ProducerField,
-    ProducerValue, RawCustomSection, RefType, Result, Roots, SectionEntry, StorageType, StructType,
-    Table, TableId, Tag, TagId, TagKind, Type, TypeId, UntypedCustomSectionId, ValType, Value,
-};
+pub use walrus_ir::CustomSectionKey;
+pub use walrus_ir::DataKey;
+pub use walrus_ir::ElementKey;
+pub use walrus_ir::ExportKey;
+pub use walrus_ir::FunctionKey;
+pub use walrus_ir::GlobalKey;
+pub use walrus_ir::ImportKey;
+pub use walrus_ir::LocalKey;
+pub use walrus_ir::MemoryKey;
+pub use walrus_ir::TableKey;
+pub use walrus_ir::TagKey;
+pub use walrus_ir::TypeKey;
+pub use walrus_module::AbstractHeapType;
+pub use walrus_module::ArenaIter;
+pub use walrus_module::Arg;
+pub use walrus_module::Args;
+pub use walrus_module::ArrayType;
+pub use walrus_module::BlockType;
+pub use walrus_module::CodeTransform;
+pub use walrus_module::CompositeType;
+pub use walrus_module::ConstExpr;
+pub use walrus_module::ConstOp;
+pub use walrus_module::CustomSection;
+pub use walrus_module::Data;
+pub use walrus_module::DataEntries;
+pub use walrus_module::DataId;
+pub use walrus_module::DataIter;
+pub use walrus_module::DataKind;
+pub use walrus_module::Element;
+pub use walrus_module::ElementEntries;
+pub use walrus_module::ElementId;
+pub use walrus_module::ElementItems;
+pub use walrus_module::ElementIter;
+pub use walrus_module::ElementKind;
+pub use walrus_module::Error;
+pub use walrus_module::ErrorKind;
+pub use walrus_module::Export;
+pub use walrus_module::ExportEntries;
+pub use walrus_module::ExportId;
+pub use walrus_module::ExportItem;
+pub use walrus_module::ExportIter;
+pub use walrus_module::FieldType;
+pub use walrus_module::FuncParams;
+pub use walrus_module::FuncResults;
+pub use walrus_module::Function;
+pub use walrus_module::FunctionBuilder;
+pub use walrus_module::FunctionEntries;
+pub use walrus_module::FunctionId;
+pub use walrus_module::FunctionIter;
+pub use walrus_module::FunctionKind;
+pub use walrus_module::FunctionType;
+pub use walrus_module::Global;
+pub use walrus_module::GlobalEntries;
+pub use walrus_module::GlobalId;
+pub use walrus_module::GlobalIter;
+pub use walrus_module::GlobalKind;
+pub use walrus_module::GroupIds;
+pub use walrus_module::HeapType;
+pub use walrus_module::Id;
+pub use walrus_module::IdHashSet;
+pub use walrus_module::IdHashSetIter;
+pub use walrus_module::IdsToIndices;
+pub use walrus_module::Import;
+pub use walrus_module::ImportEntries;
+pub use walrus_module::ImportId;
+pub use walrus_module::ImportIter;
+pub use walrus_module::ImportKind;
+pub use walrus_module::ImportedFunction;
+pub use walrus_module::IndicesToIds;
+pub use walrus_module::InstrLocId;
+pub use walrus_module::InstrSeqBuilder;
+pub use walrus_module::ItemId;
+pub use walrus_module::ItemMarks;
+pub use walrus_module::Local;
+pub use walrus_module::LocalFunction;
+pub use walrus_module::LocalFunctionIter;
+pub use walrus_module::LocalId;
+pub use walrus_module::LocalIter;
+pub use walrus_module::Marks;
+pub use walrus_module::MarksIter;
+pub use walrus_module::Memory;
+pub use walrus_module::MemoryEntries;
+pub use walrus_module::MemoryId;
+pub use walrus_module::MemoryIter;
+pub use walrus_module::Module;
+pub use walrus_module::ModuleConfig;
+pub use walrus_module::ModuleCustomSections;
+pub use walrus_module::ModuleData;
+pub use walrus_module::ModuleElements;
+pub use walrus_module::ModuleExports;
+pub use walrus_module::ModuleFunctions;
+pub use walrus_module::ModuleGlobals;
+pub use walrus_module::ModuleImports;
+pub use walrus_module::ModuleLocals;
+pub use walrus_module::ModuleMemories;
+pub use walrus_module::ModuleProducers;
+pub use walrus_module::ModuleTables;
+pub use walrus_module::ModuleTags;
+pub use walrus_module::ModuleTypes;
+pub use walrus_module::NewType;
+pub use walrus_module::Operator;
+pub use walrus_module::ProducerField;
+pub use walrus_module::ProducerValue;
+pub use walrus_module::RawCustomSection;
+pub use walrus_module::RefType;
+pub use walrus_module::Result;
+pub use walrus_module::Roots;
+pub use walrus_module::SectionEntry;
+pub use walrus_module::SectionIter;
+pub use walrus_module::StorageType;
+pub use walrus_module::StructType;
+pub use walrus_module::Table;
+pub use walrus_module::TableEntries;
+pub use walrus_module::TableId;
+pub use walrus_module::TableIter;
+pub use walrus_module::Tag;
+pub use walrus_module::TagEntries;
+pub use walrus_module::TagId;
+pub use walrus_module::TagIter;
+pub use walrus_module::TagKind;
+pub use walrus_module::Type;
+pub use walrus_module::TypeId;
+pub use walrus_module::TypeIter;
+pub use walrus_module::UntypedCustomSectionId;
+pub use walrus_module::ValType;
+pub use walrus_module::Value;

@@ -12,7 +12,7 @@ ghost use Rattle.walrus_builder.specs.Sequence.{built, located, locations};
 use crate::sequence::InstrSeqBuilder;
 use std::alloc::{AllocError, Global};
 use walrus_base::{LocalId, TypeId};
-use walrus_code::{Args, LocalFunction, Operator};
+use walrus_code::LocalFunction;
 use walrus_types::{ModuleTypes, ValType};
 
 /// A function with a body that is being built (Structure > Modules > Functions).
@@ -85,11 +85,10 @@ impl FunctionBuilder {
         let FunctionBuilder {
             name,
             ty,
-            mut body,
+            body,
             alloc,
         } = self;
-        body.push(Operator::new(Operator::END, Args::None))?;
-        let mut function = LocalFunction::new(alloc, ty, args, body.into_operators());
+        let mut function = body.into_function(alloc, ty, args)?;
         function.name = name;
         Ok(function)
     }

@@ -1,13 +1,14 @@
 //! Sequences of operators, built one behind another.
-ghost use Rattle.std.specs.Prelude.{◌≡◌, ◌∷◌, ◌++◌, [], length, IfOk, OnOk, OnErr};
+ghost use Rattle.std.specs.Prelude.{◌≡◌, ◌∷◌, ◌++◌, [], None, length, IfOk, OnOk, OnErr};
 ghost use Rattle.walrus_base.specs.Id.{place};
 ghost use Rattle.walrus_code.specs.Code.{op_of, ops_of};
+ghost use Rattle.walrus_code.specs.Function.{function_type, body_of};
 ghost use Rattle.walrus_code.specs.Location.{location};
-ghost use Rattle.walrus_builder.specs.Instructions.{unreachable_op, call_op, drop_op, local_get_op, i32_const_op, nowhere};
+ghost use Rattle.walrus_builder.specs.Instructions.{end_op, unreachable_op, call_op, drop_op, local_get_op, i32_const_op, nowhere};
 
 use std::alloc::{AllocError, Global};
-use walrus_base::{FunctionId, LocalId};
-use walrus_code::{Arg, Args, Operator};
+use walrus_base::{FunctionId, LocalId, TypeId};
+use walrus_code::{Arg, Args, LocalFunction, Operator};
 use wasm_opcodes::one_byte::{CALL, DROP, I32_CONST, LOCAL_GET, UNREACHABLE};
 
 /// A sequence of operators that is being built (Structure > Instructions > Expressions).
@@ -44,12 +45,24 @@ impl InstrSeqBuilder {
         self.operators.as_slice()
     }
 
-    // The operators themselves.
-    pub(crate) fn into_operators(self) -> Vec<Operator>
-        ensures value { ops_of result.items ≡ built self }
-        ensures locations { locations result.items ≡ located self }
+    /// The function of this type with these argument locals, without a name. Its body is the operators that were built, and behind
+    /// them the last `0B`, which came from nowhere. It has no handlers.
+    pub fn into_function(
+        self,
+        alloc: Global,
+        ty: TypeId,
+        args: Vec<LocalId>,
+    ) -> Result<LocalFunction, AllocError>
+        ensures name { IfOk result (λ f. f.name ≡ None) }
+        ensures ty { IfOk result (λ f. function_type f ≡ ty) }
+        ensures args { IfOk result (λ f. f.args ≡ args) }
+        ensures body { IfOk result (λ f. body_of f ≡ built self ++ end_op ∷ []) }
+        ensures locations { IfOk result (λ f. locations f.operators.items ≡ located self ++ nowhere ∷ []) }
+        ensures handler_types { IfOk result (λ f. f.handler_types.items ≡ []) }
     {
-        self.operators
+        let mut body = self;
+        body.push(Operator::new(Operator::END, Args::None))?;
+        Ok(LocalFunction::new(alloc, ty, args, body.operators))
     }
 
     // Puts an operator behind those that are there. Where memory runs out, it is dropped, and nothing changes.

@@ -17,4 +17,6 @@ mod modules;
 #[cfg(test)]
 mod producers;
 #[cfg(test)]
+mod replaced;
+#[cfg(test)]
 mod spaces;

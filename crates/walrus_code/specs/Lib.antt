@@ -7,3 +7,4 @@ pub mod Location
 pub mod Names
 pub mod Results
 pub mod Stands
+pub mod Transform

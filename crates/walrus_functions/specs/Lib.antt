@@ -8,8 +8,10 @@ pub mod ReadFunction
 pub mod Signatures
 pub mod Writing
 pub use Rattle.walrus_bodies.specs.Body
+pub use Rattle.walrus_bodies.specs.BodyRead
 pub use Rattle.walrus_bodies.specs.FunctionTypes
 pub use Rattle.walrus_bodies.specs.declared.features.Features
 pub use Rattle.walrus_code.specs.FromRaw
 pub use Rattle.walrus_code.specs.Names
+pub use Rattle.walrus_code.specs.Transform
 pub use Rattle.walrus_bodies.specs.Blocks

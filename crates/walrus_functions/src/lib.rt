@@ -13,4 +13,4 @@ mod tag_and_try;
 
 pub use emit::{EmittedBody, emit_body};
 pub use law::{bodies_read_once, declared_in_one_order, locals_move, unwritable_is_ill_formed};
-pub use read::read_body;
+pub use read::{add_locals, read_body};

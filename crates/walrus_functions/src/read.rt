@@ -69,8 +69,8 @@ pub fn read_body<L: Fn(&usize) -> InstrLocId>(
     Ok(function)
 }
 
-// Adds a local of each type, in order.
-fn add_locals(
+/// Adds a local of each type, in order. Where memory runs out, those that were added stay.
+pub fn add_locals(
     alloc: Global,
     types: &[ValType],
     module_locals: &mut ModuleLocals,

@@ -4,9 +4,9 @@
 
 pub use walrus_base::{
     ArenaIter, CustomSectionKey, DataId, DataKey, ElementId, ElementKey, ExportId, ExportKey,
-    FunctionId, FunctionKey, GlobalId, GlobalKey, Id, IdHashSet, ImportId, ImportKey, LocalId,
-    LocalKey, Marks, MemoryId, MemoryKey, TableId, TableKey, TagId, TagKey, TombstoneArena, TypeId,
-    TypeKey, UntypedCustomSectionId,
+    FunctionId, FunctionKey, GlobalId, GlobalKey, Id, IdHashSet, IdHashSetIter, ImportId,
+    ImportKey, LocalId, LocalKey, Marks, MarksIter, MemoryId, MemoryKey, TableId, TableKey, TagId,
+    TagKey, TombstoneArena, TypeId, TypeKey, UntypedCustomSectionId,
 };
 pub use walrus_bodies::Features;
 pub use walrus_builder::{FunctionBuilder, InstrSeqBuilder};
@@ -14,7 +14,7 @@ pub use walrus_code::{
     Arg, Args, BlockType, IdsToIndices, IndexSpace, IndicesToIds, InstrLocId, IrError, ItemId,
     LocalFunction, LocalNumbers, Numbering, Operator,
 };
-pub use walrus_functions::{EmittedBody, emit_body, read_body};
+pub use walrus_functions::{EmittedBody, add_locals, emit_body, read_body};
 pub use walrus_types::{
     AbstractHeapType, ArrayType, CompositeType, ConstExpr, ConstOp, FieldType, FunctionType,
     GroupIds, HeapType, Local, LocalIter, ModuleLocals, ModuleTypes, NewType, RefType, StorageType,

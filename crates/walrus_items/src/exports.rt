@@ -144,6 +144,19 @@ impl Items<ExportKey, Export> {
         }
     }
 
+    /// The id, which is its place, of the first export of this item.
+    pub fn first_id_of(&self, item: ExportItem) -> Option<ExportId>
+        ensures { option_map place result ≡ option_map (λ e. e.0)
+            (first (exports_item (exported item)) (exports self.now)) }
+    {
+        for (at, export) in self.arena.iter() {
+            if export.item.is_same(item) {
+                return Some(at);
+            }
+        }
+        None
+    }
+
     // The first export of this item.
     fn first_of(&self, item: ExportItem) -> Option<&Export>
         ensures { option_map (λ e. export_value e.now) result ≡ option_map (λ e. e.1)

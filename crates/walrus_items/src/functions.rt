@@ -14,7 +14,13 @@ use std::alloc::{AllocError, Global};
 use std::result;
 use walrus_base::{ArenaIter, FunctionId, FunctionKey, ImportId, TombstoneArena, TypeId};
 use walrus_ir::LocalFunction;
-use walrus_parts::{FunctionKind, ImportedFunction, Result};
+use walrus_parts::{FunctionKind, ImportedFunction, Result, ValType};
+
+/// The types of a function's parameters, in order.
+pub type FuncParams = Vec<ValType>;
+
+/// The types of a function's results, in order.
+pub type FuncResults = Vec<ValType>;
 
 /// A function of a module.
 #[derive(Drop)]

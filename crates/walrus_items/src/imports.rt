@@ -7,6 +7,7 @@ ghost use Rattle.walrus_base.specs.Id.{place};
 ghost use Rattle.walrus_base.specs.Arena.{HasRoom, item_at, IsLive, items, entries};
 ghost use Rattle.walrus_types.specs.Operators.{function_item};
 ghost use Rattle.walrus_parts.specs.Errors.{out_of_memory};
+ghost use Rattle.walrus_parts.specs.Kinds.{imported};
 ghost use Rattle.walrus_items.specs.Keeping.{kept_slot, kept_where};
 ghost use Rattle.walrus_items.specs.Searches.{first, RemovesFound};
 
@@ -136,6 +137,19 @@ impl Items<ImportKey, Import> {
             }
         }
         Err(Error::NotFound)
+    }
+
+    /// The id, which is its place, of the first import of this item.
+    pub fn first_id_of(&self, kind: ImportKind) -> Option<ImportId>
+        ensures { option_map place result ≡ option_map (λ e. e.0)
+            (first (imports_item (imported kind)) (imports self.now)) }
+    {
+        for (at, import) in self.arena.iter() {
+            if import.kind.is_same(kind) {
+                return Some(at);
+            }
+        }
+        None
     }
 
     /// The first import of this function.

@@ -17,7 +17,10 @@ mod tags;
 pub use data::{Data, DataEntries, DataIter, ModuleData};
 pub use elements::{Element, ElementEntries, ElementIter, ModuleElements};
 pub use exports::{Export, ExportEntries, ExportIter, ModuleExports};
-pub use functions::{Function, FunctionEntries, FunctionIter, LocalFunctionIter, ModuleFunctions};
+pub use functions::{
+    FuncParams, FuncResults, Function, FunctionEntries, FunctionIter, LocalFunctionIter,
+    ModuleFunctions,
+};
 pub use globals::{Global, GlobalEntries, GlobalIter, ModuleGlobals};
 pub use imports::{Import, ImportEntries, ImportIter, ModuleImports};
 pub use items::{Fresh, Item, ItemEntries, ItemIter, Items, Marked};

@@ -34,6 +34,7 @@ pub mod Imported
 pub mod RulesCarried
 pub use Rattle.walrus_functions.specs.EmittedBody
 pub use Rattle.walrus_functions.specs.Blocks
+pub use Rattle.walrus_functions.specs.BodyRead
 pub use Rattle.walrus_functions.specs.FunctionTypes
 pub use Rattle.walrus_groups.specs.Groups
 pub use Rattle.walrus_functions.specs.Handlers as BlockHandlers

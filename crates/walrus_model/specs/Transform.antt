@@ -2,15 +2,10 @@
 use Rattle.std.specs.Prelude.{ℕ, Bool, true, false, List, [], length, Some, IsSome, Contains, AllPairs, slice_get, ◌≡◌, ◌≢◌, ◌+◌, ◌<◌, ◌≤◌, ◌⊎◌, ◌↔◌}
 use Rattle.wasm_frames.specs.Record as wire
 use Rattle.walrus_types.specs.Operators.{Functions}
+use Rattle.walrus_functions.specs.Transform.{Transform}
 use Rattle.walrus_model.specs.Abstract.{Abstract}
 use Rattle.walrus_model.specs.Renaming.{Renaming}
 use Rattle.walrus_model.specs.Names.{body_of}
-
--- each function with the range of its body; where the code begins; each location with its place
-pub record Transform : Type 0 where
-  pub function_ranges : List (ℕ × (ℕ × ℕ))
-  pub code_section_start : ℕ
-  pub instruction_map : List (ℕ × ℕ)
 
 abbrev pub no_transform : Transform
 no_transform = record { function_ranges = []; code_section_start = 0; instruction_map = [] }

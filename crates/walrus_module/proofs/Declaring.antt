@@ -31,6 +31,7 @@ use Rattle.walrus_rules.proofs.SegmentStep.{live_too, live_undeclared, the_segme
 use Rattle.walrus_rules.proofs.StepLeaves.{Between, between, is_segment, nothing_undeclared}
 use Rattle.walrus_module.specs.Left.{AddsDeclared, AndOne, AsTheyWere, ChangesElements}
 use Rattle.walrus_module.specs.View.{contents_of}
+use Rattle.walrus_module.specs.declared.entry.SectionEntry.{SectionEntry}
 use Rattle.walrus_module.specs.declared.module.Module.{Module}
 
 -- ---- slots with one more behind
@@ -215,9 +216,9 @@ segments_own old new (AndOne functions is) h =
     subst (λ (slots : List (Option ElementValue)). AtOwnIds (λ (e : ElementValue). e.id) slots) (sym is)
     (own_behind (λ (e : ElementValue). e.id) old (declaring (length old) functions) refl h)
 
-module _ {V : Type 0} {O : V → Type 0} (old new : Module V O) (others : ChangesElements old new) (adds : AddsDeclared (elements_in old.elements) (elements_in new.elements)) where
+module _ {V : Type 0} {O : V → Type 0} (old new : Module (SectionEntry V O)) (others : ChangesElements old new) (adds : AddsDeclared (elements_in old.elements) (elements_in new.elements)) where
   pub ids_left : ItemsAtOwnIds (contents_of old) → ItemsAtOwnIds (contents_of new)
-  ids_left h = subst (λ (m : Module V O). ItemsAtOwnIds (contents_of m)) (sym others) (record {
+  ids_left h = subst (λ (m : Module (SectionEntry V O)). ItemsAtOwnIds (contents_of m)) (sym others) (record {
     functions = h.functions;
     exports = h.exports;
     locals = h.locals;

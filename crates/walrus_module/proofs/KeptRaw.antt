@@ -49,7 +49,7 @@ module _ {V : Type 0} {O : V → Type 0} (G : (v : V) → Ghosts (O v)) where
   raw_means raws = mean_from 0 raws
 
   -- the module that holds what was read, with the custom sections that are kept of it
-  pub raw_view : (found : ReadModule) (m : Module V O) → contents_of m ≡ found.contents → customs.sections m.customs ≡ raw_sections found.customs.items → view G m ≡ read_view found
+  pub raw_view : (found : ReadModule) (m : Module (SectionEntry V O)) → contents_of m ≡ found.contents → customs.sections m.customs ≡ raw_sections found.customs.items → view G m ≡ read_view found
   raw_view found m holds are =
       let raws : List RawCustomSection = found.customs.items in
       let means : map (meaning G) (items (customs.sections m.customs)) ≡ map raw_meaning raws = ap (λ ss. map (meaning G) (items ss)) are ∙ raw_means raws in
@@ -59,11 +59,11 @@ module _ {V : Type 0} {O : V → Type 0} (G : (v : V) → Ghosts (O v)) where
       ∙ ap (λ (l : List Item). with_own (contents_view found.contents) (map sections.custom_of (map section_seen raws)) (filter (λ (x : Item). can_be_kept x.0) l)) (raw_asks raws)
 
   -- a module that holds such sections alone has none that may refuse
-  pub none_refuses : (m : Module V O) (raws : List RawCustomSection) → customs.sections m.customs ≡ raw_sections raws → OneMayRefuse (meanings G m) → ⊥
+  pub none_refuses : (m : Module (SectionEntry V O)) (raws : List RawCustomSection) → customs.sections m.customs ≡ raw_sections raws → OneMayRefuse (meanings G m) → ⊥
   none_refuses m raws are one =
       let means : meanings G m ≡ map raw_meaning raws = ap (λ ss. map (meaning G) (items ss)) are ∙ raw_means raws in
       let raw : OneMayRefuse (map raw_meaning raws) = subst OneMayRefuse means one in
       not_both raw.0.may_refuse (each_in (λ (s : Meaning). s.may_refuse ≡ false) (map raw_meaning raws) raw.0 (raw_answers raws) raw.1) raw.2
 
-  pub none_asked_refuses : (m : Module V O) (raws : List RawCustomSection) → customs.sections m.customs ≡ raw_sections raws → OneAskedMayRefuse (meanings G m) → ⊥
+  pub none_asked_refuses : (m : Module (SectionEntry V O)) (raws : List RawCustomSection) → customs.sections m.customs ≡ raw_sections raws → OneAskedMayRefuse (meanings G m) → ⊥
   none_asked_refuses m raws are one = none_refuses m raws are (one.0, one.1, one.3)

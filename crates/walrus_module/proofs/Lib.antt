@@ -5,3 +5,4 @@ pub mod Declaring
 pub mod OwnSections
 pub mod WellWritten
 pub mod CountedBodies
+pub mod ReplacedLemmas

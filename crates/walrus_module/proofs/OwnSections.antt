@@ -18,6 +18,7 @@ use Rattle.walrus_rules.proofs.SameItems.{dead_back, dead_on, with_own}
 use Rattle.walrus_module.specs.Asked.{IsRefusedBy}
 use Rattle.walrus_module.specs.Left.{ChangesElements, LeavesBy}
 use Rattle.walrus_module.specs.View.{held_view, view}
+use Rattle.walrus_module.specs.declared.entry.SectionEntry.{SectionEntry}
 use Rattle.walrus_module.specs.declared.module.Module.{Module}
 
 -- ---- the declared segment
@@ -55,9 +56,9 @@ leaves_on v u customs roots leaves = record {
 
 -- ---- where nothing but element segments changes, custom sections stay
 
-module _ {V : Type 0} {O : V → Type 0} (G : (v : V) → Ghosts (O v)) (old new : Module V O) (others : ChangesElements old new) where
+module _ {V : Type 0} {O : V → Type 0} (G : (v : V) → Ghosts (O v)) (old new : Module (SectionEntry V O)) (others : ChangesElements old new) where
   own_stay : with_own (held_view new) (view G old).customs (view G old).section_roots ≡ view G new
-  own_stay = ap (λ (m : Module V O). with_own (held_view new) (view G m).customs (view G m).section_roots) (sym others)
+  own_stay = ap (λ (m : Module (SectionEntry V O)). with_own (held_view new) (view G m).customs (view G m).section_roots) (sym others)
 
   pub module_leaves : Leaves (held_view old) (held_view new) → Leaves (view G old) (view G new)
   module_leaves leaves = subst (λ (x : Abstract). Leaves (view G old) x) own_stay (leaves_on (held_view old) (held_view new) (view G old).customs (view G old).section_roots leaves)

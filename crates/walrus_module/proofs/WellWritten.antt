@@ -22,6 +22,7 @@ use Rattle.walrus_module.specs.Laws.{EmitsAgain, UnsayableIsOpen}
 use Rattle.walrus_module.specs.Left.{LeavesBy}
 use Rattle.walrus_module.specs.Settings.{settings}
 use Rattle.walrus_module.specs.View.{meanings, view}
+use Rattle.walrus_module.specs.declared.entry.SectionEntry.{SectionEntry}
 use Rattle.walrus_module.specs.declared.module.Module.{Module}
 use Rattle.walrus_module.proofs.Declaring.{leaves_nothing}
 
@@ -103,12 +104,12 @@ module _ {V : Type 0} {O : V → Type 0} (G : (v : V) → Ghosts (O v)) where
       let A = OneAskedMayRefuse (meanings G middle) in
       let same : new ≡ middle = two.settled (leaves_nothing (view G old) (view G middle) one.left) in
       let kept : settings middle ≡ settings old = ap settings one.others in
-      let says : IsSayable (view G middle) = subst (λ (m : Module V O). IsSayable (view G m)) (sym one.others) sayable in
+      let says : IsSayable (view G middle) = subst (λ (m : Module (SectionEntry V O)). IsSayable (view G m)) (sym one.others) sayable in
       let emitted : IfOk second (λ bytes. IsEmitted c (view G middle) bytes.items) =
-      subst (λ (m : Module V O). IfOk second (λ bytes. IsEmitted c (view G m) bytes.items)) same
+      subst (λ (m : Module (SectionEntry V O)). IfOk second (λ bytes. IsEmitted c (view G m) bytes.items)) same
       (subst (λ (f : Flags). IfOk second (λ bytes. IsEmitted (config_of f) (view G new) bytes.items)) kept two.emitted) in
       let refused : RefusesToWrite A c (view G middle) (told second) =
-      subst (λ (m : Module V O). RefusesToWrite A c (view G m) (told second)) same
+      subst (λ (m : Module (SectionEntry V O)). RefusesToWrite A c (view G m) (told second)) same
       (subst (λ (f : Flags). RefusesToWrite A (config_of f) (view G new) (told second)) kept two.refused) in
       (same, answered_again A c (view G middle) one.refused says first.items second one.emitted emitted refused)
 
@@ -117,6 +118,6 @@ module _ {V : Type 0} {O : V → Type 0} (G : (v : V) → Ghosts (O v)) where
     left = said.left;
     others = said.others;
     settled = said.settled;
-    emitted = λ sayable. absurd (not (subst (λ (m : Module V O). IsSayable (view G m)) said.others sayable));
+    emitted = λ sayable. absurd (not (subst (λ (m : Module (SectionEntry V O)). IsSayable (view G m)) said.others sayable));
     refused = said.refused;
   }

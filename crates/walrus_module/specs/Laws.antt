@@ -21,6 +21,7 @@ use Rattle.walrus_module.specs.Flags.{config_of}
 use Rattle.walrus_module.specs.Left.{ChangesElements, LeavesBy}
 use Rattle.walrus_module.specs.Settings.{settings}
 use Rattle.walrus_module.specs.View.{meanings, view}
+use Rattle.walrus_module.specs.declared.entry.SectionEntry.{SectionEntry}
 use Rattle.walrus_module.specs.declared.module.Module.{Module}
 
 -- ---- bodies
@@ -37,7 +38,7 @@ AbsentIsUncounted = (all : ModuleLocals) (f : LocalFunction) (x : ℕ) → local
 
 module _ {V : Type 0} {O : V → Type 0} (G : (v : V) → Ghosts (O v)) where
   -- what a call of emission says of the module before and after it, and of its answer: its clauses of these names
-  pub record Emits (old new : Module V O) (result : Result (Vec ℕ) Error) : Type 0 where
+  pub record Emits (old new : Module (SectionEntry V O)) (result : Result (Vec ℕ) Error) : Type 0 where
     pub left : LeavesBy (view G old) (view G new) (told result)
     pub others : ChangesElements old new
     pub settled : NothingUndeclared (view G old) → new ≡ old
@@ -48,10 +49,10 @@ module _ {V : Type 0} {O : V → Type 0} (G : (v : V) → Ghosts (O v)) where
   -- is asked refuses. No custom section of its own is called as the name or the producers section is.
   abbrev pub EmitsAgain : Type 0
   EmitsAgain =
-      (old middle new : Module V O) (first : Vec ℕ) (second : Result (Vec ℕ) Error) → IsSayable (view G old)
+      (old middle new : Module (SectionEntry V O)) (first : Vec ℕ) (second : Result (Vec ℕ) Error) → IsSayable (view G old)
       → Emits old middle (Ok first) → Emits middle new second
       → (new ≡ middle) × WritesUnless ⊥ (OneAskedMayRefuse (meanings G middle)) (λ bytes. bytes.items ≡ first.items) (told second)
 
   -- where one is called so, the clauses that hold of the bytes hold of any others: they tell nothing of them
   abbrev pub UnsayableIsOpen : Type 0
-  UnsayableIsOpen = (old new : Module V O) (first other : Vec ℕ) → (IsSayable (view G old) → ⊥) → Emits old new (Ok first) → Emits old new (Ok other)
+  UnsayableIsOpen = (old new : Module (SectionEntry V O)) (first other : Vec ℕ) → (IsSayable (view G old) → ⊥) → Emits old new (Ok first) → Emits old new (Ok other)

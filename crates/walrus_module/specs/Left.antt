@@ -30,5 +30,5 @@ pub data AddsDeclared (old new : List (Option ElementValue)) : Type 0 where
   AndOne : (functions : Vec (Id FunctionKey)) → new ≡ old ++ Some (record { id = length old; kind = Declared; items = Functions functions; name = None }) ∷ [] → AddsDeclared old new
 
 -- all but the element segments stays
-abbrev pub ChangesElements : {V : Type 0} {O : V → Type 0} → Module V O → Module V O → Type 0
+abbrev pub ChangesElements : {S : Type 0} → Module S → Module S → Type 0
 ChangesElements old new = new ≡ record old { elements = new.elements }

@@ -9,6 +9,7 @@ pub mod Left
 pub mod LendsSection
 pub mod Meaning
 pub mod Raws
+pub mod Replaced
 pub mod Settings
 pub mod View
 pub mod OnlyMemory

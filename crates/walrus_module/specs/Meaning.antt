@@ -3,7 +3,7 @@ use Rattle.std.specs.Prelude.{ℕ, Bool, false, List, []}
 use Rattle.std.specs.String.{string_bytes}
 use Rattle.walrus_types.specs.Operators.{Item}
 use Rattle.walrus_code.specs.Names.{Lookup}
-use Rattle.walrus_parts.specs.Transform.{Transform}
+use Rattle.walrus_code.specs.Transform.{Transform}
 use Rattle.walrus_parts.specs.declared.custom.CustomSection.{Ghosts}
 use Rattle.walrus_parts.specs.declared.raw_section.RawCustomSection.{RawCustomSection}
 use Rattle.walrus_module.specs.declared.entry.SectionEntry.{SectionEntry}

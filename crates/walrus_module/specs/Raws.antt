@@ -25,7 +25,7 @@ module _ {V : Type 0} {O : V → Type 0} where
 
   -- The custom sections of the module are kept as they were read: of those that the bytes frame, all but names, producers and debug information,
   -- in their order.
-  pub record KeepsRead (bytes : List ℕ) (m : Module V O) : Type 0 where
+  pub record KeepsRead (bytes : List ℕ) (m : Module (SectionEntry V O)) : Type 0 where
     pub raws : List RawCustomSection
     pub are : sections m.customs ≡ raw_sections raws
     pub kept : KeepsCustoms bytes raws

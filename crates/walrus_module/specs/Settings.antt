@@ -2,7 +2,7 @@
 use Rattle.walrus_module.specs.Flags.{Flags, flags}
 use Rattle.walrus_module.specs.declared.module.Module.{Module}
 
-module _ {V : Type 0} {O : V → Type 0} where
+module _ {S : Type 0} where
   -- the flags of the module's configuration
-  abbrev pub settings : Module V O → Flags
+  abbrev pub settings : Module S → Flags
   settings m = flags m.config

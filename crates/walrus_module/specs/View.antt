@@ -12,9 +12,9 @@ use Rattle.walrus_contents.specs.View.{HoldsNothing, contents_view}
 use Rattle.walrus_contents.specs.declared.parts.Contents.{Contents}
 use Rattle.walrus_module.specs.declared.module.Module.{Module}
 
-module _ {V : Type 0} {O : V → Type 0} where
+module _ {S : Type 0} where
   -- what it holds, custom sections aside
-  abbrev pub contents_of : Module V O → Contents
+  abbrev pub contents_of : Module S → Contents
   contents_of m = record {
     types = m.types;
     locals = m.locals;
@@ -33,19 +33,20 @@ module _ {V : Type 0} {O : V → Type 0} where
   }
 
   -- the module of that
-  abbrev pub held_view : Module V O → Abstract
+  abbrev pub held_view : Module S → Abstract
   held_view m = contents_view (contents_of m)
 
+module _ {V : Type 0} {O : V → Type 0} where
   -- its custom sections, by their ids
-  abbrev pub customs_of : Module V O → List (SectionEntry V O)
+  abbrev pub customs_of : Module (SectionEntry V O) → List (SectionEntry V O)
   customs_of m = items (sections m.customs)
 
   -- it has no custom sections, dropped ones included
-  abbrev pub HasNoCustoms : Module V O → Type 0
+  abbrev pub HasNoCustoms : Module (SectionEntry V O) → Type 0
   HasNoCustoms m = sections m.customs ≡ []
 
   -- it holds nothing, dropped items included
-  abbrev pub IsEmpty : Module V O → Type 0
+  abbrev pub IsEmpty : Module (SectionEntry V O) → Type 0
   IsEmpty m = HoldsNothing (contents_of m) × HasNoCustoms m
 
 -- a section can ask to keep items of this space: neither types nor segments
@@ -69,8 +70,8 @@ kept_by ss = filter (λ (x : Item). can_be_kept x.0) (flat_map (λ (s : Meaning)
 
 module _ {V : Type 0} {O : V → Type 0} (G : (v : V) → Ghosts (O v)) where
   -- what the custom sections of a module mean, by their ids
-  abbrev pub meanings : Module V O → List Meaning
+  abbrev pub meanings : Module (SectionEntry V O) → List Meaning
   meanings m = map (meaning G) (customs_of m)
 
-  abbrev pub view : Module V O → Abstract
+  abbrev pub view : Module (SectionEntry V O) → Abstract
   view m = record (held_view m) { customs = map custom_of (meanings m); section_roots = kept_by (meanings m) }

@@ -19,7 +19,7 @@ use walrus_ir::{RefType, ValType};
 use walrus_items::ImportKind;
 use walrus_parts::Result;
 
-impl Module {
+impl<S> Module<S> {
     /// Imports a function of this type by the name of its module and its own. Answers the ids of the function and of the import,
     /// which name each other. `Memory` is the only error; then nothing changes.
     pub fn add_import_func(

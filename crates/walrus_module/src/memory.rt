@@ -10,7 +10,7 @@ use crate::module::Module;
 use walrus_base::MemoryId;
 use walrus_parts::{Error, Result};
 
-impl Module {
+impl<S> Module<S> {
     /// The own id of the module's only memory, exported or not: `NoMemory` where there is none, `SeveralMemories` where there are more.
     pub fn get_memory_id(&self) -> Result<MemoryId>
         ensures { result_map_both place (λ e. e) result

@@ -1,6 +1,7 @@
 //! The module in memory.
 
 ghost use Rattle.std.specs.Prelude.{◌≡◌, IfOk, IfErr, IsOkUnless};
+ghost use Rattle.walrus_base.specs.Arena.{items};
 ghost use Rattle.walrus_parts.specs.Errors.{out_of_memory};
 
 use crate::config::ModuleConfig;
@@ -10,15 +11,16 @@ use std::alloc::Global;
 use walrus_contents::Contents;
 use walrus_ir::{FunctionId, ModuleLocals, ModuleTypes};
 use walrus_items::{
-    ModuleData, ModuleElements, ModuleExports, ModuleFunctions, ModuleGlobals, ModuleImports,
-    ModuleMemories, ModuleTables, ModuleTags,
+    FunctionIter, ModuleData, ModuleElements, ModuleExports, ModuleFunctions, ModuleGlobals,
+    ModuleImports, ModuleMemories, ModuleTables, ModuleTags,
 };
 use walrus_parts::{CustomSection, Result};
 use walrus_producers::ModuleProducers;
 
-/// A WebAssembly module ("Structure > Modules"). Its items are named by ids, which stay when other items come and go.
+/// A WebAssembly module ("Structure > Modules"). Its items are named by ids, which stay when other items come and go. `S` is what its
+/// custom sections are: what doesn't look at them is there for each.
 #[derive(Drop)]
-pub struct Module {
+pub struct Module<S = SectionEntry> {
     /// The imports.
     pub imports: ModuleImports,
     /// The tables.
@@ -48,8 +50,19 @@ pub struct Module {
     /// The module's name, if it has one (Appendix > Custom Sections > Name Section).
     pub name: Option<String>,
     /// The custom sections.
-    pub customs: ModuleCustomSections,
+    pub customs: ModuleCustomSections<S>,
     pub(crate) config: ModuleConfig,
+}
+
+impl<S> Module<S> {
+    ghost use Rattle.walrus_items.specs.Functions.{functions, functions_left};
+
+    /// The functions, imported ones too, by rising id.
+    pub fn functions(&self) -> FunctionIter<'_>
+        ensures { functions_left result ≡ items (functions self.now.funcs) }
+    {
+        self.funcs.iter()
+    }
 }
 
 impl Module {

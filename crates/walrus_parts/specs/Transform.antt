@@ -1,19 +1,15 @@
 -- What emission tells of the places in the bytes that it wrote.
-use Rattle.std.specs.Prelude.{ℕ, List, map}
+use Rattle.std.specs.Prelude.{ℕ, map}
 use Rattle.std.specs.declared.ops.Range.{Range}
 use Rattle.walrus_base.specs.declared.id.Id.{Id}
 use Rattle.walrus_base.specs.declared.keys.FunctionKey.{FunctionKey}
 use Rattle.walrus_base.specs.Id.{place}
 use Rattle.walrus_code.specs.Location.{location}
+use Rattle.walrus_code.specs.Transform.{Transform}
 use Rattle.walrus_code.specs.declared.location.InstrLocId.{InstrLocId}
 use Rattle.walrus_parts.specs.declared.transform.CodeTransform.{CodeTransform}
 
--- the place of a function's id with the start and the end of its body; where the code begins; a location with a place
-pub record Transform : Type 0 where
-  pub function_ranges : List (ℕ × (ℕ × ℕ))
-  pub code_section_start : ℕ
-  pub instruction_map : List (ℕ × ℕ)
-
+-- the place of a function's id with the start and the end of its body
 abbrev pub range_of : Id FunctionKey × Range ℕ → ℕ × (ℕ × ℕ)
 range_of r = (place r.0, (r.1.start, r.1.end))
 

@@ -4,7 +4,8 @@ ghost use Rattle.walrus_types.specs.Operators.{Item};
 ghost use Rattle.walrus_code.specs.Indices.{index_of};
 ghost use Rattle.walrus_code.specs.Names.{Lookup};
 ghost use Rattle.walrus_parts.specs.Roots.{with_roots};
-ghost use Rattle.walrus_parts.specs.Transform.{Transform, transform_of};
+ghost use Rattle.walrus_code.specs.Transform.{Transform};
+ghost use Rattle.walrus_parts.specs.Transform.{transform_of};
 ghost use Rattle.walrus_parts.specs.Section.{FailsAsSection};
 
 use crate::error::Result;

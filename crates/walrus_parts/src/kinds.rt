@@ -2,7 +2,7 @@
 ghost use Rattle.std.specs.Prelude.{◌≡◌};
 ghost use Rattle.walrus_code.specs.Code.{item_of};
 ghost use Rattle.walrus_parts.specs.Items.{is_item};
-ghost use Rattle.walrus_parts.specs.Kinds.{exported};
+ghost use Rattle.walrus_parts.specs.Kinds.{exported, imported};
 ghost use Rattle.walrus_parts.specs.declared.kinds.ExportItem.TheVariants as exports;
 ghost use Rattle.walrus_parts.specs.declared.kinds.ImportKind.TheVariants as imports;
 
@@ -21,6 +21,22 @@ pub enum ImportKind {
     Global(GlobalId),
     /// A tag.
     Tag(TagId),
+}
+
+impl ImportKind {
+    /// Whether it is the same item.
+    pub fn is_same(self, other: ImportKind) -> bool
+        ensures { result ≡ is_item (imported self) (imported other) }
+    {
+        match (self, other) {
+            (ImportKind::Function(one), ImportKind::Function(id)) => one == id,
+            (ImportKind::Table(one), ImportKind::Table(id)) => one == id,
+            (ImportKind::Memory(one), ImportKind::Memory(id)) => one == id,
+            (ImportKind::Global(one), ImportKind::Global(id)) => one == id,
+            (ImportKind::Tag(one), ImportKind::Tag(id)) => one == id,
+            _ => false,
+        }
+    }
 }
 
 impl From<FunctionId> for ImportKind {

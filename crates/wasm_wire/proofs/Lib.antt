@@ -5,3 +5,4 @@ pub mod Names
 pub mod Totals
 pub mod ModuleFramed
 pub mod ModuleWritten
+pub mod ModuleMeasured

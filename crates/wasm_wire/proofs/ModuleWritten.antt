@@ -26,7 +26,7 @@ tried (Err Malformed) s h = h
 tried (Err (Memory e)) s h = h
 tried (Err TooLarge) s h = h
 
-tried_err : (e : WireError) (part fits : Type 0) → (fits → part) → Tried (Err e) part → Tried (Err e) fits
+pub tried_err : (e : WireError) (part fits : Type 0) → (fits → part) → Tried (Err e) part → Tried (Err e) fits
 tried_err Malformed part fits f h = h
 tried_err (Memory m) part fits f h = h
 tried_err TooLarge part fits f h = λ k. h (f k)
@@ -99,7 +99,7 @@ custom_stopped r e xs i d old new bytes old' new' ss within f w given =
 abbrev pub group_bytes : CustomGroup → List RawCustom → List ℕ
 group_bytes g xs = all_spelled (map CustomSection (group_of g (map custom_record xs)))
 
-group-append : (g : CustomGroup) (xs ys : List RawCustom) → group_bytes g (xs ++ ys) ≡ group_bytes g xs ++ group_bytes g ys
+pub group-append : (g : CustomGroup) (xs ys : List RawCustom) → group_bytes g (xs ++ ys) ≡ group_bytes g xs ++ group_bytes g ys
 group-append g xs ys =
     ap (λ (l : List Custom). all_spelled (map CustomSection (group_of g l))) (map-append custom_record xs ys)
     ∙ ap (λ (l : List Custom). all_spelled (map CustomSection l)) (filter-append (λ (c : Custom). is_in g c.name) (map custom_record xs) (map custom_record ys))

@@ -6,7 +6,8 @@ use Rattle.wasm_forms.specs.declared.error.WireError.{WireError}
 use Rattle.wasm_forms.specs.declared.error.WireError.TheVariants.{Malformed, Memory, TooLarge}
 use Rattle.wasm_frames.specs.Record.{Custom, Module}
 use Rattle.wasm_frames.specs.Frames.{Section, CustomSection, Types, Imports, Functions, Tables, Memories, Globals, Exports, Start, Elements, Code, DataSegments, DataCount, Tags, id_of, header, Frames}
-use Rattle.wasm_writer.specs.Spelling.{all_spelled, SectionFits, SectionStands, first_body, placed_bodies}
+use Rattle.wasm_writer.specs.declared.places.CodePlaces.{CodePlaces}
+use Rattle.wasm_writer.specs.Spelling.{all_spelled, SectionFits, SectionStands, count_place, first_body, placed_bodies, range_of}
 use Rattle.wasm_wire.specs.declared.written.CustomGroup.{CustomGroup}
 use Rattle.wasm_wire.specs.declared.written.CustomGroup.TheVariants.{Dylink, Names, Producers, Others}
 
@@ -134,6 +135,13 @@ as_written m = record m {
   bodies = placed_bodies (first_body (code_place m) m.bodies) m.bodies;
   customs = group_of Dylink m.customs ++ group_of Names m.customs ++ group_of Producers m.customs ++ group_of Others m.customs;
 }
+
+-- told: where the parts of the code section stand in the module's bytes, and it fits; too large: it doesn't fit; for want of memory: it fits
+abbrev pub TellsPlaces : Result CodePlaces WireError → Module → Type 0
+TellsPlaces (Ok p) m = (p.count ≡ count_place (code_place m) m.bodies) × (p.bodies.items ≡ map range_of (as_written m).bodies) × ModuleFits m
+TellsPlaces (Err Malformed) m = ⊥
+TellsPlaces (Err (Memory e)) m = ModuleFits m
+TellsPlaces (Err TooLarge) m = ModuleFits m → ⊥
 
 -- the bytes of a module that fits and stands are framed as that module
 abbrev pub ModuleFrames : Type 0

@@ -2,9 +2,11 @@
 //! the payloads of names and producers.
 #![tactic(auto)]
 
+mod places;
 mod rules;
 mod written;
 
+pub use places::code_places;
 pub use rules::{Counts, check};
 pub use wasm_entries::{
     RawComp, RawConst, RawData, RawDataMode, RawDesc, RawElement, RawElementMode, RawExport,

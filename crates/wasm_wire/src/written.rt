@@ -1,14 +1,14 @@
 //! Writing a whole module (Binary Format > Modules).
 
-ghost use Rattle.std.specs.Prelude.{◌≡◌, All, IfSome, map};
+ghost use Rattle.std.specs.Prelude.{◌≡◌, All, IfSome, length, map, sum};
 ghost use Rattle.wasm_frames.specs.Record.{sections, custom_record};
 ghost use Rattle.wasm_frames.specs.Frames.{CustomSection, Start, DataCount};
 ghost use Rattle.wasm_writer.specs.Measuring.{Tells};
-ghost use Rattle.wasm_writer.specs.Spelling.{SectionFits};
+ghost use Rattle.wasm_writer.specs.Spelling.{all_spelled, SectionFits};
 ghost use Rattle.wasm_writer.specs.Writing.{written};
 ghost use Rattle.wasm_wire.specs.ModuleSpelling.{is_debug_name, is_in, group_of, if_given, up_to_globals, before_code, sections_in_order};
 ghost use Rattle.wasm_wire.specs.ModuleSpelling.{ModuleFits, WritesModule, ModuleFrames};
-ghost use Rattle.wasm_wire.specs.ModuleWriting.{Tried, Appends};
+ghost use Rattle.wasm_wire.specs.ModuleWriting.{front_of, IsUnlessHuge, Tried, TellsLen, Appends};
 
 use std::alloc::Global;
 use wasm_forms::WireError;
@@ -53,7 +53,8 @@ pub fn is_debug(name: &str) -> bool
 
 /// How many bytes the start section has, none where there is none.
 fn start_len(start: Option<u32>) -> Result<usize, WireError>
-    ensures { Tried result (IfSome start (λ f. SectionFits (Start f))) }
+    ensures { TellsLen result (length (all_spelled (if_given Start start)))
+        (IfSome start (λ f. SectionFits (Start f))) }
 {
     match start {
         Some(function) => measure(&Section::Start(function)),
@@ -63,7 +64,8 @@ fn start_len(start: Option<u32>) -> Result<usize, WireError>
 
 /// How many bytes the data count section has, none where there is none.
 fn data_count_len(count: Option<u32>) -> Result<usize, WireError>
-    ensures { Tried result (IfSome count (λ n. SectionFits (DataCount n))) }
+    ensures { TellsLen result (length (all_spelled (if_given DataCount count)))
+        (IfSome count (λ n. SectionFits (DataCount n))) }
 {
     match count {
         Some(number) => measure(&Section::DataCount(number)),
@@ -72,7 +74,7 @@ fn data_count_len(count: Option<u32>) -> Result<usize, WireError>
 }
 
 /// How many bytes a custom section has.
-fn custom_len(custom: &RawCustom<'_>) -> Result<usize, WireError>
+pub(crate) fn custom_len(custom: &RawCustom<'_>) -> Result<usize, WireError>
     ensures { Tells result (CustomSection (custom_record custom.now)) }
 {
     measure(&Section::Custom {
@@ -94,15 +96,20 @@ fn customs_len(customs: &[RawCustom<'_>]) -> Result<usize, WireError>
 }
 
 /// The lengths together, as far as a `usize` can tell it.
-fn total_len(lengths: &[usize]) -> usize {
-    lengths
-        .iter()
-        .fold(0, |total: usize, len| total.saturating_add(*len))
+pub(crate) fn total_len(lengths: &[usize]) -> usize
+    ensures { IsUnlessHuge result (sum lengths.now) }
+{
+    let mut total: usize = 0;
+    'lengths: for len in lengths {
+        total = total.saturating_add(*len);
+    }
+    total
 }
 
-/// How many bytes the sections have, as far as a `usize` can tell it. It takes no memory.
-fn sections_len(raw: &Raw<'_>) -> Result<usize, WireError>
-    ensures { Tried result (ModuleFits (sections raw.now)) }
+/// How many bytes what isn't custom has up to the code section, as far as a `usize` can tell it. It takes no memory.
+pub(crate) fn before_code_len(raw: &Raw<'_>) -> Result<usize, WireError>
+    ensures { TellsLen result (length (all_spelled (before_code (sections raw.now))))
+        (ModuleFits (front_of (sections raw.now))) }
 {
     let types = measure(&Section::Types(&raw.types))?;
     let imports = measure(&Section::Imports(&raw.imports))?;
@@ -115,13 +122,21 @@ fn sections_len(raw: &Raw<'_>) -> Result<usize, WireError>
     let start = start_len(raw.start)?;
     let elements = measure(&Section::Elements(&raw.elements))?;
     let data_count = data_count_len(raw.data_count)?;
+    Ok(total_len(&[
+        types, imports, functions, tables, memories, tags, globals, exports, start, elements,
+        data_count,
+    ]))
+}
+
+/// How many bytes the sections have, as far as a `usize` can tell it. It takes no memory.
+pub(crate) fn sections_len(raw: &Raw<'_>) -> Result<usize, WireError>
+    ensures { Tried result (ModuleFits (sections raw.now)) }
+{
+    let before = before_code_len(raw)?;
     let bodies = measure_code(&raw.bodies)?;
     let segments = measure(&Section::Data(&raw.data_))?;
     let customs = customs_len(&raw.customs)?;
-    Ok(total_len(&[
-        types, imports, functions, tables, memories, tags, globals, exports, start, elements,
-        data_count, bodies, segments, customs,
-    ]))
+    Ok(total_len(&[before, bodies, segments, customs]))
 }
 
 /// Writes the start section, where there is one.

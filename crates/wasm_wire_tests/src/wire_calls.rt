@@ -5,7 +5,7 @@ use std::test::Fail;
 use test_support::{add_bytes, are, demand};
 use wasm_wire::{
     Raw, RawComp, RawConst, RawCustom, RawFuncType, RawGroup, RawLimits, RawSub, Writer, check,
-    leb128_len, measure_code, read_module, written_module,
+    code_places, leb128_len, measure_code, read_module, written_module,
 };
 
 // Two functions of one type, the second exported as `f`.
@@ -126,6 +126,31 @@ fn custom_sections_have_their_places(rt: HostRuntime) -> Result<(), Fail> {
     let mut bytes = Vec::new(rt.alloc());
     demand(
         add_bytes(&mut bytes, SCATTERED) && are_gathered(rt.alloc(), &bytes),
+        SCATTERED,
+    )
+}
+
+// Where the count and the body of the code section stand in GATHERED: behind 8 bytes of the header, 12 of `dylink.0`, 6 of the type, 4 of the
+// function and 7 of the export.
+fn is_code_told(alloc: Global, raw: &Raw<'_>) -> bool {
+    match code_places(alloc, raw) {
+        Ok(places) => places.count == 39 && places.bodies.as_slice() == [41..43].as_slice(),
+        Err(_) => false,
+    }
+}
+
+fn is_code_told_unwritten(alloc: Global, bytes: &[u8]) -> bool {
+    match read_module(alloc, bytes) {
+        Ok(raw) => is_code_told(alloc, &raw),
+        Err(_) => false,
+    }
+}
+
+#[test]
+fn code_has_its_places_unwritten(rt: HostRuntime) -> Result<(), Fail> {
+    let mut bytes = Vec::new(rt.alloc());
+    demand(
+        add_bytes(&mut bytes, SCATTERED) && is_code_told_unwritten(rt.alloc(), &bytes),
         SCATTERED,
     )
 }

@@ -7,7 +7,8 @@ use Rattle.wasm_forms.specs.Spelling.{number_bytes}
 use Rattle.wasm_frames.specs.Record.{Body}
 use Rattle.wasm_frames.specs.Frames as frames
 use Rattle.wasm_frames.specs.Frames.{CustomSection, Types, Imports, Functions, Tables, Memories, Globals, Exports, Start, Elements, Code, DataSegments, DataCount, Tags}
-use Rattle.wasm_writer.specs.Spelling.{spelled, listed, SectionFits}
+use Rattle.wasm_writer.specs.Spelling.{spelled, listed, SectionFits, count_place, first_body, placed_bodies, range_of}
+use Rattle.wasm_writer.specs.declared.places.CodePlaces.{CodePlaces}
 use Rattle.wasm_writer.specs.declared.measuring.Section.{Section}
 use Rattle.wasm_writer.specs.declared.measuring.Section.TheVariants as given
 
@@ -71,3 +72,10 @@ Tells (Ok n) s = (n ≡ length (appended s)) × SectionFits s
 Tells (Err TooLarge) s = SectionFits s → ⊥
 Tells (Err Malformed) s = ⊥
 Tells (Err (Memory e)) s = ⊥
+
+-- told: where the parts of the code section stand that begins at this place, and it fits; too large: it doesn't fit; for want of memory: it fits
+abbrev pub TellsPlaces : Result CodePlaces WireError → ℕ → List Body → Type 0
+TellsPlaces (Ok p) place bs = (p.count ≡ count_place place bs) × (p.bodies.items ≡ map range_of (placed_bodies (first_body place bs) bs)) × SectionFits (Code bs)
+TellsPlaces (Err TooLarge) place bs = SectionFits (Code bs) → ⊥
+TellsPlaces (Err Malformed) place bs = ⊥
+TellsPlaces (Err (Memory e)) place bs = SectionFits (Code bs)

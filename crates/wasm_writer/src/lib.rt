@@ -7,5 +7,5 @@ mod tag;
 mod writer;
 
 pub use measuring::{Section, measure, measure_code};
-pub use places::CodePlaces;
+pub use places::{CodePlaces, places_of_code};
 pub use writer::{Writer, written_frames};

@@ -7,6 +7,7 @@ ghost use Rattle.wasm_measure.specs.Measuring.{Measures};
 ghost use Rattle.wasm_frames.specs.Record.{body_record};
 ghost use Rattle.wasm_frames.specs.Spelling.{body_bytes};
 ghost use Rattle.wasm_writer.specs.Spelling.{count_place, first_body, placed_bodies, range_of};
+ghost use Rattle.wasm_writer.specs.Measuring.{TellsPlaces};
 
 use std::alloc::{AllocError, Global};
 use std::ops::Range;
@@ -111,4 +112,28 @@ pub(crate) fn code_places(
         count,
         bodies: ranges,
     })
+}
+
+/// Where the parts of the code section of these bodies stand, if the call of [`crate::Writer::code_section`] for them begins at the
+/// place `start`: what that call answers, with no byte written (Binary Format > Modules > Code Section).
+///
+/// # Errors
+///
+/// `TooLarge` exactly where a count or a size is 2^32 or more, and else `Memory`.
+pub fn places_of_code(
+    alloc: Global,
+    start: usize,
+    bodies: &[RawBody<'_>],
+) -> Result<CodePlaces, WireError>
+    requires low { start < 2 ^ 63 }
+    ensures { TellsPlaces result start (map body_record bodies.now) }
+{
+    let size = code_len(bodies)?;
+    if bodies.is_empty() {
+        return Ok(CodePlaces {
+            count: 0,
+            bodies: Vec::new(alloc),
+        });
+    }
+    Ok(code_places(alloc, start, size, bodies)?)
 }

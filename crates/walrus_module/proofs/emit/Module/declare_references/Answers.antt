@@ -8,7 +8,7 @@ use Rattle.walrus_model.specs.Declared.{AreUndeclared}
 use Rattle.walrus_model.specs.Live.{IsLive}
 use Rattle.walrus_module.specs.View.{contents_of, held_view}
 use Rattle.walrus_module.proofs.Declaring.{none_leaves, one_declared, refused_same, segment_leaves, settled_none}
-use Rattle.walrus_module.proofs.module.Module.declare_references.Goals as goal
+use Rattle.walrus_module.proofs.emit.Module.declare_references.Goals as goal
 
 pub returns-then-is_empty-clause-left : goal.returns-then-is_empty-clause-left
 returns-then-is_empty-clause-left g c =

@@ -8,7 +8,7 @@ use Rattle.walrus_model.specs.Sections.{custom_of}
 use Rattle.walrus_module.specs.Asked.{IsText, in_turn, section_seen, section_under}
 use Rattle.walrus_module.specs.View.{meanings}
 use Rattle.walrus_module.proofs.Asking.{written_so}
-use Rattle.walrus_module.proofs.module.Module.asked.Goals as goal
+use Rattle.walrus_module.proofs.asked.Module.asked.Goals as goal
 
 pub returns-clause-value : goal.returns-clause-value
 returns-clause-value g c =

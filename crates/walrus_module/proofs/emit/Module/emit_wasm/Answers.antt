@@ -30,7 +30,7 @@ use Rattle.walrus_module.specs.View.{held_view, meanings, view}
 use Rattle.walrus_module.proofs.Declaring.{ids_left, leaves_none_dead, leaves_nothing}
 use Rattle.walrus_module.proofs.OwnSections.{asked_refused, dead_refused, module_leaves, module_unchanged, nothing_back, refused_anyway, written_leaves}
 use Rattle.walrus_module.proofs.WellWritten.{answers_well, fails_well, leaves_declared}
-use Rattle.walrus_module.proofs.module.Module.emit_wasm.Goals as goal
+use Rattle.walrus_module.proofs.emit.Module.emit_wasm.Goals as goal
 
 -- what the configuration comes to
 written_with : (c : Config) (choices : Choices) → choices ≡ choices_of c → IsWrittenWith c choices

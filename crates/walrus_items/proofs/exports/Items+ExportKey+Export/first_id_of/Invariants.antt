@@ -1,0 +1,16 @@
+use Rattle.std.proofs.Common.{◌≡◌}
+use Rattle.std.specs.Prelude.{find}
+use Rattle.walrus_base.specs.Arena.{entries_left}
+use Rattle.walrus_items.specs.Seen.{seen_entries}
+use Rattle.walrus_items.specs.Searches.{first}
+use Rattle.walrus_parts.specs.Kinds.{exported}
+use Rattle.walrus_items.specs.Exports.{export_value, exports, exports_item}
+use Rattle.walrus_items.proofs.exports.«Items+ExportKey+Export».first_id_of.Given as goal
+
+-- the first one is the first of those that are still to come
+abbrev pub invariant-loop-at : goal.invariant-loop-at
+invariant-loop-at l =
+    (goal.iterator-loop-at).can_next l.at-iterator
+    × (goal.iterator-loop-at).is_finite l.at-iterator
+    × (first (exports_item (exported l.item)) (exports l.self)
+    ≡ find (λ e. exports_item (exported l.item) e.1) (seen_entries export_value (entries_left l.at-iterator)))

@@ -1,0 +1,182 @@
+-- What replacing a function does to a module, from what its steps answer.
+use Rattle.std.proofs.Common.{◌≡◌, ℕ, Bool, List, [], ◌∷◌, ◌++◌, length, Option, Some, None, Result, Ok, Err, IsSome, MatchResult, map, option_map, slice_set, refl, sym, ap, subst, inl, inr, ◌∙◌}
+use Rattle.std.specs.Borrow.{Bor}
+use Rattle.std.proofs.lemmas.List.{map-set}
+use Rattle.walrus_base.specs.Arena.{item_at}
+use Rattle.walrus_base.specs.Id.{place}
+use Rattle.walrus_base.specs.declared.id.Id.{Id}
+use Rattle.walrus_base.specs.declared.keys.FunctionKey.{FunctionKey}
+use Rattle.walrus_base.specs.declared.keys.LocalKey.{LocalKey}
+use Rattle.walrus_base.specs.declared.keys.TypeKey.{TypeKey}
+use Rattle.walrus_types.specs.Locals.{locals}
+use Rattle.walrus_types.specs.ModuleTypes.{type_slots}
+use Rattle.walrus_types.specs.Operators.{function_item}
+use Rattle.walrus_types.specs.TypeDef.{TypeDef}
+use Rattle.walrus_types.specs.Value.{val_type}
+use Rattle.walrus_types.specs.declared.value.ValType.{ValType}
+use Rattle.walrus_code.specs.Function.{function_type}
+use Rattle.walrus_code.specs.declared.function.LocalFunction.{LocalFunction}
+use Rattle.walrus_model.specs.BodyRead.{AddsLocals}
+use Rattle.walrus_model.specs.BlockHandlers.{params_of}
+use Rattle.walrus_parts.specs.Errors.{out_of_memory}
+use Rattle.walrus_parts.specs.declared.error.Error.{Error}
+use Rattle.walrus_parts.specs.declared.function_kind.FunctionKind.{FunctionKind}
+use Rattle.walrus_parts.specs.declared.function_kind.FunctionKind.TheVariants.{Import, Local, Uninitialized}
+use Rattle.walrus_parts.specs.declared.function_kind.ImportedFunction.{ImportedFunction}
+use Rattle.walrus_items.specs.Exports.{ExportValue, exports, exports_item}
+use Rattle.walrus_items.specs.Functions.{FunctionValue, functions}
+use Rattle.walrus_items.specs.Imports.{ImportValue, imports, imports_item}
+use Rattle.walrus_items.specs.Searches.{first}
+use Rattle.walrus_items.specs.Seen.{text_of}
+use Rattle.walrus_items.proofs.Found.{IsFound, is_found}
+use Rattle.walrus_module.specs.Replaced.{AddsParameters, Builds, IsMadeLocal, IsNew, LendsBody, LendsKind, MakesFoundLocal, MakesKindLocal, MakesLocal, OnlyLocals, Refuses, RefusesLocal, ReplacesExported, ReplacesFound, ReplacesImported, ReplacesKind, SameFunctions, TellsKind, TellsType, naming, with_body}
+use Rattle.walrus_module.specs.declared.module.Module.{Module}
+
+-- an item that is changed at its place
+pub put_seen : {T U : Type 0} (value : T → U) (change : U → U) (slots : List (Option T)) (n : ℕ) (last : T) (v : U) → item_at (map (option_map value) slots) n ≡ Some v → value last ≡ change v
+    → map (option_map value) (slice_set slots n (Some last)) ≡ slice_set (map (option_map value) slots) n (option_map change (item_at (map (option_map value) slots) n))
+put_seen {T} {U} value change slots n last v there is =
+    map-set (option_map value) slots n (Some last) ∙ ap (λ (o : Option U). slice_set (map (option_map value) slots) n o) (ap Some is ∙ ap (option_map change) (sym there))
+
+-- the place of what was found is live
+pub found_lives : {T : Type 0} (p : ℕ × T → Bool) (ss : List (Option T)) (n : ℕ) → IsFound p ss n → IsSome (item_at ss n)
+found_lives p ss n found = subst (λ o. IsSome o) (sym found.item) refl
+
+-- what is answered is no refusal
+wrong : {A E : Type 0} {x : A} {e : E} → ◌≡◌ {A = Result A E} (Ok x) (Err e) → ⊥
+wrong same = cc
+
+-- ---- what stands at a place
+
+-- a function with this body
+pub record HasBody (s : Option FunctionValue) (l : LocalFunction) : Type 0 where
+  pub function : FunctionValue
+  pub there : s ≡ Some function
+  pub kind : function.kind ≡ Local l
+
+pub has_body : (s : Option FunctionValue) (b : Bor LocalFunction) → LendsBody s (Ok b) → HasBody s b.now
+has_body None b h = absurd (wrong h)
+has_body (Some f) b h = record { function = f; there = refl; kind = by_kind f.kind h } where
+  by_kind : (k : FunctionKind) → LendsKind k (Ok b) → k ≡ Local b.now
+  by_kind (Local l) same = ap (λ (x : LocalFunction). Local x) (sym same)
+  by_kind (Import i) h = absurd (wrong h)
+  by_kind (Uninitialized ty) h = absurd (wrong h)
+
+-- an imported function of this type
+pub record HasType (s : Option FunctionValue) (ty : Id TypeKey) : Type 0 where
+  pub function : FunctionValue
+  pub imported : ImportedFunction
+  pub there : s ≡ Some function
+  pub kind : function.kind ≡ Import imported
+  pub typed : imported.ty ≡ ty
+
+pub has_type : (s : Option FunctionValue) (ty : Id TypeKey) → TellsType s (Ok ty) → HasType s ty
+has_type None ty h = absurd (wrong h)
+has_type (Some f) ty h = by_kind f.kind refl h where
+  by_kind : (k : FunctionKind) → f.kind ≡ k → TellsKind k (Ok ty) → HasType (Some f) ty
+  by_kind (Import i) is same = record { function = f; imported = i; there = refl; kind = is; typed = let q : ◌≡◌ {A = Result (Id TypeKey) Error} (Ok ty) (Ok i.ty) = same in sym (the_ok q) } where
+    the_ok : {a b : Id TypeKey} → ◌≡◌ {A = Result (Id TypeKey) Error} (Ok a) (Ok b) → a ≡ b
+    the_ok q = cc
+  by_kind (Local l) is h = absurd (wrong h)
+  by_kind (Uninitialized t) is h = absurd (wrong h)
+
+module _ {S : Type 0} (post : Builds) (fid : Id FunctionKey) (old new : Module S) where
+  -- ---- an exported function
+
+  module _ (n : ℕ) (b : Bor LocalFunction) (ty : Id TypeKey) (args : List (Id LocalKey))
+      (named : Some n ≡ option_map (λ e. e.0) (first (exports_item (function_item (place fid))) (exports old.exports)))
+      (lent : LendsBody (item_at (functions old.funcs) (place fid)) (Ok b)) (typed : ty ≡ function_type b.now) (taken : args ≡ b.now.args.items) where
+    abbrev found : IsFound (λ (e : ℕ × ExportValue). exports_item (function_item (place fid)) e.1) (exports old.exports) n
+    found = is_found (λ (e : ℕ × ExportValue). exports_item (function_item (place fid)) e.1) (exports old.exports) n named
+
+    abbrev body : HasBody (item_at (functions old.funcs) (place fid)) b.now
+    body = has_body (item_at (functions old.funcs) (place fid)) b lent
+
+    pub export_lives : IsSome (item_at (exports old.exports) n)
+    export_lives = found_lives _ (exports old.exports) n found
+
+    exported : (result : Result (Id FunctionKey) Error) → ReplacesKind post found.entry (Local b.now) old new result → ReplacesExported post fid old new result
+    exported result given =
+        subst (λ o. ReplacesFound post o (item_at (functions old.funcs) (place fid)) old new result) (sym found.found)
+        (subst (λ s. ReplacesFound post (Some found.entry) s old new result) (sym body.there)
+        (subst (λ k. ReplacesKind post found.entry k old new result) (sym body.kind) given))
+
+    pub export_refused : (e : Error) → Refuses post args e → SameFunctions old new → ReplacesExported post fid old new (Err e)
+    export_refused e refuses same = exported (Err e) (subst (λ a. Refuses post a e) taken refuses, same)
+
+    pub export_replaced : (function : LocalFunction) (id : Id FunctionKey) → IsNew post ty args function → place id ≡ length (functions old.funcs)
+        → functions new.funcs ≡ functions old.funcs ++ Some (record { id = place id; kind = Local function; name = text_of function.name }) ∷ []
+        → exports new.exports ≡ slice_set (exports old.exports) n (option_map (naming id) (item_at (exports old.exports) n))
+        → new ≡ record old { funcs = new.funcs; exports = new.exports } → ReplacesExported post fid old new (Ok id)
+    export_replaced function id made next funcs redirected others = exported (Ok id) (record {
+      is_next = next;
+      function = function;
+      is_new = subst (λ t. IsNew post t b.now.args.items function) typed (subst (λ a. IsNew post ty a function) taken made);
+      funcs = funcs ∙ ap (λ (name : Option (List ℕ)). functions old.funcs ++ Some (record { id = place id; kind = Local function; name = name }) ∷ []) (ap text_of made.unnamed);
+      exported = redirected ∙ ap (λ (o : Option ExportValue). slice_set (exports old.exports) n (option_map (naming id) o)) found.item ∙ ap (λ (i : ℕ). slice_set (exports old.exports) i (Some (naming id found.entry.1))) (sym found.at_place);
+      others = others;
+    })
+
+  -- ---- an imported function
+
+  module _ (n : ℕ) (ty : Id TypeKey) (named : Some n ≡ option_map (λ e. e.0) (first (imports_item (function_item (place fid))) (imports old.imports)))
+      (told : TellsType (item_at (functions old.funcs) (place fid)) (Ok ty)) where
+    abbrev found_import : IsFound (λ (e : ℕ × ImportValue). imports_item (function_item (place fid)) e.1) (imports old.imports) n
+    found_import = is_found (λ (e : ℕ × ImportValue). imports_item (function_item (place fid)) e.1) (imports old.imports) n named
+
+    abbrev has : HasType (item_at (functions old.funcs) (place fid)) ty
+    has = has_type (item_at (functions old.funcs) (place fid)) ty told
+
+    pub import_lives : IsSome (item_at (imports old.imports) n)
+    import_lives = found_lives _ (imports old.imports) n found_import
+
+    imported : (result : Result (Id FunctionKey) Error) → MakesLocal post fid found_import.entry.0 has.function ty (item_at (type_slots old.types) (place ty)) old new result → ReplacesImported post fid old new result
+    imported result given =
+        subst (λ o. MakesFoundLocal post fid o (item_at (functions old.funcs) (place fid)) old new result) (sym found_import.found)
+        (subst (λ s. MakesFoundLocal post fid (Some found_import.entry) s old new result) (sym has.there)
+        (subst (λ k. MakesKindLocal post fid found_import.entry.0 has.function k old new result) (sym has.kind)
+        (subst (λ t. MakesLocal post fid found_import.entry.0 has.function t (item_at (type_slots old.types) (place t)) old new result) (sym has.typed) given)))
+
+    -- of a live type
+    module _ (live : IsSome (item_at (type_slots old.types) (place ty))) where
+      with_type : (o : Option TypeDef) → IsSome o → (result : Result (Id FunctionKey) Error)
+          → ((def : TypeDef) → o ≡ Some def → MatchResult result (IsMadeLocal post fid found_import.entry.0 has.function ty def old new) (λ e. RefusesLocal post def old new e × OnlyLocals old new))
+          → MakesLocal post fid found_import.entry.0 has.function ty o old new result
+      with_type None none result given = absurd cc
+      with_type (Some def) there result given = given def refl
+
+      by_def : (result : Result (Id FunctionKey) Error)
+          → ((def : TypeDef) → item_at (type_slots old.types) (place ty) ≡ Some def → MatchResult result (IsMadeLocal post fid found_import.entry.0 has.function ty def old new) (λ e. RefusesLocal post def old new e × OnlyLocals old new))
+          → ReplacesImported post fid old new result
+      by_def result given = imported result (with_type (item_at (type_slots old.types) (place ty)) live result given)
+
+      -- memory ran out while locals were added
+      pub import_no_room : (e : Error) → e ≡ out_of_memory → OnlyLocals old new → ReplacesImported post fid old new (Err e)
+      import_no_room e is only = by_def (Err e) (λ def is_def. (inl is, only))
+
+      module _ (types : List ValType) (args : List (Id LocalKey)) (takes : map val_type types ≡ params_of (item_at (type_slots old.types) (place ty)))
+          (added : AddsLocals (locals old.locals) (locals new.locals) args types) where
+        parameters : (def : TypeDef) → item_at (type_slots old.types) (place ty) ≡ Some def → AddsParameters def old new args
+        parameters def is_def = record { types = types; taken = takes ∙ ap params_of is_def; added = added }
+
+        -- the closure refused, or memory ran out behind it
+        pub import_refused : (e : Error) → Refuses post args e → OnlyLocals old new → ReplacesImported post fid old new (Err e)
+        import_refused e refuses only = by_def (Err e) (λ def is_def. (by_cause def is_def refuses, only)) where
+          by_cause : (def : TypeDef) → item_at (type_slots old.types) (place ty) ≡ Some def → Refuses post args e → RefusesLocal post def old new e
+          by_cause def is_def (inl memory) = inl memory
+          by_cause def is_def (inr closure) = inr (args, parameters def is_def, closure)
+
+        pub import_replaced : (function : LocalFunction) → IsNew post ty args function
+            → functions new.funcs ≡ slice_set (functions old.funcs) (place fid) (option_map (with_body function) (item_at (functions old.funcs) (place fid)))
+            → imports new.imports ≡ slice_set (imports old.imports) n None
+            → new ≡ record old { funcs = new.funcs; imports = new.imports; locals = new.locals } → ReplacesImported post fid old new (Ok fid)
+        import_replaced function made funcs gone others = by_def (Ok fid) (λ def is_def. record {
+          same = refl;
+          args = args;
+          parameters = parameters def is_def;
+          function = function;
+          is_new = made;
+          funcs = funcs ∙ ap (λ (o : Option FunctionValue). slice_set (functions old.funcs) (place fid) (option_map (with_body function) o)) has.there;
+          gone = gone ∙ ap (λ (i : ℕ). slice_set (imports old.imports) i None) (sym found_import.at_place);
+          others = others;
+        })
