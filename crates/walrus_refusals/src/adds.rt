@@ -16,8 +16,8 @@ pub fn first_type(types: &ModuleTypes) -> Option<TypeId> {
     Some(first.id())
 }
 
-// The first function.
-fn first_function(functions: &ModuleFunctions) -> Result<FunctionId> {
+/// The first function.
+pub fn first_function(functions: &ModuleFunctions) -> Result<FunctionId> {
     match functions.iter().next() {
         Some(first) => Ok(first.id()),
         None => Err(Error::NotFound),

@@ -5,6 +5,7 @@
 mod adds;
 mod noted;
 mod play;
+mod replaced;
 mod scenes;
 mod seen;
 mod steps;

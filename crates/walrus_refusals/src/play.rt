@@ -2,6 +2,7 @@
 
 use crate::adds::{add, first_type};
 use crate::noted::{noted_last, raw_section};
+use crate::replaced::replace;
 use crate::scenes::Scene;
 use crate::seen::{Seen, is_as_seen, look_at};
 use crate::steps::{End, Kind, Outcome, Step, end_of, refused, written};
@@ -84,6 +85,7 @@ pub fn played(alloc: Global, scene: &Scene, input: &[u8], output: &[u8]) -> Outc
             Step::Collect => end_of(gc::run(alloc, &mut module)),
             Step::Emit => written(module.emit_wasm(alloc), output),
             Step::Add(kind) => end_of(add(alloc, &mut module, kind)),
+            Step::Replace(kind) => end_of(replace(alloc, &mut module, kind)),
             Step::Raw => match raw_section(alloc) {
                 Ok(section) => end_of(module.customs.add(SectionEntry::Raw(section))),
                 Err(refusal) => refused(refusal),

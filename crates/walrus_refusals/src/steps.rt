@@ -17,6 +17,8 @@ pub enum Step {
     Import(Kind),
     /// Adds something else.
     Add(Kind),
+    /// Replaces the first function: an exported one (`Export`), or an imported one.
+    Replace(Kind),
 }
 
 /// What is imported or added.
