@@ -1,5 +1,5 @@
 -- Modules that differ in custom sections alone, where these ask to keep the same items: what is reached is the same, and what a search finds.
-use Rattle.std.proofs.Common.{◌≡◌, ℕ, inl, inr, Bool, true, List}
+use Rattle.std.proofs.Common.{ℕ, inl, inr, List}
 use Rattle.std.specs.Prelude.{◌↔◌, Contains, Result, Ok, Err, MatchResult}
 use Rattle.walrus_types.specs.Operators.{Types, Functions, Tables, Memories, Tags, Globals, Elements, DataSegments, Item}
 use Rattle.walrus_model.specs.Abstract.{Abstract, Custom}

@@ -6,7 +6,7 @@ ghost use Rattle.walrus.specs.Command.{RunsAndTells, are_known, asks_for_report,
 ghost use Rattle.walrus.specs.Message.{Tells, line};
 ghost use Rattle.walrus.specs.Reported.{ReportsOrRuns};
 ghost use Rattle.walrus.specs.Tool.{CountsReads, CountsWrites};
-ghost use Rattle.walrus_module.specs.Flags.{config_of, flags};
+ghost use Rattle.walrus_module.specs.Flags.{config_of};
 
 use crate::device::{Sink, Source};
 use crate::message::{refuse, text_of, write_line};
@@ -35,18 +35,8 @@ fn all_known(words: &[String]) -> bool
     words.iter().all(|w| knows(w.as_str()))
 }
 
-// The configuration that the words ask for.
-fn config_for(words: &[String]) -> ModuleConfig
-    ensures { flags result ≡ flags_for words.now }
-{
-    let mut config = ModuleConfig::new();
-    config.generate_name_section(!has(words, "--no-names"));
-    config.generate_producers_section(!has(words, "--no-producers"));
-    config.legacy_exceptions(!has(words, "--no-legacy"));
-    config
-}
-
-// The run that the words ask for, or the report.
+// The run that the words ask for, or the report. The configuration is made here, since the gate takes no function of this crate that answers one:
+// it can hold a box.
 fn run_or_report<R: Source, W: Sink>(
     alloc: Global,
     words: &[String],
@@ -59,11 +49,15 @@ fn run_or_report<R: Source, W: Sink>(
     ensures reads { CountsReads (R.read_failures input.old) (R.read_failures input.new) result }
     ensures writes { CountsWrites (W.write_failures output.old) (W.write_failures output.new) result }
 {
-    let config = config_for(words);
+    let mut made = ModuleConfig::new();
+    let config = made
+        .generate_name_section(!has(words, "--no-names"))
+        .generate_producers_section(!has(words, "--no-producers"))
+        .legacy_exceptions(!has(words, "--no-legacy"));
     if has(words, "--report") {
-        report(alloc, input, output, &config)
+        report(alloc, input, output, config)
     } else {
-        run(alloc, input, output, &config)
+        run(alloc, input, output, config)
     }
 }
 

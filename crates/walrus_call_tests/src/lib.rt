@@ -7,6 +7,8 @@ mod counted;
 #[cfg(test)]
 mod exchanged;
 #[cfg(test)]
+mod hooks;
+#[cfg(test)]
 mod library;
 #[cfg(test)]
 mod locals;

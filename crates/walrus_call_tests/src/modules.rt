@@ -63,10 +63,10 @@ fn change_all(config: &mut ModuleConfig) {
 }
 
 const DEFAULTS: &str =
-    "ModuleConfig { generate_dwarf: false, generate_name_section: true, generate_synthetic_names: false, strict_validate: true, generate_producers_section: true, only_stable_features: false, legacy_exceptions: true, preserve_code_transform: false }";
+    "ModuleConfig { generate_dwarf: false, generate_synthetic_names_for_anonymous_items: false, only_stable_features: false, skip_strict_validate: false, skip_producers_section: false, skip_name_section: false, skip_legacy_exceptions: false, preserve_code_transform: false, on_parse: None, on_instr_loc: None }";
 
 const CHANGED: &str =
-    "ModuleConfig { generate_dwarf: true, generate_name_section: false, generate_synthetic_names: true, strict_validate: false, generate_producers_section: false, only_stable_features: true, legacy_exceptions: false, preserve_code_transform: true }";
+    "ModuleConfig { generate_dwarf: true, generate_synthetic_names_for_anonymous_items: true, only_stable_features: true, skip_strict_validate: true, skip_producers_section: true, skip_name_section: true, skip_legacy_exceptions: true, preserve_code_transform: true, on_parse: None, on_instr_loc: None }";
 
 fn is_shown(alloc: Global, config: &ModuleConfig, text: &str) -> bool {
     match format!(in alloc; "{config:?}") {

@@ -1,9 +1,9 @@
 -- Sections that are kept as they were read: what they mean, and what a module with them is.
-use Rattle.std.proofs.Common.{◌≡◌, ℕ, ◌+◌, Bool, true, false, List, [], ◌∷◌, map, flat_map, filter, Some, Contains, refl, sym, ap, subst, ◌∙◌}
+use Rattle.std.proofs.Common.{◌≡◌, ℕ, ◌+◌, Bool, true, false, List, [], ◌∷◌, map, flat_map, filter, refl, sym, ap, subst, ◌∙◌}
 use Rattle.std.specs.List.{AllByRecursion}
 use Rattle.walrus_base.specs.Arena.{entries_from, items}
 use Rattle.walrus_types.specs.Operators.{Item}
-use Rattle.walrus_model.specs.Abstract.{Abstract, Custom}
+use Rattle.walrus_model.specs.Abstract.{Custom}
 use Rattle.walrus_model.specs.Sections as sections
 use Rattle.walrus_parts.specs.declared.custom.CustomSection.{Ghosts}
 use Rattle.walrus_parts.specs.declared.raw_section.RawCustomSection.{RawCustomSection}

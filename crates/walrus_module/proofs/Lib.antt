@@ -1,4 +1,5 @@
 pub mod KeptRaw
+pub mod Locating
 pub mod RawLemmas
 pub mod Asking
 pub mod Declaring

@@ -1,6 +1,6 @@
 -- A module with custom sections of its own: what is said of what it holds is said of it, and what emission answers then.
-use Rattle.std.proofs.Common.{◌≡◌, ℕ, List, [], ◌∷◌, map, refl, sym, ap, ◌∙◌, subst, inl, inr}
-use Rattle.std.specs.Prelude.{Contains, IfOk, Result, Ok, Err, ◌⊎◌}
+use Rattle.std.proofs.Common.{◌≡◌, ℕ, List, [], ◌∷◌, sym, ap, ◌∙◌, subst, inl}
+use Rattle.std.specs.Prelude.{Result, Ok, Err}
 use Rattle.walrus_types.specs.Operators.{Item}
 use Rattle.walrus_parts.specs.declared.custom.CustomSection.{Ghosts}
 use Rattle.walrus_parts.specs.declared.error.Error.{Error}
@@ -14,7 +14,7 @@ use Rattle.walrus_model.specs.Live.{IsLive}
 use Rattle.walrus_rules.specs.Chain.{AddsSegment, HasSegment, Leaves}
 use Rattle.walrus_rules.specs.Refused.{Refusal, Memory, DeadItem, NoIndex, TwoIndices, TooLarge, NotWritable, Caller, Another, RefusesToWrite}
 use Rattle.walrus_writing.specs.Emitted.{told}
-use Rattle.walrus_rules.proofs.SameItems.{dead_back, dead_on, with_own}
+use Rattle.walrus_rules.proofs.SameItems.{dead_on, with_own}
 use Rattle.walrus_module.specs.Asked.{IsRefusedBy}
 use Rattle.walrus_module.specs.Left.{ChangesElements, LeavesBy}
 use Rattle.walrus_module.specs.View.{held_view, view}

@@ -4,6 +4,7 @@ use Rattle.walrus_model.specs.Config.{Config}
 use Rattle.walrus_rules.specs.Features.{features_of}
 use Rattle.walrus_writing.specs.declared.write.Choices.{Choices}
 use Rattle.walrus_module.specs.declared.config.ModuleConfig.{ModuleConfig}
+use Rattle.walrus_module.specs.declared.switches.Switches.{Switches}
 
 pub record Flags : Type 0 where
   pub generate_dwarf : Bool
@@ -15,18 +16,22 @@ pub record Flags : Type 0 where
   pub legacy_exceptions : Bool
   pub preserve_code_transform : Bool
 
--- what a configuration is set to
-abbrev pub flags : ModuleConfig → Flags
-flags c = record {
-  generate_dwarf = c.generate_dwarf;
-  generate_name_section = c.generate_name_section;
-  generate_synthetic_names = c.generate_synthetic_names;
-  strict_validate = c.strict_validate;
-  generate_producers_section = c.generate_producers_section;
-  only_stable_features = c.only_stable_features;
-  legacy_exceptions = c.legacy_exceptions;
-  preserve_code_transform = c.preserve_code_transform;
+abbrev pub flags_of : Switches → Flags
+flags_of s = record {
+  generate_dwarf = s.generate_dwarf;
+  generate_name_section = s.generate_name_section;
+  generate_synthetic_names = s.generate_synthetic_names;
+  strict_validate = s.strict_validate;
+  generate_producers_section = s.generate_producers_section;
+  only_stable_features = s.only_stable_features;
+  legacy_exceptions = s.legacy_exceptions;
+  preserve_code_transform = s.preserve_code_transform;
 }
+
+-- what a configuration is set to
+module _ {V : Type 0} {O : V → Type 0} {calls : _} where
+  abbrev pub flags : ModuleConfig V O calls → Flags
+  flags c = flags_of c.switches
 
 -- names, producers, strict validation and legacy exceptions; nothing else
 abbrev pub defaults : Flags

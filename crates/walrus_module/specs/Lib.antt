@@ -6,8 +6,10 @@ pub mod Flags
 pub mod Imported
 pub mod Laws
 pub mod Left
+pub mod Located
 pub mod LendsSection
 pub mod Meaning
+pub mod OnParse
 pub mod Raws
 pub mod Replaced
 pub mod Settings

@@ -1,41 +1,76 @@
 //! How a module is read and written.
 
-ghost use Rattle.std.specs.Prelude.{◌≡◌};
+ghost use Rattle.std.specs.Prelude.{◌≡◌, ⊤};
+ghost use Rattle.walrus_module.specs.Flags.{flags};
+ghost use Rattle.walrus_module.specs.Located.{HasNoHook, Keeps};
 
-use walrus_ir::Features;
-use walrus_writing::Choices;
+use crate::hook::{LocationHook, OnInstrLoc};
+use crate::switches::Switches;
+use std::alloc::AllocError;
+use std::fmt;
 
 /// What to read and what to write. Made with the defaults by [`ModuleConfig::new`]: names, producers, strict
 /// validation and legacy exceptions are on, all else is off. The setters can be chained.
-#[derive(Clone, Debug, Drop)]
+#[derive(Drop)]
 pub struct ModuleConfig {
-    generate_dwarf: bool,
-    generate_name_section: bool,
-    pub(crate) generate_synthetic_names: bool,
-    strict_validate: bool,
-    generate_producers_section: bool,
-    only_stable_features: bool,
-    legacy_exceptions: bool,
-    preserve_code_transform: bool,
+    pub(crate) switches: Switches,
+    pub(crate) on_instr_loc: Option<LocationHook>,
+}
+
+/// The same flags, and no function of the caller's. Never refused.
+impl Clone for ModuleConfig {
+    ghost is_clone = { λ c d. (flags d ≡ flags c) × HasNoHook d };
+
+    ghost is_infallible = { λ _. ⊤ };
+
+    fn clone(&self) -> Result<ModuleConfig, AllocError> {
+        Ok(ModuleConfig {
+            switches: self.switches,
+            on_instr_loc: None,
+        })
+    }
+}
+
+/// The text of the original crate, by its names of the flags.
+impl fmt::Debug for ModuleConfig {
+    fn fmt<W: fmt::Write>(&self, f: &mut fmt::Formatter<W>) -> fmt::Result {
+        let is = self.switches;
+        let hook = if self.on_instr_loc.is_some() {
+            Some("..")
+        } else {
+            None
+        };
+        let none: Option<&str> = None;
+        f.debug_struct("ModuleConfig")
+            .field("generate_dwarf", &is.generate_dwarf)
+            .field(
+                "generate_synthetic_names_for_anonymous_items",
+                &is.generate_synthetic_names,
+            )
+            .field("only_stable_features", &is.only_stable_features)
+            .field("skip_strict_validate", &!is.strict_validate)
+            .field("skip_producers_section", &!is.generate_producers_section)
+            .field("skip_name_section", &!is.generate_name_section)
+            .field("skip_legacy_exceptions", &!is.legacy_exceptions)
+            .field("preserve_code_transform", &is.preserve_code_transform)
+            .field("on_parse", &none)
+            .field("on_instr_loc", &hook)
+            .finish()
+    }
 }
 
 impl ModuleConfig {
-    ghost use Rattle.walrus_rules.specs.Features.{features_of};
-    ghost use Rattle.walrus_module.specs.Flags.{flags, defaults, with_dwarf, choices_of, config_of};
+    ghost use Rattle.walrus_module.specs.Flags.{defaults, with_dwarf};
+    ghost use Rattle.walrus_module.specs.Located.{IsHooked};
 
     /// The default configuration.
     pub fn new() -> ModuleConfig
-        ensures { flags result ≡ defaults }
+        ensures value { flags result ≡ defaults }
+        ensures hook { HasNoHook result }
     {
         ModuleConfig {
-            generate_dwarf: false,
-            generate_name_section: true,
-            generate_synthetic_names: false,
-            strict_validate: true,
-            generate_producers_section: true,
-            only_stable_features: false,
-            legacy_exceptions: true,
-            preserve_code_transform: false,
+            switches: Switches::new(),
+            on_instr_loc: None,
         }
     }
 
@@ -44,10 +79,11 @@ impl ModuleConfig {
     pub fn generate_dwarf(&mut self, generate: bool) -> &mut ModuleConfig
         ensures same_reference { result.ghost_name ≡ self.entry.ghost_name }
         ensures value { flags result.now ≡ with_dwarf generate (flags self.old) }
+        ensures hook { Keeps self.old result.now }
     {
-        self.generate_dwarf = generate;
+        self.switches.generate_dwarf = generate;
         if generate {
-            self.preserve_code_transform = true;
+            self.switches.preserve_code_transform = true;
         }
         self
     }
@@ -56,8 +92,9 @@ impl ModuleConfig {
     pub fn generate_name_section(&mut self, generate: bool) -> &mut ModuleConfig
         ensures same_reference { result.ghost_name ≡ self.entry.ghost_name }
         ensures value { flags result.now ≡ record (flags self.old) { generate_name_section = generate } }
+        ensures hook { Keeps self.old result.now }
     {
-        self.generate_name_section = generate;
+        self.switches.generate_name_section = generate;
         self
     }
     /// Whether a local function and its locals that have no name are given one when a module is read.
@@ -67,8 +104,9 @@ impl ModuleConfig {
     ) -> &mut ModuleConfig
         ensures same_reference { result.ghost_name ≡ self.entry.ghost_name }
         ensures value { flags result.now ≡ record (flags self.old) { generate_synthetic_names = generate } }
+        ensures hook { Keeps self.old result.now }
     {
-        self.generate_synthetic_names = generate;
+        self.switches.generate_synthetic_names = generate;
         self
     }
 
@@ -76,8 +114,9 @@ impl ModuleConfig {
     pub fn strict_validate(&mut self, strict: bool) -> &mut ModuleConfig
         ensures same_reference { result.ghost_name ≡ self.entry.ghost_name }
         ensures value { flags result.now ≡ record (flags self.old) { strict_validate = strict } }
+        ensures hook { Keeps self.old result.now }
     {
-        self.strict_validate = strict;
+        self.switches.strict_validate = strict;
         self
     }
 
@@ -85,8 +124,9 @@ impl ModuleConfig {
     pub fn generate_producers_section(&mut self, generate: bool) -> &mut ModuleConfig
         ensures same_reference { result.ghost_name ≡ self.entry.ghost_name }
         ensures value { flags result.now ≡ record (flags self.old) { generate_producers_section = generate } }
+        ensures hook { Keeps self.old result.now }
     {
-        self.generate_producers_section = generate;
+        self.switches.generate_producers_section = generate;
         self
     }
 
@@ -94,8 +134,9 @@ impl ModuleConfig {
     pub fn only_stable_features(&mut self, only: bool) -> &mut ModuleConfig
         ensures same_reference { result.ghost_name ≡ self.entry.ghost_name }
         ensures value { flags result.now ≡ record (flags self.old) { only_stable_features = only } }
+        ensures hook { Keeps self.old result.now }
     {
-        self.only_stable_features = only;
+        self.switches.only_stable_features = only;
         self
     }
 
@@ -103,8 +144,9 @@ impl ModuleConfig {
     pub fn legacy_exceptions(&mut self, legacy: bool) -> &mut ModuleConfig
         ensures same_reference { result.ghost_name ≡ self.entry.ghost_name }
         ensures value { flags result.now ≡ record (flags self.old) { legacy_exceptions = legacy } }
+        ensures hook { Keeps self.old result.now }
     {
-        self.legacy_exceptions = legacy;
+        self.switches.legacy_exceptions = legacy;
         self
     }
 
@@ -112,29 +154,21 @@ impl ModuleConfig {
     pub fn preserve_code_transform(&mut self, preserve: bool) -> &mut ModuleConfig
         ensures same_reference { result.ghost_name ≡ self.entry.ghost_name }
         ensures value { flags result.now ≡ record (flags self.old) { preserve_code_transform = preserve } }
+        ensures hook { Keeps self.old result.now }
     {
-        self.preserve_code_transform = preserve;
+        self.switches.preserve_code_transform = preserve;
         self
     }
 
-    // The proposals that bodies may use.
-    pub(crate) fn features(&self) -> Features
-        ensures { result ≡ features_of (config_of (flags self.now)) }
+    /// Has each operator that is read located by this function, which is handed the place of its first byte; else its location is that place.
+    /// A later function replaces it. A clone of the configuration has none.
+    pub fn on_instr_loc(&mut self, call: OnInstrLoc) -> &mut ModuleConfig
+        requires { OnInstrLoc.IsAlwaysCallable call }
+        ensures same_reference { result.ghost_name ≡ self.entry.ghost_name }
+        ensures value { flags result.now ≡ flags self.old }
+        ensures hook { IsHooked call result.now }
     {
-        Features {
-            legacy_exceptions: self.legacy_exceptions,
-            only_stable: self.only_stable_features,
-        }
-    }
-
-    // What a module is written under.
-    pub(crate) fn choices(&self) -> Choices
-        ensures { result ≡ choices_of (config_of (flags self.now)) }
-    {
-        Choices {
-            features: self.features(),
-            names: self.generate_name_section,
-            producers: self.generate_producers_section,
-        }
+        self.on_instr_loc = Some(LocationHook { call });
+        self
     }
 }

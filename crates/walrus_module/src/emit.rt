@@ -64,7 +64,7 @@ impl Module {
     {
         check_live(alloc, self.parts())?;
         self.declare_references(alloc)?;
-        let choices = self.config.choices();
+        let choices = self.switches.choices();
         let parts = self.parts();
         let prepared = prepare(alloc, parts)?;
         let asked = self.asked(alloc, &prepared.indices)?;

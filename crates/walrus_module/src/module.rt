@@ -7,6 +7,7 @@ ghost use Rattle.walrus_parts.specs.Errors.{out_of_memory};
 use crate::config::ModuleConfig;
 use crate::customs::ModuleCustomSections;
 use crate::entry::SectionEntry;
+use crate::switches::Switches;
 use std::alloc::Global;
 use walrus_contents::Contents;
 use walrus_ir::{FunctionId, ModuleLocals, ModuleTypes};
@@ -51,7 +52,7 @@ pub struct Module<S = SectionEntry> {
     pub name: Option<String>,
     /// The custom sections.
     pub customs: ModuleCustomSections<S>,
-    pub(crate) config: ModuleConfig,
+    pub(crate) switches: Switches,
 }
 
 impl<S> Module<S> {
@@ -66,9 +67,10 @@ impl<S> Module<S> {
 }
 
 impl Module {
-    ghost use Rattle.walrus_module.specs.Flags.{flags, defaults, config_of};
+    ghost use Rattle.walrus_module.specs.Flags.{config_of, defaults, flags, flags_of};
     ghost use Rattle.walrus_reading.specs.Parsed.{AreLocated, IsParsed, ItemsAtOwnIds, RefusesBytes, TakenFrom};
     ghost use Rattle.walrus_rules.specs.Features.{features_of};
+    ghost use Rattle.walrus_module.specs.Located.{Gives, IsPlace};
     ghost use Rattle.walrus_module.specs.Settings.{settings};
     ghost use Rattle.walrus_module.specs.Raws.{KeepsRead};
     ghost use Rattle.walrus_module.specs.View.{IsEmpty, contents_of, view};
@@ -81,18 +83,18 @@ impl Module {
     {
         let contents = Contents::new(alloc)?;
         let customs = ModuleCustomSections::<SectionEntry>::new(alloc);
-        Ok(Module::holding(contents, customs, config))
+        Ok(Module::holding(contents, customs, config.switches))
     }
 
     // The module that holds this, with these custom sections.
     pub(crate) fn holding(
         contents: Contents,
         customs: ModuleCustomSections,
-        config: ModuleConfig,
+        switches: Switches,
     ) -> Module
         ensures holds { contents_of result ≡ contents }
         ensures own { result.customs ≡ customs }
-        ensures configured { settings result ≡ flags config }
+        ensures configured { settings result ≡ flags_of switches }
     {
         Module {
             imports: contents.imports,
@@ -110,7 +112,7 @@ impl Module {
             producers: contents.producers,
             name: contents.name,
             customs,
-            config,
+            switches,
         }
     }
 
@@ -123,7 +125,7 @@ impl Module {
         ensures taken { IfOk result (λ m. TakenFrom (features_of (config_of defaults))
             bytes.now (contents_of m)) }
         ensures own_ids { IfOk result (λ m. ItemsAtOwnIds (contents_of m)) }
-        ensures located { IfOk result (λ m. AreLocated bytes.now m.funcs) }
+        ensures located { IfOk result (λ m. AreLocated IsPlace bytes.now m.funcs) }
         ensures kept { IfOk result (λ m. KeepsRead bytes.now m) }
     {
         Module::from_buffer_with_config(alloc, bytes, &ModuleConfig::new())
@@ -142,7 +144,7 @@ impl Module {
         ensures taken { IfOk result (λ m. TakenFrom (features_of (config_of (flags config.now)))
             bytes.now (contents_of m)) }
         ensures own_ids { IfOk result (λ m. ItemsAtOwnIds (contents_of m)) }
-        ensures located { IfOk result (λ m. AreLocated bytes.now m.funcs) }
+        ensures located { IfOk result (λ m. AreLocated (Gives config.now) bytes.now m.funcs) }
         ensures kept { IfOk result (λ m. KeepsRead bytes.now m) }
     {
         config.parse(alloc, bytes)

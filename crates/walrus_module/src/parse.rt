@@ -1,6 +1,7 @@
 //! Reading a module from bytes.
 ghost use Rattle.std.specs.Prelude.{◌≡◌, IfOk, IfErr};
 ghost use Rattle.walrus_module.specs.Flags.{flags, config_of};
+ghost use Rattle.walrus_module.specs.Located.{Gives};
 ghost use Rattle.walrus_module.specs.Settings.{settings};
 ghost use Rattle.walrus_module.specs.Raws.{KeepsRead};
 ghost use Rattle.walrus_module.specs.View.{contents_of, view};
@@ -12,7 +13,6 @@ use crate::customs::ModuleCustomSections;
 use crate::module::Module;
 use std::alloc::Global;
 use walrus_parts::{CustomSection, Result};
-use walrus_reading::read;
 
 impl ModuleConfig {
     /// The module that the bytes are ("Binary Format > Modules"), to be written as the configuration says.
@@ -28,11 +28,11 @@ impl ModuleConfig {
         ensures taken { IfOk result (λ m. TakenFrom (features_of (config_of (flags self.now)))
             bytes.now (contents_of m)) }
         ensures own_ids { IfOk result (λ m. ItemsAtOwnIds (contents_of m)) }
-        ensures located { IfOk result (λ m. AreLocated bytes.now m.funcs) }
+        ensures located { IfOk result (λ m. AreLocated (Gives self.now) bytes.now m.funcs) }
         ensures kept { IfOk result (λ m. KeepsRead bytes.now m) }
     {
-        let found = read(alloc, bytes, self.features(), self.generate_synthetic_names)?;
+        let found = self.read(alloc, bytes)?;
         let customs = ModuleCustomSections::keeping(alloc, found.customs)?;
-        Ok(Module::holding(found.contents, customs, self.clone()?))
+        Ok(Module::holding(found.contents, customs, self.switches))
     }
 }

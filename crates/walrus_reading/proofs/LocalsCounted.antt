@@ -1,6 +1,6 @@
 -- Each local stands behind all locals of the functions in front of its own.
 use Rattle.std.proofs.Common.{◌≡◌, ℕ, zero, suc, ◌+◌, ◌<◌, ◌≤◌, List, [], ◌∷◌, ◌++◌, length, map, refl, sym, ap, ap₂, ◌∙◌, arith, length-append}
-use Rattle.std.specs.Prelude.{Option, Some, IsSome, option_to_list, replicate, slice_get, sum_by, zip}
+use Rattle.std.specs.Prelude.{Some, option_to_list, replicate, slice_get, sum_by, zip}
 use Rattle.std.specs.List.{range_with_len}
 use Rattle.std.proofs.lemmas.List.{map-append}
 use Rattle.std.proofs.lemmas.List.FromFn.{length-range_with_len}
@@ -17,7 +17,7 @@ use Rattle.walrus_model.proofs.Standing.{some_inj}
 use Rattle.walrus_naming.specs.Taken.{place_of, starts_from}
 use Rattle.walrus_naming.proofs.Locals.{in_front}
 use Rattle.walrus_reading.specs.Parsed.{local_count}
-use Rattle.walrus_reading.specs.Taken.{local_counts, locals_said, starts_of}
+use Rattle.walrus_reading.specs.Taken.{local_counts, starts_of}
 use Rattle.walrus_reading.proofs.LocalStarts.{joined}
 
 -- ---- places by counts

@@ -1,6 +1,6 @@
 -- Each place up to the count of all locals is that of a local of some function.
 use Rattle.std.proofs.Common.{◌≡◌, ℕ, zero, suc, ◌+◌, ◌<◌, ◌≤◌, Bool, true, false, List, [], ◌∷◌, ◌++◌, length, map, flat_map, refl, sym, ap, subst, ◌∙◌, arith, length-append}
-use Rattle.std.specs.Prelude.{Option, Some, IsSome, nat_lt, option_to_list, replicate, slice_get, sum_by, zip}
+use Rattle.std.specs.Prelude.{Some, IsSome, nat_lt, option_to_list, replicate, slice_get, sum_by, zip}
 use Rattle.std.specs.List.{AllByRecursion, range_with_len}
 use Rattle.std.proofs.lemmas.Bool.{ltb-false, ltb-true}
 use Rattle.std.proofs.lemmas.List.FromFn.{length-range_with_len}

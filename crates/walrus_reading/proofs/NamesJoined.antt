@@ -29,8 +29,8 @@ use Rattle.walrus_naming.proofs.ParsedNamed.{parsed_in_place}
 use Rattle.walrus_reading.specs.Held.{memory_keeps, table_keeps}
 use Rattle.walrus_reading.specs.Named.{AreBounds}
 use Rattle.walrus_reading.specs.Parsed.{LocalsInTurn}
-use Rattle.walrus_reading.specs.Taken.{HasTakenWith, local_counts, locals_said, starts_of}
-use Rattle.walrus_reading.proofs.BeforeNames.{is_unnamed, unnamed_module}
+use Rattle.walrus_reading.specs.Taken.{HasTakenWith, local_counts, locals_said}
+use Rattle.walrus_reading.proofs.BeforeNames.{is_unnamed}
 use Rattle.walrus_reading.proofs.CustomsAside.{customs_aside, renaming_aside, with_customs}
 use Rattle.walrus_reading.proofs.LocalsCounted.{counted_up_to}
 use Rattle.walrus_reading.proofs.Numbered.{types_many}

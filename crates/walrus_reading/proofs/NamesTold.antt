@@ -1,5 +1,5 @@
 -- Two modules that the same bytes are read as, and that are the same but for names, have the same names.
-use Rattle.std.proofs.Common.{inl, inr, ◌≡◌, ℕ, zero, suc, ◌+◌, ◌<◌, ◌≤◌, Bool, true, false, List, [], ◌∷◌, length, map, flat_map, refl, sym, ap, ap₂, subst, ◌∙◌, arith}
+use Rattle.std.proofs.Common.{inl, inr, ◌≡◌, ℕ, zero, suc, ◌<◌, ◌≤◌, Bool, true, false, List, [], ◌∷◌, length, map, flat_map, refl, sym, ap, ap₂, subst, ◌∙◌, arith}
 use Rattle.std.specs.Prelude.{Option, Some, None, IsSome, is_some, ◌⊎◌, nat_lt, option_map, option_to_list, slice_get, zip, if◌then◌else◌}
 use Rattle.std.specs.List.{AllZip}
 use Rattle.std.proofs.lemmas.Bool.{ltb-false, ltb-true, true≢false}
@@ -20,7 +20,7 @@ use Rattle.walrus_items.specs.Globals.{globals}
 use Rattle.walrus_items.specs.Memories.{memories}
 use Rattle.walrus_items.specs.Tables.{tables}
 use Rattle.walrus_items.specs.Tags.{tags}
-use Rattle.walrus_model.specs.Abstract.{Abstract, Name, ProducerField, TheModule, AnItem, ALocal}
+use Rattle.walrus_model.specs.Abstract.{Abstract, Name, ProducerField, AnItem, ALocal}
 use Rattle.walrus_model.specs.Config.{Config}
 use Rattle.walrus_model.specs.Live.{IsLive}
 use Rattle.walrus_model.specs.Names.{last_name, name_of, own_name}

@@ -13,6 +13,7 @@ use Rattle.walrus_items.specs.Functions.{FunctionValue, functions}
 use Rattle.walrus_model.specs.Abstract.{Name}
 use Rattle.walrus_model.specs.Sections.{imported, imported_function}
 use Rattle.walrus_model.proofs.Standing.{some_inj}
+use Rattle.walrus_code.specs.declared.location.InstrLocId.{InstrLocId}
 use Rattle.walrus_contents.specs.declared.parts.Contents.{Contents}
 use Rattle.walrus_naming.specs.Renamed.{renamed_from}
 use Rattle.walrus_naming.specs.Shown.{LocalValue, local_value, local_values, mend_data, mend_element, mend_function, mend_global, mend_local, mend_memory, mend_table, mend_tag, shown}
@@ -73,8 +74,8 @@ ids_still old new r h = record {
 
 -- ---- locations, and producers
 
-one_located : (body : wire.Body) (g : Option Name → Option Name) (slot : Option FunctionValue) → IsLocated body slot → IsLocated body (option_map (mend_function g) slot)
-one_located body g slot h = record {
+one_located : (Gives : ℕ → InstrLocId → Type 0) (body : wire.Body) (g : Option Name → Option Name) (slot : Option FunctionValue) → IsLocated Gives body slot → IsLocated Gives body (option_map (mend_function g) slot)
+one_located Gives body g slot h = record {
   value = mend_function g h.value;
   is = ap (option_map (mend_function g)) h.is;
   local = h.local;
@@ -82,21 +83,21 @@ one_located body g slot h = record {
   places = h.places;
 }
 
-all_located : (bodies : List wire.Body) (becomes : ℕ → Option Name → Option Name) (k : ℕ) (slots : List (Option FunctionValue)) → AllZip IsLocated bodies slots → AllZip IsLocated bodies (renamed_from mend_function becomes k slots)
-all_located [] becomes k [] h = tt
-all_located [] becomes k (s ∷ slots) h = absurd h
-all_located (b ∷ bodies) becomes k [] h = absurd h
-all_located (b ∷ bodies) becomes k (s ∷ slots) h = (one_located b (becomes k) s h.0, all_located bodies becomes (k + 1) slots h.1)
+all_located : (Gives : ℕ → InstrLocId → Type 0) (bodies : List wire.Body) (becomes : ℕ → Option Name → Option Name) (k : ℕ) (slots : List (Option FunctionValue)) → AllZip (IsLocated Gives) bodies slots → AllZip (IsLocated Gives) bodies (renamed_from mend_function becomes k slots)
+all_located Gives [] becomes k [] h = tt
+all_located Gives [] becomes k (s ∷ slots) h = absurd h
+all_located Gives (b ∷ bodies) becomes k [] h = absurd h
+all_located Gives (b ∷ bodies) becomes k (s ∷ slots) h = (one_located Gives b (becomes k) s h.0, all_located Gives bodies becomes (k + 1) slots h.1)
 
-behind_located : (bodies : List wire.Body) (becomes : ℕ → Option Name → Option Name) (k n : ℕ) (slots : List (Option FunctionValue)) → AllZip IsLocated bodies (drop n slots) → AllZip IsLocated bodies (drop n (renamed_from mend_function becomes k slots))
-behind_located bodies becomes k zero slots h = all_located bodies becomes k slots h
-behind_located bodies becomes k (suc n) [] h = h
-behind_located bodies becomes k (suc n) (s ∷ slots) h = behind_located bodies becomes (k + 1) n slots h
+behind_located : (Gives : ℕ → InstrLocId → Type 0) (bodies : List wire.Body) (becomes : ℕ → Option Name → Option Name) (k n : ℕ) (slots : List (Option FunctionValue)) → AllZip (IsLocated Gives) bodies (drop n slots) → AllZip (IsLocated Gives) bodies (drop n (renamed_from mend_function becomes k slots))
+behind_located Gives bodies becomes k zero slots h = all_located Gives bodies becomes k slots h
+behind_located Gives bodies becomes k (suc n) [] h = h
+behind_located Gives bodies becomes k (suc n) (s ∷ slots) h = behind_located Gives bodies becomes (k + 1) n slots h
 
-pub located_still : (r : wire.Module) (old new : Contents) → Renames (shown old) (shown new) → AreLocatedIn r (functions old.funcs) → AreLocatedIn r (functions new.funcs)
-located_still r old new is h =
+pub located_still : (Gives : ℕ → InstrLocId → Type 0) (r : wire.Module) (old new : Contents) → Renames (shown old) (shown new) → AreLocatedIn Gives r (functions old.funcs) → AreLocatedIn Gives r (functions new.funcs)
+located_still Gives r old new is h =
     let n : ℕ = length (imported imported_function 0 r.imports) in
-    subst (λ (l : List (Option FunctionValue)). AllZip IsLocated r.bodies (drop n l)) (sym is.functions) (behind_located r.bodies is.functions_become 0 n (functions old.funcs) h)
+    subst (λ (l : List (Option FunctionValue)). AllZip (IsLocated Gives) r.bodies (drop n l)) (sym is.functions) (behind_located Gives r.bodies is.functions_become 0 n (functions old.funcs) h)
 
 pub produced_still : (r : wire.Module) (old new : Contents) → Renames (shown old) (shown new) → HoldsProducers r old.producers → HoldsProducers r new.producers
 produced_still r old new is h = subst (λ (made : ModuleProducers). HoldsProducers r made) (sym is.producers) h

@@ -30,6 +30,11 @@ pub record HasNames (features : Features) (synthetic : Bool) (r : wire.Module) (
   pub asked : bounds.synthetic ≡ synthetic
   pub named : AreNamed bounds r.customs (shown before) (shown m)
 
+-- what is answered, without the count beside it
+abbrev pub first_told : {A B : Type 0} → Result (A × B) Error → Result A Error
+first_told (Ok x) = Ok x.0
+first_told (Err e) = Err e
+
 -- taken in with names; refused: the bodies aren't read, or memory ran out
 abbrev pub TakesNamed : Features → Bool → wire.Module → Result Contents Error → Type 0
 TakesNamed features synthetic r (Ok m) = HasNames features synthetic r m

@@ -1,6 +1,8 @@
 -- What parsing gives, and when it refuses.
 use Rattle.wasm_frames.specs.Record as wire
 use Rattle.std.specs.Prelude.{ℕ, ◌+◌, Bool, List, length, Option, Some, None, IsSome, map, sum_by, zip, ◌≡◌, ⊤}
+use Rattle.walrus_code.specs.declared.location.InstrLocId.{InstrLocId}
+use Rattle.walrus_groups.specs.Groups.{types_from}
 use Rattle.walrus_model.specs.Abstract.{Abstract, Body}
 use Rattle.walrus_model.specs.Config.{Config}
 use Rattle.walrus_rules.specs.Chain.{ParsedAs}
@@ -70,11 +72,17 @@ RefusesBytes c bytes (Memory e) = ⊤
 RefusesBytes c bytes (InvalidWasm kind) = Accepts c bytes → ⊥
 RefusesBytes c bytes _ = ⊥
 
--- the bytes frame sections, and each operator of the functions that they define is located where it stands in the bytes
-pub record AreLocated (bytes : List ℕ) (funcs : ModuleFunctions) : Type 0 where
+-- the bytes frame sections, and each operator of the functions that they define is located as is given for where it stands in the bytes
+pub record AreLocated (Gives : ℕ → InstrLocId → Type 0) (bytes : List ℕ) (funcs : ModuleFunctions) : Type 0 where
   pub sections : wire.Module
   pub framed : Frames bytes sections
-  pub located : AreLocatedIn sections (functions funcs)
+  pub located : AreLocatedIn Gives sections (functions funcs)
+
+-- the bytes frame sections, which list so many types
+pub record HasTypesRead (bytes : List ℕ) (count : ℕ) : Type 0 where
+  pub sections : wire.Module
+  pub framed : Frames bytes sections
+  pub counted : count ≡ length (types_from 0 sections.types)
 
 -- The bytes frame sections that keep the rules, some contents without names hold exactly these, and m is the same but for names, which `IsParsed`
 -- tells. Beside the view: where each item sits, that nothing is deleted, and which locals there are.

@@ -117,13 +117,27 @@ pub record HoldsExport (id : ℕ) (e : entries.Export) (slot : Option ExportValu
 abbrev pub IsPlace : ℕ → InstrLocId → Type 0
 IsPlace place loc = location loc ≡ location_at place
 
--- a slot holds a function each operator of which is located where it stands in this body
-pub record IsLocated (body : wire.Body) (slot : Option FunctionValue) : Type 0 where
-  pub value : FunctionValue
-  pub is : slot ≡ Some value
-  pub local : LocalFunction
-  pub kind : value.kind ≡ Local local
-  pub places : BodyLocated IsPlace body.start body.bytes (locations local.operators.items)
+-- `Gives place loc`: an operator whose first byte stands at this place of the input is given this location.
+module _ (Gives : ℕ → InstrLocId → Type 0) where
+  -- a slot holds a function each operator of which is located as is given for where it stands in this body
+  pub record IsLocated (body : wire.Body) (slot : Option FunctionValue) : Type 0 where
+    pub value : FunctionValue
+    pub is : slot ≡ Some value
+    pub local : LocalFunction
+    pub kind : value.kind ≡ Local local
+    pub places : BodyLocated Gives body.start body.bytes (locations local.operators.items)
+
+  -- the functions with bodies are located in them: they stand behind those that imports bring
+  abbrev pub AreLocatedIn : wire.Module → List (Option FunctionValue) → Type 0
+  AreLocatedIn r slots = AllZip IsLocated r.bodies (drop (length (imported imported_function 0 r.imports)) slots)
+
+  -- one more slot holds a function that is located in the body
+  abbrev pub AddsLocated : wire.Body → (old new : List (Option FunctionValue)) → Type 0
+  AddsLocated body old new = (slot : Option FunctionValue) × ((new ≡ old ++ slot ∷ []) × IsLocated body slot)
+
+  -- behind the others, slots hold functions that are located in these bodies
+  abbrev pub AddLocated : List wire.Body → (old new : List (Option FunctionValue)) → Type 0
+  AddLocated bodies old new = (added : List (Option FunctionValue)) × ((new ≡ old ++ added) × AllZip IsLocated bodies added)
 
 -- functions with bodies stand behind the others
 pub record AddsFunctions (types : ℕ → Option TypeDef) (said : List (ℕ × Said)) (old new : List (Option FunctionValue)) : Type 0 where
@@ -136,10 +150,6 @@ pub record HoldsFunctions (types : ℕ → Option TypeDef) (brought : List Funct
   pub front : List (Option FunctionValue)
   pub brings : AllPlaced HoldsImportedFunction 0 brought front
   pub own : AddsFunctions types said front slots
-
--- the functions with bodies are located in them: they stand behind those that imports bring
-abbrev pub AreLocatedIn : wire.Module → List (Option FunctionValue) → Type 0
-AreLocatedIn r slots = AllZip IsLocated r.bodies (drop (length (imported imported_function 0 r.imports)) slots)
 
 -- The module holds these sections, whose bodies say this: the imports, the items of each index space and the exports in their order, the start
 -- function, the types that legacy handlers need beside those that were read, and the locals of all functions, both function by function; nothing
@@ -179,10 +189,10 @@ TakesSections features r (Err _) = ⊥
 -- ---- for the functions inside
 
 -- what a body may name under these types, and the types of tags by their places
-abbrev pub context_under : Under → ModuleTypes → Context
+abbrev pub context_under : {L : Type 0} → Under L → ModuleTypes → Context
 context_under u types = context (ids_at u.indices.now) (is_function_at types) u.features.now
 
-abbrev pub tags_under : Under → ℕ → Option ℕ
+abbrev pub tags_under : {L : Type 0} → Under L → ℕ → Option ℕ
 tags_under u = tag_places u.tag_types.now
 
 -- the types by their places
@@ -231,14 +241,6 @@ pub record AreTaken (c : Context) (types : ℕ → Option TypeDef) (tags : ℕ �
   pub locals : AllPlaced HoldsLocal 0 (flat_map (locals_said types) said) all
   pub handlers : InTurn (AddsHandlersOf types tags) said functions.added old_types new_types
   pub starts_are : starts ≡ starts_of types (length old) said
-
--- one more slot holds a function that is located in the body
-abbrev pub AddsLocated : wire.Body → (old new : List (Option FunctionValue)) → Type 0
-AddsLocated body old new = (slot : Option FunctionValue) × ((new ≡ old ++ slot ∷ []) × IsLocated body slot)
-
--- behind the others, slots hold functions that are located in these bodies
-abbrev pub AddLocated : List wire.Body → (old new : List (Option FunctionValue)) → Type 0
-AddLocated bodies old new = (added : List (Option FunctionValue)) × ((new ≡ old ++ added) × AllZip IsLocated bodies added)
 
 -- one more slot holds the function; refused: its body isn't read, or memory ran out
 abbrev pub TakesFunction : Context → (types : ℕ → Option TypeDef) (tags : ℕ → Option ℕ) → ℕ × wire.Body → (old_types new_types : Slots) (old_locals new_locals : List (Option LocalItem)) (old new : List (Option FunctionValue)) → Result Unit Error → Type 0

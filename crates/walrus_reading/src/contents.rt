@@ -8,7 +8,6 @@ ghost use Rattle.walrus_types.specs.Locals.{locals};
 ghost use Rattle.walrus_types.specs.ModuleTypes.{type_names, type_slots};
 ghost use Rattle.walrus_types.specs.Operators.{Functions, Space, Types};
 ghost use Rattle.walrus_code.specs.Indices.{places_in, ids_at};
-ghost use Rattle.walrus_code.specs.Location.{location, location_at};
 ghost use Rattle.walrus_bodies.specs.BodyRead.{BodyLocated};
 ghost use Rattle.walrus_bodies.specs.Results.{locations};
 ghost use Rattle.walrus_bodies.specs.FunctionTypes.{is_function_at};
@@ -24,7 +23,7 @@ ghost use Rattle.walrus_reading.specs.Imported.{HoldsImported};
 ghost use Rattle.walrus_reading.specs.Numbers.{FitsIndices};
 ghost use Rattle.walrus_reading.specs.Placed.{AllPlaced};
 ghost use Rattle.walrus_reading.specs.Producers.{HoldsProducers};
-ghost use Rattle.walrus_reading.specs.Taken.{AddLocated, AddsExport, AddsLocated, AreLocatedIn, AreThere, HoldsExport, IsPlace, TakesFunction, TakesFunctions, TakesSections, context_under, tags_under, types_in};
+ghost use Rattle.walrus_reading.specs.Taken.{AddLocated, AddsExport, AddsLocated, AreLocatedIn, AreThere, HoldsExport, TakesFunction, TakesFunctions, TakesSections, context_under, tags_under, types_in};
 ghost use Rattle.walrus_model.specs.Sections.{space_of};
 ghost use Rattle.walrus_reading.specs.Sections.{Rules};
 ghost use Rattle.walrus_parts.specs.Errors.{out_of_memory};
@@ -50,27 +49,29 @@ use walrus_items::{ExportItem, ModuleExports, ModuleFunctions, ModuleTags};
 use walrus_parts::{Error, Result};
 use wasm_wire::{Raw, RawBody, RawExport, RawExportKind, RawGroup};
 
-/// What sections that keep the rules hold, where bodies may use these proposals; where the locals of each function begin, with the end behind them;
-/// and how many types were read.
+/// What sections that keep the rules hold, where bodies may use these proposals and `locate` gives each operator its location; where the locals
+/// of each function begin, with the end behind them; and how many types were read.
 ///
 /// # Errors
 ///
 /// `InvalidWasm` exactly where a body isn't read, and `Memory`.
-pub(crate) fn read_contents(
+pub(crate) fn read_contents<L: Fn(&usize) -> InstrLocId>(
     alloc: Global,
     raw: &Raw<'_>,
     features: &Features,
+    locate: &L,
 ) -> Result<(Contents, Vec<usize>, usize)>
     requires rules { Rules (sections raw.now) }
     requires room { FitsIndices (sections raw.now) }
+    requires callable { L.IsAlwaysCallable locate.now }
     ensures taken { TakesSections features.now (sections raw.now) result }
-    ensures located { IfOk result (λ m. AreLocatedIn (sections raw.now) (functions m.0.funcs)) }
+    ensures located { IfOk result (λ m. AreLocatedIn (FnReturnsAt L.Fn locate.now) (sections raw.now)
+        (functions m.0.funcs)) }
     ensures produced { IfOk result (λ m. HoldsProducers (sections raw.now) m.0.producers) }
     ensures counted { IfOk result (λ m. m.2 ≡ length (types_from 0 (sections raw.now).types)) }
 {
     let mut indices = IndicesToIds::new(alloc);
-    let mut contents = read_imported(alloc, raw, &mut indices)?;
-    let type_count = contents.types.next_id().index();
+    let (mut contents, type_count) = read_imported(alloc, raw, &mut indices)?;
     add_tags(&raw.tags, &indices, &mut contents.tags)?;
     let tag_types = types_of_tags(alloc, &contents.tags)?;
     let under = Under {
@@ -78,9 +79,10 @@ pub(crate) fn read_contents(
         features,
         indices: &indices,
         tag_types: &tag_types,
+        locate,
     };
     let starts = add_functions(
-        under,
+        &under,
         &raw.functions,
         &raw.bodies,
         &mut contents.types,
@@ -110,12 +112,17 @@ pub(crate) fn read_contents(
     Ok((contents, starts, type_count))
 }
 
-// The types, and what imports bring. All indices that sections declare lead to their items then.
-fn read_imported(alloc: Global, raw: &Raw<'_>, indices: &mut IndicesToIds) -> Result<Contents>
+// The types, how many there are, and what imports bring. All indices that sections declare lead to their items then.
+fn read_imported(
+    alloc: Global,
+    raw: &Raw<'_>,
+    indices: &mut IndicesToIds,
+) -> Result<(Contents, usize)>
     requires rules { Rules (sections raw.now) }
     requires room { FitsIndices (sections raw.now) }
     requires no_indices { (space : Space) → places_in indices.old space ≡ [] }
-    ensures begun { IfOk result (HoldsImported (sections raw.now)) }
+    ensures begun { IfOk result (λ m. HoldsImported (sections raw.now) m.0) }
+    ensures counted { IfOk result (λ m. m.1 ≡ length (type_slots m.0.types)) }
     ensures numbered { OnOk result (ids_at indices.new ≡ declared (sections raw.now)) }
     ensures fails { IsOkUnless result out_of_memory }
 {
@@ -123,7 +130,8 @@ fn read_imported(alloc: Global, raw: &Raw<'_>, indices: &mut IndicesToIds) -> Re
     add_types(alloc, &raw.types, indices, &mut contents.types)?;
     add_imports(&raw.imports, indices, &mut contents)?;
     number_items(alloc, raw, &contents, indices)?;
-    Ok(contents)
+    let type_count = contents.types.next_id().index();
+    Ok((contents, type_count))
 }
 
 // The function that the start section names, if there is one.
@@ -133,13 +141,15 @@ fn start_named(raw: Option<u32>, indices: &IndicesToIds) -> Option<FunctionId>
     indices.get_func(raw?)
 }
 
-// What bodies are read under: the proposals that they may use, what indices name, and the types of tags by their places.
-#[derive(Clone, Copy)]
-struct Under<'a> {
+// What bodies are read under: the proposals that they may use, what indices name, the types of tags by their places, and what gives operators
+// their locations.
+#[derive(Drop)]
+struct Under<'a, L> {
     alloc: Global,
     features: &'a Features,
     indices: &'a IndicesToIds,
     tag_types: &'a [TypeId],
+    locate: &'a L,
 }
 
 // Each type gets the next id and the next index, and no name.
@@ -183,50 +193,46 @@ fn types_of_tags(alloc: Global, all: &ModuleTags) -> Result<Vec<TypeId>>
 
 // Reads the body of a function of this type. The function gets the next id; its locals are its parameters, and behind them
 // those that the body declares. The types of its legacy handlers are found among the types, or added to them.
-fn add_function(
-    under: Under<'_>,
+fn add_function<L: Fn(&usize) -> InstrLocId>(
+    under: &Under<'_, L>,
     index: u32,
     body: &RawBody<'_>,
     types: &mut ModuleTypes,
     all: &mut ModuleLocals,
     funcs: &mut ModuleFunctions,
 ) -> Result<()>
-    requires declared { ids_at under.indices.now Types index ≡ Some index }
+    requires callable { L.IsAlwaysCallable under.now.locate.now }
+    requires declared { ids_at under.now.indices.now Types index ≡ Some index }
     requires typed { is_function_at types.old index ≡ true }
-    ensures taken { TakesFunction (context_under under.entry types.old) (types_in types.old)
-        (tags_under under.entry) (index, body_record body.now) (slots_of types.old) (slots_of types.new)
+    ensures taken { TakesFunction (context_under under.now types.old) (types_in types.old)
+        (tags_under under.now) (index, body_record body.now) (slots_of types.old) (slots_of types.new)
         (locals all.old) (locals all.new) (functions funcs.old) (functions funcs.new) result }
-    ensures located { OnOk result (AddsLocated (body_record body.now) (functions funcs.old)
-        (functions funcs.new)) }
+    ensures located { OnOk result (AddsLocated (FnReturnsAt L.Fn under.now.locate.now) (body_record body.now)
+        (functions funcs.old) (functions funcs.new)) }
 {
     let Some(ty) = under.indices.get_type(index) else {
         unreachable!();
     };
-    let locate = |place: &usize| -> InstrLocId
-        ensures { location result ≡ location_at place.now }
-    { InstrLocId::of_place(*place) };
-    let function = read_located(under, ty, body, types, all, &locate)?;
+    let function = read_located(under, ty, body, types, all)?;
     funcs.add_local(function)?;
     Ok(())
 }
 
-// Reads the body of a function of this type, each operator of which is located where it stands.
+// Reads the body of a function of this type.
 fn read_located<L: Fn(&usize) -> InstrLocId>(
-    under: Under<'_>,
+    under: &Under<'_, L>,
     ty: TypeId,
     body: &RawBody<'_>,
     types: &mut ModuleTypes,
     all: &mut ModuleLocals,
-    locate: &L,
 ) -> result::Result<LocalFunction, IrError>
     requires typed { is_function_at types.old (place ty) ≡ true }
-    requires callable { L.IsAlwaysCallable locate.now }
-    requires tells { (place : ℕ) (loc : _) → FnReturnsAt L.Fn locate.now place loc → IsPlace place loc }
-    ensures read { ReadsFunction (context_under under.entry types.old) (tags_under under.entry) (place ty)
+    requires callable { L.IsAlwaysCallable under.now.locate.now }
+    ensures read { ReadsFunction (context_under under.now types.old) (tags_under under.now) (place ty)
         (slots_of types.old) (slots_of types.new) (locals all.old) (locals all.new)
         body.now.bytes.now result }
-    ensures located { IfOk result (λ f. BodyLocated IsPlace body.now.start body.now.bytes.now
-        (locations f.operators.items)) }
+    ensures located { IfOk result (λ f. BodyLocated (FnReturnsAt L.Fn under.now.locate.now)
+        body.now.start body.now.bytes.now (locations f.operators.items)) }
 {
     read_body(
         under.alloc,
@@ -238,30 +244,31 @@ fn read_located<L: Fn(&usize) -> InstrLocId>(
         under.indices,
         types,
         all,
-        locate,
+        under.locate,
     )
 }
 
 // Reads the bodies of the functions of these types, which get the next ids. The module has no other locals. Answers where the locals of each
 // function begin, and behind them the end.
-fn add_functions(
-    under: Under<'_>,
+fn add_functions<L: Fn(&usize) -> InstrLocId>(
+    under: &Under<'_, L>,
     of_types: &[u32],
     bodies: &[RawBody<'_>],
     types: &mut ModuleTypes,
     all: &mut ModuleLocals,
     funcs: &mut ModuleFunctions,
 ) -> Result<Vec<usize>>
+    requires callable { L.IsAlwaysCallable under.now.locate.now }
     requires no_locals { locals all.old ≡ [] }
     requires as_many { length bodies.now ≡ length of_types.now }
-    requires declared { All (λ t. ids_at under.indices.now Types t ≡ Some t) of_types.now }
+    requires declared { All (λ t. ids_at under.now.indices.now Types t ≡ Some t) of_types.now }
     requires typed { All (λ t. is_function_at types.old t ≡ true) of_types.now }
-    requires there { AreThere (ids_at under.indices.now) (tags_under under) (type_slots types.old) }
-    ensures taken { TakesFunctions (context_under under.entry types.old) (types_in types.old)
-        (tags_under under.entry) (zip of_types.now (map body_record bodies.now)) all.new
+    requires there { AreThere (ids_at under.now.indices.now) (tags_under under.now) (type_slots types.old) }
+    ensures taken { TakesFunctions (context_under under.now types.old) (types_in types.old)
+        (tags_under under.now) (zip of_types.now (map body_record bodies.now)) all.new
         (slots_of types.old) (slots_of types.new) (functions funcs.old) (functions funcs.new) result }
-    ensures located { IfOk result (λ _. AddLocated (map body_record bodies.now) (functions funcs.old)
-        (functions funcs.new)) }
+    ensures located { IfOk result (λ _. AddLocated (FnReturnsAt L.Fn under.now.locate.now)
+        (map body_record bodies.now) (functions funcs.old) (functions funcs.new)) }
 {
     funcs.reserve(of_types.len())?;
     let mut starts = first_starts(under.alloc, funcs)?;

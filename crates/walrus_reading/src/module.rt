@@ -1,14 +1,15 @@
 //! Reading a module ("Binary Format > Modules").
 ghost use Rattle.std.specs.Prelude.{IfOk, IfErr};
 ghost use Rattle.walrus_model.specs.Config.{Config};
-ghost use Rattle.walrus_reading.specs.Parsed.{AreLocated, IsParsed, IsReadWith, ItemsAtOwnIds, KeepsCustoms, RefusesBytes, TakenFrom, read_view};
+ghost use Rattle.std.specs.Fn.{FnReturnsAt};
+ghost use Rattle.walrus_reading.specs.Parsed.{AreLocated, HasTypesRead, IsParsed, IsReadWith, ItemsAtOwnIds, KeepsCustoms, RefusesBytes, TakenFrom, read_view};
 
 use crate::customs::keep_sections;
 use crate::naming::read_named;
 use crate::numbers::check_room;
 use std::alloc::Global;
 use walrus_contents::Contents;
-use walrus_ir::Features;
+use walrus_ir::{Features, InstrLocId};
 use walrus_parts::{RawCustomSection, Result};
 use wasm_wire::{check, read_module};
 
@@ -19,10 +20,12 @@ pub struct ReadModule {
     pub contents: Contents,
     /// Its custom sections but those of names, of producers and of debug information, in their order.
     pub customs: Vec<RawCustomSection>,
+    /// How many of its types are the input's; behind them stand those that legacy handlers need.
+    pub type_count: usize,
 }
 
 /// The module that the bytes are ("Binary Format > Modules"), where bodies may use these proposals. Each item gets the id of
-/// its index, and each operator the place of its first byte; the locals stand function by function, of each its parameters and then all that
+/// its index, and each operator the location that `locate` gives for the place of its first byte; the locals stand function by function, of each its parameters and then all that
 /// it declares. Each type that a legacy handler needs is found among the types, or stands behind those that were read. Names are those that the
 /// custom sections called `name` give ("Appendix > Custom Sections > Name Section"), and where `synthetic` says so, functions and locals that
 /// have none then get one of their index. Of each custom section called `producers` the fields that stand whole before its first fault are held,
@@ -31,20 +34,33 @@ pub struct ReadModule {
 /// # Errors
 ///
 /// `InvalidWasm` exactly where the bytes are no module, and `Memory`.
-pub fn read(alloc: Global, bytes: &[u8], features: Features, synthetic: bool) -> Result<ReadModule>
+pub fn read<L: Fn(&usize) -> InstrLocId>(
+    alloc: Global,
+    bytes: &[u8],
+    features: Features,
+    synthetic: bool,
+    locate: &L,
+) -> Result<ReadModule>
+    requires callable { L.IsAlwaysCallable locate.now }
     ensures found { (c : Config) → IsReadWith c features synthetic
         → IfOk result (λ m. IsParsed c bytes.now (read_view m)) }
     ensures refused { (c : Config) → IsReadWith c features synthetic
         → IfErr result (RefusesBytes c bytes.now) }
     ensures taken { IfOk result (λ m. TakenFrom features bytes.now m.contents) }
     ensures own_ids { IfOk result (λ m. ItemsAtOwnIds m.contents) }
-    ensures located { IfOk result (λ m. AreLocated bytes.now m.contents.funcs) }
+    ensures located { IfOk result (λ m. AreLocated (FnReturnsAt L.Fn locate.now) bytes.now
+        m.contents.funcs) }
     ensures kept { IfOk result (λ m. KeepsCustoms bytes.now m.customs.items) }
+    ensures counted { IfOk result (λ m. HasTypesRead bytes.now m.type_count) }
 {
     let raw = read_module(alloc, bytes)?;
     check(alloc, &raw)?;
     check_room(&raw)?;
     let customs = keep_sections(alloc, &raw.customs)?;
-    let contents = read_named(alloc, &raw, &features, synthetic)?;
-    Ok(ReadModule { contents, customs })
+    let (contents, type_count) = read_named(alloc, &raw, &features, synthetic, locate)?;
+    Ok(ReadModule {
+        contents,
+        customs,
+        type_count,
+    })
 }

@@ -14,12 +14,6 @@ use walrus_test_support::reference;
 // More calls than a scene makes, with one that is made again.
 const MOST_TURNS: usize = 32;
 
-fn config_of(scene: &Scene) -> ModuleConfig {
-    let mut config = ModuleConfig::new();
-    config.generate_producers_section(scene.produces);
-    config
-}
-
 // How a scene ends where reading its bytes is refused so.
 fn unread(refusal: Error) -> Outcome {
     match refused(refusal) {
@@ -71,7 +65,9 @@ fn outcome_of(left: &[Step]) -> Outcome {
 
 /// What comes of a scene without imports, whose texts say these bytes.
 pub fn played(alloc: Global, scene: &Scene, input: &[u8], output: &[u8]) -> Outcome {
-    let mut module = match config_of(scene).parse(alloc, input) {
+    let mut config = ModuleConfig::new();
+    config.generate_producers_section(scene.produces);
+    let mut module = match config.parse(alloc, input) {
         Ok(module) => module,
         Err(refusal) => return unread(refusal),
     };
@@ -106,7 +102,9 @@ pub fn played(alloc: Global, scene: &Scene, input: &[u8], output: &[u8]) -> Outc
 
 /// What comes of a scene of imports.
 pub fn imported(alloc: Global, scene: &Scene, input: &[u8], output: &[u8]) -> Outcome {
-    let mut module = match config_of(scene).parse(alloc, input) {
+    let mut config = ModuleConfig::new();
+    config.generate_producers_section(scene.produces);
+    let mut module = match config.parse(alloc, input) {
         Ok(module) => module,
         Err(refusal) => return unread(refusal),
     };

@@ -34,7 +34,7 @@ use Rattle.walrus_writing.proofs.TextStands.{all_bodies_stand, as_many_texts, se
 use Rattle.walrus_writing.proofs.TypesEntered.{as_many_functions}
 use Rattle.walrus_writing.proofs.WithCustoms.{carried_with, flags_with, module_with, text_with}
 use Rattle.walrus_writing.proofs.WrittenAs.{renaming_of}
-use Rattle.walrus_writing.proofs.WrittenLemmas.{written_as_said}
+use Rattle.walrus_writing.proofs.WrittenLemmas.{renaming_said, written_as_said}
 
 -- ---- the choices
 
@@ -88,6 +88,10 @@ module _ (c : Config) (p : Parts) (job : Task) (with : IsWrittenWith c job.choic
 
   pub written : (r : Records p job.choices.features) → r.names ≡ job.names → (sayable : IsSayable W) → IsWrittenAs c W (module_with r (text_said r sayable))
   written r same sayable = written_as_said c job with p declared r (text_said r sayable) (say_so r sayable) own roots (asked_by r same)
+
+  pub renaming_written : (r : Records p job.choices.features) (same : r.names ≡ job.names) (sayable : IsSayable W) → (written r same sayable).written.renaming ≡ renaming_of r
+  unfolding written
+  renaming_written r same sayable = renaming_said c job with p declared r (text_said r sayable) (say_so r sayable) own roots (asked_by r same)
 
   -- what is spelled is what the module is written as
   pub emitted : (bytes : List ℕ) → Spells p job bytes → IsEmitted c W bytes

@@ -1,12 +1,12 @@
 -- What a refusal of a part says of the items that are written, and the records that are.
 use Rattle.wasm_entries.specs.Record as entries
 use Rattle.std.proofs.Common.{inl, inr, ◌≡◌, ℕ, ◌-◌, ◌<◌, ◌^◌, List, [], ◌∷◌, ◌++◌, map, length, refl, sym, ap, ap₂, ◌∙◌, subst, None, Some}
-use Rattle.std.specs.Prelude.{Option, All, Err, option_and_then, option_map}
+use Rattle.std.specs.Prelude.{Option, All, Err, Ok, option_and_then, option_map}
 use Rattle.std.specs.Global.{Vec}
 use Rattle.std.specs.List.{AllZip}
 use Rattle.std.specs.Str.{IsUtf8}
 use Rattle.std.proofs.lemmas.List.{length-map}
-use Rattle.std.proofs.lemmas.List.Elements.{All-map}
+use Rattle.std.proofs.lemmas.List.Elements.{All-filter, All-map}
 use Rattle.wasm_frames.specs.Record as wire
 use Rattle.wasm_entries.specs.Record.{data_entry, element_entry, export_entry, global_entry, group, import_entry, table_entry}
 use Rattle.wasm_entries.specs.declared.record.RawData.{RawData}
@@ -21,7 +21,7 @@ use Rattle.wasm_entries.specs.Spelling.{DataStands, ElementStands, GlobalStands,
 use Rattle.wasm_entries.specs.TypeSpelling.{LimitsStand}
 use Rattle.wasm_payloads.specs.Lent.{NamesFit}
 use Rattle.wasm_payloads.specs.Spelling.{ProducersFit}
-use Rattle.wasm_wire.specs.ModuleSpelling.{ModuleFits, WritesModule, module_bytes}
+use Rattle.wasm_wire.specs.ModuleSpelling.{ModuleFits, TellsPlaces, WritesModule, as_written, code_place, group_of, is_in, module_bytes}
 use Rattle.wasm_forms.specs.declared.error.WireError.{WireError}
 use Rattle.wasm_forms.specs.declared.error.WireError.TheVariants as Wire
 use Rattle.walrus_base.specs.Arena.{entries as entries_in, item_at, items}
@@ -57,6 +57,12 @@ use Rattle.walrus_rules.specs.Spelling.{IsCount}
 use Rattle.walrus_rules.specs.Text.{NameText, raw_field}
 use Rattle.walrus_names.specs.Names.{body_used, first_own, if_chosen, names_said}
 use Rattle.walrus_names.specs.declared.locals.WrittenBody.{WrittenBody}
+use Rattle.wasm_frames.specs.Frames.{CustomSection}
+use Rattle.wasm_writer.specs.Spelling.{SectionFits, count_place, range_of}
+use Rattle.wasm_writer.specs.declared.places.CodePlaces.{CodePlaces}
+use Rattle.wasm_wire.specs.declared.written.CustomGroup.TheVariants.{Dylink}
+use Rattle.walrus_rules.proofs.OneList.{All-front}
+use Rattle.walrus_writing.specs.Located.{ArePlaces}
 use Rattle.walrus_writing.specs.Customs.{Task, chosen_producers, sections_made}
 use Rattle.walrus_writing.specs.Parts.{IsWrittenBody, export_with_index, memory_limits, tag_index, type_index, unplaced}
 use Rattle.walrus_plan.specs.Brought.{import_numbers, own_of, own_places, places_brought}
@@ -287,3 +293,56 @@ module _ (p : Parts) (job : Task) (names : Lookup) (named : names ≡ job.names)
     records_refused X Wire.Malformed refused = absurd refused
     records_refused X (Wire.Memory e) refused = tt
     records_refused X Wire.TooLarge refused = inr (record { records = records_of; names_are = named; too_large = λ fit. refused (subst ModuleFits (sym module_is) fit) })
+
+  -- the module of these sections with other custom sections: those of dynamic linking alone
+  module _ (order : List ℕ) (code : List wire.Body) (customs dylinks : List wire.Custom) (none : order ≡ []) (codes : code ≡ map (λ (b : WrittenBody). unplaced b.bytes.items) bodies) (customs_are : customs ≡ dylinks) where
+    abbrev part_with : List wire.Body → List wire.Custom → wire.Module
+    part_with all front = sections_with (map group raws) (map import_entry raw_imports) raw_functions (map table_entry raw_tables) raw_memories raw_tags (map global_entry raw_globals) (map export_entry exported) started (map element_entry raw_elements) count all (map data_entry raw_segments) front
+
+    abbrev part : wire.Module
+    part = record (part_with code customs) { order = order }
+
+    part_is : part ≡ module_of records_of dylinks
+    part_is =
+        ap (λ (ids : List ℕ). record (part_with code customs) { order = ids }) none
+        ∙ ap (λ (all : List wire.Body). part_with all customs) (codes ∙ sym (map-map unplaced (λ (b : WrittenBody). b.bytes.items) bodies))
+        ∙ ap (part_with (map unplaced (map (λ (b : WrittenBody). b.bytes.items) bodies))) customs_are
+
+    pub places_told : (places : CodePlaces) (texts_of : List (List ℕ)) → map (λ (b : WrittenBody). b.bytes.items) bodies ≡ texts_of → TellsPlaces (Ok places) part
+        → ArePlaces p names job.choices.features (map place plan.own_functions.items) texts_of dylinks places
+    places_told places texts_of same told = record {
+      records = records_of;
+      names_are = refl;
+      order_is = refl;
+      bodies_are = same;
+      count = told.0 ∙ ap (λ (x : wire.Module). count_place (code_place x) x.bodies) part_is;
+      ranges = told.1 ∙ ap (λ (x : wire.Module). map range_of (as_written x).bodies) part_is;
+    }
+
+    abbrev Fits : wire.Custom → Type 0
+    Fits x = SectionFits (CustomSection x)
+
+    -- it fits where the whole does
+    part_fits : group_of Dylink job.sections ≡ dylinks → ModuleFits (module_of records_of (customs_written job records_of)) → ModuleFits (module_of records_of dylinks)
+    part_fits same fit = record {
+      types = fit.types;
+      imports = fit.imports;
+      functions = fit.functions;
+      tables = fit.tables;
+      memories = fit.memories;
+      tags = fit.tags;
+      globals = fit.globals;
+      exports = fit.exports;
+      start = fit.start;
+      elements = fit.elements;
+      data_count = fit.data_count;
+      bodies = fit.bodies;
+      data_segments = fit.data_segments;
+      customs = subst (λ (l : List wire.Custom). All Fits l) same
+          (All-filter (λ (x : wire.Custom). is_in Dylink x.name) Fits job.sections (All-front Fits job.sections (sections_made (names_written records_of job.choices) producers_chosen) fit.customs));
+    }
+
+    pub places_refused : group_of Dylink job.sections ≡ dylinks → (X : Type 0) (e : WireError) → TellsPlaces (Err e) part → RefusesItems {X = X} p job (Err (error_of_wire e))
+    places_refused same X Wire.Malformed refused = absurd refused
+    places_refused same X (Wire.Memory e) refused = tt
+    places_refused same X Wire.TooLarge refused = inr (record { records = records_of; names_are = named; too_large = λ fit. refused (subst ModuleFits (sym part_is) (part_fits same fit)) })

@@ -135,3 +135,8 @@ module _ (c : Config) (job : Task) (with : IsWrittenWith c job.choices) (p : Par
       locals = pinned_locals r;
     };
   }
+
+  -- under the numbering of the records
+  pub renaming_said : written_as_said.written.renaming ≡ R
+  unfolding written_as_said written_so
+  renaming_said = refl

@@ -3,8 +3,10 @@ pub mod Elements
 pub mod Emitted
 pub mod Globals
 pub mod Imported
+pub mod Located
 pub mod Parts
 pub mod Records
 pub mod Refusals
 pub mod Segments
 pub mod Tables
+pub mod Transform

@@ -7,12 +7,16 @@ ghost use Rattle.walrus_code.specs.Indices.{index_of};
 ghost use Rattle.walrus_items.specs.Functions.{functions};
 ghost use Rattle.walrus_names.specs.Names.{used_seen};
 ghost use Rattle.walrus_parts.specs.Errors.{out_of_memory};
+ghost use Rattle.walrus_parts.specs.Transform.{location_of};
+ghost use Rattle.walrus_writing.specs.Located.{AreOffsets};
 ghost use Rattle.walrus_writing.specs.Parts.{local_in, IsIndexed, IsWrittenBody, used_among};
 ghost use Rattle.walrus_writing.specs.Refusals.{RefusesBodies, RefusesUsed};
 
 use std::alloc::Global;
 use walrus_contents::Parts;
-use walrus_ir::{Features, FunctionId, IdsToIndices, LocalFunction, LocalId, emit_body};
+use walrus_ir::{
+    Features, FunctionId, IdsToIndices, InstrLocId, LocalFunction, LocalId, emit_body,
+};
 use walrus_items::{FunctionKind, ModuleFunctions};
 use walrus_names::WrittenBody;
 use walrus_parts::{Error, Result};
@@ -71,11 +75,24 @@ fn used_of(alloc: Global, order: &[LocalId], used: &[bool]) -> Result<Vec<(u32, 
     Ok(found)
 }
 
-// The body of the function of this id, under these indices.
-fn one_body(alloc: Global, under: Indexed<'_, '_, '_>, id: FunctionId) -> Result<WrittenBody>
+/// A body with the location of each of its operators, beside the place of its first byte, counted from the front of the body.
+#[derive(Drop)]
+pub struct LocatedBody {
+    pub written: WrittenBody,
+    pub places: Vec<(InstrLocId, usize)>,
+}
+
+/// The body of the function of this id, under these indices, with the places of its operators.
+pub fn located_body(
+    alloc: Global,
+    under: Indexed<'_, '_, '_>,
+    id: FunctionId,
+) -> Result<LocatedBody>
     requires indexed { IsIndexed under.parts (index_of under.indices.now) under.features.now (place id) }
-    ensures value { IfOk result (IsWrittenBody under.entry.parts (index_of under.entry.indices.now)
-        under.entry.features.now (place id)) }
+    ensures value { IfOk result (λ body. IsWrittenBody under.entry.parts (index_of under.entry.indices.now)
+        under.entry.features.now (place id) body.written) }
+    ensures located { IfOk result (λ body. AreOffsets under.entry.parts (place id) body.written.bytes.items
+        (map location_of body.places.items)) }
     ensures fails { IfErr result (RefusesBodies under.entry.parts under.entry.features.now) }
 {
     let Some(local) = local_of(under.parts.funcs, id) else {
@@ -90,10 +107,25 @@ fn one_body(alloc: Global, under: Indexed<'_, '_, '_>, id: FunctionId) -> Result
         under.features,
     )?;
     let used = used_of(alloc, body.order.as_slice(), body.used.as_slice())?;
-    Ok(WrittenBody {
+    let written = WrittenBody {
         bytes: body.bytes,
         used,
+    };
+    Ok(LocatedBody {
+        written,
+        places: body.places,
     })
+}
+
+// The body of the function of this id, under these indices.
+fn one_body(alloc: Global, under: Indexed<'_, '_, '_>, id: FunctionId) -> Result<WrittenBody>
+    requires indexed { IsIndexed under.parts (index_of under.indices.now) under.features.now (place id) }
+    ensures value { IfOk result (IsWrittenBody under.entry.parts (index_of under.entry.indices.now)
+        under.entry.features.now (place id)) }
+    ensures fails { IfErr result (RefusesBodies under.entry.parts under.entry.features.now) }
+{
+    let located = located_body(alloc, under, id)?;
+    Ok(located.written)
 }
 
 /// Each function's body, in the order of the functions.

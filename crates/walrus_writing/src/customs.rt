@@ -89,8 +89,8 @@ pub fn producers_payload(
     spelled_fields(alloc, fields)
 }
 
-// The same sections.
-fn copied<'a>(alloc: Global, own: &[RawCustom<'a>]) -> Result<Vec<RawCustom<'a>>>
+/// The same sections.
+pub fn copied<'a>(alloc: Global, own: &[RawCustom<'a>]) -> Result<Vec<RawCustom<'a>>>
     ensures value { IfOk result (λ raw. map custom_record raw.items ≡ map custom_record own.now) }
     ensures fails { IsOkUnless result out_of_memory }
 {

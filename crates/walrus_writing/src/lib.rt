@@ -7,8 +7,13 @@ mod data;
 mod elements;
 mod globals;
 mod imported;
+mod law;
+mod located;
 mod records;
 mod tables;
+mod transform;
 mod write;
 
+pub use law::one_transform;
+pub use transform::code_transform;
 pub use write::{Choices, write_prepared};

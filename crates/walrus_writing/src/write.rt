@@ -104,6 +104,8 @@ pub fn write_prepared<'a>(
     requires there { HasDead (parts_view parts) → ⊥ }
     requires declared { NothingUndeclared (parts_view parts) }
     requires planned { IsPrepared parts prepared.now }
+    ensures spells { IfOk result (λ bytes. Spells parts.entry
+        (task choices.now (index_of prepared.now.indices) (map custom_record customs.now)) bytes.items) }
     ensures written { (c : Config) (v : Abstract) → IsWrittenWith c choices.now
         → IsAsked parts.entry (index_of prepared.now.indices) (map custom_record customs.now) v
         → IfOk result (λ bytes. IsEmitted c v bytes.items) }

@@ -8,13 +8,13 @@ use Rattle.walrus.proofs.HeadlineLemmas.{answers_gc, answers_kept}
 use Rattle.walrus.proofs.work.smaller.Goals as goal
 
 pub returns-in_err-run : goal.returns-in_err-run
-returns-in_err-run c =
+returns-in_err-run g c =
     let read = c.in_ok-module.module in
     answers_gc (config_of (flags c.args.config.now)) (λ output. output.items) (OneMayRefuse (meanings _ read)) _ _ c.deref.ensures.value _ _ _ c.in_ok-module.ensures.found
     (none_refuses _ read c.in_ok-module.ensures.kept.raws c.in_ok-module.ensures.kept.are) c.in_err-run.ensures.refused c.from_residual-in_err-run.ensures.1
 
 pub returns : goal.returns
-returns c =
+returns g c =
     let kept = c.run.new.module in
     let raws = c.in_ok-module.ensures.kept.raws in
     let keeps = c.in_ok-run.ensures.others.3 ∙ c.in_ok-module.ensures.configured in

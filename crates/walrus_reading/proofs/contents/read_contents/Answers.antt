@@ -1,3 +1,4 @@
+use Rattle.std.specs.Fn.{FnReturnsAt}
 use Rattle.std.proofs.Common.{ℕ, List, refl, subst, ◌≡◌, length, map, sym, ap, ◌∙◌}
 use Rattle.std.specs.Prelude.{All, Ok, Some}
 use Rattle.std.proofs.lemmas.List.{length-map}
@@ -38,24 +39,24 @@ use Rattle.walrus_reading.proofs.TakenSections.{types_are_functions, sections_re
 use Rattle.walrus_reading.proofs.contents.read_contents.Goals as goal
 
 pub add_tags-requires : goal.add_tags-requires
-add_tags-requires c =
+add_tags-requires g c =
     let names = ids_at c.read_imported.new.indices in
     let all : AllStay names (sections c.args.raw.now) = stay names (sections c.args.raw.now) c.in_ok-contents.ensures.numbered c.requires.rules.indices in
     record { stay = subst (λ (l : List ℕ). All (TypeStays names) l) (sym c.deref.ensures.value) all.tags }
 
 pub add_functions-requires-clause-declared : goal.add_functions-requires-clause-declared
-add_functions-requires-clause-declared c =
+add_functions-requires-clause-declared g c =
     let names = ids_at c.read_imported.new.indices in
     let all : AllStay names (sections c.args.raw.now) = stay names (sections c.args.raw.now) c.in_ok-contents.ensures.numbered c.requires.rules.indices in
     subst (λ (l : List ℕ). All (TypeStays names) l) (sym c.deref-3.ensures.value) all.functions
 
 pub add_functions-requires-clause-typed : goal.add_functions-requires-clause-typed
-add_functions-requires-clause-typed c =
+add_functions-requires-clause-typed g c =
     types_are_functions c.args.features.now (sections c.args.raw.now) c.read_imported.new.indices c.in_ok-contents.contents.types c.in_ok-contents.ensures.numbered c.in_ok-contents.ensures.begun.types
     c.deref-3.result.now c.deref-3.ensures.value c.requires.rules.function_types
 
 pub add_functions-requires-clause-there : goal.add_functions-requires-clause-there
-add_functions-requires-clause-there c =
+add_functions-requires-clause-there g c =
     let names = ids_at c.read_imported.new.indices in
     let all : AllStay names (sections c.args.raw.now) = stay names (sections c.args.raw.now) c.in_ok-contents.ensures.numbered c.requires.rules.indices in
     let with_tags : AllPlaced HoldsTag 0 (tags_of (sections c.args.raw.now)) (tags c.add_tags.new.all) =
@@ -66,7 +67,7 @@ add_functions-requires-clause-there c =
     are_there names (sections c.args.raw.now) all (type_slots c.in_ok-contents.contents.types) (tag_places c.deref-2.result.now) c.in_ok-contents.ensures.numbered c.in_ok-contents.ensures.begun.types same
 
 pub returns-in_err-starts-clause-taken : goal.returns-in_err-starts-clause-taken
-returns-in_err-starts-clause-taken c =
+returns-in_err-starts-clause-taken g c =
     let with_tags : AllPlaced HoldsTag 0 (tags_of (sections c.args.raw.now)) (tags c.add_tags.new.all) =
     placed_more HoldsTag (imported imported_tag 0 (sections c.args.raw.now).imports) (map tag_of c.args.raw.now.tags.items) (tags c.in_ok-contents.contents.tags) (tags c.add_tags.new.all) c.in_ok-contents.ensures.begun.brought.tags
     (subst (λ (l : List ℕ). AddsPlaced HoldsTag (map tag_of l) (tags c.in_ok-contents.contents.tags) (tags c.add_tags.new.all)) c.deref.ensures.value c.in_ok-add_tags.ensures.added) in
@@ -78,25 +79,25 @@ returns-in_err-starts-clause-taken c =
     c.add_functions.new.all (slots_of c.in_ok-contents.contents.types) (slots_of c.add_functions.new.types) (functions c.in_ok-contents.contents.funcs) (functions c.add_functions.new.funcs) _ c.in_err-starts.ensures.taken)
 
 pub add_tables-requires : goal.add_tables-requires
-add_tables-requires c =
+add_tables-requires g c =
     let names = ids_at c.read_imported.new.indices in
     let all : AllStay names (sections c.args.raw.now) = stay names (sections c.args.raw.now) c.in_ok-contents.ensures.numbered c.requires.rules.indices in
     record { stay = subst (λ (l : List RawTable). All (TableStays names) (map table_entry l)) (sym c.deref-5.ensures.value) all.tables }
 
 pub add_globals-requires : goal.add_globals-requires
-add_globals-requires c =
+add_globals-requires g c =
     let names = ids_at c.read_imported.new.indices in
     let all : AllStay names (sections c.args.raw.now) = stay names (sections c.args.raw.now) c.in_ok-contents.ensures.numbered c.requires.rules.indices in
     record { stay = subst (λ (l : List RawGlobal). All (GlobalStays names) (map global_entry l)) (sym c.deref-7.ensures.value) all.globals }
 
 pub add_elements-requires-clause-stay : goal.add_elements-requires-clause-stay
-add_elements-requires-clause-stay c =
+add_elements-requires-clause-stay g c =
     let names = ids_at c.read_imported.new.indices in
     let all : AllStay names (sections c.args.raw.now) = stay names (sections c.args.raw.now) c.in_ok-contents.ensures.numbered c.requires.rules.indices in
     subst (λ (l : List RawElement). All (ElementStays names) (map element_entry l)) (sym c.deref-8.ensures.value) all.elements
 
 pub add_elements-requires-clause-there : goal.add_elements-requires-clause-there
-add_elements-requires-clause-there c =
+add_elements-requires-clause-there g c =
     let s = sections c.args.raw.now in
     let b = c.in_ok-contents.contents in
     let names = ids_at c.read_imported.new.indices in
@@ -106,13 +107,13 @@ add_elements-requires-clause-there c =
     names c.in_ok-contents.ensures.numbered (map element_entry c.deref-8.result.now) (ap (map element_entry) c.deref-8.ensures.value) all.elements
 
 pub add_data-requires-clause-stay : goal.add_data-requires-clause-stay
-add_data-requires-clause-stay c =
+add_data-requires-clause-stay g c =
     let names = ids_at c.read_imported.new.indices in
     let all : AllStay names (sections c.args.raw.now) = stay names (sections c.args.raw.now) c.in_ok-contents.ensures.numbered c.requires.rules.indices in
     subst (λ (l : List RawData). All (DataStays names) (map data_entry l)) (sym c.deref-9.ensures.value) all.data_segments
 
 pub add_data-requires-clause-there : goal.add_data-requires-clause-there
-add_data-requires-clause-there c =
+add_data-requires-clause-there g c =
     let s = sections c.args.raw.now in
     let b = c.in_ok-contents.contents in
     let names = ids_at c.read_imported.new.indices in
@@ -122,13 +123,13 @@ add_data-requires-clause-there c =
     names c.in_ok-contents.ensures.numbered (map data_entry c.deref-9.result.now) (ap (map data_entry) c.deref-9.ensures.value) all.data_segments
 
 pub add_exports-requires-clause-declared : goal.add_exports-requires-clause-declared
-add_exports-requires-clause-declared c =
+add_exports-requires-clause-declared g c =
     let names = ids_at c.read_imported.new.indices in
     let all : AllStay names (sections c.args.raw.now) = stay names (sections c.args.raw.now) c.in_ok-contents.ensures.numbered c.requires.rules.indices in
     subst (λ (l : List RawExport). All (ExportStays names) (map export_entry l)) (sym c.deref-10.ensures.value) all.exports
 
 pub returns-clause-taken : goal.returns-clause-taken
-returns-clause-taken c =
+returns-clause-taken g c =
     let s = sections c.args.raw.now in
     let b = c.in_ok-contents.contents in
     let begun = c.in_ok-contents.ensures.begun in
@@ -161,20 +162,20 @@ returns-clause-taken c =
     refl
 
 pub returns-clause-located : goal.returns-clause-located
-returns-clause-located c =
+returns-clause-located g c =
     let b = c.in_ok-contents.contents in
-    located_in (sections c.args.raw.now) c.deref-4.result.now (functions b.funcs) (functions c.add_functions.new.funcs) (ap (map body_record) c.deref-4.ensures.value)
+    located_in (FnReturnsAt g.L.Fn c.args.locate.now) (sections c.args.raw.now) c.deref-4.result.now (functions b.funcs) (functions c.add_functions.new.funcs) (ap (map body_record) c.deref-4.ensures.value)
     c.in_ok-contents.ensures.begun.brought.functions c.in_ok-starts.ensures.located
 
 pub add_producers-requires : goal.add_producers-requires
-add_producers-requires c = record { none = c.in_ok-contents.ensures.begun.producers }
+add_producers-requires g c = record { none = c.in_ok-contents.ensures.begun.producers }
 
 pub returns-clause-produced : goal.returns-clause-produced
-returns-clause-produced c =
+returns-clause-produced g c =
     held_of_all (sections c.args.raw.now) (map custom_record c.deref-11.result.now) c.add_producers.new.made (ap (map custom_record) c.deref-11.ensures.value) c.in_ok-add_producers.ensures.held
 
 pub returns-clause-counted : goal.returns-clause-counted
-returns-clause-counted c =
+returns-clause-counted g c =
     let b = c.in_ok-contents.contents in
     let s = sections c.args.raw.now in
-    c.index-type_count.ensures ∙ c.next_id.ensures ∙ ap length c.in_ok-contents.ensures.begun.types ∙ length-map (types_from 0 s.types) Some
+    c.in_ok-contents.ensures.counted ∙ ap length c.in_ok-contents.ensures.begun.types ∙ length-map (types_from 0 s.types) Some

@@ -30,3 +30,6 @@ returns-clause-refused c =
     (λ (bytes : Vec ℕ). bytes.items) c.write_items.result
     (unfit config p c.requires.there c.requires.declared v.customs v.section_roots names sections asked.asked asked.texts c.args.choices.now with, small config p c.requires.there c.requires.declared v.customs v.section_roots names sections asked.asked asked.texts c.args.choices.now with)
     c.write_items.ensures.spells c.write_items.ensures.refused)
+
+pub returns-clause-spells : goal.returns-clause-spells
+returns-clause-spells c = c.write_items.ensures.spells

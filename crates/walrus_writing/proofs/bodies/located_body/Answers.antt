@@ -6,8 +6,9 @@ use Rattle.walrus_code.specs.Indices.{index_of, local_index}
 use Rattle.walrus_functions.specs.declared.emit.EmittedBody.{EmittedBody}
 use Rattle.walrus_writing.specs.Parts.{used_among}
 use Rattle.walrus_writing.proofs.Indexed.{body_refused, local_seen}
+use Rattle.walrus_writing.proofs.LocatedBodies.{offsets_written}
 use Rattle.walrus_writing.proofs.UsedLeft.{used_refused}
-use Rattle.walrus_writing.proofs.bodies.one_body.Goals as goal
+use Rattle.walrus_writing.proofs.bodies.located_body.Goals as goal
 
 pub returns-clause-value : goal.returns-clause-value
 returns-clause-value c = (
@@ -33,3 +34,9 @@ returns-in_err-used-clause-fails c =
     let p = err_from_is_err_and c.from_residual-in_err-used.result c.from_residual-in_err-used.ensures.1 in
     rw (p.1, p.2) (used_refused c.args.under.parts (index_of c.args.under.indices.now) c.args.under.features.now (place c.args.id) c.in-Some.local.now
     (local_seen c.args.under.parts (place c.args.id) c.in-Some.local.now (sym c.in-Some.ensures)) _ _ _ c.in_ok-body.body.order.items _ c.in_ok-body.ensures.written _ c.as_slice.ensures.value _ c.in_err-used.ensures.fails)
+
+pub returns-clause-located : goal.returns-clause-located
+returns-clause-located c =
+    offsets_written c.args.under.parts (index_of c.args.under.indices.now) c.args.under.features.now (place c.args.id) c.in-Some.local.now c.in_ok-body.body.places.items c.in_ok-body.body.bytes.items
+    (local_index c.in_ok-body.body.locals) (map place c.in_ok-body.body.order.items) c.in_ok-body.body.used.items
+    (sym c.in-Some.ensures) c.in_ok-body.ensures.located c.in_ok-body.ensures.written

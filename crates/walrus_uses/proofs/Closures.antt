@@ -1,0 +1,56 @@
+-- What a closure does may be said in other words, where these follow.
+use Rattle.std.proofs.Common.{ℕ, List, Option, Some, None, Result, Ok, Err, inl, inr}
+use Rattle.std.specs.Borrow.{Bor, MutBor}
+use Rattle.std.specs.Global.{Vec}
+use Rattle.walrus_base.specs.Arena.{item_at}
+use Rattle.walrus_base.specs.Id.{place}
+use Rattle.walrus_base.specs.declared.id.Id.{Id}
+use Rattle.walrus_base.specs.declared.keys.FunctionKey.{FunctionKey}
+use Rattle.walrus_base.specs.declared.keys.LocalKey.{LocalKey}
+use Rattle.walrus_base.specs.declared.keys.TypeKey.{TypeKey}
+use Rattle.walrus_types.specs.ModuleTypes.{type_slots}
+use Rattle.walrus_types.specs.Operators.{function_item}
+use Rattle.walrus_types.specs.TypeDef.{TypeDef}
+use Rattle.walrus_code.specs.declared.function.LocalFunction.{LocalFunction}
+use Rattle.walrus_builder.specs.declared.sequence.InstrSeqBuilder.{InstrSeqBuilder}
+use Rattle.walrus_parts.specs.declared.error.Error.{Error}
+use Rattle.walrus_parts.specs.declared.function_kind.FunctionKind.{FunctionKind}
+use Rattle.walrus_parts.specs.declared.function_kind.FunctionKind.TheVariants.{Import, Local, Uninitialized}
+use Rattle.walrus_items.specs.Functions.{FunctionValue, functions}
+use Rattle.walrus_items.specs.Imports.{ImportValue, imports, imports_item}
+use Rattle.walrus_items.specs.Searches.{first}
+use Rattle.walrus_module.specs.Replaced.{Builds, IsBuilt, IsNew, MakesFoundLocal, MakesKindLocal, MakesLocal, ReplacesImported}
+use Rattle.walrus_module.specs.declared.module.Module.{Module}
+
+module _ (P Q : Builds) (weaker : (shown : MutBor InstrSeqBuilder) (given : Bor (Vec (Id LocalKey))) (answer : Result (Unit {0}) Error) (left : MutBor InstrSeqBuilder) → P shown given answer left → Q shown given answer left) where
+  built_by : (args : List (Id LocalKey)) (answer : Result (Unit {0}) Error) (builder : InstrSeqBuilder) → IsBuilt P args answer builder → IsBuilt Q args answer builder
+  built_by args answer builder b = record { shown = b.shown; given = b.given; left = b.left; empty = b.empty; arguments = b.arguments; called = weaker b.shown b.given answer b.left b.called; leaves = b.leaves }
+
+  pub new_by : (ty : Id TypeKey) (args : List (Id LocalKey)) (function : LocalFunction) → IsNew P ty args function → IsNew Q ty args function
+  new_by ty args function n = record { builder = n.builder; called = built_by args (Ok tt) n.builder n.called; typed = n.typed; takes = n.takes; body = n.body; places = n.places; handlers = n.handlers; unnamed = n.unnamed }
+
+  module _ {S : Type 0} (fid : Id FunctionKey) (old new : Module S) where
+    by_def : (i : ℕ) (f : FunctionValue) (ty : Id TypeKey) (def : Option TypeDef) (result : Result (Id FunctionKey) Error) → MakesLocal P fid i f ty def old new result → MakesLocal Q fid i f ty def old new result
+    by_def i f ty None result h = h
+    by_def i f ty (Some def) (Ok id) m = record { same = m.same; args = m.args; parameters = m.parameters; function = m.function; is_new = new_by ty m.args m.function m.is_new; funcs = m.funcs; gone = m.gone; others = m.others }
+    by_def i f ty (Some def) (Err e) (inl memory, only) = (inl memory, only)
+    by_def i f ty (Some def) (Err e) (inr (args, parameters, (builder, called)), only) = (inr (args, parameters, (builder, built_by args (Err e) builder called)), only)
+
+    by_kind : (i : ℕ) (f : FunctionValue) (k : FunctionKind) (result : Result (Id FunctionKey) Error) → MakesKindLocal P fid i f k old new result → MakesKindLocal Q fid i f k old new result
+    by_kind i f (Import imported) result h = by_def i f imported.ty (item_at (type_slots old.types) (place imported.ty)) result h
+    by_kind i f (Local l) result h = h
+    by_kind i f (Uninitialized ty) result h = h
+
+    by_found : (o : Option (ℕ × ImportValue)) (slot : Option FunctionValue) (result : Result (Id FunctionKey) Error) → MakesFoundLocal P fid o slot old new result → MakesFoundLocal Q fid o slot old new result
+    by_found None slot result h = h
+    by_found (Some i) None result h = h
+    by_found (Some i) (Some f) result h = by_kind i.0 f f.kind result h
+
+    pub imported_by : (result : Result (Id FunctionKey) Error) → ReplacesImported P fid old new result → ReplacesImported Q fid old new result
+    imported_by result h = by_found (first (imports_item (function_item (place fid))) (imports old.imports)) (item_at (functions old.funcs) (place fid)) result h
+
+-- the same, with what is known of the call first
+pub imported_in : {S : Type 0} (P Q : Builds) (fid : Id FunctionKey) (old new : Module S) (result : Result (Id FunctionKey) Error) → ReplacesImported P fid old new result
+    → ((shown : MutBor InstrSeqBuilder) (given : Bor (Vec (Id LocalKey))) (answer : Result (Unit {0}) Error) (left : MutBor InstrSeqBuilder) → P shown given answer left → Q shown given answer left)
+    → ReplacesImported Q fid old new result
+imported_in P Q fid old new result h weaker = imported_by P Q weaker fid old new result h

@@ -1,0 +1,13 @@
+mod Closures
+mod Matched
+mod MetadataEnds
+mod NewLocals
+mod Places
+mod Sections
+mod StubCall
+mod StubEnds
+mod StubStep
+mod StubTurn
+mod TrapBody
+mod TrapStays
+mod WellWith

@@ -1,0 +1,22 @@
+use Rattle.std.proofs.Common.{refl, ap, ◌∙◌}
+use Rattle.walrus_module.specs.Asked.{OneAskedMayRefuse, OneMayRefuse}
+use Rattle.walrus_module.specs.Customs.{sections}
+use Rattle.walrus_module.specs.Flags.{config_of, defaults}
+use Rattle.walrus_module.specs.View.{meanings}
+use Rattle.walrus_module.proofs.KeptRaw.{none_asked_refuses, none_refuses}
+use Rattle.walrus.proofs.HeadlineLemmas.{answers_gc, answers_kept}
+use Rattle.walrus_uses.proofs.shrinking.shrink.Goals as goal
+
+pub returns-in_err-run : goal.returns-in_err-run
+returns-in_err-run c =
+    let read = c.in_ok-module.module in
+    answers_gc (config_of defaults) (λ output. output.items) (OneMayRefuse (meanings _ read)) _ _ refl _ _ _ c.in_ok-module.ensures.found
+    (none_refuses _ read c.in_ok-module.ensures.kept.raws c.in_ok-module.ensures.kept.are) c.in_err-run.ensures.refused c.from_residual-in_err-run.ensures.1
+
+pub returns : goal.returns
+returns c =
+    let kept = c.run.new.module in
+    let raws = c.in_ok-module.ensures.kept.raws in
+    let keeps = c.in_ok-run.ensures.others.3 ∙ c.in_ok-module.ensures.configured in
+    answers_kept (λ output. output.items) (OneAskedMayRefuse (meanings _ kept)) (none_asked_refuses _ kept raws (ap sections c.in_ok-run.ensures.others.2 ∙ c.in_ok-module.ensures.kept.are)) _ _ keeps _ _ refl _ _ _ c.emit_wasm.result
+    c.in_ok-module.ensures.found c.in_ok-run.ensures.collected c.emit_wasm.ensures.left c.emit_wasm.ensures.emitted c.emit_wasm.ensures.refused

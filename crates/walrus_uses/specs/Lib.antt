@@ -1,0 +1,4 @@
+pub mod Metadata
+pub mod Stub
+pub mod Stubbed
+pub mod Trap

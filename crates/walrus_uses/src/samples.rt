@@ -1,0 +1,87 @@
+//! Each caller on a small module, whose bytes were worked out by hand.
+
+use crate::metadata::with_metadata;
+use crate::shrinking::shrink;
+use crate::stubbing::stub;
+use std::alloc::Global;
+use std::test::Fail;
+use test_support::{add_bytes, demand, demand_bytes, is_text};
+use walrus::Result;
+
+// The bytes that the text says.
+fn bytes_of(alloc: Global, text: &str) -> std::result::Result<Vec<u8>, Fail> {
+    let mut bytes = Vec::new(alloc);
+    demand(add_bytes(&mut bytes, text), "memory")?;
+    Ok(bytes)
+}
+
+// Fails where a caller refused, or answered with other bytes than these.
+fn demand_output(
+    alloc: Global,
+    output: Result<Vec<u8>>,
+    expected: &str,
+) -> std::result::Result<(), Fail> {
+    demand_bytes(alloc, &output?, expected, expected)
+}
+
+fn is_refused(answer: Result<Vec<u8>>, why: &str) -> bool {
+    match answer {
+        Ok(_) => false,
+        Err(refusal) => is_text(refusal.text(), why),
+    }
+}
+
+// ---- shrink
+
+// A function that is exported, and one that nothing reaches.
+const TWO: &str =
+    "00 61 73 6D 01 00 00 00 01 04 01 60 00 00 03 03 02 00 00 07 05 01 01 66 00 01 0A 08 02 03 00 01 0B 02 00 0B";
+
+const ONE: &str =
+    "00 61 73 6D 01 00 00 00 01 04 01 60 00 00 03 02 01 00 07 05 01 01 66 00 00 0A 04 01 02 00 0B 00 27 09 70 72 6F 64 75 63 65 72 73 01 0C 70 72 6F 63 65 73 73 65 64 2D 62 79 01 06 77 61 6C 72 75 73 06 30 2E 32 38 2E 30";
+
+#[test]
+fn one_of_two_functions_is_left(rt: HostRuntime) -> std::result::Result<(), Fail> {
+    let bytes = bytes_of(rt.alloc(), TWO)?;
+    demand_output(rt.alloc(), shrink(rt.alloc(), &bytes), ONE)
+}
+
+// ---- with_metadata
+
+// Both functions, producers, and behind them the section `meta`.
+const WITH_META: &str =
+    "00 61 73 6D 01 00 00 00 01 04 01 60 00 00 03 03 02 00 00 07 05 01 01 66 00 01 0A 08 02 03 00 01 0B 02 00 0B 00 27 09 70 72 6F 64 75 63 65 72 73 01 0C 70 72 6F 63 65 73 73 65 64 2D 62 79 01 06 77 61 6C 72 75 73 06 30 2E 32 38 2E 30 00 07 04 6D 65 74 61 01 02";
+
+#[test]
+fn a_section_more(rt: HostRuntime) -> std::result::Result<(), Fail> {
+    let bytes = bytes_of(rt.alloc(), TWO)?;
+    let payload = bytes_of(rt.alloc(), "01 02")?;
+    let output = with_metadata(rt.alloc(), &bytes, "meta", &payload);
+    demand_output(rt.alloc(), output, WITH_META)
+}
+
+#[test]
+fn a_name_of_the_format(rt: HostRuntime) -> std::result::Result<(), Fail> {
+    let bytes = bytes_of(rt.alloc(), TWO)?;
+    let answer = with_metadata(rt.alloc(), &bytes, "producers", &bytes);
+    demand(
+        is_refused(answer, "a name of the format's own"),
+        "producers",
+    )
+}
+
+// ---- stub
+
+// Functions `f` and `g` from `env`, and `h` from `m`; the exported `a` calls `h` and gives what `f` makes of its argument.
+const IMPORTS: &str =
+    "00 61 73 6D 01 00 00 00 01 09 02 60 01 7F 01 7F 60 00 00 02 17 03 03 65 6E 76 01 66 00 00 03 65 6E 76 01 67 00 01 01 6D 01 68 00 01 03 02 01 00 07 05 01 01 61 00 03 0A 0A 01 08 00 10 02 20 00 10 00 0B";
+
+// `f` traps, and stands behind `a`, which is larger; `g`, which nothing calls, is gone; `h` is imported as before.
+const STUBBED: &str =
+    "00 61 73 6D 01 00 00 00 01 09 02 60 01 7F 01 7F 60 00 00 02 07 01 01 6D 01 68 00 01 03 03 02 00 00 07 05 01 01 61 00 01 0A 0E 02 08 00 10 00 20 00 10 02 0B 03 00 00 0B 00 27 09 70 72 6F 64 75 63 65 72 73 01 0C 70 72 6F 63 65 73 73 65 64 2D 62 79 01 06 77 61 6C 72 75 73 06 30 2E 32 38 2E 30";
+
+#[test]
+fn imports_from_one_module_trap(rt: HostRuntime) -> std::result::Result<(), Fail> {
+    let bytes = bytes_of(rt.alloc(), IMPORTS)?;
+    demand_output(rt.alloc(), stub(rt.alloc(), &bytes, "env"), STUBBED)
+}

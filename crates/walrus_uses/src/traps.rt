@@ -1,0 +1,17 @@
+//! A body that traps.
+
+ghost use Rattle.std.specs.Prelude.{◌≡◌, ◌++◌, ◌∷◌, [], MatchResult};
+ghost use Rattle.walrus_builder.specs.Instructions.{unreachable_op};
+ghost use Rattle.walrus_builder.specs.Sequence.{built};
+ghost use Rattle.walrus_parts.specs.Errors.{out_of_memory};
+
+use walrus::{InstrSeqBuilder, Result};
+
+/// Puts a trap behind what was built. `Memory` is the only error.
+pub(crate) fn put_trap(body: &mut InstrSeqBuilder) -> Result<()>
+    ensures { MatchResult result (λ _. built body.new ≡ built body.old ++ unreachable_op ∷ [])
+        (λ e. e ≡ out_of_memory) }
+{
+    body.unreachable()?;
+    Ok(())
+}

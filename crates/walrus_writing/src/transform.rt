@@ -1,0 +1,178 @@
+//! Where the parts of the code section stand in the bytes of a module, told before these are written.
+ghost use Rattle.std.specs.Prelude.{◌≡◌, List, All, IfErr, IfOk, IsOkUnless, map};
+ghost use Rattle.std.specs.List.{AllZip};
+ghost use Rattle.wasm_frames.specs.Record as wire;
+ghost use Rattle.wasm_frames.specs.Record.{custom_record};
+ghost use Rattle.wasm_wire.specs.ModuleSpelling.{group_of};
+ghost use Rattle.wasm_wire.specs.declared.written.CustomGroup.TheVariants.{Dylink};
+ghost use Rattle.walrus_base.specs.Id.{place};
+ghost use Rattle.walrus_code.specs.Indices.{index_of};
+ghost use Rattle.walrus_contents.specs.View.{parts_view};
+ghost use Rattle.walrus_model.specs.Dead.{HasDead};
+ghost use Rattle.walrus_model.specs.Declared.{NothingUndeclared};
+ghost use Rattle.walrus_parts.specs.Errors.{out_of_memory};
+ghost use Rattle.walrus_parts.specs.Transform.{location_of};
+ghost use Rattle.walrus_plan.specs.Prepared.{IsPrepared};
+ghost use Rattle.walrus_writing.specs.Customs.{task};
+ghost use Rattle.walrus_writing.specs.Located.{AreOffsets, ArePlaces};
+ghost use Rattle.walrus_writing.specs.Parts.{IsIndexed, IsWrittenBody, unplaced};
+ghost use Rattle.walrus_writing.specs.Refusals.{RefusesBodies, RefusesItems};
+ghost use Rattle.walrus_writing.specs.Transform.{RefusesTransform, TellsTransform};
+
+use crate::bodies::{Indexed, LocatedBody, located_body};
+use crate::customs::copied;
+use crate::data::raw_data;
+use crate::elements::raw_elements;
+use crate::globals::raw_globals;
+use crate::imported::raw_imports;
+use crate::located::{function_ranges, instruction_map};
+use crate::records::{raw_exports, raw_functions, raw_memories, raw_start, raw_tags, raw_types};
+use crate::tables::raw_tables;
+use crate::write::Choices;
+use std::alloc::Global;
+use walrus_contents::Parts;
+use walrus_ir::FunctionId;
+use walrus_parts::{CodeTransform, Result};
+use walrus_plan::Prepared;
+use wasm_wire::{CodePlaces, Raw, RawBody, RawCustom, code_places};
+
+// Each function's body with the places of its operators, in the order of the functions.
+fn located_bodies(
+    alloc: Global,
+    under: Indexed<'_, '_, '_>,
+    order: &[FunctionId],
+) -> Result<Vec<LocatedBody>>
+    requires indexed { All (λ id.
+        IsIndexed under.parts (index_of under.indices.now) under.features.now (place id)) order.now }
+    ensures value { IfOk result (λ bodies. AllZip (λ id body.
+        IsWrittenBody under.entry.parts (index_of under.entry.indices.now) under.entry.features.now
+        (place id) body.written
+        × AreOffsets under.entry.parts (place id) body.written.bytes.items
+        (map location_of body.places.items))
+        order.now bodies.items) }
+    ensures fails { IfErr result (RefusesBodies under.entry.parts under.entry.features.now) }
+{
+    let mut bodies = Vec::new(alloc);
+    'order: for id in order {
+        let one = located_body(alloc, under, *id)?;
+        bodies.push(one)?;
+    }
+    Ok(bodies)
+}
+
+// The records of these bodies, wherever they lie.
+fn raw_located<'a>(alloc: Global, bodies: &'a [LocatedBody]) -> Result<Vec<RawBody<'a>>>
+    ensures value { IfOk result (λ raw. map wire.body_record raw.items
+        ≡ map (λ body. unplaced body.written.bytes.items) bodies.now) }
+    ensures fails { IsOkUnless result out_of_memory }
+{
+    let mut raw = Vec::with_capacity(alloc, bodies.len())?;
+    'bodies: for body in bodies {
+        raw.push(RawBody {
+            start: 0,
+            bytes: body.written.bytes.as_slice(),
+        })?;
+    }
+    Ok(raw)
+}
+
+// The places of the parts of the code section among the records of items that name nothing dead, in the order of their plan, by the indices
+// that it gives, behind these sections of dynamic linking.
+fn item_places<'a>(
+    alloc: Global,
+    parts: Parts<'a>,
+    prepared: &Prepared,
+    bodies: &'a [LocatedBody],
+    dylinks: &'a [RawCustom<'a>],
+    choices: &Choices,
+) -> Result<CodePlaces>
+    requires there { HasDead (parts_view parts) → ⊥ }
+    requires planned { IsPrepared parts prepared.now }
+    requires written { AllZip (λ id body.
+        IsWrittenBody parts (index_of prepared.now.indices) choices.now.features (place id) body.written)
+        prepared.now.plan.own_functions.items bodies.now }
+    ensures told { IfOk result (ArePlaces parts.entry (index_of prepared.now.indices) choices.now.features
+        (map place prepared.now.plan.own_functions.items)
+        (map (λ body. body.written.bytes.items) bodies.now) (map custom_record dylinks.now)) }
+    ensures refused { (sections : List wire.Custom) → group_of Dylink sections ≡ map custom_record dylinks.now
+        → RefusesItems parts.entry (task choices.now (index_of prepared.now.indices) sections) result }
+{
+    let indices = &prepared.indices;
+    let order = prepared.plan.own_functions.as_slice();
+    let types = raw_types(alloc, parts.types, indices)?;
+    let functions = raw_functions(alloc, parts, order, indices)?;
+    let customs = copied(alloc, dylinks)?;
+    let code = raw_located(alloc, bodies)?;
+    let imports = raw_imports(alloc, parts, indices)?;
+    let tables = raw_tables(alloc, parts.tables, indices)?;
+    let memories = raw_memories(alloc, parts.memories)?;
+    let tags = raw_tags(alloc, parts.tags, indices)?;
+    let globals = raw_globals(alloc, parts.globals, indices)?;
+    let exports = raw_exports(alloc, parts.exports, indices)?;
+    let start = raw_start(parts.start, indices);
+    let elements = raw_elements(alloc, parts.elements, parts.tables, indices)?;
+    let data_segments = raw_data(alloc, parts.data_, indices)?;
+    let raw = Raw {
+        order: Vec::new(alloc),
+        types,
+        imports,
+        functions,
+        tables,
+        memories,
+        tags,
+        globals,
+        exports,
+        start,
+        elements,
+        data_count: prepared.data_count,
+        bodies: code,
+        data_: data_segments,
+        customs,
+    };
+    let places = code_places(alloc, &raw)?;
+    Ok(places)
+}
+
+/// The code transform of a module of these parts, in which nothing dead is named and nothing is undeclared, told before its bytes are
+/// written: where the body of each function stands, behind its size, and where the count of functions; and, where this is asked for, where
+/// the operators stand that have a location ("Binary Format > Modules > Code Section"). It is true of all bytes that
+/// [`write_prepared`](crate::write_prepared) gives under the same plan and choices with custom sections among which those of dynamic
+/// linking are these, since no others stand in front of the code.
+///
+/// # Errors
+///
+/// Those of [`write_prepared`](crate::write_prepared): each with a cause of its own.
+pub fn code_transform<'a>(
+    alloc: Global,
+    parts: Parts<'a>,
+    prepared: &Prepared,
+    dylinks: &'a [RawCustom<'a>],
+    choices: &Choices,
+    keeps_locations: bool,
+) -> Result<CodeTransform>
+    requires there { HasDead (parts_view parts) → ⊥ }
+    requires declared { NothingUndeclared (parts_view parts) }
+    requires planned { IsPrepared parts prepared.now }
+    ensures told { IfOk result (TellsTransform parts.entry choices.now (index_of prepared.now.indices)
+        (map custom_record dylinks.now) keeps_locations) }
+    ensures refused { IfErr result (RefusesTransform parts.entry choices.now (index_of prepared.now.indices)
+        (map custom_record dylinks.now)) }
+{
+    let under = Indexed {
+        parts,
+        indices: &prepared.indices,
+        features: &choices.features,
+    };
+    let order = prepared.plan.own_functions.as_slice();
+    let bodies = located_bodies(alloc, under, order)?;
+    let lent = bodies.as_slice();
+    let places = item_places(alloc, parts, prepared, lent, dylinks, choices)?;
+    let ranges = places.bodies.as_slice();
+    let by_id = function_ranges(alloc, order, ranges)?;
+    let by_location = instruction_map(alloc, ranges, lent, keeps_locations)?;
+    Ok(CodeTransform {
+        function_ranges: by_id,
+        code_section_start: places.count,
+        instruction_map: by_location,
+    })
+}
