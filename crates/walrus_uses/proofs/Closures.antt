@@ -11,15 +11,17 @@ use Rattle.walrus_base.specs.declared.keys.TypeKey.{TypeKey}
 use Rattle.walrus_types.specs.ModuleTypes.{type_slots}
 use Rattle.walrus_types.specs.Operators.{function_item}
 use Rattle.walrus_types.specs.TypeDef.{TypeDef}
+use Rattle.walrus_code.specs.Function.{function_type}
 use Rattle.walrus_code.specs.declared.function.LocalFunction.{LocalFunction}
 use Rattle.walrus_builder.specs.declared.sequence.InstrSeqBuilder.{InstrSeqBuilder}
 use Rattle.walrus_parts.specs.declared.error.Error.{Error}
 use Rattle.walrus_parts.specs.declared.function_kind.FunctionKind.{FunctionKind}
 use Rattle.walrus_parts.specs.declared.function_kind.FunctionKind.TheVariants.{Import, Local, Uninitialized}
+use Rattle.walrus_items.specs.Exports.{ExportValue, exports, exports_item}
 use Rattle.walrus_items.specs.Functions.{FunctionValue, functions}
 use Rattle.walrus_items.specs.Imports.{ImportValue, imports, imports_item}
 use Rattle.walrus_items.specs.Searches.{first}
-use Rattle.walrus_module.specs.Replaced.{Builds, IsBuilt, IsNew, MakesFoundLocal, MakesKindLocal, MakesLocal, ReplacesImported}
+use Rattle.walrus_module.specs.Replaced.{Builds, IsBuilt, IsNew, MakesFoundLocal, MakesKindLocal, MakesLocal, ReplacesExported, ReplacesFound, ReplacesImported, ReplacesKind}
 use Rattle.walrus_module.specs.declared.module.Module.{Module}
 
 module _ (P Q : Builds) (weaker : (shown : MutBor InstrSeqBuilder) (given : Bor (Vec (Id LocalKey))) (answer : Result (Unit {0}) Error) (left : MutBor InstrSeqBuilder) → P shown given answer left → Q shown given answer left) where
@@ -49,8 +51,28 @@ module _ (P Q : Builds) (weaker : (shown : MutBor InstrSeqBuilder) (given : Bor 
     pub imported_by : (result : Result (Id FunctionKey) Error) → ReplacesImported P fid old new result → ReplacesImported Q fid old new result
     imported_by result h = by_found (first (imports_item (function_item (place fid))) (imports old.imports)) (item_at (functions old.funcs) (place fid)) result h
 
+    by_kind_exported : (e : ℕ × ExportValue) (k : FunctionKind) (result : Result (Id FunctionKey) Error) → ReplacesKind P e k old new result → ReplacesKind Q e k old new result
+    by_kind_exported e (Local l) (Ok id) r = record { is_next = r.is_next; function = r.function; is_new = new_by (function_type l) l.args.items r.function r.is_new; funcs = r.funcs; exported = r.exported; others = r.others }
+    by_kind_exported e (Local l) (Err x) (inl memory, same) = (inl memory, same)
+    by_kind_exported e (Local l) (Err x) (inr (builder, called), same) = (inr (builder, built_by l.args.items (Err x) builder called), same)
+    by_kind_exported e (Import i) result h = h
+    by_kind_exported e (Uninitialized ty) result h = h
+
+    by_found_exported : (o : Option (ℕ × ExportValue)) (slot : Option FunctionValue) (result : Result (Id FunctionKey) Error) → ReplacesFound P o slot old new result → ReplacesFound Q o slot old new result
+    by_found_exported None slot result h = h
+    by_found_exported (Some e) None result h = h
+    by_found_exported (Some e) (Some f) result h = by_kind_exported e f.kind result h
+
+    pub exported_by : (result : Result (Id FunctionKey) Error) → ReplacesExported P fid old new result → ReplacesExported Q fid old new result
+    exported_by result h = by_found_exported (first (exports_item (function_item (place fid))) (exports old.exports)) (item_at (functions old.funcs) (place fid)) result h
+
 -- the same, with what is known of the call first
 pub imported_in : {S : Type 0} (P Q : Builds) (fid : Id FunctionKey) (old new : Module S) (result : Result (Id FunctionKey) Error) → ReplacesImported P fid old new result
     → ((shown : MutBor InstrSeqBuilder) (given : Bor (Vec (Id LocalKey))) (answer : Result (Unit {0}) Error) (left : MutBor InstrSeqBuilder) → P shown given answer left → Q shown given answer left)
     → ReplacesImported Q fid old new result
 imported_in P Q fid old new result h weaker = imported_by P Q weaker fid old new result h
+
+pub exported_in : {S : Type 0} (P Q : Builds) (fid : Id FunctionKey) (old new : Module S) (result : Result (Id FunctionKey) Error) → ReplacesExported P fid old new result
+    → ((shown : MutBor InstrSeqBuilder) (given : Bor (Vec (Id LocalKey))) (answer : Result (Unit {0}) Error) (left : MutBor InstrSeqBuilder) → P shown given answer left → Q shown given answer left)
+    → ReplacesExported Q fid old new result
+exported_in P Q fid old new result h weaker = exported_by P Q weaker fid old new result h

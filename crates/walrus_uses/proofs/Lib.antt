@@ -1,9 +1,15 @@
 mod Closures
+mod EditEnds
 mod Matched
 mod MetadataEnds
 mod NewLocals
 mod Places
 mod Sections
+mod SnipCall
+mod SnipEnds
+mod SnipItems
+mod SnipStays
+mod SnipStep
 mod StubCall
 mod StubEnds
 mod StubStep

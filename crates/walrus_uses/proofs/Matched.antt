@@ -36,7 +36,7 @@ from_slot seen (Some x) y e = (x, refl, some_is e)
 from_slot seen None y e = absurd (none_isnt e)
 
 -- a search that finds nothing passes over nothing
-finds : {X : Type 0} (p : X → Bool) (xs : List X) (x : X) → Contains xs x → p x ≡ true → find p xs ≡ None → ⊥
+pub finds : {X : Type 0} (p : X → Bool) (xs : List X) (x : X) → Contains xs x → p x ≡ true → find p xs ≡ None → ⊥
 finds p [] x at passes none = Contains-none x at
 finds {X = X} p (y ∷ ys) x at passes none = by (p y) refl none (Contains-uncons y x ys at) (finds p ys x) where
   by : (b : Bool) → p y ≡ b → cond b (Some y) (find p ys) ≡ None → (y ≡ x) ⊎ Contains ys x → (Contains ys x → p x ≡ true → find p ys ≡ None → ⊥) → ⊥

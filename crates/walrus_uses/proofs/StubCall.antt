@@ -38,13 +38,14 @@ use Rattle.walrus_uses.proofs.Places.{all_below, none_below, not_yet, now_hit, p
 use Rattle.walrus_uses.proofs.StubStep.{IsStubbed, stub_reached, stub_well, with_stub}
 use Rattle.walrus_uses.proofs.StubTurn.{stubs_more, stubs_none}
 use Rattle.walrus_uses.proofs.TrapStays.{none_isnt, some_is}
+use Rattle.walrus_uses.specs.Edited.{IsWhole}
 use Rattle.walrus_uses.specs.Stub.{comes_from, function_from}
-use Rattle.walrus_uses.specs.Stubbed.{IsWhole, PutsTrap, Stubs, StubsAt, StubsSome}
+use Rattle.walrus_uses.specs.Stubbed.{PutsTrap, Stubs, StubsAt, StubsSome}
 use Rattle.walrus_uses.specs.Trap.{trap_ops}
 
 -- ---- what the closure left
 
-traps : (ty : Id TypeKey) (args : List (Id LocalKey)) (function : LocalFunction) → IsNew PutsTrap ty args function → body_of function ≡ trap_ops
+pub traps : (ty : Id TypeKey) (args : List (Id LocalKey)) (function : LocalFunction) → IsNew PutsTrap ty args function → body_of function ≡ trap_ops
 traps ty args function new =
     let called = new.called in
     let put : built new.builder ≡ unreachable_op ∷ [] =

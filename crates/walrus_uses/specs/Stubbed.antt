@@ -1,29 +1,19 @@
 -- What stubbing comes to: of a module in memory, and from bytes to bytes.
-use Rattle.std.specs.Prelude.{ℕ, Bool, List, ◌++◌, ◌∷◌, [], Result, Ok, Err, MatchResult, ◌≡◌, ⊤, ◌&&◌, nat_lt}
+use Rattle.std.specs.Prelude.{ℕ, Bool, List, ◌++◌, ◌∷◌, [], Result, MatchResult, ◌≡◌, ◌&&◌, nat_lt}
 use Rattle.std.specs.Global.{Vec}
 use Rattle.walrus_builder.specs.Instructions.{unreachable_op}
 use Rattle.walrus_builder.specs.Sequence.{built}
 use Rattle.walrus_types.specs.Locals.{locals}
-use Rattle.walrus_model.specs.Abstract.{Abstract, Custom}
 use Rattle.walrus_model.specs.Config.{Config}
-use Rattle.walrus_model.specs.Pipeline.{Collected, ReachedIsLive}
 use Rattle.walrus_model.specs.ReadFunction.{StaysInFront}
 use Rattle.walrus_parts.specs.Errors.{out_of_memory}
 use Rattle.walrus_parts.specs.declared.error.Error.{Error}
-use Rattle.walrus_parts.specs.declared.error.Error.TheVariants.{Memory, InvalidWasm, TooLarge}
 use Rattle.walrus_items.specs.Functions.{functions}
 use Rattle.walrus_items.specs.Imports.{imports}
-use Rattle.walrus_contents.specs.View.{contents_view}
 use Rattle.walrus_contents.specs.declared.parts.Contents.{Contents}
-use Rattle.walrus_rules.specs.Chain.{Leaves}
-use Rattle.walrus_rules.specs.Headline.{Accepts}
-use Rattle.walrus_rules.specs.Refused.{PassesLimits}
-use Rattle.walrus_rules.specs.WellMade.{IsWellMade}
-use Rattle.walrus_module.specs.Answered.{IsWellWritten}
-use Rattle.walrus_module.specs.Parsed.{IsParsed}
 use Rattle.walrus_module.specs.Replaced.{Builds}
-use Rattle.walrus_module.specs.View.{held_view}
 use Rattle.walrus_module.specs.declared.module.Module.{Module}
+use Rattle.walrus_uses.specs.Edited.{AnswersEdited, IsWhole}
 use Rattle.walrus_uses.specs.Stub.{StubsWhere, comes_from}
 
 -- what a closure does that puts a trap behind what was built, unless memory runs out
@@ -41,11 +31,6 @@ module _ {S : Type 0} where
   abbrev pub Stubs : (from : List ℕ) → (old new : Module S) → Type 0
   Stubs from old new = StubsAt (comes_from from (imports old.imports)) old new
 
-  -- it is well made, and what is reached is there
-  pub record IsWhole (c : Config) (m : Module S) : Type 0 where
-    pub made : IsWellMade c (held_view m)
-    pub reached : ReachedIsLive (held_view m)
-
   -- the same of the imports at the first n places alone
   pub record StubsSome (c : Config) (from : List ℕ) (n : ℕ) (old new : Module S) : Type 0 where
     pub stubs : StubsAt (λ p. nat_lt p n && comes_from from (imports old.imports) p) old new
@@ -61,10 +46,6 @@ module _ {S : Type 0} where
 
 -- ---- from bytes to bytes
 
--- what is held, with these custom sections, which ask to keep nothing
-abbrev pub with_customs : List Custom → Contents → Abstract
-with_customs customs m = record (contents_view m) { customs = customs }
-
 -- of what is held nothing but functions and imports changed, and locals came: each function that was imported from the module of this name is
 -- local and traps
 pub record StubsHeld (from : List ℕ) (old new : Contents) : Type 0 where
@@ -72,34 +53,10 @@ pub record StubsHeld (from : List ℕ) (old new : Contents) : Type 0 where
   pub locals : StaysInFront (locals old.locals) (locals new.locals)
   pub others : new ≡ record old { funcs = new.funcs; imports = new.imports; locals = new.locals }
 
--- The bytes were parsed, functions were stubbed in what was parsed, gc left of that what is kept, and emission leaves u of that.
-pub record StubsTo (c : Config) (bytes from : List ℕ) (u : Abstract) : Type 0 where
-  pub customs : List Custom
-  pub module_parsed : Contents
-  pub parsed : IsParsed c bytes (with_customs customs module_parsed)
-  pub module_stubbed : Contents
-  pub stubs : StubsHeld from module_parsed module_stubbed
-  pub made : IsWellMade c (with_customs customs module_stubbed)
-  pub module_collected : Abstract
-  pub collected : Collected (with_customs customs module_stubbed) module_collected
-  pub left : Leaves module_collected u
-
--- that is written: the output is the one spelling of one module of indices, reads as it, and it keeps the rules
-pub record IsStubbed (c : Config) (bytes from output : List ℕ) : Type 0 where
-  pub module_left : Abstract
-  pub stubs : StubsTo c bytes from module_left
-  pub written : IsWellWritten c module_left output
-
--- the bytes are accepted, but what is to be written has a count, a size or a limit past 32 bits
-pub record IsLargeStubbed (c : Config) (bytes from : List ℕ) : Type 0 where
-  pub module_left : Abstract
-  pub stubs : StubsTo c bytes from module_left
-  pub too_large : PassesLimits c module_left
+-- stubbing refuses for want of memory alone
+abbrev pub RefusesStub : Contents → Error → Type 0
+RefusesStub m e = e ≡ out_of_memory
 
 -- the module with its stubs, or a refusal with its cause
 abbrev pub AnswersStubbed : Config → (bytes from : List ℕ) → Result (Vec ℕ) Error → Type 0
-AnswersStubbed c bytes from (Ok output) = IsStubbed c bytes from output.items
-AnswersStubbed c bytes from (Err (Memory e)) = ⊤
-AnswersStubbed c bytes from (Err (InvalidWasm kind)) = Accepts c bytes → ⊥
-AnswersStubbed c bytes from (Err TooLarge) = IsLargeStubbed c bytes from
-AnswersStubbed c bytes from (Err _) = ⊥
+AnswersStubbed c bytes from result = AnswersEdited (StubsHeld from) RefusesStub c bytes result

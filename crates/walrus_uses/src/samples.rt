@@ -2,6 +2,7 @@
 
 use crate::metadata::with_metadata;
 use crate::shrinking::shrink;
+use crate::snipping::snip;
 use crate::stubbing::stub;
 use std::alloc::Global;
 use std::test::Fail;
@@ -84,4 +85,43 @@ const STUBBED: &str =
 fn imports_from_one_module_trap(rt: HostRuntime) -> std::result::Result<(), Fail> {
     let bytes = bytes_of(rt.alloc(), IMPORTS)?;
     demand_output(rt.alloc(), stub(rt.alloc(), &bytes, "env"), STUBBED)
+}
+
+// ---- snip
+
+// The exported `a` calls a function that nothing else calls.
+const CALLS: &str =
+    "00 61 73 6D 01 00 00 00 01 04 01 60 00 00 03 03 02 00 00 07 05 01 01 61 00 00 0A 0A 02 04 00 10 01 0B 03 00 01 0B";
+
+// Both are gone, and `a` traps.
+const SNIPPED: &str =
+    "00 61 73 6D 01 00 00 00 01 04 01 60 00 00 03 02 01 00 07 05 01 01 61 00 00 0A 05 01 03 00 00 0B 00 27 09 70 72 6F 64 75 63 65 72 73 01 0C 70 72 6F 63 65 73 73 65 64 2D 62 79 01 06 77 61 6C 72 75 73 06 30 2E 32 38 2E 30";
+
+#[test]
+fn an_export_traps(rt: HostRuntime) -> std::result::Result<(), Fail> {
+    let bytes = bytes_of(rt.alloc(), CALLS)?;
+    demand_output(rt.alloc(), snip(rt.alloc(), &bytes, "a"), SNIPPED)
+}
+
+// One function, exported as `a` and as `b`.
+const TWICE: &str =
+    "00 61 73 6D 01 00 00 00 01 04 01 60 00 00 03 02 01 00 07 09 02 01 61 00 00 01 62 00 00 0A 06 01 04 00 01 01 0B";
+
+// It stays as `b`; `a` traps, and stands behind it, which is larger.
+const STAYS: &str =
+    "00 61 73 6D 01 00 00 00 01 04 01 60 00 00 03 03 02 00 00 07 09 02 01 61 00 01 01 62 00 00 0A 0A 02 04 00 01 01 0B 03 00 00 0B 00 27 09 70 72 6F 64 75 63 65 72 73 01 0C 70 72 6F 63 65 73 73 65 64 2D 62 79 01 06 77 61 6C 72 75 73 06 30 2E 32 38 2E 30";
+
+#[test]
+fn what_is_reached_otherwise_stays(rt: HostRuntime) -> std::result::Result<(), Fail> {
+    let bytes = bytes_of(rt.alloc(), TWICE)?;
+    demand_output(rt.alloc(), snip(rt.alloc(), &bytes, "a"), STAYS)
+}
+
+#[test]
+fn other_names_are_refused(rt: HostRuntime) -> std::result::Result<(), Fail> {
+    let bytes = bytes_of(rt.alloc(), TWICE)?;
+    let later = snip(rt.alloc(), &bytes, "b");
+    demand(is_refused(later, "cannot replace function"), "a later name")?;
+    let none = snip(rt.alloc(), &bytes, "c");
+    demand(is_refused(none, "not found"), "a name of no export")
 }

@@ -1,7 +1,8 @@
 use Rattle.std.proofs.Common.{◌≡◌, length}
 use Rattle.walrus_items.specs.Imports.{imports}
 use Rattle.walrus_model.specs.Config.{Config}
-use Rattle.walrus_uses.specs.Stubbed.{IsWhole, StubsSome}
+use Rattle.walrus_uses.specs.Edited.{IsWhole}
+use Rattle.walrus_uses.specs.Stubbed.{StubsSome}
 use Rattle.walrus_uses.proofs.stubbing.trap_all.Given as goal
 
 -- at the places so far all is done
