@@ -4,7 +4,7 @@
     tests/uncalled.py           those that they don't even call through other functions
     tests/uncalled.py --direct  those that their own sources don't name; what is called through others is among them
 
-Tests are the crates `*_tests`, programs those with a `main`. Functions are told apart by their names alone, so that one whose name
+Tests are the crates `*_tests` and those that have some of their own, programs those with a `main`. Functions are told apart by their names alone, so that one whose name
 another has too can be missing here. Laws, which do nothing, are left out. No part of the gate.
 """
 import pathlib
@@ -22,7 +22,9 @@ def source(path):
 
 
 def is_caller(crate):
-    return crate.name.endswith("_tests") or (crate / "src" / "main.rt").exists()
+    """Whether what the crate calls is called: it is one of tests, has some of its own, or is a program."""
+    tests = any("#[test]" in it.read_text(encoding="utf-8") for it in crate.glob("src/**/*.rt"))
+    return tests or crate.name.endswith("_tests") or (crate / "src" / "main.rt").exists()
 
 
 def names_in(text):

@@ -12,3 +12,4 @@ pub mod Room
 pub mod SameSearch
 pub mod SameRoots
 pub mod AskedItems
+pub mod RawStays

@@ -71,7 +71,7 @@ either_name : (name : List ℕ) (b : Bool) → bytes_eq name (codes "dylink") �
 either_name name true same h = ap is_debug_name ((bytes_eq-Decides name (codes "dylink")).0 same)
 either_name name false other h = ap is_debug_name ((bytes_eq-Decides name (codes "dylink.0")).0 h)
 
-no_debug : (turn : Bool) (name : List ℕ) → is_in_turn turn name ≡ true → is_debug_name name ≡ false
+pub no_debug : (turn : Bool) (name : List ℕ) → is_in_turn turn name ≡ true → is_debug_name name ≡ false
 no_debug true name h = either_name name (bytes_eq name (codes "dylink")) refl h
 no_debug false name h = both_false (is_dylink_name name) (is_debug_name name) h
 

@@ -1,3 +1,4 @@
+pub mod FollowedSlots
 pub mod KeptRaw
 pub mod Locating
 pub mod RawLemmas
@@ -7,3 +8,6 @@ pub mod OwnSections
 pub mod WellWritten
 pub mod CountedBodies
 pub mod ReplacedLemmas
+pub mod WrittenSections
+pub mod WellWith
+pub mod Emission

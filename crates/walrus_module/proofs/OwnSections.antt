@@ -28,7 +28,7 @@ module _ (v : Abstract) (customs : List Custom) (roots : List Item) where
   undeclared_on f u = record { named = u.named; not_exported = u.not_exported; not_listed = u.not_listed }
 
 module _ (v : Abstract) (customs : List Custom) (roots : List Item) where
-  undeclared_back : (f : ℕ) → IsUndeclared (IsLive (with_own v customs roots)) (with_own v customs roots) f → IsUndeclared (IsLive v) v f
+  pub undeclared_back : (f : ℕ) → IsUndeclared (IsLive (with_own v customs roots)) (with_own v customs roots) f → IsUndeclared (IsLive v) v f
   undeclared_back f u = undeclared_on (with_own v customs roots) v.customs v.section_roots f u
 
   pub nothing_back : NothingUndeclared (with_own v customs roots) → NothingUndeclared v

@@ -1,6 +1,6 @@
 -- What emission answers for a well-made module, and what a second emission does.
-use Rattle.std.proofs.Common.{◌≡◌, ℕ, List, sym, ap, subst}
-use Rattle.std.specs.Prelude.{IfOk, OnOk, Result, Ok, Err}
+use Rattle.std.proofs.Common.{◌≡◌, ℕ, Bool, true, false, List, sym, ap, subst, ◌∙◌, ⊎_elim}
+use Rattle.std.specs.Prelude.{IfOk, OnOk, Result, Ok, Err, ◌⊎◌, ⊤}
 use Rattle.std.specs.Global.{Vec}
 use Rattle.walrus_parts.specs.declared.custom.CustomSection.{Ghosts}
 use Rattle.walrus_parts.specs.declared.error.Error.{Error}
@@ -14,17 +14,29 @@ use Rattle.walrus_rules.proofs.BytesOnce.{bytes_once, living_keeps}
 use Rattle.walrus_rules.proofs.NoCause.{well_no_cause}
 use Rattle.walrus_rules.proofs.OneSpelling.{spelled_once}
 use Rattle.walrus_rules.proofs.WellStays.{leaves_well}
-use Rattle.walrus_writing.specs.Emitted.{EmittedAs, IsEmitted, refusal_of, told}
+use Rattle.walrus_writing.specs.Emitted.{EmittedAs, IsEmitted, IsWrittenWith, refusal_of, told}
+use Rattle.walrus_writing.specs.declared.write.Choices.{Choices}
 use Rattle.walrus_module.specs.Answered.{IsWellWritten, WritesUnless}
 use Rattle.walrus_module.specs.Asked.{OneAskedMayRefuse}
-use Rattle.walrus_module.specs.Flags.{Flags, config_of}
-use Rattle.walrus_module.specs.Laws.{EmitsAgain, UnsayableIsOpen}
-use Rattle.walrus_module.specs.Left.{LeavesBy}
+use Rattle.walrus_module.specs.Flags.{Flags, choices_of, config_of}
+use Rattle.walrus_code.specs.Transform.{Transform}
+use Rattle.walrus_module.specs.Following.{LeavesCustoms, OneMayRefuseThen}
+use Rattle.walrus_module.specs.declared.customs.ModuleCustomSections.{ModuleCustomSections}
+use Rattle.walrus_module.specs.Laws.{Emits, EmitsAgain, UnsayableIsOpen}
+use Rattle.walrus_module.specs.Left.{ChangesElements, LeavesBy, but_customs}
 use Rattle.walrus_module.specs.Settings.{settings}
 use Rattle.walrus_module.specs.View.{meanings, view}
 use Rattle.walrus_module.specs.declared.entry.SectionEntry.{SectionEntry}
 use Rattle.walrus_module.specs.declared.module.Module.{Module}
 use Rattle.walrus_module.proofs.Declaring.{leaves_nothing}
+
+-- what the configuration comes to
+pub written_with : (c : Config) (choices : Choices) → choices ≡ choices_of c → IsWrittenWith c choices
+written_with c choices are = record {
+  features_are = ap (λ (x : Choices). x.features) are;
+  names_are = ap (λ (x : Choices). x.names) are;
+  producers_are = ap (λ (x : Choices). x.producers) are;
+}
 
 -- ---- nothing is undeclared in what is left where there are bytes
 
@@ -39,7 +51,7 @@ module _ {X : Type 0} (seen : X → List ℕ) (A : Type 0) (c : Config) (u : Abs
   AnswersWell result = WritesUnless (PassesLimits c u) A (λ (x : X). IsWellWritten c u (seen x)) result
 
   -- it has few causes to be refused
-  well_refused : (r : Refusal) → IsWellMade c u → RefusesToWrite {X = X} A c u (Err r) → AnswersWell (Err r)
+  pub well_refused : (r : Refusal) → IsWellMade c u → RefusesToWrite {X = X} A c u (Err r) → AnswersWell (Err r)
   well_refused Memory made h = tt
   well_refused DeadItem made h = (well_no_cause c u made).all_there h
   well_refused NoIndex made h = (well_no_cause c u made).indices h
@@ -50,7 +62,7 @@ module _ {X : Type 0} (seen : X → List ℕ) (A : Type 0) (c : Config) (u : Abs
   well_refused Another made h = h
 
   -- where nothing is undeclared, what is emitted reads back
-  well_written : (bytes : List ℕ) → IsWellMade c u → NothingUndeclared u → IsEmitted c u bytes → IsWellWritten c u bytes
+  pub well_written : (bytes : List ℕ) → IsWellMade c u → NothingUndeclared u → IsEmitted c u bytes → IsWellWritten c u bytes
   well_written bytes made nothing emitted =
       let as_said : EmittedAs c u bytes = emitted made.customs in
       record {
@@ -97,27 +109,59 @@ module _ (A : Type 0) (c : Config) (u : Abstract) (none : HasNoCause c u) (sayab
   answered_again first (Ok bytes) one two refused = written_again first bytes.items one two
   answered_again first (Err e) one two refused = refused_again (λ (bytes : Vec ℕ). bytes.items ≡ first) (refusal_of e) refused
 
+one_of : {X : Type 0} (A : Type 0) (c : Config) (v : Abstract) (r : Result X Refusal) → RefusesToWrite (A ⊎ A) c v r → RefusesToWrite A c v r
+one_of A c v (Ok x) h = h
+one_of A c v (Err Memory) h = tt
+one_of A c v (Err DeadItem) h = h
+one_of A c v (Err TwoIndices) h = h
+one_of A c v (Err NoIndex) h = h
+one_of A c v (Err NotWritable) h = h
+one_of A c v (Err TooLarge) h = h
+one_of A c v (Err Caller) h = ⊎_elim (λ a. a) (λ a. a) h
+one_of A c v (Err Another) h = h
+
 module _ {V : Type 0} {O : V → Type 0} (G : (v : V) → Ghosts (O v)) where
+  -- no transform was handed on, so nothing but element segments may have changed
+  unhanded : {X E : Type 0} (hands : Bool) (Tells : X → Transform → Type 0) (old new : ModuleCustomSections (SectionEntry V O)) (r : Result X E) → hands ≡ false → LeavesCustoms G hands Tells old new r → new ≡ old
+  unhanded false Tells old new r off h = h
+  unhanded true Tells old new r off h = absurd (cc)
+
+  unheld : {X : Type 0} (E : Type 0) (x y : X) (hands : Bool) (old new : ModuleCustomSections (SectionEntry V O)) → hands ≡ false → LeavesCustoms G {E = E} hands (λ (r : X) (t : Transform). ⊤) old new (Ok x)
+      → LeavesCustoms G {E = E} hands (λ (r : X) (t : Transform). ⊤) old new (Ok y)
+  unheld E x y false old new off h = h
+  unheld E x y true old new off h = absurd (cc)
+
+  module _ (result : Result (Vec ℕ) Error) (old new : Module (SectionEntry V O)) (said : Emits G old new result) where
+    whole : but_customs old new ≡ new
+    whole = ap (λ (customs : ModuleCustomSections (SectionEntry V O)). record new { customs = customs })
+        (sym (unhanded (settings old).preserve_code_transform (λ (r : Vec ℕ) (x : Transform). ⊤) old.customs new.customs result said.plain said.customs))
+
+    changes : ChangesElements old new
+    changes = subst (λ (m : Module (SectionEntry V O)). ChangesElements old m) whole said.others
+
   pub emits_again : EmitsAgain G
   emits_again old middle new first second sayable one two =
       let c = config_of (settings old) in
       let A = OneAskedMayRefuse (meanings G middle) in
-      let same : new ≡ middle = two.settled (leaves_nothing (view G old) (view G middle) one.left) in
-      let kept : settings middle ≡ settings old = ap settings one.others in
-      let says : IsSayable (view G middle) = subst (λ (m : Module (SectionEntry V O)). IsSayable (view G m)) (sym one.others) sayable in
+      let left : Leaves (view G old) (view G middle) = subst (λ (m : Module (SectionEntry V O)). Leaves (view G old) (view G m)) (whole (Ok first) old middle one) one.left in
+      let same : new ≡ middle = sym (whole second middle new two) ∙ two.settled (leaves_nothing (view G old) (view G middle) left) in
+      let kept : settings middle ≡ settings old = ap settings (changes (Ok first) old middle one) in
+      let says : IsSayable (view G middle) = subst (λ (m : Module (SectionEntry V O)). IsSayable (view G m)) (sym (changes (Ok first) old middle one)) sayable in
       let emitted : IfOk second (λ bytes. IsEmitted c (view G middle) bytes.items) =
       subst (λ (m : Module (SectionEntry V O)). IfOk second (λ bytes. IsEmitted c (view G m) bytes.items)) same
       (subst (λ (f : Flags). IfOk second (λ bytes. IsEmitted (config_of f) (view G new) bytes.items)) kept two.emitted) in
-      let refused : RefusesToWrite A c (view G middle) (told second) =
-      subst (λ (m : Module (SectionEntry V O)). RefusesToWrite A c (view G m) (told second)) same
-      (subst (λ (f : Flags). RefusesToWrite A (config_of f) (view G new) (told second)) kept two.refused) in
-      (same, answered_again A c (view G middle) one.refused says first.items second one.emitted emitted refused)
+      let refused : RefusesToWrite (A ⊎ A) c (view G middle) (told second) =
+      subst (λ (m : Module (SectionEntry V O)). RefusesToWrite (OneMayRefuseThen G middle.customs m.customs) c (view G m) (told second)) same
+      (subst (λ (f : Flags). RefusesToWrite (OneMayRefuseThen G middle.customs new.customs) (config_of f) (view G new) (told second)) kept two.refused) in
+      (same, answered_again A c (view G middle) one.refused says first.items second one.emitted emitted (one_of A c (view G middle) (told second) refused))
 
   pub unsayable_open : UnsayableIsOpen G
   unsayable_open old new first other not said = record {
+    plain = said.plain;
     left = said.left;
     others = said.others;
     settled = said.settled;
-    emitted = λ sayable. absurd (not (subst (λ (m : Module (SectionEntry V O)). IsSayable (view G m)) said.others sayable));
+    customs = unheld Error first other (settings old).preserve_code_transform old.customs new.customs said.plain said.customs;
+    emitted = λ sayable. absurd (not (subst (λ (m : Module (SectionEntry V O)). IsSayable (view G m)) (changes (Ok first) old new said) sayable));
     refused = said.refused;
   }

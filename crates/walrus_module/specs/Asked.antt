@@ -1,5 +1,5 @@
 -- Which custom sections are asked for their data when a module is written, and which refusals come of that ("Binary Format > Custom Section").
-use Rattle.std.specs.Prelude.{ℕ, Bool, true, false, not, ◌||◌, List, Contains, bytes_eq, codes, filter, ◌≡◌, ⊤}
+use Rattle.std.specs.Prelude.{ℕ, Bool, true, false, not, ◌||◌, List, ◌++◌, map, None, Contains, bytes_eq, codes, filter, ◌≡◌, ⊤}
 use Rattle.std.specs.Str.{IsUtf8}
 use Rattle.wasm_frames.specs.Record as wire
 use Rattle.walrus_code.specs.Names.{Lookup}
@@ -39,6 +39,19 @@ is_in_turn false name = not (is_dylink_name name || is_debug_name name)
 
 abbrev pub in_turn : (first : Bool) → List Meaning → List Meaning
 in_turn first all = filter (λ (s : Meaning). is_in_turn first s.name) all
+
+-- ---- all that is asked
+
+-- nothing has an index
+abbrev pub no_index : Lookup
+no_index space number = None
+
+-- what the sections of dynamic linking say, under no indices, and what the others say
+abbrev pub asked_first : List Meaning → List wire.Custom
+asked_first all = map (section_under no_index) (in_turn true all)
+
+abbrev pub all_asked : Lookup → List Meaning → List wire.Custom
+all_asked names all = asked_first all ++ map (section_under names) (in_turn false all)
 
 -- ---- refusals
 

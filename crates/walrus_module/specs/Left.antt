@@ -32,3 +32,7 @@ pub data AddsDeclared (old new : List (Option ElementValue)) : Type 0 where
 -- all but the element segments stays
 abbrev pub ChangesElements : {S : Type 0} → Module S → Module S → Type 0
 ChangesElements old new = new ≡ record old { elements = new.elements }
+
+-- the module that is left, with the custom sections that it had before
+abbrev pub but_customs : {S : Type 0} → (old new : Module S) → Module S
+but_customs old new = record new { customs = old.customs }

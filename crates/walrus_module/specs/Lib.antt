@@ -3,6 +3,7 @@ pub mod Asked
 pub mod Customs
 pub mod Entry
 pub mod Flags
+pub mod Following
 pub mod Imported
 pub mod Laws
 pub mod Left

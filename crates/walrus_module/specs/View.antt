@@ -1,11 +1,15 @@
 -- A module in memory as an abstract module: that of what it holds, with its custom sections ("Binary Format > Custom Section").
-use Rattle.std.specs.Prelude.{Bool, true, false, List, [], filter, flat_map, map, ◌≡◌}
+use Rattle.std.specs.Prelude.{ℕ, Bool, true, false, List, [], filter, flat_map, map, ◌≡◌}
 use Rattle.walrus_base.specs.Arena.{items}
 use Rattle.walrus_types.specs.Operators.{Space, Types, Functions, Tables, Memories, Tags, Globals, Elements, DataSegments, Item}
 use Rattle.walrus_parts.specs.declared.custom.CustomSection.{Ghosts}
 use Rattle.walrus_model.specs.Abstract.{Abstract, Custom}
 use Rattle.walrus_module.specs.Customs.{sections}
 use Rattle.walrus_module.specs.Meaning.{Meaning, meaning}
+use Rattle.walrus_items.specs.Functions.{functions}
+use Rattle.walrus_writing.specs.Parts.{local_in}
+use Rattle.walrus_writing.specs.Transform.{locations_in}
+use Rattle.walrus_module.specs.declared.customs.ModuleCustomSections.{ModuleCustomSections}
 use Rattle.walrus_module.specs.declared.entry.SectionEntry.{SectionEntry}
 pub use Rattle.walrus_contents.specs.View.{types_of, is_declared, body, kind_of, kind_handlers, handlers_at, function, functions_of, export_of, exports_of, imports_of, tables_of, memories_of, tags_of, globals_of, elements_of, data_segments_of, parts_view}
 use Rattle.walrus_contents.specs.View.{HoldsNothing, contents_view}
@@ -35,6 +39,10 @@ module _ {S : Type 0} where
   -- the module of that
   abbrev pub held_view : Module S → Abstract
   held_view m = contents_view (contents_of m)
+
+  -- the locations of the operators of a function with a body, by its place
+  abbrev pub locations_of : Module S → ℕ → List ℕ
+  locations_of m number = locations_in (local_in (functions m.funcs) number)
 
 module _ {V : Type 0} {O : V → Type 0} where
   -- its custom sections, by their ids
@@ -68,7 +76,15 @@ custom_of s = record { name = s.name; data_under = λ indices. s.contents (λ sp
 abbrev pub kept_by : List Meaning → List Item
 kept_by ss = filter (λ (x : Item). can_be_kept x.0) (flat_map (λ (s : Meaning). s.roots) ss)
 
+-- a module with custom sections of its own that mean this
+abbrev pub with_sections : Abstract → List Meaning → Abstract
+with_sections v ss = record v { customs = map custom_of ss; section_roots = kept_by ss }
+
 module _ {V : Type 0} {O : V → Type 0} (G : (v : V) → Ghosts (O v)) where
+  -- what custom sections mean, by their ids
+  abbrev pub meant : ModuleCustomSections (SectionEntry V O) → List Meaning
+  meant customs = map (meaning G) (items (sections customs))
+
   -- what the custom sections of a module mean, by their ids
   abbrev pub meanings : Module (SectionEntry V O) → List Meaning
   meanings m = map (meaning G) (customs_of m)

@@ -63,7 +63,7 @@ pub(crate) fn raw_customs<'a>(
 
 // Whether a section of this name is asked in this turn: those of dynamic linking in the first, all others but debug information in the
 // second.
-fn is_in_turn(name: &str, first: bool) -> bool
+pub(crate) fn is_in_turn(name: &str, first: bool) -> bool
     ensures { result ≡ is_in_turn first name.now }
 {
     if first {
@@ -98,8 +98,10 @@ impl SectionEntry {
 }
 
 impl ModuleCustomSections {
-    ghost use Rattle.walrus_module.specs.Asked.{IsRefusedBy, IsText, OneAskedMayRefuse, OneMayRefuse, in_turn, section_under};
+    ghost use Rattle.std.specs.Str.{IsUtf8};
+    ghost use Rattle.walrus_module.specs.Asked.{IsRefusedBy, IsText, OneAskedMayRefuse, OneMayRefuse, all_asked, asked_first, in_turn, section_under};
     ghost use Rattle.walrus_module.specs.Customs.{sections};
+    ghost use Rattle.walrus_module.specs.View.{meant};
     ghost use Rattle.walrus_module.specs.Meaning.{Meaning, meaning};
     ghost use Rattle.walrus_parts.specs.Roots.{with_roots};
     ghost use Rattle.std.specs.Prelude.{flat_map};
@@ -127,6 +129,50 @@ impl ModuleCustomSections {
         Ok(())
     }
 
+    // The custom sections as they are written where items have these indices: those of dynamic linking, under no indices, then all others
+    // but debug information. Refused for want of memory, or where one that is asked may refuse.
+    pub(crate) fn asked(
+        &self,
+        alloc: Global,
+        indices: &IdsToIndices,
+    ) -> Result<Vec<AskedSection<'_>>>
+        ensures value { IfOk result (λ all. map section_seen all.items
+            ≡ all_asked (index_of indices.now) (meant ⟦<dyn CustomSection as CustomSection>⟧ self.now)) }
+        ensures texts { IfOk result (λ all. All IsText all.items) }
+        ensures fails { IfErr result (IsRefusedBy (OneAskedMayRefuse
+            (meant ⟦<dyn CustomSection as CustomSection>⟧ self.now))) }
+    {
+        let none = IdsToIndices::new(alloc);
+        let mut asked = Vec::new(alloc);
+        self.ask_in_turn(true, &none, &mut asked)?;
+        self.ask_in_turn(false, indices, &mut asked)?;
+        Ok(asked)
+    }
+
+    // Those of dynamic linking alone.
+    pub(crate) fn asked_first(&self, alloc: Global) -> Result<Vec<AskedSection<'_>>>
+        ensures value { IfOk result (λ all. map section_seen all.items
+            ≡ asked_first (meant ⟦<dyn CustomSection as CustomSection>⟧ self.now)) }
+        ensures fails { IfErr result (IsRefusedBy (OneAskedMayRefuse
+            (meant ⟦<dyn CustomSection as CustomSection>⟧ self.now))) }
+    {
+        let none = IdsToIndices::new(alloc);
+        let mut dylinks = Vec::new(alloc);
+        self.ask_in_turn(true, &none, &mut dylinks)?;
+        Ok(dylinks)
+    }
+
+    // All names are texts.
+    pub(crate) fn names_are_texts(&self)
+        ensures { All (λ (s : Meaning). IsUtf8 s.name)
+            (meant ⟦<dyn CustomSection as CustomSection>⟧ self.now) }
+    {
+        let mut rest = self.iter();
+        while let Some((_, entry)) = rest.next() {
+            let _name = entry.name();
+        }
+    }
+
     // Asks all sections, by their ids, for what they keep.
     fn push_roots(&self, roots: &mut Roots) -> Result<()>
         ensures kept { OnOk result (roots.new ≡ with_roots roots.old
@@ -145,33 +191,10 @@ impl ModuleCustomSections {
 
 impl Module {
     ghost use Rattle.std.specs.Prelude.{flat_map};
-    ghost use Rattle.walrus_model.specs.Customs.{written_customs};
-    ghost use Rattle.walrus_model.specs.Sections.{custom_of};
-    ghost use Rattle.walrus_module.specs.Asked.{IsRefusedBy, IsText, OneAskedMayRefuse, OneMayRefuse};
+    ghost use Rattle.walrus_module.specs.Asked.{IsRefusedBy, OneMayRefuse};
     ghost use Rattle.walrus_module.specs.Meaning.{Meaning};
-    ghost use Rattle.walrus_module.specs.View.{meanings, view};
+    ghost use Rattle.walrus_module.specs.View.{meanings};
     ghost use Rattle.walrus_parts.specs.Roots.{no_roots, with_roots};
-
-    // The custom sections as they are written where items have these indices: those of dynamic linking, under no indices, then all others
-    // but debug information. Refused for want of memory, or where one that is asked may refuse.
-    pub(crate) fn asked(
-        &self,
-        alloc: Global,
-        indices: &IdsToIndices,
-    ) -> Result<Vec<AskedSection<'_>>>
-        ensures value { IfOk result (λ all. map custom_of (map section_seen all.items)
-            ≡ written_customs (λ x. index_of indices.now x.0 x.1)
-            (view ⟦<dyn CustomSection as CustomSection>⟧ self.now).customs) }
-        ensures texts { IfOk result (λ all. All IsText all.items) }
-        ensures fails { IfErr result (IsRefusedBy (OneAskedMayRefuse
-            (meanings ⟦<dyn CustomSection as CustomSection>⟧ self.now))) }
-    {
-        let none = IdsToIndices::new(alloc);
-        let mut asked = Vec::new(alloc);
-        self.customs.ask_in_turn(true, &none, &mut asked)?;
-        self.customs.ask_in_turn(false, indices, &mut asked)?;
-        Ok(asked)
-    }
 
     /// The items that the module's custom sections ask to keep, section by section in the order of their ids.
     ///

@@ -27,7 +27,7 @@ fn is_raw_named(entry: &SectionEntry, name: &str) -> bool
 /// The custom sections of a module.
 #[derive(Drop)]
 pub struct ModuleCustomSections<S = SectionEntry> {
-    arena: TombstoneArena<CustomSectionKey, S>,
+    pub(crate) arena: TombstoneArena<CustomSectionKey, S>,
 }
 
 impl<S> ModuleCustomSections<S> {

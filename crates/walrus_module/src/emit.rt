@@ -1,54 +1,64 @@
 //! Writing a module as bytes.
-ghost use Rattle.std.specs.Prelude.{◌≡◌, IfOk, IsOkUnless, OnErr, OnOk};
+ghost use Rattle.std.specs.Prelude.{◌≡◌, ◌⊎◌, IfOk, IsOkUnless, OnErr, OnOk, true};
 ghost use Rattle.walrus_contents.specs.View.{parts_view};
 ghost use Rattle.walrus_items.specs.Elements.{elements};
 ghost use Rattle.walrus_model.specs.Declared.{NothingUndeclared};
 ghost use Rattle.walrus_parts.specs.Errors.{out_of_memory};
 ghost use Rattle.walrus_rules.specs.Chain.{Leaves};
 ghost use Rattle.walrus_reading.specs.Parsed.{ItemsAtOwnIds};
-ghost use Rattle.walrus_rules.specs.Refused.{PassesLimits, RefusesToWrite};
+ghost use Rattle.walrus_parts.specs.Transform.{transform_of};
+ghost use Rattle.walrus_rules.specs.Refused.{IsSayable, PassesLimits, RefusesToWrite};
 ghost use Rattle.walrus_rules.specs.WellMade.{IsWellMade};
 ghost use Rattle.walrus_module.specs.Answered.{IsWellWritten, WritesUnless};
-ghost use Rattle.walrus_module.specs.Asked.{OneAskedMayRefuse};
+ghost use Rattle.walrus_module.specs.Customs.{sections};
 ghost use Rattle.walrus_module.specs.Flags.{config_of};
-ghost use Rattle.walrus_module.specs.Left.{AddsDeclared, ChangesElements, LeavesBy};
+ghost use Rattle.walrus_module.specs.Following.{AreRaw, LeavesCustoms, OneMayRefuseThen};
+ghost use Rattle.walrus_module.specs.Left.{AddsDeclared, ChangesElements, LeavesBy, but_customs};
 ghost use Rattle.walrus_module.specs.Settings.{settings};
-ghost use Rattle.walrus_module.specs.View.{contents_of, held_view, meanings, view};
+ghost use Rattle.walrus_module.specs.View.{contents_of, held_view, locations_of, view};
 ghost use Rattle.walrus_writing.specs.Emitted.{IsEmitted, told};
+ghost use Rattle.walrus_writing.specs.Transform.{IsTransformOf};
 
-use crate::asked::raw_customs;
 use crate::module::Module;
+use crate::written::write_parts;
 use std::alloc::Global;
 use walrus_contents::{Parts, check_live, undeclared_functions};
 use walrus_items::{ElementItems, ElementKind};
-use walrus_parts::{CustomSection, Result};
-use walrus_plan::prepare;
-use walrus_writing::write_prepared;
+use walrus_parts::{CodeTransform, CustomSection, Result};
 
 impl Module {
     /// The module's bytes. The module gets one element segment, unnamed and behind all others, that declares the functions that `ref.func`
     /// names in a body or in the initialiser of a global and that nothing declares, if there are any (Valid > Modules: the context's references);
     /// all else stays as it is. So a second emission adds nothing, and writes the same bytes. Custom sections are asked for their data by their
     /// ids, those of dynamic linking first and under no indices, all others but debug information under those that items are written with.
+    /// Under [`preserve_code_transform`](crate::ModuleConfig::preserve_code_transform) each of these others is handed the code transform before, and so
+    /// may change, a second time too; where one refuses, those in front of it have followed the code.
     ///
     /// # Errors
     ///
     /// Each with a cause of its own: `DeadItem` where an item or a local is named that isn't there, or a function has neither an import nor a
-    /// body; then no segment is added. Behind that those of [`prepare`] and [`write_prepared`]: `TwoIndices` where an import names an item that the module defines,
+    /// body; then no segment is added. Behind that those of [`prepare`](walrus_plan::prepare) and [`write_prepared`](walrus_writing::write_prepared): `TwoIndices` where an import names an item that the module defines,
     /// or two imports name one; `NoIndex` where an item says to be brought by an import that isn't there or names another item, or an initialiser
     /// or a type names what gets its index later; `NotWritable` where no bytes spell a body, a type, an initialiser or a segment; `TooLarge` where
-    /// a count or a size passes 32 bits. What a custom section of a caller's own refuses with: `Caller`, where one that is asked may refuse. And `Memory`.
+    /// a count or a size passes 32 bits. What a custom section of a caller's own refuses with: `Caller`, where one that is asked, or handed the transform, may refuse. And `Memory`.
     pub fn emit_wasm(&mut self, alloc: Global) -> Result<Vec<u8>>
         ensures left { LeavesBy (view ⟦<dyn CustomSection as CustomSection>⟧ self.old)
-            (view ⟦<dyn CustomSection as CustomSection>⟧ self.new) (told result) }
+            (view ⟦<dyn CustomSection as CustomSection>⟧ (but_customs self.old self.new)) (told result) }
         ensures segments { AddsDeclared (elements self.old.elements) (elements self.new.elements) }
-        ensures others { ChangesElements self.old self.new }
+        ensures others { ChangesElements self.old (but_customs self.old self.new) }
         ensures settled { NothingUndeclared (view ⟦<dyn CustomSection as CustomSection>⟧ self.old)
-            → self.new ≡ self.old }
-        ensures emitted { IfOk result (λ bytes. IsEmitted (config_of (settings self.old))
-            (view ⟦<dyn CustomSection as CustomSection>⟧ self.new) bytes.items) }
+            → but_customs self.old self.new ≡ self.old }
+        ensures customs { LeavesCustoms ⟦<dyn CustomSection as CustomSection>⟧
+            (settings self.old).preserve_code_transform
+            (λ r x. IsSayable (view ⟦<dyn CustomSection as CustomSection>⟧ self.new)
+            → IsTransformOf (config_of (settings self.old)) true (locations_of self.new)
+            (view ⟦<dyn CustomSection as CustomSection>⟧ self.new) r.items x)
+            self.old.customs self.new.customs result }
+        ensures raw { AreRaw (sections self.old.customs) → self.new.customs ≡ self.old.customs }
+        ensures emitted { IfOk result (λ r. IsEmitted (config_of (settings self.old))
+            (view ⟦<dyn CustomSection as CustomSection>⟧ self.new) r.items) }
         ensures refused { RefusesToWrite
-            (OneAskedMayRefuse (meanings ⟦<dyn CustomSection as CustomSection>⟧ self.old))
+            (OneMayRefuseThen ⟦<dyn CustomSection as CustomSection>⟧ self.old.customs self.new.customs)
             (config_of (settings self.old))
             (view ⟦<dyn CustomSection as CustomSection>⟧ self.new) (told result) }
         ensures declared { OnOk result (NothingUndeclared
@@ -57,19 +67,114 @@ impl Module {
             (view ⟦<dyn CustomSection as CustomSection>⟧ self.old) → WritesUnless
             (PassesLimits (config_of (settings self.old))
             (view ⟦<dyn CustomSection as CustomSection>⟧ self.new))
-            (OneAskedMayRefuse (meanings ⟦<dyn CustomSection as CustomSection>⟧ self.old))
-            (λ bytes. IsWellWritten (config_of (settings self.old))
-            (view ⟦<dyn CustomSection as CustomSection>⟧ self.new) bytes.items) (told result) }
+            (OneMayRefuseThen ⟦<dyn CustomSection as CustomSection>⟧ self.old.customs self.new.customs)
+            (λ r. IsWellWritten (config_of (settings self.old))
+            (view ⟦<dyn CustomSection as CustomSection>⟧ self.new) r.items) (told result) }
         ensures own_ids { ItemsAtOwnIds (contents_of self.old) → ItemsAtOwnIds (contents_of self.new) }
+    {
+        let (bytes, transform) = self.emit(alloc, false)?;
+        drop(transform);
+        Ok(bytes)
+    }
+
+    /// The same with the places of bodies and operators in the bytes: of each local function the place of its body, behind its size, by
+    /// rising id; the place of the count of functions; and, under
+    /// [`preserve_code_transform`](crate::ModuleConfig::preserve_code_transform), of each location that isn't the default the last place, by rising
+    /// location. Without local functions all is empty, and the place 0.
+    ///
+    /// # Errors
+    ///
+    /// Those of [`Module::emit_wasm`].
+    pub fn emit_wasm_with_transform(&mut self, alloc: Global) -> Result<(Vec<u8>, CodeTransform)>
+        ensures left { LeavesBy (view ⟦<dyn CustomSection as CustomSection>⟧ self.old)
+            (view ⟦<dyn CustomSection as CustomSection>⟧ (but_customs self.old self.new)) (told result) }
+        ensures segments { AddsDeclared (elements self.old.elements) (elements self.new.elements) }
+        ensures others { ChangesElements self.old (but_customs self.old self.new) }
+        ensures settled { NothingUndeclared (view ⟦<dyn CustomSection as CustomSection>⟧ self.old)
+            → but_customs self.old self.new ≡ self.old }
+        ensures customs { LeavesCustoms ⟦<dyn CustomSection as CustomSection>⟧
+            (settings self.old).preserve_code_transform
+            (λ r x. x ≡ transform_of r.1) self.old.customs self.new.customs result }
+        ensures raw { AreRaw (sections self.old.customs) → self.new.customs ≡ self.old.customs }
+        ensures emitted { IfOk result (λ r. IsEmitted (config_of (settings self.old))
+            (view ⟦<dyn CustomSection as CustomSection>⟧ self.new) r.0.items) }
+        ensures refused { RefusesToWrite
+            (OneMayRefuseThen ⟦<dyn CustomSection as CustomSection>⟧ self.old.customs self.new.customs)
+            (config_of (settings self.old))
+            (view ⟦<dyn CustomSection as CustomSection>⟧ self.new) (told result) }
+        ensures declared { OnOk result (NothingUndeclared
+            (view ⟦<dyn CustomSection as CustomSection>⟧ self.new)) }
+        ensures well_made { IsWellMade (config_of (settings self.old))
+            (view ⟦<dyn CustomSection as CustomSection>⟧ self.old) → WritesUnless
+            (PassesLimits (config_of (settings self.old))
+            (view ⟦<dyn CustomSection as CustomSection>⟧ self.new))
+            (OneMayRefuseThen ⟦<dyn CustomSection as CustomSection>⟧ self.old.customs self.new.customs)
+            (λ r. IsWellWritten (config_of (settings self.old))
+            (view ⟦<dyn CustomSection as CustomSection>⟧ self.new) r.0.items) (told result) }
+        ensures own_ids { ItemsAtOwnIds (contents_of self.old) → ItemsAtOwnIds (contents_of self.new) }
+        ensures transform { IfOk result (λ r.
+            IsSayable (view ⟦<dyn CustomSection as CustomSection>⟧ self.new)
+            → IsTransformOf (config_of (settings self.old)) (settings self.old).preserve_code_transform
+            (locations_of self.new) (view ⟦<dyn CustomSection as CustomSection>⟧ self.new) r.0.items
+            (transform_of r.1)) }
+    {
+        self.emit(alloc, true)
+    }
+
+    // The same, where the places are only true if they are asked for, or sections are to follow the code.
+    fn emit(&mut self, alloc: Global, tells: bool) -> Result<(Vec<u8>, CodeTransform)>
+        ensures left { LeavesBy (view ⟦<dyn CustomSection as CustomSection>⟧ self.old)
+            (view ⟦<dyn CustomSection as CustomSection>⟧ (but_customs self.old self.new)) (told result) }
+        ensures segments { AddsDeclared (elements self.old.elements) (elements self.new.elements) }
+        ensures others { ChangesElements self.old (but_customs self.old self.new) }
+        ensures settled { NothingUndeclared (view ⟦<dyn CustomSection as CustomSection>⟧ self.old)
+            → but_customs self.old self.new ≡ self.old }
+        ensures customs { LeavesCustoms ⟦<dyn CustomSection as CustomSection>⟧
+            (settings self.old).preserve_code_transform
+            (λ r x. x ≡ transform_of r.1) self.old.customs self.new.customs result }
+        ensures raw { AreRaw (sections self.old.customs) → self.new.customs ≡ self.old.customs }
+        ensures emitted { IfOk result (λ r. IsEmitted (config_of (settings self.old))
+            (view ⟦<dyn CustomSection as CustomSection>⟧ self.new) r.0.items) }
+        ensures refused { RefusesToWrite
+            (OneMayRefuseThen ⟦<dyn CustomSection as CustomSection>⟧ self.old.customs self.new.customs)
+            (config_of (settings self.old))
+            (view ⟦<dyn CustomSection as CustomSection>⟧ self.new) (told result) }
+        ensures declared { OnOk result (NothingUndeclared
+            (view ⟦<dyn CustomSection as CustomSection>⟧ self.new)) }
+        ensures well_made { IsWellMade (config_of (settings self.old))
+            (view ⟦<dyn CustomSection as CustomSection>⟧ self.old) → WritesUnless
+            (PassesLimits (config_of (settings self.old))
+            (view ⟦<dyn CustomSection as CustomSection>⟧ self.new))
+            (OneMayRefuseThen ⟦<dyn CustomSection as CustomSection>⟧ self.old.customs self.new.customs)
+            (λ r. IsWellWritten (config_of (settings self.old))
+            (view ⟦<dyn CustomSection as CustomSection>⟧ self.new) r.0.items) (told result) }
+        ensures own_ids { ItemsAtOwnIds (contents_of self.old) → ItemsAtOwnIds (contents_of self.new) }
+        ensures transform { ((settings self.old).preserve_code_transform ≡ true) ⊎ (tells ≡ true)
+            → IfOk result (λ r. IsSayable (view ⟦<dyn CustomSection as CustomSection>⟧ self.new)
+            → IsTransformOf (config_of (settings self.old)) (settings self.old).preserve_code_transform
+            (locations_of self.new) (view ⟦<dyn CustomSection as CustomSection>⟧ self.new) r.0.items
+            (transform_of r.1)) }
     {
         check_live(alloc, self.parts())?;
         self.declare_references(alloc)?;
-        let choices = self.switches.choices();
-        let parts = self.parts();
-        let prepared = prepare(alloc, parts)?;
-        let asked = self.asked(alloc, &prepared.indices)?;
-        let customs = raw_customs(alloc, asked.as_slice())?;
-        write_prepared(alloc, parts, &prepared, customs.as_slice(), &choices)
+        let start = self.start;
+        let parts = Parts {
+            types: &self.types,
+            locals: &self.locals,
+            imports: &self.imports,
+            funcs: &self.funcs,
+            tables: &self.tables,
+            memories: &self.memories,
+            tags: &self.tags,
+            globals: &self.globals,
+            elements: &self.elements,
+            data_: &self.data_,
+            exports: &self.exports,
+            start,
+            producers: &self.producers,
+            name: &self.name,
+        };
+        write_parts(alloc, parts, &mut self.customs, self.switches, tells)
     }
 
     // Adds the segment that declares what `ref.func` names and nothing declares, if there is any such function. Want of memory is the only

@@ -10,6 +10,7 @@ use walrus_parts::CustomSection;
 /// A module for which [`emit_wasm`](crate::Module::emit_wasm) answered bytes is left as it is by a second call, which answers
 /// the same bytes, or is refused for want of memory or by a custom section that is asked. So the clauses of the two calls say,
 /// of each module that has no custom section of its own called `name` or `producers`; of others they don't tell the bytes.
+/// Both are calls without [`preserve_code_transform`](crate::ModuleConfig::preserve_code_transform): under it sections follow the code.
 /// The parameter only names the type of custom sections.
 pub fn second_emission_is_the_same(_module: &Module)
     ensures same { EmitsAgain ⟦<dyn CustomSection as CustomSection>⟧ }

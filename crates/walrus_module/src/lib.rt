@@ -6,6 +6,7 @@ pub mod config;
 pub mod customs;
 mod emit;
 pub mod entry;
+mod following;
 pub mod hook;
 mod imported;
 mod law;
@@ -16,6 +17,7 @@ pub mod on_parse;
 mod parse;
 mod replaced;
 pub mod switches;
+mod written;
 
 pub use config::ModuleConfig;
 pub use customs::ModuleCustomSections;

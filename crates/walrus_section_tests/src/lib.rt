@@ -2,6 +2,7 @@
 //! those that are made of indices.
 #![tactic(auto)]
 
+pub mod follower;
 #[cfg(test)]
 mod found_names;
 #[cfg(test)]
@@ -17,3 +18,5 @@ pub mod noted;
 mod raw;
 #[cfg(test)]
 mod sections;
+#[cfg(test)]
+mod transform;

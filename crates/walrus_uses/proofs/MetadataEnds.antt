@@ -29,7 +29,8 @@ use Rattle.walrus_module.specs.Asked.{OneAskedMayRefuse}
 use Rattle.walrus_module.specs.Customs.{sections}
 use Rattle.walrus_module.specs.Emitted.{told}
 use Rattle.walrus_module.specs.Flags.{Flags, config_of}
-use Rattle.walrus_module.specs.Left.{LeavesBy}
+use Rattle.walrus_module.specs.Following.{AreRaw, OneMayRefuseThen}
+use Rattle.walrus_module.specs.Left.{LeavesBy, but_customs}
 use Rattle.walrus_module.specs.Meaning.{Meaning, meaning, raw_meaning}
 use Rattle.walrus_module.specs.Parsed.{IsParsed, RefusesBytes}
 use Rattle.walrus_module.specs.Raws.{raw_sections}
@@ -39,6 +40,7 @@ use Rattle.walrus_module.specs.declared.entry.SectionEntry.{SectionEntry}
 use Rattle.walrus_module.specs.declared.entry.SectionEntry.TheVariants.{Raw}
 use Rattle.walrus_module.specs.declared.module.Module.{Module}
 use Rattle.walrus_module.proofs.KeptRaw.{none_asked_refuses, raw_means}
+use Rattle.walrus.proofs.RawStays.{all_raw, leaves_whole, plain_well}
 use Rattle.walrus_uses.proofs.Sections.{is_written}
 use Rattle.walrus_uses.proofs.WellWith.{well_with}
 use Rattle.walrus_uses.specs.Metadata.{CarriesMetadata, GainsSection, section_of, with_section}
@@ -160,3 +162,12 @@ module _ {V : Type 0} {O : V → Type 0} (G : (v : V) → Ghosts (O v)) (m : Mod
     answered f is u result left writes =
         by_result u result left
         (subst (λ (d : Config). IsWellMade d (view G gained) → WritesUnless (PassesLimits d u) (OneAskedMayRefuse (meanings G gained)) (λ (b : Vec ℕ). IsWellWritten d u b.items) (told result)) is writes gained_well)
+
+    -- the same, as emission says it of any module
+    pub answered_whole : (left : Module (SectionEntry V O)) → (AreRaw (sections k) → left.customs ≡ k) → (f : Flags) → config_of f ≡ c → (result : Result (Vec ℕ) Error) → LeavesBy (view G gained) (view G (but_customs gained left)) (told result)
+        → (IsWellMade (config_of f) (view G gained) → WritesUnless (PassesLimits (config_of f) (view G left)) (OneMayRefuseThen G k left.customs) (λ (b : Vec ℕ). IsWellWritten (config_of f) (view G left) b.items) (told result))
+        → CarriesMetadata c bytes name payload result
+    answered_whole left raw f is result leaves writes =
+        let same : left.customs ≡ k = raw (all_raw k (raws ++ s ∷ []) are_more) in
+        answered f is (view G left) result (leaves_whole G gained left same (told result) leaves)
+        (λ made. plain_well G gained left same (PassesLimits (config_of f) (view G left)) (λ (b : Vec ℕ). IsWellWritten (config_of f) (view G left) b.items) (told result) (writes made))

@@ -1,10 +1,13 @@
 use Rattle.std.proofs.Common.{◌∙◌, ap}
-use Rattle.walrus_module.specs.Asked.{OneAskedMayRefuse, OneMayRefuse}
+use Rattle.walrus_module.specs.Asked.{OneMayRefuse}
 use Rattle.walrus_module.specs.Flags.{config_of, flags}
+use Rattle.walrus_module.specs.Following.{OneMayRefuseThen}
 use Rattle.walrus_module.specs.View.{meanings}
 use Rattle.walrus_module.specs.Customs.{sections}
 use Rattle.walrus_module.proofs.KeptRaw.{none_asked_refuses, none_refuses}
+use Rattle.walrus_module.specs.Emitted.{told}
 use Rattle.walrus.proofs.HeadlineLemmas.{answers_gc, answers_kept}
+use Rattle.walrus.proofs.RawStays.{all_raw, leaves_whole, none_refuses_then}
 use Rattle.walrus.proofs.work.smaller.Goals as goal
 
 pub returns-in_err-run : goal.returns-in_err-run
@@ -16,7 +19,10 @@ returns-in_err-run g c =
 pub returns : goal.returns
 returns g c =
     let kept = c.run.new.module in
+    let left = c.emit_wasm.new.self in
     let raws = c.in_ok-module.ensures.kept.raws in
+    let are = ap sections c.in_ok-run.ensures.others.2 ∙ c.in_ok-module.ensures.kept.are in
+    let same = c.emit_wasm.ensures.raw (all_raw kept.customs raws are) in
     let keeps = c.in_ok-run.ensures.others.3 ∙ c.in_ok-module.ensures.configured in
-    answers_kept (λ output. output.items) (OneAskedMayRefuse (meanings _ kept)) (none_asked_refuses _ kept raws (ap sections c.in_ok-run.ensures.others.2 ∙ c.in_ok-module.ensures.kept.are)) _ _ keeps _ _ c.deref.ensures.value _ _ _ c.emit_wasm.result
-    c.in_ok-module.ensures.found c.in_ok-run.ensures.collected c.emit_wasm.ensures.left c.emit_wasm.ensures.emitted c.emit_wasm.ensures.refused
+    answers_kept (λ output. output.items) (OneMayRefuseThen _ kept.customs left.customs) (none_refuses_then _ kept left same (none_asked_refuses _ kept raws are)) _ _ keeps _ _ c.deref.ensures.value _ _ _ c.emit_wasm.result
+    c.in_ok-module.ensures.found c.in_ok-run.ensures.collected (leaves_whole _ kept left same (told c.emit_wasm.result) c.emit_wasm.ensures.left) c.emit_wasm.ensures.emitted c.emit_wasm.ensures.refused

@@ -1,5 +1,8 @@
 use Rattle.std.proofs.Common.{ap, ◌∙◌}
 use Rattle.std.proofs.lemmas.Result.{err_from_is_err_and}
+use Rattle.walrus.proofs.RawStays.{all_raw, leaves_whole, plain_well}
+use Rattle.walrus_module.specs.Customs.{sections}
+use Rattle.walrus_module.specs.Emitted.{told}
 use Rattle.walrus_module.specs.Flags.{config_of, defaults}
 use Rattle.walrus_module.specs.Settings.{settings}
 use Rattle.walrus_uses.proofs.EditEnds.{answered, parsed_whole, search_refused}
@@ -30,6 +33,11 @@ returns c =
     let read = c.in_ok-module.module in
     let whole = parsed_whole _ (StubsHeld from) RefusesStub (config_of defaults) c.args.bytes.now read c.in_ok-module.ensures.found in
     let done = c.in_ok-trap_all.ensures (config_of defaults) whole in
+    let kept = c.run.new.module in
+    let left = c.emit_wasm.new.self in
+    let are = ap sections c.in_ok-run.ensures.others.2 ∙ ap sections (ap (λ m. m.customs) (done.0).others) ∙ c.in_ok-module.ensures.kept.are in
+    let same = c.emit_wasm.ensures.raw (all_raw kept.customs c.in_ok-module.ensures.kept.raws are) in
     answered _ (StubsHeld from) RefusesStub (config_of defaults) c.args.bytes.now read c.in_ok-module.ensures.found
     _ (stubs_held from read _ done.0) (ap (λ m. m.customs) (done.0).others) done.1 c.in_ok-module.ensures.kept.raws c.in_ok-module.ensures.kept.are
-    c.run.new.module c.in_ok-run.ensures.collected c.in_ok-run.ensures.others.2 (settings c.run.new.module) (ap config_of (c.in_ok-run.ensures.others.3 ∙ ap settings (done.0).others ∙ c.in_ok-module.ensures.configured)) _ c.emit_wasm.result c.emit_wasm.ensures.left c.emit_wasm.ensures.well_made
+    c.run.new.module c.in_ok-run.ensures.collected c.in_ok-run.ensures.others.2 (settings c.run.new.module) (ap config_of (c.in_ok-run.ensures.others.3 ∙ ap settings (done.0).others ∙ c.in_ok-module.ensures.configured)) _ c.emit_wasm.result
+    (leaves_whole _ kept left same (told c.emit_wasm.result) c.emit_wasm.ensures.left) (λ made. plain_well _ kept left same _ _ (told c.emit_wasm.result) (c.emit_wasm.ensures.well_made made))

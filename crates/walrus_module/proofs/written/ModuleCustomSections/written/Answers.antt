@@ -1,0 +1,46 @@
+use Rattle.std.proofs.Common.{map, ap, sym, ◌∙◌, subst}
+use Rattle.std.specs.Prelude.{All}
+use Rattle.std.specs.Str.{IsUtf8}
+use Rattle.std.proofs.lemmas.List.Elements.{All-map}
+use Rattle.wasm_frames.specs.Record.{Custom, custom_record}
+use Rattle.walrus_code.specs.Indices.{index_of}
+use Rattle.walrus_contents.specs.View.{parts_view}
+use Rattle.walrus_writing.specs.Emitted.{told}
+use Rattle.walrus_module.specs.Asked.{OneAskedMayRefuse, section_seen}
+use Rattle.walrus_module.specs.Flags.{config_of, flags_of}
+use Rattle.walrus_module.specs.View.{meant, with_sections}
+use Rattle.walrus_module.proofs.OwnSections.{refused_anyway}
+use Rattle.walrus_module.proofs.WellWritten.{written_with}
+use Rattle.walrus_module.proofs.WrittenSections.{asks, if_ok_always, spells_as}
+use Rattle.walrus_module.proofs.written.ModuleCustomSections.written.Goals as goal
+
+pub returns-clause-spells : goal.returns-clause-spells
+returns-clause-spells g c =
+    let names = index_of c.args.prepared.now.indices in
+    let same = ap (map custom_record) c.as_slice-2.ensures.value ∙ c.in_ok-customs.ensures.value ∙ ap (map section_seen) c.as_slice.ensures.value ∙ c.in_ok-asked.ensures.value in
+    spells_as c.args.parts names _ _ _ _ c.choices.ensures same c.write_prepared.result c.write_prepared.ensures.spells
+
+pub returns-clause-texts : goal.returns-clause-texts
+returns-clause-texts g c =
+    let same = ap (map section_seen) c.as_slice.ensures.value ∙ c.in_ok-asked.ensures.value in
+    if_ok_always _ c.write_prepared.result
+    (subst (All (λ (x : Custom). IsUtf8 x.name)) (sym (ap (map section_seen) c.as_slice.ensures.value) ∙ same) (All-map (λ (x : Custom). IsUtf8 x.name) section_seen _ c.in_ok-asked.ensures.texts))
+
+pub returns-clause-emitted : goal.returns-clause-emitted
+returns-clause-emitted g c =
+    let ms = meant (λ (i : g.dyn-1.0.I). (g.dyn-1.0.entry i).1) c.args.self.now in
+    let seen = ap (map section_seen) c.as_slice.ensures.value ∙ c.in_ok-asked.ensures.value in
+    let same = ap (map custom_record) c.as_slice-2.ensures.value ∙ c.in_ok-customs.ensures.value ∙ seen in
+    c.write_prepared.ensures.written (config_of (flags_of c.args.switches)) (with_sections (parts_view c.args.parts) ms) (written_with _ _ c.choices.ensures)
+    (asks c.args.parts (index_of c.args.prepared.now.indices) ms _ same
+    (subst (All (λ (x : Custom). IsUtf8 x.name)) (sym (ap (map custom_record) c.as_slice-2.ensures.value ∙ c.in_ok-customs.ensures.value ∙ ap (map section_seen) c.as_slice.ensures.value)) (All-map (λ (x : Custom). IsUtf8 x.name) section_seen _ c.in_ok-asked.ensures.texts)))
+
+pub returns-clause-refused : goal.returns-clause-refused
+returns-clause-refused g c =
+    let ms = meant (λ (i : g.dyn-1.0.I). (g.dyn-1.0.entry i).1) c.args.self.now in
+    let seen = ap (map section_seen) c.as_slice.ensures.value ∙ c.in_ok-asked.ensures.value in
+    let same = ap (map custom_record) c.as_slice-2.ensures.value ∙ c.in_ok-customs.ensures.value ∙ seen in
+    refused_anyway (OneAskedMayRefuse ms) (config_of (flags_of c.args.switches)) (with_sections (parts_view c.args.parts) ms) (told c.write_prepared.result)
+    (c.write_prepared.ensures.refused (config_of (flags_of c.args.switches)) (with_sections (parts_view c.args.parts) ms) (written_with _ _ c.choices.ensures)
+    (asks c.args.parts (index_of c.args.prepared.now.indices) ms _ same
+    (subst (All (λ (x : Custom). IsUtf8 x.name)) (sym (ap (map custom_record) c.as_slice-2.ensures.value ∙ c.in_ok-customs.ensures.value ∙ ap (map section_seen) c.as_slice.ensures.value)) (All-map (λ (x : Custom). IsUtf8 x.name) section_seen _ c.in_ok-asked.ensures.texts))))

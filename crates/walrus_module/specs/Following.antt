@@ -1,0 +1,76 @@
+-- What custom sections are behind a code transform.
+use Rattle.std.specs.Prelude.{ℕ, Bool, true, false, List, length, Option, Some, None, Result, Ok, Err, ◌≡◌, ◌≢◌, ◌⊎◌, ⊤}
+use Rattle.walrus_base.specs.Arena.{item_at}
+use Rattle.walrus_code.specs.Transform.{Transform}
+use Rattle.walrus_parts.specs.declared.custom.CustomSection.{Ghosts}
+use Rattle.walrus_module.specs.Asked.{OneAskedMayRefuse, is_in_turn}
+use Rattle.walrus_module.specs.Customs.{sections}
+use Rattle.walrus_module.specs.Meaning.{Meaning, meaning}
+use Rattle.walrus_module.specs.View.{meant}
+use Rattle.walrus_module.specs.declared.customs.ModuleCustomSections.{ModuleCustomSections}
+use Rattle.walrus_module.specs.declared.entry.SectionEntry.{SectionEntry}
+use Rattle.walrus_module.specs.declared.entry.SectionEntry.TheVariants.{Raw, Boxed}
+
+-- A section that is handed the transform has the same name behind it, and the state that the old one gives for it; any other stays.
+abbrev pub FollowsBy : (handed : Bool) → Transform → (old new : Meaning) → Type 0
+FollowsBy true x old new = (new.name ≡ old.name) × (new.state ≡ old.state_after x)
+FollowsBy false x old new = new ≡ old
+
+-- it is handed to all but those of dynamic linking and debug information
+abbrev pub Follows : Transform → (old new : Meaning) → Type 0
+Follows x old new = FollowsBy (is_in_turn false old.name) x old new
+
+-- it means the same
+abbrev pub Stays : (old new : Meaning) → Type 0
+Stays old new = new ≡ old
+
+-- so it is, or nothing happened
+abbrev pub MayFollow : Transform → (old new : Meaning) → Type 0
+MayFollow x old new = Follows x old new ⊎ (new ≡ old)
+
+module _ {V : Type 0} {O : V → Type 0} (G : (v : V) → Ghosts (O v)) where
+  -- what is at a place comes to what is there later: a section to a section, and nothing to nothing
+  abbrev pub SlotComes : (Meaning → Meaning → Type 0) → (old new : Option (SectionEntry V O)) → Type 0
+  SlotComes R None None = ⊤
+  SlotComes R (Some s) (Some t) = R (meaning G s) (meaning G t)
+  SlotComes R a b = ⊥
+
+  -- so it does at each place, and there are as many
+  pub record EachComes (R : Meaning → Meaning → Type 0) (old new : List (Option (SectionEntry V O))) : Type 0 where
+    pub places : length new ≡ length old
+    pub comes : (i : ℕ) → SlotComes R (item_at old i) (item_at new i)
+
+  -- a section that may refuse the transform is there
+  abbrev pub MayRefuseAt : Option (SectionEntry V O) → Type 0
+  MayRefuseAt None = ⊥
+  MayRefuseAt (Some s) = (is_in_turn false (meaning G s).name ≡ true) × ((meaning G s).may_refuse ≡ true)
+
+  -- one place may have changed, and came to this
+  pub record OneComes (R : Meaning → Meaning → Type 0) (at : ℕ) (old new : List (Option (SectionEntry V O))) : Type 0 where
+    pub places : length new ≡ length old
+    pub comes : SlotComes R (item_at old at) (item_at new at)
+    pub others : (i : ℕ) → i ≢ at → item_at new i ≡ item_at old i
+
+module _ {V : Type 0} {O : V → Type 0} where
+  abbrev pub IsRaw : Option (SectionEntry V O) → Type 0
+  IsRaw None = ⊤
+  IsRaw (Some (Raw s)) = ⊤
+  IsRaw (Some (Boxed b)) = ⊥
+
+  -- no section is a caller's own
+  abbrev pub AreRaw : List (Option (SectionEntry V O)) → Type 0
+  AreRaw slots = (i : ℕ) → IsRaw (item_at slots i)
+
+-- ---- what emission leaves
+
+module _ {V : Type 0} {O : V → Type 0} (G : (v : V) → Ghosts (O v)) where
+  -- What emission leaves of custom sections, where it hands them the transform or doesn't, and answers so: on Ok all have followed a transform of
+  -- which `Tells` holds; refused, each has, or is as it was.
+  abbrev pub LeavesCustoms : {X E : Type 0} → (hands : Bool) → (Tells : X → Transform → Type 0) → (old new : ModuleCustomSections (SectionEntry V O)) → Result X E → Type 0
+  LeavesCustoms false Tells old new result = new ≡ old
+  LeavesCustoms true Tells old new (Ok r) = (x : Transform) × (Tells r x × EachComes G (Follows x) (sections old) (sections new))
+  LeavesCustoms true Tells old new (Err e) = (x : Transform) × EachComes G (MayFollow x) (sections old) (sections new)
+
+  -- one that is asked for its data, or handed the transform, may refuse: as it was before, or as it is behind the transform
+  abbrev pub OneMayRefuseThen : (old new : ModuleCustomSections (SectionEntry V O)) → Type 0
+  OneMayRefuseThen old new = OneAskedMayRefuse (meant G old) ⊎ OneAskedMayRefuse (meant G new)

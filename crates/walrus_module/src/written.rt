@@ -1,0 +1,186 @@
+//! The bytes of a module's parts with custom sections of its own, which follow the code before, where that is asked for.
+ghost use Rattle.std.specs.Prelude.{◌≡◌, ◌⊎◌, All, IfErr, IfOk, Err, false, true};
+ghost use Rattle.std.specs.Str.{IsUtf8};
+ghost use Rattle.walrus_code.specs.Indices.{index_of};
+ghost use Rattle.walrus_contents.specs.View.{parts_view};
+ghost use Rattle.walrus_model.specs.Dead.{HasDead};
+ghost use Rattle.walrus_model.specs.Declared.{NothingUndeclared};
+ghost use Rattle.walrus_module.specs.Asked.{OneAskedMayRefuse, all_asked, asked_first};
+ghost use Rattle.walrus_module.specs.Customs.{sections};
+ghost use Rattle.walrus_module.specs.Flags.{choices_of, config_of, flags_of};
+ghost use Rattle.walrus_module.specs.Following.{AreRaw, LeavesCustoms, OneMayRefuseThen};
+ghost use Rattle.walrus_module.specs.View.{meant, with_sections};
+ghost use Rattle.walrus_parts.specs.Transform.{transform_of};
+ghost use Rattle.walrus_plan.specs.Prepared.{IsPrepared};
+ghost use Rattle.walrus_rules.specs.Refused.{IsSayable, RefusesToWrite};
+ghost use Rattle.walrus_writing.specs.Customs.{task};
+ghost use Rattle.walrus_writing.specs.Emitted.{IsEmitted, refusal_of, told};
+ghost use Rattle.walrus_writing.specs.Records.{Spells};
+ghost use Rattle.walrus_writing.specs.Transform.{IsTransformOf, TellsTransform, locations_at};
+
+use crate::asked::raw_customs;
+use crate::customs::ModuleCustomSections;
+use crate::switches::Switches;
+use std::alloc::Global;
+use walrus_contents::Parts;
+use walrus_parts::{CodeTransform, CustomSection, Result};
+use walrus_plan::{Prepared, prepare};
+use walrus_writing::{code_transform, write_prepared};
+
+impl ModuleCustomSections {
+    // Where the code comes to stand in the bytes of these parts with these sections.
+    fn transform(
+        &self,
+        alloc: Global,
+        parts: Parts<'_>,
+        prepared: &Prepared,
+        switches: Switches,
+    ) -> Result<CodeTransform>
+        requires there { HasDead (parts_view parts) → ⊥ }
+        requires declared { NothingUndeclared (parts_view parts) }
+        requires planned { IsPrepared parts prepared.now }
+        ensures told { IfOk result (TellsTransform parts.entry
+            (choices_of (config_of (flags_of switches))) (index_of prepared.now.indices)
+            (asked_first (meant ⟦<dyn CustomSection as CustomSection>⟧ self.now))
+            switches.preserve_code_transform) }
+        ensures refused { IfErr result (λ e. RefusesToWrite {X = Unit {0}}
+            (OneAskedMayRefuse (meant ⟦<dyn CustomSection as CustomSection>⟧ self.now))
+            (config_of (flags_of switches))
+            (with_sections (parts_view parts.entry)
+            (meant ⟦<dyn CustomSection as CustomSection>⟧ self.now)) (Err (refusal_of e))) }
+    {
+        self.names_are_texts();
+        let asked = self.asked_first(alloc)?;
+        let dylinks = raw_customs(alloc, asked.as_slice())?;
+        code_transform(
+            alloc,
+            parts,
+            prepared,
+            dylinks.as_slice(),
+            &switches.choices(),
+            switches.preserve_code_transform,
+        )
+    }
+
+    // The bytes of these parts with these sections.
+    fn written(
+        &self,
+        alloc: Global,
+        parts: Parts<'_>,
+        prepared: &Prepared,
+        switches: Switches,
+    ) -> Result<Vec<u8>>
+        requires there { HasDead (parts_view parts) → ⊥ }
+        requires declared { NothingUndeclared (parts_view parts) }
+        requires planned { IsPrepared parts prepared.now }
+        ensures emitted { IfOk result (λ bytes. IsEmitted (config_of (flags_of switches))
+            (with_sections (parts_view parts.entry)
+            (meant ⟦<dyn CustomSection as CustomSection>⟧ self.now)) bytes.items) }
+        ensures refused { RefusesToWrite
+            (OneAskedMayRefuse (meant ⟦<dyn CustomSection as CustomSection>⟧ self.now))
+            (config_of (flags_of switches))
+            (with_sections (parts_view parts.entry)
+            (meant ⟦<dyn CustomSection as CustomSection>⟧ self.now)) (told result) }
+        ensures spells { IfOk result (λ bytes. Spells parts.entry
+            (task (choices_of (config_of (flags_of switches))) (index_of prepared.now.indices)
+            (all_asked (index_of prepared.now.indices)
+            (meant ⟦<dyn CustomSection as CustomSection>⟧ self.now))) bytes.items) }
+        ensures texts { IfOk result (λ _. All (λ c. IsUtf8 c.name)
+            (all_asked (index_of prepared.now.indices)
+            (meant ⟦<dyn CustomSection as CustomSection>⟧ self.now))) }
+    {
+        let asked = self.asked(alloc, &prepared.indices)?;
+        let customs = raw_customs(alloc, asked.as_slice())?;
+        write_prepared(
+            alloc,
+            parts,
+            prepared,
+            customs.as_slice(),
+            &switches.choices(),
+        )
+    }
+
+    // Where the code comes to stand, where that is asked for or these sections are to follow it; and has them follow it, where they are to.
+    fn followed(
+        &mut self,
+        alloc: Global,
+        parts: Parts<'_>,
+        prepared: &Prepared,
+        switches: Switches,
+        tells: bool,
+    ) -> Result<CodeTransform>
+        requires there { HasDead (parts_view parts) → ⊥ }
+        requires declared { NothingUndeclared (parts_view parts) }
+        requires planned { IsPrepared parts prepared.now }
+        ensures told { (switches.preserve_code_transform ≡ true) ⊎ (tells ≡ true) → IfOk result
+            (TellsTransform parts.entry (choices_of (config_of (flags_of switches)))
+            (index_of prepared.now.indices)
+            (asked_first (meant ⟦<dyn CustomSection as CustomSection>⟧ self.old))
+            switches.preserve_code_transform) }
+        ensures customs { LeavesCustoms ⟦<dyn CustomSection as CustomSection>⟧
+            switches.preserve_code_transform (λ t x. x ≡ transform_of t) self.old self.new result }
+        ensures refused { IfErr result (λ e. RefusesToWrite {X = Unit {0}}
+            (OneAskedMayRefuse (meant ⟦<dyn CustomSection as CustomSection>⟧ self.old))
+            (config_of (flags_of switches))
+            (with_sections (parts_view parts.entry)
+            (meant ⟦<dyn CustomSection as CustomSection>⟧ self.new)) (Err (refusal_of e))) }
+        ensures raw { AreRaw (sections self.old) → self.new ≡ self.old }
+    {
+        let keeps = switches.preserve_code_transform;
+        if !keeps && !tells {
+            return Ok(untold(alloc));
+        }
+        let transform = self.transform(alloc, parts, prepared, switches)?;
+        if !keeps {
+            return Ok(transform);
+        }
+        self.follow(&transform)?;
+        Ok(transform)
+    }
+}
+
+// No places: the transform of bytes that aren't asked about.
+fn untold(alloc: Global) -> CodeTransform {
+    CodeTransform {
+        function_ranges: Vec::new(alloc),
+        code_section_start: 0,
+        instruction_map: Vec::new(alloc),
+    }
+}
+
+// The bytes of parts in which nothing dead is named and nothing is undeclared, with these sections, and where the code stands in them, where that
+// is asked for or these sections are to follow it. Under that flag each section is handed the transform before it is asked for its data, but those
+// of dynamic linking and debug information.
+pub(crate) fn write_parts(
+    alloc: Global,
+    parts: Parts<'_>,
+    customs: &mut ModuleCustomSections,
+    switches: Switches,
+    tells: bool,
+) -> Result<(Vec<u8>, CodeTransform)>
+    requires there { HasDead (parts_view parts) → ⊥ }
+    requires declared { NothingUndeclared (parts_view parts) }
+    ensures emitted { IfOk result (λ r. IsEmitted (config_of (flags_of switches))
+        (with_sections (parts_view parts.entry)
+        (meant ⟦<dyn CustomSection as CustomSection>⟧ customs.new)) r.0.items) }
+    ensures refused { RefusesToWrite
+        (OneMayRefuseThen ⟦<dyn CustomSection as CustomSection>⟧ customs.old customs.new)
+        (config_of (flags_of switches))
+        (with_sections (parts_view parts.entry)
+        (meant ⟦<dyn CustomSection as CustomSection>⟧ customs.new)) (told result) }
+    ensures customs { LeavesCustoms ⟦<dyn CustomSection as CustomSection>⟧
+        switches.preserve_code_transform (λ r x. x ≡ transform_of r.1) customs.old customs.new result }
+    ensures transform { (switches.preserve_code_transform ≡ true) ⊎ (tells ≡ true) → IfOk result (λ r.
+        IsSayable (with_sections (parts_view parts.entry)
+        (meant ⟦<dyn CustomSection as CustomSection>⟧ customs.new))
+        → IsTransformOf (config_of (flags_of switches)) switches.preserve_code_transform
+        (locations_at parts.entry)
+        (with_sections (parts_view parts.entry)
+        (meant ⟦<dyn CustomSection as CustomSection>⟧ customs.new)) r.0.items (transform_of r.1)) }
+    ensures raw { AreRaw (sections customs.old) → customs.new ≡ customs.old }
+{
+    let prepared = prepare(alloc, parts)?;
+    let transform = customs.followed(alloc, parts, &prepared, switches, tells)?;
+    let bytes = customs.written(alloc, parts, &prepared, switches)?;
+    Ok((bytes, transform))
+}
