@@ -160,7 +160,7 @@ module _ (v : Abstract) where
       in_taken : (x : Item) → Contains (entered_items list) x → Contains (take list.taken (entered_items list)) x
       in_taken x c = subst (λ (t : List Item). Contains t x) (sym (take_all list.taken (entered_items list) all_taken)) c
 
-      entered_all : (x : Item) → Reached v x → Contains (entered_items list) x
+      pub entered_all : (x : Item) → Reached v x → Contains (entered_items list) x
       entered_all x (root _ r) = s.rooted x r
       entered_all y (step x _ h r) = s.closed x y (in_taken x (entered_all x h)) r
 

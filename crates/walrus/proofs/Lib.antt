@@ -13,3 +13,7 @@ pub mod SameSearch
 pub mod SameRoots
 pub mod AskedItems
 pub mod RawStays
+pub mod Tracing
+pub mod TracedSearch
+pub mod ChainsBack
+pub mod SameChains

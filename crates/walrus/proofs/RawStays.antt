@@ -1,5 +1,5 @@
 -- A module whose custom sections are all raw ones: emission leaves them, and none refuses.
-use Rattle.std.proofs.Common.{◌≡◌, ℕ, zero, suc, List, [], ◌∷◌, map, sym, ap, subst, ⊎_elim}
+use Rattle.std.proofs.Common.{◌≡◌, ℕ, zero, suc, List, [], ◌∷◌, sym, subst, ⊎_elim}
 use Rattle.std.specs.Prelude.{Result, Ok, Err}
 use Rattle.walrus_base.specs.Arena.{item_at}
 use Rattle.walrus_parts.specs.declared.custom.CustomSection.{Ghosts}

@@ -19,7 +19,7 @@ use Rattle.walrus.proofs.SameSearch.{sound_back, sound_on}
 abbrev pub SameMembers : List Item → List Item → Type 0
 SameMembers xs ys = (x : Item) → Contains xs x ↔ Contains ys x
 
-refers_on : (v : Abstract) (customs : List Custom) (roots : List Item) (x y : Item) → Refers v x y → Refers (with_own v customs roots) x y
+pub refers_on : (v : Abstract) (customs : List Custom) (roots : List Item) (x y : Item) → Refers v x y → Refers (with_own v customs roots) x y
 refers_on v customs roots (Types, i) y h = h
 refers_on v customs roots (Functions, i) y h = h
 refers_on v customs roots (Tables, i) y h = h
@@ -35,7 +35,7 @@ module _ (v : Abstract) (customs : List Custom) (roots : List Item) (same : Same
   abbrev W : Abstract
   W = with_own v customs roots
 
-  root_on : (x : Item) → IsRoot v x → IsRoot W x
+  pub root_on : (x : Item) → IsRoot v x → IsRoot W x
   root_on x (exported e at is) = exported e at is
   root_on x (start f at is) = start f at is
   root_on x (data_segment i d at kind is) = data_segment i d at kind is
@@ -53,7 +53,7 @@ module _ (v : Abstract) (customs : List Custom) (roots : List Item) (same : Same
   on : (x : Item) → Reached v x → Reached other x
   on x h = reached_on v customs roots same x h
 
-  back : (x : Item) → Reached other x → Reached v x
+  pub back : (x : Item) → Reached other x → Reached v x
   back x h = reached_on other v.customs v.section_roots (λ y. ((same y).1, (same y).0)) x h
 
   -- ---- what is kept, counted and sound
@@ -92,7 +92,7 @@ module _ (v : Abstract) (customs : List Custom) (roots : List Item) (same : Same
   sound_still : ReachesSound v → ReachesSound other
   sound_still sound x reached = sound_on v customs roots x (sound x (back x reached))
 
-  unsound_still : ReachesUnsound v → ReachesUnsound other
+  pub unsound_still : ReachesUnsound v → ReachesUnsound other
   unsound_still u = (u.0, on u.0 u.1, λ sound. u.2 (sound_back v customs roots u.0 sound))
 
   finds_still : (marks : MarkedItems) (n : ℕ) → Finds v marks n → Finds other marks n

@@ -13,3 +13,5 @@ pub mod Marked
 pub mod MarkedItems
 pub mod LiveCount
 pub mod Worklist
+pub mod Why
+pub mod Traced

@@ -4,6 +4,7 @@ mod asked;
 pub mod gc;
 mod marks;
 pub mod used;
+pub mod why;
 mod worklist;
 
 pub use used::Used;

@@ -8,7 +8,7 @@ use walrus::passes::Used;
 use walrus::{IdHashSet, Module};
 
 // A function that drops a data segment, and the memory that stays with data, which isn't counted.
-const DROPS_DATA: &str =
+pub(crate) const DROPS_DATA: &str =
     "00 61 73 6D 01 00 00 00 01 04 01 60 00 00 03 02 01 00 05 03 01 00 01 07 05 01 01 66 00 00 0C 01 01 0A 07 01 05 00 FC 09 00 0B 0B 04 01 01 01 AA";
 
 // An active segment of a function, and its table.
@@ -16,7 +16,7 @@ const ACTIVE: &str =
     "00 61 73 6D 01 00 00 00 01 04 01 60 00 00 03 02 01 00 04 04 01 70 00 01 09 07 01 00 41 00 0B 01 00 0A 04 01 02 00 0B";
 
 // An exported global of the first type of a group of two.
-const GROUP: &str =
+pub(crate) const GROUP: &str =
     "00 61 73 6D 01 00 00 00 01 09 01 4E 02 5F 00 5F 01 7F 00 06 07 01 63 00 00 D0 00 0B 07 05 01 01 67 03 00";
 
 // How many items the roots of a module have to reach, and how many of each kind are used.

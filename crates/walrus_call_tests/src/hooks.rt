@@ -1,5 +1,7 @@
 //! Functions of a caller's that are called while a module is read: what it is done with once it is read, and where its operators came from.
 
+ghost use Rattle.std.specs.Prelude.{⊤};
+
 use std::alloc::Global;
 use std::test::Fail;
 use test_support::{add_bytes, demand, is_text};
@@ -35,6 +37,8 @@ struct Refuses {
 }
 
 impl ParseHook for Refuses {
+    ghost does = { λ h sections own means ids old new answer. ⊤ };
+
     fn on_parse(&self, module: &mut Module, _ids: &IndicesToIds) -> Result<(), Error> {
         module.start = None;
         Err(Error::Caller(String::from_str(self.alloc, "no")?))
@@ -50,6 +54,8 @@ fn first_export(exports: &ModuleExports) -> Option<ExportId> {
 struct DeletesTheExport {}
 
 impl ParseHook for DeletesTheExport {
+    ghost does = { λ h sections own means ids old new answer. ⊤ };
+
     fn on_parse(&self, module: &mut Module, _ids: &IndicesToIds) -> Result<(), Error> {
         if let Some(id) = first_export(&module.exports) {
             if module.exports.contains(id) {
@@ -67,6 +73,8 @@ struct Exports {
 }
 
 impl ParseHook for Exports {
+    ghost does = { λ h sections own means ids old new answer. ⊤ };
+
     fn on_parse(&self, module: &mut Module, ids: &IndicesToIds) -> Result<(), Error> {
         let Some(function) = ids.get_func(self.index) else {
             return Err(Error::NotFound);
@@ -81,6 +89,8 @@ impl ParseHook for Exports {
 struct AsksForIndices {}
 
 impl ParseHook for AsksForIndices {
+    ghost does = { λ h sections own means ids old new answer. ⊤ };
+
     fn on_parse(&self, _module: &mut Module, ids: &IndicesToIds) -> Result<(), Error> {
         let has_all = ids.get_type(0).is_some() && ids.get_func(1).is_some();
         if has_all && ids.get_type(1).is_none() && ids.get_func(2).is_none() {

@@ -28,9 +28,6 @@ module _ {V : Type 0} {O : V → Type 0} (G : (v : V) → Ghosts (O v)) where
 abbrev pub AreAmong : List Meaning → List Meaning → Type 0
 AreAmong some all = (s : Meaning) → Contains some s → Contains all s
 
-pub among_themselves : (all : List Meaning) → AreAmong all all
-among_themselves all = λ s at. at
-
 pub among_rest : (first : Meaning) (rest some all : List Meaning) → some ≡ first ∷ rest → AreAmong some all → AreAmong rest all
 among_rest first rest some all is among = λ s at. among s (subst (λ xs. Contains xs s) (sym is) (Contains-tail first s rest at))
 

@@ -1,6 +1,6 @@
 -- What emission answers, from the parts of a module and its custom sections: what is left, and each refusal.
-use Rattle.std.proofs.Common.{◌≡◌, ℕ, Bool, List, [], ◌∷◌, refl, sym, ap, ◌∙◌, subst, inl, inr}
-use Rattle.std.specs.Prelude.{Contains, IfOk, OnOk, Result, Ok, Err, codes, map, ◌≢◌, ◌⊎◌}
+use Rattle.std.proofs.Common.{◌≡◌, ℕ, Bool, List, [], ◌∷◌, refl, sym, ap, ◌∙◌, subst, inl}
+use Rattle.std.specs.Prelude.{Contains, IfOk, OnOk, Result, Ok, Err, codes, map, ◌≢◌}
 use Rattle.walrus_types.specs.Operators.{Item}
 use Rattle.walrus_code.specs.Transform.{Transform}
 use Rattle.walrus_parts.specs.declared.custom.CustomSection.{Ghosts}
@@ -10,15 +10,14 @@ use Rattle.walrus_model.specs.Config.{Config}
 use Rattle.walrus_model.specs.Dead.{HasDead}
 use Rattle.walrus_model.specs.Declared.{NothingUndeclared}
 use Rattle.walrus_rules.specs.Chain.{Leaves}
-use Rattle.walrus_rules.specs.Refused.{Refusal, Memory, DeadItem, NoIndex, TwoIndices, TooLarge, NotWritable, Caller, Another, PassesLimits, RefusesToWrite}
+use Rattle.walrus_rules.specs.Refused.{Refusal, Memory, DeadItem, NoIndex, TwoIndices, TooLarge, NotWritable, Caller, Another, RefusesToWrite}
 use Rattle.walrus_rules.specs.WellMade.{IsWellMade}
-use Rattle.walrus_rules.proofs.SameItems.{dead_back, dead_on, with_own}
+use Rattle.walrus_rules.proofs.SameItems.{with_own}
 use Rattle.walrus_model.proofs.Lists.{Contains-map}
 use Rattle.walrus_model.proofs.PipelineOps.{from_map}
 use Rattle.walrus_writing.specs.Emitted.{IsEmitted, refusal_of, told}
-use Rattle.walrus_module.specs.Answered.{IsWellWritten, WritesUnless}
-use Rattle.walrus_module.specs.Customs.{sections}
-use Rattle.walrus_module.specs.Following.{AreRaw, EachComes, Follows, LeavesCustoms, OneMayRefuseThen}
+use Rattle.walrus_module.specs.Answered.{WritesUnless}
+use Rattle.walrus_module.specs.Following.{LeavesCustoms}
 use Rattle.walrus_module.specs.Left.{ChangesElements, LeavesBy, but_customs}
 use Rattle.walrus_module.specs.Meaning.{Meaning}
 use Rattle.walrus_module.specs.View.{custom_of, kept_by, meant, with_sections}
@@ -95,11 +94,11 @@ named_so P ss ts same h s at =
     subst P found.2 (h found.0 found.1)
 
 module _ {V : Type 0} {O : V → Type 0} (G : (v : V) → Ghosts (O v)) where
-  pub customs_keep_well : {X E : Type 0} (hands : Bool) (Tells : X → Transform → Type 0) (old new : ModuleCustomSections (SectionEntry V O)) (r : Result X E) → LeavesCustoms G hands Tells old new r
+  pub customs_keep_well : {X E : Type 0} (hands : Bool) (Tells : X → Transform → Type 0) (Told : Transform → Type 0) (old new : ModuleCustomSections (SectionEntry V O)) (r : Result X E) → LeavesCustoms G hands Tells Told old new r
       → (c : Config) (v : Abstract) → IsWellMade c (with_sections v (meant G old)) → IsWellMade c (with_sections v (meant G new))
-  customs_keep_well hands Tells old new r leaves c v made =
+  customs_keep_well hands Tells Told old new r leaves c v made =
       well_with (with_sections v (meant G old)) (map custom_of (meant G new)) (kept_by (meant G new)) c made
-      (named_so (λ name. (name ≢ codes "name") × (name ≢ codes "producers")) (meant G old) (meant G new) (same_names G hands Tells old new r leaves) made.customs)
+      (named_so (λ name. (name ≢ codes "name") × (name ≢ codes "producers")) (meant G old) (meant G new) (same_names G hands Tells Told old new r leaves) made.customs)
 
 -- what is answered for a well-made module in which nothing is undeclared
 pub answers_made : {X : Type 0} (seen : X → List ℕ) (A : Type 0) (c : Config) (u : Abstract) (result : Result X Error) → IfOk result (λ x. IsEmitted c u (seen x)) → RefusesToWrite A c u (told result) → IsWellMade c u → NothingUndeclared u

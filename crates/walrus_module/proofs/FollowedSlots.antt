@@ -1,5 +1,5 @@
 -- Sections that follow the code one after another.
-use Rattle.std.proofs.Common.{◌≡◌, ℕ, zero, suc, false, ◌+◌, ◌<◌, ◌≤◌, List, [], ◌∷◌, length, refl, sym, ap, subst, ◌∙◌, arith, inl, inr, ⊎_elim}
+use Rattle.std.proofs.Common.{◌≡◌, ℕ, zero, suc, false, ◌+◌, ◌<◌, ◌≤◌, List, [], ◌∷◌, length, refl, sym, subst, ◌∙◌, arith, inl, inr, ⊎_elim}
 use Rattle.std.specs.Prelude.{Contains, Option, Some, None, map, ◌⊎◌}
 use Rattle.walrus_base.specs.Arena.{entries, item_at, items}
 use Rattle.walrus_code.specs.Transform.{Transform}

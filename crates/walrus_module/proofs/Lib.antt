@@ -1,4 +1,5 @@
 pub mod FollowedSlots
+mod Handed
 pub mod KeptRaw
 pub mod Locating
 pub mod RawLemmas

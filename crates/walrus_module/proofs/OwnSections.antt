@@ -1,5 +1,5 @@
 -- A module with custom sections of its own: what is said of what it holds is said of it, and what emission answers then.
-use Rattle.std.proofs.Common.{◌≡◌, ℕ, List, [], ◌∷◌, sym, ap, ◌∙◌, subst, inl}
+use Rattle.std.proofs.Common.{◌≡◌, ℕ, List, [], ◌∷◌, sym, ap, ◌∙◌, subst}
 use Rattle.std.specs.Prelude.{Result, Ok, Err}
 use Rattle.walrus_types.specs.Operators.{Item}
 use Rattle.walrus_parts.specs.declared.custom.CustomSection.{Ghosts}
@@ -16,7 +16,7 @@ use Rattle.walrus_rules.specs.Refused.{Refusal, Memory, DeadItem, NoIndex, TwoIn
 use Rattle.walrus_writing.specs.Emitted.{told}
 use Rattle.walrus_rules.proofs.SameItems.{dead_on, with_own}
 use Rattle.walrus_module.specs.Asked.{IsRefusedBy}
-use Rattle.walrus_module.specs.Left.{ChangesElements, LeavesBy}
+use Rattle.walrus_module.specs.Left.{ChangesElements}
 use Rattle.walrus_module.specs.View.{held_view, view}
 use Rattle.walrus_module.specs.declared.entry.SectionEntry.{SectionEntry}
 use Rattle.walrus_module.specs.declared.module.Module.{Module}
@@ -91,15 +91,3 @@ pub dead_refused : (X : Type 0) (A : Type 0) (c : Config) (v : Abstract) (custom
 dead_refused X A c v customs roots (error.Memory m) r = tt
 dead_refused X A c v customs roots error.DeadItem r = dead_on v customs roots r
 dead_refused X A c v customs roots _ r = absurd r
-
--- what is written, or refused for another cause, has the segment
-pub written_leaves : {X : Type 0} (A : Type 0) (c : Config) (v u : Abstract) (result : Result X Refusal) → Leaves v u → (HasDead u → ⊥) → RefusesToWrite A c u result → LeavesBy v u result
-written_leaves A c v u (Ok x) leaves alive r = leaves
-written_leaves A c v u (Err Memory) leaves alive r = inl leaves
-written_leaves A c v u (Err DeadItem) leaves alive r = absurd (alive r)
-written_leaves A c v u (Err TwoIndices) leaves alive r = leaves
-written_leaves A c v u (Err NoIndex) leaves alive r = leaves
-written_leaves A c v u (Err NotWritable) leaves alive r = leaves
-written_leaves A c v u (Err TooLarge) leaves alive r = leaves
-written_leaves A c v u (Err Caller) leaves alive r = leaves
-written_leaves A c v u (Err Another) leaves alive r = leaves

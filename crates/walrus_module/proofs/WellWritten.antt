@@ -1,6 +1,6 @@
 -- What emission answers for a well-made module, and what a second emission does.
 use Rattle.std.proofs.Common.{◌≡◌, ℕ, Bool, true, false, List, sym, ap, subst, ◌∙◌, ⊎_elim}
-use Rattle.std.specs.Prelude.{IfOk, OnOk, Result, Ok, Err, ◌⊎◌, ⊤}
+use Rattle.std.specs.Prelude.{IfOk, Result, Ok, Err, ◌⊎◌, ⊤}
 use Rattle.std.specs.Global.{Vec}
 use Rattle.walrus_parts.specs.declared.custom.CustomSection.{Ghosts}
 use Rattle.walrus_parts.specs.declared.error.Error.{Error}
@@ -23,7 +23,7 @@ use Rattle.walrus_code.specs.Transform.{Transform}
 use Rattle.walrus_module.specs.Following.{LeavesCustoms, OneMayRefuseThen}
 use Rattle.walrus_module.specs.declared.customs.ModuleCustomSections.{ModuleCustomSections}
 use Rattle.walrus_module.specs.Laws.{Emits, EmitsAgain, UnsayableIsOpen}
-use Rattle.walrus_module.specs.Left.{ChangesElements, LeavesBy, but_customs}
+use Rattle.walrus_module.specs.Left.{ChangesElements, but_customs}
 use Rattle.walrus_module.specs.Settings.{settings}
 use Rattle.walrus_module.specs.View.{meanings, view}
 use Rattle.walrus_module.specs.declared.entry.SectionEntry.{SectionEntry}
@@ -37,12 +37,6 @@ written_with c choices are = record {
   names_are = ap (λ (x : Choices). x.names) are;
   producers_are = ap (λ (x : Choices). x.producers) are;
 }
-
--- ---- nothing is undeclared in what is left where there are bytes
-
-pub leaves_declared : {X : Type 0} (v u : Abstract) (result : Result X Error) → LeavesBy v u (told result) → OnOk result (NothingUndeclared u)
-leaves_declared v u (Ok x) leaves = leaves_nothing v u leaves
-leaves_declared v u (Err e) leaves = tt
 
 -- ---- a well-made module
 
@@ -122,19 +116,19 @@ one_of A c v (Err Another) h = h
 
 module _ {V : Type 0} {O : V → Type 0} (G : (v : V) → Ghosts (O v)) where
   -- no transform was handed on, so nothing but element segments may have changed
-  unhanded : {X E : Type 0} (hands : Bool) (Tells : X → Transform → Type 0) (old new : ModuleCustomSections (SectionEntry V O)) (r : Result X E) → hands ≡ false → LeavesCustoms G hands Tells old new r → new ≡ old
-  unhanded false Tells old new r off h = h
-  unhanded true Tells old new r off h = absurd (cc)
+  unhanded : {X E : Type 0} (hands : Bool) (Tells : X → Transform → Type 0) (Told : Transform → Type 0) (old new : ModuleCustomSections (SectionEntry V O)) (r : Result X E) → hands ≡ false → LeavesCustoms G hands Tells Told old new r → new ≡ old
+  unhanded false Tells Told old new r off h = h
+  unhanded true Tells Told old new r off h = absurd (cc)
 
-  unheld : {X : Type 0} (E : Type 0) (x y : X) (hands : Bool) (old new : ModuleCustomSections (SectionEntry V O)) → hands ≡ false → LeavesCustoms G {E = E} hands (λ (r : X) (t : Transform). ⊤) old new (Ok x)
-      → LeavesCustoms G {E = E} hands (λ (r : X) (t : Transform). ⊤) old new (Ok y)
+  unheld : {X : Type 0} (E : Type 0) (x y : X) (hands : Bool) (old new : ModuleCustomSections (SectionEntry V O)) → hands ≡ false → LeavesCustoms G {E = E} hands (λ (r : X) (t : Transform). ⊤) (λ (t : Transform). ⊤) old new (Ok x)
+      → LeavesCustoms G {E = E} hands (λ (r : X) (t : Transform). ⊤) (λ (t : Transform). ⊤) old new (Ok y)
   unheld E x y false old new off h = h
   unheld E x y true old new off h = absurd (cc)
 
   module _ (result : Result (Vec ℕ) Error) (old new : Module (SectionEntry V O)) (said : Emits G old new result) where
     whole : but_customs old new ≡ new
     whole = ap (λ (customs : ModuleCustomSections (SectionEntry V O)). record new { customs = customs })
-        (sym (unhanded (settings old).preserve_code_transform (λ (r : Vec ℕ) (x : Transform). ⊤) old.customs new.customs result said.plain said.customs))
+        (sym (unhanded (settings old).preserve_code_transform (λ (r : Vec ℕ) (x : Transform). ⊤) (λ (x : Transform). ⊤) old.customs new.customs result said.plain said.customs))
 
     changes : ChangesElements old new
     changes = subst (λ (m : Module (SectionEntry V O)). ChangesElements old m) whole said.others

@@ -1,6 +1,6 @@
 -- Custom sections that follow the code and are written: which stand where, what stays of them, and what is refused.
-use Rattle.std.proofs.Common.{◌≡◌, ℕ, ◌+◌, suc, Bool, true, false, cond, not, ◌||◌, bytes_eq, codes, append-nil, List, [], ◌∷◌, ◌++◌, map, length, filter, None, Some, refl, sym, ap, ap₂, ◌∙◌, subst, inl, inr, arith, ⊎_elim}
-use Rattle.std.specs.Prelude.{All, Option, IfErr, IfOk, Result, Ok, Err, ◌⊎◌}
+use Rattle.std.proofs.Common.{◌≡◌, ℕ, ◌+◌, suc, Bool, true, false, cond, not, ◌||◌, append-nil, List, [], ◌∷◌, ◌++◌, map, length, filter, None, Some, refl, sym, ap, ap₂, ◌∙◌, subst, inl, inr, arith, ⊎_elim}
+use Rattle.std.specs.Prelude.{All, Option, IfErr, IfOk, Result, Ok, Err}
 use Rattle.std.specs.List.{AllZip}
 use Rattle.std.specs.Global.{Vec as Bytes}
 use Rattle.std.specs.Str.{IsUtf8}
@@ -9,27 +9,31 @@ use Rattle.wasm_frames.specs.Record.{Custom}
 use Rattle.wasm_wire.specs.ModuleSpelling.{group_of, is_in}
 use Rattle.wasm_wire.specs.declared.written.CustomGroup.TheVariants.{Dylink}
 use Rattle.walrus_base.specs.Arena.{entries_from, item_at}
+use Rattle.walrus_code.specs.Indices.{index_of}
 use Rattle.walrus_code.specs.Names.{Lookup}
 use Rattle.walrus_code.specs.Transform.{Transform}
-use Rattle.walrus_contents.specs.View.{parts_view}
+use Rattle.walrus_contents.specs.View.{lent, parts_view}
 use Rattle.walrus_contents.specs.declared.parts.Parts.{Parts}
 use Rattle.walrus_model.specs.Abstract.{Abstract}
 use Rattle.walrus_model.specs.Config.{Config}
 use Rattle.walrus_model.specs.Customs.{is_debug_name}
-use Rattle.walrus_model.specs.Transform.{no_transform}
 use Rattle.walrus_parts.specs.declared.custom.CustomSection.{Ghosts}
+use Rattle.walrus_parts.specs.Transform.{transform_of}
 use Rattle.walrus_parts.specs.declared.error.Error.{Error}
-use Rattle.walrus_parts.specs.declared.error.Error.TheVariants as errors
+use Rattle.walrus_parts.specs.declared.transform.CodeTransform.{CodeTransform}
+use Rattle.walrus_plan.specs.Prepared.{IsPrepared}
+use Rattle.walrus_plan.specs.declared.prepared.Prepared.{Prepared}
 use Rattle.walrus_rules.specs.Refused.{Refusal, Memory, DeadItem, NoIndex, TwoIndices, TooLarge, NotWritable, Caller, Another, RefusesToWrite}
 use Rattle.walrus_writing.specs.Customs.{IsAsked, task}
 use Rattle.walrus_writing.specs.Records.{Spells}
 use Rattle.walrus_writing.specs.Emitted.{IsWrittenWith, refusal_of, told}
-use Rattle.walrus_writing.specs.Transform.{RefusesTransform}
+use Rattle.walrus_writing.specs.Transform.{RefusesTransform, TellsTransform}
 use Rattle.walrus_writing.specs.declared.write.Choices.{Choices}
 use Rattle.walrus_writing.proofs.TransformAnswers.{cause_asked}
-use Rattle.walrus_module.specs.Asked.{IsRefusedBy, all_asked, asked_first, in_turn, is_dylink_name, is_in_turn, no_index, section_under}
+use Rattle.walrus_module.specs.Asked.{all_asked, asked_first, in_turn, is_dylink_name, is_in_turn, no_index, section_under}
 use Rattle.walrus_module.specs.Customs.{sections}
-use Rattle.walrus_module.specs.Following.{EachComes, Follows, FollowsBy, LeavesCustoms, MayFollow, SlotComes}
+use Rattle.walrus_module.specs.Flags.{choices_of}
+use Rattle.walrus_module.specs.Following.{EachComes, Follows, FollowsBy, IsToldOf, LeavesCustoms, MayFollow, SlotComes}
 use Rattle.walrus_module.specs.Meaning.{Meaning, meaning}
 use Rattle.walrus_module.specs.View.{meant, with_sections}
 use Rattle.walrus_module.specs.declared.customs.ModuleCustomSections.{ModuleCustomSections}
@@ -96,12 +100,6 @@ module _ (A B : Type 0) (through : A → B) (c : Config) (v : Abstract) where
   pub ok_then : {X Y : Type 0} (x : X) (y : Y) → RefusesToWrite {X = X} A c v (Ok x) → RefusesToWrite {X = Y} B c v (Ok y)
   ok_then x y h = h
 
--- a section of its own refuses
-pub section_refuses : (X : Type 0) (A : Type 0) (c : Config) (v : Abstract) (e : Error) → IsRefusedBy A e → RefusesToWrite {X = X} A c v (Err (refusal_of e))
-section_refuses X A c v (errors.Memory m) r = tt
-section_refuses X A c v (errors.Caller text) r = r
-section_refuses X A c v _ r = absurd r
-
 pub transform_refused : {X : Type 0} (A : Type 0) (c : Config) (choices : Choices) (p : Parts) (names : Lookup) (ms : List Meaning) (dylinks : List Custom) (result : Result X Error) → IfErr result (RefusesTransform p choices names dylinks)
     → IsWrittenWith c choices → dylinks ≡ asked_first ms → All (λ (s : Meaning). IsUtf8 s.name) ms → IfErr result (λ e. RefusesToWrite {X = Unit {0}} A c (with_sections (parts_view p) ms) (Err (refusal_of e)))
 transform_refused A c choices p names ms dylinks (Ok x) h chosen same texts = tt
@@ -120,22 +118,40 @@ if_ok_always P (Err e) h = tt
 
 -- ---- sections that followed
 
+-- under the plan by which it was told
+pub told_so : (p : Parts) (c : Config) (prepared : Prepared) (dylinks : List Custom) (t : CodeTransform) (keeps : Bool) → keeps ≡ true → IsPrepared p prepared
+    → TellsTransform p (choices_of c) (index_of prepared.indices) dylinks keeps t → IsToldOf c (lent p) dylinks (transform_of t)
+told_so p c prepared dylinks t keeps on planned tells = record {
+  parts = p;
+  holds = refl;
+  prepared = prepared;
+  planned = planned;
+  transform = t;
+  is = refl;
+  tells = subst (λ (b : Bool). TellsTransform p (choices_of c) (index_of prepared.indices) dylinks b t) on tells;
+}
+
 module _ {V : Type 0} {O : V → Type 0} (G : (v : V) → Ghosts (O v)) where
-  stays_at : (x : Transform) (s : Option (SectionEntry V O)) → SlotComes G (MayFollow x) s s
-  stays_at x None = tt
-  stays_at x (Some s) = inr refl
-
   -- where none was handed the transform
-  pub unfollowed : {X E : Type 0} (hands : Bool) (Tells : X → Transform → Type 0) (customs : ModuleCustomSections (SectionEntry V O)) (e : E) → LeavesCustoms G hands Tells customs customs (Err e)
-  unfollowed false Tells customs e = refl
-  unfollowed true Tells customs e = (no_transform, record { places = refl; comes = λ i. stays_at no_transform (item_at (sections customs) i) })
+  pub unfollowed : {X E : Type 0} (hands : Bool) (Tells : X → Transform → Type 0) (Told : Transform → Type 0) (customs : ModuleCustomSections (SectionEntry V O)) (e : E) → LeavesCustoms G hands Tells Told customs customs (Err e)
+  unfollowed false Tells Told customs e = refl
+  unfollowed true Tells Told customs e = inl refl
 
-  pub unfollowed_same : {X E : Type 0} (hands : Bool) (Tells : X → Transform → Type 0) (old new : ModuleCustomSections (SectionEntry V O)) (e : E) → new ≡ old → LeavesCustoms G hands Tells old new (Err e)
-  unfollowed_same hands Tells old new e same = subst (λ customs. LeavesCustoms G hands Tells old customs (Err e)) (sym same) (unfollowed hands Tells old e)
+  pub unfollowed_same : {X E : Type 0} (hands : Bool) (Tells : X → Transform → Type 0) (Told : Transform → Type 0) (old new : ModuleCustomSections (SectionEntry V O)) (e : E) → new ≡ old → LeavesCustoms G hands Tells Told old new (Err e)
+  unfollowed_same hands Tells Told old new e same = subst (λ customs. LeavesCustoms G hands Tells Told old customs (Err e)) (sym same) (unfollowed hands Tells Told old e)
 
   -- of a module with the same custom sections
-  pub left_so : {X E : Type 0} (hands handed : Bool) (Tells : X → Transform → Type 0) (old middle new : ModuleCustomSections (SectionEntry V O)) (r : Result X E) → handed ≡ hands → middle ≡ old → LeavesCustoms G handed Tells middle new r → LeavesCustoms G hands Tells old new r
-  left_so hands handed Tells old middle new r flag same h = subst (λ (b : Bool). LeavesCustoms G b Tells old new r) flag (subst (λ customs. LeavesCustoms G handed Tells customs new r) same h)
+  pub left_so : {X E : Type 0} (hands handed : Bool) (Tells : X → Transform → Type 0) (Told : Transform → Type 0) (old middle new : ModuleCustomSections (SectionEntry V O)) (r : Result X E) → handed ≡ hands → middle ≡ old
+      → LeavesCustoms G handed Tells Told middle new r → LeavesCustoms G hands Tells Told old new r
+  left_so hands handed Tells Told old middle new r flag same h = subst (λ (b : Bool). LeavesCustoms G b Tells Told old new r) flag (subst (λ customs. LeavesCustoms G handed Tells Told customs new r) same h)
+
+  -- where less is said of the transform that was handed on
+  pub left_of : {X E : Type 0} (hands : Bool) (Tells : X → Transform → Type 0) (Told Other : Transform → Type 0) (old new : ModuleCustomSections (SectionEntry V O)) (r : Result X E) → ((x : Transform) → Told x → Other x)
+      → LeavesCustoms G hands Tells Told old new r → LeavesCustoms G hands Tells Other old new r
+  left_of false Tells Told Other old new r through h = h
+  left_of true Tells Told Other old new (Ok r) through h = h
+  left_of true Tells Told Other old new (Err e) through (inl same) = inl same
+  left_of true Tells Told Other old new (Err e) through (inr (x, (told, all))) = inr (x, (through x told, all))
 
   followed_or_not : (x : Transform) (s t : Option (SectionEntry V O)) → SlotComes G (Follows x) s t → SlotComes G (MayFollow x) s t
   followed_or_not x None None h = tt
@@ -144,31 +160,31 @@ module _ {V : Type 0} {O : V → Type 0} (G : (v : V) → Ghosts (O v)) where
   followed_or_not x (Some s) (Some t) h = inl h
 
   -- where what comes behind it is refused
-  pub left_anyway : {X Y E : Type 0} (hands : Bool) (Tells : X → Transform → Type 0) (Other : Y → Transform → Type 0) (old new : ModuleCustomSections (SectionEntry V O)) (r : X) (e : E)
-      → LeavesCustoms G {E = E} hands Tells old new (Ok r) → LeavesCustoms G hands Other old new (Err e)
-  left_anyway false Tells Other old new r e h = h
-  left_anyway true Tells Other old new r e (x, (is, all)) = (x, record { places = all.places; comes = λ i. followed_or_not x _ _ (all.comes i) })
+  pub left_anyway : {X Y E : Type 0} (hands : Bool) (Tells : X → Transform → Type 0) (Other : Y → Transform → Type 0) (Told : Transform → Type 0) (old new : ModuleCustomSections (SectionEntry V O)) (r : X) (e : E)
+      → (hands ≡ true → (x : Transform) → Tells r x → Told x) → LeavesCustoms G {E = E} hands Tells Told old new (Ok r) → LeavesCustoms G hands Other Told old new (Err e)
+  left_anyway false Tells Other Told old new r e through h = h
+  left_anyway true Tells Other Told old new r e through (x, (is, all)) = inr (x, (through refl x is, record { places = all.places; comes = λ i. followed_or_not x _ _ (all.comes i) }))
 
   -- where one refuses
-  pub left_midway : {X E : Type 0} (hands : Bool) (Tells : X → Transform → Type 0) (old new : ModuleCustomSections (SectionEntry V O)) (e : E) (x : Transform) → hands ≡ true → EachComes G (MayFollow x) (sections old) (sections new)
-      → LeavesCustoms G hands Tells old new (Err e)
-  left_midway false Tells old new e x on all = absurd (cc)
-  left_midway true Tells old new e x on all = (x, all)
+  pub left_midway : {X E : Type 0} (hands : Bool) (Tells : X → Transform → Type 0) (Told : Transform → Type 0) (old new : ModuleCustomSections (SectionEntry V O)) (e : E) (x : Transform) → hands ≡ true → Told x
+      → EachComes G (MayFollow x) (sections old) (sections new) → LeavesCustoms G hands Tells Told old new (Err e)
+  left_midway false Tells Told old new e x on told all = absurd (cc)
+  left_midway true Tells Told old new e x on told all = inr (x, (told, all))
 
-  pub left_err : {X Y E : Type 0} (hands : Bool) (Tells : X → Transform → Type 0) (Other : Y → Transform → Type 0) (old new : ModuleCustomSections (SectionEntry V O)) (e : E)
-      → LeavesCustoms G hands Tells old new (Err e) → LeavesCustoms G hands Other old new (Err e)
-  left_err false Tells Other old new e h = h
-  left_err true Tells Other old new e h = h
+  pub left_err : {X Y E : Type 0} (hands : Bool) (Tells : X → Transform → Type 0) (Other : Y → Transform → Type 0) (Told : Transform → Type 0) (old new : ModuleCustomSections (SectionEntry V O)) (e : E)
+      → LeavesCustoms G hands Tells Told old new (Err e) → LeavesCustoms G hands Other Told old new (Err e)
+  left_err false Tells Other Told old new e h = h
+  left_err true Tells Other Told old new e h = h
 
-  pub left_ok : {X Y : Type 0} (E : Type 0) (hands : Bool) (Tells : X → Transform → Type 0) (Other : Y → Transform → Type 0) (old new : ModuleCustomSections (SectionEntry V O)) (r : X) (s : Y)
-      → ((x : Transform) → Tells r x → Other s x) → LeavesCustoms G {E = E} hands Tells old new (Ok r) → LeavesCustoms G {E = E} hands Other old new (Ok s)
-  left_ok E false Tells Other old new r s through h = h
-  left_ok E true Tells Other old new r s through (x, (is, all)) = (x, (through x is, all))
+  pub left_ok : {X Y : Type 0} (E : Type 0) (hands : Bool) (Tells : X → Transform → Type 0) (Other : Y → Transform → Type 0) (Told : Transform → Type 0) (old new : ModuleCustomSections (SectionEntry V O)) (r : X) (s : Y)
+      → ((x : Transform) → Tells r x → Other s x) → LeavesCustoms G {E = E} hands Tells Told old new (Ok r) → LeavesCustoms G {E = E} hands Other Told old new (Ok s)
+  left_ok E false Tells Other Told old new r s through h = h
+  left_ok E true Tells Other Told old new r s through (x, (is, all)) = (x, (through x is, all))
 
-  pub left_told : {X Y : Type 0} (E : Type 0) (hands : Bool) (Tells : X → Transform → Type 0) (Other : Y → Transform → Type 0) (old new : ModuleCustomSections (SectionEntry V O)) (r : X) (s : Y)
-      → (hands ≡ true → (x : Transform) → Tells r x → Other s x) → LeavesCustoms G {E = E} hands Tells old new (Ok r) → LeavesCustoms G {E = E} hands Other old new (Ok s)
-  left_told E false Tells Other old new r s through h = h
-  left_told E true Tells Other old new r s through (x, (is, all)) = (x, (through refl x is, all))
+  pub left_told : {X Y : Type 0} (E : Type 0) (hands : Bool) (Tells : X → Transform → Type 0) (Other : Y → Transform → Type 0) (Told : Transform → Type 0) (old new : ModuleCustomSections (SectionEntry V O)) (r : X) (s : Y)
+      → (hands ≡ true → (x : Transform) → Tells r x → Other s x) → LeavesCustoms G {E = E} hands Tells Told old new (Ok r) → LeavesCustoms G {E = E} hands Other Told old new (Ok s)
+  left_told E false Tells Other Told old new r s through h = h
+  left_told E true Tells Other Told old new r s through (x, (is, all)) = (x, (through refl x is, all))
 
   -- meanings side by side
   abbrev pub means : (k : ℕ) → List (Option (SectionEntry V O)) → List Meaning
@@ -220,14 +236,16 @@ names_stay R same (s ∷ ss) (t ∷ ts) (h, rest) = ap₂ (λ (a : List ℕ) (l 
 
 module _ {V : Type 0} {O : V → Type 0} (G : (v : V) → Ghosts (O v)) where
   -- those of dynamic linking say what they said
-  pub dylinks_stay : {X : Type 0} (E : Type 0) (hands : Bool) (Tells : X → Transform → Type 0) (old new : ModuleCustomSections (SectionEntry V O)) (r : X) → LeavesCustoms G {E = E} hands Tells old new (Ok r) → asked_first (meant G new) ≡ asked_first (meant G old)
-  dylinks_stay E false Tells old new r h = ap (λ customs. asked_first (meant G customs)) h
-  dylinks_stay E true Tells old new r (x, (is, all)) = firsts_stay x (meant G old) (meant G new) (comes_zip G (Follows x) old new all)
+  pub dylinks_stay : {X : Type 0} (E : Type 0) (hands : Bool) (Tells : X → Transform → Type 0) (Told : Transform → Type 0) (old new : ModuleCustomSections (SectionEntry V O)) (r : X)
+      → LeavesCustoms G {E = E} hands Tells Told old new (Ok r) → asked_first (meant G new) ≡ asked_first (meant G old)
+  dylinks_stay E false Tells Told old new r h = ap (λ customs. asked_first (meant G customs)) h
+  dylinks_stay E true Tells Told old new r (x, (is, all)) = firsts_stay x (meant G old) (meant G new) (comes_zip G (Follows x) old new all)
 
   -- whatever is answered, they have the names that they had
-  pub same_names : {X E : Type 0} (hands : Bool) (Tells : X → Transform → Type 0) (old new : ModuleCustomSections (SectionEntry V O)) (r : Result X E) → LeavesCustoms G hands Tells old new r
+  pub same_names : {X E : Type 0} (hands : Bool) (Tells : X → Transform → Type 0) (Told : Transform → Type 0) (old new : ModuleCustomSections (SectionEntry V O)) (r : Result X E) → LeavesCustoms G hands Tells Told old new r
       → map (λ (s : Meaning). s.name) (meant G new) ≡ map (λ (s : Meaning). s.name) (meant G old)
-  same_names false Tells old new r h = ap (λ customs. map (λ (s : Meaning). s.name) (meant G customs)) h
-  same_names true Tells old new (Ok r) (x, (is, all)) = names_stay (Follows x) (λ s t h. one_name x s t (is_in_turn false s.name) h) (meant G old) (meant G new) (comes_zip G (Follows x) old new all)
-  same_names true Tells old new (Err e) (x, all) =
+  same_names false Tells Told old new r h = ap (λ customs. map (λ (s : Meaning). s.name) (meant G customs)) h
+  same_names true Tells Told old new (Ok r) (x, (is, all)) = names_stay (Follows x) (λ s t h. one_name x s t (is_in_turn false s.name) h) (meant G old) (meant G new) (comes_zip G (Follows x) old new all)
+  same_names true Tells Told old new (Err e) (inl same) = ap (λ customs. map (λ (s : Meaning). s.name) (meant G customs)) same
+  same_names true Tells Told old new (Err e) (inr (x, (told, all))) =
       names_stay (MayFollow x) (λ s t h. ⊎_elim (λ f. one_name x s t (is_in_turn false s.name) f) (λ same. ap (λ (m : Meaning). m.name) same) h) (meant G old) (meant G new) (comes_zip G (MayFollow x) old new all)

@@ -1,10 +1,22 @@
 -- What custom sections are behind a code transform.
 use Rattle.std.specs.Prelude.{ℕ, Bool, true, false, List, length, Option, Some, None, Result, Ok, Err, ◌≡◌, ◌≢◌, ◌⊎◌, ⊤}
+use Rattle.wasm_frames.specs.Record as wire
 use Rattle.walrus_base.specs.Arena.{item_at}
+use Rattle.walrus_code.specs.Indices.{index_of}
 use Rattle.walrus_code.specs.Transform.{Transform}
+use Rattle.walrus_model.specs.Config.{Config}
+use Rattle.walrus_contents.specs.View.{lent}
+use Rattle.walrus_contents.specs.declared.parts.Contents.{Contents}
+use Rattle.walrus_contents.specs.declared.parts.Parts.{Parts}
+use Rattle.walrus_parts.specs.Transform.{transform_of}
 use Rattle.walrus_parts.specs.declared.custom.CustomSection.{Ghosts}
+use Rattle.walrus_parts.specs.declared.transform.CodeTransform.{CodeTransform}
+use Rattle.walrus_plan.specs.Prepared.{IsPrepared}
+use Rattle.walrus_plan.specs.declared.prepared.Prepared.{Prepared}
+use Rattle.walrus_writing.specs.Transform.{TellsTransform}
 use Rattle.walrus_module.specs.Asked.{OneAskedMayRefuse, is_in_turn}
 use Rattle.walrus_module.specs.Customs.{sections}
+use Rattle.walrus_module.specs.Flags.{choices_of}
 use Rattle.walrus_module.specs.Meaning.{Meaning, meaning}
 use Rattle.walrus_module.specs.View.{meant}
 use Rattle.walrus_module.specs.declared.customs.ModuleCustomSections.{ModuleCustomSections}
@@ -63,13 +75,24 @@ module _ {V : Type 0} {O : V → Type 0} where
 
 -- ---- what emission leaves
 
+-- Of what is held, under a plan of it, x is the code transform, whatever bytes it is written as with custom sections among which those of dynamic
+-- linking are these.
+pub record IsToldOf (c : Config) (held : Contents) (dylinks : List wire.Custom) (x : Transform) : Type 0 where
+  pub parts : Parts
+  pub holds : lent parts ≡ held
+  pub prepared : Prepared
+  pub planned : IsPrepared parts prepared
+  pub transform : CodeTransform
+  pub is : transform_of transform ≡ x
+  pub tells : TellsTransform parts (choices_of c) (index_of prepared.indices) dylinks true transform
+
 module _ {V : Type 0} {O : V → Type 0} (G : (v : V) → Ghosts (O v)) where
   -- What emission leaves of custom sections, where it hands them the transform or doesn't, and answers so: on Ok all have followed a transform of
-  -- which `Tells` holds; refused, each has, or is as it was.
-  abbrev pub LeavesCustoms : {X E : Type 0} → (hands : Bool) → (Tells : X → Transform → Type 0) → (old new : ModuleCustomSections (SectionEntry V O)) → Result X E → Type 0
-  LeavesCustoms false Tells old new result = new ≡ old
-  LeavesCustoms true Tells old new (Ok r) = (x : Transform) × (Tells r x × EachComes G (Follows x) (sections old) (sections new))
-  LeavesCustoms true Tells old new (Err e) = (x : Transform) × EachComes G (MayFollow x) (sections old) (sections new)
+  -- which `Tells` holds; refused, they are as they were, or each has followed one of which `Told` holds, or is as it was.
+  abbrev pub LeavesCustoms : {X E : Type 0} → (hands : Bool) → (Tells : X → Transform → Type 0) → (Told : Transform → Type 0) → (old new : ModuleCustomSections (SectionEntry V O)) → Result X E → Type 0
+  LeavesCustoms false Tells Told old new result = new ≡ old
+  LeavesCustoms true Tells Told old new (Ok r) = (x : Transform) × (Tells r x × EachComes G (Follows x) (sections old) (sections new))
+  LeavesCustoms true Tells Told old new (Err e) = (new ≡ old) ⊎ ((x : Transform) × (Told x × EachComes G (MayFollow x) (sections old) (sections new)))
 
   -- one that is asked for its data, or handed the transform, may refuse: as it was before, or as it is behind the transform
   abbrev pub OneMayRefuseThen : (old new : ModuleCustomSections (SectionEntry V O)) → Type 0

@@ -44,7 +44,7 @@ module _ {V : Type 0} {O : V → Type 0} (G : (v : V) → Ghosts (O v)) where
     pub left : LeavesBy (view G old) (view G (but_customs old new)) (told result)
     pub others : ChangesElements old (but_customs old new)
     pub settled : NothingUndeclared (view G old) → but_customs old new ≡ old
-    pub customs : LeavesCustoms G (settings old).preserve_code_transform (λ r x. ⊤) old.customs new.customs result
+    pub customs : LeavesCustoms G (settings old).preserve_code_transform (λ r x. ⊤) (λ x. ⊤) old.customs new.customs result
     pub emitted : IfOk result (λ bytes. IsEmitted (config_of (settings old)) (view G new) bytes.items)
     pub refused : RefusesToWrite (OneMayRefuseThen G old.customs new.customs) (config_of (settings old)) (view G new) (told result)
 

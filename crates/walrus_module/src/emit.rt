@@ -10,12 +10,13 @@ ghost use Rattle.walrus_parts.specs.Transform.{transform_of};
 ghost use Rattle.walrus_rules.specs.Refused.{IsSayable, PassesLimits, RefusesToWrite};
 ghost use Rattle.walrus_rules.specs.WellMade.{IsWellMade};
 ghost use Rattle.walrus_module.specs.Answered.{IsWellWritten, WritesUnless};
+ghost use Rattle.walrus_module.specs.Asked.{asked_first};
 ghost use Rattle.walrus_module.specs.Customs.{sections};
 ghost use Rattle.walrus_module.specs.Flags.{config_of};
-ghost use Rattle.walrus_module.specs.Following.{AreRaw, LeavesCustoms, OneMayRefuseThen};
+ghost use Rattle.walrus_module.specs.Following.{AreRaw, IsToldOf, LeavesCustoms, OneMayRefuseThen};
 ghost use Rattle.walrus_module.specs.Left.{AddsDeclared, ChangesElements, LeavesBy, but_customs};
 ghost use Rattle.walrus_module.specs.Settings.{settings};
-ghost use Rattle.walrus_module.specs.View.{contents_of, held_view, locations_of, view};
+ghost use Rattle.walrus_module.specs.View.{contents_of, held_view, locations_of, meanings, view};
 ghost use Rattle.walrus_writing.specs.Emitted.{IsEmitted, told};
 ghost use Rattle.walrus_writing.specs.Transform.{IsTransformOf};
 
@@ -53,6 +54,8 @@ impl Module {
             (λ r x. IsSayable (view ⟦<dyn CustomSection as CustomSection>⟧ self.new)
             → IsTransformOf (config_of (settings self.old)) true (locations_of self.new)
             (view ⟦<dyn CustomSection as CustomSection>⟧ self.new) r.items x)
+            (IsToldOf (config_of (settings self.old)) (contents_of self.new)
+            (asked_first (meanings ⟦<dyn CustomSection as CustomSection>⟧ self.old)))
             self.old.customs self.new.customs result }
         ensures raw { AreRaw (sections self.old.customs) → self.new.customs ≡ self.old.customs }
         ensures emitted { IfOk result (λ r. IsEmitted (config_of (settings self.old))
@@ -94,7 +97,10 @@ impl Module {
             → but_customs self.old self.new ≡ self.old }
         ensures customs { LeavesCustoms ⟦<dyn CustomSection as CustomSection>⟧
             (settings self.old).preserve_code_transform
-            (λ r x. x ≡ transform_of r.1) self.old.customs self.new.customs result }
+            (λ r x. x ≡ transform_of r.1)
+            (IsToldOf (config_of (settings self.old)) (contents_of self.new)
+            (asked_first (meanings ⟦<dyn CustomSection as CustomSection>⟧ self.old)))
+            self.old.customs self.new.customs result }
         ensures raw { AreRaw (sections self.old.customs) → self.new.customs ≡ self.old.customs }
         ensures emitted { IfOk result (λ r. IsEmitted (config_of (settings self.old))
             (view ⟦<dyn CustomSection as CustomSection>⟧ self.new) r.0.items) }
@@ -131,7 +137,10 @@ impl Module {
             → but_customs self.old self.new ≡ self.old }
         ensures customs { LeavesCustoms ⟦<dyn CustomSection as CustomSection>⟧
             (settings self.old).preserve_code_transform
-            (λ r x. x ≡ transform_of r.1) self.old.customs self.new.customs result }
+            (λ r x. x ≡ transform_of r.1)
+            (IsToldOf (config_of (settings self.old)) (contents_of self.new)
+            (asked_first (meanings ⟦<dyn CustomSection as CustomSection>⟧ self.old)))
+            self.old.customs self.new.customs result }
         ensures raw { AreRaw (sections self.old.customs) → self.new.customs ≡ self.old.customs }
         ensures emitted { IfOk result (λ r. IsEmitted (config_of (settings self.old))
             (view ⟦<dyn CustomSection as CustomSection>⟧ self.new) r.0.items) }

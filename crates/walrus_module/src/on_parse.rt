@@ -3,7 +3,8 @@ ghost use Rattle.std.specs.Prelude.{◌≡◌, IfErr, IfOk, IsOkUnless};
 ghost use Rattle.std.specs.List.{range_with_len};
 ghost use Rattle.walrus_code.specs.Indices.{places_in, places_of};
 ghost use Rattle.walrus_module.specs.Flags.{config_of, flags};
-ghost use Rattle.walrus_module.specs.OnParse.{AreInPlace, IsNumbered, IsUnread};
+ghost use Rattle.walrus_module.specs.Located.{Gives};
+ghost use Rattle.walrus_module.specs.OnParse.{AreInPlace, Effect, IsNumbered, IsUnread, RunsHook};
 ghost use Rattle.walrus_module.specs.View.{contents_of};
 ghost use Rattle.walrus_parts.specs.Errors.{out_of_memory};
 ghost use Rattle.walrus_rules.specs.Headline.{Accepts};
@@ -13,10 +14,14 @@ use crate::customs::ModuleCustomSections;
 use crate::module::Module;
 use std::alloc::{AllocError, Global};
 use walrus_ir::{IndexSpace, IndicesToIds};
-use walrus_parts::{Error, Result};
+use walrus_parts::{CustomSection, Error, Result};
 
-/// What is done with a module as soon as it is read. It is told in terms of [`OnParse::parse`].
+/// What is done with a module as soon as it is read. It is told in terms of [`OnParse::parse`], and says by one definition over its value, the
+/// ghost member, what it does; one that promises nothing defines it as what always holds.
 pub trait ParseHook: Drop {
+    // What it does with a module and the ids of its items, and what it answers.
+    ghost does: { Self → Effect };
+
     /// Is handed the module, which is as it was read, and the ids of its items by their indices in the input: under each index stands the
     /// id of the same place. Types that were added for legacy handlers have no index there.
     ///
@@ -24,7 +29,9 @@ pub trait ParseHook: Drop {
     ///
     /// Any; then there is no module.
     fn on_parse(&self, module: &mut Module, ids: &IndicesToIds) -> Result<()>
-        requires in_place { AreInPlace ids.now };
+        requires in_place { AreInPlace ids.now }
+        ensures { does self.now _ _ ⟦<dyn CustomSection as CustomSection>⟧ ids.now
+            «module».old «module».new result };
 }
 
 /// A configuration with a hook, which each module that is read by it is handed.
@@ -93,6 +100,8 @@ impl<'a, H: ParseHook> OnParse<'a, H> {
         ensures accepted { IfOk result (λ _. Accepts (config_of (flags self.now.config.now)) bytes.now) }
         ensures refused { (Accepts (config_of (flags self.now.config.now)) bytes.now → ⊥)
             → IfErr result IsUnread }
+        ensures ran { RunsHook ⟦<dyn CustomSection as CustomSection>⟧ (H.does self.now.hook)
+            (flags self.now.config.now) (Gives self.now.config.now) bytes.now result }
     {
         let found = self.config.read(alloc, bytes)?;
         let type_count = found.type_count;

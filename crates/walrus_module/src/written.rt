@@ -2,13 +2,13 @@
 ghost use Rattle.std.specs.Prelude.{◌≡◌, ◌⊎◌, All, IfErr, IfOk, Err, false, true};
 ghost use Rattle.std.specs.Str.{IsUtf8};
 ghost use Rattle.walrus_code.specs.Indices.{index_of};
-ghost use Rattle.walrus_contents.specs.View.{parts_view};
+ghost use Rattle.walrus_contents.specs.View.{lent, parts_view};
 ghost use Rattle.walrus_model.specs.Dead.{HasDead};
 ghost use Rattle.walrus_model.specs.Declared.{NothingUndeclared};
 ghost use Rattle.walrus_module.specs.Asked.{OneAskedMayRefuse, all_asked, asked_first};
 ghost use Rattle.walrus_module.specs.Customs.{sections};
 ghost use Rattle.walrus_module.specs.Flags.{choices_of, config_of, flags_of};
-ghost use Rattle.walrus_module.specs.Following.{AreRaw, LeavesCustoms, OneMayRefuseThen};
+ghost use Rattle.walrus_module.specs.Following.{AreRaw, IsToldOf, LeavesCustoms, OneMayRefuseThen};
 ghost use Rattle.walrus_module.specs.View.{meant, with_sections};
 ghost use Rattle.walrus_parts.specs.Transform.{transform_of};
 ghost use Rattle.walrus_plan.specs.Prepared.{IsPrepared};
@@ -118,7 +118,10 @@ impl ModuleCustomSections {
             (asked_first (meant ⟦<dyn CustomSection as CustomSection>⟧ self.old))
             switches.preserve_code_transform) }
         ensures customs { LeavesCustoms ⟦<dyn CustomSection as CustomSection>⟧
-            switches.preserve_code_transform (λ t x. x ≡ transform_of t) self.old self.new result }
+            switches.preserve_code_transform (λ t x. x ≡ transform_of t)
+            (IsToldOf (config_of (flags_of switches)) (lent parts.entry)
+            (asked_first (meant ⟦<dyn CustomSection as CustomSection>⟧ self.old)))
+            self.old self.new result }
         ensures refused { IfErr result (λ e. RefusesToWrite {X = Unit {0}}
             (OneAskedMayRefuse (meant ⟦<dyn CustomSection as CustomSection>⟧ self.old))
             (config_of (flags_of switches))
@@ -169,7 +172,10 @@ pub(crate) fn write_parts(
         (with_sections (parts_view parts.entry)
         (meant ⟦<dyn CustomSection as CustomSection>⟧ customs.new)) (told result) }
     ensures customs { LeavesCustoms ⟦<dyn CustomSection as CustomSection>⟧
-        switches.preserve_code_transform (λ r x. x ≡ transform_of r.1) customs.old customs.new result }
+        switches.preserve_code_transform (λ r x. x ≡ transform_of r.1)
+        (IsToldOf (config_of (flags_of switches)) (lent parts.entry)
+        (asked_first (meant ⟦<dyn CustomSection as CustomSection>⟧ customs.old)))
+        customs.old customs.new result }
     ensures transform { (switches.preserve_code_transform ≡ true) ⊎ (tells ≡ true) → IfOk result (λ r.
         IsSayable (with_sections (parts_view parts.entry)
         (meant ⟦<dyn CustomSection as CustomSection>⟧ customs.new))

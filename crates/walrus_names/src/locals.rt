@@ -9,7 +9,7 @@ ghost use Rattle.walrus_names.specs.Pushed.{with_map};
 
 use crate::named::lent;
 use std::alloc::Global;
-use walrus_ir::{LocalId, ModuleLocals};
+use walrus_ir::{InstrLocId, LocalId, ModuleLocals};
 use walrus_parts::Result;
 use wasm_payloads::{RawLocals, RawName};
 
@@ -20,6 +20,8 @@ pub struct WrittenBody {
     pub bytes: Vec<u8>,
     /// The locals that its operators name, each with its index, by rising index.
     pub used: Vec<(u32, LocalId)>,
+    /// The location of each operator, beside the place of its first byte, counted from the front of the body. Empty where these aren't asked for.
+    pub places: Vec<(InstrLocId, usize)>,
 }
 
 // The name of the local of this id, if it is there and has one.

@@ -62,7 +62,7 @@ module _ {V : Type 0} {O : V → Type 0} (G : (v : V) → Ghosts (O v)) (Edits :
       reached = reached_with (view G read) [] [] (λ x at. absurd (Contains-none x at)) (live_v c parsed.module_read (view G read) parsed.parsed (read_is_plain c bytes parsed.module_read parsed.reads) parsed.holds);
     }
 
-    plain_read : view G read ≡ with_customs (view G read).customs (contents_of read)
+    pub plain_read : view G read ≡ with_customs (view G read).customs (contents_of read)
     plain_read = ap (λ (rs : List Item). with_own (held_view read) (view G read).customs rs) parsed.parsed.section_roots
 
     -- the edit is refused
@@ -76,10 +76,10 @@ module _ {V : Type 0} {O : V → Type 0} (G : (v : V) → Ghosts (O v)) (Edits :
       same_roots : (view G edited).section_roots ≡ []
       same_roots = ap (λ (cs : ModuleCustomSections (SectionEntry V O)). kept_by (map (meaning G) (items (sections cs)))) own ∙ parsed.parsed.section_roots
 
-      plain_edited : view G edited ≡ with_customs (view G read).customs (contents_of edited)
+      pub plain_edited : view G edited ≡ with_customs (view G read).customs (contents_of edited)
       plain_edited = ap (λ (rs : List Item). with_own (held_view edited) (view G edited).customs rs) same_roots ∙ ap (λ (cs : List Custom). with_customs cs (contents_of edited)) same_customs
 
-      edited_well : IsWellMade c (view G edited)
+      pub edited_well : IsWellMade c (view G edited)
       edited_well = well_with (held_view edited) (view G edited).customs (view G edited).section_roots c whole.made
           (λ s at. read_well.customs s (subst (λ (cs : List Custom). Contains cs s) same_customs at))
 
@@ -112,10 +112,10 @@ module _ {V : Type 0} {O : V → Type 0} (G : (v : V) → Ghosts (O v)) (Edits :
           never : OneAskedMayRefuse (meanings G kept) → ⊥
           never = none_asked_refuses G kept raws (ap sections customs ∙ still_raw)
 
-          kept_well : IsWellMade c (view G kept)
+          pub kept_well : IsWellMade c (view G kept)
           kept_well = collected_well c (view G edited) (view G kept) edited_well edited_live collected
 
-          edits_to : (u : Abstract) → Leaves (view G kept) u → EditsTo Edits c bytes u
+          abbrev pub edits_to : (u : Abstract) → Leaves (view G kept) u → EditsTo Edits c bytes u
           edits_to u left = record {
             customs = (view G read).customs;
             module_parsed = contents_of read;

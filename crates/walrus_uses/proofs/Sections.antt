@@ -14,7 +14,7 @@ step p x y ys passes rest true is (inr there) = rw is (Contains-tail y x (filter
 step p x y ys passes rest false is (inl here) = let no_such : true ≡ false = sym passes ∙ ap p (sym here) ∙ is in absurd cc
 step p x y ys passes rest false is (inr there) = rw is (rest there)
 
-filtered : {X : Type 0} (p : X → Bool) (x : X) (xs : List X) → p x ≡ true → Contains xs x → Contains (filter p xs) x
+pub filtered : {X : Type 0} (p : X → Bool) (x : X) (xs : List X) → p x ≡ true → Contains xs x → Contains (filter p xs) x
 filtered p x [] passes at = at
 filtered p x (y ∷ ys) passes at = step p x y ys passes (filtered p x ys passes) (p y) refl (Contains-uncons y x ys at)
 

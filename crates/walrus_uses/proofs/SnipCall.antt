@@ -148,10 +148,6 @@ pub first_told : (name : List ℕ) (v : ExportValue) (o : Option (ℕ × ExportV
 first_told name v None e = absurd (none_isnt (sym e))
 first_told name v (Some d) e = ap (λ (x : ExportValue). bytes_eq x.name name) (some_is e)
 
-pub first_untold : (name : List ℕ) (o : Option (ℕ × ExportValue)) → None ≡ option_map (λ (e : ℕ × ExportValue). e.1) o → false ≡ first_named name o
-first_untold name None e = refl
-first_untold name (Some d) e = absurd (none_isnt e)
-
 -- ---- the call
 
 module _ {S : Type 0} (name : List ℕ) (c : Config) (old new : Module S) (whole : IsWhole c old) where

@@ -15,7 +15,7 @@ use Rattle.walrus_rules.proofs.SameItems.{import_same, live_on, with_own}
 use Rattle.walrus_rules.proofs.WellStays.{well_formed_in}
 
 module _ (v : Abstract) (customs : List Custom) (roots : List Item) where
-  written_back : (x y : Item) → Contains (written_in (with_own v customs roots) x) y → Contains (written_in v x) y
+  pub written_back : (x y : Item) → Contains (written_in (with_own v customs roots) x) y → Contains (written_in v x) y
   written_back (Types, i) y at = at
   written_back (Functions, i) y at = at
   written_back (Tables, i) y at = at

@@ -1,5 +1,12 @@
+pub mod Count
+pub mod Counted
 pub mod Edited
+pub mod Finding
+pub mod Listed
+pub mod Listing
 pub mod Metadata
+pub mod Moves
+pub mod Reasons
 pub mod Snip
 pub mod Snipped
 pub mod Stub

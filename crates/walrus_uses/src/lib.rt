@@ -1,8 +1,16 @@
-//! Callers of the library: what linkers, binding generators, stubbers and snippers do with it. Each goes from bytes to bytes, and what it
-//! promises follows from what the library promises of its calls.
+//! Callers of the library: what linkers, binding generators, instrumenters, stubbers and snippers do with it. Each goes from bytes to
+//! bytes, and what it promises follows from what the library promises of its calls.
 #![tactic(auto)]
 
+mod calls;
+mod counting;
+mod law;
+mod lines;
+mod listed;
+mod listing;
 mod metadata;
+mod moving;
+mod reasons;
 #[cfg(test)]
 mod samples;
 mod shrinking;
@@ -10,7 +18,12 @@ mod snipping;
 mod stubbing;
 mod traps;
 
+pub use counting::count_calls;
+pub use law::moves_once;
+pub use listing::keep_listed;
 pub use metadata::with_metadata;
+pub use moving::moves;
+pub use reasons::why;
 pub use shrinking::shrink;
 pub use snipping::snip;
 pub use stubbing::stub;

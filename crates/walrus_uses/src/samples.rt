@@ -1,6 +1,10 @@
 //! Each caller on a small module, whose bytes were worked out by hand.
 
+use crate::counting::count_calls;
+use crate::listing::keep_listed;
 use crate::metadata::with_metadata;
+use crate::moving::moves;
+use crate::reasons::why;
 use crate::shrinking::shrink;
 use crate::snipping::snip;
 use crate::stubbing::stub;
@@ -45,6 +49,49 @@ const ONE: &str =
 fn one_of_two_functions_is_left(rt: HostRuntime) -> std::result::Result<(), Fail> {
     let bytes = bytes_of(rt.alloc(), TWO)?;
     demand_output(rt.alloc(), shrink(rt.alloc(), &bytes), ONE)
+}
+
+// ---- keep_listed
+
+// Three functions, of which nothing is exported; the section `keep` lists the first and the last.
+const LISTS: &str =
+    "00 61 73 6D 01 00 00 00 01 04 01 60 00 00 03 04 03 00 00 00 0A 0D 03 03 00 01 0B 02 00 0B 04 00 01 01 0B 00 0D 04 6B 65 65 70 00 00 00 00 02 00 00 00";
+
+// Both, of which the last is larger and so stands first; and the section lists them so.
+const LISTED: &str =
+    "00 61 73 6D 01 00 00 00 01 04 01 60 00 00 03 03 02 00 00 0A 0A 02 04 00 01 01 0B 03 00 01 0B 00 27 09 70 72 6F 64 75 63 65 72 73 01 0C 70 72 6F 63 65 73 73 65 64 2D 62 79 01 06 77 61 6C 72 75 73 06 30 2E 32 38 2E 30 00 0D 04 6B 65 65 70 01 00 00 00 00 00 00 00";
+
+#[test]
+fn listed_functions_are_kept(rt: HostRuntime) -> std::result::Result<(), Fail> {
+    let bytes = bytes_of(rt.alloc(), LISTS)?;
+    demand_output(rt.alloc(), keep_listed(rt.alloc(), &bytes, "keep"), LISTED)
+}
+
+// No function, and the section as it was.
+const NOT_LISTED: &str =
+    "00 61 73 6D 01 00 00 00 00 27 09 70 72 6F 64 75 63 65 72 73 01 0C 70 72 6F 63 65 73 73 65 64 2D 62 79 01 06 77 61 6C 72 75 73 06 30 2E 32 38 2E 30 00 0D 04 6B 65 65 70 00 00 00 00 02 00 00 00";
+
+#[test]
+fn other_sections_list_nothing(rt: HostRuntime) -> std::result::Result<(), Fail> {
+    let bytes = bytes_of(rt.alloc(), LISTS)?;
+    demand_output(
+        rt.alloc(),
+        keep_listed(rt.alloc(), &bytes, "other"),
+        NOT_LISTED,
+    )
+}
+
+// One function, and a section that lists the second one; and one whose index has three bytes.
+const LISTS_MORE: &str =
+    "00 61 73 6D 01 00 00 00 01 04 01 60 00 00 03 02 01 00 0A 04 01 02 00 0B 00 09 04 6B 65 65 70 01 00 00 00 00 08 04 6C 65 73 73 00 00 00";
+
+#[test]
+fn other_lists_are_refused(rt: HostRuntime) -> std::result::Result<(), Fail> {
+    let bytes = bytes_of(rt.alloc(), LISTS_MORE)?;
+    let more = keep_listed(rt.alloc(), &bytes, "keep");
+    demand(is_refused(more, "not found"), "an index of no function")?;
+    let less = keep_listed(rt.alloc(), &bytes, "less");
+    demand(is_refused(less, "not found"), "an index of three bytes")
 }
 
 // ---- with_metadata
@@ -124,4 +171,93 @@ fn other_names_are_refused(rt: HostRuntime) -> std::result::Result<(), Fail> {
     demand(is_refused(later, "cannot replace function"), "a later name")?;
     let none = snip(rt.alloc(), &bytes, "c");
     demand(is_refused(none, "not found"), "a name of no export")
+}
+
+// ---- moves
+
+// A function that nothing reaches, and an exported one that calls itself, with numbers that are longer than they need to be.
+const PADDED: &str =
+    "00 61 73 6D 01 00 00 00 01 04 01 60 00 00 03 03 02 00 00 07 05 01 01 66 00 01 0A 0F 02 03 00 01 0B 09 00 41 80 00 1A 10 81 00 0B";
+
+const SHORT: &str =
+    "00 61 73 6D 01 00 00 00 01 04 01 60 00 00 03 02 01 00 07 05 01 01 66 00 00 0A 09 01 07 00 41 00 1A 10 00 0B 00 27 09 70 72 6F 64 75 63 65 72 73 01 0C 70 72 6F 63 65 73 73 65 64 2D 62 79 01 06 77 61 6C 72 75 73 06 30 2E 32 38 2E 30";
+
+fn is_move(places: &[(usize, usize)], at: usize, old: usize, new: usize) -> bool {
+    match places.get(at) {
+        Some(place) => place.0 == old && place.1 == new,
+        None => false,
+    }
+}
+
+#[test]
+fn operators_move(rt: HostRuntime) -> std::result::Result<(), Fail> {
+    let bytes = bytes_of(rt.alloc(), PADDED)?;
+    let (output, places) = moves(rt.alloc(), &bytes)?;
+    demand(
+        places.len() == 4
+            && is_move(&places, 0, 35, 30)
+            && is_move(&places, 1, 38, 32)
+            && is_move(&places, 2, 39, 33)
+            && is_move(&places, 3, 42, 35),
+        "the places of four operators",
+    )?;
+    demand_output(rt.alloc(), Ok(output), SHORT)
+}
+
+// ---- count_calls
+
+// `f` from `env` is function 0; `a` calls it, and then what it called before, and that calls it too.
+const COUNTED: &str =
+    "00 61 73 6D 01 00 00 00 01 04 01 60 00 00 02 09 01 03 65 6E 76 01 66 00 00 03 03 02 00 00 07 05 01 01 61 00 01 0A 0E 02 06 00 10 00 10 02 0B 05 00 10 00 01 0B 00 27 09 70 72 6F 64 75 63 65 72 73 01 0C 70 72 6F 63 65 73 73 65 64 2D 62 79 01 06 77 61 6C 72 75 73 06 30 2E 32 38 2E 30";
+
+#[test]
+fn each_function_counts(rt: HostRuntime) -> std::result::Result<(), Fail> {
+    let bytes = bytes_of(rt.alloc(), CALLS)?;
+    demand_output(
+        rt.alloc(),
+        count_calls(rt.alloc(), &bytes, "env", "f"),
+        COUNTED,
+    )
+}
+
+// The exported `a` gives its argument.
+const GIVES: &str =
+    "00 61 73 6D 01 00 00 00 01 06 01 60 01 7F 01 7F 03 02 01 00 07 05 01 01 61 00 00 0A 06 01 04 00 20 00 0B";
+
+// The type of what is imported stands behind that of `a`.
+const TYPED: &str =
+    "00 61 73 6D 01 00 00 00 01 09 02 60 01 7F 01 7F 60 00 00 02 09 01 03 65 6E 76 01 66 00 01 03 02 01 00 07 05 01 01 61 00 01 0A 08 01 06 00 10 00 20 00 0B 00 27 09 70 72 6F 64 75 63 65 72 73 01 0C 70 72 6F 63 65 73 73 65 64 2D 62 79 01 06 77 61 6C 72 75 73 06 30 2E 32 38 2E 30";
+
+#[test]
+fn a_type_is_added(rt: HostRuntime) -> std::result::Result<(), Fail> {
+    let bytes = bytes_of(rt.alloc(), GIVES)?;
+    demand_output(
+        rt.alloc(),
+        count_calls(rt.alloc(), &bytes, "env", "f"),
+        TYPED,
+    )
+}
+
+// ---- why
+
+// Fails where the answer isn't this text.
+fn demand_text(answer: Result<String>, expected: &str) -> std::result::Result<(), Fail> {
+    let text = answer?;
+    demand(is_text(text.as_str(), expected), expected)
+}
+
+const CALLED: &str = "function 0\nfunction 1\nfunction 0: 4 bytes\nfunction 1: 3 bytes\n";
+
+#[test]
+fn a_function_stays_for_one_that_calls_it(rt: HostRuntime) -> std::result::Result<(), Fail> {
+    let bytes = bytes_of(rt.alloc(), CALLS)?;
+    demand_text(why(rt.alloc(), &bytes, 1), CALLED)
+}
+
+const ALONE: &str = "function 0 isn't reached\nfunction 1: 2 bytes\n";
+
+#[test]
+fn no_function_calls_it(rt: HostRuntime) -> std::result::Result<(), Fail> {
+    let bytes = bytes_of(rt.alloc(), TWO)?;
+    demand_text(why(rt.alloc(), &bytes, 0), ALONE)
 }

@@ -22,11 +22,11 @@ use Rattle.walrus_contents.proofs.Lookups.{got_map, mapped_some}
 use Rattle.walrus_items.specs.Functions.{functions}
 use Rattle.walrus_model.proofs.Lists.{map-map}
 use Rattle.walrus_model.proofs.Standing.{some_inj, zip_right}
+use Rattle.walrus_names.specs.declared.locals.WrittenBody.{WrittenBody}
 use Rattle.walrus_parts.specs.Transform.{location_of}
 use Rattle.walrus_writing.specs.Located.{AreOffsets}
 use Rattle.walrus_writing.specs.Parts.{IsWrittenBody, local_in, source}
 use Rattle.walrus_writing.specs.Transform.{OperatorsStandAt, locations_in}
-use Rattle.walrus_writing.specs.declared.bodies.LocatedBody.{LocatedBody}
 
 -- ---- one body
 
@@ -77,36 +77,30 @@ moved_within start size (o ∷ places) h =
 -- ---- all bodies
 
 module _ (p : Parts) (names : Lookup) (features : Features) where
-  abbrev pub Located : Id FunctionKey → LocatedBody → Type 0
-  Located id b = IsWrittenBody p names features (place id) b.written × AreOffsets p (place id) b.written.bytes.items (map location_of b.places.items)
+  abbrev pub Located : Id FunctionKey → WrittenBody → Type 0
+  Located id b = IsWrittenBody p names features (place id) b × AreOffsets p (place id) b.bytes.items (map location_of b.places.items)
 
-  abbrev pub bytes_of : LocatedBody → List ℕ
-  bytes_of b = b.written.bytes.items
+  abbrev pub bytes_of : WrittenBody → List ℕ
+  bytes_of b = b.bytes.items
 
-  abbrev pub offsets_of : LocatedBody → List (ℕ × ℕ)
+  abbrev pub offsets_of : WrittenBody → List (ℕ × ℕ)
   offsets_of b = map location_of b.places.items
 
-  pub written_zip : (ids : List (Id FunctionKey)) (bs : List LocatedBody) → AllZip Located ids bs → AllZip (λ id b. IsWrittenBody p names features (place id) b.written) ids bs
-  written_zip [] [] h = tt
-  written_zip [] (b ∷ bs) h = elim h [ ]
-  written_zip (i ∷ ids) [] h = elim h [ ]
-  written_zip (i ∷ ids) (b ∷ bs) h = (h.0.0, written_zip ids bs h.1)
+  pub both_zip : (ids : List (Id FunctionKey)) (bs : List WrittenBody) → AllZip (λ id b. IsWrittenBody p names features (place id) b) ids bs
+      → AllZip (λ id b. AreOffsets p (place id) b.bytes.items (map location_of b.places.items)) ids bs → AllZip Located ids bs
+  both_zip [] [] h k = tt
+  both_zip [] (b ∷ bs) h k = elim h [ ]
+  both_zip (i ∷ ids) [] h k = elim h [ ]
+  both_zip (i ∷ ids) (b ∷ bs) h k = ((h.0, k.0), both_zip ids bs h.1 k.1)
 
-  -- those that are written
-  pub bodies_zip : (ids : List (Id FunctionKey)) (bs : List LocatedBody) → AllZip (λ id b. IsWrittenBody p names features (place id) b.written) ids bs → AllZip (λ id b. IsWrittenBody p names features (place id) b) ids (map (λ b. b.written) bs)
-  bodies_zip [] [] h = tt
-  bodies_zip [] (b ∷ bs) h = elim h [ ]
-  bodies_zip (i ∷ ids) [] h = elim h [ ]
-  bodies_zip (i ∷ ids) (b ∷ bs) h = (h.0, bodies_zip ids bs h.1)
-
-  pub offsets_told : (ids : List (Id FunctionKey)) (bs : List LocatedBody) → AllZip Located ids bs → (k f : ℕ) (b : List ℕ) → slice_get (map place ids) k ≡ Some f → slice_get (map bytes_of bs) k ≡ Some b
+  pub offsets_told : (ids : List (Id FunctionKey)) (bs : List WrittenBody) → AllZip Located ids bs → (k f : ℕ) (b : List ℕ) → slice_get (map place ids) k ≡ Some f → slice_get (map bytes_of bs) k ≡ Some b
       → (o : List (ℕ × ℕ)) × (slice_get (map offsets_of bs) k ≡ Some o) × AreOffsets p f b o
   offsets_told ids bs h k f b at to =
       let id = mapped_some place (slice_get ids k) f (sym (got_map place ids k) ∙ at) in
       let one = mapped_some bytes_of (slice_get bs k) b (sym (got_map bytes_of bs k) ∙ to) in
       let z = zip_right Located ids bs k id.0 h id.1 in
       let same : z.0 ≡ one.0 = some_inj z.0 one.0 (sym z.1 ∙ one.1) in
-      let moved : Located id.0 one.0 = subst (λ (l : LocatedBody). Located id.0 l) same z.2 in (
+      let moved : Located id.0 one.0 = subst (λ (l : WrittenBody). Located id.0 l) same z.2 in (
         offsets_of one.0,
         got_map offsets_of bs k ∙ ap (λ o. option_map offsets_of o) one.1,
         subst (λ (n : ℕ). AreOffsets p n b (offsets_of one.0)) (sym id.2) (subst (λ (l : List ℕ). AreOffsets p (place id.0) l (offsets_of one.0)) (sym one.2) moved.1),

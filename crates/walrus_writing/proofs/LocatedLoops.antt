@@ -78,16 +78,6 @@ last_at_end xs i low past =
     let none : ℕ × ℕ = (0, 0) in
     ap is_first_last (drop_more xs i none low) ∙ ap (is_last_of (slice_index_or xs i none)) (drop_all (i + 1) xs (omega (arith, past)))
 
-pub last_before : (xs : List (ℕ × ℕ)) (i j : ℕ) (d e : ℕ × ℕ) → i < length xs → j < length xs → j ≡ i + 1 → is_first_last (drop i xs) ≡ is_last_of (slice_index_or xs i d) (slice_index_or xs j e ∷ drop (j + 1) xs)
-last_before xs i j d e low within next =
-    ap is_first_last (drop_more xs i d low)
-    ∙ ap (λ n. is_last_of (slice_index_or xs i d) (drop n xs)) (sym next)
-    ∙ ap (is_last_of (slice_index_or xs i d)) (drop_more xs j e within)
-
--- it is put there, or nothing is
-pub first_put : (xs : List (ℕ × ℕ)) (i : ℕ) (d : ℕ × ℕ) (b : Bool) → i < length xs → b ≡ is_first_last (drop i xs) → first_if_last (drop i xs) ≡ cond b (slice_index_or xs i d ∷ []) []
-first_put xs i d b low is = ap first_if_last (drop_more xs i d low) ∙ ap (λ t. cond t (slice_index_or xs i d ∷ []) []) (sym (is ∙ ap is_first_last (drop_more xs i d low)))
-
 -- ---- one more
 
 pub seen_push : {A C : Type 0} (view : A → C) (done new : List A) (x : A) → new ≡ done ++ x ∷ [] → map view new ≡ map view done ++ view x ∷ []

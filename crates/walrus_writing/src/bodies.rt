@@ -1,5 +1,5 @@
 //! The bodies of functions, their bytes and their used locals ("Binary Format > Modules > Code Section").
-ghost use Rattle.std.specs.Prelude.{◌≡◌, ◌<◌, ◌^◌, [], ◌∷◌, ◌++◌, All, IfOk, IfErr, IsOkUnless, OnOk, length, map, option_map};
+ghost use Rattle.std.specs.Prelude.{◌≡◌, ◌<◌, ◌^◌, [], ◌∷◌, ◌++◌, All, IfOk, IfErr, IsOkUnless, OnOk, length, map, option_map, true};
 ghost use Rattle.std.specs.List.{AllZip};
 ghost use Rattle.walrus_base.specs.Arena.{entries, entries_from};
 ghost use Rattle.walrus_base.specs.Id.{place};
@@ -21,12 +21,14 @@ use walrus_items::{FunctionKind, ModuleFunctions};
 use walrus_names::WrittenBody;
 use walrus_parts::{Error, Result};
 
-/// What bodies are written under: the module's parts, the indices of its items, and the proposals that bodies may use.
+/// What bodies are written under: the module's parts, the indices of its items, the proposals that bodies may use, and whether the places of
+/// their operators are asked for.
 #[derive(Clone, Copy)]
 pub struct Indexed<'a, 'b, 'c> {
     pub parts: Parts<'a>,
     pub indices: &'b IdsToIndices,
     pub features: &'c Features,
+    pub asks_places: bool,
 }
 
 /// The body at a place, if a function with one is there.
@@ -75,24 +77,24 @@ fn used_of(alloc: Global, order: &[LocalId], used: &[bool]) -> Result<Vec<(u32, 
     Ok(found)
 }
 
-/// A body with the location of each of its operators, beside the place of its first byte, counted from the front of the body.
-#[derive(Drop)]
-pub struct LocatedBody {
-    pub written: WrittenBody,
-    pub places: Vec<(InstrLocId, usize)>,
+// The places, where they are asked for.
+fn asked_places(
+    alloc: Global,
+    places: Vec<(InstrLocId, usize)>,
+    asked: bool,
+) -> Vec<(InstrLocId, usize)>
+    ensures { asked ≡ true → result ≡ places }
+{
+    if asked { places } else { Vec::new(alloc) }
 }
 
-/// The body of the function of this id, under these indices, with the places of its operators.
-pub fn located_body(
-    alloc: Global,
-    under: Indexed<'_, '_, '_>,
-    id: FunctionId,
-) -> Result<LocatedBody>
+// The body of the function of this id, under these indices.
+fn one_body(alloc: Global, under: Indexed<'_, '_, '_>, id: FunctionId) -> Result<WrittenBody>
     requires indexed { IsIndexed under.parts (index_of under.indices.now) under.features.now (place id) }
-    ensures value { IfOk result (λ body. IsWrittenBody under.entry.parts (index_of under.entry.indices.now)
-        under.entry.features.now (place id) body.written) }
-    ensures located { IfOk result (λ body. AreOffsets under.entry.parts (place id) body.written.bytes.items
-        (map location_of body.places.items)) }
+    ensures value { IfOk result (IsWrittenBody under.entry.parts (index_of under.entry.indices.now)
+        under.entry.features.now (place id)) }
+    ensures located { under.entry.asks_places ≡ true → IfOk result (λ body. AreOffsets under.entry.parts
+        (place id) body.bytes.items (map location_of body.places.items)) }
     ensures fails { IfErr result (RefusesBodies under.entry.parts under.entry.features.now) }
 {
     let Some(local) = local_of(under.parts.funcs, id) else {
@@ -107,25 +109,12 @@ pub fn located_body(
         under.features,
     )?;
     let used = used_of(alloc, body.order.as_slice(), body.used.as_slice())?;
-    let written = WrittenBody {
+    let places = asked_places(alloc, body.places, under.asks_places);
+    Ok(WrittenBody {
         bytes: body.bytes,
         used,
-    };
-    Ok(LocatedBody {
-        written,
-        places: body.places,
+        places,
     })
-}
-
-// The body of the function of this id, under these indices.
-fn one_body(alloc: Global, under: Indexed<'_, '_, '_>, id: FunctionId) -> Result<WrittenBody>
-    requires indexed { IsIndexed under.parts (index_of under.indices.now) under.features.now (place id) }
-    ensures value { IfOk result (IsWrittenBody under.entry.parts (index_of under.entry.indices.now)
-        under.entry.features.now (place id)) }
-    ensures fails { IfErr result (RefusesBodies under.entry.parts under.entry.features.now) }
-{
-    let located = located_body(alloc, under, id)?;
-    Ok(located.written)
 }
 
 /// Each function's body, in the order of the functions.
@@ -140,10 +129,13 @@ pub fn written_bodies(
         IsWrittenBody under.entry.parts (index_of under.entry.indices.now) under.entry.features.now
         (place id) body)
         order.now bodies.items) }
+    ensures located { under.entry.asks_places ≡ true → IfOk result (λ bodies. AllZip (λ id body.
+        AreOffsets under.entry.parts (place id) body.bytes.items (map location_of body.places.items))
+        order.now bodies.items) }
     ensures fails { IfErr result (RefusesBodies under.entry.parts under.entry.features.now) }
 {
-    let mut bodies = Vec::new(alloc);
-    for id in order {
+    let mut bodies = Vec::with_capacity(alloc, order.len())?;
+    'order: for id in order {
         let one = one_body(alloc, under, *id)?;
         bodies.push(one)?;
     }

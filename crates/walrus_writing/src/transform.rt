@@ -1,5 +1,5 @@
 //! Where the parts of the code section stand in the bytes of a module, told before these are written.
-ghost use Rattle.std.specs.Prelude.{◌≡◌, List, All, IfErr, IfOk, IsOkUnless, map};
+ghost use Rattle.std.specs.Prelude.{◌≡◌, List, IfErr, IfOk, map};
 ghost use Rattle.std.specs.List.{AllZip};
 ghost use Rattle.wasm_frames.specs.Record as wire;
 ghost use Rattle.wasm_frames.specs.Record.{custom_record};
@@ -10,71 +10,31 @@ ghost use Rattle.walrus_code.specs.Indices.{index_of};
 ghost use Rattle.walrus_contents.specs.View.{parts_view};
 ghost use Rattle.walrus_model.specs.Dead.{HasDead};
 ghost use Rattle.walrus_model.specs.Declared.{NothingUndeclared};
-ghost use Rattle.walrus_parts.specs.Errors.{out_of_memory};
-ghost use Rattle.walrus_parts.specs.Transform.{location_of};
 ghost use Rattle.walrus_plan.specs.Prepared.{IsPrepared};
 ghost use Rattle.walrus_writing.specs.Customs.{task};
-ghost use Rattle.walrus_writing.specs.Located.{AreOffsets, ArePlaces};
-ghost use Rattle.walrus_writing.specs.Parts.{IsIndexed, IsWrittenBody, unplaced};
-ghost use Rattle.walrus_writing.specs.Refusals.{RefusesBodies, RefusesItems};
+ghost use Rattle.walrus_writing.specs.Located.{ArePlaces};
+ghost use Rattle.walrus_writing.specs.Parts.{IsWrittenBody};
+ghost use Rattle.walrus_writing.specs.Refusals.{RefusesItems};
 ghost use Rattle.walrus_writing.specs.Transform.{RefusesTransform, TellsTransform};
 
-use crate::bodies::{Indexed, LocatedBody, located_body};
+use crate::bodies::{Indexed, written_bodies};
 use crate::customs::copied;
 use crate::data::raw_data;
 use crate::elements::raw_elements;
 use crate::globals::raw_globals;
 use crate::imported::raw_imports;
 use crate::located::{function_ranges, instruction_map};
-use crate::records::{raw_exports, raw_functions, raw_memories, raw_start, raw_tags, raw_types};
+use crate::records::{
+    raw_bodies, raw_exports, raw_functions, raw_memories, raw_start, raw_tags, raw_types,
+};
 use crate::tables::raw_tables;
 use crate::write::Choices;
 use std::alloc::Global;
 use walrus_contents::Parts;
-use walrus_ir::FunctionId;
+use walrus_names::WrittenBody;
 use walrus_parts::{CodeTransform, Result};
 use walrus_plan::Prepared;
-use wasm_wire::{CodePlaces, Raw, RawBody, RawCustom, code_places};
-
-// Each function's body with the places of its operators, in the order of the functions.
-fn located_bodies(
-    alloc: Global,
-    under: Indexed<'_, '_, '_>,
-    order: &[FunctionId],
-) -> Result<Vec<LocatedBody>>
-    requires indexed { All (λ id.
-        IsIndexed under.parts (index_of under.indices.now) under.features.now (place id)) order.now }
-    ensures value { IfOk result (λ bodies. AllZip (λ id body.
-        IsWrittenBody under.entry.parts (index_of under.entry.indices.now) under.entry.features.now
-        (place id) body.written
-        × AreOffsets under.entry.parts (place id) body.written.bytes.items
-        (map location_of body.places.items))
-        order.now bodies.items) }
-    ensures fails { IfErr result (RefusesBodies under.entry.parts under.entry.features.now) }
-{
-    let mut bodies = Vec::new(alloc);
-    'order: for id in order {
-        let one = located_body(alloc, under, *id)?;
-        bodies.push(one)?;
-    }
-    Ok(bodies)
-}
-
-// The records of these bodies, wherever they lie.
-fn raw_located<'a>(alloc: Global, bodies: &'a [LocatedBody]) -> Result<Vec<RawBody<'a>>>
-    ensures value { IfOk result (λ raw. map wire.body_record raw.items
-        ≡ map (λ body. unplaced body.written.bytes.items) bodies.now) }
-    ensures fails { IsOkUnless result out_of_memory }
-{
-    let mut raw = Vec::with_capacity(alloc, bodies.len())?;
-    'bodies: for body in bodies {
-        raw.push(RawBody {
-            start: 0,
-            bytes: body.written.bytes.as_slice(),
-        })?;
-    }
-    Ok(raw)
-}
+use wasm_wire::{CodePlaces, Raw, RawCustom, code_places};
 
 // The places of the parts of the code section among the records of items that name nothing dead, in the order of their plan, by the indices
 // that it gives, behind these sections of dynamic linking.
@@ -82,18 +42,18 @@ fn item_places<'a>(
     alloc: Global,
     parts: Parts<'a>,
     prepared: &Prepared,
-    bodies: &'a [LocatedBody],
+    bodies: &'a [WrittenBody],
     dylinks: &'a [RawCustom<'a>],
     choices: &Choices,
 ) -> Result<CodePlaces>
     requires there { HasDead (parts_view parts) → ⊥ }
     requires planned { IsPrepared parts prepared.now }
     requires written { AllZip (λ id body.
-        IsWrittenBody parts (index_of prepared.now.indices) choices.now.features (place id) body.written)
+        IsWrittenBody parts (index_of prepared.now.indices) choices.now.features (place id) body)
         prepared.now.plan.own_functions.items bodies.now }
     ensures told { IfOk result (ArePlaces parts.entry (index_of prepared.now.indices) choices.now.features
         (map place prepared.now.plan.own_functions.items)
-        (map (λ body. body.written.bytes.items) bodies.now) (map custom_record dylinks.now)) }
+        (map (λ body. body.bytes.items) bodies.now) (map custom_record dylinks.now)) }
     ensures refused { (sections : List wire.Custom) → group_of Dylink sections ≡ map custom_record dylinks.now
         → RefusesItems parts.entry (task choices.now (index_of prepared.now.indices) sections) result }
 {
@@ -102,7 +62,7 @@ fn item_places<'a>(
     let types = raw_types(alloc, parts.types, indices)?;
     let functions = raw_functions(alloc, parts, order, indices)?;
     let customs = copied(alloc, dylinks)?;
-    let code = raw_located(alloc, bodies)?;
+    let code = raw_bodies(alloc, bodies)?;
     let imports = raw_imports(alloc, parts, indices)?;
     let tables = raw_tables(alloc, parts.tables, indices)?;
     let memories = raw_memories(alloc, parts.memories)?;
@@ -162,9 +122,10 @@ pub fn code_transform<'a>(
         parts,
         indices: &prepared.indices,
         features: &choices.features,
+        asks_places: true,
     };
     let order = prepared.plan.own_functions.as_slice();
-    let bodies = located_bodies(alloc, under, order)?;
+    let bodies = written_bodies(alloc, under, order)?;
     let lent = bodies.as_slice();
     let places = item_places(alloc, parts, prepared, lent, dylinks, choices)?;
     let ranges = places.bodies.as_slice();

@@ -75,6 +75,7 @@ fn make(alloc: Global, parts: Parts<'_>, prepared: &Prepared, choices: &Choices)
         parts,
         indices: &prepared.indices,
         features: &choices.features,
+        asks_places: false,
     };
     let plan = &prepared.plan;
     let bodies = written_bodies(alloc, under, plan.own_functions.as_slice())?;

@@ -158,9 +158,9 @@ fn marked_and_counted(alloc: Global, module: &Module) -> Result<(MarkedItems, us
 
 // What is searched: the parts of a module, and what its custom sections ask to keep.
 #[derive(Clone, Copy)]
-struct Searched<'a> {
-    parts: Parts<'a>,
-    asked: &'a Roots,
+pub(crate) struct Searched<'a> {
+    pub(crate) parts: Parts<'a>,
+    pub(crate) asked: &'a Roots,
 }
 
 // The same over the parts of a module and what is asked to be kept. Refused with `DeadItem` as [`Used::new`] is, and with `Memory`.
@@ -283,7 +283,7 @@ fn enter(parts: Parts<'_>, item: ItemId, list: &mut Worklist) -> Result<()>
 }
 
 // Enters the members of a live type's group, but for those that were entered. No other item has a group.
-fn note_group(parts: Parts<'_>, item: ItemId, list: &mut Worklist)
+pub(crate) fn note_group(parts: Parts<'_>, item: ItemId, list: &mut Worklist)
     requires live { IsLive (parts_view parts) (item_of item) }
     requires kept { Keeps (parts_view parts) list.old }
     ensures { NotesAll (parts_view parts.entry) (group_names (parts_view parts.entry) (item_of item))

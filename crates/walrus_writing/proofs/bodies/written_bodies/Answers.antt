@@ -1,16 +1,28 @@
-use Rattle.std.proofs.Common.{sym, subst, ◌+◌, take}
+use Rattle.std.proofs.Common.{◌+◌, map, subst, sym, take}
 use Rattle.std.specs.List.{AllZip}
 use Rattle.walrus_base.specs.Id.{place}
+use Rattle.walrus_base.specs.declared.id.Id.{Id}
+use Rattle.walrus_base.specs.declared.keys.FunctionKey.{FunctionKey}
 use Rattle.walrus_code.specs.Indices.{index_of}
+use Rattle.walrus_names.specs.declared.locals.WrittenBody.{WrittenBody}
+use Rattle.walrus_parts.specs.Transform.{location_of}
+use Rattle.walrus_writing.specs.Located.{AreOffsets}
 use Rattle.walrus_writing.specs.Parts.{IsWrittenBody}
 use Rattle.walrus_plan.proofs.Turns.{zip_turn}
 use Rattle.walrus_writing.proofs.bodies.written_bodies.Goals as goal
 
-pub loop-id-preserved : goal.loop-id-preserved
-loop-id-preserved c =
+pub order-preserved : goal.order-preserved
+order-preserved c =
     let held = c.args.under.parts in
-    subst (λ bs. AllZip (λ id body. IsWrittenBody held (index_of c.args.under.indices.now) c.args.under.features.now (place id) body) (take (c.loop-id.id-index + 1) c.args.order.now) bs) (sym c.in_ok-push.ensures.items)
-    (zip_turn (λ id body. IsWrittenBody held (index_of c.args.under.indices.now) c.args.under.features.now (place id) body) c.args.order.now c.loop-id.id-index _ c.loop-id.bodies.items _ c.loop-id-test.true c.loop-id.invariant c.in_ok-one.ensures.value)
+    let Written = λ (id : Id FunctionKey) (body : WrittenBody). IsWrittenBody held (index_of c.args.under.indices.now) c.args.under.features.now (place id) body in
+    let Located = λ (id : Id FunctionKey) (body : WrittenBody). AreOffsets held (place id) body.bytes.items (map location_of body.places.items) in
+    let done = take (c.order.id-index + 1) c.args.order.now in
+    record {
+      written = subst (λ bs. AllZip Written done bs) (sym c.in_ok-push.ensures.items)
+          (zip_turn Written c.args.order.now c.order.id-index _ c.order.bodies.items _ c.order-test.true c.order.invariant.written c.in_ok-one.ensures.value);
+      located = λ asked. subst (λ bs. AllZip Located done bs) (sym c.in_ok-push.ensures.items)
+          (zip_turn Located c.args.order.now c.order.id-index _ c.order.bodies.items _ c.order-test.true (c.order.invariant.located asked) (c.in_ok-one.ensures.located asked));
+    }
 
 pub one_body-requires : goal.one_body-requires
-one_body-requires c = record { indexed = c.requires.indexed c.loop-id.id-index _ c.loop-id-test.true }
+one_body-requires c = record { indexed = c.requires.indexed c.order.id-index _ c.order-test.true }

@@ -1,4 +1,4 @@
-use Rattle.std.proofs.Common.{List, ap, sym, ◌∙◌, subst}
+use Rattle.std.proofs.Common.{List, ap, sym, subst}
 use Rattle.std.specs.Prelude.{All}
 use Rattle.std.specs.Str.{IsUtf8}
 use Rattle.std.proofs.lemmas.List.Elements.{All-cons, All-nil}

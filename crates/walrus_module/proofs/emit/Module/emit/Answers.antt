@@ -1,11 +1,10 @@
-use Rattle.std.proofs.Common.{◌≡◌, ℕ, refl, sym, ap, ◌∙◌, subst, inl, inr, IfOk}
-use Rattle.std.specs.Prelude.{Err, true, ◌⊎◌}
+use Rattle.std.proofs.Common.{◌≡◌, ℕ, sym, ap, ◌∙◌, subst, inr, IfOk}
+use Rattle.std.specs.Prelude.{true, ◌⊎◌}
 use Rattle.std.specs.Global.{Vec}
 use Rattle.std.proofs.lemmas.Result.{err_from_is_err_and}
 use Rattle.walrus_contents.specs.There.{IsRefusal}
 use Rattle.walrus_model.specs.Abstract.{Abstract}
 use Rattle.walrus_model.specs.Dead.{HasDead}
-use Rattle.walrus_model.specs.Declared.{NothingUndeclared}
 use Rattle.walrus_parts.specs.Transform.{transform_of}
 use Rattle.walrus_parts.specs.declared.transform.CodeTransform.{CodeTransform}
 use Rattle.walrus_rules.specs.Chain.{Leaves}
@@ -14,24 +13,25 @@ use Rattle.walrus_rules.proofs.SameItems.{dead_back}
 use Rattle.walrus_rules.proofs.WellStays.{leaves_well}
 use Rattle.walrus_writing.specs.Emitted.{IsEmitted, told}
 use Rattle.walrus_writing.specs.Transform.{IsTransformOf}
+use Rattle.walrus_module.specs.Asked.{asked_first}
 use Rattle.walrus_module.specs.Customs.{sections}
 use Rattle.walrus_module.specs.Flags.{Flags, config_of}
-use Rattle.walrus_module.specs.Following.{AreRaw, LeavesCustoms, OneMayRefuseThen}
-use Rattle.walrus_module.specs.Left.{LeavesBy, but_customs}
+use Rattle.walrus_module.specs.Following.{AreRaw, IsToldOf, OneMayRefuseThen}
+use Rattle.walrus_module.specs.Left.{but_customs}
 use Rattle.walrus_module.specs.Settings.{settings}
-use Rattle.walrus_module.specs.View.{held_view, locations_of, view}
+use Rattle.walrus_module.specs.View.{contents_of, held_view, locations_of, meant, view}
 use Rattle.walrus_module.proofs.Declaring.{ids_left, leaves_none_dead, leaves_nothing}
 use Rattle.walrus_module.proofs.Emission.{answers_made, customs_keep_well, nothing_on, on_ok_always, others_but, stays_but, written_leaves_too}
 use Rattle.walrus_module.proofs.OwnSections.{dead_refused, module_leaves, module_unchanged, nothing_back}
 use Rattle.walrus_module.proofs.WellWritten.{fails_well}
-use Rattle.walrus_module.proofs.WrittenSections.{left_so, unfollowed, unfollowed_same}
+use Rattle.walrus_module.proofs.WrittenSections.{left_of, left_so, unfollowed, unfollowed_same}
 use Rattle.walrus_module.proofs.emit.Module.emit.Goals as goal
 
 pub returns-in_err-check_live-clause-customs : goal.returns-in_err-check_live-clause-customs
 returns-in_err-check_live-clause-customs g c =
     let G = λ (i : g.dyn-1.0.I). (g.dyn-1.0.entry i).1 in
     let p = err_from_is_err_and c.from_residual.result c.from_residual.ensures.1 in
-    rw (p.1) (unfollowed G (settings c.args.self.now).preserve_code_transform _ c.args.self.now.customs _)
+    rw (p.1) (unfollowed G (settings c.args.self.now).preserve_code_transform _ _ c.args.self.now.customs _)
 
 pub returns-in_err-check_live-clause-refused : goal.returns-in_err-check_live-clause-refused
 returns-in_err-check_live-clause-refused g c =
@@ -63,7 +63,7 @@ returns-in_err-declare_references-clause-customs g c =
     let G = λ (i : g.dyn-1.0.I). (g.dyn-1.0.entry i).1 in
     let old = c.args.self.now in
     let p = err_from_is_err_and c.from_residual-in_err-declare_references.result c.from_residual-in_err-declare_references.ensures.1 in
-    rw (p.1) (unfollowed_same G (settings old).preserve_code_transform _ old.customs c.declare_references.new.self.customs _ (ap (λ m. m.customs) c.declare_references.ensures.others))
+    rw (p.1) (unfollowed_same G (settings old).preserve_code_transform _ _ old.customs c.declare_references.new.self.customs _ (ap (λ m. m.customs) c.declare_references.ensures.others))
 
 pub returns-in_err-declare_references-clause-settled : goal.returns-in_err-declare_references-clause-settled
 returns-in_err-declare_references-clause-settled g c =
@@ -133,7 +133,13 @@ returns-clause-customs g c =
     let old = c.args.self.now in
     let left = c.declare_references.new.self in
     let others = c.declare_references.ensures.others in
-    left_so G _ _ _ old.customs left.customs c.write_parts.new.customs c.write_parts.result (ap (λ (f : Flags). f.preserve_code_transform) (ap settings others)) (ap (λ m. m.customs) others) c.write_parts.ensures.customs
+    let new = c.write_parts.new.customs in
+    let held = contents_of (record left { customs = new }) in
+    let same = ap (λ m. m.customs) others in
+    left_of G (settings old).preserve_code_transform _ _ (IsToldOf (config_of (settings old)) held (asked_first (meant G old.customs))) old.customs new c.write_parts.result
+    (λ x is. subst (λ customs. IsToldOf (config_of (settings old)) held (asked_first (meant G customs)) x) same
+    (subst (λ (f : Flags). IsToldOf (config_of f) held (asked_first (meant G left.customs)) x) (ap settings others) is))
+    (left_so G _ _ _ _ old.customs left.customs new c.write_parts.result (ap (λ (f : Flags). f.preserve_code_transform) (ap settings others)) same c.write_parts.ensures.customs)
 
 pub returns-clause-raw : goal.returns-clause-raw
 returns-clause-raw g c =
@@ -160,7 +166,7 @@ returns-clause-well_made g c =
     λ made.
     let well = leaves_well config (view G old) (view G left) made (module_leaves G old left others c.in_ok-declare_references.ensures.left) in
     answers_made (λ (r : Vec ℕ × CodeTransform). r.0.items) (OneMayRefuseThen G old.customs c.write_parts.new.customs) config (view G now) c.write_parts.result (returns-clause-emitted g c) (returns-clause-refused g c)
-    (customs_keep_well G left.switches.preserve_code_transform _ left.customs c.write_parts.new.customs c.write_parts.result c.write_parts.ensures.customs config (held_view left) well.0)
+    (customs_keep_well G left.switches.preserve_code_transform _ _ left.customs c.write_parts.new.customs c.write_parts.result c.write_parts.ensures.customs config (held_view left) well.0)
     (nothing_on (held_view left) (view G now).customs (view G now).section_roots (leaves_nothing (held_view old) (held_view left) c.in_ok-declare_references.ensures.left))
 
 pub returns-clause-own_ids : goal.returns-clause-own_ids

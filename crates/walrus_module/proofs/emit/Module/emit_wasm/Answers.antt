@@ -1,4 +1,4 @@
-use Rattle.std.proofs.Common.{◌≡◌, ℕ, Bool, true, refl, sym, subst, inl}
+use Rattle.std.proofs.Common.{ℕ, Bool, true, sym, subst, inl}
 use Rattle.std.specs.Global.{Vec}
 use Rattle.std.proofs.lemmas.Result.{err_from_is_err_and}
 use Rattle.walrus_code.specs.Transform.{Transform}
@@ -27,7 +27,7 @@ pub returns-in_err-bytes-clause-customs : goal.returns-in_err-bytes-clause-custo
 returns-in_err-bytes-clause-customs g c =
     let G = λ (i : g.dyn-1.0.I). (g.dyn-1.0.entry i).1 in
     let p = err_from_is_err_and c.from_residual.result c.from_residual.ensures.1 in
-    rw (p.1, p.2) (left_err G (settings c.args.self.now).preserve_code_transform _ _ c.args.self.now.customs c.emit.new.self.customs c.in_err-bytes.field-0.0 c.in_err-bytes.ensures.customs)
+    rw (p.1, p.2) (left_err G (settings c.args.self.now).preserve_code_transform _ _ _ c.args.self.now.customs c.emit.new.self.customs c.in_err-bytes.field-0.0 c.in_err-bytes.ensures.customs)
 
 pub returns-in_err-bytes-clause-refused : goal.returns-in_err-bytes-clause-refused
 returns-in_err-bytes-clause-refused g c =
@@ -49,7 +49,7 @@ returns-clause-customs g c =
     let G = λ (i : g.dyn-1.0.I). (g.dyn-1.0.entry i).1 in
     let flags = settings c.args.self.now in
     let new = c.emit.new.self in
-    left_told G _ flags.preserve_code_transform _ _ c.args.self.now.customs new.customs (c.in_ok-bytes.bytes, c.in_ok-bytes.transform) c.in_ok-bytes.bytes
+    left_told G _ flags.preserve_code_transform _ _ _ c.args.self.now.customs new.customs (c.in_ok-bytes.bytes, c.in_ok-bytes.transform) c.in_ok-bytes.bytes
     (λ on x is sayable. subst (λ (t : Transform). IsTransformOf (config_of flags) true (locations_of new) (view G new) c.in_ok-bytes.bytes.items t) (sym is)
     (subst (λ (b : Bool). IsTransformOf (config_of flags) b (locations_of new) (view G new) c.in_ok-bytes.bytes.items (transform_of c.in_ok-bytes.transform)) on (c.in_ok-bytes.ensures.transform (inl on) sayable)))
     c.in_ok-bytes.ensures.customs

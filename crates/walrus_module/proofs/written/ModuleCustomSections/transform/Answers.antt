@@ -4,7 +4,7 @@ use Rattle.walrus_code.specs.Indices.{index_of}
 use Rattle.walrus_writing.specs.Transform.{TellsTransform}
 use Rattle.walrus_writing.specs.declared.write.Choices.{Choices}
 use Rattle.walrus_module.specs.Asked.{OneAskedMayRefuse, asked_first, section_seen}
-use Rattle.walrus_module.specs.Flags.{choices_of, config_of, flags_of}
+use Rattle.walrus_module.specs.Flags.{config_of, flags_of}
 use Rattle.walrus_module.specs.View.{meant}
 use Rattle.walrus_module.proofs.WellWritten.{written_with}
 use Rattle.walrus_module.proofs.WrittenSections.{transform_refused}

@@ -1,14 +1,18 @@
-use Rattle.std.proofs.Common.{◌∙◌, ap₂, sym, map}
+use Rattle.std.proofs.Common.{◌∙◌, ℕ, ap₂, map, subst, sym}
+use Rattle.std.specs.Global.{Vec}
 use Rattle.std.proofs.lemmas.Result.{err_from_is_err_and}
 use Rattle.walrus_base.specs.Arena.{entries}
 use Rattle.walrus_base.specs.Id.{place}
 use Rattle.walrus_code.specs.Indices.{index_of, local_index}
+use Rattle.walrus_code.specs.declared.location.InstrLocId.{InstrLocId}
 use Rattle.walrus_functions.specs.declared.emit.EmittedBody.{EmittedBody}
+use Rattle.walrus_parts.specs.Transform.{location_of}
+use Rattle.walrus_writing.specs.Located.{AreOffsets}
 use Rattle.walrus_writing.specs.Parts.{used_among}
 use Rattle.walrus_writing.proofs.Indexed.{body_refused, local_seen}
 use Rattle.walrus_writing.proofs.LocatedBodies.{offsets_written}
 use Rattle.walrus_writing.proofs.UsedLeft.{used_refused}
-use Rattle.walrus_writing.proofs.bodies.located_body.Goals as goal
+use Rattle.walrus_writing.proofs.bodies.one_body.Goals as goal
 
 pub returns-clause-value : goal.returns-clause-value
 returns-clause-value c = (
@@ -36,7 +40,8 @@ returns-in_err-used-clause-fails c =
     (local_seen c.args.under.parts (place c.args.id) c.in-Some.local.now (sym c.in-Some.ensures)) _ _ _ c.in_ok-body.body.order.items _ c.in_ok-body.ensures.written _ c.as_slice.ensures.value _ c.in_err-used.ensures.fails)
 
 pub returns-clause-located : goal.returns-clause-located
-returns-clause-located c =
-    offsets_written c.args.under.parts (index_of c.args.under.indices.now) c.args.under.features.now (place c.args.id) c.in-Some.local.now c.in_ok-body.body.places.items c.in_ok-body.body.bytes.items
-    (local_index c.in_ok-body.body.locals) (map place c.in_ok-body.body.order.items) c.in_ok-body.body.used.items
-    (sym c.in-Some.ensures) c.in_ok-body.ensures.located c.in_ok-body.ensures.written
+returns-clause-located c = λ asked.
+    let body = c.in_ok-body.body in
+    subst (λ (l : Vec (InstrLocId × ℕ)). AreOffsets c.args.under.parts (place c.args.id) body.bytes.items (map location_of l.items)) (sym (c.asked_places-places.ensures asked))
+    (offsets_written c.args.under.parts (index_of c.args.under.indices.now) c.args.under.features.now (place c.args.id) c.in-Some.local.now body.places.items body.bytes.items (local_index body.locals)
+    (map place body.order.items) body.used.items (sym c.in-Some.ensures) c.in_ok-body.ensures.located c.in_ok-body.ensures.written)
