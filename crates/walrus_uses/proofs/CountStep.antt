@@ -39,7 +39,7 @@ use Rattle.walrus_rules.specs.Chain.{alone}
 use Rattle.walrus_rules.specs.WellMade.{IsWellFormed, IsWellMade}
 use Rattle.walrus_uses.proofs.CallBody.{with_call}
 use Rattle.walrus_uses.proofs.CountStays.{IsCounting, calling, calling_kind, count_reached, count_stays}
-use Rattle.walrus_uses.proofs.NewLocals.{item_within}
+use Rattle.walrus_reading.proofs.Carrying.{item_within}
 use Rattle.walrus_uses.proofs.SnipItems.{comes_behind, free_behind, stays_before}
 use Rattle.walrus_uses.proofs.TrapStays.{equal_or}
 use Rattle.walrus_uses.specs.Count.{CallsFirst, CountsIn, KindCalls, SlotCalls}

@@ -19,12 +19,7 @@ use Rattle.walrus_types.specs.declared.locals.Local.{Local}
 use Rattle.walrus_types.specs.declared.value.ValType.{ValType as Declared}
 use Rattle.walrus_model.specs.BodyRead.{AddsLocals, new_locals}
 use Rattle.walrus_model.specs.EmittedBody.{types_of}
-
--- what stands at a place stands in the list
-pub item_within : {A : Type 0} (xs : List (Option A)) (i : ℕ) → IsSome (item_at xs i) → i < length xs
-item_within [] i there = absurd cc
-item_within (x ∷ xs) zero there = omega arith
-item_within (x ∷ xs) (suc i) there = let lt : i < length xs = item_within xs i there in omega (arith, lt)
+use Rattle.walrus_reading.proofs.Carrying.{item_within}
 
 -- ---- numbers in a row
 

@@ -5,7 +5,7 @@ use Rattle.std.proofs.Math.Path.{fun_ext}
 use Rattle.std.proofs.lemmas.Bool.{cases_lt, lt-ltb, ltb_from_iff}
 use Rattle.walrus_base.specs.Arena.{item_at}
 use Rattle.walrus_items.specs.Imports.{ImportValue}
-use Rattle.walrus_uses.proofs.NewLocals.{item_within}
+use Rattle.walrus_reading.proofs.Carrying.{item_within}
 use Rattle.walrus_uses.proofs.TrapStays.{equal_or}
 use Rattle.walrus_uses.specs.Stub.{comes_from, function_from}
 

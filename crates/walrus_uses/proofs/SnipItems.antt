@@ -16,7 +16,7 @@ use Rattle.walrus_parts.specs.declared.kinds.ExportItem.TheVariants.{Function}
 use Rattle.walrus_items.specs.Exports.{ExportValue}
 use Rattle.walrus_contents.specs.View.{export_of}
 use Rattle.walrus_contents.proofs.Slots.{entry_in, item_seen}
-use Rattle.walrus_uses.proofs.NewLocals.{item_within}
+use Rattle.walrus_reading.proofs.Carrying.{item_within}
 use Rattle.walrus_uses.proofs.TrapStays.{equal_or, none_isnt, some_is}
 
 -- ---- behind the last place

@@ -27,7 +27,8 @@ use Rattle.walrus_model.proofs.Lists.{Contains-none}
 use Rattle.walrus_rules.specs.OkLaws.{AreCounted}
 use Rattle.walrus_rules.specs.Once.{TypesLocals}
 use Rattle.walrus_rules.specs.WellMade.{IsWellMade}
-use Rattle.walrus_uses.proofs.NewLocals.{item_within, new_apart, new_typed, old_typed}
+use Rattle.walrus_reading.proofs.Carrying.{item_within}
+use Rattle.walrus_uses.proofs.NewLocals.{new_apart, new_typed, old_typed}
 use Rattle.walrus_uses.proofs.TrapStays.{Bare, Bodied, Brought, IsStep, Neither, SameBody, SameSlot, equal_or, reached_stay, trap_stays}
 use Rattle.walrus_uses.specs.Trap.{trap_ops}
 

@@ -12,7 +12,7 @@ use Rattle.walrus_parts.specs.declared.function_kind.FunctionKind.TheVariants.{I
 use Rattle.walrus_parts.specs.declared.function_kind.ImportedFunction.{ImportedFunction}
 use Rattle.walrus_items.specs.Functions.{FunctionValue}
 use Rattle.walrus_items.specs.Imports.{ImportValue}
-use Rattle.walrus_uses.proofs.NewLocals.{item_within}
+use Rattle.walrus_reading.proofs.Carrying.{item_within}
 use Rattle.walrus_uses.proofs.StubStep.{set_there, with_kind}
 use Rattle.walrus_uses.proofs.TrapStays.{equal_or, none_isnt, some_is}
 use Rattle.walrus_uses.specs.Stub.{StubsWhere, Traps, import_place}

@@ -1,5 +1,5 @@
 //! Callers of the library: what linkers, binding generators, instrumenters, stubbers and snippers do with it. Each goes from bytes to
-//! bytes, and what it promises follows from what the library promises of its calls.
+//! bytes, or to a text, and what it promises follows from what the library promises of its calls.
 #![tactic(auto)]
 
 mod calls;
