@@ -6,13 +6,21 @@ KIND: small    many functions of a few operators each
       mixed    functions of some hundred operators: calls, constants, drops
       code     functions of some thousand operators, with locals
       bodies   functions of some hundred to some thousand operators: locals, constants, calls, blocks, branches, loads, stores
+      body     one function of the operators of bodies
+      nest     one function of blocks, each in the one before
+      labels   one function of one br_table, a label for each byte
+      unused   functions that each declare 50,000 locals which nothing uses, a function for each 16 bytes: 300 have 0.0048 MB
+      params   functions of one type, which has as many parameters as there are functions: 3,000 have 0.042 MB
+      types    function types of ten parameters, each that of a function of its own: 100,000 have 3.2 MB
+      rows     imports of functions, and as many globals: 294,000 of each have 10 MB
       entries  types, imports, globals, exports, segments of elements and of data in equal parts, and no code
       group    function types in one group, of which an exported function has the last, so that the group stays whole
       tables   tables, each with an active segment of one function, so that all of them stay
       every    every section: a fifth is code as that of bodies, and the rest the parts named below
       every:code, or every:PART,PART..: of that module the code alone, or the code and these parts
-Of the first five every function is exported or called by one that is, so nothing of it is dropped. Of every, all stays but the debug
-information and the data count, which nothing needs. Its parts, items of each kind and as many of one as of the other:
+Of those before entries every function, import and global is exported, or called by one that is, so nothing is dropped but locals that
+nothing uses; a MB of unused or of params asks for more memory than there is. Of every, all stays but the debug information and the data
+count, which nothing needs. Its parts, items of each kind and as many of one as of the other:
       types      function types, no two of them the same
       functions  imports of functions, each of a type of its own
       tables     tables, each with an active segment that lists ten functions
@@ -49,9 +57,32 @@ def sized(body):
     return unsigned(len(body)) + body
 
 
+def listed(entries):
+    return unsigned(len(entries)) + b"".join(entries)
+
+
+def module(sections):
+    return b"\x00asm\x01\x00\x00\x00" + b"".join(section(*it) for it in sections)
+
+
+def function_exports(count, first=0):
+    return listed([sized(b"f%d" % i) + b"\x00" + unsigned(first + i) for i in range(count)])
+
+
 def bodies_of(kind, size):
     if kind == "bodies":
         return mixed_bodies(size)
+    if kind == "body":
+        operators = mixed_operators(0)
+        return [MIXED_LOCALS + operators * (size // len(operators)) + b"\x0B"]
+    if kind == "nest":
+        # a block takes two bytes and its end
+        return [b"\x00" + b"\x02\x40" * (size // 3) + b"\x0B" * (size // 3 + 1)]
+    if kind == "labels":
+        # the last label is that for all other numbers
+        return [b"\x00\x41\x00\x0E" + unsigned(size) + b"\x00" * (size + 1) + b"\x0B"]
+    if kind == "unused":
+        return [b"\x01" + unsigned(50_000) + b"\x7F\x0B"] * (size // 16)
     if kind == "huge":
         # no declarations, nops, end
         body = b"\x00" + b"\x01" * (size // 4 - 8) + b"\x0B"
@@ -79,6 +110,10 @@ def bodies_of(kind, size):
     return bodies
 
 
+# Four locals and three, which mixed_operators uses.
+MIXED_LOCALS = b"\x02\x04\x7F\x03\x7E"
+
+
 def mixed_operators(callee):
     return (
         b"\x20\x00\x41\xC0\xC4\x07\x6A\x22\x01\x28\x02\x10\x21\x02"  # local 1 is local 0 and 123,456 more, local 2 what stands there
@@ -92,8 +127,8 @@ def mixed_operators(callee):
 def mixed_bodies(size, first=0):
     bodies, total, index = [], 0, 0
     while total < size:
-        # four locals and three; each calls the next one
-        body = b"\x02\x04\x7F\x03\x7E" + mixed_operators(first + index + 1) * (10 + index % 100) + b"\x0B"
+        # each calls the next one
+        body = MIXED_LOCALS + mixed_operators(first + index + 1) * (10 + index % 100) + b"\x0B"
         bodies.append(body)
         total += len(body) + 3
         index += 1
@@ -106,7 +141,7 @@ def entries_until(size, entry_of, beside=0):
     while total < size:
         entries.append(entry_of(len(entries)))
         total += len(entries[-1]) + beside
-    return unsigned(len(entries)) + b"".join(entries), len(entries)
+    return listed(entries), len(entries)
 
 
 def function_type(i):
@@ -149,6 +184,41 @@ def entry_sections(size):
         part, lambda i: b"\x01\x00\x0A" + b"".join(unsigned((i + j) % import_count) for j in range(10)))
     segments, segment_count = entries_until(part, lambda i: b"\x01\x14" + b"twenty bytes of data")
     return [(1, types), (2, imports), (6, globals_), (7, exports), (9, elements), (12, unsigned(segment_count)), (11, segments)]
+
+
+def parameter_sections(size):
+    count = size // 14
+    return [
+        (1, b"\x01\x60" + sized(b"\x7F" * count) + b"\x00"),
+        (3, unsigned(count) + b"\x00" * count),
+        (7, function_exports(count)),
+        (10, unsigned(count) + sized(b"\x00\x0B") * count),
+    ]
+
+
+def type_sections(size):
+    count = size // 32
+    # each body is one operator that fits each type
+    return [
+        (1, listed([parameters(i) for i in range(count)])),
+        (3, listed([unsigned(i) for i in range(count)])),
+        (7, function_exports(count)),
+        (10, unsigned(count) + sized(b"\x00\x00\x0B") * count),
+    ]
+
+
+def row_sections(size):
+    count = size // 34
+    name = lambda i: sized(b"%05x" % i)
+    functions = [name(i) + b"\x00" + unsigned(i) for i in range(count)]
+    globals_ = [name(count + i) + b"\x03" + unsigned(i) for i in range(count)]
+    return [
+        (1, b"\x01\x60\x00\x00"),
+        (2, listed([sized(b"") + name(i) + b"\x00\x00" for i in range(count)])),
+        (6, unsigned(count) + b"\x7F\x00\x41\x00\x0B" * count),
+        (7, listed(functions + globals_)),
+    ]
+
 
 PARTS = "types functions tables memories tags globals exports names producers customs".split()
 # The bytes that the items of one row of the kind every take, one of each part but custom sections.
@@ -233,12 +303,12 @@ def every_sections(parts, size):
     entries[3] = [b"\x00"] * len(bodies)
     add_rows(entries, parts, count, functions)
     entries[10] = list(map(sized, bodies))
-    listed = {number: unsigned(len(entries[number])) + b"".join(entries[number]) for number in entries if entries[number]}
-    listed[8] = unsigned(first)
-    if 11 in listed:
-        listed[12] = unsigned(len(entries[11]))
+    contents = {number: listed(entries[number]) for number in entries if entries[number]}
+    contents[8] = unsigned(first)
+    if 11 in contents:
+        contents[12] = unsigned(len(entries[11]))
     order = (1, 2, 3, 4, 5, 13, 6, 7, 8, 9, 12, 10, 11)
-    plain = [(number, listed[number]) for number in order if number in listed]
+    plain = [(number, contents[number]) for number in order if number in contents]
     return plain + custom_sections(entries, parts, count, functions, len(bodies), others // 10)
 
 
@@ -249,26 +319,28 @@ def parts_of(kind):
 
 def code_sections(kind, size):
     bodies = bodies_of(kind, size)
-    roots = range(len(bodies)) if kind == "huge" else range(1)
-    exports = b"".join(sized(b"f%d" % i) + b"\x00" + unsigned(i) for i in roots)
-    memories = [(5, b"\x01\x00\x01")] if kind == "bodies" else []
+    roots = len(bodies) if kind in ("huge", "unused") else 1
+    memories = [(5, b"\x01\x00\x01")] if kind in ("bodies", "body") else []
     return [
         (1, b"\x01\x60\x00\x00"),
         (3, unsigned(len(bodies)) + b"\x00" * len(bodies)),
         *memories,
-        (7, unsigned(len(roots)) + exports),
-        (10, unsigned(len(bodies)) + b"".join(map(sized, bodies))),
+        (7, function_exports(roots)),
+        (10, listed(list(map(sized, bodies)))),
     ]
 
 
 def main():
     kind, size = sys.argv[1], int(float(sys.argv[2]) * 1_000_000)
-    apart = {"entries": entry_sections, "group": group_sections, "tables": table_sections}
+    apart = {
+        "params": parameter_sections, "types": type_sections, "rows": row_sections,
+        "entries": entry_sections, "group": group_sections, "tables": table_sections}
     if kind.partition(":")[0] == "every":
         sections = every_sections(parts_of(kind), size)
     else:
         sections = apart[kind](size) if kind in apart else code_sections(kind, size)
-    sys.stdout.buffer.write(b"\x00asm\x01\x00\x00\x00" + b"".join(section(*s) for s in sections))
+    sys.stdout.buffer.write(module(sections))
 
 
-main()
+if __name__ == "__main__":
+    main()

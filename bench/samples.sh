@@ -11,38 +11,22 @@ shift
 program=${1:-$here/../crates/walrus_gc/out/walrus_gc}
 [ $# -gt 0 ] || "$here/../tests/build.sh" walrus_gc
 PYTHONPATH=$here PYTHONDONTWRITEBYTECODE=1 exec python3 - "$program" "${PARITY-}" "$here/../tests/samples" "$here/../../shared/samples" << 'PY'
-import os, pathlib, shutil, subprocess, sys, tempfile
-from measuring import peak_of, run
+import os, pathlib, shutil, sys, tempfile
+from measuring import compared, in_turns
 
 ROUNDS = 9
-DROPS = "-all --remove-unused-module-elements".split()
 
 program, parity, *folders = sys.argv[1:]
 modules = {path.name: str(path) for folder in folders for path in pathlib.Path(folder).glob("*.wasm")}
 output = os.path.join(tempfile.mkdtemp(), "output.wasm")
-# A command and the file that it writes; wasm-opt reads no standard input.
-commands = {"walrus-gc": lambda module: ([program], output)}
-if shutil.which("wasm-opt"):
-    commands["wasm-opt"] = lambda module: (["wasm-opt", *DROPS, module, "-o", output], os.devnull)
-if parity:
-    commands["parity-wasm"] = lambda module: ([parity], output)
-
-
-def accepts(command, module):
-    with open(module, "rb") as source:
-        return subprocess.run(command, stdin=source, capture_output=True, check=False).returncode == 0
+is_wanted = {"walrus-gc": True, "wasm-opt": shutil.which("wasm-opt"), "parity-wasm": parity}
+commands = {name: command for name, command in compared(program, parity, output).items() if is_wanted.get(name)}
 
 
 def cells(module):
     """What each program takes for a module."""
-    took = {name: [] for name, command in commands.items() if accepts(command(module)[0], module)}
-    for _ in range(ROUNDS):
-        for name, times in took.items():
-            times.append(run(commands[name](module)[0], module, commands[name](module)[1])[1])
-    for name, times in took.items():
-        command, sink = commands[name](module)
-        peak = peak_of(command, module, sink)
-        yield name, f"{min(times) * 1000:.1f}, {peak / 1e6:.1f}, {os.path.getsize(output)}"
+    for name, seconds, peak in in_turns(commands, module, ROUNDS):
+        yield name, f"{seconds * 1000:.1f}, {peak / 1e6:.1f}, {os.path.getsize(output)}"
 
 
 print("| Module | bytes |", " | ".join(commands), "|")

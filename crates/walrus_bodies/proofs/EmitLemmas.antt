@@ -1,5 +1,5 @@
 -- What writing operators appends.
-use Rattle.std.proofs.Common.{◌≡◌, inr, suc, ℕ, ◌+◌, ◌<◌, true, List, [], ◌∷◌, ◌++◌, length, Option, Some, Result, Ok, Err, IsErrAnd, refl, ap, ◌∙◌, sym, subst, arith, append_assoc, length-append, take, drop, get_or, add-one}
+use Rattle.std.proofs.Common.{◌≡◌, inr, suc, ℕ, ◌+◌, ◌<◌, Bool, true, false, List, [], ◌∷◌, ◌++◌, length, map, Option, Some, Result, Ok, Err, IfOk, IsErrAnd, refl, ap, ◌∙◌, sym, subst, arith, append_assoc, length-append, take, drop, get_or, add-one}
 use Rattle.std.proofs.lemmas.List.{append-nil, map-append, take-append-drop}
 use Rattle.std.proofs.lemmas.List.Elements.{Contains-append_right}
 use Rattle.std.proofs.Math.Seq.{take-suc, drop-cons}
@@ -19,7 +19,8 @@ use Rattle.walrus_code.proofs.BackLemmas.{ops_back}
 use Rattle.walrus_bodies.specs.declared.features.Features.{Features}
 use Rattle.walrus_bodies.specs.Blocks.{are_nested}
 use Rattle.walrus_bodies.specs.Features.{are_allowed}
-use Rattle.walrus_bodies.specs.Emitting.{places_from, AllStand, EmitsOperators}
+use Rattle.walrus_bodies.specs.Emitting.{places_from, AllStand, EmitsOperators, OperatorsWritten}
+use Rattle.walrus_bodies.specs.Results.{kept_if}
 use Rattle.walrus_bodies.specs.Writer.{Appends, Writes, AppendsAll, WritesAll}
 use Rattle.walrus_bodies.proofs.NamedLemmas.{named-more, named-none}
 
@@ -83,6 +84,16 @@ take-next xs i x below is =
     ∙ take-suc xs i x below
     ∙ ap (λ (y : Operator). take i xs ++ y ∷ []) is
 
+-- ---- what is noted, where it is asked for
+
+pub none-noted : {X Y : Type 0} (f : X → Y) (asked : Bool) (had : List X) → had ≡ [] → map f had ≡ kept_if asked []
+none-noted f true had none = ap (map f) none
+none-noted f false had none = ap (map f) none
+
+pub noted-more : {X Y : Type 0} (f : X → Y) (asked : Bool) (had new : List X) (x : X) (all : List Y) → new ≡ had ++ kept_if asked (x ∷ []) → map f had ≡ kept_if asked all → map f new ≡ kept_if asked (all ++ f x ∷ [])
+noted-more f true had new x all is so_far = ap (map f) is ∙ map-append f had (x ∷ []) ∙ ap (λ ys. ys ++ f x ∷ []) so_far
+noted-more f false had new x all is so_far = ap (map f) (is ∙ append-nil had) ∙ so_far
+
 -- ---- the whole
 
 pub row_stands : (texts : List wire.Op) → AllStand texts → IsRow (Is operator) (row_bytes op_bytes texts) texts
@@ -112,3 +123,12 @@ emits names locals features ops old new places (Err (Memory e)) nested allowed a
 emits names locals features ops old new places (Err NoIndex) nested allowed all = all
 emits names locals features ops old new places (Err NotWritable) nested allowed all = inr (inr all)
 emits names locals features ops old new places (Err TooLarge) nested allowed all = all
+
+-- all places are told
+pub told : {X : Type 0} (names : Lookup) (locals : ℕ → Option ℕ) (features : Features) (ops : List Op) (old new all : List ℕ) (places : X → List ℕ) (result : Result X IrError) → EmitsOperators names locals features ops old new (λ _. all) result → IfOk result (λ x. places x ≡ all) → EmitsOperators names locals features ops old new places result
+told names locals features ops old new all places (Ok x) w same = subst (λ (ns : List ℕ). OperatorsWritten names locals features ops old new ns) (sym same) w
+told names locals features ops old new all places (Err Malformed) w same = w
+told names locals features ops old new all places (Err (Memory e)) w same = tt
+told names locals features ops old new all places (Err NoIndex) w same = w
+told names locals features ops old new all places (Err NotWritable) w same = w
+told names locals features ops old new all places (Err TooLarge) w same = w

@@ -1,5 +1,5 @@
 //! Writing the operators of a body (Binary Format > Instructions).
-ghost use Rattle.std.specs.Prelude.{◌≡◌, map, IfOk};
+ghost use Rattle.std.specs.Prelude.{◌≡◌, ◌∷◌, ◌++◌, [], ℕ, List, map, IfOk};
 ghost use Rattle.std.specs.List.{list_all};
 ghost use Rattle.wasm_operators.specs.Operators as wire;
 ghost use Rattle.walrus_code.specs.Code.{op_of, ops_of};
@@ -7,7 +7,7 @@ ghost use Rattle.walrus_code.specs.Indices.{index_of, local_index};
 ghost use Rattle.walrus_bodies.specs.Blocks.{are_nested};
 ghost use Rattle.walrus_bodies.specs.Features.{are_allowed};
 ghost use Rattle.walrus_bodies.specs.Emitting.{EmitsOperators};
-ghost use Rattle.walrus_bodies.specs.Results.{locations};
+ghost use Rattle.walrus_bodies.specs.Results.{kept_if, locations};
 ghost use Rattle.walrus_bodies.specs.Writer.{WritesText, Writes, WritesAll};
 
 use crate::blocks::OpenBlocks;
@@ -37,6 +37,29 @@ pub fn emit_operators(
         (ops_of operators.now) to.old.items to.new.items (λ placed. map (λ p. p.1) placed.items) result }
     ensures located { IfOk result (λ placed. map (λ p. p.0) placed.items ≡ locations operators.now) }
 {
+    append_operators(alloc, to, operators, indices, locals, features, true)
+}
+
+/// The same, but for what is answered: the locations with their places only if `asks_places` is true, and else nothing.
+///
+/// # Errors
+///
+/// As [`emit_operators`].
+pub fn append_operators(
+    alloc: Global,
+    to: &mut Vec<u8>,
+    operators: &[Operator],
+    indices: &IdsToIndices,
+    locals: &LocalNumbers,
+    features: &Features,
+    asks_places: bool,
+) -> Result<Vec<(InstrLocId, usize)>, IrError>
+    ensures written { (places : List ℕ) × (EmitsOperators (index_of indices.now) (local_index locals.now)
+        features.now (ops_of operators.now) to.old.items to.new.items (λ _. places) result
+        × IfOk result (λ placed. map (λ p. p.1) placed.items ≡ kept_if asks_places places)) }
+    ensures located { IfOk result (λ placed. map (λ p. p.0) placed.items
+        ≡ kept_if asks_places (locations operators.now)) }
+{
     let nested = are_nested(alloc, operators)?;
     if !nested {
         return Err(IrError::NotWritable);
@@ -45,7 +68,7 @@ pub fn emit_operators(
     if !allowed {
         return Err(IrError::NotWritable);
     }
-    write_all(alloc, to, operators, indices, locals)
+    write_all(alloc, to, operators, indices, locals, asks_places)
 }
 
 // Whether the operators close each block and at last the function, each where it may stand.
@@ -73,21 +96,40 @@ fn are_allowed(operators: &[Operator], features: &Features) -> bool
     true
 }
 
-// Appends operators, and answers each one's location with its place.
+// Notes an operator's location with its place, if places are asked for.
+fn note_place(
+    placed: &mut Vec<(InstrLocId, usize)>,
+    asks_places: bool,
+    location: InstrLocId,
+    place: usize,
+) -> Result<(), AllocError>
+    ensures { IfOk result (λ _. placed.new.items
+        ≡ placed.old.items ++ kept_if asks_places ((location, place) ∷ [])) }
+{
+    if asks_places {
+        placed.push((location, place))?;
+    }
+    Ok(())
+}
+
+// Appends operators, and answers each one's location with its place, if that is asked for.
 fn write_all(
     alloc: Global,
     to: &mut Vec<u8>,
     operators: &[Operator],
     indices: &IdsToIndices,
     locals: &LocalNumbers,
+    asks_places: bool,
 ) -> Result<Vec<(InstrLocId, usize)>, IrError>
-    ensures written { WritesAll (index_of indices.now) (local_index locals.now)
-        (ops_of operators.now) to.old.items to.new.items (λ placed. map (λ p. p.1) placed.items) result }
-    ensures located { IfOk result (λ placed. map (λ p. p.0) placed.items ≡ locations operators.now) }
+    ensures written { (places : List ℕ) × (WritesAll (index_of indices.now) (local_index locals.now)
+        (ops_of operators.now) to.old.items to.new.items (λ _. places) result
+        × IfOk result (λ placed. map (λ p. p.1) placed.items ≡ kept_if asks_places places)) }
+    ensures located { IfOk result (λ placed. map (λ p. p.0) placed.items
+        ≡ kept_if asks_places (locations operators.now)) }
 {
     let mut placed = Vec::new(alloc);
     for operator in operators {
-        placed.push((operator.loc, to.len()))?;
+        note_place(&mut placed, asks_places, operator.loc, to.len())?;
         write_one(alloc, to, operator, indices, locals)?;
     }
     Ok(placed)

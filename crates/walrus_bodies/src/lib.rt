@@ -12,7 +12,7 @@ mod types;
 pub use blocks::{OpenBlocks, Opened};
 pub use body::{ReadBody, read_body_over};
 pub use declarations::{Declaration, read_declarations};
-pub use emit::emit_operators;
+pub use emit::{append_operators, emit_operators};
 pub use features::Features;
 pub use read::read_operators;
 pub use types::{FunctionTypes, blocks_hold};

@@ -1,5 +1,5 @@
 //! Reading the operators of a body (Binary Format > Instructions).
-ghost use Rattle.std.specs.Prelude.{◌≡◌, ◌∷◌, [], length, map, IfOk};
+ghost use Rattle.std.specs.Prelude.{◌≡◌, ◌≤◌, ◌∷◌, [], length, map, IfOk};
 ghost use Rattle.std.specs.Fn.{FnReturnsAt};
 ghost use Rattle.walrus_code.specs.Code.{arg_of, op_of, ops_of};
 ghost use Rattle.walrus_code.specs.Indices.{ids_at};
@@ -55,7 +55,20 @@ pub fn read_operators<T: FunctionTypes, L: Fn(&usize) -> InstrLocId>(
         types,
         locals,
     };
-    read_all(alloc, bytes, place, locate, &scope)
+    let mut operators = read_all(alloc, bytes, place, locate, &scope)?;
+    operators.shrink_to_fit();
+    Ok(operators)
+}
+
+// For how many operators to reserve memory: half as many as there are bytes, or as many where these are few.
+fn room_for_operators(bytes: &[u8]) -> usize
+    ensures { result ≤ length bytes.now }
+{
+    if bytes.len() <= 16 {
+        bytes.len()
+    } else {
+        bytes.len() / 2
+    }
 }
 
 // The same, against the function on lists that does it.
@@ -75,7 +88,7 @@ fn read_all<T: FunctionTypes, L: Fn(&usize) -> InstrLocId>(
         (locations operators.items)) }
 {
     let mut blocks = OpenBlocks::new(alloc)?;
-    let mut operators = Vec::new(alloc);
+    let mut operators = Vec::with_capacity(alloc, room_for_operators(bytes))?;
     let mut rest = bytes;
     for _turn in 0..bytes.len() {
         let offset = bytes.len().saturating_sub(rest.len());

@@ -1,6 +1,6 @@
 -- What a contract sees of the two tables between indices and ids.
-use Rattle.std.specs.Prelude.{◌≡◌, ◌≢◌, ℕ, ◌+◌, List, [], ◌∷◌, ◌++◌, Option, Some, None, map, length, slice_get, slice_index_or, nat_eq}
-use Rattle.std.specs.HashMap.{get, hash_map_len}
+use Rattle.std.specs.Prelude.{◌≡◌, ◌≢◌, ℕ, ◌+◌, ◌-◌, Bool, ◌&&◌, if◌then◌else◌, List, [], ◌∷◌, ◌++◌, Option, Some, None, map, length, slice_get, slice_index_or, nat_eq, nat_le, nat_lt}
+use Rattle.std.specs.HashMap.{get}
 use Rattle.walrus_base.specs.Id.{place}
 use Rattle.walrus_types.specs.Shape.{place_in}
 use Rattle.walrus_types.specs.Operators.{Space, Types, Functions, Tables, Memories, Tags, Globals, Elements, DataSegments}
@@ -103,13 +103,18 @@ SameIndices old new = (space : Space) → SameIn old new space
 
 -- ---- the locals of a function
 
+-- whether the window has this place
+abbrev pub is_in_window : LocalNumbers → ℕ → Bool
+is_in_window numbers number = nat_le numbers.first number && nat_lt (number - numbers.first) (length numbers.window.items)
+
 -- the index of the local at a place
 abbrev pub local_index : LocalNumbers → ℕ → Option ℕ
-local_index numbers number = get nat_eq numbers.indices number
+local_index numbers number =
+    if is_in_window numbers number then slice_index_or numbers.window.items (number - numbers.first) None else get nat_eq numbers.outside number
 
 -- how many indices are given
 abbrev pub locals_given : LocalNumbers → ℕ
-locals_given numbers = hash_map_len numbers.indices
+locals_given numbers = numbers.count
 
 -- the local at this place has the next index
 pub record NumbersLocal (old new : LocalNumbers) (number : ℕ) : Type 0 where

@@ -1,6 +1,7 @@
 pub mod ExportedRefs
 pub mod LiveLemmas
 pub mod NamedLemmas
+pub mod LocalTypes
 pub mod Slots
 pub mod Walked
 pub mod Lookups

@@ -1,14 +1,12 @@
 -- How what the parts of an item name comes together.
-use Rattle.std.proofs.Common.{◌≡◌, ℕ, zero, suc, ◌+◌, ◌<◌, ◌≤◌, ⊎_elim, List, [], ◌∷◌, ◌++◌, Option, Some, None, length, map, take, drop, get_or, ap, sym, ◌∙◌, subst, refl, arith, add-one, append_assoc, drop-cons}
+use Rattle.std.proofs.Common.{◌≡◌, ℕ, zero, suc, ◌+◌, ◌<◌, ⊎_elim, List, [], ◌∷◌, ◌++◌, Option, Some, None, length, map, take, drop, get_or, ap, sym, ◌∙◌, subst, refl, arith, add-one, append_assoc, drop-cons}
 use Rattle.std.specs.Prelude.{Contains, IsSome, option_map, flat_map, Result, Ok, Err, MatchResult}
 use Rattle.std.proofs.lemmas.Bool.{false≢true}
-use Rattle.std.proofs.lemmas.List.{append-nil, drop_all, map-append, map_more}
+use Rattle.std.proofs.lemmas.List.{map-append, map_more}
 use Rattle.std.proofs.lemmas.List.Elements.{Contains-push_cases}
 use Rattle.std.specs.Global.{Vec}
 use Rattle.walrus_base.specs.Arena.{item_at}
 use Rattle.walrus_base.specs.Id.{place}
-use Rattle.walrus_base.specs.declared.id.Id.{Id}
-use Rattle.walrus_base.specs.declared.keys.LocalKey.{LocalKey}
 use Rattle.walrus_types.specs.declared.locals.ModuleLocals.{ModuleLocals}
 use Rattle.walrus_types.specs.Operators.{Functions, Item, locals_of, names_of}
 use Rattle.walrus_code.specs.Function.{body_of}
@@ -23,8 +21,8 @@ use Rattle.walrus_contents.specs.View.{body, contents_view, function, kind_of}
 use Rattle.walrus_contents.specs.declared.parts.Contents.{Contents}
 use Rattle.walrus_items.specs.Error.{Error}
 use Rattle.walrus_items.specs.Error.TheVariants.{Memory, DeadItem}
-use Rattle.walrus_model.proofs.Lists.{Contains-head, Contains-tail, Contains-none}
-use Rattle.walrus_contents.specs.Named.{AreThere, IsReady, IsUnready, OneIsMissing, Puts, items_in, local_type_names, type_at}
+use Rattle.walrus_model.proofs.Lists.{Contains-head, Contains-tail}
+use Rattle.walrus_contents.specs.Named.{AreThere, IsReady, IsUnready, OneIsMissing, Puts, PutsTypes, items_in, local_type_names}
 use Rattle.walrus_contents.specs.There.{IsRefusal, IsSound, IsUnsound, NoBody, NoLocal}
 
 pub some_none : {X : Type 0} (o : Option X) → IsSome o → o ≡ None → ⊥
@@ -58,23 +56,6 @@ module _ {X Z : Type 0} (value : X → Z) where
       let at : Contains (map value (take i xs) ++ next ∷ []) z = subst (λ (zs : List Z). Contains zs z) (map_more value xs i d lt) c in
       ⊎_elim (λ h. before z h) (λ (e : next ≡ z). subst P e now) (Contains-push_cases (map value (take i xs)) next z at)
 
-  -- a step of "what was put and what is left to put are the whole"
-  pub row_step : {Y : Type 0} (names : Z → List Y) (xs : List X) (i : ℕ) (d : X) (before now all : List Y) → i < length xs
-      → before ++ flat_map names (map value (drop i xs)) ≡ all → now ≡ before ++ names (value (get_or xs i d))
-      → now ++ flat_map names (map value (drop (i + 1) xs)) ≡ all
-  row_step {Y = Y} names xs i d before now all lt so_far puts =
-      let x = get_or xs i d in
-      let rest = flat_map names (map value (drop (i + 1) xs)) in
-      let whole : drop i xs ≡ x ∷ drop (i + 1) xs = rw add-one (drop-cons xs i d lt) in
-      ap (λ (t : List Y). t ++ rest) puts ∙ append_assoc before (names (value x)) rest
-      ∙ ap (λ (t : List X). before ++ flat_map names (map value t)) (sym whole) ∙ so_far
-
-  -- its end
-  pub row_end : {Y : Type 0} (names : Z → List Y) (xs : List X) (i : ℕ) (before all : List Y) → length xs ≤ i
-      → before ++ flat_map names (map value (drop i xs)) ≡ all → before ≡ all
-  row_end {Y = Y} names xs i before all le so_far =
-      sym (append-nil before) ∙ ap (λ (t : List X). before ++ flat_map names (map value t)) (sym (drop_all i xs le)) ∙ so_far
-
   -- a step where each puts one
   pub map_step : {W Y : Type 0} (f : W → Y) (g : Z → Y) (put : List W) (one : W) (xs : List X) (i : ℕ) (d : X) (all : List Y) → i < length xs
       → map f put ++ map g (map value (drop i xs)) ≡ all → f one ≡ g (value (get_or xs i d))
@@ -86,18 +67,6 @@ module _ {X Z : Type 0} (value : X → Z) where
       ap (λ (t : List Y). t ++ rest) (map-append f put (one ∷ [])) ∙ append_assoc (map f put) (f one ∷ []) rest
       ∙ ap (λ (y : Y). map f put ++ y ∷ rest) same
       ∙ ap (λ (t : List X). map f put ++ map g (map value t)) (sym whole) ∙ so_far
-
--- ---- locals
-
-module _ (all : ModuleLocals) where
-  pub there_none : AreThere all []
-  there_none l c = absurd (Contains-none l c)
-
-  pub there_more : (ids : List (Id LocalKey)) (i : ℕ) (d : Id LocalKey) → i < length ids → AreThere all (map place (take i ids)) → IsSome (type_at all (place (get_or ids i d))) → AreThere all (map place (take (i + 1) ids))
-  there_more ids i d lt before now = row_more place (λ l. IsSome (type_at all l)) ids i d lt before now
-
-  pub one_missing : (ids : List (Id LocalKey)) (i : ℕ) (d : Id LocalKey) → i < length ids → type_at all (place (get_or ids i d)) ≡ None → OneIsMissing all (map place ids)
-  one_missing ids i d lt none = (place (get_or ids i d), (among place ids i d lt, none))
 
 -- two rows, one behind another
 pub two_rows : {Y : Type 0} (old n1 n2 a b : List Y) → n1 ≡ old ++ a → n2 ≡ n1 ++ b → n2 ≡ old ++ (a ++ b)
@@ -113,16 +82,14 @@ result_map A B P Q f g (Ok x) h = f h
 result_map A B P Q f g (Err e) h = refusal_map P Q g e h
 
 -- what a body names: what its operators do, and then the types of its locals
-pub body_named : {T : Type 0} (all : ModuleLocals) (f : LocalFunction) (r : Result T Error) (old now new : Vec ItemId) (used : List ℕ) → used ≡ locals_of (body_of f) → Puts old now (names_of (body_of f))
-    → MatchResult r (λ _. AreThere all used × Puts now new (flat_map (local_type_names all) used)) (IsRefusal (OneIsMissing all used))
+pub body_named : {T : Type 0} (all : ModuleLocals) (f : LocalFunction) (r : Result T Error) (old now new : Vec ItemId) → Puts old now (names_of (body_of f))
+    → MatchResult r (λ _. PutsTypes all (locals_of (body_of f)) now new) (IsRefusal (OneIsMissing all (locals_of (body_of f))))
     → MatchResult r (λ _. AreThere all (locals_of (body_of f)) × Puts old new (body_names (body all f))) (IsRefusal (OneIsMissing all (locals_of (body_of f))))
-body_named all f r old now new used same first h = result_map
-    (AreThere all (locals_of (body_of f)) × Puts now new (flat_map (local_type_names all) (locals_of (body_of f))))
-    (AreThere all (locals_of (body_of f)) × Puts old new (body_names (body all f)))
+body_named all f r old now new first h = result_map
+    (PutsTypes all (locals_of (body_of f)) now new) (AreThere all (locals_of (body_of f)) × Puts old new (body_names (body all f)))
     (OneIsMissing all (locals_of (body_of f))) (OneIsMissing all (locals_of (body_of f)))
     (λ x. (x.0, two_rows (items_in old) (items_in now) (items_in new) (names_of (body_of f)) (flat_map (local_type_names all) (locals_of (body_of f))) first x.1))
-    (λ missing. missing)
-    r (subst (λ (ps : List ℕ). MatchResult r (λ _. AreThere all ps × Puts now new (flat_map (local_type_names all) ps)) (IsRefusal (OneIsMissing all ps))) same h)
+    (λ missing. missing) r h
 
 module _ (c : Contents) where
   abbrev v : abstract.Abstract

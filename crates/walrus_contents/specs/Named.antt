@@ -1,5 +1,5 @@
 -- What an item of a module in memory names, and what has to be there so that it can be told.
-use Rattle.std.specs.Prelude.{◌≡◌, ◌↔◌, ◌⊎◌, ℕ, Bool, true, false, not, List, [], ◌++◌, filter, map, Option, None, IsSome, Contains, ⊤}
+use Rattle.std.specs.Prelude.{◌≡◌, ◌↔◌, ◌⊎◌, ℕ, Bool, true, false, not, List, [], ◌++◌, filter, flat_map, map, Option, None, IsSome, Contains, ⊤}
 use Rattle.std.specs.Global.{Vec}
 use Rattle.std.specs.Option.{option_to_list}
 use Rattle.walrus_base.specs.Arena.{entries, item_at, items}
@@ -111,6 +111,10 @@ AreThere all used = (l : ℕ) → Contains used l → IsSome (type_at all l)
 -- at one of these places is none
 abbrev pub OneIsMissing : ModuleLocals → List ℕ → Type 0
 OneIsMissing all used = (l : ℕ) × (Contains used l × (type_at all l ≡ None))
+
+-- locals are at all these places, and their concrete types stand behind the ids that were there
+abbrev pub PutsTypes : ModuleLocals → List ℕ → Vec ItemId → Vec ItemId → Type 0
+PutsTypes all used old new = AreThere all used × Puts old new (flat_map (local_type_names all) used)
 
 -- a function of this kind has an import or a body, and the locals that its body uses are there
 abbrev pub IsReady : ModuleLocals → FunctionKind → Type 0

@@ -1,21 +1,21 @@
 //! What the items of a module name.
 
-ghost use Rattle.std.specs.Prelude.{◌≡◌, ◌++◌, map, flat_map, Contains, IfOk, IsSome, None, OnOk, MatchResult};
+ghost use Rattle.std.specs.Prelude.{◌≡◌, ◌++◌, map, Contains, IsSome, None, OnOk, MatchResult};
 ghost use Rattle.walrus_base.specs.Arena.{IsLive as IsLiveAt};
 ghost use Rattle.walrus_base.specs.Id.{place};
 ghost use Rattle.walrus_base.specs.IdSet.{ids_in};
 ghost use Rattle.walrus_base.specs.Types.{heap_names, val_names};
-ghost use Rattle.walrus_code.specs.Code.{item_of};
+ghost use Rattle.walrus_code.specs.Code.{arg_of, item_of, op_of};
 ghost use Rattle.walrus_code.specs.Function.{body_of};
 ghost use Rattle.walrus_items.specs.Functions.{function_value};
 ghost use Rattle.walrus_model.specs.Live.{IsLive};
 ghost use Rattle.walrus_model.specs.Refers.{KeepsToo, body_names, function_names, kind_names, named_by};
 ghost use Rattle.walrus_contents.specs.View.{body, function as function_of, kind_handlers, kind_of, lent, parts_view, types_of};
 ghost use Rattle.walrus_types.specs.ModuleTypes.{type_slots};
-ghost use Rattle.walrus_types.specs.Operators.{DataSegments, Elements, locals_of, names_of, type_item};
+ghost use Rattle.walrus_types.specs.Operators.{DataSegments, Elements, arg_locals, locals_of, names_of, op_locals, type_item};
 ghost use Rattle.walrus_types.specs.Value.{heap_type, val_type};
 ghost use Rattle.walrus_contents.specs.There.{IsRefusal, IsSound, IsUnsound};
-ghost use Rattle.walrus_contents.specs.Named.{AreThere, IsReady, IsUnready, NamesItself, OneIsMissing, Puts, PutsAll, active_names, are_passive, export_names, local_type_names, own_type_names, own_written, root_elements, root_names, start_names, type_at};
+ghost use Rattle.walrus_contents.specs.Named.{AreThere, IsReady, IsUnready, NamesItself, OneIsMissing, Puts, PutsAll, PutsTypes, active_names, are_passive, export_names, local_type_names, own_type_names, own_written, root_elements, root_names, start_names, type_at};
 
 use crate::initialisers::{
     push_data_names, push_element_names, push_global_names, push_table_names, push_tag_names,
@@ -25,9 +25,9 @@ use std::alloc::{AllocError, Global};
 use std::result;
 use walrus_base::{DataKey, ElementKey, FunctionId, IdHashSet};
 use walrus_items::{
-    ElementKind, Error, Function, FunctionKind, HeapType, ItemId, LocalFunction, LocalId,
-    ModuleData, ModuleElements, ModuleExports, ModuleFunctions, ModuleLocals, ModuleTypes, Result,
-    TypeId, ValType,
+    Arg, ElementKind, Error, Function, FunctionKind, HeapType, ItemId, LocalFunction, LocalId,
+    ModuleData, ModuleElements, ModuleExports, ModuleFunctions, ModuleLocals, ModuleTypes,
+    Operator, Result, TypeId, ValType,
 };
 
 /// Puts the roots behind `to`: what the exports name, in order, then the start function, the active data segments by rising id, and
@@ -140,7 +140,7 @@ pub fn push_written_names(
 {
     match item {
         ItemId::Type(id) => Ok(push_type_names(alloc, parts.types, id, to)?),
-        ItemId::Function(id) => push_function_names(alloc, parts.locals, parts.funcs.get(id), to),
+        ItemId::Function(id) => push_function_names(parts.locals, parts.funcs.get(id), to),
         ItemId::Table(id) => Ok(push_table_names(parts.tables.get(id), to)?),
         ItemId::Tag(id) => Ok(push_tag_names(parts.tags.get(id), to)?),
         ItemId::Global(id) => Ok(push_global_names(parts.globals.get(id), to)?),
@@ -235,7 +235,6 @@ fn push_type_ids(ids: &[TypeId], to: &mut Vec<ItemId>) -> result::Result<(), All
 
 // The same for a function: its type, and what its body names, or a refusal as of [`push_written_names`].
 fn push_function_names(
-    alloc: Global,
     locals: &ModuleLocals,
     function: &Function,
     to: &mut Vec<ItemId>,
@@ -246,16 +245,11 @@ fn push_function_names(
         (IsRefusal (IsUnready locals.now function.now.kind)) }
 {
     to.push(ItemId::Type(function.ty()))?;
-    push_kind_names(alloc, locals, &function.kind, to)
+    push_kind_names(locals, &function.kind, to)
 }
 
 // The same for what a function of this kind has beside its type.
-fn push_kind_names(
-    alloc: Global,
-    locals: &ModuleLocals,
-    kind: &FunctionKind,
-    to: &mut Vec<ItemId>,
-) -> Result<()>
+fn push_kind_names(locals: &ModuleLocals, kind: &FunctionKind, to: &mut Vec<ItemId>) -> Result<()>
     ensures { MatchResult result
         (λ _. IsReady locals.now kind.now × Puts to.old to.new
         (kind_names (kind_of locals.now kind.now)))
@@ -263,14 +257,13 @@ fn push_kind_names(
 {
     match kind {
         FunctionKind::Import(_) => Ok(()),
-        FunctionKind::Local(function) => push_body_names(alloc, locals, function, to),
+        FunctionKind::Local(function) => push_body_names(locals, function, to),
         FunctionKind::Uninitialized(_) => Err(Error::DeadItem),
     }
 }
 
 // The same for a body, which names the types of the locals that it uses too.
 fn push_body_names(
-    alloc: Global,
     locals: &ModuleLocals,
     function: &LocalFunction,
     to: &mut Vec<ItemId>,
@@ -281,8 +274,7 @@ fn push_body_names(
         (IsRefusal (OneIsMissing locals.now (locals_of (body_of function.now)))) }
 {
     push_operator_names(function, to)?;
-    let used = used_locals(alloc, function)?;
-    push_local_types(locals, used.as_slice(), to)
+    push_used_types(locals, function, to)
 }
 
 // The same for the operators of a body.
@@ -299,29 +291,51 @@ fn push_operator_names(
     Ok(())
 }
 
-// The locals that a body uses, in order, each as often as it is used.
-fn used_locals(alloc: Global, function: &LocalFunction) -> result::Result<Vec<LocalId>, AllocError>
-    ensures { IfOk result (λ used. map place used.items ≡ locals_of (body_of function.now)) }
+// Puts the concrete types of the locals that a body uses behind `to`, in order, each as often as it is used. Refused with
+// `DeadItem` where one isn't there, and with `Memory`.
+fn push_used_types(
+    locals: &ModuleLocals,
+    function: &LocalFunction,
+    to: &mut Vec<ItemId>,
+) -> Result<()>
+    ensures { MatchResult result
+        (λ _. PutsTypes locals.now (locals_of (body_of function.now)) to.old to.new)
+        (IsRefusal (OneIsMissing locals.now (locals_of (body_of function.now)))) }
 {
-    let mut used = Vec::new(alloc);
     let operators = function.operators.as_slice();
     for operator in operators {
-        walrus_code::push_locals(&mut used, operator)?;
-    }
-    Ok(used)
-}
-
-// Puts the concrete types of locals behind `to`. Refused with `DeadItem` where one isn't there, and with `Memory`.
-fn push_local_types(locals: &ModuleLocals, used: &[LocalId], to: &mut Vec<ItemId>) -> Result<()>
-    ensures { MatchResult result
-        (λ _. AreThere locals.now (map place used.now)
-        × Puts to.old to.new (flat_map (local_type_names locals.now) (map place used.now)))
-        (IsRefusal (OneIsMissing locals.now (map place used.now))) }
-{
-    for id in used {
-        push_local_type(locals, *id, to)?;
+        push_operator_types(locals, operator, to)?;
     }
     Ok(())
+}
+
+// The same for the locals that an operator names.
+fn push_operator_types(
+    locals: &ModuleLocals,
+    operator: &Operator,
+    to: &mut Vec<ItemId>,
+) -> Result<()>
+    ensures { MatchResult result
+        (λ _. PutsTypes locals.now (op_locals (op_of operator.now)) to.old to.new)
+        (IsRefusal (OneIsMissing locals.now (op_locals (op_of operator.now)))) }
+{
+    let args = operator.args.as_slice();
+    for arg in args {
+        push_arg_types(locals, *arg, to)?;
+    }
+    Ok(())
+}
+
+// The same for an argument.
+fn push_arg_types(locals: &ModuleLocals, arg: Arg, to: &mut Vec<ItemId>) -> Result<()>
+    ensures { MatchResult result
+        (λ _. PutsTypes locals.now (arg_locals (arg_of arg)) to.old to.new)
+        (IsRefusal (OneIsMissing locals.now (arg_locals (arg_of arg)))) }
+{
+    match arg {
+        Arg::Local(id) => push_local_type(locals, id, to),
+        _ => Ok(()),
+    }
 }
 
 // The same for one local.

@@ -1,8 +1,10 @@
 -- The types of legacy exception handlers.
 use Rattle.std.proofs.Common.{◌≡◌, ℕ, Bool, true, false, List, [], ◌∷◌, ◌++◌, length, map, take, Option, Some, None, option_and_then, refl, ap, ◌∙◌, sym, append_assoc, subst, suc, ◌+◌, ◌<◌, drop, get_or, add-one}
-use Rattle.std.specs.Prelude.{◌==◌, if◌then◌else◌}
+use Rattle.std.specs.List.{list_any}
+use Rattle.std.specs.Prelude.{◌==◌, ◌||◌, if◌then◌else◌}
 use Rattle.std.proofs.lemmas.List.{append-nil, take_at}
 use Rattle.std.proofs.Math.Seq.{drop-cons}
+use Rattle.wasm_opcodes.specs.declared.one_byte.TheConstants.{CATCH, CATCH_ALL}
 use Rattle.walrus_base.specs.Arena.{item_at}
 use Rattle.walrus_base.specs.Types.{ValType}
 use Rattle.walrus_types.specs.Alone.{FoundOrAdded}
@@ -11,7 +13,7 @@ use Rattle.walrus_types.specs.Operators.{BlockType, Arg, Index, Label, Local, Nu
 use Rattle.walrus_types.specs.TypeDef.{TypeDef}
 use Rattle.walrus_code.specs.Code.{op_of, ops_of}
 use Rattle.walrus_code.specs.declared.operator.Operator.{Operator}
-use Rattle.walrus_functions.specs.Handlers.{OpenBlock, Try, OtherBlock, opens_other, closes, block_results, opened_results, blocks_after, caught_params, handler_at, handlers_from, handlers_of, tag_params, without_innermost}
+use Rattle.walrus_functions.specs.Handlers.{OpenBlock, Try, OtherBlock, begins_handler, catch_type, catch_all_type, opens_other, closes, block_results, opened_results, blocks_after, caught_params, handler_at, handlers_from, handlers_of, tag_params, without_innermost}
 use Rattle.walrus_functions.specs.ReadFunction.{Slots, AddsTypes, Nothing, AndOne, StaysInFront}
 use Rattle.walrus_functions.specs.Signatures.{first_place, first_opened, handler_in, opened_after, opened_type, types_below, with_results, without_first}
 
@@ -41,6 +43,9 @@ adds_both fs gs old middle new ps qs (AndOne f others first next last p others_a
 pub adds_one : (f : FunctionType) (old new : Slots) (p : ℕ) → FoundOrAdded f old.types new.types old.names new.names p → AddsTypes (f ∷ []) old new (p ∷ [])
 adds_one f old new p one = AndOne f [] old new new p [] one (Nothing new)
 
+pub adds_none : (fs : List FunctionType) (s : Slots) → fs ≡ [] → AddsTypes fs s s []
+adds_none fs s none = subst (λ (gs : List FunctionType). AddsTypes gs s s []) (sym none) (Nothing s)
+
 pub stays_same : {T : Type 0} (old new : List T) → new ≡ old → StaysInFront old new
 stays_same old new same = ([], same ∙ sym (append-nil old))
 
@@ -54,6 +59,36 @@ below_all old new stays = ap item_at (ap (take (length old)) stays.1 ∙ take_at
 -- and those below a bound that is how many there were
 pub types_are : (bound : ℕ) (old new : List (Option TypeDef)) → bound ≡ length old → StaysInFront old new → types_below bound new ≡ item_at old
 types_are bound old new is stays = ap (λ (n : ℕ). types_below n new) is ∙ below_all old new stays
+
+-- ---- operators of which none begins a handler
+
+untrue : true ≡ false → ⊥
+untrue e = cc
+
+none_at : (types : ℕ → Option TypeDef) (tags : ℕ → Option ℕ) (blocks : List OpenBlock) (o : Op) → begins_handler o.op ≡ false → handler_at types tags blocks o ≡ []
+none_at types tags [] o none = refl
+none_at types tags (OtherBlock ∷ around) o none = refl
+none_at types tags (Try r ∷ around) o none = by_tests (o.op == CATCH) (o.op == CATCH_ALL) none
+  where
+    by_tests : (is_catch is_catch_all : Bool) → (is_catch || is_catch_all) ≡ false → (if is_catch then catch_type (caught_params types tags o.args) r else (if is_catch_all then catch_all_type r else [])) ≡ []
+    by_tests true is_catch_all none = absurd (untrue none)
+    by_tests false true none = absurd (untrue none)
+    by_tests false false none = refl
+
+none_from : (types : ℕ → Option TypeDef) (tags : ℕ → Option ℕ) (blocks : List OpenBlock) (all : List Operator) → list_any (λ o. begins_handler o.op) all ≡ false → handlers_from types tags blocks (ops_of all) ≡ []
+none_from types tags blocks [] none = refl
+none_from types tags blocks (o ∷ all) none = by_test (begins_handler o.op) refl none (none_from types tags (blocks_after types tags blocks (op_of o)) all)
+  where
+    left : List FunctionType
+    left = handlers_from types tags (blocks_after types tags blocks (op_of o)) (ops_of all)
+
+    by_test : (t : Bool) → begins_handler o.op ≡ t → (t || list_any (λ o. begins_handler o.op) all) ≡ false → (list_any (λ o. begins_handler o.op) all ≡ false → left ≡ []) → handlers_from types tags blocks (ops_of (o ∷ all)) ≡ []
+    by_test true is none later = absurd (untrue none)
+    by_test false is none later = ap (λ (fs : List FunctionType). fs ++ left) (none_at types tags blocks (op_of o) is) ∙ later none
+
+-- they need no type
+pub none_needed : (types : ℕ → Option TypeDef) (tags : ℕ → Option ℕ) (s : Slots) (all : List Operator) (places : List ℕ) → list_any (λ o. begins_handler o.op) all ≡ false → places ≡ [] → AddsTypes (handlers_of types tags (ops_of all)) s s places
+none_needed types tags s all places none is = subst (λ (ps : List ℕ). AddsTypes (handlers_of types tags (ops_of all)) s s ps) (sym is) (adds_none _ s (none_from types tags (OtherBlock ∷ []) all none))
 
 -- ---- open blocks
 
@@ -127,9 +162,6 @@ pub so_far_all : (types : ℕ → Option TypeDef) (tags : ℕ → Option ℕ) (o
 so_far_all types tags old now blocks left all places none so_far =
     let whole : so_far.done ≡ handlers_of types tags all = sym (append-nil so_far.done) ∙ ap (λ (os : List Op). so_far.done ++ handlers_from types tags (map (with_results types tags) blocks) os) (sym none) ∙ so_far.whole in
     subst (λ (fs : List FunctionType). AddsTypes fs old now places) whole so_far.added
-
-pub adds_none : (fs : List FunctionType) (s : Slots) → fs ≡ [] → AddsTypes fs s s []
-adds_none fs s none = subst (λ (gs : List FunctionType). AddsTypes gs s s []) (sym none) (Nothing s)
 
 pub next_op : (xs : List Operator) (i : ℕ) (x : Operator) → i < length xs → get_or xs i x ≡ x → ops_of (drop i xs) ≡ op_of x ∷ ops_of (drop (i + 1) xs)
 next_op xs i x below item = ap ops_of (drop-cons xs i x below ∙ ap (λ (o : Operator). o ∷ drop (suc i) xs) item ∙ ap (λ (n : ℕ). x ∷ drop n xs) (sym (add-one i)))

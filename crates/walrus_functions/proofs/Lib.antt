@@ -15,6 +15,7 @@ pub mod LawOnce
 pub mod LawOrder
 pub mod LawWritable
 pub mod LowestLemmas
+pub mod MarkLemmas
 pub mod NestLemmas
 pub mod NumberedLemmas
 pub mod OnceLemmas

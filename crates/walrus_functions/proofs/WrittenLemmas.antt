@@ -173,3 +173,12 @@ module _ (s : Source) where
   pub refused_found : {X Y : Type 0} (bytes places : X → List ℕ) (numbers : X → ℕ → Option ℕ) (ids : X → List ℕ) (used : X → List Bool) (view : Y → List ℕ) (result : Result X IrError) (e : IrError) → IsErrAnd result (λ x. x ≡ e) → FindsDeclared s.slots (locals_of s.ops) s.parameters view (Err e) → EmitsBody s bytes places numbers ids used result
   refused_found bytes places numbers ids used view (Ok x) e failed h = absurd failed
   refused_found bytes places numbers ids used view (Err x) e failed h = subst (λ (d : IrError). EmitsBody s bytes places numbers ids used (Err d)) (sym failed) (not_found bytes places numbers ids used view e h)
+
+  -- all places are told
+  pub all_told : {X : Type 0} (bytes places : X → List ℕ) (numbers : X → ℕ → Option ℕ) (ids : X → List ℕ) (used : X → List Bool) (all : List ℕ) (result : Result X IrError) → EmitsBody s bytes (λ _. all) numbers ids used result → IfOk result (λ x. places x ≡ all) → EmitsBody s bytes places numbers ids used result
+  all_told bytes places numbers ids used all (Ok x) w same = subst (λ (ns : List ℕ). BodyWritten s (bytes x) ns (numbers x) (ids x) (used x)) (sym same) w
+  all_told bytes places numbers ids used all (Err NoIndex) w same = w
+  all_told bytes places numbers ids used all (Err NotWritable) w same = w
+  all_told bytes places numbers ids used all (Err TooLarge) w same = w
+  all_told bytes places numbers ids used all (Err (Memory e)) w same = tt
+  all_told bytes places numbers ids used all (Err Malformed) w same = w

@@ -4,6 +4,7 @@ pub mod EmittedBody
 pub mod Handlers
 pub mod Known
 pub mod Laws
+pub mod Marked
 pub mod ReadFunction
 pub mod Signatures
 pub mod Writing

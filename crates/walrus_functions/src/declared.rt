@@ -16,6 +16,7 @@ ghost use Rattle.walrus_functions.specs.DeclaredLocals.{rank, AreDeclared};
 ghost use Rattle.walrus_functions.specs.Declaring.{HasPlaces, AreOnce, AreTyped, same_local, typed, AreLowest, number_at, lower, key_of, AreTypes, AreInOrder};
 ghost use Rattle.walrus_functions.specs.EmittedBody.{types_of};
 
+use crate::marks::{mark_named, marked_locals, named_window, no_marks};
 use std::alloc::{AllocError, Global};
 use std::collections::{HashMap, HashSet};
 use walrus_base::LocalId;
@@ -92,6 +93,11 @@ fn take_once(named: &mut Vec<LocalId>)
 pub(crate) fn named_once(alloc: Global, operators: &[Operator]) -> Result<Vec<LocalId>, AllocError>
     ensures { IfOk result (λ named. AreOnce (locals_of (ops_of operators.now)) (map place named.items)) }
 {
+    let (first, span) = named_window(operators);
+    let mut marks = no_marks(alloc, span)?;
+    if mark_named(&mut marks, first, operators) {
+        return marked_locals(alloc, first, marks.as_slice());
+    }
     let mut named = named_locals(alloc, operators)?;
     take_once(&mut named);
     Ok(named)

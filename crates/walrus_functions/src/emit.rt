@@ -1,5 +1,5 @@
 //! Writing the body of a function (Binary Format > Modules > Code Section).
-ghost use Rattle.std.specs.Prelude.{◌≡◌, ◌≤◌, ◌<◌, ◌++◌, ◌↔◌, ◌^◌, ℕ, length, map, All, IfOk, IsSome, IsTrue};
+ghost use Rattle.std.specs.Prelude.{◌≡◌, ◌≤◌, ◌<◌, ◌++◌, ◌↔◌, ◌^◌, ℕ, List, length, map, All, IfOk, IsSome, IsTrue};
 ghost use Rattle.walrus_base.specs.Arena.{item_at};
 ghost use Rattle.walrus_base.specs.Id.{place};
 ghost use Rattle.walrus_types.specs.Operators.{locals_of};
@@ -10,7 +10,7 @@ ghost use Rattle.walrus_code.specs.Indices.{index_of, local_index};
 ghost use Rattle.walrus_code.specs.Code.{ops_of};
 ghost use Rattle.walrus_bodies.specs.Declarations.{declarations_of};
 ghost use Rattle.walrus_bodies.specs.FunctionTypes.{is_function_at};
-ghost use Rattle.walrus_bodies.specs.Results.{locations};
+ghost use Rattle.walrus_bodies.specs.Results.{kept_if, locations};
 ghost use Rattle.walrus_functions.specs.Declaring.{AreOnce};
 ghost use Rattle.walrus_functions.specs.EmittedBody.{EmitsBody, source_of, types_of};
 ghost use Rattle.walrus_functions.specs.Writing.{HasSignature, FindsDeclared, DeclaresLocals, WritesBehind};
@@ -19,7 +19,7 @@ use crate::declared::{distinct_places, named_once, order_declared, types_at, whi
 use crate::groups::{declarations, number_locals, runs};
 use std::alloc::{AllocError, Global};
 use walrus_base::LocalId;
-use walrus_bodies::{Declaration, Features, blocks_hold, emit_operators};
+use walrus_bodies::{Declaration, Features, append_operators, blocks_hold};
 use walrus_code::{IdsToIndices, InstrLocId, IrError, LocalFunction, LocalNumbers, Operator};
 use walrus_types::{ModuleLocals, ModuleTypes};
 use wasm_forms::write_vector;
@@ -65,6 +65,39 @@ pub fn emit_body(
     ensures located { IfOk result (λ body. map (λ p. p.0) body.places.items
         ≡ locations function.now.operators.items) }
 {
+    emit_body_with(
+        alloc,
+        function,
+        types,
+        module_locals,
+        indices,
+        features,
+        true,
+    )
+}
+
+/// The same, but for `places`: they are told only if `asks_places` is true, and else empty.
+///
+/// # Errors
+///
+/// As [`emit_body`].
+pub fn emit_body_with(
+    alloc: Global,
+    function: &LocalFunction,
+    types: &ModuleTypes,
+    module_locals: &ModuleLocals,
+    indices: &IdsToIndices,
+    features: &Features,
+    asks_places: bool,
+) -> Result<EmittedBody, IrError>
+    ensures written { (places : List ℕ) × (EmitsBody
+        (source_of indices.now module_locals.now types.now function.now features.now)
+        (λ body. body.bytes.items) (λ _. places) (λ body. local_index body.locals)
+        (λ body. map place body.order.items) (λ body. body.used.items) result
+        × IfOk result (λ body. map (λ p. p.1) body.places.items ≡ kept_if asks_places places)) }
+    ensures located { IfOk result (λ body. map (λ p. p.0) body.places.items
+        ≡ kept_if asks_places (locations function.now.operators.items)) }
+{
     let fits = parameters_fit(alloc, function, types, module_locals)?;
     if !fits {
         return Err(IrError::NotWritable);
@@ -86,7 +119,11 @@ pub fn emit_body(
     let locals = number_locals(alloc, all.as_slice())?;
     let used = which_named(alloc, all.as_slice(), named.as_slice())?;
     let operators = function.operators.as_slice();
-    let scope = Scope { indices, features };
+    let scope = Scope {
+        indices,
+        features,
+        asks_places,
+    };
     write_body(
         alloc,
         operators,
@@ -169,11 +206,18 @@ fn declare(
     declarations(alloc, groups.as_slice(), indices)
 }
 
-// What a body is written under: the numbers of items, and the proposals that it may use.
+// What a body is written under: the numbers of items, the proposals that it may use, and whether the places of its operators are
+// asked for.
 #[derive(Clone, Copy)]
 struct Scope<'a> {
     indices: &'a IdsToIndices,
     features: &'a Features,
+    asks_places: bool,
+}
+
+// For how many bytes to reserve memory: two for each operator, and a few for declarations.
+fn likely_length(operators: &[Operator]) -> usize {
+    operators.len().saturating_mul(2).saturating_add(4)
 }
 
 // Writes declarations, and the operators behind them. What is known of the locals is handed on.
@@ -187,18 +231,29 @@ fn write_body(
     scope: &Scope,
 ) -> Result<EmittedBody, IrError>
     requires { length declarations.now < 2 ^ 32 }
-    ensures written { WritesBehind (index_of scope.now.indices.now)
+    ensures written { (places : List ℕ) × (WritesBehind (index_of scope.now.indices.now)
         (local_index locals) scope.now.features.now (ops_of operators.now) (declarations_of declarations.now)
-        (λ body. body.bytes.items) (λ body. map (λ p. p.1) body.places.items) result }
-    ensures located { IfOk result (λ body. (map (λ p. p.0) body.places.items ≡ locations operators.now)) }
+        (λ body. body.bytes.items) (λ _. places) result
+        × IfOk result (λ body. map (λ p. p.1) body.places.items ≡ kept_if scope.now.asks_places places)) }
+    ensures located { IfOk result (λ body. map (λ p. p.0) body.places.items
+        ≡ kept_if scope.now.asks_places (locations operators.now)) }
     ensures numbered { IfOk result (λ body. body.locals ≡ locals) }
     ensures ordered { IfOk result (λ body. body.order ≡ order) }
     ensures marked { IfOk result (λ body. body.used ≡ used) }
 {
-    let mut bytes = Vec::new(alloc);
+    let mut bytes = Vec::with_capacity(alloc, likely_length(operators))?;
     write_vector(&mut bytes, declarations)?;
     let (indices, features) = (scope.indices, scope.features);
-    let places = emit_operators(alloc, &mut bytes, operators, indices, &locals, features)?;
+    let places = append_operators(
+        alloc,
+        &mut bytes,
+        operators,
+        indices,
+        &locals,
+        features,
+        scope.asks_places,
+    )?;
+    bytes.shrink_to_fit();
     Ok(EmittedBody {
         bytes,
         places,

@@ -78,7 +78,7 @@ pub(crate) fn number_locals(alloc: Global, ids: &[LocalId]) -> Result<LocalNumbe
     requires room { length ids.now ≤ 2 ^ 32 }
     ensures { IfOk result (λ numbers. (x : ℕ) → local_index numbers x ≡ place_in (map place ids.now) x) }
 {
-    let mut numbers = LocalNumbers::new(alloc);
+    let mut numbers = LocalNumbers::around(alloc, ids)?;
     for id in ids {
         numbers.push(*id)?;
     }

@@ -1,5 +1,6 @@
 //! The function types of legacy exception handlers (Instructions > Control Instructions of the legacy exception handling proposal).
 ghost use Rattle.std.specs.Prelude.{◌≡◌, ◌<◌, ◌∷◌, [], IfOk, length, map, option_and_then, option_map, option_to_list};
+ghost use Rattle.std.specs.List.{list_any};
 ghost use Rattle.walrus_base.specs.Arena.{item_at};
 ghost use Rattle.walrus_base.specs.Id.{place};
 ghost use Rattle.walrus_types.specs.Alone.{StandsFirst};
@@ -7,7 +8,7 @@ ghost use Rattle.walrus_types.specs.Composite.{function_type};
 ghost use Rattle.walrus_types.specs.ModuleTypes.{type_slots};
 ghost use Rattle.walrus_types.specs.Value.{val_type};
 ghost use Rattle.walrus_code.specs.Code.{arg_of, block_of, op_of, ops_of};
-ghost use Rattle.walrus_functions.specs.Handlers.{params_of, results_of, catch_type, handlers_of};
+ghost use Rattle.walrus_functions.specs.Handlers.{begins_handler, params_of, results_of, catch_type, handlers_of};
 ghost use Rattle.walrus_functions.specs.Known.{AddsIds, AreKnown, NotesOnly};
 ghost use Rattle.walrus_functions.specs.ReadFunction.{AddsTypes, StaysInFront};
 ghost use Rattle.walrus_functions.specs.Signatures.{IsFunctionOf, arg_place, first_place, given_by, needed_by, pair_in, pair_of, pair_type, slots_of, tag_places, taken_by, try_block, types_in, types_below};
@@ -269,6 +270,13 @@ fn add_needed(
     }
 }
 
+// Whether one of the operators begins a handler.
+fn has_catch(operators: &[Operator]) -> bool
+    ensures { result ≡ list_any (λ o. begins_handler o.op) operators.now }
+{
+    operators.iter().any(|o| o.op == CATCH || o.op == CATCH_ALL)
+}
+
 // The types of the legacy exception handlers of a body, in order: each is found among the types, or added behind them. The type of each pair of a
 // tag's type and a try's is found once.
 pub(crate) fn add_handler_types(
@@ -282,6 +290,9 @@ pub(crate) fn add_handler_types(
         (ops_of operators.now)) (slots_of types.old) (slots_of types.new) (map place ids.items)) }
     ensures stays { StaysInFront (type_slots types.old) (type_slots types.new) }
 {
+    if !has_catch(operators) {
+        return Ok(Vec::new(alloc));
+    }
     let bound = count_places(alloc, types)?;
     let mut blocks = OpenBlocks::new(alloc)?;
     let mut known = BTreeMap::new(alloc);

@@ -8,9 +8,10 @@ mod emit;
 mod groups;
 mod handlers;
 mod law;
+mod marks;
 mod read;
 mod tag_and_try;
 
-pub use emit::{EmittedBody, emit_body};
+pub use emit::{EmittedBody, emit_body, emit_body_with};
 pub use law::{bodies_read_once, declared_in_one_order, locals_move, unwritable_is_ill_formed};
 pub use read::{add_locals, read_body};

@@ -95,7 +95,7 @@ fn name_subs(alloc: Global, raw: &[RawSub], indices: &IndicesToIds) -> Result<Ve
     ensures { Finds (λ members. map new_sub members.items) result
         (each (read_sub (ids_at indices.now)) (map sub_of (map sub raw.now))) }
 {
-    let mut members = Vec::new(alloc);
+    let mut members = Vec::with_capacity(alloc, raw.len())?;
     for member in raw {
         members.push(name_sub(alloc, member, indices)?)?;
     }
@@ -173,7 +173,7 @@ fn name_values(
     ensures { Finds (λ values. map val_type values.items) result
         (named_vals (ids_at indices.now) (map val_of raw.now)) }
 {
-    let mut values = Vec::new(alloc);
+    let mut values = Vec::with_capacity(alloc, raw.len())?;
     for value in raw {
         let Some(named) = name_value(*value, indices) else {
             return Err(IrError::Malformed);

@@ -1,5 +1,5 @@
 -- The members of a group that are to be added.
-use Rattle.std.proofs.Common.{◌≡◌, ℕ, ◌+◌, List, [], ◌∷◌, ◌++◌, map, Option, Some, ap, ◌∙◌, append_assoc}
+use Rattle.std.proofs.Common.{◌≡◌, ℕ, List, [], ◌∷◌, ◌++◌, map, Option, Some, ap, ◌∙◌, append_assoc}
 use Rattle.walrus_types.specs.Composite.{new_sub}
 use Rattle.walrus_types.specs.TypeDef.{TypeDef, places_between}
 use Rattle.walrus_types.specs.declared.composite.NewType.{NewType}

@@ -29,6 +29,20 @@ rise-least low (q ∷ ps) high p r h =
     let lt : low ≤ q = leb-true low q (first _ _ r) in
     ⊎_elim (λ here. let e : q ≡ p = eqb-true q p here in omega (arith, lt, e)) (λ later. let more : q ≤ p = rise-least q ps high p (second (leb low q) (rise q ps high) r) later in omega (arith, lt, more)) (or_cases _ _ h)
 
+rise-between : (low : ℕ) (ps : List ℕ) (high : ℕ) → IsTrue (rise low ps high) → low ≤ high
+rise-between low [] high r = leb-true low high r
+rise-between low (q ∷ ps) high r =
+    let lt : low ≤ q = leb-true low q (first _ _ r) in
+    let more : q ≤ high = rise-between q ps high (second (leb low q) (rise q ps high) r) in
+    omega (arith, lt, more)
+
+-- rising places lie up to the last
+pub rise-most : (low : ℕ) (ps : List ℕ) (high p : ℕ) → IsTrue (rise low ps high) → has ps p ≡ true → p ≤ high
+rise-most low [] high p r h = absurd cc
+rise-most low (q ∷ ps) high p r h =
+    let rest = second (leb low q) (rise q ps high) r in
+    ⊎_elim (λ here. let e : q ≡ p = eqb-true q p here in let lt : q ≤ high = rise-between q ps high rest in omega (arith, lt, e)) (λ later. rise-most q ps high p rest later) (or_cases _ _ h)
+
 -- a smaller place than that of one of the ids stands before it
 pub earlier : (low : ℕ) (ids : List (Id TypeKey)) (high i : ℕ) (id : Id TypeKey) (p : ℕ) → IsTrue (rise low (map place ids) high) → slice_get ids i ≡ Some id → has (map place ids) p ≡ true → p < place id
     → (k : ℕ) × (other : Id TypeKey) × (k < i) × (slice_get ids k ≡ Some other) × (place other ≡ p)
@@ -61,7 +75,7 @@ has-before : (ps : List ℕ) (p q : ℕ) → has ps p ≡ true → has (ps ++ q 
 has-before [] p q h = absurd cc
 has-before (x ∷ ps) p q h = ⊎_elim (λ here. or_left _ _ here) (λ later. or_right _ _ (has-before ps p q later)) (or_cases _ _ h)
 
-module _ (added : List (Option «Type»)) (before after : FunctionIndex) (notes : NotesOnly added before after) where
+module _ (slot : Option «Type») (before after : FunctionIndex) (notes : NotesOnly slot before after) where
   -- what was under a type of functions is
   pub notes_stay : (f : DeclaredFunctionType) (p : ℕ) → IsTrue (has (places_at before f) p) → IsTrue (has (places_at after f) p)
   notes_stay f p h = ⊎_elim
@@ -69,7 +83,7 @@ module _ (added : List (Option «Type»)) (before after : FunctionIndex) (notes 
       (λ more. ap (λ ps. has ps p) more.3 ∙ has-before (places_at before f) p (type_place more.0) h)
       (notes f)
 
-  pub notes_in_order : (end later : ℕ) → ((ty : «Type») → added ≡ Some ty ∷ [] → type_place ty ≡ end) → end ≤ later → AreInOrder before end → AreInOrder after later
+  pub notes_in_order : (end later : ℕ) → ((ty : «Type») → slot ≡ Some ty → type_place ty ≡ end) → end ≤ later → AreInOrder before end → AreInOrder after later
   notes_in_order end later at lt ordered f = rise-higher 0 (places_at after f) end later lt (⊎_elim
       (λ same. ap (λ ps. rise 0 ps end) same ∙ ordered f)
       (λ more. ap (λ ps. rise 0 ps end) more.3 ∙ ap (λ n. rise 0 (places_at before f ++ n ∷ []) end) (at more.0 more.1) ∙ rise-behind 0 (places_at before f) end (ordered f))

@@ -72,3 +72,9 @@ live_seen f [] p live = live
 live_seen f (None ∷ xs) zero live = live
 live_seen f (Some x ∷ xs) zero live = refl
 live_seen f (x ∷ xs) (suc p) live = live_seen f xs p live
+
+-- what is read at a place is what is there
+pub read_here : {T : Type 0} (xs : List (Option T)) (p : ℕ) (o : Option T) → p < length xs → o ≡ get_or xs p o → item_at xs p ≡ o
+read_here [] p o lt is = absurd (omega (arith, lt))
+read_here (x ∷ xs) zero o lt is = sym is
+read_here (x ∷ xs) (suc p) o lt is = read_here xs p o (omega (arith, lt)) is

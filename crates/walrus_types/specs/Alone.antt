@@ -1,5 +1,5 @@
 -- Types of functions that are found by what they are.
-use Rattle.std.specs.Prelude.{◌≡◌, ℕ, ◌<◌, true, false, List, [], ◌∷◌, ◌++◌, ◌⊎◌, Option, Some, None, IsTrue, length}
+use Rattle.std.specs.Prelude.{◌≡◌, ℕ, ◌<◌, ◌≤◌, true, false, List, [], ◌∷◌, ◌++◌, ◌⊎◌, Option, Some, None, IsTrue, length}
 use Rattle.walrus_base.specs.Arena.{item_at}
 use Rattle.walrus_base.specs.Types.{comp_names}
 use Rattle.walrus_types.specs.Composite.{FunctionType, function_type, function_comp}
@@ -27,9 +27,13 @@ StandsAt f slots place = (item_at slots place ≡ Some (alone place f)) × Names
 abbrev pub StandsFirst : FunctionType → List (Option TypeDef) → ℕ → Type 0
 StandsFirst f slots place = StandsAt f slots place × ((p : ℕ) → p < place → StandsAt f slots p → ⊥)
 
--- each such type is found under what it is
-abbrev pub IsIndexed : FunctionIndex → List (Option «Type») → Type 0
-IsIndexed index places = (p : ℕ) (f : DeclaredFunctionType) → StandsAt (function_type f) (defs places) p → IsTrue (has (places_at index f) p)
+-- no such type stands from the one place on, up to the other
+abbrev pub StandsNowhere : FunctionType → List (Option TypeDef) → (low high : ℕ) → Type 0
+StandsNowhere f slots low high = (p : ℕ) → low ≤ p → p < high → StandsAt f slots p → ⊥
+
+-- each such type at the first so many places is found under what it is
+abbrev pub IsIndexed : FunctionIndex → (noted : ℕ) → List (Option «Type») → Type 0
+IsIndexed index noted places = (p : ℕ) (f : DeclaredFunctionType) → p < noted → StandsAt (function_type f) (defs places) p → IsTrue (has (places_at index f) p)
 
 -- the places under each type of functions rise up to this number
 abbrev pub AreInOrder : FunctionIndex → ℕ → Type 0
@@ -39,10 +43,10 @@ AreInOrder index end = (f : DeclaredFunctionType) → IsTrue (rise 0 (places_at 
 abbrev pub AreNotNamed : FunctionIndex → Type 0
 AreNotNamed index = (f : DeclaredFunctionType) (p : ℕ) → IsTrue (has (places_at index f) p) → NamesNot (function_type f) p
 
--- under each type of functions are the places that were, and perhaps behind them that of the only type of these
-abbrev pub NotesOnly : List (Option «Type») → (old new : FunctionIndex) → Type 0
-NotesOnly added old new = (f : DeclaredFunctionType) → (places_at new f ≡ places_at old f)
-    ⊎ ((ty : «Type») × (added ≡ Some ty ∷ []) × NamesNot (function_type f) (type_place ty) × (places_at new f ≡ places_at old f ++ type_place ty ∷ []))
+-- under each type of functions are the places that were, and perhaps behind them that of this type
+abbrev pub NotesOnly : Option «Type» → (old new : FunctionIndex) → Type 0
+NotesOnly slot old new = (f : DeclaredFunctionType) → (places_at new f ≡ places_at old f)
+    ⊎ ((ty : «Type») × (slot ≡ Some ty) × NamesNot (function_type f) (type_place ty) × (places_at new f ≡ places_at old f ++ type_place ty ∷ []))
 
 -- The first such type was at this place, and all types and names are as they were; or none was there, and it was added at the end, at this
 -- place, without a name.

@@ -8,8 +8,8 @@ use std::alloc::{AllocError, Global};
 use std::collections::BTreeMap;
 use walrus_base::TypeId;
 
-/// For each type of functions the ids of types that once were this type, in the order in which they came. Each that is there
-/// is among them, but for those that name themselves.
+/// For each type of functions the ids of types that once were this type, in the order in which they came. Each that was noted
+/// and is there is among them, but for those that name themselves.
 #[derive(Drop)]
 pub(crate) struct FunctionIndex {
     ids: BTreeMap<FunctionType, Vec<TypeId>>,

@@ -1,10 +1,10 @@
 //! The types of a module, by their ids.
-ghost use Rattle.std.specs.Prelude.{◌≡◌, ◌++◌, [], ℕ, length, Some, IsTrue, ◌↔◌, MatchResult, MatchOption, IfOk, count_by, is_some, slice_set, map};
+ghost use Rattle.std.specs.Prelude.{◌≡◌, ◌<◌, ◌≤◌, ◌++◌, [], ℕ, length, Some, IsTrue, ◌↔◌, MatchResult, MatchOption, IfOk, count_by, is_some, slice_set, map};
 ghost use Rattle.std.specs.List.{range_with_len};
 ghost use Rattle.walrus_base.specs.Arena.{item_at, IsLive, entries, kept_by};
 ghost use Rattle.walrus_base.specs.Id.{place};
 ghost use Rattle.walrus_base.specs.Marks.{is_marked};
-ghost use Rattle.walrus_types.specs.Alone.{alone, IsIndexed, AreInOrder, AreNotNamed, StandsAt, StandsFirst, FoundOrAdded};
+ghost use Rattle.walrus_types.specs.Alone.{alone, IsIndexed, AreInOrder, AreNotNamed, StandsAt, StandsFirst, StandsNowhere, FoundOrAdded};
 ghost use Rattle.walrus_types.specs.Composite.{function_type, function_of};
 ghost use Rattle.walrus_types.specs.OwnIds.{under_own_ids};
 ghost use Rattle.walrus_types.specs.TypeDef.{type_def, type_place, type_name, name_bytes};
@@ -16,6 +16,7 @@ ghost use Rattle.walrus_types.specs.TypesLeft.{types_left, ids_left};
 use crate::composite::{CompositeType, FunctionType, NewType};
 use crate::group::GroupIds;
 use crate::index::FunctionIndex;
+use crate::names::names_type;
 use crate::slots::{clear, count_items, note_alone, placed, rename};
 use crate::type_iter::TypeIter;
 use crate::types::Type;
@@ -30,10 +31,14 @@ use walrus_base::{Id, Marks, TypeId, TypeKey, keep_marked};
 pub struct ModuleTypes {
     places: Vec<Option<Type>>,
     index: FunctionIndex,
+    // So many places are noted in the index, the first ones. The others come into it when a type is asked for that may be
+    // added.
+    noted: usize,
     alloc: Global,
     ghost under_own_ids: { IsTrue (under_own_ids 0 places.items) },
-    ghost indexed: { IsIndexed index places.items },
-    ghost in_order: { AreInOrder index (length places.items) },
+    ghost indexed: { IsIndexed index noted places.items },
+    ghost within: { noted ≤ length places.items },
+    ghost in_order: { AreInOrder index noted },
     ghost not_named: { AreNotNamed index },
     ghost whole: { AreWhole (defs places.items) } by { Prim.hlevel props },
 }
@@ -49,6 +54,7 @@ impl ModuleTypes {
         ModuleTypes {
             places: Vec::new(alloc),
             index: FunctionIndex::new(alloc),
+            noted: 0,
             alloc,
         }
     }
@@ -69,7 +75,7 @@ impl ModuleTypes {
         let Some(end) = first.checked_add(count) else {
             return Err(AllocError);
         };
-        let mut ids = Vec::new(alloc);
+        let mut ids = Vec::with_capacity(alloc, count)?;
         for place in first..end {
             ids.push(Id::at(place))?;
         }
@@ -91,7 +97,6 @@ impl ModuleTypes {
     {
         let first = self.places.len();
         let mut added = placed(self.alloc, first, members)?;
-        note_alone(&mut self.index, added.as_slice())?;
         self.places.append(&mut added)?;
         Ok(GroupIds::between(first, self.places.len()))
     }
@@ -108,6 +113,7 @@ impl ModuleTypes {
         let params = params.to_vec(self.alloc)?;
         let results = results.to_vec(self.alloc)?;
         let function = FunctionType::new(params, results);
+        self.note_all()?;
         match self.find(&function) {
             Some(id) => Ok(id),
             None => self.add_function(function),
@@ -133,10 +139,47 @@ impl ModuleTypes {
         Ok(id)
     }
 
+    // Notes all places that aren't noted yet.
+    fn note_all(&mut self) -> Result<(), AllocError>
+        ensures slots { type_slots self.new ≡ type_slots self.old }
+        ensures names { type_names self.new ≡ type_names self.old }
+    {
+        let first = self.noted;
+        let end = self.places.len();
+        for _place in first..end {
+            self.note_next()?;
+        }
+        Ok(())
+    }
+
+    // Notes the next place, if there is one.
+    fn note_next(&mut self) -> Result<(), AllocError>
+        ensures slots { type_slots self.new ≡ type_slots self.old }
+        ensures names { type_names self.new ≡ type_names self.old }
+    {
+        if self.noted < self.places.len() {
+            note_alone(&mut self.index, &self.places[self.noted])?;
+            self.noted += 1;
+        }
+        Ok(())
+    }
+
     /// The id of the first such type, if one is there.
     pub fn find(&self, function: &FunctionType) -> Option<TypeId>
         ensures { MatchOption result
             ((p : ℕ) → StandsAt (function_type function.now) (type_slots self.now) p → ⊥)
+            (λ id. StandsFirst (function_type function.now) (type_slots self.now) (place id)) }
+    {
+        match self.find_noted(function) {
+            Some(id) => Some(id),
+            None => self.find_later(function),
+        }
+    }
+
+    // The same among the places that are noted.
+    fn find_noted(&self, function: &FunctionType) -> Option<TypeId>
+        ensures { MatchOption result
+            (StandsNowhere (function_type function.now) (type_slots self.now) 0 self.now.noted)
             (λ id. StandsFirst (function_type function.now) (type_slots self.now) (place id)) }
     {
         for id in self.index.at(function) {
@@ -145,6 +188,31 @@ impl ModuleTypes {
             }
         }
         None
+    }
+
+    // The first of those behind the places that are noted.
+    fn find_later(&self, function: &FunctionType) -> Option<TypeId>
+        ensures { MatchOption result
+            (StandsNowhere (function_type function.now) (type_slots self.now) self.now.noted
+            (length (type_slots self.now)))
+            (λ id. StandsAt (function_type function.now) (type_slots self.now) (place id)
+            × StandsNowhere (function_type function.now) (type_slots self.now) self.now.noted (place id)) }
+    {
+        let first = self.noted;
+        let end = self.places.len();
+        for place in first..end {
+            if self.stands_under(Id::at(place), function) {
+                return Some(Id::at(place));
+            }
+        }
+        None
+    }
+
+    // Whether such a type, which doesn't name itself, is under this id.
+    fn stands_under(&self, id: TypeId, function: &FunctionType) -> bool
+        ensures { IsTrue result ↔ StandsAt (function_type function.now) (type_slots self.now) (place id) }
+    {
+        self.is_alone_as(id, function) && !names_type(function, id)
     }
 
     // Whether such a type is under this id.

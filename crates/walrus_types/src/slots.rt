@@ -31,7 +31,7 @@ pub(crate) fn placed(
     let Some(end) = first.checked_add(members.len()) else {
         return Err(AllocError);
     };
-    let mut added = Vec::new(alloc);
+    let mut added = Vec::with_capacity(alloc, members.len())?;
     for member in members {
         let Some(place) = first.checked_add(added.len()) else {
             return Err(AllocError);
@@ -82,18 +82,15 @@ pub(crate) fn rename(places: &mut Vec<Option<Type>>, place: usize, name: Option<
     }
 }
 
-// Puts the type into the index, if it is the only one of its group and a final type of functions without supertype that
-// doesn't name itself.
-pub(crate) fn note_alone(
-    index: &mut FunctionIndex,
-    added: &[Option<Type>],
-) -> Result<(), AllocError>
-    ensures stays { NotesOnly added.now index.old index.new }
-    ensures noted { OnOk result ((ty : _) (f : _) → added.now ≡ Some ty ∷ []
+// Puts the type at a place into the index, if there is one that is the only one of its group and a final type of functions
+// without supertype that doesn't name itself.
+pub(crate) fn note_alone(index: &mut FunctionIndex, slot: &Option<Type>) -> Result<(), AllocError>
+    ensures stays { NotesOnly slot.now index.old index.new }
+    ensures noted { OnOk result ((ty : _) (f : _) → slot.now ≡ Some ty
         → type_def ty ≡ alone (type_place ty) (function_type f) → NamesNot (function_type f) (type_place ty)
         → IsTrue (has (places_at index.new f) (type_place ty))) }
 {
-    match only_type(added) {
+    match slot {
         Some(ty) => match ty.alone_function() {
             Some(function) => note_apart(index, function, ty.id()),
             None => Ok(()),
@@ -117,18 +114,4 @@ fn note_apart(
         return Ok(());
     }
     index.note(function, id)
-}
-
-// The only type of these, if it is the only one.
-fn only_type(added: &[Option<Type>]) -> Option<&Type>
-    ensures { MatchOption result ((ty : _) → added.now ≡ Some ty ∷ [] → ⊥)
-        (λ ty. added.now ≡ Some ty.now ∷ []) }
-{
-    if added.len() != 1 {
-        return None;
-    }
-    match &added[0] {
-        Some(ty) => Some(ty),
-        None => None,
-    }
 }

@@ -14,9 +14,8 @@ ghost use Rattle.walrus_writing.specs.Refusals.{RefusesBodies, RefusesUsed};
 
 use std::alloc::Global;
 use walrus_contents::Parts;
-use walrus_ir::{
-    Features, FunctionId, IdsToIndices, InstrLocId, LocalFunction, LocalId, emit_body,
-};
+use walrus_functions::emit_body_with;
+use walrus_ir::{Features, FunctionId, IdsToIndices, LocalFunction, LocalId};
 use walrus_items::{FunctionKind, ModuleFunctions};
 use walrus_names::WrittenBody;
 use walrus_parts::{Error, Result};
@@ -77,17 +76,6 @@ fn used_of(alloc: Global, order: &[LocalId], used: &[bool]) -> Result<Vec<(u32, 
     Ok(found)
 }
 
-// The places, where they are asked for.
-fn asked_places(
-    alloc: Global,
-    places: Vec<(InstrLocId, usize)>,
-    asked: bool,
-) -> Vec<(InstrLocId, usize)>
-    ensures { asked ≡ true → result ≡ places }
-{
-    if asked { places } else { Vec::new(alloc) }
-}
-
 // The body of the function of this id, under these indices.
 fn one_body(alloc: Global, under: Indexed<'_, '_, '_>, id: FunctionId) -> Result<WrittenBody>
     requires indexed { IsIndexed under.parts (index_of under.indices.now) under.features.now (place id) }
@@ -100,20 +88,20 @@ fn one_body(alloc: Global, under: Indexed<'_, '_, '_>, id: FunctionId) -> Result
     let Some(local) = local_of(under.parts.funcs, id) else {
         unreachable!();
     };
-    let body = emit_body(
+    let body = emit_body_with(
         alloc,
         local,
         under.parts.types,
         under.parts.locals,
         under.indices,
         under.features,
+        under.asks_places,
     )?;
     let used = used_of(alloc, body.order.as_slice(), body.used.as_slice())?;
-    let places = asked_places(alloc, body.places, under.asks_places);
     Ok(WrittenBody {
         bytes: body.bytes,
         used,
-        places,
+        places: body.places,
     })
 }
 

@@ -11,6 +11,7 @@ use crate::record::RawConst;
 use std::alloc::Global;
 use wasm_forms::{
     WireError, read_byte, read_f32, read_f64, read_heap_type, read_s32, read_s64, read_u32,
+    room_for,
 };
 use wasm_opcodes::behind_fb::{
     ANY_CONVERT_EXTERN, ARRAY_NEW, ARRAY_NEW_DEFAULT, ARRAY_NEW_FIXED, EXTERN_CONVERT_ANY, REF_I31,
@@ -152,7 +153,7 @@ fn read_const_from(first: u8, bytes: &[u8]) -> Result<(RawConst, &[u8]), WireErr
 fn take_operators(alloc: Global, bytes: &[u8]) -> Result<(Vec<RawConst>, &[u8]), WireError>
     ensures { Gives (λ r. (r.0.items, r.1.now)) result (at (Until END const_from) bytes.now) }
 {
-    let mut operators = Vec::new(alloc);
+    let mut operators = Vec::with_capacity(alloc, 1)?;
     let mut rest = bytes;
     'operators: for _turn in 0..bytes.len() {
         let (first, after) = read_byte(rest)?;
@@ -190,7 +191,7 @@ fn take_expressions(
     ensures { Gives (λ r. (map expression r.0.items, r.1.now)) result
         (at (Row expression_form count) bytes.now) }
 {
-    let mut expressions = Vec::new(alloc);
+    let mut expressions = Vec::with_capacity(alloc, room_for(count, bytes))?;
     let mut rest = bytes;
     'expressions: for _taken in 0..count {
         let (found, after) = read_expression(alloc, rest)?;
@@ -201,7 +202,8 @@ fn take_expressions(
 }
 
 /// Reads a u32 count and that many constant expressions, and gives them with the bytes after them
-/// (Binary Format > Modules > Element Section). Memory is taken as they are read, and none for a count alone.
+/// (Binary Format > Modules > Element Section). Memory is taken for as many as are told, but for no
+/// more than there are bytes left.
 ///
 /// Refused as [`WireError::Malformed`] where no count stands in front, or fewer expressions.
 pub fn read_expressions(

@@ -13,7 +13,8 @@ use crate::composite::{read_composite, read_composite_from, write_composite};
 use crate::record::{RawGroup, RawSub};
 use std::alloc::Global;
 use wasm_forms::{
-    Element, WireError, Written, read_byte, read_u32, read_vector, write_u32, write_vector,
+    Element, WireError, Written, read_byte, read_u32, read_vector, room_for, write_u32,
+    write_vector,
 };
 use wasm_opcodes::types::{REC_TYPE, SUB_FINAL_TYPE, SUB_TYPE};
 
@@ -75,7 +76,7 @@ fn read_group_from(alloc: Global, first: u8, bytes: &[u8]) -> Result<(RawGroup, 
         return read_vector::<RawSub>(alloc, bytes);
     }
     let (subtype, rest) = read_sub_from(alloc, first, bytes)?;
-    let mut types = Vec::new(alloc);
+    let mut types = Vec::with_capacity(alloc, 1)?;
     types.push(subtype)?;
     Ok((types, rest))
 }
@@ -95,7 +96,7 @@ pub fn read_group(alloc: Global, bytes: &[u8]) -> Result<(RawGroup, &[u8]), Wire
 fn take_groups(alloc: Global, count: u32, bytes: &[u8]) -> Result<(Vec<RawGroup>, &[u8]), WireError>
     ensures { Gives (λ r. (map group r.0.items, r.1.now)) result (at (Row group_form count) bytes.now) }
 {
-    let mut groups = Vec::new(alloc);
+    let mut groups = Vec::with_capacity(alloc, room_for(count, bytes))?;
     let mut rest = bytes;
     'groups: for _taken in 0..count {
         let (types, after) = read_group(alloc, rest)?;
@@ -107,8 +108,8 @@ fn take_groups(alloc: Global, count: u32, bytes: &[u8]) -> Result<(Vec<RawGroup>
 
 /// Reads a count and that many groups of types (Binary Format > Modules > Type Section), and gives them with the bytes after them.
 ///
-/// Refused as [`WireError::Malformed`] where no count stands in front, or fewer groups. Memory is taken as groups are read, and none for
-/// a count alone.
+/// Refused as [`WireError::Malformed`] where no count stands in front, or fewer groups. Memory is taken for as many groups as are told, but
+/// for no more than there are bytes left.
 pub fn read_groups(alloc: Global, bytes: &[u8]) -> Result<(Vec<RawGroup>, &[u8]), WireError>
     ensures { Gives (λ r. (map group r.0.items, r.1.now)) result (at (Vector group_form) bytes.now) }
 {

@@ -27,7 +27,7 @@ pub use types::{
     RawHeap, RawRef, RawVal, read_heap_type, read_reference_from, read_reference_type,
     read_value_from, read_value_type, write_heap_type, write_reference_type,
 };
-pub use vector::{Element, read_vector};
+pub use vector::{Element, read_vector, room_for};
 pub use write::{
     Written, leb128_len, write_block, write_f32, write_f64, write_index, write_name, write_s32,
     write_s64, write_u32, write_u64, write_vector,

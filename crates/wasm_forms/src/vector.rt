@@ -1,6 +1,6 @@
 //! Vectors (Binary Format > Conventions > Lists).
 
-ghost use Rattle.std.specs.Prelude.{map, ℕ};
+ghost use Rattle.std.specs.Prelude.{◌≡◌, length, map, min, ℕ};
 ghost use Rattle.wasm_forms.specs.Reading.{Gives};
 ghost use Rattle.wasm_forms.specs.Grammar.{Form, Reads, Row, U32, Vector, at};
 
@@ -34,6 +34,13 @@ impl<'a> Element<'a> for u32 {
     }
 }
 
+/// How many elements to reserve memory for where `count` are told: no more than there are bytes left, since each takes a byte at least.
+pub fn room_for(count: u32, bytes: &[u8]) -> usize
+    ensures { result ≡ min count (length bytes.now) }
+{
+    (count as usize).min(bytes.len())
+}
+
 /// So many elements, one after another.
 fn take_row<'a, E: Element<'a> + Drop>(
     alloc: Global,
@@ -42,7 +49,7 @@ fn take_row<'a, E: Element<'a> + Drop>(
 ) -> Result<(Vec<E>, &'a [u8]), WireError>
     ensures { Gives (λ r. (map E.view r.0.items, r.1.now)) result (at (Row E.form count) bytes.now) }
 {
-    let mut items = Vec::new(alloc);
+    let mut items = Vec::with_capacity(alloc, room_for(count, bytes))?;
     let mut rest = bytes;
     'elements: for _taken in 0..count {
         let (item, after) = E::read(alloc, rest)?;
@@ -65,8 +72,8 @@ fn take_vector<'a, E: Element<'a> + Drop>(
 
 /// Reads a u32 count and that many elements, and gives them with the bytes after them.
 ///
-/// Refused as [`WireError::Malformed`] where no count stands in front, or fewer elements. Memory is taken as elements are read, and
-/// none for a count alone.
+/// Refused as [`WireError::Malformed`] where no count stands in front, or fewer elements. Memory is taken for as many elements as are
+/// told, but for no more than there are bytes left.
 pub fn read_vector<'a, E: Element<'a> + Drop>(
     alloc: Global,
     bytes: &'a [u8],

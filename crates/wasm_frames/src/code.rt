@@ -7,7 +7,7 @@ ghost use Rattle.wasm_frames.specs.Steps.{body_at, code_at, whole_code};
 
 use crate::record::RawBody;
 use std::alloc::Global;
-use wasm_forms::{WireError, read_block, read_u32};
+use wasm_forms::{WireError, read_block, read_u32, room_for};
 
 /// The body whose size stands at this place, and the bytes behind it.
 #[tactic(auto, unfolding(crate::specs::Steps::body_at))]
@@ -37,7 +37,7 @@ fn read_bodies<'a>(
     ensures { Gives (λ x. (map body_record x.0.items, x.1.now)) result (code_at place bytes.now) }
 {
     let (count, mut rest) = read_u32(bytes)?;
-    let mut bodies = Vec::new(alloc);
+    let mut bodies = Vec::with_capacity(alloc, room_for(count, rest))?;
     for _index in 0..count {
         let (body, behind) = read_body(place + (bytes.len() - rest.len()), rest)?;
         bodies.push(body)?;

@@ -1,110 +1,141 @@
--- A set of the names that were seen, and the exports that have them.
-use Rattle.std.proofs.Common.{Bor, ◌≡◌, ℕ, suc, ◌+◌, ◌<◌, ◌≤◌, Bool, true, false, List, [], ◌∷◌, ◌++◌, length, get_or, take, drop, map, not, subst, take_all, refl, sym, ap, ◌∙◌, arith, cond, length-append, drop-cons}
-use Rattle.std.specs.Prelude.{◌≢◌, ◌||◌}
+-- Names that differ, and their neighbours where they stand in order.
+use Rattle.std.specs.Borrow.{Bor}
+use Rattle.std.proofs.Common.{◌≡◌, ℕ, ◌+◌, ◌-◌, ◌<◌, Bool, false, true, List, [], ◌∷◌, length, get_or, map, not, refl, sym, ap, ◌∙◌, subst, arith}
+use Rattle.std.specs.Prelude.{◌≢◌, AllPairs, IsPermutation, IsSorted}
+use Rattle.std.specs.Bool.{Decides}
+use Rattle.std.specs.Cmp.{IsTotalOrder}
+use Rattle.std.specs.List.{AllAdjacentBelow, AllByRecursion, IsDistinct}
+use Rattle.std.specs.List.Sorted.{IsStrictlySortedBy}
+use Rattle.std.specs.Ordering.{eq_by_cmp, is_eq, is_lt, ordering_reverse}
+use Rattle.std.specs.Str.{bytes_eq}
 use Rattle.std.specs.declared.cmp.Ordering.{Ordering}
-use Rattle.std.specs.List.{list_any}
-use Rattle.std.specs.Ordering.{is_eq, nat_cmp}
-use Rattle.std.specs.Cmp.Lexicographic.{slice_cmp}
-use Rattle.std.specs.BTreeSet.{BTreeSet, contains, Updates}
-use Rattle.std.proofs.Math.Seq.{get_or-append_seam}
+use Rattle.std.specs.declared.cmp.Ordering.TheVariants.{Less, Equal, Greater}
 use Rattle.std.proofs.lemmas.Bool.{false≢true}
-use Rattle.std.proofs.lemmas.List.{take_more, map-append, take-append-drop, get_or_append_left}
+use Rattle.std.proofs.lemmas.Cmp.{nat_list_cmp_total, nat_list_eq_equiv, on_total}
+use Rattle.std.proofs.lemmas.List.{get_or-map, get_or_default, length-map}
+use Rattle.std.proofs.lemmas.List.Sorted.{IsPermutation-map, IsPermutation-sym, all_adjacent_more}
+use Rattle.std.proofs.lemmas.Map.Keys.{IsDistinct-IsPermutation, IsDistinct-from_sorted, sorted_from_all_adjacent}
+use Rattle.std.proofs.lemmas.Map.Made.{AllPairs-from_IsDistinct, IsDistinct-from_AllPairs}
 use Rattle.std.proofs.lemmas.Map.Text.{is_eq-slice_cmp}
 use Rattle.std.proofs.lemmas.Slice.Eq.{bytes_eq-Decides}
-use Rattle.std.proofs.lemmas.List.Folds.{list_any-append, list_any_at, Any-from_list_any}
-use Rattle.std.proofs.lemmas.List.Quantifiers.{all_pairs_push}
 use Rattle.wasm_entries.specs.declared.record.RawExport.{RawExport}
 use Rattle.wasm_entries.specs.Record.{Export, export_entry}
+use Rattle.wasm_wire.specs.Names.{NeighboursDiffer, by_bytes}
 use Rattle.wasm_wire.specs.Rules.{NamesDiffer}
 
 abbrev Text : Type 0
 Text = Bor (List ℕ)
 
-abbrev pub text_cmp : Text → Text → Ordering
-text_cmp x y = slice_cmp nat_cmp x.now y.now
+abbrev bytes_of : Text → List ℕ
+bytes_of n = n.now
 
-abbrev pub has_name : List ℕ → Export → Bool
-has_name q e = is_eq (slice_cmp nat_cmp e.name q)
+abbrev texts : List Text → List (List ℕ)
+texts names = map bytes_of names
 
--- the set has exactly their names
-abbrev pub Holds : BTreeSet Text → List Export → Type 0
-Holds s es = (q : Text) → contains text_cmp s q ≡ list_any (has_name q.now) es
+abbrev names_in : List RawExport → List Text
+names_in xs = map (λ e. e.name) xs
 
-shown_first : (a b : Bool) → cond b true a ≡ (a || (b || false))
-shown_first true true = refl
-shown_first true false = refl
-shown_first false true = refl
-shown_first false false = refl
+abbrev AllDiffer : List (List ℕ) → Type 0
+AllDiffer ts = AllPairs (λ x y. x ≢ y) ts
 
--- a name that is put into the set
-pub names_more : (s n : BTreeSet Text) (es : List Export) (e : Export) (k : Text) → e.name ≡ k.now → Updates text_cmp s n k true → Holds s es → Holds n (es ++ e ∷ [])
-names_more s n es e k same updated held = λ q.
-    updated.0 q
-    ∙ ap (λ b. cond b true (contains text_cmp s q)) (ap (λ t. is_eq (slice_cmp nat_cmp t q.now)) (sym same))
-    ∙ ap (λ a. cond (has_name q.now e) true a) (held q)
-    ∙ shown_first (list_any (has_name q.now) es) (has_name q.now e)
-    ∙ sym (list_any-append (has_name q.now) es (e ∷ []))
+-- ---- the comparison of neighbours
 
-has_name_same : (q : List ℕ) (e : Export) → has_name q e ≡ true → e.name ≡ q
-has_name_same q e h = (bytes_eq-Decides e.name q).0 (sym (is_eq-slice_cmp e.name q) ∙ h)
+abbrev DifferBelow : List Text → ℕ → Type 0
+DifferBelow names i = AllAdjacentBelow (λ a b. a.now ≢ b.now) names i
 
-same_has_name : (q : List ℕ) (e : Export) → e.name ≡ q → has_name q e ≡ true
-same_has_name q e h = is_eq-slice_cmp e.name q ∙ (bytes_eq-Decides e.name q).1 h
+-- a turn of the loop, in which two differ
+pub neighbours_more : (names : List Text) (i : ℕ) (d e : Text) (alike : Bool) → 0 < i → i < length names
+    → alike ≡ bytes_eq (get_or names (i - 1) d).now (get_or names i e).now → alike ≡ false → DifferBelow names i → DifferBelow names (i + 1)
+neighbours_more names i d e alike some within tested not so_far = all_adjacent_more names (λ (a b : Text). a.now ≢ b.now) i some so_far
+    (λ f same. false≢true (sym not ∙ tested ∙ (bytes_eq-Decides (get_or names (i - 1) d).now (get_or names i e).now).1
+    (ap bytes_of (get_or_default names (i - 1) d f (omega arith)) ∙ same ∙ ap bytes_of (get_or_default names i f e within))))
 
--- a name that the set lacks differs from all of these
-pub names_new : (s : BTreeSet Text) (es : List Export) (e : Export) (k : Text) → e.name ≡ k.now → contains text_cmp s k ≡ false → Holds s es → NamesDiffer es → NamesDiffer (es ++ e ∷ [])
-names_new s es e k same lacks held differ = all_pairs_push (λ (a b : Export). a.name ≢ b.name) es e differ
-    (λ i d within one. absurd (false≢true (sym (sym (held k) ∙ lacks) ∙ list_any_at (has_name k.now) es i d within (same_has_name k.now (get_or es i d) (one ∙ same)))))
+-- ---- in order
 
--- a name that the set has is one of these
-pub names_old : (s : BTreeSet Text) (all es : List Export) (e : Export) (rest : List Export) (k : Text) → e.name ≡ k.now → contains text_cmp s k ≡ true → Holds s es
-    → all ≡ es ++ e ∷ rest → NamesDiffer all → ⊥
-names_old s all es e rest k same has held parts differ =
-    let some = Any-from_list_any (has_name k.now) es (sym (held k) ∙ has) in
-    let i : ℕ = some.0 in
-    let x : Export = some.1 in
-    let within : i < length es = some.2 in
-    let here : get_or all i x ≡ x = ap (λ l. get_or l i x) parts ∙ get_or_append_left es (e ∷ rest) x i within ∙ some.3 in
-    let there : get_or all (length es) x ≡ e = ap (λ l. get_or l (length es) x) parts ∙ get_or-append_seam es e rest x in
-    let long : length all ≡ length es + length (e ∷ rest) = ap length parts ∙ length-append es (e ∷ rest) in
-    differ i (length es) x within (omega (arith, long)) (ap (λ (a : Export). a.name) here ∙ has_name_same k.now x some.4 ∙ sym same ∙ sym (ap (λ (a : Export). a.name) there))
+by_bytes_total : IsTotalOrder by_bytes
+by_bytes_total = on_total (λ (n : Text). n.now) nat_list_cmp_total
 
--- the exports up to one of them, it, and the others
+rising : (x y : Text) → is_lt (by_bytes y x) ≡ false → x.now ≢ y.now → by_bytes x y ≡ Less
+rising x y h differ = go (by_bytes x y) refl
+  where
+    go : (o : Ordering) → by_bytes x y ≡ o → by_bytes x y ≡ Less
+    go Less e = e
+    go Equal e = absurd (differ ((bytes_eq-Decides x.now y.now).0 (sym (is_eq-slice_cmp x.now y.now) ∙ ap is_eq e)))
+    go Greater e =
+        let back : by_bytes y x ≡ Less = by_bytes_total.antisymm y x ∙ ap ordering_reverse e in
+        absurd (false≢true (sym h ∙ ap is_lt back))
 
-pub taken_more : (xs : List RawExport) (i : ℕ) (x : RawExport) → i < length xs → map export_entry (take (i + 1) xs) ≡ map export_entry (take i xs) ++ export_entry (get_or xs i x) ∷ []
-taken_more xs i x within = ap (map export_entry) (take_more xs i x within) ∙ map-append export_entry (take i xs) (get_or xs i x ∷ [])
+all_rising : (names : List Text) → IsSorted by_bytes names → NeighboursDiffer names → IsStrictlySortedBy by_bytes names
+unfolding IsStrictlySortedBy
+all_rising [] sorted differ = tt
+all_rising (n ∷ names) sorted differ =
+    let all = n ∷ names in
+    sorted_from_all_adjacent by_bytes_total all n (λ k within.
+    rising (get_or all k n) (get_or all (k + 1) n) (sorted k n (omega arith) within) (differ k n within))
 
-pub split_at : (xs : List RawExport) (i : ℕ) (x : RawExport) → i < length xs
-    → map export_entry xs ≡ map export_entry (take i xs) ++ export_entry (get_or xs i x) ∷ map export_entry (drop (suc i) xs)
-split_at xs i x within =
-    ap (map export_entry) (sym (take-append-drop i xs) ∙ ap (λ l. take i xs ++ l) (drop-cons xs i x within)) ∙ map-append export_entry (take i xs) (get_or xs i x ∷ drop (suc i) xs)
+distinct_texts : (names : List Text) → IsDistinct (eq_by_cmp by_bytes) names → IsDistinct bytes_eq (texts names)
+unfolding IsDistinct
+distinct_texts [] h = tt
+distinct_texts (n ∷ names) h = (go names h.0, distinct_texts names h.1)
+  where
+    go : (os : List Text) → AllByRecursion (λ o. eq_by_cmp by_bytes n o ≡ false) os → AllByRecursion (λ o. bytes_eq n.now o ≡ false) (texts os)
+    go [] k = tt
+    go (o ∷ os) k = (sym (is_eq-slice_cmp n.now o.now) ∙ k.0, go os k.1)
 
--- a turn of the loop over the exports, whose name the set took or has
+-- ---- all of them
 
-not_false : (b : Bool) → true ≡ not b → b ≡ false
-not_false true e = absurd (false≢true (sym e))
-not_false false e = refl
+abbrev name_of : Export → List ℕ
+name_of e = e.name
 
-not_true : (b : Bool) → false ≡ not b → b ≡ true
-not_true true e = refl
-not_true false e = absurd (false≢true e)
+names_of : (xs : List RawExport) → map name_of (map export_entry xs) ≡ texts (names_in xs)
+names_of [] = refl
+names_of (x ∷ xs) = ap (λ (rest : List (List ℕ)). x.name.now ∷ rest) (names_of xs)
 
-pub turn_differs : (xs : List RawExport) (i : ℕ) (x : RawExport) (s : BTreeSet Text) (added : Bool) → i < length xs → added ≡ not (contains text_cmp s (get_or xs i x).name) → added ≡ true
-    → Holds s (map export_entry (take i xs)) → NamesDiffer (map export_entry (take i xs)) → NamesDiffer (map export_entry (take (i + 1) xs))
-turn_differs xs i x s added within e a held differ =
-    rw (taken_more xs i x within)
-    (names_new s (map export_entry (take i xs)) (export_entry (get_or xs i x)) (get_or xs i x).name refl (not_false _ (sym a ∙ e)) held differ)
+differ_by_names : (es : List Export) → AllDiffer (map name_of es) → NamesDiffer es
+differ_by_names es h i j d less within same =
+    h i j d.name less (rw (length-map es name_of) within)
+    (get_or-map name_of es i d d.name (omega arith) ∙ same ∙ sym (get_or-map name_of es j d d.name within))
 
-pub turn_holds : (xs : List RawExport) (i : ℕ) (x : RawExport) (s n : BTreeSet Text) → i < length xs → Updates text_cmp s n (get_or xs i x).name true
-    → Holds s (map export_entry (take i xs)) → Holds n (map export_entry (take (i + 1) xs))
-turn_holds xs i x s n within updated held =
-    rw (taken_more xs i x within) (names_more s n (map export_entry (take i xs)) (export_entry (get_or xs i x)) (get_or xs i x).name refl updated held)
+names_differ : (es : List Export) → NamesDiffer es → AllDiffer (map name_of es)
+names_differ [] h i j d less within same = absurd (omega arith)
+names_differ (e ∷ es) h i j d less within same =
+    let all = e ∷ es in
+    let far : j < length all = rw (sym (length-map all name_of)) within in
+    h i j e less far (sym (get_or-map name_of all i e d (omega arith)) ∙ same ∙ get_or-map name_of all j e d far)
 
-pub turn_refused : (xs : List RawExport) (i : ℕ) (x : RawExport) (s : BTreeSet Text) (added : Bool) → i < length xs → added ≡ not (contains text_cmp s (get_or xs i x).name) → added ≡ false
-    → Holds s (map export_entry (take i xs)) → NamesDiffer (map export_entry xs) → ⊥
-turn_refused xs i x s added within e a held differ =
-    names_old s (map export_entry xs) (map export_entry (take i xs)) (export_entry (get_or xs i x)) (map export_entry (drop (suc i) xs)) (get_or xs i x).name refl (not_true _ (sym a ∙ e)) held
-    (split_at xs i x within) differ
+-- names that differ do so in any order
+differ_moved : (old new : List Text) → IsPermutation old new → IsDistinct bytes_eq (texts old) → AllDiffer (texts new)
+differ_moved old new moved distinct =
+    let there = IsPermutation-map bytes_of old new moved in
+    AllPairs-from_IsDistinct bytes_eq-Decides (texts new)
+    (IsDistinct-IsPermutation bytes_eq nat_list_eq_equiv.symm (texts old) (texts new) there distinct)
 
-pub all_taken : (xs : List RawExport) (i : ℕ) → length xs ≤ i → NamesDiffer (map export_entry (take i xs)) → NamesDiffer (map export_entry xs)
-all_taken xs i all differ = subst (λ (l : List RawExport). NamesDiffer (map export_entry l)) (take_all i xs all) differ
+-- where neighbours differ in order, all do
+by_neighbours : (xs : List RawExport) (names : List Text) → IsPermutation (names_in xs) names → IsSorted by_bytes names → NeighboursDiffer names
+    → NamesDiffer (map export_entry xs)
+by_neighbours xs names moved sorted differ =
+    let distinct = distinct_texts names (IsDistinct-from_sorted by_bytes names (all_rising names sorted differ)) in
+    let apart = differ_moved names (names_in xs) (IsPermutation-sym (names_in xs) names moved) distinct in
+    differ_by_names (map export_entry xs) (subst AllDiffer (sym (names_of xs)) apart)
+
+-- where all differ, neighbours do in any order
+neighbours_differ : (xs : List RawExport) (names : List Text) → IsPermutation (names_in xs) names → NamesDiffer (map export_entry xs)
+    → NeighboursDiffer names
+neighbours_differ xs names moved differ k d within same =
+    let apart = subst AllDiffer (names_of xs) (names_differ (map export_entry xs) differ) in
+    let there = differ_moved (names_in xs) names moved (IsDistinct-from_AllPairs bytes_eq-Decides (texts (names_in xs)) apart) in
+    there k (k + 1) d.now (omega arith) (rw (length-map names bytes_of) within)
+    (get_or-map bytes_of names k d d.now (omega arith) ∙ same ∙ sym (get_or-map bytes_of names (k + 1) d d.now within))
+
+-- what the comparison of neighbours answered, and the names that it was given
+
+pub all_differ : (xs : List RawExport) (given names : List Text) (alike : Bool) → IsPermutation (names_in xs) names → IsSorted by_bytes names
+    → given ≡ names → Decides (not alike) (NeighboursDiffer given) → alike ≡ false → NamesDiffer (map export_entry xs)
+all_differ xs given names alike moved sorted same decides was =
+    by_neighbours xs names moved sorted (subst NeighboursDiffer same (decides.0 (ap not was)))
+
+pub alike_not : (xs : List RawExport) (given names : List Text) (alike : Bool) → IsPermutation (names_in xs) names → given ≡ names
+    → Decides (not alike) (NeighboursDiffer given) → alike ≡ true → NamesDiffer (map export_entry xs) → ⊥
+alike_not xs given names alike moved same decides was differ =
+    let neighbours = subst NeighboursDiffer (sym same) (neighbours_differ xs names moved differ) in
+    false≢true (sym (ap not was) ∙ decides.1 neighbours)

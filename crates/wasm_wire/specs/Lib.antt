@@ -4,5 +4,6 @@ pub mod Ranks
 pub mod Locals
 pub mod Gathering
 pub mod Rules
+pub mod Names
 pub mod ModuleSpelling
 pub mod ModuleWriting

@@ -84,6 +84,12 @@ returns-in_err-blocks-clause-read g c = let p = err_from_is_err_and c.from_resid
 pub returns-in_err-blocks-clause-located : goal.returns-in_err-blocks-clause-located
 returns-in_err-blocks-clause-located g c = let p = err_from_is_err_and c.from_residual.result c.from_residual.ensures.1 in rw p.1 tt
 
+pub returns-in_err-operators-clause-read : goal.returns-in_err-operators-clause-read
+returns-in_err-operators-clause-read g c = let p = err_from_is_err_and c.from_residual-in_err-operators.result c.from_residual-in_err-operators.ensures.1 in rw (p.1, p.2) tt
+
+pub returns-in_err-operators-clause-located : goal.returns-in_err-operators-clause-located
+returns-in_err-operators-clause-located g c = let p = err_from_is_err_and c.from_residual-in_err-operators.result c.from_residual-in_err-operators.ensures.1 in rw p.1 tt
+
 pub returns-in_err-operator-clause-located : goal.returns-in_err-operator-clause-located
 returns-in_err-operator-clause-located g c = let p = err_from_is_err_and c.from_residual-in_err-operator.result c.from_residual-in_err-operator.ensures.1 in rw p.1 tt
 

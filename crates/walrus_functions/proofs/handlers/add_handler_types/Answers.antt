@@ -11,7 +11,7 @@ use Rattle.walrus_code.specs.Code.{block_of, op_of, ops_of}
 use Rattle.walrus_functions.specs.Known.{AreKnown}
 use Rattle.walrus_functions.specs.ReadFunction.{AddsTypes}
 use Rattle.walrus_functions.specs.Signatures.{first_opened, handler_in, needed_by, opened, pair_of, slots_of, tag_places, types_below}
-use Rattle.walrus_functions.proofs.HandlerLemmas.{SoFar, next_op, so_far_all, so_far_none, so_far_more, stays_same, stays_trans, types_are}
+use Rattle.walrus_functions.proofs.HandlerLemmas.{SoFar, next_op, none_needed, so_far_all, so_far_none, so_far_more, stays_same, stays_trans, types_are}
 use Rattle.walrus_functions.proofs.KnownLemmas.{handler_is, known_none}
 use Rattle.walrus_functions.proofs.handlers.add_handler_types.Goals as goal
 
@@ -25,6 +25,13 @@ loop-operator-init c =
       subst (λ (ps : List ℕ). SoFar types tags old old (opened c.in_ok-blocks.blocks) all all ps) (sym none) (so_far_none types tags old (opened c.in_ok-blocks.blocks) all c.in_ok-blocks.ensures),
       known_none types (type_slots c.args.types.now) c.new-known.result c.new-known.ensures.empty,
     )
+
+pub returns-then-not-has_catch-clause-added : goal.returns-then-not-has_catch-clause-added
+returns-then-not-has_catch-clause-added c =
+    none_needed (item_at (type_slots c.args.types.now)) (tag_places c.args.tag_types.now) (slots_of c.args.types.now) c.args.operators.now (map place c.new.result.items) (sym c.has_catch.ensures ∙ c.if-not-has_catch.true) (ap (map place) c.new.ensures.items)
+
+pub returns-then-not-has_catch-clause-stays : goal.returns-then-not-has_catch-clause-stays
+returns-then-not-has_catch-clause-stays c = stays_same (type_slots c.args.types.now) (type_slots c.args.types.now) refl
 
 pub add_needed-requires : goal.add_needed-requires
 add_needed-requires c =

@@ -2,10 +2,10 @@ use Rattle.std.proofs.Common.{◌≡◌, ap, sym, ◌∙◌}
 use Rattle.walrus_types.specs.Alone.{alone}
 use Rattle.walrus_types.specs.Composite.{function_type}
 use Rattle.walrus_types.specs.TypeDef.{type_def, type_place}
-use Rattle.walrus_types.proofs.Indexed.{only_same}
+use Rattle.walrus_types.proofs.Indexed.{some_same}
 use Rattle.walrus_types.proofs.slots.note_alone.Goals as goal
 
 pub returns-in-None-alone_function-clause-noted : goal.returns-in-None-alone_function-clause-noted
-returns-in-None-alone_function-clause-noted c = λ ty f only is apart.
-    let same : ty ≡ c.in-Some.ty.now = only_same c.args.added.now ty c.in-Some.ty.now only c.in-Some.ensures in
+returns-in-None-alone_function-clause-noted c = λ ty f at is apart.
+    let same : ty ≡ c.in-Some.ty = some_same ty c.in-Some.ty (sym at ∙ c.in-Some.is) in
     absurd (c.in-None-alone_function.ensures (function_type f) (ap (λ t. type_def t) (sym same) ∙ is ∙ ap (λ t. alone (type_place t) (function_type f)) same))

@@ -1,14 +1,11 @@
-use Rattle.std.proofs.Common.{◌∙◌, ℕ, ap₂, map, subst, sym}
-use Rattle.std.specs.Global.{Vec}
+use Rattle.std.proofs.Common.{◌∙◌, ℕ, List, ap₂, map, subst, sym}
 use Rattle.std.proofs.lemmas.Result.{err_from_is_err_and}
 use Rattle.walrus_base.specs.Arena.{entries}
 use Rattle.walrus_base.specs.Id.{place}
 use Rattle.walrus_code.specs.Indices.{index_of, local_index}
-use Rattle.walrus_code.specs.declared.location.InstrLocId.{InstrLocId}
+use Rattle.walrus_functions.specs.EmittedBody.{BodyWritten}
 use Rattle.walrus_functions.specs.declared.emit.EmittedBody.{EmittedBody}
-use Rattle.walrus_parts.specs.Transform.{location_of}
-use Rattle.walrus_writing.specs.Located.{AreOffsets}
-use Rattle.walrus_writing.specs.Parts.{used_among}
+use Rattle.walrus_writing.specs.Parts.{source, used_among}
 use Rattle.walrus_writing.proofs.Indexed.{body_refused, local_seen}
 use Rattle.walrus_writing.proofs.LocatedBodies.{offsets_written}
 use Rattle.walrus_writing.proofs.UsedLeft.{used_refused}
@@ -19,11 +16,11 @@ returns-clause-value c = (
   record {
     local = c.in-Some.local.now;
     is = local_seen c.args.under.parts (place c.args.id) c.in-Some.local.now (sym c.in-Some.ensures);
-    places = map (λ p. p.1) c.in_ok-body.body.places.items;
+    places = c.in_ok-body.ensures.written.0;
     numbers = local_index c.in_ok-body.body.locals;
     ids = map place c.in_ok-body.body.order.items;
     used = c.in_ok-body.body.used.items;
-    written = c.in_ok-body.ensures.written;
+    written = c.in_ok-body.ensures.written.1.0;
   },
   c.in_ok-used.ensures.value ∙ ap₂ (λ ids used. entries (used_among (map place ids) used)) c.as_slice.ensures.value c.as_slice-2.ensures.value,
 )
@@ -31,17 +28,18 @@ returns-clause-value c = (
 pub returns-in_err-body-clause-fails : goal.returns-in_err-body-clause-fails
 returns-in_err-body-clause-fails c =
     let p = err_from_is_err_and c.from_residual.result c.from_residual.ensures.1 in
-    rw (p.1, p.2) (body_refused c.args.under.parts (index_of c.args.under.indices.now) c.args.under.features.now (place c.args.id) c.in-Some.local.now (λ (b : EmittedBody). b.bytes.items) (λ b. map (λ p. p.1) b.places.items) (λ b. local_index b.locals) (λ b. map place b.order.items) (λ b. b.used.items) _ c.requires.indexed (sym c.in-Some.ensures) c.in_err-body.ensures.written)
+    rw (p.1, p.2) (body_refused c.args.under.parts (index_of c.args.under.indices.now) c.args.under.features.now (place c.args.id) c.in-Some.local.now (λ (b : EmittedBody). b.bytes.items) (λ _. c.in_err-body.ensures.written.0) (λ b. local_index b.locals) (λ b. map place b.order.items) (λ b. b.used.items) _ c.requires.indexed (sym c.in-Some.ensures) c.in_err-body.ensures.written.1.0)
 
 pub returns-in_err-used-clause-fails : goal.returns-in_err-used-clause-fails
 returns-in_err-used-clause-fails c =
     let p = err_from_is_err_and c.from_residual-in_err-used.result c.from_residual-in_err-used.ensures.1 in
     rw (p.1, p.2) (used_refused c.args.under.parts (index_of c.args.under.indices.now) c.args.under.features.now (place c.args.id) c.in-Some.local.now
-    (local_seen c.args.under.parts (place c.args.id) c.in-Some.local.now (sym c.in-Some.ensures)) _ _ _ c.in_ok-body.body.order.items _ c.in_ok-body.ensures.written _ c.as_slice.ensures.value _ c.in_err-used.ensures.fails)
+    (local_seen c.args.under.parts (place c.args.id) c.in-Some.local.now (sym c.in-Some.ensures)) _ _ _ c.in_ok-body.body.order.items _ c.in_ok-body.ensures.written.1.0 _ c.as_slice.ensures.value _ c.in_err-used.ensures.fails)
 
 pub returns-clause-located : goal.returns-clause-located
 returns-clause-located c = λ asked.
     let body = c.in_ok-body.body in
-    subst (λ (l : Vec (InstrLocId × ℕ)). AreOffsets c.args.under.parts (place c.args.id) body.bytes.items (map location_of l.items)) (sym (c.asked_places-places.ensures asked))
-    (offsets_written c.args.under.parts (index_of c.args.under.indices.now) c.args.under.features.now (place c.args.id) c.in-Some.local.now body.places.items body.bytes.items (local_index body.locals)
-    (map place body.order.items) body.used.items (sym c.in-Some.ensures) c.in_ok-body.ensures.located c.in_ok-body.ensures.written)
+    offsets_written c.args.under.parts (index_of c.args.under.indices.now) c.args.under.features.now (place c.args.id) c.in-Some.local.now body.places.items body.bytes.items (local_index body.locals)
+    (map place body.order.items) body.used.items (sym c.in-Some.ensures) (rw asked at c.in_ok-body.ensures.located)
+    (subst (λ (ps : List ℕ). BodyWritten (source c.args.under.parts (index_of c.args.under.indices.now) c.args.under.features.now c.in-Some.local.now) body.bytes.items ps (local_index body.locals) (map place body.order.items) body.used.items)
+    (sym (rw asked at c.in_ok-body.ensures.written.1.1)) c.in_ok-body.ensures.written.1.0)

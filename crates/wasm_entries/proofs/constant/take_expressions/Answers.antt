@@ -12,7 +12,7 @@ use Rattle.wasm_entries.proofs.constant.take_expressions.Goals as goal
 pub returns-in_err-found : goal.returns-in_err-found
 returns-in_err-found c =
     let f = at expression_form in
-    let p = err_from_is_err_and c.from_residual.result c.from_residual.ensures.1 in
+    let p = err_from_is_err_and c.from_residual-in_err-found.result c.from_residual-in_err-found.ensures.1 in
     let left : c.args.count - c.expressions._taken ≡ suc (c.args.count - (c.expressions._taken + 1)) = omega arith in
     let done = map expression c.expressions.expressions.items in
     rw (p.1, p.2) (refused c.in_err-found.field-0.0 (f c.expressions.rest.now) (row_at f c.args.count c.args.bytes.now) c.in_err-found.ensures

@@ -12,7 +12,7 @@ use Rattle.wasm_entries.proofs.group.take_groups.Goals as goal
 pub returns-in_err-types : goal.returns-in_err-types
 returns-in_err-types c =
     let f = at group_form in
-    let p = err_from_is_err_and c.from_residual.result c.from_residual.ensures.1 in
+    let p = err_from_is_err_and c.from_residual-in_err-types.result c.from_residual-in_err-types.ensures.1 in
     let e : c.args.count - c.groups._taken ≡ suc (c.args.count - (c.groups._taken + 1)) = omega arith in
     rw (p.1, p.2) (refused c.in_err-types.field-0.0 (f c.groups.rest.now) (row_at f c.args.count c.args.bytes.now) c.in_err-types.ensures
     (λ n. c.groups.invariant ∙ ap (λ k. row_at f k c.groups.rest.now >>= behind (map group c.groups.groups.items)) e ∙ row_stuck f (c.args.count - (c.groups._taken + 1)) c.groups.rest.now (map group c.groups.groups.items) n))

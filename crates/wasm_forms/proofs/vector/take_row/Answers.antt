@@ -10,7 +10,7 @@ use Rattle.wasm_forms.proofs.vector.take_row.Goals as goal
 pub returns-in_err-item : goal.returns-in_err-item
 returns-in_err-item g c =
     let f = at g.E.Element.form in
-    let p = err_from_is_err_and c.from_residual.result c.from_residual.ensures.1 in
+    let p = err_from_is_err_and c.from_residual-in_err-item.result c.from_residual-in_err-item.ensures.1 in
     let e : c.args.count - c.elements._taken ≡ suc (c.args.count - (c.elements._taken + 1)) = omega arith in
     rw (p.1, p.2) (refused c.in_err-item.field-0.0 (f c.elements.rest.now) (row_at f c.args.count c.args.bytes.now) c.in_err-item.ensures
     (λ n. c.elements.invariant ∙ ap (λ k. row_at f k c.elements.rest.now >>= behind (map g.E.Element.view c.elements.items.items)) e ∙ row_stuck f (c.args.count - (c.elements._taken + 1)) c.elements.rest.now (map g.E.Element.view c.elements.items.items) n))

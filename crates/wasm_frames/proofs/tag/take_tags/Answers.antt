@@ -10,7 +10,7 @@ use Rattle.wasm_frames.proofs.tag.take_tags.Goals as goal
 pub returns-in_err-index : goal.returns-in_err-index
 returns-in_err-index c =
     let f = at tag_type in
-    let p = err_from_is_err_and c.from_residual.result c.from_residual.ensures.1 in
+    let p = err_from_is_err_and c.from_residual-in_err-index.result c.from_residual-in_err-index.ensures.1 in
     let e : c.args.count - c.reading._taken ≡ suc (c.args.count - (c.reading._taken + 1)) = omega arith in
     rw (p.1, p.2) (refuses_through _ _ _
     (λ n. c.reading.invariant ∙ ap (λ k. row_at f k c.reading.rest.now >>= behind c.reading.tags.items) e ∙ row_stuck f (c.args.count - (c.reading._taken + 1)) c.reading.rest.now c.reading.tags.items n) c.in_err-index.ensures)

@@ -17,8 +17,9 @@ invariant_of-self c =
       whole = whole-same (cleared emptied (type_slots old)) _ (ap (λ places. defs places) c.clear.ensures ∙ map-cleared type_def emptied old.places.items)
           (whole-cleared (type_slots old) (place c.args.id) (type_def c.get-ty.result.now) c.get-ty.ensures.value old.whole);
       under_own_ids = rw c.clear.ensures (under_own_ids-cleared 0 emptied old.places.items old.under_own_ids);
-      indexed = indexed-seen old.index (cleared emptied old.places.items) c.clear.new.places.items (indexed-cleared old.index emptied old.places.items old.indexed) (ap (λ places. defs places) c.clear.ensures);
-      in_order = rw (ap (λ places. length places) c.clear.ensures ∙ length-cleared emptied old.places.items) old.in_order;
+      indexed = indexed-seen old.index old.noted (cleared emptied old.places.items) c.clear.new.places.items (indexed-cleared old.index old.noted emptied old.places.items old.indexed) (ap (λ places. defs places) c.clear.ensures);
+      within = rw (ap (λ places. length places) c.clear.ensures ∙ length-cleared emptied old.places.items) old.within;
+      in_order = old.in_order;
       not_named = old.not_named;
     }
 

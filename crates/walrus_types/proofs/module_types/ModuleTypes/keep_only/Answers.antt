@@ -19,8 +19,9 @@ invariant_of-self c =
       whole = whole-same (kept_by keeps (type_slots old)) _ (ap (λ places. defs places) kept ∙ map-kept_by type_def keeps old.places.items)
           (whole-kept keeps (type_slots old) old.whole c.requires);
       under_own_ids = rw kept (under_own_ids-kept 0 keeps old.places.items old.under_own_ids);
-      indexed = indexed-seen old.index (kept_by keeps old.places.items) c.keep_marked.new.places.items (indexed-kept old.index keeps old.places.items old.indexed) (ap (λ places. defs places) kept);
-      in_order = rw (ap (λ places. length places) kept ∙ length-kept_by keeps old.places.items) old.in_order;
+      indexed = indexed-seen old.index old.noted (kept_by keeps old.places.items) c.keep_marked.new.places.items (indexed-kept old.index old.noted keeps old.places.items old.indexed) (ap (λ places. defs places) kept);
+      within = rw (ap (λ places. length places) kept ∙ length-kept_by keeps old.places.items) old.within;
+      in_order = old.in_order;
       not_named = old.not_named;
     }
 

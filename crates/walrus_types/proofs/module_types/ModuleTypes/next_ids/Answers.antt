@@ -7,7 +7,7 @@ use Rattle.walrus_types.proofs.Places.{next_id_step, next_ids_done}
 use Rattle.walrus_types.proofs.module_types.ModuleTypes.next_ids.Goals as goal
 
 pub loop-place-init : goal.loop-place-init
-loop-place-init c = ap (λ xs. map (λ x. place x) xs ++ places_between c.len-first.result c.in-Some.end) c.new-ids.ensures.items
+loop-place-init c = ap (λ xs. map (λ x. place x) xs ++ places_between c.len-first.result c.in-Some.end) c.in_ok-ids.ensures.items
 
 pub loop-place-preserved : goal.loop-place-preserved
 loop-place-preserved c =

@@ -1,0 +1,164 @@
+//! The locals that operators name, by marks in a window over their places.
+ghost use Rattle.std.specs.Prelude.{◌≡◌, ◌≤◌, ◌<◌, ◌+◌, ◌*◌, ◌^◌, ◌++◌, ◌∷◌, [], ℕ, flat_map, length, map, option_to_list, IfOk, IsTrue};
+ghost use Rattle.walrus_base.specs.Id.{place};
+ghost use Rattle.walrus_types.specs.Operators.{arg_locals, locals_of};
+ghost use Rattle.walrus_code.specs.Code.{arg_of, ops_of};
+ghost use Rattle.walrus_functions.specs.Marked.{AreMarked, Marks, marked};
+
+use std::alloc::{AllocError, Global};
+use walrus_base::LocalId;
+use walrus_code::{Arg, Operator};
+
+// The local that an argument names.
+fn local_of(arg: &Arg) -> Option<LocalId>
+    ensures { map place (option_to_list result) ≡ arg_locals (arg_of arg.now) }
+{
+    match *arg {
+        Arg::Local(id) => Some(id),
+        Arg::Function(_)
+        | Arg::Type(_)
+        | Arg::Table(_)
+        | Arg::Memory(_)
+        | Arg::Global(_)
+        | Arg::Tag(_)
+        | Arg::Element(_)
+        | Arg::Data(_)
+        | Arg::Label(_)
+        | Arg::Count(_)
+        | Arg::Number(_)
+        | Arg::Byte(_)
+        | Arg::S32(_)
+        | Arg::S64(_)
+        | Arg::F32(_)
+        | Arg::F64(_)
+        | Arg::Value(_)
+        | Arg::Heap(_)
+        | Arg::Block(_)
+        | Arg::Access { .. } => None,
+    }
+}
+
+// A range of places, from the first one to one past the last, and those of the locals that arguments name.
+fn widened(range: (usize, usize), args: &[Arg]) -> (usize, usize)
+    ensures { (result.0 ≤ range.0) × (range.1 ≤ result.1) }
+{
+    let (mut first, mut past) = range;
+    for arg in args {
+        if let Some(id) = local_of(arg) {
+            first = first.min(id.index());
+            past = past.max(id.index().saturating_add(1));
+        }
+    }
+    (first, past)
+}
+
+// The first place of the locals that operators name, and how many places lie from there to the last one; no place where they lie
+// far apart.
+pub(crate) fn named_window(operators: &[Operator]) -> (usize, usize)
+    ensures few { result.1 ≤ 8 * length operators.now + 7 }
+    ensures room { result.0 + result.1 < 2 ^ 64 }
+{
+    let mut range = (usize::MAX, 0);
+    for operator in operators {
+        range = widened(range, operator.args.as_slice());
+    }
+    let (first, past) = range;
+    let span = past.saturating_sub(first);
+    if span / 8 <= operators.len() {
+        (first, span)
+    } else {
+        (first, 0)
+    }
+}
+
+// A window with no place marked.
+pub(crate) fn no_marks(alloc: Global, span: usize) -> Result<Vec<bool>, AllocError>
+    ensures none { IfOk result (λ marks. (first : ℕ) → AreMarked first marks.items []) }
+    ensures span { IfOk result (λ marks. length marks.items ≡ span) }
+{
+    let mut marks = Vec::new(alloc);
+    marks.resize(span, false)?;
+    Ok(marks)
+}
+
+// Marks a place, if the window has it.
+fn mark(marks: &mut Vec<bool>, first: usize, place: usize) -> bool
+    ensures marks { IsTrue result → Marks first marks.old.items marks.new.items (place ∷ []) }
+    ensures span { length marks.new.items ≡ length marks.old.items }
+{
+    let Some(offset) = place.checked_sub(first) else {
+        return false;
+    };
+    if offset >= marks.len() {
+        return false;
+    }
+    marks[offset] = true;
+    true
+}
+
+// Marks the local that an argument names, if the window has it.
+fn mark_arg(marks: &mut Vec<bool>, first: usize, arg: &Arg) -> bool
+    ensures marks { IsTrue result → Marks first marks.old.items marks.new.items
+        (arg_locals (arg_of arg.now)) }
+    ensures span { length marks.new.items ≡ length marks.old.items }
+{
+    match local_of(arg) {
+        Some(id) => mark(marks, first, id.index()),
+        None => true,
+    }
+}
+
+// Marks the locals that arguments name, if the window has them.
+fn mark_args(marks: &mut Vec<bool>, first: usize, args: &[Arg]) -> bool
+    ensures marks { IsTrue result → Marks first marks.old.items marks.new.items
+        (flat_map arg_locals (map arg_of args.now)) }
+    ensures span { length marks.new.items ≡ length marks.old.items }
+{
+    for arg in args {
+        if !mark_arg(marks, first, arg) {
+            return false;
+        }
+    }
+    true
+}
+
+// Marks the locals that operators name, if the window has them.
+pub(crate) fn mark_named(marks: &mut Vec<bool>, first: usize, operators: &[Operator]) -> bool
+    ensures marks { IsTrue result → Marks first marks.old.items marks.new.items
+        (locals_of (ops_of operators.now)) }
+    ensures span { length marks.new.items ≡ length marks.old.items }
+{
+    for operator in operators {
+        if !mark_args(marks, first, operator.args.as_slice()) {
+            return false;
+        }
+    }
+    true
+}
+
+// The marked places, as locals.
+pub(crate) fn marked_locals(
+    alloc: Global,
+    first: usize,
+    marks: &[bool],
+) -> Result<Vec<LocalId>, AllocError>
+    requires { first + length marks.now < 2 ^ 64 }
+    ensures { IfOk result (λ named. map place named.items ≡ marked first marks.now) }
+{
+    let mut named = Vec::new(alloc);
+    'places: for offset in 0..marks.len() {
+        push_if(&mut named, marks[offset], first + offset)?;
+    }
+    Ok(named)
+}
+
+// Takes a place as a local, if it is marked.
+fn push_if(named: &mut Vec<LocalId>, is_marked: bool, index: usize) -> Result<(), AllocError>
+    ensures { IfOk result (λ _. map place named.new.items
+        ≡ map place named.old.items ++ marked index (is_marked ∷ [])) }
+{
+    if is_marked {
+        named.push(LocalId::at(index))?;
+    }
+    Ok(())
+}
