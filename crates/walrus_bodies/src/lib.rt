@@ -16,3 +16,4 @@ pub use emit::{append_operators, emit_operators};
 pub use features::Features;
 pub use read::read_operators;
 pub use types::{FunctionTypes, blocks_hold};
+pub use walrus_code::{Arg, Args, Operator};

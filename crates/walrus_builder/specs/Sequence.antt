@@ -1,14 +1,15 @@
 -- What a contract sees of a sequence of operators that is being built.
 use Rattle.std.specs.Prelude.{◌≡◌, ℕ, List, map}
 use Rattle.walrus_types.specs.Operators.{Op}
-use Rattle.walrus_code.specs.Code.{ops_of}
-use Rattle.walrus_code.specs.Location.{location}
-use Rattle.walrus_code.specs.declared.operator.Operator.{Operator}
+use Rattle.walrus_text.specs.Code.{ops_of}
+use Rattle.walrus_text.specs.Location.{location}
+use Rattle.walrus_text.specs.Operator.{Operator}
+use Rattle.walrus_text.specs.Results as text
 use Rattle.walrus_builder.specs.declared.sequence.InstrSeqBuilder.{InstrSeqBuilder}
 
 -- where each operator came from
 abbrev pub locations : List Operator → List ℕ
-locations operators = map (λ operator. location operator.loc) operators
+locations operators = map location (text.locations operators)
 
 -- the operators that were built, in order, over the places of the items that they name
 abbrev pub built : InstrSeqBuilder → List Op

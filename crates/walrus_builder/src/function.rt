@@ -1,18 +1,19 @@
 //! Functions that are being built.
-ghost use Rattle.std.specs.Prelude.{◌≡◌, ◌∷◌, ◌++◌, [], None, pos, IfOk, OnOk, MatchResult};
+ghost use Rattle.std.specs.Prelude.{◌≡◌, ◌∷◌, ◌++◌, [], None, map, pos, IfOk, OnOk, MatchResult};
 ghost use Rattle.std.specs.Borrow.{sem};
 ghost use Rattle.walrus_base.specs.Id.{place};
 ghost use Rattle.walrus_types.specs.Alone.{FoundOrAdded};
 ghost use Rattle.walrus_types.specs.Composite.{function_of};
 ghost use Rattle.walrus_types.specs.ModuleTypes.{type_slots, type_names};
-ghost use Rattle.walrus_code.specs.Function.{function_type, body_of};
+ghost use Rattle.walrus_text.specs.Function.{function_type, body_of, locations_of, args_of, handlers_in};
 ghost use Rattle.walrus_builder.specs.Instructions.{end_op, i32_const_op, drop_op, nowhere};
-ghost use Rattle.walrus_builder.specs.Sequence.{built, located, locations};
+ghost use Rattle.walrus_text.specs.Location.{location};
+ghost use Rattle.walrus_builder.specs.Sequence.{built, located};
 
 use crate::sequence::InstrSeqBuilder;
 use std::alloc::{AllocError, Global};
 use walrus_base::{LocalId, TypeId};
-use walrus_code::LocalFunction;
+use walrus_text::LocalFunction;
 use walrus_types::{ModuleTypes, ValType};
 
 /// A function with a body that is being built (Structure > Modules > Functions).
@@ -73,14 +74,15 @@ impl FunctionBuilder {
 
     /// The function of this name and type with these argument locals. Its body is the operators that were built, and behind them
     /// the last `0B`, which came from nowhere. It has no handlers.
+    #[tactic(auto, unfolding(walrus_text::specs::Function::body_of, walrus_text::specs::Function::locations_of, walrus_text::specs::Function::args_of, walrus_text::specs::Function::handlers_in))]
     pub fn local_func(self, args: Vec<LocalId>) -> Result<LocalFunction, AllocError>
         ensures name { IfOk result (λ f. f.name ≡ builder_name self) }
         ensures ty { IfOk result (λ f. function_type f ≡ builder_type self) }
-        ensures args { IfOk result (λ f. f.args ≡ args) }
+        ensures args { IfOk result (λ f. args_of f ≡ map place args.items) }
         ensures body { IfOk result (λ f. body_of f ≡ built (builder_body self) ++ end_op ∷ []) }
-        ensures locations { IfOk result (λ f. locations f.operators.items ≡ located (builder_body self)
+        ensures locations { IfOk result (λ f. map location (locations_of f) ≡ located (builder_body self)
             ++ nowhere ∷ []) }
-        ensures handler_types { IfOk result (λ f. f.handler_types.items ≡ []) }
+        ensures handler_types { IfOk result (λ f. handlers_in f ≡ []) }
     {
         let FunctionBuilder {
             name,

@@ -1,14 +1,14 @@
 //! Sequences of operators, built one behind another.
-ghost use Rattle.std.specs.Prelude.{◌≡◌, ◌∷◌, ◌++◌, [], None, length, IfOk, OnOk, OnErr};
+ghost use Rattle.std.specs.Prelude.{◌≡◌, ◌∷◌, ◌++◌, [], None, length, map, IfOk, OnOk, OnErr};
 ghost use Rattle.walrus_base.specs.Id.{place};
-ghost use Rattle.walrus_code.specs.Code.{op_of, ops_of};
-ghost use Rattle.walrus_code.specs.Function.{function_type, body_of};
-ghost use Rattle.walrus_code.specs.Location.{location};
+ghost use Rattle.walrus_text.specs.Code.{op_of, ops_of};
+ghost use Rattle.walrus_text.specs.Function.{function_type, body_of, locations_of, args_of, handlers_in};
+ghost use Rattle.walrus_text.specs.Location.{location};
 ghost use Rattle.walrus_builder.specs.Instructions.{end_op, unreachable_op, call_op, drop_op, local_get_op, i32_const_op, nowhere};
 
 use std::alloc::{AllocError, Global};
 use walrus_base::{FunctionId, LocalId, TypeId};
-use walrus_code::{Arg, Args, LocalFunction, Operator};
+use walrus_text::{Arg, Args, LocalFunction, Operator};
 use wasm_opcodes::one_byte::{CALL, DROP, I32_CONST, LOCAL_GET, UNREACHABLE};
 
 /// A sequence of operators that is being built (Structure > Instructions > Expressions).
@@ -55,10 +55,10 @@ impl InstrSeqBuilder {
     ) -> Result<LocalFunction, AllocError>
         ensures name { IfOk result (λ f. f.name ≡ None) }
         ensures ty { IfOk result (λ f. function_type f ≡ ty) }
-        ensures args { IfOk result (λ f. f.args ≡ args) }
+        ensures args { IfOk result (λ f. args_of f ≡ map place args.items) }
         ensures body { IfOk result (λ f. body_of f ≡ built self ++ end_op ∷ []) }
-        ensures locations { IfOk result (λ f. locations f.operators.items ≡ located self ++ nowhere ∷ []) }
-        ensures handler_types { IfOk result (λ f. f.handler_types.items ≡ []) }
+        ensures locations { IfOk result (λ f. map location (locations_of f) ≡ located self ++ nowhere ∷ []) }
+        ensures handler_types { IfOk result (λ f. handlers_in f ≡ []) }
     {
         let mut body = self;
         body.push(Operator::new(Operator::END, Args::None))?;

@@ -1,4 +1,4 @@
-mod Arguments
+pub mod Arguments
 pub mod BackLemmas
 pub mod Placing
 pub mod Ranges

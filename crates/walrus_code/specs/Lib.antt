@@ -1,7 +1,6 @@
 pub mod Code
 pub mod Errors
 pub mod FromRaw
-pub mod Function
 pub mod Indices
 pub mod Location
 pub mod Names

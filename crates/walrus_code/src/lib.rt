@@ -3,7 +3,6 @@
 #![tactic(auto)]
 
 mod error;
-mod function;
 mod indices;
 mod items;
 mod law;
@@ -15,7 +14,6 @@ mod to_ids;
 mod to_indices;
 
 pub use error::IrError;
-pub use function::LocalFunction;
 pub use indices::{IndexSpace, IndicesToIds};
 pub use items::{ItemId, push_locals, push_names};
 pub use law::named_operators_lead_back;

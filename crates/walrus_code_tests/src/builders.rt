@@ -4,7 +4,8 @@ use std::alloc::{AllocError, Global};
 use std::test::Fail;
 use test_support::{demand, first_id, is_name};
 use walrus_builder::{FunctionBuilder, InstrSeqBuilder};
-use walrus_code::{Arg, Args, LocalFunction, Operator};
+use walrus_code::{Arg, Args, Operator};
+use walrus_text::LocalFunction;
 use walrus_types::{ModuleTypes, ValType};
 use wasm_opcodes::one_byte::{CALL, DROP, END, I32_CONST, LOCAL_GET, NOP, UNREACHABLE};
 
@@ -61,8 +62,5 @@ fn a_function_is_built(rt: HostRuntime) -> Result<(), Fail> {
     let built = function(rt.alloc(), &mut types)?;
     demand(is_name(&built.name, "f"), "its name")?;
     demand(types.len() == 1, "one type")?;
-    demand(
-        are_built(rt.alloc(), built.operators.as_slice()),
-        "seven operators",
-    )
+    demand(are_built(rt.alloc(), built.operators()), "seven operators")
 }

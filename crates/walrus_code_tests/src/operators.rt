@@ -6,9 +6,10 @@ use std::test::Fail;
 use test_support::{demand, first_id, second_id};
 use walrus_base::{FunctionId, LocalId, TypeId};
 use walrus_code::{
-    Arg, Args, IdsToIndices, IndicesToIds, InstrLocId, ItemId, LocalFunction, LocalNumbers,
-    Operator, index_operator, index_value, name_operator, name_value, push_locals, push_names,
+    Arg, Args, IdsToIndices, IndicesToIds, InstrLocId, ItemId, LocalNumbers, Operator,
+    index_operator, index_value, name_operator, name_value, push_locals, push_names,
 };
+use walrus_text::LocalFunction;
 use walrus_types::{HeapType, RefType, ValType};
 use wasm_forms::{RawHeap, RawRef, RawVal};
 use wasm_opcodes::one_byte::{CALL, CALL_INDIRECT};
@@ -184,5 +185,5 @@ fn a_function_has_its_parts(rt: HostRuntime) -> Result<(), Fail> {
     let function = LocalFunction::new(rt.alloc(), ty, Vec::new(rt.alloc()), operators);
     demand(function.ty() == ty, "its type")?;
     demand(function.size() == 1, "one operator")?;
-    demand(function.handler_types.is_empty(), "no handler's type")
+    demand(function.handler_types().is_empty(), "no handler's type")
 }

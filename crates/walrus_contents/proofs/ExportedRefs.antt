@@ -7,11 +7,12 @@ use Rattle.std.proofs.lemmas.List.Elements.{All-from_recursion, Contains-append_
 use Rattle.std.proofs.lemmas.List.Kept.{AllPairs-cons, AllPairs-filter}
 use Rattle.walrus_base.specs.Arena.{item_at, items, entries}
 use Rattle.walrus_base.specs.Marks.{marked_from}
-use Rattle.walrus_code.specs.Function.{body_of}
+use Rattle.walrus_items.specs.Function.{body_of}
 use Rattle.walrus_types.specs.ConstOps.{const_ops}
 use Rattle.walrus_types.specs.Operators.{Types, Functions, Tables, Memories, Tags, Globals, Elements, DataSegments, Arg, Index, Label, Local, Number, Count, Byte, S32, S64, Bits32, Bits64, Value as ValueArg, Heap, Block, Access, Item, Op, function_item}
+use Rattle.walrus_types.proofs.Noted.{or_left, or_right}
 use Rattle.walrus_types.proofs.ShapesEnd.{has_contained}
-use Rattle.walrus_code.specs.declared.function.LocalFunction.{LocalFunction}
+use Rattle.walrus_items.specs.LocalFunction.{LocalFunction}
 use Rattle.walrus_items.specs.Exports.{ExportValue, exports}
 use Rattle.walrus_items.specs.Kinds.{exported}
 use Rattle.walrus_items.specs.Elements.{ElementValue, elements}
@@ -72,19 +73,11 @@ Bounds all left n = (f : ℕ) → has all f ≡ true → (f < n) ⊎ (has left f
 pub left_at : {X : Type 0} (value : X → ℕ) (xs : List X) (i : ℕ) (d : X) → i < length xs → map value (drop i xs) ≡ value (get_or xs i d) ∷ map value (drop (i + 1) xs)
 left_at value xs i d lt = ap (map value) (let whole : drop i xs ≡ get_or xs i d ∷ drop (i + 1) xs = rw add-one (drop-cons xs i d lt) in whole)
 
-here_true : (a b : Bool) → a ≡ true → (a || b) ≡ true
-here_true true b e = refl
-here_true false b e = absurd (false≢true e)
-
-later_true : (a b : Bool) → b ≡ true → (a || b) ≡ true
-later_true true b e = refl
-later_true false b e = e
-
 pub room_here : (left rest : List ℕ) (x n : ℕ) → left ≡ x ∷ rest → ((f : ℕ) → has left f ≡ true → f < n) → x < n
-room_here left rest x n is room = room x (subst (λ (xs : List ℕ). has xs x ≡ true) (sym is) (here_true (x == x) (has rest x) (eq-eqb x x refl)))
+room_here left rest x n is room = room x (subst (λ (xs : List ℕ). has xs x ≡ true) (sym is) (or_left (x == x) (has rest x) (eq-eqb x x refl)))
 
 pub room_later : (left rest : List ℕ) (x n m : ℕ) → left ≡ x ∷ rest → m ≡ n → ((f : ℕ) → has left f ≡ true → f < n) → (f : ℕ) → has rest f ≡ true → f < m
-room_later left rest x n m is same room f at = subst (λ (k : ℕ). f < k) (sym same) (room f (subst (λ (xs : List ℕ). has xs f ≡ true) (sym is) (later_true (x == f) (has rest f) at)))
+room_later left rest x n m is same room f at = subst (λ (k : ℕ). f < k) (sym same) (room f (subst (λ (xs : List ℕ). has xs f ≡ true) (sym is) (or_right (x == f) (has rest f) at)))
 
 swapped : (a b c : Bool) → (b || (a || c)) ≡ ((a || b) || c)
 swapped true true c = refl

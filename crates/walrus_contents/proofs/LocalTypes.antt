@@ -1,16 +1,13 @@
 -- The types of the locals that operators name, one after another.
-use Rattle.std.proofs.Common.{◌≡◌, ℕ, ◌+◌, ◌<◌, ◌≤◌, ⊎_elim, List, [], ◌∷◌, ◌++◌, length, map, take, get_or, ap, arith, refl, sym, ◌∙◌, subst}
+use Rattle.std.proofs.Common.{◌≡◌, ℕ, ◌+◌, ◌<◌, ◌≤◌, ⊎_elim, List, [], ◌∷◌, ◌++◌, length, map, take, get_or, ap, arith, sym, ◌∙◌, subst}
 use Rattle.std.specs.Prelude.{IsSome, MatchResult, None, Result, flat_map}
 use Rattle.std.specs.Global.{Vec}
 use Rattle.std.proofs.lemmas.Grind.{flat_map-append}
 use Rattle.std.proofs.lemmas.List.{append-nil, map_more, take_all}
 use Rattle.std.proofs.lemmas.List.Elements.{Contains-append_cases}
 use Rattle.walrus_types.specs.declared.locals.ModuleLocals.{ModuleLocals}
-use Rattle.walrus_types.specs.Operators.{Item, arg_locals}
-use Rattle.walrus_code.specs.Code.{arg_of}
+use Rattle.walrus_types.specs.Operators.{Item}
 use Rattle.walrus_code.specs.declared.items.ItemId.{ItemId}
-use Rattle.walrus_code.specs.declared.operator.Arg.{Arg as DeclaredArg}
-use Rattle.walrus_code.specs.declared.operator.Arg.TheVariants as declared
 use Rattle.walrus_items.specs.Error.{Error}
 use Rattle.walrus_model.proofs.TypeRules.{Contains-flat_map}
 use Rattle.walrus_contents.specs.Named.{AreThere, OneIsMissing, Puts, PutsTypes, items_in, local_type_names, type_at}
@@ -80,27 +77,3 @@ module _ (all : ModuleLocals) where
     missing_among xs i d lt missing =
         let next = value (get_or xs i d) in
         (missing.0, (Contains-flat_map uses (map value xs) next missing.0 (among value xs i d lt) missing.1.0, missing.1.1))
-
--- an argument that is no local names none
-pub no_local : (arg : DeclaredArg) → ((id : _) → arg ≡ declared.Local id → ⊥) → arg_locals (arg_of arg) ≡ []
-no_local (declared.Local id) h = absurd (h id refl)
-no_local (declared.Function id) h = refl
-no_local (declared.«Type» id) h = refl
-no_local (declared.Table id) h = refl
-no_local (declared.Memory id) h = refl
-no_local (declared.Global id) h = refl
-no_local (declared.Tag id) h = refl
-no_local (declared.Element id) h = refl
-no_local (declared.Data id) h = refl
-no_local (declared.Label n) h = refl
-no_local (declared.Count n) h = refl
-no_local (declared.Number n) h = refl
-no_local (declared.Byte b) h = refl
-no_local (declared.S32 z) h = refl
-no_local (declared.S64 z) h = refl
-no_local (declared.F32 bits) h = refl
-no_local (declared.F64 bits) h = refl
-no_local (declared.Value x) h = refl
-no_local (declared.Heap x) h = refl
-no_local (declared.Block b) h = refl
-no_local (declared.Access flags memory offset) h = refl

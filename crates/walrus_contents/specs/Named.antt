@@ -11,7 +11,7 @@ use Rattle.walrus_types.specs.Locals.{locals}
 use Rattle.walrus_types.specs.Operators.{Types, Functions, Tables, Memories, Tags, Globals, Elements, DataSegments, Item, function_item, type_item, locals_of}
 use Rattle.walrus_types.specs.declared.locals.ModuleLocals.{ModuleLocals}
 use Rattle.walrus_code.specs.Code.{item_of}
-use Rattle.walrus_code.specs.Function.{body_of}
+use Rattle.walrus_items.specs.Function.{body_of}
 use Rattle.walrus_code.specs.declared.items.ItemId.{ItemId}
 use Rattle.walrus_model.specs.EmittedBody.{types_of as local_types}
 use Rattle.walrus_items.specs.Kinds.{exported}

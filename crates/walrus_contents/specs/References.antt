@@ -3,7 +3,7 @@
 use Rattle.std.specs.Prelude.{ℕ, List, [], ◌∷◌, ◌++◌, Option, Some, None, filter_map, flat_map, option_map, ◌==◌, if◌then◌else◌, map}
 use Rattle.wasm_opcodes.specs.declared.one_byte.TheConstants.{REF_FUNC}
 use Rattle.walrus_base.specs.Id.{place}
-use Rattle.walrus_code.specs.Function.{body_of}
+use Rattle.walrus_items.specs.Function.{body_of}
 use Rattle.walrus_types.specs.ConstOps.{const_ops}
 use Rattle.walrus_types.specs.Operators.{Types, Functions, Tables, Memories, Tags, Globals, Elements, DataSegments, Arg, Index, Label, Local, Number, Count, Byte, S32, S64, Bits32, Bits64, Value, Heap, Block, Access, Item, Op}
 use Rattle.walrus_items.specs.Elements.{ElementValue}

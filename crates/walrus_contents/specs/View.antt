@@ -13,8 +13,8 @@ use Rattle.walrus_types.specs.PlaceList.{has}
 use Rattle.walrus_types.specs.Value.{ref_type}
 use Rattle.walrus_types.specs.declared.locals.ModuleLocals.{ModuleLocals}
 use Rattle.walrus_types.specs.declared.module_types.ModuleTypes.{ModuleTypes}
-use Rattle.walrus_code.specs.Function.{body_of}
-use Rattle.walrus_code.specs.declared.function.LocalFunction.{LocalFunction}
+use Rattle.walrus_items.specs.Function.{body_of, args_of, handlers_in}
+use Rattle.walrus_items.specs.LocalFunction.{LocalFunction}
 use Rattle.walrus_model.specs.EmittedBody.{types_of as local_types}
 use Rattle.walrus_items.specs.Kinds.{exported, imported}
 use Rattle.walrus_items.specs.Exports.{ExportValue, exports, ModuleExports}
@@ -46,12 +46,12 @@ types_of types i = item_at (type_slots types) i
 
 -- the local is used and is no parameter
 abbrev pub is_declared : LocalFunction → ℕ → Bool
-is_declared f x = has (locals_of (body_of f)) x && not (has (map place f.args.items) x)
+is_declared f x = has (locals_of (body_of f)) x && not (has (args_of f) x)
 
 -- a body with the locals that are its parameters; those that it uses beside them are declared
 abbrev pub body : ModuleLocals → LocalFunction → abstract.Body
 body all f = record {
-  parameters = map place f.args.items;
+  parameters = args_of f;
   local_type = item_at (local_types (locals all));
   declared = length (filter (is_declared f) (range_with_len 0 (length (locals all))));
   operators = body_of f;
@@ -65,7 +65,7 @@ kind_of all (kind.Uninitialized ty) = abstract.Uninitialised
 -- the types of the legacy handlers of a function
 abbrev pub kind_handlers : FunctionKind → List ℕ
 kind_handlers (kind.Import i) = []
-kind_handlers (kind.Local f) = map place f.handler_types.items
+kind_handlers (kind.Local f) = handlers_in f
 kind_handlers (kind.Uninitialized ty) = []
 
 abbrev pub handlers_at : Option FunctionValue → List ℕ

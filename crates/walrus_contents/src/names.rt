@@ -6,7 +6,7 @@ ghost use Rattle.walrus_base.specs.Id.{place};
 ghost use Rattle.walrus_base.specs.IdSet.{ids_in};
 ghost use Rattle.walrus_base.specs.Types.{heap_names, val_names};
 ghost use Rattle.walrus_code.specs.Code.{arg_of, item_of, op_of};
-ghost use Rattle.walrus_code.specs.Function.{body_of};
+ghost use Rattle.walrus_items.specs.Function.{body_of};
 ghost use Rattle.walrus_items.specs.Functions.{function_value};
 ghost use Rattle.walrus_model.specs.Live.{IsLive};
 ghost use Rattle.walrus_model.specs.Refers.{KeepsToo, body_names, function_names, kind_names, named_by};
@@ -203,7 +203,7 @@ fn push_handler_types(kind: &FunctionKind, to: &mut Vec<ItemId>) -> result::Resu
     ensures { OnOk result (Puts to.old to.new (map type_item (kind_handlers kind.now))) }
 {
     match kind {
-        FunctionKind::Local(function) => push_type_ids(function.handler_types.as_slice(), to),
+        FunctionKind::Local(function) => push_type_ids(function.handler_types(), to),
         FunctionKind::Import(_) | FunctionKind::Uninitialized(_) => Ok(()),
     }
 }
@@ -284,7 +284,7 @@ fn push_operator_names(
 ) -> result::Result<(), AllocError>
     ensures { OnOk result (Puts to.old to.new (names_of (body_of function.now))) }
 {
-    let operators = function.operators.as_slice();
+    let operators = function.operators();
     for operator in operators {
         walrus_code::push_names(to, operator)?;
     }
@@ -302,7 +302,7 @@ fn push_used_types(
         (λ _. PutsTypes locals.now (locals_of (body_of function.now)) to.old to.new)
         (IsRefusal (OneIsMissing locals.now (locals_of (body_of function.now)))) }
 {
-    let operators = function.operators.as_slice();
+    let operators = function.operators();
     for operator in operators {
         push_operator_types(locals, operator, to)?;
     }

@@ -4,7 +4,7 @@ ghost use Rattle.walrus_base.specs.Arena.{items};
 ghost use Rattle.walrus_base.specs.Id.{place};
 ghost use Rattle.walrus_base.specs.Marks.{is_marked, mark_places, places_marked};
 ghost use Rattle.walrus_code.specs.Code.{arg_of, op_of};
-ghost use Rattle.walrus_code.specs.Function.{body_of};
+ghost use Rattle.walrus_items.specs.Function.{body_of};
 ghost use Rattle.walrus_items.specs.Functions.{functions};
 ghost use Rattle.walrus_items.specs.Globals.{global_init, globals};
 ghost use Rattle.walrus_items.specs.Elements.{elements};
@@ -63,7 +63,7 @@ fn push_body_refs(function: &LocalFunction, to: &mut Vec<FunctionId>) -> Result<
         ++ filter_map op_ref (body_of function.now)) }
     ensures fails { IsOkUnless result out_of_memory }
 {
-    let operators = function.operators.as_slice();
+    let operators = function.operators();
     for operator in operators {
         if let Some(id) = operator_ref(operator) {
             to.push(id)?;

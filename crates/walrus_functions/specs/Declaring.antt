@@ -1,7 +1,8 @@
 -- What the steps answer by which the locals of a body are found, put in order, grouped and numbered. Public clauses speak of
 -- `BodyWritten` alone.
-use Rattle.std.specs.Prelude.{◌≡◌, ◌≢◌, ◌<◌, ◌≤◌, ◌↔◌, ℕ, Bool, true, false, List, [], ◌∷◌, map, flat_map, replicate, min, Option, Some, None, All, Contains, Result, Ok, Err, nat_eq, unwrap_or}
+use Rattle.std.specs.Prelude.{◌≡◌, ◌≢◌, ◌<◌, ◌≤◌, ◌-◌, ◌&&◌, ◌||◌, ◌↔◌, ℕ, Bool, true, false, List, [], ◌∷◌, map, flat_map, replicate, min, Option, Some, None, All, Contains, Result, Ok, Err, nat_eq, nat_le, nat_lt, unwrap_or}
 use Rattle.std.specs.HashMap.{HashMap, get}
+use Rattle.std.specs.HashSet as set
 use Rattle.std.specs.List.{IsDistinct, list_any}
 use Rattle.std.specs.List.Sorted.{IsStrictlySortedBy}
 use Rattle.std.specs.Ordering.{nat_cmp, ordering_then}
@@ -12,6 +13,7 @@ use Rattle.walrus_base.specs.Arena.{item_at}
 use Rattle.walrus_base.specs.Types.{ValType}
 use Rattle.walrus_types.specs.Value.{val_type}
 use Rattle.walrus_types.specs.declared.value.ValType.{ValType as DeclaredValType}
+use Rattle.walrus_types.specs.declared.value.ValType.TheVariants.{I32, I64, F32, F64, V128, Ref}
 use Rattle.walrus_types.specs.contracts.value.ValTypePartialEq.TheImpl as equality
 use Rattle.walrus_code.specs.FromRaw.{val_of}
 use Rattle.walrus_code.specs.Names.{Lookup, named_val}
@@ -19,13 +21,23 @@ use Rattle.walrus_code.specs.Results.{val_is_exact}
 use Rattle.walrus_code.specs.declared.error.IrError.{IrError}
 use Rattle.walrus_code.specs.declared.error.IrError.TheVariants.{Malformed, Memory, NoIndex, NotWritable, TooLarge}
 use Rattle.walrus_functions.specs.DeclaredLocals.{rank}
+use Rattle.walrus_functions.specs.declared.lowest.Lowest.{Lowest}
+use Rattle.walrus_functions.specs.declared.taken.TakenPlaces.{TakenPlaces}
 
 -- ---- parameters
 
+-- whether the range has this place
+abbrev pub is_in_range : TakenPlaces → ℕ → Bool
+is_in_range taken x = nat_le taken.first x && nat_lt (x - taken.first) taken.count
+
+-- whether this place is taken
+abbrev pub is_taken : TakenPlaces → ℕ → Bool
+is_taken taken x = is_in_range taken x || set.contains nat_eq taken.others x
+
 -- these places and no others are taken, and each of them stands in the list once
-pub record HasPlaces (places : List ℕ) (is_taken : ℕ → Bool) : Type 0 where
+pub record HasPlaces (places : List ℕ) (taken : TakenPlaces) : Type 0 where
   pub distinct : IsDistinct nat_eq places
-  pub are : (x : ℕ) → is_taken x ≡ list_any (nat_eq x) places
+  pub are : (x : ℕ) → is_taken taken x ≡ list_any (nat_eq x) places
 
 -- the types of these locals, one for each; none where one of them isn't there
 abbrev pub AreTypes : List (Option (ValType ℕ)) → List ℕ → Option (List (ValType ℕ)) → Type 0
@@ -60,6 +72,15 @@ pub record AreTyped (slots : List (Option (ValType ℕ))) (used : List ℕ) (is_
 -- the number that a table has for a type
 abbrev pub number_at : {S : Type 0} → HashMap DeclaredValType ℕ S → DeclaredValType → Option ℕ
 number_at numbers v = get (equality.ghosts).eq numbers v
+
+-- the lowest local that stands for a type
+abbrev pub lowest_of : Lowest → DeclaredValType → Option ℕ
+lowest_of numbers I32 = numbers.integer_32
+lowest_of numbers I64 = numbers.integer_64
+lowest_of numbers F32 = numbers.float_32
+lowest_of numbers F64 = numbers.float_64
+lowest_of numbers V128 = numbers.vector
+lowest_of numbers (Ref r) = number_at numbers.references (Ref r)
 
 -- the lower one
 abbrev pub lower : ℕ → Option ℕ → ℕ

@@ -20,11 +20,11 @@ use Rattle.walrus_types.specs.declared.locals.Local.{Local}
 use Rattle.walrus_types.specs.declared.locals.ModuleLocals.{ModuleLocals}
 use Rattle.walrus_types.specs.declared.module_types.ModuleTypes.{ModuleTypes}
 use Rattle.walrus_code.specs.FromRaw.{val_of, ops_of}
-use Rattle.walrus_code.specs.Function.{function_type, body_of}
+use Rattle.walrus_text.specs.Function.{function_type, body_of, args_of}
 use Rattle.walrus_code.specs.Indices.{index_of}
 use Rattle.walrus_code.specs.Names.{Lookup, LeadsBack, LocalsLeadBack, named_val, named_ops}
 use Rattle.walrus_code.specs.Results.{val_is_exact}
-use Rattle.walrus_code.specs.declared.function.LocalFunction.{LocalFunction}
+use Rattle.walrus_text.specs.declared.function.LocalFunction.{LocalFunction}
 use Rattle.walrus_code.specs.declared.numbering.IdsToIndices.{IdsToIndices}
 use Rattle.walrus_code.specs.declared.error.IrError.{IrError}
 use Rattle.walrus_code.specs.declared.error.IrError.TheVariants.{Malformed, Memory, NoIndex, NotWritable, TooLarge}
@@ -90,7 +90,7 @@ source_of indices all types function features = record {
   def = item_at (type_slots types) (place (function_type function));
   is_function_type = is_function_at types;
   features = features;
-  parameters = map place function.args.items;
+  parameters = args_of function;
   ops = body_of function;
 }
 

@@ -14,10 +14,10 @@ use Rattle.walrus_types.specs.TypeDef.{TypeDef}
 use Rattle.walrus_types.specs.Value.{val_type}
 use Rattle.walrus_types.specs.declared.locals.Local.{Local}
 use Rattle.walrus_types.specs.declared.value.ValType.{ValType as DeclaredValType}
-use Rattle.walrus_code.specs.Function.{function_type, body_of}
+use Rattle.walrus_text.specs.Function.{function_type, body_of, args_of, handlers_in}
 use Rattle.walrus_code.specs.declared.error.IrError.{IrError}
 use Rattle.walrus_code.specs.declared.error.IrError.TheVariants.{Malformed, Memory, NoIndex, NotWritable, TooLarge}
-use Rattle.walrus_code.specs.declared.function.LocalFunction.{LocalFunction}
+use Rattle.walrus_text.specs.declared.function.LocalFunction.{LocalFunction}
 use Rattle.walrus_bodies.specs.Body.{Context, BodyReads}
 use Rattle.walrus_bodies.specs.BodyRead.{AddsLocals}
 use Rattle.walrus_functions.specs.Handlers.{params_of, handlers_of}
@@ -44,11 +44,11 @@ pub record FunctionIsRead (c : Context) (tags : ℕ → Option ℕ) (ty : ℕ) (
   pub params : List DeclaredValType
   pub declared : List DeclaredValType
   pub takes : map val_type params ≡ params_of (item_at old_types.types ty)
-  pub parameters : map place f.args.items ≡ range_with_len (length old_locals) (length params)
+  pub parameters : args_of f ≡ range_with_len (length old_locals) (length params)
   pub ids : List (Id LocalKey)
   pub added : AddsLocals old_locals new_locals ids (params ++ declared)
   pub reads : BodyReads c (locals_from (length old_locals) (length params + length declared)) bytes (map val_type declared) (body_of f)
-  pub handlers : AddsTypes (handlers_of (item_at old_types.types) tags (body_of f)) old_types new_types (map place f.handler_types.items)
+  pub handlers : AddsTypes (handlers_of (item_at old_types.types) tags (body_of f)) old_types new_types (handlers_in f)
 
 -- read: as above; refused as malformed: the bytes are no body
 abbrev pub ReadsFunction : Context → (ℕ → Option ℕ) → ℕ → Slots → Slots → List (Option Local) → List (Option Local) → List ℕ → Result LocalFunction IrError → Type 0

@@ -1,24 +1,23 @@
 //! The locals that a body declares when it is written, in their order (Binary Format > Modules > Code Section).
-ghost use Rattle.std.specs.Prelude.{◌≡◌, ℕ, List, map, option_map, IfOk, MatchOption, if◌then◌else◌, Some};
+ghost use Rattle.std.specs.Prelude.{◌≡◌, ℕ, List, map, option_map, IfOk, MatchOption};
 ghost use Rattle.std.specs.List.{IsDistinct, list_any};
 ghost use Rattle.std.specs.List.Sorted.{IsStrictlySortedBy};
 ghost use Rattle.std.specs.Ordering.{nat_cmp};
 ghost use Rattle.std.specs.Prelude.{nat_eq};
-ghost use Rattle.std.specs.HashSet as set;
 ghost use Rattle.walrus_base.specs.Arena.{item_at};
 ghost use Rattle.walrus_base.specs.Id.{place};
 ghost use Rattle.walrus_types.specs.Locals.{locals};
 ghost use Rattle.walrus_types.specs.Operators.{locals_of};
 ghost use Rattle.walrus_types.specs.Value.{val_type};
-ghost use Rattle.walrus_types.specs.contracts.value.ValTypePartialEq.TheImpl as equality;
 ghost use Rattle.walrus_code.specs.Code.{ops_of};
 ghost use Rattle.walrus_functions.specs.DeclaredLocals.{rank, AreDeclared};
-ghost use Rattle.walrus_functions.specs.Declaring.{HasPlaces, AreOnce, AreTyped, same_local, typed, AreLowest, number_at, lower, key_of, AreTypes, AreInOrder};
+ghost use Rattle.walrus_functions.specs.Declaring.{HasPlaces, is_taken, AreOnce, AreTyped, same_local, typed, AreLowest, lowest_of, key_of, AreTypes, AreInOrder};
 ghost use Rattle.walrus_functions.specs.EmittedBody.{types_of};
 
+use crate::lowest::Lowest;
 use crate::marks::{mark_named, marked_locals, named_window, no_marks};
+use crate::taken::TakenPlaces;
 use std::alloc::{AllocError, Global};
-use std::collections::{HashMap, HashSet};
 use walrus_base::LocalId;
 use walrus_code::{Operator, push_locals};
 use walrus_types::{ModuleLocals, ValType};
@@ -27,13 +26,13 @@ use walrus_types::{ModuleLocals, ValType};
 pub(crate) fn distinct_places(
     alloc: Global,
     ids: &[LocalId],
-) -> Result<Option<HashSet<usize>>, AllocError>
+) -> Result<Option<TakenPlaces>, AllocError>
     ensures { IfOk result (λ found. MatchOption found (IsDistinct nat_eq (map place ids.now) → ⊥)
-        (λ places. HasPlaces (map place ids.now) (set.contains nat_eq places))) }
+        (λ places. HasPlaces (map place ids.now) places)) }
 {
-    let mut places = HashSet::new(alloc);
+    let mut places = TakenPlaces::new(alloc);
     for id in ids {
-        if !places.insert(id.index())? {
+        if !places.take(id.index())? {
             return Ok(None);
         }
     }
@@ -132,17 +131,17 @@ pub(crate) fn which_named(
 fn typed_locals(
     alloc: Global,
     named: &[LocalId],
-    parameters: &HashSet<usize>,
+    parameters: &TakenPlaces,
     module_locals: &ModuleLocals,
 ) -> Result<Vec<(usize, ValType)>, AllocError>
     requires { IsDistinct nat_eq (map place named.now) }
     ensures typed { IfOk result (λ found. AreTyped (types_of (locals module_locals.now)) (map place named.now)
-        (set.contains nat_eq parameters.now) (map typed found.items)) }
+        (is_taken parameters.now) (map typed found.items)) }
     ensures distinct { IfOk result (λ found. IsDistinct same_local found.items) }
 {
     let mut found = Vec::new(alloc);
     for id in named {
-        if parameters.contains(&id.index()) {
+        if parameters.contains(id.index()) {
             continue;
         }
         if let Some(ty) = type_at(module_locals, *id) {
@@ -153,35 +152,14 @@ fn typed_locals(
 }
 
 // For each type the lowest of these locals that has it.
-fn lowest_locals(
-    alloc: Global,
-    found: &[(usize, ValType)],
-) -> Result<HashMap<ValType, usize>, AllocError>
-    ensures { IfOk result (λ lowest. AreLowest found.now (number_at lowest)) }
+fn lowest_locals(alloc: Global, found: &[(usize, ValType)]) -> Result<Lowest, AllocError>
+    ensures { IfOk result (λ lowest. AreLowest found.now (lowest_of lowest)) }
 {
-    let mut lowest = HashMap::new(alloc);
+    let mut lowest = Lowest::new(alloc);
     for (local, ty) in found {
-        note_lower(&mut lowest, *local, *ty)?;
+        lowest.note(*local, *ty)?;
     }
     Ok(lowest)
-}
-
-// Takes a local as the lowest one of its type, unless a lower one is there.
-fn note_lower(
-    lowest: &mut HashMap<ValType, usize>,
-    local: usize,
-    ty: ValType,
-) -> Result<(), AllocError>
-    ensures { IfOk result (λ _. (v : _) → number_at lowest.new v
-        ≡ (if (equality.ghosts).eq ty v then Some (lower local (number_at lowest.old ty)) else number_at
-        lowest.old v)) }
-{
-    let low = match lowest.get(&ty) {
-        Some(other) => local.min(*other),
-        None => local,
-    };
-    lowest.insert(ty, low)?;
-    Ok(())
 }
 
 // Where types go in the order of declarations: the number types and the vector type by their bytes, then references.
@@ -202,13 +180,13 @@ fn rank(ty: ValType) -> u8
 fn keys(
     alloc: Global,
     found: &[(usize, ValType)],
-    lowest: &HashMap<ValType, usize>,
+    lowest: &Lowest,
 ) -> Result<Vec<(u8, usize, usize)>, AllocError>
-    ensures { IfOk result (λ keys. keys.items ≡ map (key_of (number_at lowest.now)) found.now) }
+    ensures { IfOk result (λ keys. keys.items ≡ map (key_of (lowest_of lowest.now)) found.now) }
 {
     let mut keys = Vec::with_capacity(alloc, found.len())?;
     for (local, ty) in found {
-        let low = lowest.get(ty).copied().unwrap_or(*local);
+        let low = lowest.lowest(*ty).unwrap_or(*local);
         keys.push((rank(*ty), low, *local))?;
     }
     Ok(keys)
@@ -244,12 +222,12 @@ fn ids_of(alloc: Global, keys: &[(u8, usize, usize)]) -> Result<Vec<LocalId>, Al
 pub(crate) fn order_declared(
     alloc: Global,
     named: &[LocalId],
-    parameters: &HashSet<usize>,
+    parameters: &TakenPlaces,
     module_locals: &ModuleLocals,
 ) -> Result<Vec<LocalId>, AllocError>
     requires { IsDistinct nat_eq (map place named.now) }
     ensures { IfOk result (λ ids. (used those : List ℕ) → AreOnce used (map place named.now)
-        → ((p : ℕ) → set.contains nat_eq parameters.now p ≡ list_any (nat_eq p) those)
+        → ((p : ℕ) → is_taken parameters.now p ≡ list_any (nat_eq p) those)
         → AreDeclared (types_of (locals module_locals.now)) used those (map place ids.items)) }
 {
     let found = typed_locals(alloc, named, parameters, module_locals)?;

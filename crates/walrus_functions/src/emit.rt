@@ -5,7 +5,7 @@ ghost use Rattle.walrus_base.specs.Id.{place};
 ghost use Rattle.walrus_types.specs.Operators.{locals_of};
 ghost use Rattle.walrus_types.specs.Locals.{locals};
 ghost use Rattle.walrus_types.specs.ModuleTypes.{type_slots};
-ghost use Rattle.walrus_code.specs.Function.{function_type, body_of};
+ghost use Rattle.walrus_text.specs.Function.{function_type, body_of, locations_of, args_of};
 ghost use Rattle.walrus_code.specs.Indices.{index_of, local_index};
 ghost use Rattle.walrus_code.specs.Code.{ops_of};
 ghost use Rattle.walrus_bodies.specs.Declarations.{declarations_of};
@@ -20,7 +20,8 @@ use crate::groups::{declarations, number_locals, runs};
 use std::alloc::{AllocError, Global};
 use walrus_base::LocalId;
 use walrus_bodies::{Declaration, Features, append_operators, blocks_hold};
-use walrus_code::{IdsToIndices, InstrLocId, IrError, LocalFunction, LocalNumbers, Operator};
+use walrus_code::{IdsToIndices, InstrLocId, IrError, LocalNumbers, Operator};
+use walrus_text::LocalFunction;
 use walrus_types::{ModuleLocals, ModuleTypes};
 use wasm_forms::write_vector;
 
@@ -63,7 +64,7 @@ pub fn emit_body(
         (λ body. local_index body.locals) (λ body. map place body.order.items)
         (λ body. body.used.items) result }
     ensures located { IfOk result (λ body. map (λ p. p.0) body.places.items
-        ≡ locations function.now.operators.items) }
+        ≡ locations_of function.now) }
 {
     emit_body_with(
         alloc,
@@ -96,29 +97,29 @@ pub fn emit_body_with(
         (λ body. map place body.order.items) (λ body. body.used.items) result
         × IfOk result (λ body. map (λ p. p.1) body.places.items ≡ kept_if asks_places places)) }
     ensures located { IfOk result (λ body. map (λ p. p.0) body.places.items
-        ≡ kept_if asks_places (locations function.now.operators.items)) }
+        ≡ kept_if asks_places (locations_of function.now)) }
 {
     let fits = parameters_fit(alloc, function, types, module_locals)?;
     if !fits {
         return Err(IrError::NotWritable);
     }
-    let hold = blocks_hold(types, function.operators.as_slice());
+    let operators = function.operators();
+    let hold = blocks_hold(types, operators);
     if !hold {
         return Err(IrError::NotWritable);
     }
-    let named = named_once(alloc, function.operators.as_slice())?;
+    let named = named_once(alloc, operators)?;
     let declared = find_declared(alloc, function, named.as_slice(), module_locals)?;
     if declared.len() >= 1 << 32 {
         return Err(IrError::TooLarge);
     }
-    let all = joined(alloc, function.args.as_slice(), declared.as_slice())?;
+    let all = joined(alloc, function.args(), declared.as_slice())?;
     if all.len() > 1 << 32 {
         return Err(IrError::TooLarge);
     }
     let declarations = declare(alloc, declared.as_slice(), module_locals, indices)?;
     let locals = number_locals(alloc, all.as_slice())?;
     let used = which_named(alloc, all.as_slice(), named.as_slice())?;
-    let operators = function.operators.as_slice();
     let scope = Scope {
         indices,
         features,
@@ -145,7 +146,7 @@ fn parameters_fit(
     ensures { IfOk result
         (λ fit. IsTrue fit
         ↔ HasSignature (item_at (type_slots types.now) (place (function_type function.now)))
-        (types_of (locals module_locals.now)) (map place function.now.args.items)) }
+        (types_of (locals module_locals.now)) (args_of function.now)) }
 {
     if !types.contains(function.ty()) {
         return Ok(false);
@@ -153,7 +154,7 @@ fn parameters_fit(
     let Some(signature) = types.get(function.ty()).as_function() else {
         return Ok(false);
     };
-    let Some(held) = types_at(alloc, module_locals, function.args.as_slice())? else {
+    let Some(held) = types_at(alloc, module_locals, function.args())? else {
         return Ok(false);
     };
     Ok(held.as_slice() == signature.params())
@@ -168,9 +169,9 @@ fn find_declared(
 ) -> Result<Vec<LocalId>, IrError>
     requires { AreOnce (locals_of (body_of function.now)) (map place named.now) }
     ensures { FindsDeclared (types_of (locals module_locals.now)) (locals_of (body_of function.now))
-        (map place function.now.args.items) (λ ids. map place ids.items) result }
+        (args_of function.now) (λ ids. map place ids.items) result }
 {
-    let Some(parameters) = distinct_places(alloc, function.args.as_slice())? else {
+    let Some(parameters) = distinct_places(alloc, function.args())? else {
         return Err(IrError::NotWritable);
     };
     Ok(order_declared(alloc, named, &parameters, module_locals)?)

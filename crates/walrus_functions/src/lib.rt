@@ -8,10 +8,18 @@ mod emit;
 mod groups;
 mod handlers;
 mod law;
+mod lowest;
 mod marks;
 mod read;
 mod tag_and_try;
+mod taken;
 
 pub use emit::{EmittedBody, emit_body, emit_body_with};
 pub use law::{bodies_read_once, declared_in_one_order, locals_move, unwritable_is_ill_formed};
 pub use read::{add_locals, read_body};
+pub use walrus_bodies::Features;
+pub use walrus_code::{
+    Arg, Args, BlockType, IdsToIndices, IndexSpace, IndicesToIds, InstrLocId, IrError, ItemId,
+    LocalNumbers, Numbering, Operator,
+};
+pub use walrus_text::LocalFunction;

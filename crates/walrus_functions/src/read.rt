@@ -5,10 +5,10 @@ ghost use Rattle.walrus_base.specs.Id.{place};
 ghost use Rattle.walrus_types.specs.Locals.{locals};
 ghost use Rattle.walrus_types.specs.ModuleTypes.{type_slots};
 ghost use Rattle.walrus_code.specs.Indices.{ids_at};
+ghost use Rattle.walrus_text.specs.Function.{locations_of};
 ghost use Rattle.walrus_bodies.specs.Body.{context};
 ghost use Rattle.walrus_bodies.specs.BodyRead.{AddsLocals, BodyLocated};
 ghost use Rattle.walrus_bodies.specs.FunctionTypes.{is_function_at};
-ghost use Rattle.walrus_bodies.specs.Results.{locations};
 ghost use Rattle.walrus_functions.specs.ReadFunction.{ReadsFunction, StaysInFront};
 ghost use Rattle.walrus_functions.specs.Signatures.{slots_of, tag_places};
 
@@ -16,7 +16,8 @@ use crate::handlers::add_handler_types;
 use std::alloc::{AllocError, Global};
 use walrus_base::{LocalId, TypeId};
 use walrus_bodies::{Features, read_body_over};
-use walrus_code::{IndicesToIds, InstrLocId, IrError, LocalFunction};
+use walrus_code::{IndicesToIds, InstrLocId, IrError};
+use walrus_text::LocalFunction;
 use walrus_types::{ModuleLocals, ModuleTypes, ValType};
 
 /// Reads the body of a function of a type from its bytes, which begin at `start` of the input. Its parameters and then its declared locals
@@ -47,7 +48,7 @@ pub fn read_body<L: Fn(&usize) -> InstrLocId>(
         (tag_places tag_types.now) (place ty) (slots_of types.old) (slots_of types.new)
         (locals module_locals.old) (locals module_locals.new) bytes.now result }
     ensures located { IfOk result (λ f. BodyLocated (FnReturnsAt L.Fn locate.now) start bytes.now
-        (locations f.operators.items)) }
+        (locations_of f)) }
     ensures types_stay { StaysInFront (type_slots types.old) (type_slots types.new) }
     ensures locals_stay { StaysInFront (locals module_locals.old) (locals module_locals.new) }
 {
@@ -65,7 +66,7 @@ pub fn read_body<L: Fn(&usize) -> InstrLocId>(
     )?;
     let handler_types = add_handler_types(alloc, types, tag_types, body.operators.as_slice())?;
     let mut function = LocalFunction::new(alloc, ty, args, body.operators);
-    function.handler_types = handler_types;
+    function.set_handler_types(handler_types);
     Ok(function)
 }
 

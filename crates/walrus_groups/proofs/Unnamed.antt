@@ -1,6 +1,6 @@
 -- Types that come without a name.
-use Rattle.std.proofs.Common.{ℕ, List, [], ◌∷◌, ◌++◌, Option, Some, None, ◌≡◌, refl, sym, ap, ◌∙◌}
-use Rattle.std.proofs.lemmas.List.{append-nil, append_assoc}
+use Rattle.std.proofs.Common.{ℕ, List, [], ◌∷◌, ◌++◌, Option, Some, None, ◌≡◌, refl, ap, ◌∙◌}
+use Rattle.std.proofs.lemmas.List.{append_assoc}
 use Rattle.std.proofs.lemmas.List.Elements.{All-append, All-cons, All-nil}
 use Rattle.std.specs.List.{All}
 use Rattle.walrus_types.specs.TypeSlots.{no_names}
@@ -9,9 +9,6 @@ use Rattle.walrus_groups.specs.Reading.{AddsUnnamed}
 
 abbrev IsUnnamed : Option (Option (List ℕ)) → Type 0
 IsUnnamed name = name ≡ Some None
-
-pub none_added : (old : List (Option (Option (List ℕ)))) → AddsUnnamed old old
-none_added old = record { more = []; behind = sym (append-nil old); unnamed = All-nil IsUnnamed }
 
 each_unnamed : (members : List NewType) → All IsUnnamed (no_names members)
 each_unnamed [] = All-nil IsUnnamed

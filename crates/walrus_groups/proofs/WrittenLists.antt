@@ -1,5 +1,5 @@
 -- Lists of places, and what stands at places.
-use Rattle.std.proofs.Common.{◌≡◌, ℕ, zero, suc, ◌+◌, ◌-◌, ◌<◌, ◌≤◌, ◌==◌, ◌||◌, ◌⊎◌, inl, inr, Bool, true, false, List, [], ◌∷◌, map, Option, Some, None, refl, sym, ap, ap₂, ◌∙◌, arith, add-zero, eq-eqb, eqb-true, ⊎_elim, subst}
+use Rattle.std.proofs.Common.{◌≡◌, ℕ, zero, suc, ◌+◌, ◌-◌, ◌<◌, ◌≤◌, ◌==◌, Bool, true, false, List, [], ◌∷◌, map, Option, Some, None, refl, sym, ap, ap₂, ◌∙◌, arith, add-zero, eq-eqb, eqb-true, ⊎_elim, subst}
 use Rattle.std.specs.Prelude.{Contains}
 use Rattle.std.specs.List.{range_with_len}
 use Rattle.walrus_base.specs.Arena.{item_at, entries_from, entries}
@@ -8,24 +8,13 @@ use Rattle.walrus_types.specs.TypeDef.{TypeDef}
 use Rattle.walrus_types.specs.TypeSlots.{defs}
 use Rattle.walrus_types.specs.declared.types.Type.{«Type»}
 use Rattle.walrus_types.proofs.Lists.{Contains-head, Contains-tail}
+use Rattle.walrus_types.proofs.Noted.{or_cases, or_left, or_right}
 
 pub some_inside : {T : Type 0} (x y : T) → Some x ≡ Some y → x ≡ y
 some_inside x y h = cc
 
 pub none_some : {T : Type 0} (o : Option T) (x : T) → o ≡ None → o ≡ Some x → ⊥
 none_some o x p q = cc
-
-or_true : (a b : Bool) → (a || b) ≡ true → (a ≡ true) ⊎ (b ≡ true)
-or_true true b h = inl refl
-or_true false b h = inr h
-
-pub or_left : (a b : Bool) → a ≡ true → (a || b) ≡ true
-or_left true b h = refl
-or_left false b h = absurd cc
-
-pub or_right : (a b : Bool) → b ≡ true → (a || b) ≡ true
-or_right true b h = refl
-or_right false b h = h
 
 pub not_equal : (a b : ℕ) → (a ≡ b → ⊥) → (a == b) ≡ false
 not_equal a b h = not_true (a == b) (λ e. h (eqb-true a b e))
@@ -55,7 +44,7 @@ has-row a (suc n) p h =
     ⊎_elim
     (λ here. let e = eqb-true a p here in (omega (arith, e), omega (arith, e)))
     (λ later. let r = has-row (a + 1) n p later in (let low : a + 1 ≤ p = r.0 in omega (arith, low), let high : p < a + 1 + n = r.1 in omega (arith, high)))
-    (or_true (a == p) (has (range_with_len (a + 1) n) p) h)
+    (or_cases (a == p) (has (range_with_len (a + 1) n) p) h)
 
 -- the group of each type is a row
 pub group-row : (places : List (Option «Type»)) (t : ℕ) (x : TypeDef) → item_at (defs places) t ≡ Some x → IsRow x.group

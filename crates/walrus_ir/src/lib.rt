@@ -8,13 +8,12 @@ pub use walrus_base::{
     ImportKey, LocalId, LocalKey, Marks, MarksIter, MemoryId, MemoryKey, TableId, TableKey, TagId,
     TagKey, TombstoneArena, TypeId, TypeKey, UntypedCustomSectionId,
 };
-pub use walrus_bodies::Features;
 pub use walrus_builder::{FunctionBuilder, InstrSeqBuilder};
-pub use walrus_code::{
-    Arg, Args, BlockType, IdsToIndices, IndexSpace, IndicesToIds, InstrLocId, IrError, ItemId,
-    LocalFunction, LocalNumbers, Numbering, Operator,
+pub use walrus_functions::{
+    Arg, Args, BlockType, EmittedBody, Features, IdsToIndices, IndexSpace, IndicesToIds,
+    InstrLocId, IrError, ItemId, LocalFunction, LocalNumbers, Numbering, Operator, add_locals,
+    emit_body, read_body,
 };
-pub use walrus_functions::{EmittedBody, add_locals, emit_body, read_body};
 pub use walrus_types::{
     AbstractHeapType, ArrayType, CompositeType, ConstExpr, ConstOp, FieldType, FunctionType,
     GroupIds, HeapType, Local, LocalIter, ModuleLocals, ModuleTypes, NewType, RefType, StorageType,

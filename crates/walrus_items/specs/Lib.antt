@@ -23,3 +23,5 @@ pub use Rattle.walrus_parts.specs.declared.function_kind.FunctionKind
 pub use Rattle.walrus_parts.specs.declared.segments.DataKind
 pub use Rattle.walrus_parts.specs.declared.segments.ElementItems
 pub use Rattle.walrus_parts.specs.declared.segments.ElementKind
+pub use Rattle.walrus_parts.specs.Function
+pub use Rattle.walrus_parts.specs.LocalFunction

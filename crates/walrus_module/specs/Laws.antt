@@ -5,7 +5,7 @@ use Rattle.walrus_parts.specs.declared.custom.CustomSection.{Ghosts}
 use Rattle.walrus_parts.specs.declared.error.Error.{Error}
 use Rattle.walrus_types.specs.Locals.{locals}
 use Rattle.walrus_types.specs.declared.locals.ModuleLocals.{ModuleLocals}
-use Rattle.walrus_code.specs.declared.function.LocalFunction.{LocalFunction}
+use Rattle.walrus_items.specs.LocalFunction.{LocalFunction}
 use Rattle.walrus_contents.specs.View.{body, contents_view}
 use Rattle.walrus_contents.specs.declared.parts.Contents.{Contents}
 use Rattle.walrus_model.specs.Declared.{NothingUndeclared}

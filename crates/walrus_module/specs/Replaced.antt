@@ -14,10 +14,11 @@ use Rattle.walrus_types.specs.Operators.{function_item}
 use Rattle.walrus_types.specs.TypeDef.{TypeDef}
 use Rattle.walrus_types.specs.Value.{val_type}
 use Rattle.walrus_types.specs.declared.value.ValType.{ValType}
-use Rattle.walrus_code.specs.Function.{function_type, body_of}
-use Rattle.walrus_code.specs.declared.function.LocalFunction.{LocalFunction}
+use Rattle.walrus_code.specs.Location.{location}
+use Rattle.walrus_items.specs.Function.{function_type, body_of, locations_of, args_of, handlers_in}
+use Rattle.walrus_items.specs.LocalFunction.{LocalFunction}
 use Rattle.walrus_builder.specs.Instructions.{end_op, nowhere}
-use Rattle.walrus_builder.specs.Sequence.{built, located, locations}
+use Rattle.walrus_builder.specs.Sequence.{built, located}
 use Rattle.walrus_builder.specs.declared.sequence.InstrSeqBuilder.{InstrSeqBuilder}
 use Rattle.walrus_model.specs.BodyRead.{AddsLocals}
 use Rattle.walrus_model.specs.BlockHandlers.{params_of}
@@ -44,6 +45,10 @@ with_body local f = record f { kind = Local local }
 
 -- ---- what is built
 
+-- these are the function's parameters
+abbrev pub AreParameters : List (Id LocalKey) → LocalFunction → Type 0
+AreParameters args function = map place args ≡ args_of function
+
 -- what a closure does that builds a body: its builder, its arguments, its answer, and what it leaves of the builder
 abbrev pub Builds : Type 1
 Builds = MutBor InstrSeqBuilder → Bor (Vec (Id LocalKey)) → Result (Unit {0}) Error → MutBor InstrSeqBuilder → Type 0
@@ -63,15 +68,19 @@ pub record IsNew (post : Builds) (ty : Id TypeKey) (args : List (Id LocalKey)) (
   pub builder : InstrSeqBuilder
   pub called : IsBuilt post args (Ok tt) builder
   pub typed : function_type function ≡ ty
-  pub takes : function.args.items ≡ args
+  pub takes : AreParameters args function
   pub body : body_of function ≡ built builder ++ end_op ∷ []
-  pub places : locations function.operators.items ≡ located builder ++ nowhere ∷ []
-  pub handlers : function.handler_types.items ≡ []
+  pub places : map location (locations_of function) ≡ located builder ++ nowhere ∷ []
+  pub handlers : handlers_in function ≡ []
   pub unnamed : function.name ≡ None
 
 -- memory ran out, or the closure answered so
 abbrev pub Refuses : Builds → List (Id LocalKey) → Error → Type 0
 Refuses post args e = (e ≡ out_of_memory) ⊎ ((builder : InstrSeqBuilder) × IsBuilt post args (Err e) builder)
+
+-- the same, of a closure to which this function's parameters were handed
+abbrev pub RefusesBody : Builds → LocalFunction → Error → Type 0
+RefusesBody post local e = (args : List (Id LocalKey)) × AreParameters args local × Refuses post args e
 
 abbrev pub Rebuilds : Builds → Id TypeKey → List (Id LocalKey) → Result LocalFunction Error → Type 0
 Rebuilds post ty args result = MatchResult result (IsNew post ty args) (Refuses post args)
@@ -106,8 +115,10 @@ module _ {S : Type 0} where
   -- the new function stands behind the others, without a name, and this export names it
   pub record IsReplaced (post : Builds) (e : ℕ × ExportValue) (local : LocalFunction) (old new : Module S) (id : Id FunctionKey) : Type 0 where
     pub is_next : place id ≡ length (functions old.funcs)
+    pub args : List (Id LocalKey)
+    pub parameters : AreParameters args local
     pub function : LocalFunction
-    pub is_new : IsNew post (function_type local) local.args.items function
+    pub is_new : IsNew post (function_type local) args function
     pub funcs : functions new.funcs ≡ functions old.funcs ++ Some (record { id = place id; kind = Local function; name = None }) ∷ []
     pub exported : exports new.exports ≡ slice_set (exports old.exports) e.0 (Some (naming id e.1))
     pub others : new ≡ record old { funcs = new.funcs; exports = new.exports }
@@ -117,7 +128,7 @@ module _ {S : Type 0} where
   SameFunctions old new = (functions new.funcs ≡ functions old.funcs) × (new ≡ record old { funcs = new.funcs })
 
   abbrev pub ReplacesKind : Builds → ℕ × ExportValue → FunctionKind → (old new : Module S) → Result (Id FunctionKey) Error → Type 0
-  ReplacesKind post e (Local l) old new result = MatchResult result (IsReplaced post e l old new) (λ err. Refuses post l.args.items err × SameFunctions old new)
+  ReplacesKind post e (Local l) old new result = MatchResult result (IsReplaced post e l old new) (λ err. RefusesBody post l err × SameFunctions old new)
   ReplacesKind post e (Import i) old new result = IsErrOf result NotReplaceable × (new ≡ old)
   ReplacesKind post e (Uninitialized ty) old new result = IsErrOf result NotReplaceable × (new ≡ old)
 

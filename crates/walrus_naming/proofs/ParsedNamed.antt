@@ -119,8 +119,7 @@ parameters_in all None b e = absurd (let no : ◌≡◌ {A = Option Body} None (
 parameters_in all (Some f) b e = by_kind f.kind e where
   by_kind : (k : FunctionKind) → body_of_kind (kind_of all k) ≡ Some b → parameters_by k ≡ Some (length b.parameters)
   by_kind (kind.Import i) e = absurd (let no : ◌≡◌ {A = Option Body} None (Some b) = e in cc)
-  by_kind (kind.Local f) e =
-      sym (ap Some (length-map f.args.items place)) ∙ ap (λ (o : Option Body). option_map (λ (c : Body). length c.parameters) o) e
+  by_kind (kind.Local f) e = ap (λ (o : Option Body). option_map (λ (c : Body). length c.parameters) o) e
   by_kind (kind.Uninitialized ty) e = absurd (let no : ◌≡◌ {A = Option Body} None (Some b) = e in cc)
 
 -- a local whose type is seen is there

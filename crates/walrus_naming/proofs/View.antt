@@ -12,7 +12,7 @@ use Rattle.walrus_types.specs.ModuleTypes.{type_slots}
 use Rattle.walrus_types.specs.Value.{val_type}
 use Rattle.walrus_types.specs.declared.locals.Local.{Local}
 use Rattle.walrus_types.specs.declared.locals.ModuleLocals.{ModuleLocals}
-use Rattle.walrus_code.specs.Function.{body_of}
+use Rattle.walrus_items.specs.Function.{body_of, args_of}
 use Rattle.walrus_functions.specs.EmittedBody.{types_of as local_types}
 use Rattle.walrus_parts.specs.declared.function_kind.FunctionKind.TheVariants as kind
 use Rattle.walrus_parts.specs.declared.function_kind.FunctionKind.{FunctionKind}
@@ -134,7 +134,7 @@ module _ (old new : Contents) (h : IsRenamed (shown old) (shown new)) where
   kinds_stay : (k : FunctionKind) → kind_of new.locals k ≡ kind_of old.locals k
   kinds_stay (kind.Import i) = refl
   kinds_stay (kind.Local f) =
-      ap₂ (λ (types : List (Option (base.ValType ℕ))) (n : ℕ). abstract.LocalFunction (record { parameters = map place f.args.items; local_type = item_at types; declared = length (filter (is_declared f) (range_with_len 0 n)); operators = body_of f }))
+      ap₂ (λ (types : List (Option (base.ValType ℕ))) (n : ℕ). abstract.LocalFunction (record { parameters = args_of f; local_type = item_at types; declared = length (filter (is_declared f) (range_with_len 0 n)); operators = body_of f }))
       local_types_stay as_many_locals
   kinds_stay (kind.Uninitialized ty) = refl
 

@@ -4,6 +4,7 @@ use Rattle.std.specs.List.{AllZip, range_with_len}
 use Rattle.wasm_frames.specs.Record as wire
 use Rattle.wasm_payloads.specs.Names.{Named, Names}
 use Rattle.walrus_base.specs.Arena.{item_at}
+use Rattle.walrus_items.specs.Function.{args_of}
 use Rattle.walrus_items.specs.Functions.{FunctionValue}
 use Rattle.walrus_parts.specs.declared.function_kind.FunctionKind.TheVariants as kind
 use Rattle.walrus_parts.specs.declared.function_kind.FunctionKind.{FunctionKind}
@@ -16,7 +17,7 @@ use Rattle.walrus_naming.specs.Taken.{Bounds, all_named, is_known, name_payloads
 -- how many parameters a local function has
 abbrev pub parameters_by : FunctionKind → Option ℕ
 parameters_by (kind.Import i) = None
-parameters_by (kind.Local f) = Some (length f.args.items)
+parameters_by (kind.Local f) = Some (length (args_of f))
 parameters_by (kind.Uninitialized ty) = None
 
 abbrev pub parameters_at : Option FunctionValue → Option ℕ

@@ -9,3 +9,5 @@ pub mod Roots
 pub mod Section
 pub mod Segments
 pub mod Transform
+pub use Rattle.walrus_text.specs.Function
+pub use Rattle.walrus_text.specs.declared.function.LocalFunction

@@ -11,11 +11,12 @@ use Rattle.std.proofs.lemmas.Cmp.{nat_cmp_total, on_total, back_total, then_tota
 use Rattle.std.proofs.lemmas.List.MinMax.{ranks_by}
 use Rattle.std.proofs.lemmas.List.Sorted.{sorted_far, Contains-permutation, IsPermutation-map, IsPermutation-sym}
 use Rattle.walrus_base.specs.Arena.{item_at, entries, entries_from}
-use Rattle.walrus_code.specs.declared.function.LocalFunction.{LocalFunction}
+use Rattle.walrus_items.specs.LocalFunction.{LocalFunction}
 use Rattle.walrus_items.specs.Functions.{FunctionValue, local_functions, local_at}
 use Rattle.walrus_parts.specs.declared.function_kind.FunctionKind.{FunctionKind}
 use Rattle.walrus_parts.specs.declared.function_kind.FunctionKind.TheVariants as kind
 use Rattle.walrus_types.specs.Shape.{place_in}
+use Rattle.walrus_items.specs.Function.{size_of}
 use Rattle.walrus_contents.proofs.Lookups.{pairs_map, got_map}
 use Rattle.walrus_contents.proofs.Slots.{stands_at as stands_among}
 use Rattle.walrus_model.specs.Ordered.{Ordered}
@@ -91,7 +92,7 @@ got_at [] k d low = absurd (omega (arith, low))
 got_at (x ∷ xs) zero d low = refl
 got_at (x ∷ xs) (suc k) d low = got_at xs k d (omega (arith, low))
 
-places_of : (es : List (ℕ × LocalFunction)) → map (λ (s : ℕ × ℕ). s.1) (map (λ (e : ℕ × LocalFunction). (length e.1.operators.items, e.0)) es) ≡ map (λ (e : ℕ × LocalFunction). e.0) es
+places_of : (es : List (ℕ × LocalFunction)) → map (λ (s : ℕ × ℕ). s.1) (map (λ (e : ℕ × LocalFunction). (size_of e.1, e.0)) es) ≡ map (λ (e : ℕ × LocalFunction). e.0) es
 places_of [] = refl
 places_of (e ∷ es) = ap (λ (ps : List ℕ). e.0 ∷ ps) (places_of es)
 
@@ -109,11 +110,11 @@ module _ (ss : List (Option FunctionValue)) (order : List ℕ) (h : IsOrder ss o
   pub record IsSizeOf (s : ℕ × ℕ) : Type 0 where
     pub body : LocalFunction
     pub at : item_at (bodies_in ss) s.1 ≡ Some body
-    pub long : s.0 ≡ length body.operators.items
+    pub long : s.0 ≡ size_of body
 
-  size_of : (s : ℕ × ℕ) → Contains h.sized s → IsSizeOf s
-  size_of s c =
-      let size : ℕ × LocalFunction → ℕ × ℕ = λ e. (length e.1.operators.items, e.0) in
+  size_among : (s : ℕ × ℕ) → Contains h.sized s → IsSizeOf s
+  size_among s c =
+      let size : ℕ × LocalFunction → ℕ × ℕ = λ e. (size_of e.1, e.0) in
       let e = Contains-unmap size (local_functions (entries ss)) s (Contains-permutation h.sized (local_sizes ss) s (IsPermutation-sym (local_sizes ss) h.sized h.moved) c) in
       let at : item_at (bodies_in ss) e.0.0 ≡ Some e.0.1 = stands_among (bodies_in ss) e.0 (subst (λ (es : List (ℕ × LocalFunction)). Contains es e.0) (bodies_from 0 ss) e.1) in
       subst IsSizeOf e.2 (record { body = e.0.1; at = at; long = refl })
@@ -134,16 +135,16 @@ module _ (ss : List (Option FunctionValue)) (order : List ℕ) (h : IsOrder ss o
 
   -- what holds of two bodies, the larger first, holds along the order
   pub pairs_by_size : (R : ℕ → ℕ → Type 0) → ((i j : ℕ) (f g : LocalFunction) → item_at (bodies_in ss) i ≡ Some f → item_at (bodies_in ss) j ≡ Some g
-      → (length g.operators.items < length f.operators.items) ⊎ ((length f.operators.items ≡ length g.operators.items) × (i < j)) → R i j) → AllPairs R order
+      → (size_of g < size_of f) ⊎ ((size_of f ≡ size_of g) × (i < j)) → R i j) → AllPairs R order
   pairs_by_size R law =
       subst (λ (ps : List ℕ). AllPairs R ps) (sym h.is)
       (pairs_map R placed h.sized (λ i j d less low.
       let within : i < length h.sized = omega (arith, less, low) in
       let s = get_or h.sized i d in
       let t = get_or h.sized j d in
-      let f = size_of s (member i d within) in
-      let g = size_of t (member j d low) in
+      let f = size_among s (member i d within) in
+      let g = size_among t (member j d low) in
       let far : is_lt (by_size t s) ≡ false = sorted_far (λ x y. is_lt (by_size x y)) (ranks_by size_total (λ (x : ℕ × ℕ). x)) h.sized h.sorted i j d (omega (arith, less)) low in
       law s.1 t.1 f.body g.body f.at g.at
-      (subst (λ (n : ℕ). (n < length f.body.operators.items) ⊎ ((length f.body.operators.items ≡ n) × (s.1 < t.1))) g.long
+      (subst (λ (n : ℕ). (n < size_of f.body) ⊎ ((size_of f.body ≡ n) × (s.1 < t.1))) g.long
       (subst (λ (m : ℕ). (t.0 < m) ⊎ ((m ≡ t.0) × (s.1 < t.1))) f.long (larger_first s.0 t.0 s.1 t.1 (places_apart i j d less low) far)))))

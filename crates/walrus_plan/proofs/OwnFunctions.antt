@@ -5,7 +5,8 @@ use Rattle.std.proofs.lemmas.List.{length-map}
 use Rattle.walrus_base.specs.Arena.{item_at}
 use Rattle.walrus_types.specs.Operators.{Functions}
 use Rattle.walrus_code.specs.Code.{op_of}
-use Rattle.walrus_code.specs.declared.function.LocalFunction.{LocalFunction}
+use Rattle.walrus_items.specs.Function.{size_of}
+use Rattle.walrus_items.specs.LocalFunction.{LocalFunction}
 use Rattle.walrus_items.specs.Functions.{FunctionValue, functions}
 use Rattle.walrus_parts.specs.declared.function_kind.FunctionKind.{FunctionKind}
 use Rattle.walrus_parts.specs.declared.function_kind.FunctionKind.TheVariants as kind
@@ -66,13 +67,11 @@ module _ (p : Parts) where
   module _ (order : List ℕ) (h : IsOrder slots order) where
     -- of two with a body the larger one does
     larger_first : (i j : ℕ) (f g : LocalFunction) → item_at (bodies_in slots) i ≡ Some f → item_at (bodies_in slots) j ≡ Some g
-        → (length g.operators.items < length f.operators.items) ⊎ ((length f.operators.items ≡ length g.operators.items) × (i < j)) → ByImport V Functions i j
+        → (size_of g < size_of f) ⊎ ((size_of f ≡ size_of g) × (i < j)) → ByImport V Functions i j
     larger_first i j f g at to larger =
         let first = body_kind (item_at slots i) f (sym (body_there slots i) ∙ at) in
         let second = body_kind (item_at slots j) g (sym (body_there slots j) ∙ to) in
-        rw (first, second)
-        (subst (λ (n : ℕ). (n < length (body p.locals.now f).operators) ⊎ ((length (body p.locals.now f).operators ≡ n) × (i < j))) (sym (length-map g.operators.items op_of))
-        (subst (λ (m : ℕ). (length g.operators.items < m) ⊎ ((m ≡ length g.operators.items) × (i < j))) (sym (length-map f.operators.items op_of)) larger))
+        rw (first, second) larger
 
     body_here : (i : ℕ) → Contains order i → (f : LocalFunction) × (body_at (item_at slots i) ≡ Some f)
     body_here i at = some_of (body_at (item_at slots i)) (subst (λ (o : Option LocalFunction). IsSome o) (body_there slots i) ((ordered_by_size slots order h).chosen i at))

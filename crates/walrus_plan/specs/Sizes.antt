@@ -4,11 +4,12 @@ use Rattle.std.specs.List.Sorted.{IsPermutation, IsSorted}
 use Rattle.std.specs.Ordering.{nat_cmp, ordering_then}
 use Rattle.std.specs.declared.cmp.Ordering.{Ordering}
 use Rattle.walrus_base.specs.Arena.{entries}
+use Rattle.walrus_items.specs.Function.{size_of}
 use Rattle.walrus_items.specs.Functions.{FunctionValue, local_functions}
 
 -- how many operators the body of each function has, with the function's place
 abbrev pub local_sizes : List (Option FunctionValue) → List (ℕ × ℕ)
-local_sizes funcs = map (λ e. (length e.1.operators.items, e.0)) (local_functions (entries funcs))
+local_sizes funcs = map (λ e. (size_of e.1, e.0)) (local_functions (entries funcs))
 
 -- the larger one first, and of two as large the one of the smaller place
 abbrev pub by_size : ℕ × ℕ → ℕ × ℕ → Ordering

@@ -3,7 +3,7 @@ ghost use Rattle.std.specs.Prelude.{◌≡◌, ◌↔◌, ◌<◌, ◌^◌, IsTr
 ghost use Rattle.std.specs.List.{list_any};
 ghost use Rattle.walrus_base.specs.Arena.{items};
 ghost use Rattle.walrus_code.specs.Code.{arg_of, op_of};
-ghost use Rattle.walrus_code.specs.Function.{body_of};
+ghost use Rattle.walrus_items.specs.Function.{body_of};
 ghost use Rattle.walrus_items.specs.Data.{data_segments};
 ghost use Rattle.walrus_items.specs.Functions.{functions};
 ghost use Rattle.walrus_contents.specs.View.{parts_view};
@@ -48,7 +48,7 @@ fn names_data(operator: &Operator) -> bool
 fn body_names_data(function: &LocalFunction) -> bool
     ensures { result ≡ list_any op_names_data (body_of function.now) }
 {
-    for operator in function.operators.as_slice() {
+    for operator in function.operators() {
         if names_data(operator) {
             return true;
         }

@@ -9,12 +9,12 @@ use Rattle.walrus_base.specs.Id.{place}
 use Rattle.walrus_base.specs.Types.{ValType, map_val}
 use Rattle.walrus_types.specs.Locals.{locals, local_type}
 use Rattle.walrus_types.specs.Value.{val_type}
-use Rattle.walrus_code.specs.Function.{body_of as body_of_local}
+use Rattle.walrus_items.specs.Function.{body_of as body_of_local}
 use Rattle.walrus_groups.specs.Groups.{types_from}
 use Rattle.std.proofs.lemmas.List.{length-map}
 use Rattle.walrus_types.specs.Operators.{Types, Functions, Tables, Memories, Tags, Globals, Elements, DataSegments, Item, NoResult, OneResult, OfType, Arg, Index, Label, Local as LocalArg, Number, Count, Byte, S32, S64, Bits32, Bits64, Value, Heap, Block, Access, Op, locals_of}
 use Rattle.walrus_types.specs.declared.locals.ModuleLocals.{ModuleLocals}
-use Rattle.walrus_code.specs.declared.function.LocalFunction.{LocalFunction}
+use Rattle.walrus_items.specs.LocalFunction.{LocalFunction}
 use Rattle.walrus_functions.specs.EmittedBody.{types_of as local_types}
 use Rattle.walrus_functions.specs.Handlers.{params_of}
 use Rattle.walrus_functions.specs.Laws.{moved_arg, moved_op}

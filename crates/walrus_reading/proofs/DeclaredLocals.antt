@@ -10,8 +10,8 @@ use Rattle.walrus_types.specs.Operators.{locals_of}
 use Rattle.walrus_types.specs.PlaceList.{has}
 use Rattle.walrus_types.specs.declared.locals.ModuleLocals.{ModuleLocals}
 use Rattle.walrus_types.proofs.ShapesEnd.{has_contained}
-use Rattle.walrus_code.specs.Function.{body_of}
-use Rattle.walrus_code.specs.declared.function.LocalFunction.{LocalFunction}
+use Rattle.walrus_items.specs.Function.{body_of, args_of}
+use Rattle.walrus_items.specs.LocalFunction.{LocalFunction}
 use Rattle.walrus_contents.specs.View.{is_declared, body}
 use Rattle.walrus_contents.proofs.ExportedRefs.{contained_has}
 use Rattle.walrus_contents.proofs.TypeLists.{in_range}
@@ -67,15 +67,15 @@ module _ (f : LocalFunction) (all : ModuleLocals) where
 
   one_is : (x : ℕ) → Contains ones x → DeclaresLocal (body all f) x
   one_is x c =
-      let parts = both_pass (has (locals_of (body_of f)) x) (not (has (map place f.args.items) x)) (passed (is_declared f) (range_with_len 0 (length (locals all))) x c) in
-      (contained_has (locals_of (body_of f)) x parts.0, λ among. not_true (has (map place f.args.items) x) parts.1 (has_contained (map place f.args.items) x among))
+      let parts = both_pass (has (locals_of (body_of f)) x) (not (has (args_of f) x)) (passed (is_declared f) (range_with_len 0 (length (locals all))) x c) in
+      (contained_has (locals_of (body_of f)) x parts.0, λ among. not_true (has (args_of f) x) parts.1 (has_contained (args_of f) x among))
 
   is_one : (x : ℕ) → x < length (locals all) → DeclaresLocal (body all f) x → Contains ones x
   is_one x within d =
       let ranged : Contains (range_with_len 0 (length (locals all))) x = subst (Contains (range_with_len 0 (length (locals all)))) (let e : 0 + x ≡ x = omega arith in e) (in_range 0 (length (locals all)) x within) in
       in_filter (is_declared f) (range_with_len 0 (length (locals all))) x ranged
-      (pass_both (has (locals_of (body_of f)) x) (not (has (map place f.args.items) x)) (has_contained (locals_of (body_of f)) x d.0)
-      (true_not (has (map place f.args.items) x) (λ h. d.1 (contained_has (map place f.args.items) x h))))
+      (pass_both (has (locals_of (body_of f)) x) (not (has (args_of f) x)) (has_contained (locals_of (body_of f)) x d.0)
+      (true_not (has (args_of f) x) (λ h. d.1 (contained_has (args_of f) x h))))
 
   pub counts : ((x : ℕ) → Contains (locals_of (body_of f)) x → x < length (locals all)) → IsCounted (body all f)
   counts there = record {

@@ -10,8 +10,8 @@ use Rattle.walrus_types.specs.Locals.{locals, local_type}
 use Rattle.walrus_types.specs.TypeDef.{TypeDef}
 use Rattle.walrus_types.specs.Value.{val_type}
 use Rattle.walrus_types.specs.declared.locals.Local.{Local}
-use Rattle.walrus_code.specs.Function.{function_type, body_of}
-use Rattle.walrus_code.specs.declared.function.LocalFunction.{LocalFunction}
+use Rattle.walrus_items.specs.Function.{function_type, body_of, args_of}
+use Rattle.walrus_items.specs.LocalFunction.{LocalFunction}
 use Rattle.walrus_bodies.specs.declared.features.Features.{Features}
 use Rattle.walrus_functions.specs.EmittedBody.{types_of as local_types}
 use Rattle.walrus_functions.specs.Handlers.{params_of}
@@ -34,7 +34,7 @@ use Rattle.wasm_frames.specs.Record as wire
 pub record HeldBody (slots : List (Option (ValType ℕ))) (ty : ℕ) (params : List (ValType ℕ)) (body : Said) (f : LocalFunction) : Type 0 where
   pub typed : place (function_type f) ≡ ty
   pub first : ℕ
-  pub parameters : map place f.args.items ≡ range_with_len first (length params)
+  pub parameters : args_of f ≡ range_with_len first (length params)
   pub local_types : (x : ℕ) → x < length (params ++ body.0) → item_at slots (first + x) ≡ slice_get (params ++ body.0) x
   pub operators : body_of f ≡ map (moved_op first) body.1
 

@@ -6,7 +6,6 @@ use Rattle.std.proofs.lemmas.List.{take_more, take_all, length-map, get_or-map}
 use Rattle.walrus_code.specs.declared.location.InstrLocId.{InstrLocId}
 use Rattle.walrus_bodies.specs.Body.{Located}
 use Rattle.walrus_bodies.specs.BodyRead.{BodyLocated}
-use Rattle.walrus_bodies.specs.Results.{locations}
 use Rattle.walrus_items.specs.Functions.{FunctionValue, ModuleFunctions}
 use Rattle.walrus_model.specs.Sections.{imported, imported_function}
 use Rattle.walrus_reading.specs.Held.{HoldsImportedFunction}
@@ -18,6 +17,7 @@ use Rattle.walrus_reading.proofs.Rows.{placed_length}
 use Rattle.walrus_contents.proofs.Steps.{zip_push}
 use Rattle.wasm_frames.specs.declared.record.RawBody.{RawBody}
 use Rattle.wasm_frames.specs.Record as wire
+use Rattle.walrus_items.specs.Function.{locations_of}
 
 -- ---- locations that are given in another way
 
@@ -39,7 +39,7 @@ module _ (R S : ℕ → InstrLocId → Type 0) (through : (place : ℕ) (loc : I
       is = is.is;
       local = is.local;
       kind = is.kind;
-      places = body_located b.start b.bytes (locations is.local.operators.items) is.places;
+      places = body_located b.start b.bytes (locations_of is.local) is.places;
     },
     slots_located bodies slots rest,
   )

@@ -11,10 +11,10 @@ use Rattle.walrus_types.specs.TypeDef.{TypeDef}
 use Rattle.walrus_types.specs.Value.{val_type}
 use Rattle.walrus_types.specs.declared.locals.Local.{Local}
 use Rattle.walrus_types.specs.declared.locals.ModuleLocals.{ModuleLocals}
-use Rattle.walrus_code.specs.Function.{body_of}
+use Rattle.walrus_items.specs.Function.{body_of, handlers_in}
 use Rattle.walrus_code.specs.declared.error.IrError.{IrError}
 use Rattle.walrus_code.specs.declared.error.IrError.TheVariants.{Malformed, Memory, NoIndex, NotWritable, TooLarge}
-use Rattle.walrus_code.specs.declared.function.LocalFunction.{LocalFunction}
+use Rattle.walrus_items.specs.LocalFunction.{LocalFunction}
 use Rattle.walrus_bodies.specs.Body.{Context, BodyReads}
 use Rattle.walrus_bodies.specs.BodyRead.{new_locals}
 use Rattle.walrus_functions.specs.Handlers.{handlers_of, params_of}
@@ -92,7 +92,7 @@ module _ (c : Context) (tags : ℕ → Option ℕ) (f : ℕ × wire.Body) (ty : 
           };
           added = all_added;
           handlers = subst (λ (o : Option FunctionValue). AddsTypes (handlers_of (item_at old_types.types) tags from.0) old_types new_types (handlers_at o)) (sym here)
-              (subst (λ fs. AddsTypes fs old_types new_types (map place g.handler_types.items)) needs is.handlers);
+              (subst (λ fs. AddsTypes fs old_types new_types (handlers_in g)) needs is.handlers);
         }
 
   pub taken : (g : LocalFunction) → FunctionIsRead c tags ty old_types new_types old new f.1.bytes g → (id : ℕ) (slot : Option FunctionValue) → slot ≡ Some (record { id = id; kind = kind.Local g; name = None })

@@ -14,12 +14,11 @@ use Rattle.walrus_types.specs.Value.{val_type}
 use Rattle.walrus_types.specs.declared.locals.Local.{Local as LocalItem}
 use Rattle.walrus_types.specs.declared.locals.ModuleLocals.{ModuleLocals}
 use Rattle.walrus_types.specs.declared.module_types.ModuleTypes.{ModuleTypes}
-use Rattle.walrus_code.specs.Function.{function_type, body_of}
-use Rattle.walrus_code.specs.declared.function.LocalFunction.{LocalFunction}
+use Rattle.walrus_items.specs.Function.{function_type, body_of, locations_of, args_of}
+use Rattle.walrus_items.specs.LocalFunction.{LocalFunction}
 use Rattle.walrus_code.specs.Location.{location, location_at}
 use Rattle.walrus_code.specs.declared.location.InstrLocId.{InstrLocId}
 use Rattle.walrus_bodies.specs.BodyRead.{BodyLocated}
-use Rattle.walrus_bodies.specs.Results.{locations}
 use Rattle.walrus_functions.specs.Handlers.{handlers_of, params_of}
 use Rattle.walrus_functions.specs.Laws.{moved_op}
 use Rattle.walrus_functions.specs.ReadFunction.{AddsTypes, Slots, locals_from}
@@ -73,7 +72,7 @@ starts_of types brought said = replicate brought 0 ++ starts_from 0 (local_count
 -- locals there. It has no name.
 pub record HoldsBody (first ty arity : ℕ) (body : Said) (f : LocalFunction) : Type 0 where
   pub typed : place (function_type f) ≡ ty
-  pub parameters : map place f.args.items ≡ range_with_len first arity
+  pub parameters : args_of f ≡ range_with_len first arity
   pub operators : body_of f ≡ map (moved_op first) body.1
   pub unnamed : f.name ≡ None
 
@@ -125,7 +124,7 @@ module _ (Gives : ℕ → InstrLocId → Type 0) where
     pub is : slot ≡ Some value
     pub local : LocalFunction
     pub kind : value.kind ≡ Local local
-    pub places : BodyLocated Gives body.start body.bytes (locations local.operators.items)
+    pub places : BodyLocated Gives body.start body.bytes (locations_of local)
 
   -- the functions with bodies are located in them: they stand behind those that imports bring
   abbrev pub AreLocatedIn : wire.Module → List (Option FunctionValue) → Type 0

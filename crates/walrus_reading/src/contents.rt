@@ -9,7 +9,6 @@ ghost use Rattle.walrus_types.specs.ModuleTypes.{type_names, type_slots};
 ghost use Rattle.walrus_types.specs.Operators.{Functions, Space, Types};
 ghost use Rattle.walrus_code.specs.Indices.{places_in, ids_at};
 ghost use Rattle.walrus_bodies.specs.BodyRead.{BodyLocated};
-ghost use Rattle.walrus_bodies.specs.Results.{locations};
 ghost use Rattle.walrus_bodies.specs.FunctionTypes.{is_function_at};
 ghost use Rattle.walrus_functions.specs.ReadFunction.{ReadsFunction};
 ghost use Rattle.walrus_functions.specs.Signatures.{slots_of};
@@ -29,6 +28,7 @@ ghost use Rattle.walrus_reading.specs.Sections.{Rules};
 ghost use Rattle.walrus_parts.specs.Errors.{out_of_memory};
 ghost use Rattle.wasm_entries.specs.Record.{group, export_entry};
 ghost use Rattle.wasm_frames.specs.Record.{body_record, sections};
+ghost use Rattle.walrus_items.specs.Function.{locations_of};
 
 use crate::elements::add_elements;
 use crate::entities::{add_globals, add_memories, add_tables, add_tags};
@@ -232,7 +232,7 @@ fn read_located<L: Fn(&usize) -> InstrLocId>(
         (slots_of types.old) (slots_of types.new) (locals all.old) (locals all.new)
         body.now.bytes.now result }
     ensures located { IfOk result (λ f. BodyLocated (FnReturnsAt L.Fn under.now.locate.now)
-        body.now.start body.now.bytes.now (locations f.operators.items)) }
+        body.now.start body.now.bytes.now (locations_of f)) }
 {
     read_body(
         under.alloc,

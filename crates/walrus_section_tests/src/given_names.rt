@@ -29,7 +29,7 @@ fn parameter(module: &Module, id: FunctionId) -> Option<LocalId> {
         return None;
     }
     match &module.funcs.get(id).kind {
-        FunctionKind::Local(function) => function.args.first().copied(),
+        FunctionKind::Local(function) => function.args().first().copied(),
         FunctionKind::Import(_) | FunctionKind::Uninitialized(_) => None,
     }
 }

@@ -93,7 +93,3 @@ under_own_ids-replaced place (o ∷ rest) zero between x y here same =
 under_own_ids-replaced place (None ∷ rest) (suc at) between x y here same = under_own_ids-replaced (place + 1) rest at between x y here same
 under_own_ids-replaced place (Some z ∷ rest) (suc at) between x y here same =
     ap (λ b. (type_place z == place) && b) (under_own_ids-replaced (place + 1) rest at between x y here same)
-
--- the only one has the first id
-pub own_only : (place : ℕ) (slots : List (Option «Type»)) (x : «Type») → IsTrue (under_own_ids place slots) → slots ≡ Some x ∷ [] → type_place x ≡ place
-own_only place slots x own only = own_place place slots 0 x own (ap (λ s. item_at s 0) only) ∙ add-zero place

@@ -28,10 +28,6 @@ between_one a b h e = rw e refl
 pub one_between : (a b p : ℕ) → places_between a b ≡ p ∷ [] → (a ≡ p) × (a < b) × (b - a ≡ 1)
 one_between a b p h = let one : (a ≡ p) × (b - a ≡ 1) = one_place a (b - a) p h in let lt : a < b = omega (arith, one.1) in (one.0, lt, one.1)
 
--- two places and more aren't one
-pub not_one : (a n p : ℕ) → range_with_len a (suc (suc n)) ≡ p ∷ [] → ⊥
-not_one a n p h = cc
-
 -- an id that is put behind others next
 pub next_id_step : (ids now : List (Id TypeKey)) (id : Id TypeKey) (a b : ℕ) (all : List ℕ) → a < b → place id ≡ a → now ≡ ids ++ id ∷ [] → map (λ x. place x) ids ++ places_between a b ≡ all → map (λ x. place x) now ++ places_between (a + 1) b ≡ all
 next_id_step ids now id a b all lt is more so_far =

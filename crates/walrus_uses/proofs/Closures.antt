@@ -11,8 +11,8 @@ use Rattle.walrus_base.specs.declared.keys.TypeKey.{TypeKey}
 use Rattle.walrus_types.specs.ModuleTypes.{type_slots}
 use Rattle.walrus_types.specs.Operators.{function_item}
 use Rattle.walrus_types.specs.TypeDef.{TypeDef}
-use Rattle.walrus_code.specs.Function.{function_type}
-use Rattle.walrus_code.specs.declared.function.LocalFunction.{LocalFunction}
+use Rattle.walrus_items.specs.Function.{function_type}
+use Rattle.walrus_items.specs.LocalFunction.{LocalFunction}
 use Rattle.walrus_builder.specs.declared.sequence.InstrSeqBuilder.{InstrSeqBuilder}
 use Rattle.walrus_parts.specs.declared.error.Error.{Error}
 use Rattle.walrus_parts.specs.declared.function_kind.FunctionKind.{FunctionKind}
@@ -52,9 +52,9 @@ module _ (P Q : Builds) (weaker : (shown : MutBor InstrSeqBuilder) (given : Bor 
     imported_by result h = by_found (first (imports_item (function_item (place fid))) (imports old.imports)) (item_at (functions old.funcs) (place fid)) result h
 
     by_kind_exported : (e : ℕ × ExportValue) (k : FunctionKind) (result : Result (Id FunctionKey) Error) → ReplacesKind P e k old new result → ReplacesKind Q e k old new result
-    by_kind_exported e (Local l) (Ok id) r = record { is_next = r.is_next; function = r.function; is_new = new_by (function_type l) l.args.items r.function r.is_new; funcs = r.funcs; exported = r.exported; others = r.others }
-    by_kind_exported e (Local l) (Err x) (inl memory, same) = (inl memory, same)
-    by_kind_exported e (Local l) (Err x) (inr (builder, called), same) = (inr (builder, built_by l.args.items (Err x) builder called), same)
+    by_kind_exported e (Local l) (Ok id) r = record { is_next = r.is_next; args = r.args; parameters = r.parameters; function = r.function; is_new = new_by (function_type l) r.args r.function r.is_new; funcs = r.funcs; exported = r.exported; others = r.others }
+    by_kind_exported e (Local l) (Err x) ((args, parameters, inl memory), same) = ((args, parameters, inl memory), same)
+    by_kind_exported e (Local l) (Err x) ((args, parameters, inr (builder, called)), same) = ((args, parameters, inr (builder, built_by args (Err x) builder called)), same)
     by_kind_exported e (Import i) result h = h
     by_kind_exported e (Uninitialized ty) result h = h
 

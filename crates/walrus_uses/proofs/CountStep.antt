@@ -9,6 +9,8 @@ use Rattle.std.proofs.lemmas.Slice.Zip.{AllZip-long}
 use Rattle.walrus_base.specs.Arena.{item_at}
 use Rattle.walrus_base.specs.Id.{place}
 use Rattle.walrus_base.specs.Types.{Func}
+use Rattle.walrus_base.specs.declared.id.Id.{Id}
+use Rattle.walrus_base.specs.declared.keys.TypeKey.{TypeKey}
 use Rattle.walrus_types.specs.Alone.{Added, Found, FoundOrAdded}
 use Rattle.walrus_types.specs.Composite.{function_of}
 use Rattle.walrus_types.specs.Locals.{locals}
@@ -18,10 +20,8 @@ use Rattle.walrus_types.specs.PlaceList.{has}
 use Rattle.walrus_types.specs.TypeDef.{TypeDef}
 use Rattle.walrus_types.specs.declared.locals.ModuleLocals.{ModuleLocals}
 use Rattle.walrus_types.specs.declared.module_types.ModuleTypes.{ModuleTypes}
-use Rattle.walrus_code.specs.Code.{ops_of}
-use Rattle.walrus_code.specs.Function.{body_of, function_type}
-use Rattle.walrus_code.specs.declared.function.LocalFunction.{LocalFunction}
-use Rattle.walrus_code.specs.declared.operator.Operator.{Operator}
+use Rattle.walrus_items.specs.Function.{args_of, body_of, function_type}
+use Rattle.walrus_items.specs.LocalFunction.{LocalFunction}
 use Rattle.walrus_builder.specs.Instructions.{call_op}
 use Rattle.walrus_model.specs.Abstract as abstract
 use Rattle.walrus_model.specs.Config.{Config}
@@ -47,23 +47,23 @@ use Rattle.walrus_uses.specs.Count.{CallsFirst, CountsIn, KindCalls, SlotCalls}
 -- ---- a function whose body begins with a call
 
 module _ (all : ModuleLocals) (n : ℕ) where
-  -- the function with these operators
-  abbrev with_ops : LocalFunction → List Op → abstract.Function
-  with_ops f ops = record {
-    ty = place (function_type f);
+  -- the function of this type with these parameters and operators
+  abbrev with_ops : Id TypeKey → List ℕ → List Op → abstract.Function
+  with_ops ty args ops = record {
+    ty = place ty;
     kind = abstract.LocalFunction (record {
-      parameters = map place f.args.items;
+      parameters = args;
       local_type = item_at (local_types (locals all));
-      declared = length (filter (λ x. has (locals_of ops) x && not (has (map place f.args.items) x)) (range_with_len 0 (length (locals all))));
+      declared = length (filter (λ x. has (locals_of ops) x && not (has args x)) (range_with_len 0 (length (locals all))));
       operators = ops;
     });
   }
 
-  local_calls : (f g : LocalFunction) → CallsFirst n f g → with_ops g (body_of g) ≡ with_ops f (call_op n ∷ body_of f)
+  local_calls : (f g : LocalFunction) → CallsFirst n f g → with_ops (function_type g) (args_of g) (body_of g) ≡ with_ops (function_type f) (args_of f) (call_op n ∷ body_of f)
   local_calls f g first =
-      ap (λ (h : LocalFunction). with_ops h (body_of h)) first.others
-      ∙ ap (λ (items : List Operator). with_ops f (ops_of items)) first.in_front
-      ∙ ap (λ (o : Op). with_ops f (o ∷ body_of f)) first.is_call
+      ap (λ (ty : Id TypeKey). with_ops ty (args_of g) (body_of g)) first.others.head.typed
+      ∙ ap (λ (args : List ℕ). with_ops (function_type f) args (body_of g)) first.others.head.args
+      ∙ ap (with_ops (function_type f) (args_of f)) first.in_front
 
   kind_calls : (id : ℕ) (name : Option (List ℕ)) (k new : FunctionKind) → KindCalls n k new
       → function all (record { id = id; kind = new; name = name }) ≡ record { ty = place (kind_type k); kind = calling_kind n (kind_of all k) }
@@ -79,7 +79,7 @@ module _ (all : ModuleLocals) (n : ℕ) where
 kind_keeps : (n id : ℕ) (name : Option (List ℕ)) (k new : FunctionKind) → KindCalls n k new → handlers_at (Some (record { id = id; kind = new; name = name })) ≡ handlers_at (Some (record { id = id; kind = k; name = name }))
 kind_keeps n id name (Local f) new (g, is, first) =
     ap (λ (k : FunctionKind). handlers_at (Some (record { id = id; kind = k; name = name }))) is
-    ∙ ap (λ (h : LocalFunction). map place h.handler_types.items) first.others
+    ∙ first.others.handlers
 kind_keeps n id name (Import i) new is = ap (λ (k : FunctionKind). handlers_at (Some (record { id = id; kind = k; name = name }))) is
 kind_keeps n id name (Uninitialized ty) new is = ap (λ (k : FunctionKind). handlers_at (Some (record { id = id; kind = k; name = name }))) is
 

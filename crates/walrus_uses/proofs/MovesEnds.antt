@@ -9,7 +9,7 @@ use Rattle.walrus_base.specs.Arena.{item_at}
 use Rattle.walrus_types.specs.declared.locals.ModuleLocals.{ModuleLocals}
 use Rattle.walrus_code.specs.Location.{location, location_at}
 use Rattle.walrus_code.specs.Transform.{Transform}
-use Rattle.walrus_bodies.specs.Results.{locations}
+use Rattle.walrus_items.specs.Function.{locations_of as locations_in_body}
 use Rattle.walrus_model.specs.Config.{Config}
 use Rattle.walrus_model.specs.Names.{body_of_function}
 use Rattle.walrus_model.specs.Pipeline.{Collected}
@@ -67,8 +67,8 @@ module _ {S : Type 0} (read kept left : Module S) (K : ℕ → Type 0) (keeps : 
       let mine = some_slot left.locals (item_at (functions left.funcs) f) local in
       let stays = keeps.left f mine.0 (ap (λ funcs. item_at (functions funcs) f) (sym same) ∙ mine.1) in
       let one : mine.0 ≡ is.value = some_inj mine.0 is.value (sym stays.1 ∙ slot.1.0 ∙ is.is) in
-      let row = located_in body (locations is.local.operators.items) is.places in
-      let told : locations_of left f ≡ map location (locations is.local.operators.items) =
+      let row = located_in body (locations_in_body is.local) is.places in
+      let told : locations_of left f ≡ map location (locations_in_body is.local) =
       ap (λ (o : Option FunctionValue). locations_in (option_and_then (λ (g : FunctionValue). local_at f g.kind) o)) (mine.1 ∙ ap (λ (g : FunctionValue). Some g) one) ∙ ap (λ (k : FunctionKind). locations_in (local_at f k)) is.kind in
       (row.0, (row.1.0, (row.1.1.0, told ∙ row.1.1.1)))
 

@@ -9,8 +9,8 @@ use Rattle.walrus_base.specs.declared.id.Id.{Id}
 use Rattle.walrus_base.specs.declared.keys.FunctionKey.{FunctionKey}
 use Rattle.walrus_base.specs.declared.keys.LocalKey.{LocalKey}
 use Rattle.walrus_types.specs.Operators.{Functions, Tables, Memories, Tags, Globals, Item, function_item}
-use Rattle.walrus_code.specs.Function.{function_type}
-use Rattle.walrus_code.specs.declared.function.LocalFunction.{LocalFunction}
+use Rattle.walrus_items.specs.Function.{function_type}
+use Rattle.walrus_items.specs.LocalFunction.{LocalFunction}
 use Rattle.walrus_model.specs.Abstract as abstract
 use Rattle.walrus_model.specs.Config.{Config}
 use Rattle.walrus_model.specs.Live.{IsLive}
@@ -185,8 +185,8 @@ module _ {S : Type 0} (name : List ℕ) (c : Config) (old new : Module S) (whole
           id = result;
           trap = r.function;
           typed = r.is_new.typed;
-          takes = r.is_new.takes;
-          traps = traps (function_type l) l.args.items r.function r.is_new;
+          takes = sym r.is_new.takes ∙ r.parameters;
+          traps = traps (function_type l) r.args r.function r.is_new;
           no_handlers = r.is_new.handlers;
           behind = r.is_next;
           comes = r.funcs;
@@ -211,7 +211,7 @@ module _ {S : Type 0} (name : List ℕ) (c : Config) (old new : Module S) (whole
 
       by_local : (l : LocalFunction) → f.kind ≡ Local l → (result : Result (Id FunctionKey) Error) → ReplacesKind PutsTrap e (Local l) old new result → Answers result
       by_local l kind (Ok i) r = done l kind i r
-      by_local l kind (Err x) (why, same) = subst (RefusesSnip name (contents_of old)) (sym (refused l.args.items x why)) tt
+      by_local l kind (Err x) ((args, parameters, why), same) = subst (RefusesSnip name (contents_of old)) (sym (refused args x why)) tt
 
       by_import : (result : Result (Id FunctionKey) Error) → IsErrOf result error.NotReplaceable → IsKept name (functions old.funcs) (exports old.exports) → Answers result
       by_import (Ok i) is_so kept = absurd (let no_such : ◌≡◌ {A = Result (Id FunctionKey) Error} (Ok i) (Err error.NotReplaceable) = is_so in cc)

@@ -3,7 +3,7 @@ use Rattle.std.proofs.Common.{◌≡◌, ◌≢◌, ℕ, List, map, Option, Some
 use Rattle.std.specs.Prelude.{Contains}
 use Rattle.walrus_base.specs.Arena.{item_at, items}
 use Rattle.walrus_base.specs.Id.{place}
-use Rattle.walrus_code.specs.Function.{function_type}
+use Rattle.walrus_items.specs.Function.{function_type}
 use Rattle.walrus_model.specs.Abstract as abstract
 use Rattle.walrus_model.specs.Config.{Config}
 use Rattle.walrus_model.specs.Pipeline.{ReachedIsLive}
@@ -54,7 +54,7 @@ module _ (c : Config) (m : Contents) (funcs : ModuleFunctions) (exps : ModuleExp
         ∙ ap (λ t. Some (record { ty = place t; kind = abstract.LocalFunction (body m.locals snips.trap) })) snips.typed;
     others = λ i not. ap (option_map (function m.locals)) (others i not);
     traps = snips.traps;
-    parameters = ap (map place) snips.takes;
+    parameters = snips.takes;
     types = refl;
     was_exported = (export_of snips.export.value, is_exported snips.id (exports m.exports) snips.export.at snips.export.value snips.export.there, ap exported snips.export.is_function);
     same_names = ap (λ xs. map (λ (e : abstract.Export). e.name) (map export_of (items xs))) snips.named ∙ names_stay snips.id (exports m.exports) snips.export.at snips.export.value snips.export.there;
@@ -74,4 +74,4 @@ module _ (c : Config) (m : Contents) (funcs : ModuleFunctions) (exps : ModuleExp
   -- what is reached stays there
   pub snip_live : IsWellMade c (contents_view m) → ReachedIsLive (contents_view m) → ReachedIsLive after
   snip_live made live = snip_reached c (contents_view m) (functions_of m.locals funcs) (exports_of exps) after.named after.handler_types j k (body m.locals snips.trap) is_snip made
-      (ap handlers_at is_there ∙ ap (map place) snips.no_handlers) handlers_before live
+      (ap handlers_at is_there ∙ snips.no_handlers) handlers_before live

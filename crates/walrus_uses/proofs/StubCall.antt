@@ -10,8 +10,8 @@ use Rattle.walrus_base.specs.declared.keys.TypeKey.{TypeKey}
 use Rattle.walrus_types.specs.Locals.{locals}
 use Rattle.walrus_types.specs.Operators.{Op, function_item}
 use Rattle.walrus_types.specs.TypeDef.{TypeDef}
-use Rattle.walrus_code.specs.Function.{body_of}
-use Rattle.walrus_code.specs.declared.function.LocalFunction.{LocalFunction}
+use Rattle.walrus_items.specs.Function.{body_of}
+use Rattle.walrus_items.specs.LocalFunction.{LocalFunction}
 use Rattle.walrus_builder.specs.Instructions.{end_op, unreachable_op}
 use Rattle.walrus_builder.specs.Sequence.{built}
 use Rattle.walrus_model.specs.BlockHandlers.{params_of}
@@ -110,7 +110,9 @@ module _ {S : Type 0} (c : Config) (from : List ℕ) (n : ℕ) (begun old new : 
         handlers = local.is_new.handlers;
         types = local.parameters.types;
         taken = local.parameters.taken ∙ ap params_of (sym by.typed);
-        added = subst (λ args. AddsLocals (locals old.locals) (locals new.locals) args local.parameters.types) (sym local.is_new.takes) local.parameters.added;
+        args = local.args;
+        parameters = local.is_new.takes;
+        added = local.parameters.added;
       }
 
       whole : IsWhole c new

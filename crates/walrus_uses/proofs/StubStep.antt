@@ -1,16 +1,18 @@
 -- One imported function of what a module holds becomes one that traps.
 use Rattle.std.proofs.Common.{◌≡◌, ◌≢◌, ℕ, List, [], map, Option, Some, None, IsSome, option_map, slice_set, refl, sym, ap, ◌∙◌, subst, ⊎_elim}
-use Rattle.std.specs.Prelude.{Contains}
+use Rattle.std.specs.Prelude.{AllPairs, Contains}
 use Rattle.std.proofs.lemmas.List.{get_or-set_same, get_or-set_other}
 use Rattle.walrus_base.specs.Arena.{item_at}
 use Rattle.walrus_base.specs.Id.{place}
+use Rattle.walrus_base.specs.declared.id.Id.{Id}
+use Rattle.walrus_base.specs.declared.keys.LocalKey.{LocalKey}
 use Rattle.walrus_types.specs.Locals.{locals}
 use Rattle.walrus_types.specs.ModuleTypes.{type_slots}
 use Rattle.walrus_types.specs.Value.{val_type}
 use Rattle.walrus_types.specs.declared.locals.ModuleLocals.{ModuleLocals}
 use Rattle.walrus_types.specs.declared.value.ValType.{ValType}
-use Rattle.walrus_code.specs.Function.{function_type, body_of}
-use Rattle.walrus_code.specs.declared.function.LocalFunction.{LocalFunction}
+use Rattle.walrus_items.specs.Function.{body_of, function_type, handlers_in}
+use Rattle.walrus_items.specs.LocalFunction.{LocalFunction}
 use Rattle.walrus_model.specs.Abstract as abstract
 use Rattle.walrus_model.specs.BlockHandlers.{params_of}
 use Rattle.walrus_model.specs.BodyRead.{AddsLocals}
@@ -23,6 +25,7 @@ use Rattle.walrus_items.specs.Imports.{ModuleImports, imports}
 use Rattle.walrus_contents.specs.View.{body, contents_view, function, functions_of, handlers_at, import_of, imports_of}
 use Rattle.walrus_contents.specs.declared.parts.Contents.{Contents}
 use Rattle.walrus_model.specs.Pipeline.{ReachedIsLive}
+use Rattle.walrus_module.specs.Replaced.{AreParameters}
 use Rattle.walrus_model.proofs.Lists.{Contains-none}
 use Rattle.walrus_rules.specs.OkLaws.{AreCounted}
 use Rattle.walrus_rules.specs.Once.{TypesLocals}
@@ -54,14 +57,16 @@ pub record IsStubbed (m : Contents) (funcs : ModuleFunctions) (imps : ModuleImpo
   pub gone : imports imps ≡ slice_set (imports m.imports) a None
   pub typed : function_type local ≡ imported.ty
   pub traps : body_of local ≡ trap_ops
-  pub handlers : local.handler_types.items ≡ []
+  pub handlers : handlers_in local ≡ []
   pub types : List ValType
   pub taken : map val_type types ≡ params_of (item_at (type_slots m.types) (place imported.ty))
-  pub added : AddsLocals (locals m.locals) (locals locs) local.args.items types
+  pub args : List (Id LocalKey)
+  pub parameters : AreParameters args local
+  pub added : AddsLocals (locals m.locals) (locals locs) args types
 
 module _ (c : Config) (m : Contents) (funcs : ModuleFunctions) (imps : ModuleImports) (locs : ModuleLocals) (j a : ℕ) (local : LocalFunction) (stub : IsStubbed m funcs imps locs j a local) where
   same_body : (l : LocalFunction) → SameBody (body m.locals l) (body locs l)
-  same_body l = record { parameters = refl; operators = refl; types = old_typed (locals m.locals) (locals locs) local.args.items stub.types stub.added }
+  same_body l = record { parameters = refl; operators = refl; types = old_typed (locals m.locals) (locals locs) stub.args stub.types stub.added }
 
   same_kind : (id : ℕ) (k : FunctionKind) (name : Option (List ℕ)) (a b : Option abstract.Function)
       → a ≡ Some (function m.locals (record { id = id; kind = k; name = name })) → b ≡ Some (function locs (record { id = id; kind = k; name = name })) → SameSlot a b
@@ -95,8 +100,8 @@ module _ (c : Config) (m : Contents) (funcs : ModuleFunctions) (imps : ModuleImp
         ∙ ap (option_map import_of) (get_or-set_same (imports m.imports) a None None (item_within (imports m.imports) a stub.live));
     imports = λ i not. ap (λ xs. option_map import_of (item_at xs i)) stub.gone ∙ ap (option_map import_of) (get_or-set_other (imports m.imports) a i None None not);
     traps = stub.traps;
-    distinct = new_apart (locals m.locals) (locals locs) local.args.items stub.types stub.added;
-    typed = new_typed (locals m.locals) (locals locs) local.args.items stub.types stub.added ∙ ap (map Some) stub.taken;
+    distinct = subst (λ (ps : List ℕ). AllPairs (λ (x : ℕ) (y : ℕ). x ≢ y) ps) stub.parameters (new_apart (locals m.locals) (locals locs) stub.args stub.types stub.added);
+    typed = ap (map (body locs local).local_type) (sym stub.parameters) ∙ new_typed (locals m.locals) (locals locs) stub.args stub.types stub.added ∙ ap (map Some) stub.taken;
   }
 
   -- it stays well made
@@ -107,7 +112,7 @@ module _ (c : Config) (m : Contents) (funcs : ModuleFunctions) (imps : ModuleImp
   handlers_before : (f k : ℕ) → Contains ((contents_view (with_stub m funcs imps locs)).handler_types f) k → Contains ((contents_view m).handler_types f) k
   handlers_before f k has = ⊎_elim
       (λ (e : f ≡ j). absurd (Contains-none k (subst (λ (ts : List ℕ). Contains ts k)
-      (ap (λ i. handlers_at (item_at (functions funcs) i)) e ∙ ap (λ xs. handlers_at (item_at xs j)) stub.set ∙ ap handlers_at (set_there (functions m.funcs) j stub.f (with_kind local stub.f) stub.there) ∙ ap (map place) stub.handlers)
+      (ap (λ i. handlers_at (item_at (functions funcs) i)) e ∙ ap (λ xs. handlers_at (item_at xs j)) stub.set ∙ ap handlers_at (set_there (functions m.funcs) j stub.f (with_kind local stub.f) stub.there) ∙ stub.handlers)
       has)))
       (λ (e : f ≢ j). subst (λ (o : Option FunctionValue). Contains (handlers_at o) k)
       (ap (λ xs. item_at xs f) stub.set ∙ get_or-set_other (functions m.funcs) j f (Some (with_kind local stub.f)) None e)

@@ -5,8 +5,8 @@ use Rattle.std.proofs.lemmas.List.{get_or-set_same, get_or-set_other}
 use Rattle.walrus_base.specs.Arena.{item_at}
 use Rattle.walrus_base.specs.Id.{place}
 use Rattle.walrus_types.specs.Operators.{Item, function_item}
-use Rattle.walrus_code.specs.Function.{function_type, body_of}
-use Rattle.walrus_code.specs.declared.function.LocalFunction.{LocalFunction}
+use Rattle.walrus_items.specs.Function.{function_type, body_of}
+use Rattle.walrus_items.specs.LocalFunction.{LocalFunction}
 use Rattle.walrus_parts.specs.Kinds.{imported}
 use Rattle.walrus_parts.specs.declared.function_kind.FunctionKind.TheVariants.{Import}
 use Rattle.walrus_parts.specs.declared.function_kind.ImportedFunction.{ImportedFunction}

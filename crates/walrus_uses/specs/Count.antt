@@ -1,6 +1,6 @@
 -- A module in which each function with a body begins with a call of an imported one ("Structure > Modules > Imports", "Structure >
 -- Instructions > Control Instructions").
-use Rattle.std.specs.Prelude.{◌≡◌, ◌≢◌, ℕ, List, [], ◌∷◌, length, Option, Some, None}
+use Rattle.std.specs.Prelude.{◌≡◌, ◌≢◌, ℕ, List, [], ◌∷◌, length, map, Option, Some, None}
 use Rattle.std.specs.List.{AllZip}
 use Rattle.walrus_base.specs.Arena.{item_at}
 use Rattle.walrus_base.specs.Id.{place}
@@ -12,14 +12,13 @@ use Rattle.walrus_types.specs.Alone.{FoundOrAdded}
 use Rattle.walrus_types.specs.Composite.{function_of}
 use Rattle.walrus_types.specs.ModuleTypes.{type_names, type_slots}
 use Rattle.walrus_types.specs.declared.module_types.ModuleTypes.{ModuleTypes}
-use Rattle.walrus_code.specs.Code.{op_of}
 use Rattle.walrus_code.specs.Location.{location}
-use Rattle.walrus_code.specs.declared.function.LocalFunction.{LocalFunction}
-use Rattle.walrus_code.specs.declared.operator.Operator.{Operator}
 use Rattle.walrus_builder.specs.Instructions.{call_op, nowhere}
 use Rattle.walrus_parts.specs.declared.function_kind.FunctionKind.{FunctionKind}
 use Rattle.walrus_parts.specs.declared.function_kind.FunctionKind.TheVariants.{Import, Local, Uninitialized}
 use Rattle.walrus_parts.specs.declared.kinds.ImportKind.TheVariants.{Function}
+use Rattle.walrus_items.specs.Function.{KeepsOthers, body_of, locations_of}
+use Rattle.walrus_items.specs.LocalFunction.{LocalFunction}
 use Rattle.walrus_items.specs.Functions.{FunctionValue, ModuleFunctions, functions}
 use Rattle.walrus_items.specs.Imports.{ImportValue, ModuleImports, imports}
 use Rattle.walrus_module.specs.Imported.{IsImported}
@@ -28,11 +27,9 @@ use Rattle.walrus_module.specs.Imported.{IsImported}
 
 -- in front of the operators of a function stands a call of this function, which came from nowhere; nothing else changed
 pub record CallsFirst (called : ℕ) (old new : LocalFunction) : Type 0 where
-  pub call : Operator
-  pub is_call : op_of call ≡ call_op called
-  pub from_nowhere : location call.loc ≡ nowhere
-  pub in_front : new.operators.items ≡ call ∷ old.operators.items
-  pub others : new ≡ record old { operators = new.operators }
+  pub in_front : body_of new ≡ call_op called ∷ body_of old
+  pub from_nowhere : map location (locations_of new) ≡ nowhere ∷ map location (locations_of old)
+  pub others : KeepsOthers old new
 
 -- so a function with a body begins; one without is as it was
 abbrev pub KindCalls : (called : ℕ) → (old new : FunctionKind) → Type 0

@@ -5,8 +5,8 @@ use Rattle.walrus_base.specs.Id.{place}
 use Rattle.walrus_base.specs.declared.id.Id.{Id}
 use Rattle.walrus_base.specs.declared.keys.FunctionKey.{FunctionKey}
 use Rattle.walrus_types.specs.Operators.{function_item}
-use Rattle.walrus_code.specs.Function.{function_type, body_of}
-use Rattle.walrus_code.specs.declared.function.LocalFunction.{LocalFunction}
+use Rattle.walrus_items.specs.Function.{args_of, body_of, function_type, handlers_in}
+use Rattle.walrus_items.specs.LocalFunction.{LocalFunction}
 use Rattle.walrus_parts.specs.declared.function_kind.FunctionKind.TheVariants.{Import, Local}
 use Rattle.walrus_parts.specs.declared.function_kind.ImportedFunction.{ImportedFunction}
 use Rattle.walrus_parts.specs.declared.kinds.ExportItem.TheVariants.{Function}
@@ -35,9 +35,9 @@ pub record SnipsIn (name : List ℕ) (functions functions_left : List (Option Fu
   pub id : Id FunctionKey
   pub trap : LocalFunction
   pub typed : function_type trap ≡ function_type body
-  pub takes : trap.args.items ≡ body.args.items
+  pub takes : args_of trap ≡ args_of body
   pub traps : body_of trap ≡ trap_ops
-  pub no_handlers : trap.handler_types.items ≡ []
+  pub no_handlers : handlers_in trap ≡ []
   pub behind : place id ≡ length functions
   pub comes : functions_left ≡ functions ++ Some (record { id = place id; kind = Local trap; name = None }) ∷ []
   pub named : exports_left ≡ slice_set exports export.at (Some (record (export.value) { item = Function id }))

@@ -16,7 +16,12 @@ use walrus::passes::gc;
 use walrus::{FunctionId, Module, ModuleFunctions, Result};
 
 // The function of this id begins with a call, if it is there and has a body.
-fn call_at(all: &mut ModuleFunctions, at: FunctionId, called: FunctionId) -> Result<()>
+fn call_at(
+    alloc: Global,
+    all: &mut ModuleFunctions,
+    at: FunctionId,
+    called: FunctionId,
+) -> Result<()>
     ensures { MatchResult result
         (λ _. PlaceCalls (place called) (place at) (functions all.old) (functions all.new))
         (λ e. e ≡ out_of_memory) }
@@ -24,18 +29,18 @@ fn call_at(all: &mut ModuleFunctions, at: FunctionId, called: FunctionId) -> Res
     if !all.contains(at) {
         return Ok(());
     }
-    call_first(&mut all.get_mut(at).kind, called)?;
+    call_first(alloc, &mut all.get_mut(at).kind, called)?;
     Ok(())
 }
 
 // Each function with a body begins with a call.
-fn call_all(all: &mut ModuleFunctions, called: FunctionId) -> Result<()>
+fn call_all(alloc: Global, all: &mut ModuleFunctions, called: FunctionId) -> Result<()>
     ensures { MatchResult result
         (λ _. AllZip (SlotCalls (place called)) (functions all.old) (functions all.new))
         (λ e. e ≡ out_of_memory) }
 {
     'places: for at in 0..all.next_id().index() {
-        call_at(all, FunctionId::at(at), called)?;
+        call_at(alloc, all, FunctionId::at(at), called)?;
     }
     Ok(())
 }
@@ -50,11 +55,11 @@ fn import_one<S>(module: &mut Module<S>, from: &str, name: &str) -> Result<Funct
 }
 
 // Imports it, and each function with a body begins with a call of it.
-fn count_all<S>(module: &mut Module<S>, from: &str, name: &str) -> Result<()>
+fn count_all<S>(alloc: Global, module: &mut Module<S>, from: &str, name: &str) -> Result<()>
     ensures { CountsAll from.now name.now «module».old «module».new result }
 {
     let called = import_one(module, from, name)?;
-    call_all(&mut module.funcs, called)
+    call_all(alloc, &mut module.funcs, called)
 }
 
 /// The bytes of the module with an import more, behind all others: of a function that takes and gives nothing, by the name of its module
@@ -68,7 +73,7 @@ pub fn count_calls(alloc: Global, bytes: &[u8], from: &str, name: &str) -> Resul
     ensures { AnswersCounted (config_of defaults) bytes.now from.now name.now result }
 {
     let mut module = Module::from_buffer(alloc, bytes)?;
-    count_all(&mut module, from, name)?;
+    count_all(alloc, &mut module, from, name)?;
     gc::run(alloc, &mut module)?;
     module.emit_wasm(alloc)
 }

@@ -10,7 +10,7 @@ use Rattle.walrus_base.specs.Id.{place}
 use Rattle.walrus_base.specs.Types.{ValType}
 use Rattle.walrus_types.specs.Operators.{Space, Types, Functions, Tables, Memories, Tags, Globals, Elements, DataSegments, locals_of}
 use Rattle.walrus_types.specs.TypeDef.{TypeDef}
-use Rattle.walrus_code.specs.Function.{body_of as ops_in}
+use Rattle.walrus_items.specs.Function.{body_of as ops_in, args_of}
 use Rattle.walrus_code.specs.Names.{Lookup}
 use Rattle.walrus_functions.specs.DeclaredLocals as declared
 use Rattle.walrus_functions.specs.DeclaredLocals.{rank}
@@ -277,9 +277,9 @@ module _ {p : Parts} {features : Features} (r : Records p features) where
   -- declared locals get rising numbers in their order
   locals_rise_of : (f : ℕ) (new : Function) (w : IsRow r f new) (x y : ℕ) → DeclaresLocal (body p.locals.now w.has.local) x → DeclaresLocal (body p.locals.now w.has.local) y → LocalGoesBefore (body p.locals.now w.has.local) x y → renaming.locals f x < renaming.locals f y
   locals_rise_of f new w x y dx dy g =
-      let as_declared : (z : ℕ) (t : ValType ℕ) → DeclaresLocal (body p.locals.now w.has.local) z → LocalHasType (body p.locals.now w.has.local) z t → declared.IsDeclared (slots_of p) (locals_of (ops_in w.has.local)) (map place w.has.local.args.items) z =
+      let as_declared : (z : ℕ) (t : ValType ℕ) → DeclaresLocal (body p.locals.now w.has.local) z → LocalHasType (body p.locals.now w.has.local) z t → declared.IsDeclared (slots_of p) (locals_of (ops_in w.has.local)) (args_of w.has.local) z =
       (λ z t d h. record { is_used = d.0; no_parameter = d.1; ty = t; typed = h }) in
-      let begins : LocalTypeBeginsBefore (body p.locals.now w.has.local) g.0 g.1.0 → declared.BeginsBefore (slots_of p) (locals_of (ops_in w.has.local)) (map place w.has.local.args.items) g.0 g.1.0 =
+      let begins : LocalTypeBeginsBefore (body p.locals.now w.has.local) g.0 g.1.0 → declared.BeginsBefore (slots_of p) (locals_of (ops_in w.has.local)) (args_of w.has.local) g.0 g.1.0 =
       (λ b. (b.0, (as_declared b.0 g.0 b.1.0 b.1.1, b.1.1, λ z d h. b.1.2 z (d.is_used, d.no_parameter) h))) in
       locals_rise r f w.t w.bytes w.has w.typed w.locals_at x y (as_declared x g.0 dx g.1.1.0) (as_declared y g.1.0 dy g.1.1.1) (
         g.0,

@@ -6,7 +6,7 @@ use Rattle.std.proofs.lemmas.List.Elements.{All-from_recursion}
 use Rattle.walrus_base.specs.Id.{place}
 use Rattle.walrus_types.specs.Operators.{Types, Functions}
 use Rattle.walrus_types.specs.Shape.{place_in}
-use Rattle.walrus_code.specs.Function.{function_type}
+use Rattle.walrus_items.specs.Function.{function_type, args_of}
 use Rattle.walrus_bodies.specs.declared.features.Features.{Features}
 use Rattle.walrus_contents.specs.View.{body, parts_view}
 use Rattle.walrus_contents.specs.declared.parts.Parts.{Parts}
@@ -49,7 +49,7 @@ module _ {p : Parts} {features : Features} (r : Records p features) where
 
   -- where a local stands in its function
   abbrev pub stands_in : {i : ℕ} {bytes : List ℕ} → Has i bytes → ℕ → ℕ
-  stands_in b x = unwrap_or (place_in (map place b.local.args.items ++ b.written.order) x) 0
+  stands_in b x = unwrap_or (place_in (args_of b.local ++ b.written.order) x) 0
 
   -- ---- the locals of each function
 

@@ -10,11 +10,11 @@ use Rattle.walrus_base.specs.Id.{place}
 use Rattle.walrus_base.specs.Types.{ValType, val_names, sub_names}
 use Rattle.walrus_base.specs.declared.id.Id.{Id}
 use Rattle.walrus_base.specs.declared.keys.FunctionKey.{FunctionKey}
-use Rattle.walrus_code.specs.Function.{function_type, body_of}
+use Rattle.walrus_items.specs.Function.{function_type, body_of, args_of}
 use Rattle.walrus_code.specs.Names.{Lookup, named_val, named_ops}
 use Rattle.walrus_code.specs.declared.error.IrError.{IrError}
 use Rattle.walrus_code.specs.declared.error.IrError.TheVariants as Ir
-use Rattle.walrus_code.specs.declared.function.LocalFunction.{LocalFunction}
+use Rattle.walrus_items.specs.LocalFunction.{LocalFunction}
 use Rattle.walrus_types.specs.Operators.{Item, Types, Functions, Tables, Memories, Globals, Tags, Elements, DataSegments, Op, type_item, names_of, locals_of}
 use Rattle.walrus_types.specs.Shape.{place_in}
 use Rattle.walrus_bodies.specs.declared.features.Features.{Features}
@@ -192,10 +192,10 @@ module _ (p : Parts) (none_dead : HasDead (parts_view p) → ⊥) (names : Looku
       )
 
   module _ (features : Features) (f : LocalFunction) (w : IsWhole f) where
-    operators_indexed : (declared : List ℕ) → AreDeclared slots (locals_of (body_of f)) (map place f.args.items) declared → IsSome (named_ops names (index_in (source p names features f) declared) (body_of f))
+    operators_indexed : (declared : List ℕ) → AreDeclared slots (locals_of (body_of f)) (args_of f) declared → IsSome (named_ops names (index_in (source p names features f) declared) (body_of f))
     operators_indexed declared d =
         ops_named names (index_in (source p names features f) declared) (body_of f) (λ y d. item_named y (w.named y d))
-        (λ x c. let v = local_whole f w x c in local_numbered slots (locals_of (body_of f)) (map place f.args.items) declared d x v.0 c v.1.0 (place_in (map place f.args.items) x) refl)
+        (λ x c. let v = local_whole f w x c in local_numbered slots (locals_of (body_of f)) (args_of f) declared d x v.0 c v.1.0 (place_in (args_of f) x) refl)
 
     type_indexed : (x : ℕ) (v : ValType ℕ) → Contains (locals_of (body_of f)) x → item_at slots x ≡ Some v → IsSome (named_val names v)
     type_indexed x v c is =

@@ -11,10 +11,10 @@ use Rattle.walrus_base.specs.declared.id.Id.{Id}
 use Rattle.walrus_base.specs.declared.keys.FunctionKey.{FunctionKey}
 use Rattle.walrus_code.specs.Location.{location}
 use Rattle.walrus_code.specs.Names.{Lookup}
-use Rattle.walrus_code.specs.declared.function.LocalFunction.{LocalFunction}
+use Rattle.walrus_items.specs.LocalFunction.{LocalFunction}
 use Rattle.walrus_code.specs.declared.location.InstrLocId.{InstrLocId}
+use Rattle.walrus_items.specs.Function.{locations_of}
 use Rattle.walrus_bodies.specs.Emitting.{places_from}
-use Rattle.walrus_bodies.specs.Results.{locations}
 use Rattle.walrus_bodies.specs.declared.features.Features.{Features}
 use Rattle.walrus_functions.specs.EmittedBody.{BodyWritten, declarations_bytes}
 use Rattle.walrus_contents.specs.declared.parts.Parts.{Parts}
@@ -31,7 +31,7 @@ use Rattle.walrus_writing.specs.Transform.{OperatorsStandAt, locations_in}
 -- ---- one body
 
 pub offsets_written : (p : Parts) (names : Lookup) (features : Features) (n : ℕ) (local : LocalFunction) (places : List (InstrLocId × ℕ)) (bytes : List ℕ) (numbers : ℕ → Option ℕ) (ids : List ℕ) (used : List Bool)
-    → local_in (functions p.funcs.now) n ≡ Some (n, local) → map (λ q. q.0) places ≡ locations local.operators.items → BodyWritten (source p names features local) bytes (map (λ q. q.1) places) numbers ids used
+    → local_in (functions p.funcs.now) n ≡ Some (n, local) → map (λ q. q.0) places ≡ locations_of local → BodyWritten (source p names features local) bytes (map (λ q. q.1) places) numbers ids used
     → AreOffsets p n bytes (map location_of places)
 offsets_written p names features n local places bytes numbers ids used is located w = record {
   located =

@@ -16,7 +16,7 @@ use Rattle.walrus_types.specs.Locals.{locals}
 use Rattle.walrus_types.specs.Operators.{Space, Types, Functions, Tables, Memories, Tags, Globals, Elements, DataSegments, Item, locals_of}
 use Rattle.walrus_types.specs.declared.locals.Local.{Local}
 use Rattle.walrus_bodies.specs.declared.features.Features.{Features}
-use Rattle.walrus_code.specs.Function.{body_of as ops_in}
+use Rattle.walrus_items.specs.Function.{body_of as ops_in, args_of}
 use Rattle.walrus_functions.specs.EmittedBody.{is_used}
 use Rattle.walrus_functions.proofs.WrittenLemmas.{all_differ}
 use Rattle.walrus_contents.specs.View.{body, parts_view}
@@ -125,7 +125,7 @@ module _ {p : Parts} {features : Features} (r : Records p features) where
 
   -- the locals of a function in their order
   abbrev all_in : {k i : ℕ} → IsAt r k i → List ℕ
-  all_in a = map place a.row.has.local.args.items ++ a.row.has.written.order
+  all_in a = args_of a.row.has.local ++ a.row.has.written.order
 
   differ : {k i : ℕ} (a : IsAt r k i) → IsDistinct nat_eq (all_in a)
   differ a =

@@ -4,7 +4,7 @@ use Rattle.std.specs.Prelude.{◌≢◌, Option, All, AllPairs, Contains, slice_
 use Rattle.walrus_base.specs.Id.{place}
 use Rattle.walrus_base.specs.Types.{ValType}
 use Rattle.walrus_types.specs.Operators.{locals_of}
-use Rattle.walrus_code.specs.Function.{body_of as ops_of_local}
+use Rattle.walrus_items.specs.Function.{body_of as ops_of_local, args_of}
 use Rattle.walrus_functions.specs.DeclaredLocals.{GoesBefore, AreDeclared}
 use Rattle.walrus_functions.proofs.LawOrder.{turn}
 use Rattle.walrus_functions.specs.EmittedBody.{HasTooManyLocals}
@@ -67,7 +67,7 @@ module _ (c : Config) (p : Parts) (own : List Custom) (roots : List Item) where
   many_locals : HasBody p (features_of c) HasTooManyLocals → PassesLimits c W
   many_locals (names, (n, (f, (is, (order, (declared, many)))))) =
       let used = locals_of (ops_of_local f) in
-      let parameters = map place f.args.items in
+      let parameters = args_of f in
       ManyLocals n (body p.locals.now f) order (ap body_of_function is) (order_differs (slots_of p) used parameters order declared) (order_used (slots_of p) used parameters order declared) (order_apart (slots_of p) used parameters order declared) many
 
   -- a count or a size passes 32 bits

@@ -10,7 +10,7 @@ use Rattle.walrus_types.specs.TypeDef.{TypeDef, type_params}
 use Rattle.walrus_code.specs.Names.{Lookup}
 use Rattle.walrus_code.specs.Results.{heap_is_exact, val_is_exact}
 use Rattle.walrus_constants.specs.Written.{IsUnspelled, ExactHeap, NoOperator}
-use Rattle.walrus_code.specs.declared.function.LocalFunction.{LocalFunction}
+use Rattle.walrus_items.specs.LocalFunction.{LocalFunction}
 use Rattle.walrus_functions.specs.EmittedBody.{CantBeWritten, comp_takes, takes}
 use Rattle.walrus_types.specs.ModuleTypes.{type_slots}
 use Rattle.walrus_functions.specs.Handlers.{params_of}

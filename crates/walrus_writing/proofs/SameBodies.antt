@@ -11,7 +11,7 @@ use Rattle.walrus_base.specs.Types.{ValType, map_val}
 use Rattle.walrus_types.specs.Operators.{Types, locals_of}
 use Rattle.walrus_types.specs.Shape.{place_in}
 use Rattle.walrus_code.specs.FromRaw.{ops_of}
-use Rattle.walrus_code.specs.Function.{body_of, function_type}
+use Rattle.walrus_items.specs.Function.{body_of, function_type, args_of}
 use Rattle.walrus_code.specs.Names.{named_val}
 use Rattle.walrus_bodies.specs.declared.features.Features.{Features}
 use Rattle.walrus_functions.specs.EmittedBody.{Source, index_in}
@@ -78,7 +78,7 @@ rest_of (suc a) (suc x) h = let d = rest_of a x (omega (arith, h)) in (d.0, let 
 -- ---- the types of its locals
 
 module _ {p : Parts} {features : Features} (r : Records p features) (i t : ℕ) (bytes : List ℕ) (b : HasBytes p r.names features i bytes) (e : r.names Types (place (function_type b.local)) ≡ Some t)
-    (found_locals : (x : ℕ) → (renaming_of r).locals i x ≡ unwrap_or (place_in (map place b.local.args.items ++ b.written.order) x) 0) where
+    (found_locals : (x : ℕ) → (renaming_of r).locals i x ≡ unwrap_or (place_in (args_of b.local ++ b.written.order) x) 0) where
   abbrev S : Source
   S = source p r.names features b.local
 
@@ -86,7 +86,7 @@ module _ {p : Parts} {features : Features} (r : Records p features) (i t : ℕ) 
   slots = slots_of p
 
   abbrev parameters : List ℕ
-  parameters = map place b.local.args.items
+  parameters = args_of b.local
 
   abbrev all_locals : List ℕ
   all_locals = parameters ++ b.written.order

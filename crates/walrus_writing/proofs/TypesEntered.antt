@@ -6,7 +6,7 @@ use Rattle.walrus_base.specs.Id.{place}
 use Rattle.walrus_base.specs.Types.{ValType}
 use Rattle.walrus_types.specs.Operators.{Types, Functions}
 use Rattle.walrus_types.specs.TypeDef.{TypeDef}
-use Rattle.walrus_code.specs.Function.{function_type}
+use Rattle.walrus_items.specs.Function.{function_type, args_of}
 use Rattle.walrus_code.specs.Names.{named_val}
 use Rattle.walrus_bodies.specs.declared.features.Features.{Features}
 use Rattle.walrus_functions.specs.EmittedBody.{takes, comp_takes}
@@ -60,7 +60,7 @@ module _ {p : Parts} {features : Features} (r : Records p features) where
 
   -- what a function's type takes is what its parameters are, looked up
   pub params_typed : (i t : ℕ) (bytes : List ℕ) (b : HasBytes p r.names features i bytes) → r.names Types (place (function_type b.local)) ≡ Some t
-      → map Some (params_of (types_of (laid_of r) t)) ≡ map (typed_by r.names (slots_of p)) (map place b.local.args.items)
+      → map Some (params_of (types_of (laid_of r) t)) ≡ map (typed_by r.names (slots_of p)) (args_of b.local)
   params_typed i t bytes b own_type =
       let z = type_entry (place (function_type b.local)) t own_type in
       let taken : comp_takes z.old.sub.comp ≡ Some b.written.fits.types = sym (ap takes z.is) ∙ b.written.fits.taken in
@@ -68,4 +68,4 @@ module _ {p : Parts} {features : Features} (r : Records p features) where
       ∙ params_named r.names z.old.sub.comp z.new.sub.comp z.named.comp b.written.fits.types taken
       ∙ map_after (λ v. Some v) (λ (o : Option (ValType ℕ)). option_and_then (named_val r.names) o) b.written.fits.types
       ∙ ap (map (λ (o : Option (ValType ℕ)). option_and_then (named_val r.names) o)) (sym b.written.fits.typed)
-      ∙ sym (map_after (item_at (slots_of p)) (λ (o : Option (ValType ℕ)). option_and_then (named_val r.names) o) (map place b.local.args.items))
+      ∙ sym (map_after (item_at (slots_of p)) (λ (o : Option (ValType ℕ)). option_and_then (named_val r.names) o) (args_of b.local))

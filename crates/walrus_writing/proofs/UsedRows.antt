@@ -5,6 +5,7 @@ use Rattle.std.specs.List.{AllZip}
 use Rattle.std.proofs.lemmas.List.{length-append}
 use Rattle.walrus_base.specs.Id.{place}
 use Rattle.walrus_types.specs.Operators.{Functions}
+use Rattle.walrus_items.specs.Function.{args_of}
 use Rattle.walrus_bodies.specs.declared.features.Features.{Features}
 use Rattle.walrus_functions.specs.Handlers.{params_of}
 use Rattle.walrus_contents.specs.View.{parts_view}
@@ -129,5 +130,5 @@ module _ {p : Parts} {features : Features} (r : Records p features) where
     -- each of its locals is in range
     pub local_there : (y : ℕ) → y < length a.row.has.ids → is_in_range (module_with r e) (ALocal (first + k) y) ≡ true
     local_there y low =
-        let listed : length a.row.has.ids ≡ length (map place a.row.has.local.args.items ++ a.row.has.written.order) = ap length a.row.has.written.listed in
+        let listed : length a.row.has.ids ≡ length (args_of a.row.has.local ++ a.row.has.written.order) = ap length a.row.has.written.listed in
         ap (has_local y) body_there ∙ in_body r i a.row.t a.row.bytes a.row.has a.row.typed a.row.locals_at y (omega (arith, low, listed))

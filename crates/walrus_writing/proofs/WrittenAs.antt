@@ -7,6 +7,7 @@ use Rattle.walrus_base.specs.Id.{place}
 use Rattle.walrus_types.specs.Operators.{Space, Functions}
 use Rattle.walrus_types.specs.Shape.{place_in}
 use Rattle.walrus_code.specs.Names.{Lookup}
+use Rattle.walrus_items.specs.Function.{args_of}
 use Rattle.walrus_bodies.specs.declared.features.Features.{Features}
 use Rattle.walrus_contents.specs.declared.parts.Parts.{Parts}
 use Rattle.walrus_model.specs.Abstract.{Abstract}
@@ -21,7 +22,7 @@ use Rattle.walrus_writing.specs.Records.{Records, text_of, texts_in}
 -- the index of a local in the function at a place: its parameters, then the locals that it declares
 abbrev pub local_in_order : (p : Parts) (names : Lookup) (features : Features) (order : List ℕ) (bodies : List (List ℕ)) → AllZip (HasBytes p names features) order bodies → ℕ → ℕ → ℕ
 local_in_order p names features [] [] a f x = x
-local_in_order p names features (i ∷ is) (b ∷ bs) a f x = if i == f then unwrap_or (place_in (map place a.0.local.args.items ++ a.0.written.order) x) 0 else local_in_order p names features is bs a.1 f x
+local_in_order p names features (i ∷ is) (b ∷ bs) a f x = if i == f then unwrap_or (place_in (args_of a.0.local ++ a.0.written.order) x) 0 else local_in_order p names features is bs a.1 f x
 local_in_order p names features [] (b ∷ bs) a f x = elim a [ ]
 local_in_order p names features (i ∷ is) [] a f x = elim a [ ]
 

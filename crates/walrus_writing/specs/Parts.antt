@@ -11,9 +11,9 @@ use Rattle.walrus_base.specs.Id.{place}
 use Rattle.walrus_base.specs.Types.{ValType}
 use Rattle.walrus_types.specs.Locals.{locals}
 use Rattle.walrus_types.specs.Operators.{Space, Types, Functions, Tables, Memories, Tags, Globals, Elements, DataSegments}
-use Rattle.walrus_code.specs.Function.{function_type}
+use Rattle.walrus_items.specs.Function.{function_type}
 use Rattle.walrus_code.specs.Names.{Lookup}
-use Rattle.walrus_code.specs.declared.function.LocalFunction.{LocalFunction}
+use Rattle.walrus_items.specs.LocalFunction.{LocalFunction}
 use Rattle.walrus_bodies.specs.FunctionTypes.{is_function_def}
 use Rattle.walrus_bodies.specs.declared.features.Features.{Features}
 use Rattle.walrus_functions.specs.EmittedBody.{Source, BodyWritten, LacksAnIndex, types_of as local_types}

@@ -4,7 +4,7 @@ use Rattle.walrus_base.specs.Arena.{items}
 use Rattle.walrus_types.specs.ModuleTypes.{type_slots}
 use Rattle.walrus_types.specs.TypeDef.{TypeDef}
 use Rattle.walrus_code.specs.Names.{Lookup}
-use Rattle.walrus_code.specs.declared.function.LocalFunction.{LocalFunction}
+use Rattle.walrus_items.specs.LocalFunction.{LocalFunction}
 use Rattle.walrus_bodies.specs.declared.features.Features.{Features}
 use Rattle.walrus_functions.specs.EmittedBody.{Source, CantBeWritten, HasTooManyLocals}
 use Rattle.walrus_groups.specs.Indexed.{HasExact}

@@ -13,10 +13,10 @@ use Rattle.wasm_wire.specs.ModuleSpelling.{group_of}
 use Rattle.wasm_wire.specs.declared.written.CustomGroup.TheVariants.{Dylink}
 use Rattle.walrus_code.specs.Location.{location}
 use Rattle.walrus_code.specs.Names.{Lookup}
-use Rattle.walrus_code.specs.declared.function.LocalFunction.{LocalFunction}
+use Rattle.walrus_items.specs.Function.{locations_of}
+use Rattle.walrus_items.specs.LocalFunction.{LocalFunction}
 use Rattle.walrus_bodies.specs.Body as bodies
 use Rattle.walrus_bodies.specs.Emitting.{AllStand, places_from}
-use Rattle.walrus_bodies.specs.Results.{locations}
 use Rattle.walrus_functions.specs.Transform.{Transform}
 use Rattle.walrus_items.specs.Functions.{functions}
 use Rattle.walrus_parts.specs.Transform.{transform_of}
@@ -92,7 +92,7 @@ OneTransform =
 -- the locations of the operators of the function with a body at a place; none where none is there
 abbrev pub locations_in : Option (ℕ × LocalFunction) → List ℕ
 locations_in None = []
-locations_in (Some f) = map location (locations f.1.operators.items)
+locations_in (Some f) = map location (locations_of f.1)
 
 abbrev pub locations_at : Parts → ℕ → List ℕ
 locations_at p number = locations_in (local_in (functions p.funcs.now) number)

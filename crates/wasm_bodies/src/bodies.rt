@@ -10,8 +10,9 @@ use crate::failure::Failure;
 use std::alloc::Global;
 use walrus_base::TypeId;
 use walrus_bodies::{Features, FunctionTypes};
-use walrus_code::{InstrLocId, IrError, LocalFunction};
+use walrus_code::{InstrLocId, IrError};
 use walrus_functions::{EmittedBody, emit_body, read_body};
+use walrus_text::LocalFunction;
 use walrus_types::ModuleLocals;
 use wasm_wire::{Raw, RawBody};
 

@@ -7,14 +7,15 @@ ghost use Rattle.walrus_types.specs.Locals.{locals};
 ghost use Rattle.walrus_types.specs.Operators.{arg_locals, op_locals, locals_of};
 ghost use Rattle.walrus_types.specs.Value.{val_type};
 ghost use Rattle.walrus_code.specs.Code.{arg_of, op_of, ops_of};
-ghost use Rattle.walrus_code.specs.Function.{body_of};
+ghost use Rattle.walrus_text.specs.Function.{body_of};
 ghost use Rattle.walrus_code.specs.Indices.{local_index};
 ghost use Rattle.walrus_code.specs.Names.{named_arg, named_args, named_op, named_ops};
 ghost use Rattle.walrus_functions.specs.EmittedBody.{types_of};
 ghost use Rattle.wasm_bodies.specs.Comparing.{itself, HasItsType, IsCopied};
 
 use walrus_base::LocalId;
-use walrus_code::{Arg, LocalFunction, LocalNumbers, Operator};
+use walrus_code::{Arg, LocalNumbers, Operator};
+use walrus_text::LocalFunction;
 use walrus_types::{ModuleLocals, ValType};
 
 /// Whether the copy has the operators of a function, where its locals have the places that `numbers` gives, and the types that
@@ -29,8 +30,8 @@ pub fn same_function(
     ensures { Decides result (IsCopied (local_index numbers.now) (types_of (locals module_locals.now))
         (types_of (locals copy_locals.now)) (body_of function.now) (body_of copy.now)) }
 {
-    let operators = function.operators.as_slice();
-    same_operators(operators, numbers, copy.operators.as_slice())
+    let operators = function.operators();
+    same_operators(operators, numbers, copy.operators())
         && same_types(operators, module_locals, numbers, copy_locals)
 }
 

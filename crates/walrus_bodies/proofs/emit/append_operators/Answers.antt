@@ -1,7 +1,6 @@
 use Rattle.std.proofs.Common.{sym, ◌∙◌}
 use Rattle.walrus_code.specs.Code.{ops_of}
 use Rattle.walrus_code.specs.Indices.{index_of, local_index}
-use Rattle.std.proofs.lemmas.Result.{err_from_is_err_and}
 use Rattle.walrus_bodies.proofs.EmitLemmas.{emits}
 use Rattle.walrus_bodies.proofs.emit.append_operators.Goals as goal
 

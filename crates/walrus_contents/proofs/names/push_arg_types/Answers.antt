@@ -1,7 +1,8 @@
 use Rattle.std.proofs.Common.{List, ℕ, subst, sym}
 use Rattle.walrus_base.specs.Id.{place}
 use Rattle.walrus_contents.specs.Named.{PutsTypes}
-use Rattle.walrus_contents.proofs.LocalTypes.{no_local, types_none, types_one}
+use Rattle.walrus_code.proofs.Arguments.{no_local}
+use Rattle.walrus_contents.proofs.LocalTypes.{types_none, types_one}
 use Rattle.walrus_contents.proofs.names.push_arg_types.Goals as goal
 
 pub returns-in-Local : goal.returns-in-Local

@@ -1,9 +1,9 @@
 use Rattle.std.proofs.Common.{◌≡◌, List, get_or, rules, subst, sym}
 use Rattle.std.proofs.lemmas.Result.{err_from_is_err_and}
-use Rattle.walrus_code.specs.Code.{op_of, ops_of}
-use Rattle.walrus_code.specs.Function.{body_of}
+use Rattle.walrus_code.specs.Code.{op_of}
+use Rattle.walrus_items.specs.Function.{body_of}
 use Rattle.walrus_code.specs.declared.operator.Operator.{Operator}
-use Rattle.walrus_types.specs.Operators.{locals_of, op_locals}
+use Rattle.walrus_types.specs.Operators.{Op, locals_of, op_locals}
 use Rattle.walrus_contents.specs.Named.{OneIsMissing, PutsTypes}
 use Rattle.walrus_contents.proofs.LocalTypes.{missing_among, types_all, types_more, types_none}
 use Rattle.walrus_contents.proofs.NamedLemmas.{refusal_map}
@@ -16,12 +16,12 @@ pub returns-in_err-push_operator_types : goal.returns-in_err-push_operator_types
 returns-in_err-push_operator_types c =
     let p = err_from_is_err_and c.from_residual.result c.from_residual.ensures.1 in
     let all = c.args.locals.now in
-    let operators = c.as_slice-operators.result.now in
+    let operators = c.operators-operators.result.now in
     let i = c.loop-operator.operator-index in
     let x = c.operator-item.result in
     let item : get_or operators i x ≡ x = search rules in
     rw (p.1, p.2) (refusal_map _ (OneIsMissing all (locals_of (body_of c.args.function.now)))
-    (λ one. subst (λ (os : List Operator). OneIsMissing all (locals_of (ops_of os))) c.as_slice-operators.ensures.value
+    (λ one. subst (λ (ops : List Op). OneIsMissing all (locals_of ops)) c.operators-operators.ensures.body
     (missing_among all op_of op_locals operators i x c.loop-operator-test.true
     (subst (λ (o : Operator). OneIsMissing all (op_locals (op_of o))) (sym item) one)))
     c.in_err-push_operator_types.field-0.0 c.in_err-push_operator_types.ensures)
@@ -29,7 +29,7 @@ returns-in_err-push_operator_types c =
 pub loop-operator-preserved : goal.loop-operator-preserved
 loop-operator-preserved c =
     let all = c.args.locals.now in
-    let operators = c.as_slice-operators.result.now in
+    let operators = c.operators-operators.result.now in
     let i = c.loop-operator.operator-index in
     let now = c.loop-operator.to in
     let new = c.push_operator_types.new.to in
@@ -41,7 +41,7 @@ loop-operator-preserved c =
 pub returns : goal.returns
 returns c =
     let all = c.args.locals.now in
-    let operators = c.as_slice-operators.result.now in
-    subst (λ (os : List Operator). PutsTypes all (locals_of (ops_of os)) c.args.to.now c.loop-operator.to) c.as_slice-operators.ensures.value
+    let operators = c.operators-operators.result.now in
+    subst (λ (ops : List Op). PutsTypes all (locals_of ops) c.args.to.now c.loop-operator.to) c.operators-operators.ensures.body
     (types_all all op_of op_locals operators c.loop-operator.operator-index c.args.to.now c.loop-operator.to c.loop-operator-test.false
     c.loop-operator.invariant)

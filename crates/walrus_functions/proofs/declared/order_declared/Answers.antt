@@ -1,10 +1,9 @@
-use Rattle.std.proofs.Common.{◌≡◌, ℕ, List, map, nat_eq, sym, subst}
-use Rattle.std.specs.HashSet as set
+use Rattle.std.proofs.Common.{◌≡◌, ℕ, List, map, sym, subst}
 use Rattle.walrus_base.specs.Id.{place}
 use Rattle.walrus_types.specs.Locals.{locals}
 use Rattle.walrus_types.specs.Value.{val_type}
 use Rattle.walrus_types.specs.declared.value.ValType.{ValType as DeclaredValType}
-use Rattle.walrus_functions.specs.Declaring.{AreTyped, AreInOrder, typed}
+use Rattle.walrus_functions.specs.Declaring.{is_taken, AreTyped, AreInOrder, typed}
 use Rattle.walrus_functions.specs.EmittedBody.{types_of}
 use Rattle.walrus_functions.proofs.OnceLemmas.{ordered_ids}
 use Rattle.walrus_functions.proofs.declared.order_declared.Goals as goal
@@ -12,7 +11,7 @@ use Rattle.walrus_functions.proofs.declared.order_declared.Goals as goal
 pub returns : goal.returns
 returns c =
     let slots = types_of (locals c.args.module_locals.now) in
-    let is_parameter = set.contains nat_eq c.args.parameters.now in
+    let is_parameter = is_taken c.args.parameters.now in
     let once = map place c.args.named.now in
     let found = c.as_slice.result.now in
     let are : AreTyped slots once is_parameter (map typed found) = subst (λ es. AreTyped slots once is_parameter (map typed es)) (sym c.as_slice.ensures.value) c.in_ok-found.ensures.typed in

@@ -1,10 +1,9 @@
 use Rattle.std.proofs.Common.{ℕ, ◌+◌, List, [], ◌∷◌, ◌++◌, sym, ap, subst, ◌∙◌, map, take, inl, inr, nat_eq}
-use Rattle.std.specs.HashSet as set
 use Rattle.walrus_base.specs.Id.{place}
 use Rattle.walrus_base.specs.Arena.{item_at}
 use Rattle.walrus_types.specs.Locals.{locals}
 use Rattle.walrus_types.specs.Value.{val_type}
-use Rattle.walrus_functions.specs.Declaring.{typed, AreTyped, same_local}
+use Rattle.walrus_functions.specs.Declaring.{is_taken, typed, AreTyped, same_local}
 use Rattle.walrus_functions.specs.EmittedBody.{types_of}
 use Rattle.walrus_code.proofs.Turns.{map_more, map_snoc, split_at}
 use Rattle.std.specs.List.{IsDistinct, list_any}
@@ -17,7 +16,7 @@ use Rattle.walrus_functions.proofs.declared.typed_locals.Goals.{in-Some+in_ok-pu
 
 pub loop-id-preserved-then-contains : goal.loop-id-preserved-then-contains
 loop-id-preserved-then-contains c = record {
-  so_far = typed-skip (types_of (locals c.args.module_locals.now)) (set.contains nat_eq c.args.parameters.now) (map place (take c.loop-id.id-index c.args.named.now)) (map place (take (c.loop-id.id-index + 1) c.args.named.now)) c.index.result (map typed c.loop-id.found.items)
+  so_far = typed-skip (types_of (locals c.args.module_locals.now)) (is_taken c.args.parameters.now) (map place (take c.loop-id.id-index c.args.named.now)) (map place (take (c.loop-id.id-index + 1) c.args.named.now)) c.index.result (map typed c.loop-id.found.items)
       (map_more place c.args.named.now c.loop-id.id-index _ c.loop-id-test.true ∙ ap (λ (p : ℕ). map place (take c.loop-id.id-index c.args.named.now) ++ p ∷ []) (sym c.index.ensures))
       (inl (sym c.contains.ensures ∙ c.if-contains.true)) c.loop-id.invariant.so_far;
   distinct = c.loop-id.invariant.distinct;
@@ -26,7 +25,7 @@ loop-id-preserved-then-contains c = record {
 pub loop-id-preserved : goal.loop-id-preserved
 loop-id-preserved c =
     let slots = types_of (locals c.args.module_locals.now) in
-    let is_parameter = set.contains nat_eq c.args.parameters.now in
+    let is_parameter = is_taken c.args.parameters.now in
     let done = map place (take c.loop-id.id-index c.args.named.now) in
     let all = map place (take (c.loop-id.id-index + 1) c.args.named.now) in
     let had = c.loop-id.found.items in
@@ -54,6 +53,6 @@ loop-id-preserved c =
 
 pub loop-id-init : goal.loop-id-init
 loop-id-init c = record {
-  so_far = none-typed (types_of (locals c.args.module_locals.now)) (set.contains nat_eq c.args.parameters.now) c.new-found.result.items c.new-found.ensures.items;
+  so_far = none-typed (types_of (locals c.args.module_locals.now)) (is_taken c.args.parameters.now) c.new-found.result.items c.new-found.ensures.items;
   distinct = none-distinct c.new-found.result.items c.new-found.ensures.items;
 }

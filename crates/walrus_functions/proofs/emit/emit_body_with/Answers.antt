@@ -11,14 +11,12 @@ use Rattle.walrus_base.specs.Id.{place}
 use Rattle.walrus_base.specs.declared.id.Id.{Id}
 use Rattle.walrus_base.specs.declared.keys.LocalKey.{LocalKey}
 use Rattle.walrus_types.specs.Locals.{locals}
-use Rattle.walrus_types.specs.Operators.{locals_of}
+use Rattle.walrus_types.specs.Operators.{Op, locals_of}
 use Rattle.walrus_types.specs.Shape.{place_in}
-use Rattle.walrus_code.specs.Code.{ops_of}
-use Rattle.walrus_code.specs.Function.{body_of}
+use Rattle.walrus_text.specs.Function.{body_of, args_of}
 use Rattle.walrus_code.specs.Indices.{index_of, local_index}
 use Rattle.walrus_code.specs.declared.error.IrError.{IrError}
 use Rattle.walrus_code.specs.declared.local_numbers.LocalNumbers.{LocalNumbers}
-use Rattle.walrus_code.specs.declared.operator.Operator.{Operator}
 use Rattle.walrus_bodies.specs.Blocks.{blocks_hold}
 use Rattle.walrus_bodies.specs.Declarations.{declaration, declarations_of}
 use Rattle.walrus_bodies.specs.FunctionTypes.{is_function_at}
@@ -45,8 +43,8 @@ untrue true t f = cc
 untrue false t f = cc
 
 -- the places of all locals
-all_places : (all args declared first second : List Local) → all ≡ first ++ second → first ≡ args → second ≡ declared → map place all ≡ map place args ++ map place declared
-all_places all args declared first second is one two = ap (map place) is ∙ map-append place first second ∙ ap₂ (λ (xs ys : List Local). map place xs ++ map place ys) one two
+all_places : (all declared first second : List Local) (args : List ℕ) → all ≡ first ++ second → map place first ≡ args → second ≡ declared → map place all ≡ args ++ map place declared
+all_places all declared first second args is one two = ap (map place) is ∙ map-append place first second ∙ ap₂ (λ (xs : List ℕ) (ys : List Local). xs ++ map place ys) one two
 
 -- what three clauses say of an answer
 all_known : {X E A B C : Type 0} (f : X → A) (g : X → B) (h : X → C) (a : A) (b : B) (c : C) → (r : Result X E) → IfOk r (λ x. f x ≡ a) → IfOk r (λ x. g x ≡ b) → IfOk r (λ x. h x ≡ c) → IfOk r (λ x. (f x ≡ a) × (g x ≡ b) × (h x ≡ c))
@@ -69,11 +67,11 @@ marks named once h slice named_slice all held used is one two are =
 
 pub find_declared-requires : goal.find_declared-requires
 find_declared-requires c =
-    subst (λ (ids : List Local). AreOnce (locals_of (body_of c.args.function.now)) (map place ids)) (sym c.as_slice-3.ensures.value)
-    (subst (λ (os : List Operator). AreOnce (locals_of (ops_of os)) (map place c.in_ok-named.named.items)) c.as_slice-2.ensures.value c.in_ok-named.ensures)
+    subst (λ (ids : List Local). AreOnce (locals_of (body_of c.args.function.now)) (map place ids)) (sym c.as_slice.ensures.value)
+    (subst (λ (ops : List Op). AreOnce (locals_of ops) (map place c.in_ok-named.named.items)) c.operators-operators.ensures.body c.in_ok-named.ensures)
 
 pub which_named-requires : goal.which_named-requires
-which_named-requires c = subst (λ (ids : List Local). IsStrictlySortedBy nat_cmp (map place ids)) (sym c.as_slice-9.ensures.value) c.in_ok-named.ensures.rising
+which_named-requires c = subst (λ (ids : List Local). IsStrictlySortedBy nat_cmp (map place ids)) (sym c.as_slice-6.ensures.value) c.in_ok-named.ensures.rising
 
 pub returns-in_err-declared-clause-written : goal.returns-in_err-declared-clause-written
 returns-in_err-declared-clause-written c =
@@ -83,11 +81,11 @@ returns-in_err-declared-clause-written c =
 pub returns-then-len-2-clause-written : goal.returns-then-len-2-clause-written
 returns-then-len-2-clause-written c =
     let order = map place c.in_ok-declared.declared.items in
-    let are = all_places c.in_ok-all.all.items c.args.function.now.args.items c.in_ok-declared.declared.items c.as_slice-4.result.now c.as_slice-5.result.now c.in_ok-all.ensures c.as_slice-4.ensures.value c.as_slice-5.ensures.value in
+    let are = all_places c.in_ok-all.all.items c.in_ok-declared.declared.items c.args-2.result.now c.as_slice-2.result.now (args_of c.args.function.now) c.in_ok-all.ensures c.args-2.ensures c.as_slice-2.ensures.value in
     let size : c.len-2.result ≡ length c.in_ok-all.all.items = search rules in
-    let counted : length (map place c.args.function.now.args.items ++ order) ≡ length c.in_ok-all.all.items = sym (ap length are) ∙ length-map c.in_ok-all.all.items place in
+    let counted : length (args_of c.args.function.now ++ order) ≡ length c.in_ok-all.all.items = sym (ap length are) ∙ length-map c.in_ok-all.all.items place in
     let many = c.if-len-2.true in
-    let large : 2 ^ 32 < length (map place c.args.function.now.args.items ++ order) = omega (arith, size, counted, many) in
+    let large : 2 ^ 32 < length (args_of c.args.function.now ++ order) = omega (arith, size, counted, many) in
     ([], ((order, (c.in_ok-declared.ensures.1, inr large)), tt))
 
 pub returns-then-len-clause-written : goal.returns-then-len-clause-written
@@ -101,7 +99,7 @@ returns-then-len-clause-written c =
 
 pub declare-requires-clause-there : goal.declare-requires-clause-there
 declare-requires-clause-there c =
-    all_there (source_of c.args.indices.now c.args.module_locals.now c.args.types.now c.args.function.now c.args.features.now) (map place c.in_ok-declared.declared.items) c.in_ok-declared.ensures.1 place c.as_slice-6.result.now (ap (map place) c.as_slice-6.ensures.value)
+    all_there (source_of c.args.indices.now c.args.module_locals.now c.args.types.now c.args.function.now c.args.features.now) (map place c.in_ok-declared.declared.items) c.in_ok-declared.ensures.1 place c.as_slice-3.result.now (ap (map place) c.as_slice-3.ensures.value)
 
 pub returns-in_err-declarations-clause-written : goal.returns-in_err-declarations-clause-written
 returns-in_err-declarations-clause-written c =
@@ -109,55 +107,55 @@ returns-in_err-declarations-clause-written c =
       [],
       (
         refused_declared (source_of c.args.indices.now c.args.module_locals.now c.args.types.now c.args.function.now c.args.features.now) (map place c.in_ok-declared.declared.items) c.in_ok-declared.ensures.1 _ _ _ _ _ view_declarations c.from_residual-in_err-declarations.result c.in_err-declarations.field-0.0 c.from_residual-in_err-declarations.ensures.1
-            (subst (λ (ids : List Local). DeclaresLocals (index_of c.args.indices.now) (types_of (locals c.args.module_locals.now)) (map place ids) view_declarations (Err c.in_err-declarations.field-0.0)) c.as_slice-6.ensures.value c.in_err-declarations.ensures),
+            (subst (λ (ids : List Local). DeclaresLocals (index_of c.args.indices.now) (types_of (locals c.args.module_locals.now)) (map place ids) view_declarations (Err c.in_err-declarations.field-0.0)) c.as_slice-3.ensures.value c.in_err-declarations.ensures),
         rw p.1 tt,
       ),
     )
 
 pub number_locals-requires-clause-distinct : goal.number_locals-requires-clause-distinct
 number_locals-requires-clause-distinct c =
-    let are = all_places c.in_ok-all.all.items c.args.function.now.args.items c.in_ok-declared.declared.items c.as_slice-4.result.now c.as_slice-5.result.now c.in_ok-all.ensures c.as_slice-4.ensures.value c.as_slice-5.ensures.value in
-    subst (λ (ps : List ℕ). IsDistinct nat_eq ps) (sym (ap (map place) c.as_slice-7.ensures.value ∙ are))
+    let are = all_places c.in_ok-all.all.items c.in_ok-declared.declared.items c.args-2.result.now c.as_slice-2.result.now (args_of c.args.function.now) c.in_ok-all.ensures c.args-2.ensures c.as_slice-2.ensures.value in
+    subst (λ (ps : List ℕ). IsDistinct nat_eq ps) (sym (ap (map place) c.as_slice-4.ensures.value ∙ are))
     (all_differ (source_of c.args.indices.now c.args.module_locals.now c.args.types.now c.args.function.now c.args.features.now) (map place c.in_ok-declared.declared.items) c.in_ok-declared.ensures.1 c.in_ok-declared.ensures.0)
 
 pub write_body-requires : goal.write_body-requires
 write_body-requires c =
     let order = map place c.in_ok-declared.declared.items in
     let ds = c.in_ok-declarations.declarations.items in
-    let written : LocalsDeclared (index_of c.args.indices.now) (types_of (locals c.args.module_locals.now)) order (declarations_of ds) = subst (λ (ids : List Local). LocalsDeclared (index_of c.args.indices.now) (types_of (locals c.args.module_locals.now)) (map place ids) (declarations_of c.in_ok-declarations.declarations.items)) c.as_slice-6.ensures.value c.in_ok-declarations.ensures in
+    let written : LocalsDeclared (index_of c.args.indices.now) (types_of (locals c.args.module_locals.now)) order (declarations_of ds) = subst (λ (ids : List Local). LocalsDeclared (index_of c.args.indices.now) (types_of (locals c.args.module_locals.now)) (map place ids) (declarations_of c.in_ok-declarations.declarations.items)) c.as_slice-3.ensures.value c.in_ok-declarations.ensures in
     let size : c.len.result ≡ length c.in_ok-declared.declared.items = search rules in
     let counted = length-map c.in_ok-declared.declared.items place in
     let under = c.if-len.false in
     let few : length order < 2 ^ 32 = omega (arith, size, counted, under) in
     let small = few_declarations (source_of c.args.indices.now c.args.module_locals.now c.args.types.now c.args.function.now c.args.features.now) order c.in_ok-declared.ensures.1 (declarations_of ds) written few in
     let same = length-map ds declaration in
-    let slice = ap length c.as_slice-10.ensures.value in
+    let slice = ap length c.as_slice-7.ensures.value in
     omega (arith, small, same, slice)
 
 pub returns-clause-written : goal.returns-clause-written
 returns-clause-written c =
     let s = source_of c.args.indices.now c.args.module_locals.now c.args.types.now c.args.function.now c.args.features.now in
     let order = map place c.in_ok-declared.declared.items in
-    let are = all_places c.in_ok-all.all.items c.args.function.now.args.items c.in_ok-declared.declared.items c.as_slice-4.result.now c.as_slice-5.result.now c.in_ok-all.ensures c.as_slice-4.ensures.value c.as_slice-5.ensures.value in
+    let are = all_places c.in_ok-all.all.items c.in_ok-declared.declared.items c.args-2.result.now c.as_slice-2.result.now (args_of c.args.function.now) c.in_ok-all.ensures c.args-2.ensures c.as_slice-2.ensures.value in
     let ds = declarations_of c.in_ok-declarations.declarations.items in
-    let written : LocalsDeclared (index_of c.args.indices.now) (types_of (locals c.args.module_locals.now)) order ds = subst (λ (ids : List Local). LocalsDeclared (index_of c.args.indices.now) (types_of (locals c.args.module_locals.now)) (map place ids) (declarations_of c.in_ok-declarations.declarations.items)) c.as_slice-6.ensures.value c.in_ok-declarations.ensures in
+    let written : LocalsDeclared (index_of c.args.indices.now) (types_of (locals c.args.module_locals.now)) order ds = subst (λ (ids : List Local). LocalsDeclared (index_of c.args.indices.now) (types_of (locals c.args.module_locals.now)) (map place ids) (declarations_of c.in_ok-declarations.declarations.items)) c.as_slice-3.ensures.value c.in_ok-declarations.ensures in
     let size : c.len.result ≡ length c.in_ok-declared.declared.items = search rules in
     let counted = length-map c.in_ok-declared.declared.items place in
     let under = c.if-len.false in
     let few : length order < 2 ^ 32 = omega (arith, size, counted, under) in
     let numbers = local_index c.in_ok-locals.locals in
-    let once : AreOnce (locals_of s.ops) (map place c.in_ok-named.named.items) = subst (λ (os : List Operator). AreOnce (locals_of (ops_of os)) (map place c.in_ok-named.named.items)) c.as_slice-2.ensures.value c.in_ok-named.ensures in
+    let once : AreOnce (locals_of s.ops) (map place c.in_ok-named.named.items) = subst (λ (ops : List Op). AreOnce (locals_of ops) (map place c.in_ok-named.named.items)) c.operators-operators.ensures.body c.in_ok-named.ensures in
     let places = c.write_body.ensures.written.0 in
     let made = emitted s order c.in_ok-declared.ensures.1 ds written
     (fits_type s (c.in_ok-fits.ensures.0 c.if-not-fits.false) c.in_ok-declared.ensures.0)
-    (ap (λ os. blocks_hold (is_function_at c.args.types.now) (ops_of os)) (sym c.as_slice.ensures.value) ∙ sym c.blocks_hold-hold.ensures ∙ c.if-not-hold.false)
+    (ap (blocks_hold (is_function_at c.args.types.now)) (sym c.operators-operators.ensures.body) ∙ sym c.blocks_hold-hold.ensures ∙ c.if-not-hold.false)
     few numbers
-    (λ x. c.in_ok-locals.ensures x ∙ ap (λ (ps : List ℕ). place_in ps x) (ap (map place) c.as_slice-7.ensures.value ∙ are))
+    (λ x. c.in_ok-locals.ensures x ∙ ap (λ (ps : List ℕ). place_in ps x) (ap (map place) c.as_slice-4.ensures.value ∙ are))
     (map place c.in_ok-all.all.items) are c.in_ok-used.used.items
-    (marks (locals_of s.ops) (map place c.in_ok-named.named.items) once c.as_slice-8.result.now c.as_slice-9.result.now c.in_ok-all.all.items c.in_ok-named.named.items c.in_ok-used.used.items c.in_ok-used.ensures c.as_slice-8.ensures.value c.as_slice-9.ensures.value refl)
+    (marks (locals_of s.ops) (map place c.in_ok-named.named.items) once c.as_slice-5.result.now c.as_slice-6.result.now c.in_ok-all.all.items c.in_ok-named.named.items c.in_ok-used.used.items c.in_ok-used.ensures c.as_slice-5.ensures.value c.as_slice-6.ensures.value refl)
     (λ body. body.bytes.items) (λ _. places) (λ body. local_index body.locals) (λ body. map place body.order.items) (λ body. body.used.items) c.write_body.result
     (known c.in_ok-locals.locals c.in_ok-all.all c.in_ok-used.used c.write_body.result (all_known (λ body. body.locals) (λ body. body.order) (λ body. body.used) c.in_ok-locals.locals c.in_ok-all.all c.in_ok-used.used c.write_body.result c.write_body.ensures.numbered c.write_body.ensures.ordered c.write_body.ensures.marked))
-    (rw (c.as_slice-operators.ensures.value, c.as_slice-10.ensures.value) at c.write_body.ensures.written.1.0) in
+    (rw (c.operators-operators.ensures.body, c.as_slice-7.ensures.value) at c.write_body.ensures.written.1.0) in
     (places, (made, c.write_body.ensures.written.1.1))
 
 pub returns-in_err-fits-clause-written : goal.returns-in_err-fits-clause-written
@@ -216,4 +214,4 @@ returns-then-not-fits-clause-written c =
 
 pub returns-then-not-hold-clause-written : goal.returns-then-not-hold-clause-written
 returns-then-not-hold-clause-written c =
-    ([], (inr (inl (ap (λ os. blocks_hold (is_function_at c.args.types.now) (ops_of os)) (sym c.as_slice.ensures.value) ∙ sym c.blocks_hold-hold.ensures ∙ c.if-not-hold.true)), tt))
+    ([], (inr (inl (ap (blocks_hold (is_function_at c.args.types.now)) (sym c.operators-operators.ensures.body) ∙ sym c.blocks_hold-hold.ensures ∙ c.if-not-hold.true)), tt))

@@ -6,7 +6,7 @@ use Rattle.walrus_types.specs.ModuleTypes.{type_slots}
 use Rattle.walrus_types.specs.Value.{val_type}
 use Rattle.walrus_types.specs.contracts.value.ValTypePartialEq.TheImpl as equality
 use Rattle.walrus_types.proofs.FunctionSame.{val_same, pointwise_same}
-use Rattle.walrus_code.specs.Function.{function_type}
+use Rattle.walrus_text.specs.Function.{function_type, args_of}
 use Rattle.walrus_functions.specs.EmittedBody.{types_of, takes, comp_takes}
 use Rattle.walrus_functions.proofs.FitLemmas.{fit}
 use Rattle.walrus_functions.proofs.emit.parameters_fit.Goals as goal
@@ -16,9 +16,9 @@ returns c =
     let defs = type_slots c.args.types.now in
     let slots = types_of (locals c.args.module_locals.now) in
     let held = rw c.in-Some-2.is at c.in_ok-held.ensures in
-    let equal = pointwise_same (equality.ghosts).eq val_type val_same c.as_slice-2.result.now c.params.result.now in
-    let seen = ap (map val_type) c.as_slice-2.ensures.value in
-    fit (item_at defs (place (function_type c.args.function.now))) slots (map place c.args.function.now.args.items) (map val_type c.in-Some-2.held.items) (map val_type c.in-Some.signature.now.params.items) c.eq.result
+    let equal = pointwise_same (equality.ghosts).eq val_type val_same c.as_slice.result.now c.params.result.now in
+    let seen = ap (map val_type) c.as_slice.ensures.value in
+    fit (item_at defs (place (function_type c.args.function.now))) slots (args_of c.args.function.now) (map val_type c.in-Some-2.held.items) (map val_type c.in-Some.signature.now.params.items) c.eq.result
     (ap (λ t. takes (item_at defs (place t))) (sym c.ty-2.ensures) ∙ ap takes c.get.ensures.value ∙ ap comp_takes c.in-Some.ensures)
-    (ap (λ ids. map (item_at slots) (map place ids)) (sym c.as_slice.ensures.value) ∙ held)
+    (ap (map (item_at slots)) (sym c.args-2.ensures) ∙ held)
     (λ h. sym seen ∙ equal.0 (sym c.eq.ensures ∙ h) ∙ c.params.ensures, λ h. c.eq.ensures ∙ equal.1 (seen ∙ h ∙ sym c.params.ensures))

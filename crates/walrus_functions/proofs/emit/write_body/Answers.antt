@@ -1,4 +1,4 @@
-use Rattle.std.proofs.Common.{◌≡◌, ◌<◌, ◌^◌, ℕ, List, [], ◌∷◌, ◌++◌, Option, Result, Ok, Err, IsErrAnd, length, map, ap, ◌∙◌, subst, sym, refl}
+use Rattle.std.proofs.Common.{◌≡◌, ◌<◌, ◌^◌, ℕ, List, [], ◌∷◌, ◌++◌, Option, Result, Ok, Err, IsErrAnd, length, ap, ◌∙◌, subst, sym, refl}
 use Rattle.wasm_forms.specs.Spelling.{vector_bytes}
 use Rattle.wasm_forms.specs.Writing.{Adds, EachFits, FitsVector}
 use Rattle.wasm_forms.specs.declared.error.WireError.{WireError}

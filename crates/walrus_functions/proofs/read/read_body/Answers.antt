@@ -1,4 +1,4 @@
-use Rattle.std.proofs.Common.{◌≡◌, ℕ, ◌+◌, ◌++◌, List, Option, length, map, ap, ◌∙◌, sym, subst, refl, Vec, Global, Err}
+use Rattle.std.proofs.Common.{◌≡◌, ℕ, ◌+◌, ◌++◌, List, Option, length, map, ap, ◌∙◌, sym, subst, refl, Err}
 use Rattle.std.proofs.lemmas.Result.{err_from_is_err_and}
 use Rattle.std.specs.Fn.{FnReturnsAt}
 use Rattle.walrus_base.specs.Arena.{item_at}
@@ -7,14 +7,15 @@ use Rattle.walrus_base.specs.declared.id.Id.{Id}
 use Rattle.walrus_base.specs.declared.keys.LocalKey.{LocalKey}
 use Rattle.walrus_types.specs.Locals.{locals}
 use Rattle.walrus_types.specs.ModuleTypes.{type_slots}
+use Rattle.walrus_types.specs.Operators.{Op}
 use Rattle.walrus_types.specs.Value.{val_type}
 use Rattle.walrus_code.specs.Code.{ops_of}
 use Rattle.walrus_code.specs.Indices.{ids_at}
-use Rattle.walrus_code.specs.declared.operator.Operator.{Operator}
+use Rattle.walrus_code.specs.declared.location.InstrLocId.{InstrLocId}
 use Rattle.walrus_bodies.specs.Body.{Context, BodyReads, context}
 use Rattle.walrus_bodies.specs.BodyRead.{BodyIsRead, BodyLocated, ReadsBody}
 use Rattle.walrus_bodies.specs.FunctionTypes.{is_function_at}
-use Rattle.walrus_bodies.specs.Results.{locations}
+use Rattle.walrus_text.specs.Function.{body_of}
 use Rattle.walrus_functions.specs.Handlers.{handlers_of, params_of}
 use Rattle.walrus_functions.specs.ReadFunction.{AddsTypes, locals_from}
 use Rattle.walrus_functions.specs.Signatures.{slots_of, tag_places}
@@ -41,31 +42,30 @@ returns-clause-read g c =
     let args = c.in_ok-args.args.items in
     let params = c.params.result.now in
     let body = c.in_ok-body.body in
-    let f = c.new-function.result in
+    let keeps = c.set_handler_types.ensures.others in
     let added = c.in_ok-args.ensures.added in
     let read : BodyIsRead d (map place args) middle new bytes body = subst (λ (ids : List (Id LocalKey)). BodyIsRead d (map place ids) middle new bytes body) c.as_slice.ensures.value c.in_ok-body.ensures.read in
-    let args_are : f.args.items ≡ args = ap (λ (v : Vec (Id LocalKey) Global). v.items) c.new-function.ensures.args in
-    let ops_are : f.operators.items ≡ body.operators.items = ap (λ (v : Vec Operator Global). v.items) c.new-function.ensures.operators in
+    let ops_are : body_of c.set_handler_types.new.self ≡ ops_of body.operators.items = keeps.body ∙ c.new-function.ensures.body in
     let old_types = item_at (type_slots c.args.types.now) in
     let handler_places = map place c.in_ok-handler_types.handler_types.items in
     record {
-      own_type = ap place c.new-function.ensures.ty;
-      unnamed = c.new-function.ensures.name;
+      own_type = ap place (keeps.head.typed ∙ c.new-function.ensures.ty);
+      unnamed = keeps.head.name ∙ c.new-function.ensures.name;
       params = params;
       declared = read.types;
       takes = c.params.ensures ∙ ap params_of (sym c.get.ensures.value);
-      parameters = ap (map place) args_are ∙ added.places;
+      parameters = keeps.head.args ∙ c.new-function.ensures.args ∙ added.places;
       ids = args ++ body.declared.items;
       added = adds_others old middle args params added new body.declared.items read.types read.added;
-      reads = subst (λ (os : List Operator). BodyReads d (locals_from (length old) (length params + length read.types)) bytes (map val_type read.types) (ops_of os)) (sym ops_are)
+      reads = subst (λ (ops : List Op). BodyReads d (locals_from (length old) (length params + length read.types)) bytes (map val_type read.types) ops) (sym ops_are)
           (subst (λ (l : ℕ → Option ℕ). BodyReads d l bytes (map val_type read.types) (ops_of body.operators.items)) (one_range old middle args params added (length read.types)) read.reads);
-      handlers = subst (λ (os : List Operator). AddsTypes (handlers_of old_types (tag_places c.args.tag_types.now) (ops_of os)) (slots_of c.args.types.now) (slots_of c.add_handler_types.new.types) handler_places) (c.as_slice-2.ensures.value ∙ sym ops_are) c.in_ok-handler_types.ensures.added;
+      handlers = subst (λ (ps : List ℕ). AddsTypes (handlers_of old_types (tag_places c.args.tag_types.now) (body_of c.set_handler_types.new.self)) (slots_of c.args.types.now) (slots_of c.add_handler_types.new.types) ps) (sym c.set_handler_types.ensures.handlers)
+          (subst (λ (ops : List Op). AddsTypes (handlers_of old_types (tag_places c.args.tag_types.now) ops) (slots_of c.args.types.now) (slots_of c.add_handler_types.new.types) handler_places) (ap ops_of c.as_slice-2.ensures.value ∙ sym ops_are) c.in_ok-handler_types.ensures.added);
     }
 
 pub returns-clause-located : goal.returns-clause-located
 returns-clause-located g c =
-    let ops_are : c.new-function.result.operators.items ≡ c.in_ok-body.body.operators.items = ap (λ (v : Vec Operator Global). v.items) c.new-function.ensures.operators in
-    subst (λ (os : List Operator). BodyLocated (FnReturnsAt g.L.Fn c.args.locate.now) c.args.start c.args.bytes.now (locations os)) (sym ops_are) c.in_ok-body.ensures.located
+    subst (λ (locs : List InstrLocId). BodyLocated (FnReturnsAt g.L.Fn c.args.locate.now) c.args.start c.args.bytes.now locs) (sym (c.set_handler_types.ensures.others.locations ∙ c.new-function.ensures.locations)) c.in_ok-body.ensures.located
 
 pub returns-in_err-args-clause-read : goal.returns-in_err-args-clause-read
 returns-in_err-args-clause-read g c = let p = err_from_is_err_and c.from_residual.result c.from_residual.ensures.1 in rw (p.1, p.2) tt
