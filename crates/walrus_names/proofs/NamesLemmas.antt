@@ -1,8 +1,8 @@
 -- Names that are chosen, types that aren't there, and what is lent in place of what is held.
-use Rattle.std.proofs.Common.{◌≡◌, ℕ, zero, suc, ◌<◌, ◌^◌, Bool, true, false, List, [], ◌∷◌, map, length, refl, sym, ap, ap₂, ◌∙◌, subst, arith, Some, None}
+use Rattle.std.proofs.Common.{◌≡◌, ℕ, zero, suc, ◌+◌, ◌<◌, ◌^◌, Bool, true, false, List, [], ◌∷◌, map, length, refl, sym, ap, ap₂, ◌∙◌, subst, arith, Some, None}
 use Rattle.std.specs.Prelude.{◌↔◌, IsSome, IsTrue, Option, Result}
 use Rattle.std.specs.Global.{Vec}
-use Rattle.std.proofs.lemmas.List.{length-map}
+use Rattle.std.proofs.lemmas.List.{length-append, length-map}
 use mathlib.Core.Path.{fun_ext}
 use Rattle.wasm_payloads.specs.declared.naming.NameSpace.{NameSpace}
 use Rattle.wasm_payloads.specs.declared.naming.NameSpace.TheVariants as spaces
@@ -10,11 +10,14 @@ use Rattle.wasm_payloads.specs.Spelling.{NameMap, NameText}
 use Rattle.walrus_base.specs.Arena.{entries, item_at}
 use Rattle.walrus_base.specs.Id.{place}
 use Rattle.walrus_base.specs.declared.id.Id.{Id}
+use Rattle.walrus_types.specs.Operators.{Functions}
 use Rattle.walrus_types.specs.TypeSlots.{defs, names}
 use Rattle.walrus_types.specs.declared.types.Type.{«Type»}
 use Rattle.walrus_model.specs.Abstract.{Name}
 use Rattle.walrus_model.proofs.Lists.{map-map}
 use Rattle.walrus_parts.specs.declared.error.Error.{Error}
+use Rattle.walrus_plan.specs.Places.{places}
+use Rattle.walrus_plan.specs.declared.plan.Plan.{Plan}
 use Rattle.walrus_names.specs.Names.{SpellsNames, if_chosen}
 
 -- ---- names that are chosen
@@ -39,6 +42,15 @@ untrue false P h is p = let clash : false ≡ true = h.1 p in absurd cc
 
 pub few_of : {K : Type 0} (ids lent : List (Id K)) → lent ≡ ids → length (map place ids) < 2 ^ 32 → length lent < 2 ^ 32
 few_of {K} ids lent same few = omega (arith, few, ap length same, length-map ids (λ (id : Id K). place id))
+
+-- where all functions have an index, so has the first own one, and each behind it
+pub few_brought : (plan : Plan) → length (places plan Functions) < 2 ^ 32 → length plan.brought_functions.items < 2 ^ 32
+few_brought plan few =
+    omega (arith, few, length-append (map place plan.brought_functions.items) (map place plan.own_functions.items), length-map plan.brought_functions.items place)
+
+pub few_behind : (plan : Plan) (first many : ℕ) → first ≡ length plan.brought_functions.items → many ≡ length plan.own_functions.items → length (places plan Functions) < 2 ^ 32 → first + many < 2 ^ 32
+few_behind plan first many is as_many few =
+    omega (arith, is, as_many, few, length-append (map place plan.brought_functions.items) (map place plan.own_functions.items), length-map plan.brought_functions.items place, length-map plan.own_functions.items place)
 
 pub along : {K : Type 0} (name : ℕ → Option Name) (ids lent : List (Id K)) (raw : NameMap) → lent ≡ ids → raw ≡ entries (map (λ id. name (place id)) lent) → raw ≡ entries (map name (map place ids))
 along {K} name ids lent raw same is = is ∙ ap (λ (l : List (Id K)). entries (map (λ (id : Id K). name (place id)) l)) same ∙ ap entries (sym (map-map name (λ (id : Id K). place id) ids))

@@ -1,6 +1,6 @@
 -- What the name section says of a module's parts: the names of the module, of its items and of the used locals of its functions ("Appendix >
 -- Custom Sections > Name Section").
-use Rattle.std.specs.Prelude.{ℕ, Bool, true, false, ◌-◌, List, [], ◌∷◌, filter_map, length, map, Option, Some, None, Result, Ok, Err, option_and_then, option_map, ◌≡◌, ⊤}
+use Rattle.std.specs.Prelude.{ℕ, Bool, true, false, List, [], ◌∷◌, filter_map, length, map, Option, Some, None, Result, Ok, Err, option_and_then, option_map, ◌≡◌, ⊤}
 use Rattle.std.specs.Global.{Vec}
 use Rattle.wasm_payloads.specs.Lent.{NamesFit}
 use Rattle.wasm_payloads.specs.Spelling.{NameMap, NameText, names_bytes}
@@ -81,7 +81,7 @@ names_said p plan first bodies = record {
 
 -- the index of the first function that the module defines
 abbrev pub first_own : Plan → ℕ
-first_own plan = length plan.functions.items - length plan.own_functions.items
+first_own plan = length plan.brought_functions.items
 
 -- used locals, by their places
 abbrev pub used_seen : List (ℕ × Id LocalKey) → List (ℕ × ℕ)

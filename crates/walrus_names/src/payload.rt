@@ -1,10 +1,10 @@
 //! The payload of the name section ("Appendix > Custom Sections > Name Section").
-ghost use Rattle.std.specs.Prelude.{◌≡◌, ◌<◌, ◌≤◌, ◌^◌, IfOk, IsOkUnless, length, map};
-ghost use Rattle.wasm_payloads.specs.Lent.{text};
-ghost use Rattle.walrus_types.specs.Operators.{Space};
+ghost use Rattle.std.specs.Prelude.{◌≡◌, ◌<◌, ◌^◌, IfOk, IsOkUnless, length, map};
+ghost use Rattle.wasm_payloads.specs.Lent.{entry, text};
+ghost use Rattle.walrus_types.specs.Operators.{Space, Functions};
 ghost use Rattle.walrus_parts.specs.Errors.{out_of_memory};
 ghost use Rattle.walrus_plan.specs.Places.{places};
-ghost use Rattle.walrus_names.specs.Names.{SpellsNames, body_used, first_own, if_chosen, names_said};
+ghost use Rattle.walrus_names.specs.Names.{SpellsNames, body_used, first_own, if_chosen, item_names, names_said};
 
 use crate::locals::{WrittenBody, locals_along};
 use crate::named::{lent, names_along};
@@ -12,16 +12,27 @@ use std::alloc::Global;
 use walrus_contents::Parts;
 use walrus_parts::{Error, Result};
 use walrus_plan::Plan;
-use wasm_payloads::{RawNames, write_names};
+use wasm_payloads::{RawName, RawNames, write_names};
 use wasm_wire::WireError;
 
 // The index of the first function that the module defines.
 fn first_index(plan: &Plan) -> u32
-    requires own { length plan.now.own_functions.items ≤ length plan.now.functions.items }
-    requires few { length plan.now.functions.items < 2 ^ 32 }
+    requires few { length plan.now.brought_functions.items < 2 ^ 32 }
     ensures { result ≡ first_own plan.now }
 {
-    (plan.functions.len() - plan.own_functions.len()) as u32
+    plan.brought_functions.len() as u32
+}
+
+// The names of the functions of a plan, lent.
+fn function_names<'a>(alloc: Global, parts: Parts<'a>, plan: &Plan) -> Result<Vec<RawName<'a>>>
+    requires few { length (places plan.now Functions) < 2 ^ 32 }
+    ensures value { IfOk result (λ raw. map entry raw.items
+        ≡ item_names parts.entry (places plan.now) Functions) }
+    ensures fails { IsOkUnless result out_of_memory }
+{
+    let ids = plan.functions(alloc)?;
+    let names = names_along(alloc, parts.funcs, ids.as_slice())?;
+    Ok(names)
 }
 
 // The names of the items of a plan and of the used locals of its functions' bodies, lent.
@@ -33,7 +44,6 @@ fn raw_names<'a>(
 ) -> Result<RawNames<'a>>
     requires few { (space : Space) → length (places plan.now space) < 2 ^ 32 }
     requires as_many { length bodies.now ≡ length plan.now.own_functions.items }
-    requires own { length plan.now.own_functions.items ≤ length plan.now.functions.items }
     ensures value { IfOk result (λ raw. text raw ≡ names_said parts.entry (places plan.now)
         (first_own plan.now) (map body_used bodies.now)) }
     ensures fails { IsOkUnless result out_of_memory }
@@ -41,7 +51,7 @@ fn raw_names<'a>(
     let first = first_index(plan);
     Ok(RawNames {
         module_name: lent(parts.name),
-        functions: names_along(alloc, parts.funcs, plan.functions.as_slice())?,
+        functions: function_names(alloc, parts, plan)?,
         locals: locals_along(alloc, parts.locals, first, bodies)?,
         types: names_along(alloc, parts.types, plan.types.as_slice())?,
         tables: names_along(alloc, parts.tables, plan.tables.as_slice())?,
@@ -81,7 +91,6 @@ pub fn names_payload(
 ) -> Result<Option<Vec<u8>>>
     requires few { (space : Space) → length (places plan.now space) < 2 ^ 32 }
     requires as_many { length bodies.now ≡ length plan.now.own_functions.items }
-    requires own { length plan.now.own_functions.items ≤ length plan.now.functions.items }
     ensures { SpellsNames (if_chosen chosen (names_said parts.entry (places plan.now)
         (first_own plan.now) (map body_used bodies.now))) result }
 {

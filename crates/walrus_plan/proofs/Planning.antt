@@ -35,7 +35,7 @@ module _ (p : Parts) where
   brought s = places_brought s (items (imports p.imports.now))
 
   module _ (plan : Plan) (types : map place plan.types.items ≡ map (λ e. e.0) (entries (type_slots p.types.now))) (sorted : IsOrder (functions p.funcs.now) (map place plan.own_functions.items))
-      (all_functions : map place plan.functions.items ≡ brought Functions ++ map place plan.own_functions.items)
+      (brought_functions : map place plan.brought_functions.items ≡ brought Functions)
       (all_tables : map place plan.tables.items ≡ brought Tables ++ own_places (λ (t : TableValue). t.imported_by) (entries (tables p.tables.now)))
       (all_memories : map place plan.memories.items ≡ brought Memories ++ own_places (λ (m : MemoryValue). m.imported_by) (entries (memories p.memories.now)))
       (all_tags : map place plan.tags.items ≡ brought Tags ++ own_places (λ (t : TagValue). t.imported_by) (entries (tags p.tags.now)))
@@ -45,7 +45,7 @@ module _ (p : Parts) where
       (there : HasDead V → ⊥) (paired : ImportsMatch V) where
     in_order : (s : Space) → IsInOrder p paired s (places plan s)
     in_order Types = subst (IsInOrder p paired Types) (sym types) (ordered_entries (type_slots p.types.now), entries_rise (type_slots p.types.now))
-    in_order Functions = subst (IsInOrder p paired Functions) (sym all_functions) (functions_planned p paired there (map place plan.own_functions.items) sorted)
+    in_order Functions = subst (λ (first : List ℕ). IsInOrder p paired Functions (first ++ map place plan.own_functions.items)) (sym brought_functions) (functions_planned p paired there (map place plan.own_functions.items) sorted)
     in_order Tables = subst (IsInOrder p paired Tables) (sym all_tables) (tables_planned p paired)
     in_order Memories = subst (IsInOrder p paired Memories) (sym all_memories) (memories_planned p paired)
     in_order Tags = subst (IsInOrder p paired Tags) (sym all_tags) (tags_planned p paired)

@@ -1,5 +1,5 @@
 -- The order in which items are written, as the plan of a module.
-use Rattle.std.specs.Prelude.{map}
+use Rattle.std.specs.Prelude.{map, ◌++◌}
 use Rattle.walrus_base.specs.Id.{place}
 use Rattle.walrus_types.specs.Operators.{Types, Functions, Tables, Memories, Tags, Globals, Elements, DataSegments}
 use Rattle.walrus_base.specs.Arena.{entries}
@@ -15,7 +15,7 @@ use Rattle.walrus_plan.specs.declared.plan.Plan.{Plan}
 -- the places of each space in the order of their indices
 abbrev pub places : Plan → model.Plan
 places p Types = map place p.types.items
-places p Functions = map place p.functions.items
+places p Functions = map place p.brought_functions.items ++ map place p.own_functions.items
 places p Tables = map place p.tables.items
 places p Memories = map place p.memories.items
 places p Tags = map place p.tags.items

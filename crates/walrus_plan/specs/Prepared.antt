@@ -36,8 +36,8 @@ pub record IsPrepared (p : Parts) (prepared : Prepared) : Type 0 where
   pub numbered : AreNumbered (index_of prepared.indices) (places prepared.plan)
   pub few : (space : Space) → length (places prepared.plan space) < 2 ^ 32
   pub types : map place prepared.plan.types.items ≡ map (λ e. e.0) (entries (type_slots p.types.now))
+  pub brought : map place prepared.plan.brought_functions.items ≡ places_brought Functions (items (imports p.imports.now))
   pub own : IsOrder (functions p.funcs.now) (map place prepared.plan.own_functions.items)
-  pub functions : map place prepared.plan.functions.items ≡ places_brought Functions (items (imports p.imports.now)) ++ map place prepared.plan.own_functions.items
   pub tables : map place prepared.plan.tables.items ≡ places_brought Tables (items (imports p.imports.now)) ++ own_places (λ x. x.imported_by) (entries (tables p.tables.now))
   pub memories : map place prepared.plan.memories.items ≡ places_brought Memories (items (imports p.imports.now)) ++ own_places (λ x. x.imported_by) (entries (memories p.memories.now))
   pub tags : map place prepared.plan.tags.items ≡ places_brought Tags (items (imports p.imports.now)) ++ own_places (λ x. x.imported_by) (entries (tags p.tags.now))

@@ -1,5 +1,5 @@
 -- The order in which the functions with a body are written.
-use Rattle.std.specs.Prelude.{◌≡◌, ℕ, List, Option, map, length}
+use Rattle.std.specs.Prelude.{◌≡◌, ℕ, List, Option, map}
 use Rattle.std.specs.List.Sorted.{IsPermutation, IsSorted}
 use Rattle.std.specs.Ordering.{nat_cmp, ordering_then}
 use Rattle.std.specs.declared.cmp.Ordering.{Ordering}

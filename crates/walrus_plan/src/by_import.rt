@@ -104,23 +104,6 @@ pub fn imported_ids<K: Importable>(alloc: Global, all: &ModuleImports) -> Result
     Ok(ids)
 }
 
-/// The functions: what imports bring, by rising import, and then the module's own, in their order. Want of memory is the only refusal.
-pub fn functions_by_import(
-    alloc: Global,
-    all_imports: &ModuleImports,
-    own: &[FunctionId],
-) -> Result<Vec<FunctionId>>
-    ensures value { IfOk result (λ ids. map place ids.items
-        ≡ places_brought Functions (items (imports all_imports.now)) ++ map place own.now) }
-    ensures fails { IsOkUnless result out_of_memory }
-{
-    let mut ids = imported_ids(alloc, all_imports)?;
-    for id in own {
-        ids.push(*id)?;
-    }
-    Ok(ids)
-}
-
 /// The tables: what imports bring, by rising import, and then what the module defines, by rising id. Want of memory is the only refusal.
 pub fn tables_by_import(
     alloc: Global,

@@ -1,10 +1,10 @@
 //! The order in which items are written, and their indices ("Structure > Modules > Indices").
-ghost use Rattle.std.specs.Prelude.{◌≡◌, ◌<◌, ◌^◌, ◌++◌, ℕ, map, length, IfOk, IfErr, IsOkUnless, OnOk, nat_eq};
+ghost use Rattle.std.specs.Prelude.{◌≡◌, ◌<◌, ◌≤◌, ◌^◌, ◌++◌, ◌↔◌, ℕ, map, length, IfOk, IfErr, IsOkUnless, IsTrue, OnOk, nat_eq};
 ghost use Rattle.walrus_base.specs.Arena.{entries, items};
 ghost use Rattle.std.specs.List.{IsDistinct};
 ghost use Rattle.walrus_base.specs.Id.{place};
 ghost use Rattle.walrus_types.specs.ModuleTypes.{type_slots};
-ghost use Rattle.walrus_code.specs.Indices.{index_of};
+ghost use Rattle.walrus_code.specs.Indices.{NumbersAlong, index_of};
 ghost use Rattle.walrus_types.specs.Operators.{Space, Types, Functions, Tables, Memories, Tags, Globals};
 ghost use Rattle.walrus_items.specs.Functions.{functions};
 ghost use Rattle.walrus_items.specs.Imports.{imports};
@@ -26,28 +26,28 @@ ghost use Rattle.walrus_plan.specs.Refusals.{RefusesCounts};
 ghost use Rattle.walrus_plan.specs.Sizes.{local_sizes, IsOrder};
 
 use crate::by_import::{
-    functions_by_import, globals_by_import, memories_by_import, tables_by_import, tags_by_import,
+    globals_by_import, imported_ids, memories_by_import, tables_by_import, tags_by_import,
 };
 use std::alloc::Global;
 use std::cmp::Reverse;
 use walrus_contents::Parts;
 use walrus_ir::{
-    DataId, ElementId, FunctionId, GlobalId, IdsToIndices, MemoryId, ModuleTypes, Numbering,
-    TableId, TagId, TypeId,
+    DataId, ElementId, FunctionId, FunctionKey, GlobalId, IdsToIndices, MemoryId, ModuleTypes,
+    Numbering, TableId, TagId, TypeId,
 };
 use walrus_items::{GlobalKind, ModuleData, ModuleElements, ModuleFunctions};
 use walrus_parts::{Error, Result};
 
 /// For each index space the ids of the items in the order in which they are written, so that each one's place in it is its index: what
-/// imports bring, by rising import, and then what the module defines.
+/// imports bring, by rising import, and then what the module defines. Functions stand in two lists.
 #[derive(Drop)]
 pub struct Plan {
     /// The types, by rising id.
     pub types: Vec<TypeId>,
+    /// The functions that imports bring, by rising import.
+    pub brought_functions: Vec<FunctionId>,
     /// The functions that the module defines: the larger ones first, and of two as large the one of the smaller id.
     pub own_functions: Vec<FunctionId>,
-    /// The functions: those that imports bring, and then the module's own.
-    pub functions: Vec<FunctionId>,
     /// The tables, the module's own by rising id.
     pub tables: Vec<TableId>,
     /// The memories, the module's own by rising id.
@@ -69,9 +69,8 @@ impl Plan {
             ≡ map (λ e. e.0) (entries (type_slots parts.entry.types.now))) }
         ensures own { IfOk result (λ plan. IsOrder (functions parts.entry.funcs.now)
             (map place plan.own_functions.items)) }
-        ensures functions { IfOk result (λ plan. map place plan.functions.items
-            ≡ places_brought Functions (items (imports parts.entry.imports.now))
-            ++ map place plan.own_functions.items) }
+        ensures brought { IfOk result (λ plan. map place plan.brought_functions.items
+            ≡ places_brought Functions (items (imports parts.entry.imports.now))) }
         ensures tables { IfOk result (λ plan. map place plan.tables.items
             ≡ places_brought Tables (items (imports parts.entry.imports.now))
             ++ own_places (λ x. x.imported_by) (entries (tables parts.entry.tables.now))) }
@@ -93,12 +92,11 @@ impl Plan {
             → IsPlan (parts_view parts.entry) (places plan)) }
         ensures fails { IsOkUnless result out_of_memory }
     {
-        let own_functions = functions_by_size(alloc, parts.funcs)?;
-        let functions = functions_by_import(alloc, parts.imports, own_functions.as_slice())?;
+        let brought_functions = imported_ids(alloc, parts.imports)?;
         Ok(Plan {
             types: types_in_order(alloc, parts.types)?,
-            own_functions,
-            functions,
+            brought_functions,
+            own_functions: functions_by_size(alloc, parts.funcs)?,
             tables: tables_by_import(alloc, parts.imports, parts.tables)?,
             memories: memories_by_import(alloc, parts.imports, parts.memories)?,
             tags: tags_by_import(alloc, parts.imports, parts.tags)?,
@@ -106,6 +104,33 @@ impl Plan {
             elements: elements_in_order(alloc, parts.elements)?,
             data_: data_in_order(alloc, parts.data_)?,
         })
+    }
+
+    /// All functions, in the order of their indices: those that imports bring, and then the module's own. Want of memory is the only refusal.
+    pub fn functions(&self, alloc: Global) -> Result<Vec<FunctionId>>
+        ensures value { IfOk result (λ ids. map place ids.items ≡ places self.now Functions) }
+        ensures fails { IsOkUnless result out_of_memory }
+    {
+        let count = self
+            .brought_functions
+            .len()
+            .saturating_add(self.own_functions.len());
+        let mut ids = Vec::with_capacity(alloc, count)?;
+        ids.extend_from_slice(self.brought_functions.as_slice())?;
+        ids.extend_from_slice(self.own_functions.as_slice())?;
+        Ok(ids)
+    }
+
+    // The index of each function.
+    fn numbered_functions(&self, alloc: Global) -> Result<Numbering<FunctionKey>>
+        requires distinct { IsDistinct nat_eq (places self.now Functions) }
+        requires few { length (places self.now Functions) < 2 ^ 32 }
+        ensures value { IfOk result (λ numbers. NumbersAlong numbers (places self.now Functions)) }
+        ensures fails { IsOkUnless result out_of_memory }
+    {
+        let ids = self.functions(alloc)?;
+        let numbers = Numbering::along(alloc, ids.as_slice())?;
+        Ok(numbers)
     }
 
     /// The index of each item; what the plan doesn't hold has none. Refused with `TooLarge` where an index space has 2^32 items or more,
@@ -119,7 +144,7 @@ impl Plan {
         check_counts(self)?;
         Ok(IdsToIndices {
             types: Numbering::along(alloc, self.types.as_slice())?,
-            functions: Numbering::along(alloc, self.functions.as_slice())?,
+            functions: self.numbered_functions(alloc)?,
             tables: Numbering::along(alloc, self.tables.as_slice())?,
             memories: Numbering::along(alloc, self.memories.as_slice())?,
             tags: Numbering::along(alloc, self.tags.as_slice())?,
@@ -217,6 +242,16 @@ fn data_in_order(alloc: Global, segments: &ModuleData) -> Result<Vec<DataId>>
     Ok(ids)
 }
 
+// Whether there are more functions than indices.
+fn has_too_many_functions(plan: &Plan) -> bool
+    ensures { IsTrue result ↔ (2 ^ 32 ≤ length (places plan.now Functions)) }
+{
+    plan.brought_functions
+        .len()
+        .saturating_add(plan.own_functions.len())
+        > u32::MAX as usize
+}
+
 // Refused where a space has more items than there are indices.
 fn check_counts(plan: &Plan) -> Result<()>
     ensures few { OnOk result ((space : Space) → length (places plan.now space) < 2 ^ 32) }
@@ -224,7 +259,7 @@ fn check_counts(plan: &Plan) -> Result<()>
 {
     let most = u32::MAX as usize;
     if plan.types.len() > most
-        || plan.functions.len() > most
+        || has_too_many_functions(plan)
         || plan.tables.len() > most
         || plan.memories.len() > most
         || plan.tags.len() > most

@@ -77,7 +77,7 @@ no_data (kind.Global i) = refl
 no_data (kind.Tag i) = refl
 
 module _ (p : Parts) (plan : Plan)
-    (all_functions : map place plan.functions.items ≡ places_brought Functions (items (imports p.imports.now)) ++ map place plan.own_functions.items)
+    (brought_functions : map place plan.brought_functions.items ≡ places_brought Functions (items (imports p.imports.now)))
     (all_tables : map place plan.tables.items ≡ places_brought Tables (items (imports p.imports.now)) ++ own_places (λ (t : TableValue). t.imported_by) (entries_in (tables p.tables.now)))
     (all_memories : map place plan.memories.items ≡ places_brought Memories (items (imports p.imports.now)) ++ own_places (λ (m : MemoryValue). m.imported_by) (entries_in (memories p.memories.now)))
     (all_tags : map place plan.tags.items ≡ places_brought Tags (items (imports p.imports.now)) ++ own_places (λ (t : TagValue). t.imported_by) (entries_in (tags p.tags.now)))
@@ -94,7 +94,7 @@ module _ (p : Parts) (plan : Plan)
 
   pub parted_own : (s : Space) → places plan s ≡ filter_map (import_number (parts_view p) s) (import_numbers p) ++ places_own p plan s
   parted_own Types = none_brought Types no_type refl
-  parted_own Functions = behind Functions all_functions
+  parted_own Functions = behind Functions (ap (λ (first : List ℕ). first ++ places_own p plan Functions) brought_functions)
   parted_own Tables = behind Tables all_tables
   parted_own Memories = behind Memories all_memories
   parted_own Tags = behind Tags all_tags

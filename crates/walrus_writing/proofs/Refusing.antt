@@ -1,11 +1,11 @@
 -- What a refusal of a part says of the items that are written, and the records that are.
 use Rattle.wasm_entries.specs.Record as entries
-use Rattle.std.proofs.Common.{inl, inr, ◌≡◌, ℕ, ◌-◌, ◌<◌, ◌^◌, List, [], ◌∷◌, ◌++◌, map, length, refl, sym, ap, ap₂, ◌∙◌, subst, None, Some}
+use Rattle.std.proofs.Common.{inl, inr, ◌≡◌, ℕ, ◌-◌, ◌<◌, ◌^◌, List, [], ◌∷◌, ◌++◌, map, length, refl, sym, ap, ap₂, ◌∙◌, subst, arith, None, Some}
 use Rattle.std.specs.Prelude.{Option, All, Err, Ok, option_and_then, option_map}
 use Rattle.std.specs.Global.{Vec}
 use Rattle.std.specs.List.{AllZip}
 use Rattle.std.specs.Str.{IsUtf8}
-use Rattle.std.proofs.lemmas.List.{length-map}
+use Rattle.std.proofs.lemmas.List.{length-append, length-map}
 use Rattle.std.proofs.lemmas.List.Elements.{All-filter, All-map}
 use Rattle.wasm_frames.specs.Record as wire
 use Rattle.wasm_entries.specs.Record.{data_entry, element_entry, export_entry, global_entry, group, import_entry, table_entry}
@@ -141,7 +141,7 @@ module _ (p : Parts) (job : Task) (names : Lookup) (named : names ≡ job.names)
     (matched : ImportsMatch (parts_view p)) (reads : ReadsInOrder (parts_view p))
     (is_plan : IsPlan (parts_view p) (places plan)) (numbered : AreNumbered names (places plan)) (few : (s : Space) → length (places plan s) < 2 ^ 32)
     (types : map place plan.types.items ≡ map (λ e. e.0) (entries_in (type_slots p.types.now)))
-    (functions : map place plan.functions.items ≡ places_brought Functions (items (imports p.imports.now)) ++ map place plan.own_functions.items)
+    (brought : map place plan.brought_functions.items ≡ places_brought Functions (items (imports p.imports.now)))
     (tables_rise : map place plan.tables.items ≡ places_brought Tables (items (imports p.imports.now)) ++ own_places (λ t. t.imported_by) (entries_in (tables p.tables.now)))
     (memories_rise : map place plan.memories.items ≡ places_brought Memories (items (imports p.imports.now)) ++ own_places (λ m. m.imported_by) (entries_in (memories p.memories.now)))
     (tags_rise : map place plan.tags.items ≡ places_brought Tags (items (imports p.imports.now)) ++ own_places (λ t. t.imported_by) (entries_in (tags p.tags.now)))
@@ -204,7 +204,7 @@ module _ (p : Parts) (job : Task) (names : Lookup) (named : names ≡ job.names)
     matched = matched;
     own = places_own p plan;
     defined = defined_own p plan;
-    parted = parted_own p plan functions tables_rise memories_rise tags_rise globals_rise;
+    parted = parted_own p plan brought tables_rise memories_rise tags_rise globals_rise;
     imports = map import_entry raw_imports;
     imports_are = imports_are;
     types = map group raws;
@@ -256,10 +256,13 @@ module _ (p : Parts) (job : Task) (names : Lookup) (named : names ≡ job.names)
   abbrev names_given : NameText
   names_given = if_chosen job.choices.names (names_said p (places plan) (first_own plan) (map body_used bodies))
 
+  first_same : first_own plan ≡ length (places plan Functions) - length (places_own p plan Functions)
+  first_same = omega (arith, length-append (map place plan.brought_functions.items) (map place plan.own_functions.items), length-map plan.brought_functions.items place)
+
   names_same : names_given ≡ names_written records_of job.choices
   names_same =
       ap₂ (λ (first : ℕ) (used : List (List (ℕ × ℕ))). if_chosen job.choices.names (names_said p (places plan) first used))
-      (ap₂ (λ (a b : ℕ). a - b) (sym (length-map plan.functions.items place)) (sym (length-map plan.own_functions.items place)))
+      first_same
       (used_zip p names job.choices.features plan.own_functions.items bodies bodies_are)
 
   -- payloads that don't fit

@@ -1,4 +1,4 @@
-use Rattle.std.proofs.Common.{◌≡◌, ◌++◌, map, length}
+use Rattle.std.proofs.Common.{◌≡◌, ◌++◌, map}
 use Rattle.walrus_base.specs.Id.{place}
 use Rattle.walrus_items.specs.Function.{size_of}
 use Rattle.walrus_items.specs.Functions.{functions, locals_left}

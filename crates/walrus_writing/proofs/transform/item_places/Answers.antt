@@ -111,7 +111,7 @@ returns-in_err-places-clause-refused c = λ sections same.
     let p = err_from_is_err_and c.from_residual-in_err-places.result c.from_residual-in_err-places.ensures.1 in
     rw (p.1, p.2) (places_refused c.args.parts (task c.args.choices.now names sections) names refl c.args.prepared.now.plan c.in_ok-types.types.items c.in_ok-imports.imports.items c.in_ok-functions.functions.items c.in_ok-tables.tables.items c.in_ok-memories.memories.items c.in_ok-tags.tags.items c.in_ok-globals.globals.items c.in_ok-exports.exports.items c.args.bodies.now c.in_ok-elements.elements.items c.in_ok-data_segments.data_segments.items c.args.prepared.now.data_count
     plan.matched plan.reads plan.is_plan plan.numbered plan.few
-    plan.types plan.functions plan.tables plan.memories plan.tags plan.globals
+    plan.types plan.brought plan.tables plan.memories plan.tags plan.globals
     c.in_ok-types.ensures.value c.in_ok-imports.ensures.value
     (c.in_ok-functions.ensures.value ∙ ap (map (λ id. option_and_then (type_index names) ((parts_view c.args.parts).functions (place id)))) c.as_slice-order.ensures.value)
     c.in_ok-tables.ensures.value c.in_ok-tables.ensures.stand c.in_ok-tables.ensures.spelled
@@ -132,7 +132,7 @@ returns-clause-told c =
     let plan = c.requires.planned in
     places_told c.args.parts (task c.args.choices.now names []) names refl c.args.prepared.now.plan c.in_ok-types.types.items c.in_ok-imports.imports.items c.in_ok-functions.functions.items c.in_ok-tables.tables.items c.in_ok-memories.memories.items c.in_ok-tags.tags.items c.in_ok-globals.globals.items c.in_ok-exports.exports.items c.args.bodies.now c.in_ok-elements.elements.items c.in_ok-data_segments.data_segments.items c.args.prepared.now.data_count
     plan.matched plan.reads plan.is_plan plan.numbered plan.few
-    plan.types plan.functions plan.tables plan.memories plan.tags plan.globals
+    plan.types plan.brought plan.tables plan.memories plan.tags plan.globals
     c.in_ok-types.ensures.value c.in_ok-imports.ensures.value
     (c.in_ok-functions.ensures.value ∙ ap (map (λ id. option_and_then (type_index names) ((parts_view c.args.parts).functions (place id)))) c.as_slice-order.ensures.value)
     c.in_ok-tables.ensures.value c.in_ok-tables.ensures.stand c.in_ok-tables.ensures.spelled

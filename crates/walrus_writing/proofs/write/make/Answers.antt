@@ -1,15 +1,10 @@
-use Rattle.std.proofs.Common.{◌∙◌, map, length, sym, ap, subst, arith}
+use Rattle.std.proofs.Common.{◌∙◌, map, length, sym, ap, subst}
 use Rattle.std.specs.Prelude.{Ok}
 use Rattle.std.specs.List.{AllZip}
-use Rattle.std.proofs.lemmas.List.{length-append, length-map}
-use Rattle.walrus_base.specs.Arena.{items}
 use Rattle.walrus_base.specs.Id.{place}
-use Rattle.walrus_types.specs.Operators.{Functions}
 use Rattle.walrus_code.specs.Indices.{index_of}
 use Rattle.walrus_contents.proofs.Steps.{zip_length}
-use Rattle.walrus_items.specs.Imports.{imports}
 use Rattle.walrus_names.specs.Names.{SpellsNames, body_used, first_own, if_chosen, names_said}
-use Rattle.walrus_plan.specs.Brought.{places_brought}
 use Rattle.walrus_plan.specs.Places.{places}
 use Rattle.walrus_writing.specs.Parts.{IsWrittenBody}
 use Rattle.walrus_writing.proofs.write.make.Goals as goal
@@ -19,17 +14,6 @@ names_payload-requires-clause-as_many c =
     ap length c.as_slice-2.ensures.value
     ∙ sym (zip_length (λ id body. IsWrittenBody c.args.parts (index_of c.args.prepared.now.indices) c.args.choices.now.features (place id) body) _ _ c.in_ok-bodies.ensures.value)
     ∙ ap length c.as_slice.ensures.value
-
-pub names_payload-requires-clause-own : goal.names_payload-requires-clause-own
-names_payload-requires-clause-own c =
-    let plan = c.args.prepared.now.plan in
-    omega (
-      arith,
-      ap length c.requires.planned.functions,
-      length-append (places_brought Functions (items (imports c.args.parts.imports.now))) (map place plan.own_functions.items),
-      length-map plan.functions.items place,
-      length-map plan.own_functions.items place,
-    )
 
 pub returns-clause-bodies : goal.returns-clause-bodies
 returns-clause-bodies c =

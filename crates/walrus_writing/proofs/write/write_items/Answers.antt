@@ -127,7 +127,7 @@ returns-in_err-bytes-clause-refused c =
     let p = err_from_is_err_and c.from_residual-in_err-bytes.result c.from_residual-in_err-bytes.ensures.1 in
     rw (p.1, p.2) (records_refused c.args.parts (task c.args.choices.now (index_of c.args.prepared.now.indices) (map custom_record c.args.own.now)) names refl c.args.prepared.now.plan c.in_ok-types.types.items c.in_ok-imports.imports.items c.in_ok-functions.functions.items c.in_ok-tables.tables.items c.in_ok-memories.memories.items c.in_ok-tags.tags.items c.in_ok-globals.globals.items c.in_ok-exports.exports.items c.in_ok-made.made.bodies.items c.in_ok-elements.elements.items c.in_ok-data_segments.data_segments.items c.args.prepared.now.data_count
     plan.matched plan.reads plan.is_plan plan.numbered plan.few
-    plan.types plan.functions plan.tables plan.memories plan.tags plan.globals
+    plan.types plan.brought plan.tables plan.memories plan.tags plan.globals
     c.in_ok-types.ensures.value c.in_ok-imports.ensures.value
     (c.in_ok-functions.ensures.value ∙ ap (map (λ id. option_and_then (type_index names) ((parts_view c.args.parts).functions (place id)))) c.as_slice-order.ensures.value)
     c.in_ok-tables.ensures.value c.in_ok-tables.ensures.stand c.in_ok-tables.ensures.spelled
@@ -149,7 +149,7 @@ returns-then-is_none-clause-refused c =
     let said = if_chosen c.args.choices.now.names (names_said c.args.parts (places c.args.prepared.now.plan) (first_own c.args.prepared.now.plan) (map body_used c.in_ok-made.made.bodies.items)) in
     payloads_refused c.args.parts (task c.args.choices.now (index_of c.args.prepared.now.indices) (map custom_record c.args.own.now)) names refl c.args.prepared.now.plan c.in_ok-types.types.items c.in_ok-imports.imports.items c.in_ok-functions.functions.items c.in_ok-tables.tables.items c.in_ok-memories.memories.items c.in_ok-tags.tags.items c.in_ok-globals.globals.items c.in_ok-exports.exports.items c.in_ok-made.made.bodies.items c.in_ok-elements.elements.items c.in_ok-data_segments.data_segments.items c.args.prepared.now.data_count
     plan.matched plan.reads plan.is_plan plan.numbered plan.few
-    plan.types plan.functions plan.tables plan.memories plan.tags plan.globals
+    plan.types plan.brought plan.tables plan.memories plan.tags plan.globals
     c.in_ok-types.ensures.value c.in_ok-imports.ensures.value
     (c.in_ok-functions.ensures.value ∙ ap (map (λ id. option_and_then (type_index names) ((parts_view c.args.parts).functions (place id)))) c.as_slice-order.ensures.value)
     c.in_ok-tables.ensures.value c.in_ok-tables.ensures.stand c.in_ok-tables.ensures.spelled
@@ -170,7 +170,7 @@ returns-clause-spells c =
     let said = if_chosen c.args.choices.now.names (names_said c.args.parts (places c.args.prepared.now.plan) (first_own c.args.prepared.now.plan) (map body_used c.in_ok-made.made.bodies.items)) in
     records_written c.args.parts (task c.args.choices.now (index_of c.args.prepared.now.indices) (map custom_record c.args.own.now)) names refl c.args.prepared.now.plan c.in_ok-types.types.items c.in_ok-imports.imports.items c.in_ok-functions.functions.items c.in_ok-tables.tables.items c.in_ok-memories.memories.items c.in_ok-tags.tags.items c.in_ok-globals.globals.items c.in_ok-exports.exports.items c.in_ok-made.made.bodies.items c.in_ok-elements.elements.items c.in_ok-data_segments.data_segments.items c.args.prepared.now.data_count
     plan.matched plan.reads plan.is_plan plan.numbered plan.few
-    plan.types plan.functions plan.tables plan.memories plan.tags plan.globals
+    plan.types plan.brought plan.tables plan.memories plan.tags plan.globals
     c.in_ok-types.ensures.value c.in_ok-imports.ensures.value
     (c.in_ok-functions.ensures.value ∙ ap (map (λ id. option_and_then (type_index names) ((parts_view c.args.parts).functions (place id)))) c.as_slice-order.ensures.value)
     c.in_ok-tables.ensures.value c.in_ok-tables.ensures.stand c.in_ok-tables.ensures.spelled

@@ -1,0 +1,12 @@
+pub mod Between
+pub mod Numbers
+pub mod Forms
+pub mod Filling
+pub mod Showing
+pub mod Classes
+pub mod Scans
+pub mod Together
+pub mod Blocks
+pub mod Floats
+pub mod Operator
+pub mod Read

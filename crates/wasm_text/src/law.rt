@@ -1,0 +1,75 @@
+//! Laws of bytes with marks, as the contracts of functions that do nothing.
+
+ghost use Rattle.std.specs.Prelude.{List, ℕ, ◌≡◌, ◌-◌, ◌<◌, ◌≤◌, ◌^◌, ◌∷◌, [], ◌++◌, length, map};
+ghost use Rattle.wasm_forms.specs.Grammar.{U32};
+ghost use Rattle.wasm_forms.specs.Number.{AreBytes};
+ghost use Rattle.wasm_operators.specs.Forms.{block_type};
+ghost use Rattle.wasm_operators.specs.Operators.{Op};
+ghost use Rattle.wasm_operators.specs.declared.operator.RawBlock.TheVariants.{OfType};
+ghost use Rattle.wasm_operators.specs.declared.operator.RawArg.{RawArg as Arg};
+ghost use Rattle.wasm_text.specs.Places.{between, IfPlace, IsNumberAt, IsPast, Stands};
+ghost use Rattle.wasm_text.specs.Scans.{HasOperator};
+ghost use Rattle.wasm_text.specs.declared.limits.Limits.{Limits as Limited};
+ghost use Rattle.wasm_text.specs.Marks.{AreInOrder, Holds, HoldsOne, fill, shifted};
+
+/// A number below 2^32 that stands in front of the place behind it is a u32.
+pub fn small_numbers_stand()
+    ensures { (bytes : List ℕ) (at behind value : ℕ) → IsPast bytes at 5 behind → IsNumberAt bytes at value
+        → value < 2 ^ 32 → IfPlace behind (Stands U32 bytes at behind value) }
+{}
+
+/// What stands in front of the first mark is copied.
+pub fn runs_are_copied()
+    ensures { (f : Arg → Arg) (bytes : List ℕ) (from start : ℕ) (marks : List ℕ) → from ≤ start
+        → AreInOrder bytes start marks
+        → between from start bytes ++ fill f bytes start marks ≡ fill f bytes from marks }
+{}
+
+/// Where the arguments of the first marks end within the bytes in front, these are filled without what stands behind them.
+pub fn filled_behind_filled()
+    ensures { (f : Arg → Arg) (bytes more : List ℕ) (from : ℕ) (marks marks' : List ℕ)
+        → AreInOrder bytes from marks → AreInOrder (bytes ++ more) (length bytes) marks'
+        → fill f (bytes ++ more) from (marks ++ marks')
+        ≡ fill f bytes from marks ++ fill f (bytes ++ more) (length bytes) marks' }
+{}
+
+/// No bytes are no operators, with no marks.
+pub fn nothing_is_held()
+    ensures { Holds [] [] [] }
+{}
+
+/// An operator behind operators: its marks are counted from where these begin.
+pub fn operator_behind_held()
+    ensures { (bytes marks more marks' : List ℕ) (texts : List Op) (text : Op)
+        → Holds bytes marks texts → HoldsOne more marks' text
+        → Holds (bytes ++ more) (marks ++ map (shifted (length bytes)) marks') (texts ++ text ∷ []) }
+{}
+
+/// Operators behind operators are operators, with the marks of both.
+pub fn held_behind_held()
+    ensures { (bytes marks more marks' : List ℕ) (texts texts' : List Op)
+        → Holds bytes marks texts → Holds more marks' texts'
+        → Holds (bytes ++ more) (marks ++ map (shifted (length bytes)) marks') (texts ++ texts') }
+{}
+
+/// An operator that was scanned behind operators, where the marks of these stand behind others.
+pub fn scanned_behind_held()
+    ensures { (limits : Limited) (bytes front marks old new : List ℕ) (start at behind : ℕ) (texts : List Op)
+        → start ≤ at → old ≡ front ++ marks → Holds (between start at bytes) marks texts
+        → (found : HasOperator limits bytes start at behind old new)
+        → (new ≡ front ++ (marks ++ map (shifted (at - start)) found.marks))
+        × Holds (between start behind bytes) (marks ++ map (shifted (at - start)) found.marks)
+        (texts ++ found.text ∷ []) }
+{}
+
+/// What is read at a place where a u32 stands is that number.
+pub fn standing_numbers_are_read()
+    ensures { (bytes : List ℕ) (at behind number value : ℕ) → Stands U32 bytes at behind number
+        → IsNumberAt bytes at value → value ≡ number }
+{}
+
+/// The same where the type of a block stands that is the index of a type.
+pub fn standing_indices_are_read()
+    ensures { (bytes : List ℕ) (at behind index value : ℕ) → AreBytes bytes
+        → Stands block_type bytes at behind (OfType index) → IsNumberAt bytes at value → value ≡ index }
+{}

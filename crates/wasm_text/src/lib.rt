@@ -1,0 +1,22 @@
+//! Operators as they stand in bytes, with marks where an argument names something or isn't in its one shortest spelling (Binary
+//! Format > Instructions).
+#![tactic(auto)]
+
+mod class;
+mod law;
+mod limits;
+mod mark;
+mod places;
+mod scan;
+
+pub use law::{
+    filled_behind_filled, held_behind_held, nothing_is_held, operator_behind_held, runs_are_copied,
+    scanned_behind_held, small_numbers_stand, standing_indices_are_read, standing_numbers_are_read,
+};
+pub use limits::Limits;
+pub use mark::{
+    MARK_ACCESS, MARK_BLOCK, MARK_FUNCTION, MARK_GLOBAL, MARK_LOCAL, MARK_MEMORY, MARK_NUMBER,
+    MARK_S32, MARK_S64, MARK_TABLE, MARK_TYPE,
+};
+pub use places::{NO_PLACE, number_at, past_number, past_s32, past_s64, past_u64};
+pub use scan::scan_operator;

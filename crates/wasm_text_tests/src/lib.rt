@@ -1,0 +1,7 @@
+//! Tests of `wasm_text`: each public function where it succeeds, and operators that aren't scanned.
+#![tactic(auto)]
+
+#[cfg(test)]
+mod places;
+#[cfg(test)]
+mod scans;

@@ -1,0 +1,132 @@
+//! Operators that are scanned, each behind the byte of `nop`, from the instructions of the standard by hand.
+
+use std::alloc::Global;
+use std::test::Fail;
+use test_support::{add_bytes, demand};
+use wasm_text::{Limits, NO_PLACE, scan_operator};
+
+/// Operators, and their marks: sixteen times the offset, where `nop` stands at 0, and the kind.
+const ROWS: [(&str, &str); 36] = [
+    ("00", ""),
+    ("6A", ""),
+    ("05", ""),
+    ("0B", ""),
+    ("20 00", "20"),
+    ("21 C8 01", "20"),
+    ("10 03", "21"),
+    ("10 83 80 80 80 00", "21"),
+    ("24 01", "22"),
+    ("14 04", "23"),
+    ("25 01", "24"),
+    ("11 02 00", "23 34"),
+    ("11 82 80 80 80 00 80 00", "23 74"),
+    ("28 02 08", "26"),
+    ("36 02 E5 8E 26", "26"),
+    ("3F 00", "25"),
+    ("40 00", "25"),
+    ("41 7F", ""),
+    ("41 C0 BB 78", "28"),
+    ("42 3F", ""),
+    ("42 80 01", "29"),
+    ("43 00 00 80 3F", ""),
+    ("44 00 00 00 00 00 00 F0 3F", ""),
+    ("02 40", ""),
+    ("04 7F", ""),
+    ("03 7B", ""),
+    ("03 03", "2A"),
+    ("02 83 00", "2A"),
+    ("0C 01", ""),
+    ("0D 80 00", "27"),
+    ("0E 02 00 01 00", ""),
+    ("0E 81 00 00 81 00", "27 57"),
+    ("FC 0A 00 00", "35 45"),
+    ("FC 0B 00", "35"),
+    ("FC 00", ""),
+    ("FC 10 01", "34"),
+];
+
+/// What isn't scanned: `ref.func`, segments, legacy exceptions, tags and wide arithmetic; an index past its count; a memory behind the
+/// flags; too large a number; bytes that end too early; and bytes that no operator has.
+const OTHERS: [&str; 16] = [
+    "D2 00",
+    "FC 08 00 00",
+    "FC 09 00",
+    "FC 0D 00",
+    "06 40",
+    "19",
+    "08 00",
+    "FC 13",
+    "20 AC 02",
+    "0C 02",
+    "28 42 00 00",
+    "10 80 80 80 80 70",
+    "20",
+    "44 00 00 00 00 00 00 F0",
+    "41 FF FF FF FF 0F",
+    "FF",
+];
+
+const LIMITS: Limits = Limits {
+    functions: 5,
+    globals: 5,
+    types: 5,
+    tables: 2,
+    memories: 1,
+    locals: 300,
+    labels: 2,
+};
+
+fn are_marks(alloc: Global, marks: &[u32], wanted: &str) -> bool {
+    let mut bytes = Vec::new(alloc);
+    if !add_bytes(&mut bytes, wanted) || bytes.len() != marks.len() {
+        return false;
+    }
+    for place in 0..marks.len() {
+        if u32::from(bytes[place]) != marks[place] {
+            return false;
+        }
+    }
+    true
+}
+
+fn has_marks(alloc: Global, bytes: &[u8], wanted: &str) -> bool {
+    let mut marks = Vec::new(alloc);
+    match scan_operator(bytes, 0, 1, &LIMITS, &mut marks) {
+        Ok(behind) => behind == bytes.len() && are_marks(alloc, &marks, wanted),
+        Err(_) => false,
+    }
+}
+
+fn is_other(alloc: Global, bytes: &[u8]) -> bool {
+    let mut marks = Vec::new(alloc);
+    match scan_operator(bytes, 0, 1, &LIMITS, &mut marks) {
+        Ok(behind) => behind == NO_PLACE,
+        Err(_) => false,
+    }
+}
+
+fn is_row(alloc: Global, text: &str, wanted: &str) -> bool {
+    let mut bytes = Vec::new(alloc);
+    add_bytes(&mut bytes, "01") && add_bytes(&mut bytes, text) && has_marks(alloc, &bytes, wanted)
+}
+
+fn is_refused(alloc: Global, text: &str) -> bool {
+    let mut bytes = Vec::new(alloc);
+    add_bytes(&mut bytes, "01") && add_bytes(&mut bytes, text) && is_other(alloc, &bytes)
+}
+
+#[test]
+fn plain_operators(rt: HostRuntime) -> Result<(), Fail> {
+    for (text, marks) in &ROWS {
+        demand(is_row(rt.alloc(), text, marks), text)?;
+    }
+    Ok(())
+}
+
+#[test]
+fn other_operators(rt: HostRuntime) -> Result<(), Fail> {
+    for text in &OTHERS {
+        demand(is_refused(rt.alloc(), text), text)?;
+    }
+    Ok(())
+}
