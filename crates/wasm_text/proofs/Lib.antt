@@ -1,5 +1,5 @@
 pub mod Between
-pub mod Numbers
+pub mod NumberPlaces
 pub mod Forms
 pub mod Filling
 pub mod Showing
@@ -10,3 +10,6 @@ pub mod Blocks
 pub mod Floats
 pub mod Operator
 pub mod Read
+pub mod Steps
+pub mod Renaming
+pub mod Staying

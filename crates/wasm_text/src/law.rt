@@ -10,7 +10,11 @@ ghost use Rattle.wasm_operators.specs.declared.operator.RawArg.{RawArg as Arg};
 ghost use Rattle.wasm_text.specs.Places.{between, IfPlace, IsNumberAt, IsPast, Stands};
 ghost use Rattle.wasm_text.specs.Scans.{HasOperator};
 ghost use Rattle.wasm_text.specs.declared.limits.Limits.{Limits as Limited};
-ghost use Rattle.wasm_text.specs.Marks.{AreInOrder, Holds, HoldsOne, fill, shifted};
+ghost use Rattle.wasm_text.specs.Marks.{AreInOrder, Holds, HoldsOne, all_args, args_at, fill, shifted, with};
+ghost use Rattle.wasm_text.specs.Filling.{HasNumber, Numbering, SomeLacks, anew};
+ghost use Rattle.wasm_forms.specs.Spelling.{row_bytes};
+ghost use Rattle.wasm_forms.specs.Writing.{EachFits};
+ghost use Rattle.wasm_operators.specs.Spelling.{op_bytes};
 
 /// A number below 2^32 that stands in front of the place behind it is a u32.
 pub fn small_numbers_stand()
@@ -72,4 +76,20 @@ pub fn standing_numbers_are_read()
 pub fn standing_indices_are_read()
     ensures { (bytes : List ℕ) (at behind index value : ℕ) → AreBytes bytes
         → Stands block_type bytes at behind (OfType index) → IsNumberAt bytes at value → value ≡ index }
+{}
+
+/// Where each argument at a mark has a new number, each argument of the operators has, and the bytes filled with these numbers are the
+/// operators with them.
+pub fn filled_operators_are_renamed()
+    ensures { (number : Numbering) (bytes marks : List ℕ) (texts : List Op)
+        → Holds bytes marks texts → EachFits (HasNumber number) (args_at bytes marks)
+        → EachFits (HasNumber number) (all_args texts)
+        × (fill (anew number) bytes 0 marks ≡ row_bytes op_bytes (map (with (anew number)) texts)) }
+{}
+
+/// Where an argument at a mark has no new number, an argument of the operators has none.
+pub fn lacking_marks_are_of_operators()
+    ensures { (number : Numbering) (bytes marks : List ℕ) (texts : List Op)
+        → Holds bytes marks texts → SomeLacks number (args_at bytes marks)
+        → SomeLacks number (all_args texts) }
 {}

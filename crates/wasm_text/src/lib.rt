@@ -2,15 +2,19 @@
 //! Format > Instructions).
 #![tactic(auto)]
 
+mod append;
 mod class;
 mod law;
 mod limits;
 mod mark;
 mod places;
+mod renumbering;
 mod scan;
 
+pub use append::append_filled;
 pub use law::{
-    filled_behind_filled, held_behind_held, nothing_is_held, operator_behind_held, runs_are_copied,
+    filled_behind_filled, filled_operators_are_renamed, held_behind_held,
+    lacking_marks_are_of_operators, nothing_is_held, operator_behind_held, runs_are_copied,
     scanned_behind_held, small_numbers_stand, standing_indices_are_read, standing_numbers_are_read,
 };
 pub use limits::Limits;
@@ -19,4 +23,5 @@ pub use mark::{
     MARK_S32, MARK_S64, MARK_TABLE, MARK_TYPE,
 };
 pub use places::{NO_PLACE, number_at, past_number, past_s32, past_s64, past_u64};
+pub use renumbering::{NO_NUMBER, Numbers};
 pub use scan::scan_operator;

@@ -2,6 +2,8 @@
 #![tactic(auto)]
 
 #[cfg(test)]
+mod appended;
+#[cfg(test)]
 mod places;
 #[cfg(test)]
 mod scans;

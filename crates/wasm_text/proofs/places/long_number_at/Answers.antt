@@ -2,7 +2,7 @@ use Rattle.std.proofs.Common.{◌+◌, ◌*◌, ◌-◌, ◌<◌, drop, sym, sub
 use Rattle.std.proofs.lemmas.List.{drop_all}
 use Rattle.wasm_forms.proofs.Turns.{value_room, scale_room, power_next}
 use Rattle.wasm_text.specs.Places.{IsNumberAt}
-use Rattle.wasm_text.proofs.Numbers.{Passed, passed_more, passed_last, passed_end, passed_all, value_from, no_value}
+use Rattle.wasm_text.proofs.NumberPlaces.{Passed, passed_more, passed_last, passed_end, passed_all, value_from, no_value}
 use Rattle.wasm_text.proofs.places.long_number_at.Goals as goal
 
 pub returns-in_default : goal.returns-in_default

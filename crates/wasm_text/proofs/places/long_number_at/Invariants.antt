@@ -1,5 +1,5 @@
 use Rattle.std.proofs.Common.{◌≡◌, ◌<◌, ◌-◌, ◌^◌, drop}
-use Rattle.wasm_text.proofs.Numbers.{Passed}
+use Rattle.wasm_text.proofs.NumberPlaces.{Passed}
 use Rattle.wasm_text.proofs.places.long_number_at.Given as goal
 
 abbrev pub invariant-groups : goal.invariant-groups

@@ -1,5 +1,5 @@
 use Rattle.std.proofs.Common.{◌+◌, ◌*◌, ◌-◌, drop, inr, arith}
-use Rattle.wasm_text.proofs.Numbers.{passed_none, passed_more, passed_last, stands_from}
+use Rattle.wasm_text.proofs.NumberPlaces.{passed_none, passed_more, passed_last, stands_from}
 use Rattle.wasm_text.proofs.places.past_number.Goals as goal
 
 pub groups-init : goal.groups-init

@@ -1,5 +1,5 @@
 use Rattle.std.proofs.Common.{◌≤◌, ◌-◌, ℕ, drop}
-use Rattle.wasm_text.proofs.Numbers.{Passed}
+use Rattle.wasm_text.proofs.NumberPlaces.{Passed}
 use Rattle.wasm_text.proofs.places.past_number.Given as goal
 
 abbrev pub invariant-groups : goal.invariant-groups

@@ -1,0 +1,75 @@
+//! Operators that are written with new numbers, by hand.
+
+ghost use Rattle.std.specs.Prelude.{Some, None, nat_lt, ◌+◌, if◌then◌else◌};
+
+use std::alloc::{AllocError, Global};
+use std::test::Fail;
+use test_support::{add_bytes, demand};
+use wasm_text::{Limits, NO_NUMBER, Numbers, append_filled, scan_operator};
+
+/// Operators, and what they become where each index below 100 is ten more.
+const ROWS: [(&str, &str); 8] = [
+    ("6A", "6A"),
+    ("20 00", "20 0A"),
+    ("10 83 80 80 80 00", "10 0D"),
+    ("21 E3 00", "21 6D"),
+    ("11 02 00", "11 0C 0A"),
+    ("41 C0 BB F8 7F", "41 C0 BB 78"),
+    ("03 03", "03 0D"),
+    ("0E 02 00 81 00 00", "0E 02 00 01 00"),
+];
+
+const LIMITS: Limits = Limits {
+    functions: 5,
+    globals: 5,
+    types: 5,
+    tables: 2,
+    memories: 1,
+    locals: 300,
+    labels: 2,
+};
+
+// Each index below 100 is ten more, all others have no new number.
+struct TenMore {}
+
+impl Numbers for TenMore {
+    ghost number = { λ _ _ index. if nat_lt index 100 then Some (index + 10) else None };
+
+    fn new_number(&self, _kind: u32, index: u32) -> u64 {
+        if index < 100 {
+            u64::from(index) + 10
+        } else {
+            NO_NUMBER
+        }
+    }
+}
+
+fn rewritten(alloc: Global, bytes: &[u8]) -> Result<Vec<u8>, AllocError> {
+    let mut marks = Vec::new(alloc);
+    let mut to = Vec::new(alloc);
+    let behind = scan_operator(bytes, 0, 0, &LIMITS, &mut marks)?;
+    if behind == bytes.len() {
+        let _all = append_filled(&mut to, bytes, marks.as_slice(), &TenMore {})?;
+    }
+    Ok(to)
+}
+
+fn becomes(alloc: Global, text: &str, wanted: &str) -> bool {
+    let mut bytes = Vec::new(alloc);
+    let mut expected = Vec::new(alloc);
+    if !add_bytes(&mut bytes, text) || !add_bytes(&mut expected, wanted) {
+        return false;
+    }
+    match rewritten(alloc, &bytes) {
+        Ok(given) => given.as_slice() == expected.as_slice(),
+        Err(_) => false,
+    }
+}
+
+#[test]
+fn indices_get_new_numbers(rt: HostRuntime) -> Result<(), Fail> {
+    for (text, wanted) in &ROWS {
+        demand(becomes(rt.alloc(), text, wanted), text)?;
+    }
+    Ok(())
+}
