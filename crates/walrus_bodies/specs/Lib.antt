@@ -15,3 +15,8 @@ pub use Rattle.walrus_code.specs.Location
 pub use Rattle.walrus_code.specs.declared.location.InstrLocId
 pub use Rattle.walrus_code.specs.declared.operator.Operator
 pub use Rattle.walrus_code.specs.contracts.operator.Operator as OperatorRow
+pub use Rattle.walrus_code.specs.FromRaw
+pub use Rattle.walrus_code.specs.Indices
+pub use Rattle.walrus_code.specs.Names
+pub use Rattle.walrus_code.specs.declared.items.ItemId
+pub use Rattle.walrus_code.specs.declared.operator.Arg

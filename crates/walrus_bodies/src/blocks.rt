@@ -69,8 +69,16 @@ impl OpenBlocks {
         }
     }
 
-    // Opens or closes what the operator does.
-    fn turn(&mut self, op: u32) -> Result<bool, AllocError>
+    /// How many blocks are open, the function itself among them.
+    pub fn depth(&self) -> usize
+        ensures { result ≡ length (opened self.now) }
+    {
+        self.blocks.len()
+    }
+
+    /// Opens or closes what the operator does, and answers whether it may stand here in its order; labels aren't looked at. Where it may
+    /// not, or where memory runs out, the blocks mean nothing from then on.
+    pub fn turn(&mut self, op: u32) -> Result<bool, AllocError>
         ensures { Steps (blocks_behind op (opened self.old)) (opened self.new) result }
     {
         match op {

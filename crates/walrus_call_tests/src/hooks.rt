@@ -205,7 +205,7 @@ fn locations(alloc: Global, functions: &ModuleFunctions) -> Result<Vec<u32>, Err
     let mut all = Vec::new(alloc);
     for function in functions.iter() {
         if let FunctionKind::Local(local) = &function.kind {
-            if let Some(operator) = local.operators().first() {
+            if let Some(operator) = local.operators(alloc)?.as_slice().first() {
                 all.push(operator.loc.value())?;
             }
         }

@@ -62,5 +62,9 @@ fn a_function_is_built(rt: HostRuntime) -> Result<(), Fail> {
     let built = function(rt.alloc(), &mut types)?;
     demand(is_name(&built.name, "f"), "its name")?;
     demand(types.len() == 1, "one type")?;
-    demand(are_built(rt.alloc(), built.operators()), "seven operators")
+    let operators = built.operators(rt.alloc())?;
+    demand(
+        are_built(rt.alloc(), operators.as_slice()),
+        "seven operators",
+    )
 }

@@ -15,3 +15,4 @@ pub mod Groups
 pub mod RootNames
 pub mod Filters
 pub mod KeptNames
+pub mod PlainBodies

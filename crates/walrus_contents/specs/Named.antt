@@ -116,6 +116,10 @@ OneIsMissing all used = (l : ℕ) × (Contains used l × (type_at all l ≡ None
 abbrev pub PutsTypes : ModuleLocals → List ℕ → Vec ItemId → Vec ItemId → Type 0
 PutsTypes all used old new = AreThere all used × Puts old new (flat_map (local_type_names all) used)
 
+-- all of these locals are there, and none names a type
+abbrev pub NamesNoTypes : ModuleLocals → List ℕ → Type 0
+NamesNoTypes all used = AreThere all used × (flat_map (local_type_names all) used ≡ [])
+
 -- a function of this kind has an import or a body, and the locals that its body uses are there
 abbrev pub IsReady : ModuleLocals → FunctionKind → Type 0
 IsReady all (Import i) = ⊤

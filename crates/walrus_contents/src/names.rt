@@ -1,11 +1,11 @@
 //! What the items of a module name.
 
-ghost use Rattle.std.specs.Prelude.{◌≡◌, ◌++◌, map, Contains, IsSome, None, OnOk, MatchResult};
+ghost use Rattle.std.specs.Prelude.{◌≡◌, ◌≤◌, ◌<◌, ◌+◌, ◌++◌, [], ℕ, map, Contains, IsSome, IsTrue, None, OnOk, MatchResult};
 ghost use Rattle.walrus_base.specs.Arena.{IsLive as IsLiveAt};
 ghost use Rattle.walrus_base.specs.Id.{place};
 ghost use Rattle.walrus_base.specs.IdSet.{ids_in};
 ghost use Rattle.walrus_base.specs.Types.{heap_names, val_names};
-ghost use Rattle.walrus_code.specs.Code.{arg_of, item_of, op_of};
+ghost use Rattle.walrus_code.specs.Code.{arg_of, item_of, op_of, ops_of};
 ghost use Rattle.walrus_items.specs.Function.{body_of};
 ghost use Rattle.walrus_items.specs.Functions.{function_value};
 ghost use Rattle.walrus_model.specs.Live.{IsLive};
@@ -15,7 +15,7 @@ ghost use Rattle.walrus_types.specs.ModuleTypes.{type_slots};
 ghost use Rattle.walrus_types.specs.Operators.{DataSegments, Elements, arg_locals, locals_of, names_of, op_locals, type_item};
 ghost use Rattle.walrus_types.specs.Value.{heap_type, val_type};
 ghost use Rattle.walrus_contents.specs.There.{IsRefusal, IsSound, IsUnsound};
-ghost use Rattle.walrus_contents.specs.Named.{AreThere, IsReady, IsUnready, NamesItself, OneIsMissing, Puts, PutsAll, PutsTypes, active_names, are_passive, export_names, local_type_names, own_type_names, own_written, root_elements, root_names, start_names, type_at};
+ghost use Rattle.walrus_contents.specs.Named.{AreThere, IsReady, IsUnready, NamesItself, NamesNoTypes, OneIsMissing, Puts, PutsAll, PutsTypes, active_names, are_passive, export_names, local_type_names, own_type_names, own_written, root_elements, root_names, start_names, type_at};
 
 use crate::initialisers::{
     push_data_names, push_element_names, push_global_names, push_table_names, push_tag_names,
@@ -140,7 +140,9 @@ pub fn push_written_names(
 {
     match item {
         ItemId::Type(id) => Ok(push_type_names(alloc, parts.types, id, to)?),
-        ItemId::Function(id) => push_function_names(parts.locals, parts.funcs.get(id), to),
+        ItemId::Function(id) => {
+            push_function_names(alloc, parts.locals, parts.funcs.get(id), to)
+        }
         ItemId::Table(id) => Ok(push_table_names(parts.tables.get(id), to)?),
         ItemId::Tag(id) => Ok(push_tag_names(parts.tags.get(id), to)?),
         ItemId::Global(id) => Ok(push_global_names(parts.globals.get(id), to)?),
@@ -235,6 +237,7 @@ fn push_type_ids(ids: &[TypeId], to: &mut Vec<ItemId>) -> result::Result<(), All
 
 // The same for a function: its type, and what its body names, or a refusal as of [`push_written_names`].
 fn push_function_names(
+    alloc: Global,
     locals: &ModuleLocals,
     function: &Function,
     to: &mut Vec<ItemId>,
@@ -245,11 +248,16 @@ fn push_function_names(
         (IsRefusal (IsUnready locals.now function.now.kind)) }
 {
     to.push(ItemId::Type(function.ty()))?;
-    push_kind_names(locals, &function.kind, to)
+    push_kind_names(alloc, locals, &function.kind, to)
 }
 
 // The same for what a function of this kind has beside its type.
-fn push_kind_names(locals: &ModuleLocals, kind: &FunctionKind, to: &mut Vec<ItemId>) -> Result<()>
+fn push_kind_names(
+    alloc: Global,
+    locals: &ModuleLocals,
+    kind: &FunctionKind,
+    to: &mut Vec<ItemId>,
+) -> Result<()>
     ensures { MatchResult result
         (λ _. IsReady locals.now kind.now × Puts to.old to.new
         (kind_names (kind_of locals.now kind.now)))
@@ -257,13 +265,14 @@ fn push_kind_names(locals: &ModuleLocals, kind: &FunctionKind, to: &mut Vec<Item
 {
     match kind {
         FunctionKind::Import(_) => Ok(()),
-        FunctionKind::Local(function) => push_body_names(locals, function, to),
+        FunctionKind::Local(function) => push_body_names(alloc, locals, function, to),
         FunctionKind::Uninitialized(_) => Err(Error::DeadItem),
     }
 }
 
 // The same for a body, which names the types of the locals that it uses too.
 fn push_body_names(
+    alloc: Global,
     locals: &ModuleLocals,
     function: &LocalFunction,
     to: &mut Vec<ItemId>,
@@ -274,7 +283,7 @@ fn push_body_names(
         (IsRefusal (OneIsMissing locals.now (locals_of (body_of function.now)))) }
 {
     push_operator_names(function, to)?;
-    push_used_types(locals, function, to)
+    push_used_types(alloc, locals, function, to)
 }
 
 // The same for the operators of a body.
@@ -284,16 +293,64 @@ fn push_operator_names(
 ) -> result::Result<(), AllocError>
     ensures { OnOk result (Puts to.old to.new (names_of (body_of function.now))) }
 {
-    let operators = function.operators();
+    match function.text() {
+        Some(text) => text.push_names(to),
+        None => push_listed_names(function.listed(), to),
+    }
+}
+
+// The same for the operators of a list.
+fn push_listed_names(operators: &[Operator], to: &mut Vec<ItemId>) -> result::Result<(), AllocError>
+    ensures { OnOk result (Puts to.old to.new (names_of (ops_of operators.now))) }
+{
     for operator in operators {
         walrus_code::push_names(to, operator)?;
     }
     Ok(())
 }
 
+// Whether each of so many locals is there from a place on, and names no type.
+fn locals_name_nothing(locals: &ModuleLocals, first: u32, count: u32) -> bool
+    ensures { IsTrue result → (x : ℕ) → first ≤ x → x < first + count
+        → IsSome (type_at locals.now x) × (local_type_names locals.now x ≡ []) }
+{
+    'locals: for offset in 0..count {
+        if !local_names_nothing(locals, LocalId::at(first as usize + offset as usize)) {
+            return false;
+        }
+    }
+    true
+}
+
+// Whether a local is there, and names no type.
+fn local_names_nothing(locals: &ModuleLocals, id: LocalId) -> bool
+    ensures { IsTrue result → IsSome (type_at locals.now (place id))
+        × (local_type_names locals.now (place id) ≡ []) }
+{
+    if !locals.contains(id) {
+        return false;
+    }
+    match locals.get(id).ty() {
+        ValType::I32 | ValType::I64 | ValType::F32 | ValType::F64 | ValType::V128 => true,
+        ValType::Ref(_) => false,
+    }
+}
+
+// Whether the locals of a body that is kept as it stands in the input are there, and name no types.
+fn text_names_no_types(locals: &ModuleLocals, function: &LocalFunction) -> bool
+    ensures { IsTrue result → NamesNoTypes locals.now (locals_of (body_of function.now)) }
+{
+    let Some(text) = function.text() else {
+        return false;
+    };
+    text.is_plain();
+    locals_name_nothing(locals, text.first_local(), text.local_count())
+}
+
 // Puts the concrete types of the locals that a body uses behind `to`, in order, each as often as it is used. Refused with
 // `DeadItem` where one isn't there, and with `Memory`.
 fn push_used_types(
+    alloc: Global,
     locals: &ModuleLocals,
     function: &LocalFunction,
     to: &mut Vec<ItemId>,
@@ -302,7 +359,23 @@ fn push_used_types(
         (λ _. PutsTypes locals.now (locals_of (body_of function.now)) to.old to.new)
         (IsRefusal (OneIsMissing locals.now (locals_of (body_of function.now)))) }
 {
-    let operators = function.operators();
+    if text_names_no_types(locals, function) {
+        return Ok(());
+    }
+    let operators = function.operators(alloc)?;
+    push_listed_types(locals, operators.as_slice(), to)
+}
+
+// The same for the operators of a list.
+fn push_listed_types(
+    locals: &ModuleLocals,
+    operators: &[Operator],
+    to: &mut Vec<ItemId>,
+) -> Result<()>
+    ensures { MatchResult result
+        (λ _. PutsTypes locals.now (locals_of (ops_of operators.now)) to.old to.new)
+        (IsRefusal (OneIsMissing locals.now (locals_of (ops_of operators.now)))) }
+{
     for operator in operators {
         push_operator_types(locals, operator, to)?;
     }

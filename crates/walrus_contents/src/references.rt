@@ -3,7 +3,7 @@ ghost use Rattle.std.specs.Prelude.{◌≡◌, ◌≤◌, ◌<◌, ◌++◌, ◌
 ghost use Rattle.walrus_base.specs.Arena.{items};
 ghost use Rattle.walrus_base.specs.Id.{place};
 ghost use Rattle.walrus_base.specs.Marks.{is_marked, mark_places, places_marked};
-ghost use Rattle.walrus_code.specs.Code.{arg_of, op_of};
+ghost use Rattle.walrus_code.specs.Code.{arg_of, op_of, ops_of};
 ghost use Rattle.walrus_items.specs.Function.{body_of};
 ghost use Rattle.walrus_items.specs.Functions.{functions};
 ghost use Rattle.walrus_items.specs.Globals.{global_init, globals};
@@ -63,7 +63,19 @@ fn push_body_refs(function: &LocalFunction, to: &mut Vec<FunctionId>) -> Result<
         ++ filter_map op_ref (body_of function.now)) }
     ensures fails { IsOkUnless result out_of_memory }
 {
-    let operators = function.operators();
+    if let Some(text) = function.text() {
+        text.is_plain();
+        return Ok(());
+    }
+    push_listed_refs(function.listed(), to)
+}
+
+// The same for the operators of a list.
+fn push_listed_refs(operators: &[Operator], to: &mut Vec<FunctionId>) -> Result<()>
+    ensures puts { OnOk result (map place to.new.items ≡ map place to.old.items
+        ++ filter_map op_ref (ops_of operators.now)) }
+    ensures fails { IsOkUnless result out_of_memory }
+{
     for operator in operators {
         if let Some(id) = operator_ref(operator) {
             to.push(id)?;

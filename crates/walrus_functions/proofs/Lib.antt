@@ -1,9 +1,11 @@
 mod AmongLemmas
+mod GivenLemmas
 mod HandlerLemmas
 mod KnownLemmas
 mod LawSpelled
 mod LawTags
 mod ParameterLemmas
+mod PlainLemmas
 pub mod ApartLemmas
 pub mod CountLemmas
 pub mod DeclarationLemmas

@@ -1,3 +1,4 @@
+pub mod Code
 pub mod DeclaredLocals
 pub mod Declaring
 pub mod EmittedBody
@@ -5,6 +6,7 @@ pub mod Handlers
 pub mod Known
 pub mod Laws
 pub mod Marked
+pub mod Plain
 pub mod ReadFunction
 pub mod Signatures
 pub mod Writing
@@ -16,3 +18,10 @@ pub use Rattle.walrus_code.specs.FromRaw
 pub use Rattle.walrus_code.specs.Names
 pub use Rattle.walrus_code.specs.Transform
 pub use Rattle.walrus_bodies.specs.Blocks
+pub use Rattle.walrus_text.specs.Classes
+pub use Rattle.walrus_text.specs.Function
+pub use Rattle.walrus_text.specs.Plain as PlainBodies
+pub use Rattle.walrus_text.specs.Scanned
+pub use Rattle.walrus_text.specs.Text
+pub use Rattle.walrus_text.specs.contracts.function.LocalFunction as FunctionRow
+pub use Rattle.walrus_text.specs.declared.function.LocalFunction

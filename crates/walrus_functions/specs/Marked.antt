@@ -1,9 +1,6 @@
 -- Places that are marked in a window, which begins at one of them.
-use Rattle.std.specs.Prelude.{◌≡◌, ◌≤◌, ◌-◌, ◌↔◌, ◌++◌, ℕ, suc, Bool, true, false, List, [], ◌∷◌, Contains, slice_index_or}
-
--- the marked places are those of a list
-abbrev pub AreMarked : ℕ → List Bool → List ℕ → Type 0
-AreMarked first marks places = (x : ℕ) → Contains places x ↔ ((first ≤ x) × (slice_index_or marks (x - first) false ≡ true))
+use Rattle.std.specs.Prelude.{◌++◌, ℕ, suc, Bool, true, false, List, [], ◌∷◌}
+pub use Rattle.walrus_text.specs.Locals.{AreMarked}
 
 -- these places are marked beside those that were
 abbrev pub Marks : ℕ → List Bool → List Bool → List ℕ → Type 0

@@ -1,6 +1,6 @@
 -- What is answered where a whole function is read: its parameters become locals, its body is read, and the types of its legacy exception
 -- handlers are found or added.
-use Rattle.std.specs.Prelude.{◌≡◌, ℕ, ◌+◌, List, [], ◌∷◌, ◌++◌, length, map, Option, None, slice_get, Result, Ok, Err}
+use Rattle.std.specs.Prelude.{◌≡◌, ◌⊎◌, ℕ, ◌+◌, Bool, true, false, is_some, List, [], ◌∷◌, ◌++◌, length, map, Option, None, slice_get, Result, Ok, Err}
 use Rattle.std.specs.List.{range_with_len}
 use Rattle.walrus_base.specs.Arena.{item_at}
 use Rattle.walrus_base.specs.Id.{place}
@@ -15,6 +15,8 @@ use Rattle.walrus_types.specs.Value.{val_type}
 use Rattle.walrus_types.specs.declared.locals.Local.{Local}
 use Rattle.walrus_types.specs.declared.value.ValType.{ValType as DeclaredValType}
 use Rattle.walrus_text.specs.Function.{function_type, body_of, args_of, handlers_in}
+use Rattle.walrus_code.specs.declared.location.InstrLocId.{InstrLocId}
+use Rattle.walrus_text.specs.Scanned.{IsPlace}
 use Rattle.walrus_code.specs.declared.error.IrError.{IrError}
 use Rattle.walrus_code.specs.declared.error.IrError.TheVariants.{Malformed, Memory, NoIndex, NotWritable, TooLarge}
 use Rattle.walrus_text.specs.declared.function.LocalFunction.{LocalFunction}
@@ -62,3 +64,11 @@ ReadsFunction c tags ty old_types new_types old_locals new_locals bytes (Err Too
 -- what was there stays in front
 abbrev pub StaysInFront : {T : Type 0} → List T → List T → Type 0
 StaysInFront {T} old new = (more : List T) × (new ≡ old ++ more)
+
+-- the location that is given, or, where bodies may be kept as they stand in the input, the place
+abbrev pub GivenIf : Bool → (ℕ → InstrLocId → Type 0) → ℕ → InstrLocId → Type 0
+GivenIf false IsGiven place loc = IsGiven place loc
+GivenIf true IsGiven place loc = IsGiven place loc ⊎ IsPlace place loc
+
+abbrev pub Given : {X : Type 0} → Option X → (ℕ → InstrLocId → Type 0) → ℕ → InstrLocId → Type 0
+Given texts IsGiven place loc = GivenIf (is_some texts) IsGiven place loc

@@ -1,5 +1,5 @@
 //! Writing the body of a function (Binary Format > Modules > Code Section).
-ghost use Rattle.std.specs.Prelude.{◌≡◌, ◌≤◌, ◌<◌, ◌++◌, ◌↔◌, ◌^◌, ℕ, List, length, map, All, IfOk, IsSome, IsTrue};
+ghost use Rattle.std.specs.Prelude.{◌≡◌, ◌<◌, ◌++◌, ◌↔◌, ◌^◌, ℕ, List, true, length, map, All, IfOk, IsSome, IsTrue};
 ghost use Rattle.walrus_base.specs.Arena.{item_at};
 ghost use Rattle.walrus_base.specs.Id.{place};
 ghost use Rattle.walrus_types.specs.Operators.{locals_of};
@@ -7,20 +7,20 @@ ghost use Rattle.walrus_types.specs.Locals.{locals};
 ghost use Rattle.walrus_types.specs.ModuleTypes.{type_slots};
 ghost use Rattle.walrus_text.specs.Function.{function_type, body_of, locations_of, args_of};
 ghost use Rattle.walrus_code.specs.Indices.{index_of, local_index};
-ghost use Rattle.walrus_code.specs.Code.{ops_of};
 ghost use Rattle.walrus_bodies.specs.Declarations.{declarations_of};
-ghost use Rattle.walrus_bodies.specs.FunctionTypes.{is_function_at};
-ghost use Rattle.walrus_bodies.specs.Results.{kept_if, locations};
+ghost use Rattle.walrus_bodies.specs.Results.{kept_if};
+ghost use Rattle.walrus_functions.specs.Code.{is_listed, locations_of_code, ops_of_code};
 ghost use Rattle.walrus_functions.specs.Declaring.{AreOnce};
 ghost use Rattle.walrus_functions.specs.EmittedBody.{EmitsBody, source_of, types_of};
 ghost use Rattle.walrus_functions.specs.Writing.{HasSignature, FindsDeclared, DeclaresLocals, WritesBehind};
 
-use crate::declared::{distinct_places, named_once, order_declared, types_at, which_named};
+use crate::code::{Code, append_code, code_holds, code_locals, code_of, likely_length};
+use crate::declared::{distinct_places, order_declared, types_at, which_named};
 use crate::groups::{declarations, number_locals, runs};
 use std::alloc::{AllocError, Global};
 use walrus_base::LocalId;
-use walrus_bodies::{Declaration, Features, append_operators, blocks_hold};
-use walrus_code::{IdsToIndices, InstrLocId, IrError, LocalNumbers, Operator};
+use walrus_bodies::{Declaration, Features};
+use walrus_code::{IdsToIndices, InstrLocId, IrError, LocalNumbers};
 use walrus_text::LocalFunction;
 use walrus_types::{ModuleLocals, ModuleTypes};
 use wasm_forms::write_vector;
@@ -99,21 +99,23 @@ pub fn emit_body_with(
     ensures located { IfOk result (λ body. map (λ p. p.0) body.places.items
         ≡ kept_if asks_places (locations_of function.now)) }
 {
-    let fits = parameters_fit(alloc, function, types, module_locals)?;
+    let parameters = function.args(alloc)?;
+    let args = parameters.as_slice();
+    let fits = parameters_fit(alloc, function, args, types, module_locals)?;
     if !fits {
         return Err(IrError::NotWritable);
     }
-    let operators = function.operators();
-    let hold = blocks_hold(types, operators);
+    let code = code_of(alloc, function, asks_places)?;
+    let hold = code_holds(types, &code)?;
     if !hold {
         return Err(IrError::NotWritable);
     }
-    let named = named_once(alloc, operators)?;
-    let declared = find_declared(alloc, function, named.as_slice(), module_locals)?;
+    let named = code_locals(alloc, &code)?;
+    let declared = find_declared(alloc, function, args, named.as_slice(), module_locals)?;
     if declared.len() >= 1 << 32 {
         return Err(IrError::TooLarge);
     }
-    let all = joined(alloc, function.args(), declared.as_slice())?;
+    let all = joined(alloc, args, declared.as_slice())?;
     if all.len() > 1 << 32 {
         return Err(IrError::TooLarge);
     }
@@ -127,7 +129,7 @@ pub fn emit_body_with(
     };
     write_body(
         alloc,
-        operators,
+        &code,
         declarations.as_slice(),
         locals,
         all,
@@ -140,9 +142,11 @@ pub fn emit_body_with(
 fn parameters_fit(
     alloc: Global,
     function: &LocalFunction,
+    args: &[LocalId],
     types: &ModuleTypes,
     module_locals: &ModuleLocals,
 ) -> Result<bool, AllocError>
+    requires { map place args.now ≡ args_of function.now }
     ensures { IfOk result
         (λ fit. IsTrue fit
         ↔ HasSignature (item_at (type_slots types.now) (place (function_type function.now)))
@@ -154,7 +158,7 @@ fn parameters_fit(
     let Some(signature) = types.get(function.ty()).as_function() else {
         return Ok(false);
     };
-    let Some(held) = types_at(alloc, module_locals, function.args())? else {
+    let Some(held) = types_at(alloc, module_locals, args)? else {
         return Ok(false);
     };
     Ok(held.as_slice() == signature.params())
@@ -164,14 +168,16 @@ fn parameters_fit(
 fn find_declared(
     alloc: Global,
     function: &LocalFunction,
+    args: &[LocalId],
     named: &[LocalId],
     module_locals: &ModuleLocals,
 ) -> Result<Vec<LocalId>, IrError>
-    requires { AreOnce (locals_of (body_of function.now)) (map place named.now) }
+    requires parameters { map place args.now ≡ args_of function.now }
+    requires named { AreOnce (locals_of (body_of function.now)) (map place named.now) }
     ensures { FindsDeclared (types_of (locals module_locals.now)) (locals_of (body_of function.now))
         (args_of function.now) (λ ids. map place ids.items) result }
 {
-    let Some(parameters) = distinct_places(alloc, function.args())? else {
+    let Some(parameters) = distinct_places(alloc, args)? else {
         return Err(IrError::NotWritable);
     };
     Ok(order_declared(alloc, named, &parameters, module_locals)?)
@@ -216,43 +222,40 @@ struct Scope<'a> {
     asks_places: bool,
 }
 
-// For how many bytes to reserve memory: two for each operator, and a few for declarations.
-fn likely_length(operators: &[Operator]) -> usize {
-    operators.len().saturating_mul(2).saturating_add(4)
-}
-
 // Writes declarations, and the operators behind them. What is known of the locals is handed on.
 fn write_body(
     alloc: Global,
-    operators: &[Operator],
+    code: &Code,
     declarations: &[Declaration],
     locals: LocalNumbers,
     order: Vec<LocalId>,
     used: Vec<bool>,
     scope: &Scope,
 ) -> Result<EmittedBody, IrError>
-    requires { length declarations.now < 2 ^ 32 }
+    requires few { length declarations.now < 2 ^ 32 }
+    requires listed { scope.now.asks_places ≡ true → is_listed code.now ≡ true }
     ensures written { (places : List ℕ) × (WritesBehind (index_of scope.now.indices.now)
-        (local_index locals) scope.now.features.now (ops_of operators.now) (declarations_of declarations.now)
+        (local_index locals) scope.now.features.now (ops_of_code code.now) (declarations_of declarations.now)
         (λ body. body.bytes.items) (λ _. places) result
         × IfOk result (λ body. map (λ p. p.1) body.places.items ≡ kept_if scope.now.asks_places places)) }
     ensures located { IfOk result (λ body. map (λ p. p.0) body.places.items
-        ≡ kept_if scope.now.asks_places (locations operators.now)) }
+        ≡ kept_if scope.now.asks_places (locations_of_code code.now)) }
     ensures numbered { IfOk result (λ body. body.locals ≡ locals) }
     ensures ordered { IfOk result (λ body. body.order ≡ order) }
     ensures marked { IfOk result (λ body. body.used ≡ used) }
 {
-    let mut bytes = Vec::with_capacity(alloc, likely_length(operators))?;
+    let mut bytes = Vec::with_capacity(alloc, likely_length(code))?;
     write_vector(&mut bytes, declarations)?;
     let (indices, features) = (scope.indices, scope.features);
-    let places = append_operators(
+    let asks_places = scope.asks_places;
+    let places = append_code(
         alloc,
         &mut bytes,
-        operators,
+        code,
         indices,
         &locals,
         features,
-        scope.asks_places,
+        asks_places,
     )?;
     bytes.shrink_to_fit();
     Ok(EmittedBody {

@@ -3,6 +3,7 @@
 #![tactic(auto)]
 
 mod blocks;
+mod code;
 mod declared;
 mod emit;
 mod groups;
@@ -10,6 +11,7 @@ mod handlers;
 mod law;
 mod lowest;
 mod marks;
+mod plain;
 mod read;
 mod tag_and_try;
 mod taken;
@@ -22,4 +24,4 @@ pub use walrus_code::{
     Arg, Args, BlockType, IdsToIndices, IndexSpace, IndicesToIds, InstrLocId, IrError, ItemId,
     LocalNumbers, Numbering, Operator,
 };
-pub use walrus_text::LocalFunction;
+pub use walrus_text::{Limits, LocalFunction, Operators, limits_of};

@@ -11,8 +11,8 @@ pub use walrus_base::{
 pub use walrus_builder::{FunctionBuilder, InstrSeqBuilder};
 pub use walrus_functions::{
     Arg, Args, BlockType, EmittedBody, Features, IdsToIndices, IndexSpace, IndicesToIds,
-    InstrLocId, IrError, ItemId, LocalFunction, LocalNumbers, Numbering, Operator, add_locals,
-    emit_body, read_body,
+    InstrLocId, IrError, ItemId, Limits, LocalFunction, LocalNumbers, Numbering, Operator,
+    Operators, add_locals, emit_body, limits_of, read_body,
 };
 pub use walrus_types::{
     AbstractHeapType, ArrayType, CompositeType, ConstExpr, ConstOp, FieldType, FunctionType,

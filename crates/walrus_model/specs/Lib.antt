@@ -40,3 +40,7 @@ pub use Rattle.walrus_groups.specs.Groups
 pub use Rattle.walrus_functions.specs.Handlers as BlockHandlers
 pub use Rattle.walrus_functions.specs.DeclaredLocals
 pub use Rattle.walrus_functions.specs.ReadFunction
+pub use Rattle.walrus_functions.specs.Classes
+pub use Rattle.walrus_functions.specs.PlainBodies
+pub use Rattle.walrus_functions.specs.Scanned
+pub use Rattle.walrus_functions.specs.Text

@@ -29,7 +29,7 @@ use Rattle.walrus_items.specs.Imports.{ImportValue, imports, imports_item}
 use Rattle.walrus_items.specs.Searches.{first}
 use Rattle.walrus_items.specs.Seen.{text_of}
 use Rattle.walrus_items.proofs.Found.{IsFound, is_found}
-use Rattle.walrus_module.specs.Replaced.{AddsParameters, AreParameters, Builds, IsMadeLocal, IsNew, LendsBody, LendsKind, MakesFoundLocal, MakesKindLocal, MakesLocal, OnlyLocals, Refuses, RefusesLocal, ReplacesExported, ReplacesFound, ReplacesImported, ReplacesKind, SameFunctions, TellsKind, TellsType, naming, with_body}
+use Rattle.walrus_module.specs.Replaced.{AddsParameters, AreParameters, Builds, IsMadeLocal, IsNew, LendsBody, LendsKind, MakesFoundLocal, MakesKindLocal, MakesLocal, OnlyLocals, Refuses, RefusesBody, RefusesLocal, ReplacesExported, ReplacesFound, ReplacesImported, ReplacesKind, SameFunctions, TellsKind, TellsType, naming, with_body}
 use Rattle.walrus_module.specs.declared.module.Module.{Module}
 
 -- an item that is changed at its place
@@ -83,9 +83,9 @@ has_type (Some f) ty h = by_kind f.kind refl h where
 module _ {S : Type 0} (post : Builds) (fid : Id FunctionKey) (old new : Module S) where
   -- ---- an exported function
 
-  module _ (n : ℕ) (b : Bor LocalFunction) (ty : Id TypeKey) (args : List (Id LocalKey))
+  module _ (n : ℕ) (b : Bor LocalFunction)
       (named : Some n ≡ option_map (λ e. e.0) (first (exports_item (function_item (place fid))) (exports old.exports)))
-      (lent : LendsBody (item_at (functions old.funcs) (place fid)) (Ok b)) (typed : ty ≡ function_type b.now) (taken : AreParameters args b.now) where
+      (lent : LendsBody (item_at (functions old.funcs) (place fid)) (Ok b)) where
     abbrev found : IsFound (λ (e : ℕ × ExportValue). exports_item (function_item (place fid)) e.1) (exports old.exports) n
     found = is_found (λ (e : ℕ × ExportValue). exports_item (function_item (place fid)) e.1) (exports old.exports) n named
 
@@ -101,23 +101,32 @@ module _ {S : Type 0} (post : Builds) (fid : Id FunctionKey) (old new : Module S
         (subst (λ s. ReplacesFound post (Some found.entry) s old new result) (sym body.there)
         (subst (λ k. ReplacesKind post found.entry k old new result) (sym body.kind) given))
 
-    pub export_refused : (e : Error) → Refuses post args e → SameFunctions old new → ReplacesExported post fid old new (Err e)
-    export_refused e refuses same = exported (Err e) ((args, taken, refuses), same)
+    -- memory ran out while the parameters were listed
+    pub export_no_room : (e : Error) → e ≡ out_of_memory → SameFunctions old new → ReplacesExported post fid old new (Err e)
+    export_no_room e is same = exported (Err e) (inl is, same)
 
-    pub export_replaced : (function : LocalFunction) (id : Id FunctionKey) → IsNew post ty args function → place id ≡ length (functions old.funcs)
-        → functions new.funcs ≡ functions old.funcs ++ Some (record { id = place id; kind = Local function; name = text_of function.name }) ∷ []
-        → exports new.exports ≡ slice_set (exports old.exports) n (option_map (naming id) (item_at (exports old.exports) n))
-        → new ≡ record old { funcs = new.funcs; exports = new.exports } → ReplacesExported post fid old new (Ok id)
-    export_replaced function id made next funcs redirected others = exported (Ok id) (record {
-      is_next = next;
-      args = args;
-      parameters = taken;
-      function = function;
-      is_new = subst (λ t. IsNew post t args function) typed made;
-      funcs = funcs ∙ ap (λ (name : Option (List ℕ)). functions old.funcs ++ Some (record { id = place id; kind = Local function; name = name }) ∷ []) (ap text_of made.unnamed);
-      exported = redirected ∙ ap (λ (o : Option ExportValue). slice_set (exports old.exports) n (option_map (naming id) o)) found.item ∙ ap (λ (i : ℕ). slice_set (exports old.exports) i (Some (naming id found.entry.1))) (sym found.at_place);
-      others = others;
-    })
+    -- with these parameters
+    module _ (ty : Id TypeKey) (args : List (Id LocalKey)) (typed : ty ≡ function_type b.now) (taken : AreParameters args b.now) where
+      pub export_refused : (e : Error) → Refuses post args e → SameFunctions old new → ReplacesExported post fid old new (Err e)
+      export_refused e refuses same = exported (Err e) (by_cause refuses, same) where
+        by_cause : Refuses post args e → RefusesBody post b.now e
+        by_cause (inl memory) = inl memory
+        by_cause (inr closure) = inr (args, taken, closure)
+
+      pub export_replaced : (function : LocalFunction) (id : Id FunctionKey) → IsNew post ty args function → place id ≡ length (functions old.funcs)
+          → functions new.funcs ≡ functions old.funcs ++ Some (record { id = place id; kind = Local function; name = text_of function.name }) ∷ []
+          → exports new.exports ≡ slice_set (exports old.exports) n (option_map (naming id) (item_at (exports old.exports) n))
+          → new ≡ record old { funcs = new.funcs; exports = new.exports } → ReplacesExported post fid old new (Ok id)
+      export_replaced function id made next funcs redirected others = exported (Ok id) (record {
+        is_next = next;
+        args = args;
+        parameters = taken;
+        function = function;
+        is_new = subst (λ t. IsNew post t args function) typed made;
+        funcs = funcs ∙ ap (λ (name : Option (List ℕ)). functions old.funcs ++ Some (record { id = place id; kind = Local function; name = name }) ∷ []) (ap text_of made.unnamed);
+        exported = redirected ∙ ap (λ (o : Option ExportValue). slice_set (exports old.exports) n (option_map (naming id) o)) found.item ∙ ap (λ (i : ℕ). slice_set (exports old.exports) i (Some (naming id found.entry.1))) (sym found.at_place);
+        others = others;
+      })
 
   -- ---- an imported function
 

@@ -80,7 +80,7 @@ Refuses post args e = (e ≡ out_of_memory) ⊎ ((builder : InstrSeqBuilder) × 
 
 -- the same, of a closure to which this function's parameters were handed
 abbrev pub RefusesBody : Builds → LocalFunction → Error → Type 0
-RefusesBody post local e = (args : List (Id LocalKey)) × AreParameters args local × Refuses post args e
+RefusesBody post local e = (e ≡ out_of_memory) ⊎ ((args : List (Id LocalKey)) × AreParameters args local × ((builder : InstrSeqBuilder) × IsBuilt post args (Err e) builder))
 
 abbrev pub Rebuilds : Builds → Id TypeKey → List (Id LocalKey) → Result LocalFunction Error → Type 0
 Rebuilds post ty args result = MatchResult result (IsNew post ty args) (Refuses post args)

@@ -41,13 +41,14 @@ impl ModuleConfig {
                 let locate = |place: &usize| -> InstrLocId
                     ensures { MayAnswer hook.entry.now place.now result }
                 { hook.locate(place) };
-                read(alloc, bytes, features, synthetic, &locate)
+                read(alloc, bytes, features, synthetic, false, &locate)
             }
             None => {
                 let locate = |place: &usize| -> InstrLocId
                     ensures { location result ≡ location_at place.now }
                 { InstrLocId::of_place(*place) };
-                read(alloc, bytes, features, synthetic, &locate)
+                let as_texts = !self.switches.preserve_code_transform;
+                read(alloc, bytes, features, synthetic, as_texts, &locate)
             }
         }
     }

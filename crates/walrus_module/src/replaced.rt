@@ -111,7 +111,7 @@ impl<S> Module<S> {
             return Err(Error::NotExported);
         };
         let old = body_at(&self.funcs, fid)?;
-        let args = old.args().to_vec(alloc)?;
+        let args = old.args(alloc)?;
         let function = rebuilt(alloc, old.ty(), args, build)?;
         let id = self.funcs.add_local(function)?;
         redirect(&mut self.exports, export, id);

@@ -24,7 +24,7 @@ fn parameters_of(all: &ModuleFunctions, place: usize) -> Option<usize>
         return None;
     }
     match &all.get(id).kind {
-        FunctionKind::Local(function) => Some(function.args().len()),
+        FunctionKind::Local(function) => Some(function.arg_count()),
         FunctionKind::Import(_) | FunctionKind::Uninitialized(_) => None,
     }
 }

@@ -2,7 +2,7 @@
 use Rattle.std.specs.Prelude.{⊤}
 use Rattle.walrus_base.specs.declared.id.Id.{Id}
 use Rattle.walrus_base.specs.declared.keys.TypeKey.{TypeKey}
-use Rattle.walrus_text.specs.Function.{function_type}
+use Rattle.walrus_ir.specs.Function.{function_type}
 use Rattle.walrus_parts.specs.declared.function_kind.FunctionKind.{FunctionKind}
 use Rattle.walrus_parts.specs.declared.function_kind.FunctionKind.TheVariants.{Import, Local, Uninitialized}
 

@@ -1,7 +1,7 @@
 -- What the kind of a function ends as, where its part is lent.
 use Rattle.std.specs.Borrow.{Lends, Fml, MutBor}
-use Rattle.walrus_text.specs.contracts.function.LocalFunction as local
-use Rattle.walrus_text.specs.declared.function.LocalFunction.{LocalFunction}
+use Rattle.walrus_ir.specs.FunctionRow as local
+use Rattle.walrus_ir.specs.LocalFunction.{LocalFunction}
 use Rattle.walrus_parts.specs.contracts.function_kind.FunctionKind.{the_row}
 use Rattle.walrus_parts.specs.contracts.function_kind.ImportedFunction as imported
 use Rattle.walrus_parts.specs.declared.function_kind.FunctionKind.{FunctionKind}

@@ -9,5 +9,5 @@ pub mod Roots
 pub mod Section
 pub mod Segments
 pub mod Transform
-pub use Rattle.walrus_text.specs.Function
-pub use Rattle.walrus_text.specs.declared.function.LocalFunction
+pub use Rattle.walrus_ir.specs.Function
+pub use Rattle.walrus_ir.specs.LocalFunction

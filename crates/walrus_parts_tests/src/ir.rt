@@ -7,7 +7,7 @@ use walrus_base::FunctionId;
 use walrus_bodies::FunctionTypes;
 use walrus_ir::{
     Features, IdsToIndices, IndicesToIds, InstrLocId, LocalFunction, ModuleLocals, ModuleTypes,
-    emit_body, read_body,
+    emit_body, limits_of, read_body,
 };
 
 // Two locals of i32: i32.const 5, local.set 0, local.get 0, drop, call 0, nop, end
@@ -75,6 +75,8 @@ fn read(
         types,
         locals,
         &locate,
+        Some(limits_of(&ids)),
+        &mut Vec::new(alloc),
     )
     .ok()
 }

@@ -6,6 +6,7 @@ pub mod OrderByImport
 pub mod OrdersSpaces
 pub mod OwnFunctions
 pub mod PlannedByImport
+pub mod PlainData
 pub mod Planning
 pub mod ReadsBefore
 pub mod RefusesIndex

@@ -2,7 +2,7 @@
 ghost use Rattle.std.specs.Prelude.{◌≡◌, ◌↔◌, ◌<◌, ◌^◌, IsTrue};
 ghost use Rattle.std.specs.List.{list_any};
 ghost use Rattle.walrus_base.specs.Arena.{items};
-ghost use Rattle.walrus_code.specs.Code.{arg_of, op_of};
+ghost use Rattle.walrus_code.specs.Code.{arg_of, op_of, ops_of};
 ghost use Rattle.walrus_items.specs.Function.{body_of};
 ghost use Rattle.walrus_items.specs.Data.{data_segments};
 ghost use Rattle.walrus_items.specs.Functions.{functions};
@@ -48,7 +48,18 @@ fn names_data(operator: &Operator) -> bool
 fn body_names_data(function: &LocalFunction) -> bool
     ensures { result ≡ list_any op_names_data (body_of function.now) }
 {
-    for operator in function.operators() {
+    if let Some(text) = function.text() {
+        text.is_plain();
+        return false;
+    }
+    do_operators_name_data(function.listed())
+}
+
+// Whether one of the operators does.
+fn do_operators_name_data(operators: &[Operator]) -> bool
+    ensures { result ≡ list_any op_names_data (ops_of operators.now) }
+{
+    for operator in operators {
         if names_data(operator) {
             return true;
         }

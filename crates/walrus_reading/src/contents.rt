@@ -1,5 +1,5 @@
 //! From the records of a module's sections to what a module in memory holds.
-ghost use Rattle.std.specs.Prelude.{true, ◌≡◌, ◌≢◌, ◌<◌, ℕ, [], length, map, zip, All, IfOk, OnOk, IsOkUnless, Some, None, option_and_then, option_map};
+ghost use Rattle.std.specs.Prelude.{true, ◌≡◌, ◌≢◌, ◌<◌, ℕ, [], length, map, zip, All, IfOk, IfSome, OnOk, IsOkUnless, Some, None, is_some, option_and_then, option_map};
 ghost use Rattle.std.specs.Fn.{FnReturnsAt};
 ghost use Rattle.std.specs.List.{range_with_len};
 ghost use Rattle.walrus_base.specs.Arena.{items};
@@ -10,7 +10,8 @@ ghost use Rattle.walrus_types.specs.Operators.{Functions, Space, Types};
 ghost use Rattle.walrus_code.specs.Indices.{places_in, ids_at};
 ghost use Rattle.walrus_bodies.specs.BodyRead.{BodyLocated};
 ghost use Rattle.walrus_bodies.specs.FunctionTypes.{is_function_at};
-ghost use Rattle.walrus_functions.specs.ReadFunction.{ReadsFunction};
+ghost use Rattle.walrus_model.specs.Scanned.{AreInPlace};
+ghost use Rattle.walrus_functions.specs.ReadFunction.{Given, GivenIf, ReadsFunction};
 ghost use Rattle.walrus_functions.specs.Signatures.{slots_of};
 ghost use Rattle.walrus_parts.specs.Kinds.{exported};
 ghost use Rattle.walrus_items.specs.Exports.{exports};
@@ -42,15 +43,16 @@ use std::result;
 use walrus_contents::Contents;
 use walrus_groups::read_types;
 use walrus_ir::{
-    Features, FunctionId, IndicesToIds, InstrLocId, IrError, LocalFunction, ModuleLocals,
-    ModuleTypes, TypeId, read_body,
+    Features, FunctionId, IndicesToIds, InstrLocId, IrError, Limits, LocalFunction, ModuleLocals,
+    ModuleTypes, TypeId, limits_of, read_body,
 };
 use walrus_items::{ExportItem, ModuleExports, ModuleFunctions, ModuleTags};
 use walrus_parts::{Error, Result};
 use wasm_wire::{Raw, RawBody, RawExport, RawExportKind, RawGroup};
 
 /// What sections that keep the rules hold, where bodies may use these proposals and `locate` gives each operator its location; where the locals
-/// of each function begin, with the end behind them; and how many types were read.
+/// of each function begin, with the end behind them; and how many types were read. With `as_texts` plain bodies are kept as they stand in the
+/// input, and their operators are located by their places.
 ///
 /// # Errors
 ///
@@ -59,14 +61,15 @@ pub(crate) fn read_contents<L: Fn(&usize) -> InstrLocId>(
     alloc: Global,
     raw: &Raw<'_>,
     features: &Features,
+    as_texts: bool,
     locate: &L,
 ) -> Result<(Contents, Vec<usize>, usize)>
     requires rules { Rules (sections raw.now) }
     requires room { FitsIndices (sections raw.now) }
     requires callable { L.IsAlwaysCallable locate.now }
     ensures taken { TakesSections features.now (sections raw.now) result }
-    ensures located { IfOk result (λ m. AreLocatedIn (FnReturnsAt L.Fn locate.now) (sections raw.now)
-        (functions m.0.funcs)) }
+    ensures located { IfOk result (λ m. AreLocatedIn (GivenIf as_texts (FnReturnsAt L.Fn locate.now))
+        (sections raw.now) (functions m.0.funcs)) }
     ensures produced { IfOk result (λ m. HoldsProducers (sections raw.now) m.0.producers) }
     ensures counted { IfOk result (λ m. m.2 ≡ length (types_from 0 (sections raw.now).types)) }
 {
@@ -74,15 +77,15 @@ pub(crate) fn read_contents<L: Fn(&usize) -> InstrLocId>(
     let (mut contents, type_count) = read_imported(alloc, raw, &mut indices)?;
     add_tags(&raw.tags, &indices, &mut contents.tags)?;
     let tag_types = types_of_tags(alloc, &contents.tags)?;
-    let under = Under {
-        alloc,
-        features,
-        indices: &indices,
-        tag_types: &tag_types,
-        locate,
-    };
     let starts = add_functions(
-        &under,
+        &Under {
+            alloc,
+            features,
+            indices: &indices,
+            tag_types: &tag_types,
+            texts: texts_in(&indices, as_texts),
+            locate,
+        },
         &raw.functions,
         &raw.bodies,
         &mut contents.types,
@@ -141,14 +144,27 @@ fn start_named(raw: Option<u32>, indices: &IndicesToIds) -> Option<FunctionId>
     indices.get_func(raw?)
 }
 
-// What bodies are read under: the proposals that they may use, what indices name, the types of tags by their places, and what gives operators
-// their locations.
+// What plain bodies that are kept as they stand in the input may name, if they are to be kept so.
+fn texts_in(indices: &IndicesToIds, as_texts: bool) -> Option<Limits>
+    ensures asked { is_some result ≡ as_texts }
+    ensures in_place { IfSome result (λ limits. AreInPlace limits (ids_at indices.now)) }
+{
+    if as_texts {
+        Some(limits_of(indices))
+    } else {
+        None
+    }
+}
+
+// What bodies are read under: the proposals that they may use, what indices name, the types of tags by their places, what those may name that
+// are kept as they stand in the input, and what gives the operators of others their locations.
 #[derive(Drop)]
 struct Under<'a, L> {
     alloc: Global,
     features: &'a Features,
     indices: &'a IndicesToIds,
     tag_types: &'a [TypeId],
+    texts: Option<Limits>,
     locate: &'a L,
 }
 
@@ -200,20 +216,22 @@ fn add_function<L: Fn(&usize) -> InstrLocId>(
     types: &mut ModuleTypes,
     all: &mut ModuleLocals,
     funcs: &mut ModuleFunctions,
+    room: &mut Vec<u32>,
 ) -> Result<()>
     requires callable { L.IsAlwaysCallable under.now.locate.now }
+    requires in_place { IfSome under.now.texts (λ limits. AreInPlace limits (ids_at under.now.indices.now)) }
     requires declared { ids_at under.now.indices.now Types index ≡ Some index }
     requires typed { is_function_at types.old index ≡ true }
     ensures taken { TakesFunction (context_under under.now types.old) (types_in types.old)
         (tags_under under.now) (index, body_record body.now) (slots_of types.old) (slots_of types.new)
         (locals all.old) (locals all.new) (functions funcs.old) (functions funcs.new) result }
-    ensures located { OnOk result (AddsLocated (FnReturnsAt L.Fn under.now.locate.now) (body_record body.now)
-        (functions funcs.old) (functions funcs.new)) }
+    ensures located { OnOk result (AddsLocated (Given under.now.texts (FnReturnsAt L.Fn under.now.locate.now))
+        (body_record body.now) (functions funcs.old) (functions funcs.new)) }
 {
     let Some(ty) = under.indices.get_type(index) else {
         unreachable!();
     };
-    let function = read_located(under, ty, body, types, all)?;
+    let function = read_located(under, ty, body, types, all, room)?;
     funcs.add_local(function)?;
     Ok(())
 }
@@ -225,13 +243,16 @@ fn read_located<L: Fn(&usize) -> InstrLocId>(
     body: &RawBody<'_>,
     types: &mut ModuleTypes,
     all: &mut ModuleLocals,
+    room: &mut Vec<u32>,
 ) -> result::Result<LocalFunction, IrError>
     requires typed { is_function_at types.old (place ty) ≡ true }
     requires callable { L.IsAlwaysCallable under.now.locate.now }
+    requires in_place { IfSome under.now.texts (λ limits. AreInPlace limits (ids_at under.now.indices.now)) }
     ensures read { ReadsFunction (context_under under.now types.old) (tags_under under.now) (place ty)
         (slots_of types.old) (slots_of types.new) (locals all.old) (locals all.new)
         body.now.bytes.now result }
-    ensures located { IfOk result (λ f. BodyLocated (FnReturnsAt L.Fn under.now.locate.now)
+    ensures located { IfOk result (λ f. BodyLocated
+        (Given under.now.texts (FnReturnsAt L.Fn under.now.locate.now))
         body.now.start body.now.bytes.now (locations_of f)) }
 {
     read_body(
@@ -245,6 +266,8 @@ fn read_located<L: Fn(&usize) -> InstrLocId>(
         types,
         all,
         under.locate,
+        under.texts,
+        room,
     )
 }
 
@@ -259,6 +282,7 @@ fn add_functions<L: Fn(&usize) -> InstrLocId>(
     funcs: &mut ModuleFunctions,
 ) -> Result<Vec<usize>>
     requires callable { L.IsAlwaysCallable under.now.locate.now }
+    requires in_place { IfSome under.now.texts (λ limits. AreInPlace limits (ids_at under.now.indices.now)) }
     requires no_locals { locals all.old ≡ [] }
     requires as_many { length bodies.now ≡ length of_types.now }
     requires declared { All (λ t. ids_at under.now.indices.now Types t ≡ Some t) of_types.now }
@@ -267,14 +291,17 @@ fn add_functions<L: Fn(&usize) -> InstrLocId>(
     ensures taken { TakesFunctions (context_under under.now types.old) (types_in types.old)
         (tags_under under.now) (zip of_types.now (map body_record bodies.now)) all.new
         (slots_of types.old) (slots_of types.new) (functions funcs.old) (functions funcs.new) result }
-    ensures located { IfOk result (λ _. AddLocated (FnReturnsAt L.Fn under.now.locate.now)
+    ensures located { IfOk result (λ _. AddLocated
+        (Given under.now.texts (FnReturnsAt L.Fn under.now.locate.now))
         (map body_record bodies.now) (functions funcs.old) (functions funcs.new)) }
 {
     funcs.reserve(of_types.len())?;
     let mut starts = first_starts(under.alloc, funcs)?;
     let mut end = 0;
+    let mut room = Vec::new(under.alloc);
     for place in 0..of_types.len() {
-        add_function(under, of_types[place], &bodies[place], types, all, funcs)?;
+        let body = &bodies[place];
+        add_function(under, of_types[place], body, types, all, funcs, &mut room)?;
         end = end_of(all, end)?;
         starts.push(end)?;
     }

@@ -2,6 +2,7 @@
 ghost use Rattle.std.specs.Prelude.{IfOk, IfErr};
 ghost use Rattle.walrus_model.specs.Config.{Config};
 ghost use Rattle.std.specs.Fn.{FnReturnsAt};
+ghost use Rattle.walrus_functions.specs.ReadFunction.{GivenIf};
 ghost use Rattle.walrus_reading.specs.Parsed.{AreLocated, HasTypesRead, IsParsed, IsReadWith, ItemsAtOwnIds, KeepsCustoms, RefusesBytes, TakenFrom, read_view};
 
 use crate::customs::keep_sections;
@@ -25,7 +26,8 @@ pub struct ReadModule {
 }
 
 /// The module that the bytes are ("Binary Format > Modules"), where bodies may use these proposals. Each item gets the id of
-/// its index, and each operator the location that `locate` gives for the place of its first byte; the locals stand function by function, of each its parameters and then all that
+/// its index, and each operator the location that `locate` gives for the place of its first byte; with `as_texts` plain bodies are kept as they
+/// stand in the input, and the location of each of their operators is that place. The locals stand function by function, of each its parameters and then all that
 /// it declares. Each type that a legacy handler needs is found among the types, or stands behind those that were read. Names are those that the
 /// custom sections called `name` give ("Appendix > Custom Sections > Name Section"), and where `synthetic` says so, functions and locals that
 /// have none then get one of their index. Of each custom section called `producers` the fields that stand whole before its first fault are held,
@@ -39,6 +41,7 @@ pub fn read<L: Fn(&usize) -> InstrLocId>(
     bytes: &[u8],
     features: Features,
     synthetic: bool,
+    as_texts: bool,
     locate: &L,
 ) -> Result<ReadModule>
     requires callable { L.IsAlwaysCallable locate.now }
@@ -48,7 +51,7 @@ pub fn read<L: Fn(&usize) -> InstrLocId>(
         → IfErr result (RefusesBytes c bytes.now) }
     ensures taken { IfOk result (λ m. TakenFrom features bytes.now m.contents) }
     ensures own_ids { IfOk result (λ m. ItemsAtOwnIds m.contents) }
-    ensures located { IfOk result (λ m. AreLocated (FnReturnsAt L.Fn locate.now) bytes.now
+    ensures located { IfOk result (λ m. AreLocated (GivenIf as_texts (FnReturnsAt L.Fn locate.now)) bytes.now
         m.contents.funcs) }
     ensures kept { IfOk result (λ m. KeepsCustoms bytes.now m.customs.items) }
     ensures counted { IfOk result (λ m. HasTypesRead bytes.now m.type_count) }
@@ -57,7 +60,7 @@ pub fn read<L: Fn(&usize) -> InstrLocId>(
     check(alloc, &raw)?;
     check_room(&raw)?;
     let customs = keep_sections(alloc, &raw.customs)?;
-    let (contents, type_count) = read_named(alloc, &raw, &features, synthetic, locate)?;
+    let (contents, type_count) = read_named(alloc, &raw, &features, synthetic, as_texts, locate)?;
     Ok(ReadModule {
         contents,
         customs,

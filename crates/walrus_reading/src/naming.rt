@@ -4,6 +4,7 @@ ghost use Rattle.std.specs.Fn.{FnReturnsAt};
 ghost use Rattle.wasm_frames.specs.Record.{sections};
 ghost use Rattle.walrus_items.specs.Functions.{functions};
 ghost use Rattle.walrus_groups.specs.Groups.{types_from};
+ghost use Rattle.walrus_functions.specs.ReadFunction.{GivenIf};
 ghost use Rattle.walrus_reading.specs.Named.{TakesNamed, first_told};
 ghost use Rattle.walrus_reading.specs.Numbers.{FitsIndices};
 ghost use Rattle.walrus_reading.specs.Parsed.{ItemsAtOwnIds};
@@ -31,6 +32,7 @@ pub(crate) fn read_named<L: Fn(&usize) -> InstrLocId>(
     raw: &Raw<'_>,
     features: &Features,
     synthetic: bool,
+    as_texts: bool,
     locate: &L,
 ) -> Result<(Contents, usize)>
     requires rules { Rules (sections raw.now) }
@@ -38,12 +40,12 @@ pub(crate) fn read_named<L: Fn(&usize) -> InstrLocId>(
     requires callable { L.IsAlwaysCallable locate.now }
     ensures taken { TakesNamed features.now synthetic (sections raw.now) (first_told result) }
     ensures own_ids { IfOk result (λ m. ItemsAtOwnIds m.0) }
-    ensures located { IfOk result (λ m. AreLocatedIn (FnReturnsAt L.Fn locate.now) (sections raw.now)
-        (functions m.0.funcs)) }
+    ensures located { IfOk result (λ m. AreLocatedIn (GivenIf as_texts (FnReturnsAt L.Fn locate.now))
+        (sections raw.now) (functions m.0.funcs)) }
     ensures produced { IfOk result (λ m. HoldsProducers (sections raw.now) m.0.producers) }
     ensures counted { IfOk result (λ m. m.1 ≡ length (types_from 0 (sections raw.now).types)) }
 {
-    let (contents, starts, types) = read_contents(alloc, raw, features, locate)?;
+    let (contents, starts, types) = read_contents(alloc, raw, features, as_texts, locate)?;
     let bounds = NameBounds {
         types,
         starts,

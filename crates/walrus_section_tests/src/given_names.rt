@@ -24,12 +24,12 @@ fn read(alloc: Global, names: bool) -> Result<Module, Error> {
     Module::from_buffer_with_config(alloc, &bytes, &config)
 }
 
-fn parameter(module: &Module, id: FunctionId) -> Option<LocalId> {
+fn parameter(alloc: Global, module: &Module, id: FunctionId) -> Option<LocalId> {
     if !module.funcs.contains(id) {
         return None;
     }
     match &module.funcs.get(id).kind {
-        FunctionKind::Local(function) => function.args().first().copied(),
+        FunctionKind::Local(function) => function.args(alloc).ok()?.first().copied(),
         FunctionKind::Import(_) | FunctionKind::Uninitialized(_) => None,
     }
 }
@@ -55,7 +55,7 @@ fn name_function(
 
 fn name_all(alloc: Global, module: &mut Module) -> Result<(), Error> {
     let id = module.exports.get_func("f")?;
-    let Some(local) = parameter(module, id) else {
+    let Some(local) = parameter(alloc, module, id) else {
         return Err(Error::NotFound);
     };
     set_name(alloc, &mut module.name, "m")?;

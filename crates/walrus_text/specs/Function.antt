@@ -1,5 +1,6 @@
 -- What a contract sees of a function with a body ("Structure > Modules > Functions"). These words alone look inside one.
-use Rattle.std.specs.Prelude.{◌≡◌, ℕ, List, length, map}
+use Rattle.std.specs.Prelude.{◌≡◌, ℕ, List, length, map, Option, Some, None}
+use Rattle.std.specs.List.{range_with_len}
 use Rattle.walrus_base.specs.Id.{place}
 use Rattle.walrus_base.specs.declared.id.Id.{Id}
 use Rattle.walrus_base.specs.declared.keys.TypeKey.{TypeKey}
@@ -7,7 +8,13 @@ use Rattle.walrus_bodies.specs.Code.{ops_of}
 use Rattle.walrus_bodies.specs.InstrLocId.{InstrLocId}
 use Rattle.walrus_bodies.specs.Operators.{Op}
 use Rattle.walrus_bodies.specs.Results.{locations}
+use Rattle.walrus_text.specs.Text.{first_local_of, locations_in, ops_in}
+use Rattle.walrus_text.specs.declared.text.Text.{Text as Plain}
+use Rattle.walrus_text.specs.declared.function.Body.{Body}
+use Rattle.walrus_text.specs.declared.function.Body.TheVariants as bodies
 use Rattle.walrus_text.specs.declared.function.LocalFunction.{LocalFunction}
+use Rattle.walrus_text.specs.declared.lent.Operators.{Operators}
+use Rattle.walrus_text.specs.declared.lent.Operators.TheVariants.{Lent, Made}
 
 abbrev pub function_type : LocalFunction → Id TypeKey
 function_type function = function.ty
@@ -16,9 +23,31 @@ function_type function = function.ty
 abbrev pub with_type : LocalFunction → Id TypeKey → LocalFunction
 with_type function type = record function { ty = type }
 
--- its body, over the places of the items that it names
+-- ---- its body
+
+abbrev pub text_in : Body → Option Plain
+text_in (bodies.Text text params) = Some text
+text_in (bodies.List args operators) = None
+
+abbrev pub body_in : Body → List Op
+body_in (bodies.Text text params) = ops_in text
+body_in (bodies.List args operators) = ops_of operators.items
+
+abbrev pub places_in : Body → List InstrLocId
+places_in (bodies.Text text params) = locations_in text
+places_in (bodies.List args operators) = locations operators.items
+
+abbrev pub args_in : Body → List ℕ
+args_in (bodies.Text text params) = range_with_len (first_local_of text) params
+args_in (bodies.List args operators) = map place args.items
+
+-- what stands in the input, if that is kept
+unfoldable pub as_text : LocalFunction → Option Plain
+as_text function = text_in function.body
+
+-- its operators, over the places of the items that they name
 unfoldable pub body_of : LocalFunction → List Op
-body_of function = ops_of function.operators.items
+body_of function = body_in function.body
 
 -- how many operators that are
 abbrev pub size_of : LocalFunction → ℕ
@@ -26,15 +55,30 @@ size_of function = length (body_of function)
 
 -- where each of them came from
 unfoldable pub locations_of : LocalFunction → List InstrLocId
-locations_of function = locations function.operators.items
+locations_of function = places_in function.body
 
 -- the places of its parameters
 unfoldable pub args_of : LocalFunction → List ℕ
-args_of function = map place function.args.items
+args_of function = args_in function.body
+
+abbrev pub arg_count_of : LocalFunction → ℕ
+arg_count_of function = length (args_of function)
 
 -- the places of the types of its legacy handlers
 unfoldable pub handlers_in : LocalFunction → List ℕ
 handlers_in function = map place function.handler_types.items
+
+-- ---- operators that are handed out
+
+unfoldable pub listed_in : Operators → List Op
+listed_in (Lent operators) = ops_of operators.now
+listed_in (Made operators) = ops_of operators.items
+
+unfoldable pub located_in : Operators → List InstrLocId
+located_in (Lent operators) = locations operators.now
+located_in (Made operators) = locations operators.items
+
+-- ---- what stays
 
 -- of the same name and type, with the same parameters
 pub record SameHead (old new : LocalFunction) : Type 0 where
@@ -51,4 +95,10 @@ pub record KeepsBody (old new : LocalFunction) : Type 0 where
 -- nothing but the operators differs
 pub record KeepsOthers (old new : LocalFunction) : Type 0 where
   pub head : SameHead old new
+  pub handlers : handlers_in new ≡ handlers_in old
+
+-- the same function, with a list for its body
+pub record Becomes (old new : LocalFunction) : Type 0 where
+  pub listed : as_text new ≡ None
+  pub same : KeepsBody old new
   pub handlers : handlers_in new ≡ handlers_in old

@@ -1,5 +1,15 @@
 pub mod Function
 pub mod LendsOperators
+pub mod Locals
+pub mod Names
+pub mod Numbers
+pub mod Placed
+pub mod Plain
+pub mod Scanned
+pub mod Text
+pub mod Texts
+pub use Rattle.wasm_text.specs.Classes
+pub use Rattle.wasm_text.specs.declared.limits.Limits
 pub use Rattle.walrus_bodies.specs.Code
 pub use Rattle.walrus_bodies.specs.Location
 pub use Rattle.walrus_bodies.specs.Operator

@@ -1,15 +1,34 @@
 //! Functions with a body.
 ghost use Rattle.std.specs.Borrow.{sem};
-ghost use Rattle.std.specs.Prelude.{◌≡◌, [], None, IfOk, map};
+ghost use Rattle.std.specs.Prelude.{◌≡◌, [], None, IfOk, IfSome, MatchResult, map, option_map};
+ghost use Rattle.std.specs.List.{range_with_len};
 ghost use Rattle.walrus_base.specs.Id.{place};
 ghost use Rattle.walrus_bodies.specs.Code.{ops_of};
 ghost use Rattle.walrus_bodies.specs.Results.{locations};
-ghost use Rattle.walrus_text.specs.Function.{function_type, with_type, body_of, locations_of, size_of, args_of, handlers_in, KeepsBody};
+ghost use Rattle.walrus_text.specs.Text.{first_local_of, locations_in, ops_in};
+ghost use Rattle.walrus_text.specs.Function.{function_type, with_type, as_text, body_of, locations_of, size_of, args_of, arg_count_of, handlers_in, located_in, listed_in, Becomes, KeepsBody};
 ghost use Rattle.walrus_text.specs.LendsOperators.{LendsOperators};
 
+use crate::lent::Operators;
+use crate::text::Text;
 use std::alloc::{AllocError, Global};
 use walrus_base::{LocalId, TypeId};
 use walrus_bodies::Operator;
+
+// A body.
+#[derive(Drop)]
+enum Body {
+    // As it stands in the input, with so many parameters, which are the first of its locals.
+    Text {
+        text: Text,
+        params: u32,
+    },
+    // A list, with its parameters.
+    List {
+        args: Vec<LocalId>,
+        operators: Vec<Operator>,
+    },
+}
 
 /// A function with a body (Structure > Modules > Functions).
 #[derive(Drop)]
@@ -17,9 +36,19 @@ pub struct LocalFunction {
     /// The name that the name section gives it.
     pub name: Option<String>,
     ty: TypeId,
-    args: Vec<LocalId>,
-    operators: Vec<Operator>,
+    body: Body,
     handler_types: Vec<TypeId>,
+}
+
+// The ids of so many locals, from a place on.
+fn ids_from(alloc: Global, first: u32, count: u32) -> Result<Vec<LocalId>, AllocError>
+    ensures { IfOk result (λ ids. map place ids.items ≡ range_with_len first count) }
+{
+    let mut ids = Vec::with_capacity(alloc, count as usize)?;
+    'locals: for offset in 0..count {
+        ids.push(LocalId::at(first as usize + offset as usize))?;
+    }
+    Ok(ids)
 }
 
 impl LocalFunction {
@@ -41,8 +70,25 @@ impl LocalFunction {
         LocalFunction {
             name: None,
             ty,
-            args,
-            operators,
+            body: Body::List { args, operators },
+            handler_types: Vec::new(alloc),
+        }
+    }
+
+    /// A function of a type with a body that stands as in the input, whose parameters are the first so many of its locals; without a
+    /// name and without handlers.
+    pub fn of_text(alloc: Global, ty: TypeId, params: u32, text: Text) -> LocalFunction
+        ensures ty { function_type result ≡ ty }
+        ensures args { args_of result ≡ range_with_len (first_local_of text) params }
+        ensures body { body_of result ≡ ops_in text }
+        ensures locations { locations_of result ≡ locations_in text }
+        ensures name { result.name ≡ None }
+        ensures handler_types { handlers_in result ≡ [] }
+    {
+        LocalFunction {
+            name: None,
+            ty,
+            body: Body::Text { text, params },
             handler_types: Vec::new(alloc),
         }
     }
@@ -61,35 +107,107 @@ impl LocalFunction {
         self.ty = ty;
     }
 
-    /// Its parameters, in order.
-    pub fn args(&self) -> &[LocalId]
-        ensures { map place result.now ≡ args_of self.now }
+    /// Its body as it stands in the input, if it is kept so.
+    pub fn text(&self) -> Option<&Text>
+        ensures is { option_map (λ text. text.now) result ≡ as_text self.now }
+        ensures body { IfSome result (λ text. body_of self.now ≡ ops_in text.now) }
+        ensures locations { IfSome result (λ text. locations_of self.now ≡ locations_in text.now) }
     {
-        self.args.as_slice()
+        match &self.body {
+            Body::Text { text, .. } => Some(text),
+            Body::List { .. } => None,
+        }
     }
 
-    /// Its body. The last operator is the `0B` that closes the function.
-    pub fn operators(&self) -> &[Operator]
+    /// Its body, where it isn't kept as it stands in the input.
+    pub fn listed(&self) -> &[Operator]
+        requires { as_text self.now ≡ None }
         ensures body { ops_of result.now ≡ body_of self.now }
         ensures locations { locations result.now ≡ locations_of self.now }
     {
-        self.operators.as_slice()
+        match &self.body {
+            Body::List { operators, .. } => operators.as_slice(),
+            Body::Text { .. } => unreachable!(),
+        }
     }
 
-    /// Its body, for writing. Refused for memory, nothing changes.
-    pub fn operators_mut(&mut self, _alloc: Global) -> Result<&mut Vec<Operator>, AllocError>
+    /// How many parameters it has.
+    #[tactic(auto, using(crate::proofs::RangeLemmas::as_many), unfolding(crate::specs::Function::args_of))]
+    pub fn arg_count(&self) -> usize
+        ensures { result ≡ arg_count_of self.now }
+    {
+        match &self.body {
+            Body::Text { params, .. } => *params as usize,
+            Body::List { args, .. } => args.len(),
+        }
+    }
+
+    /// Its parameters, in order.
+    ///
+    /// # Errors
+    ///
+    /// `AllocError` where no memory is left.
+    pub fn args(&self, alloc: Global) -> Result<Vec<LocalId>, AllocError>
+        ensures { IfOk result (λ ids. map place ids.items ≡ args_of self.now) }
+    {
+        match &self.body {
+            Body::Text { text, params } => ids_from(alloc, text.first_local(), *params),
+            Body::List { args, .. } => args.to_vec(alloc),
+        }
+    }
+
+    /// Its body, lent where it is a list, else made. The last operator is the `0B` that closes the function.
+    ///
+    /// # Errors
+    ///
+    /// `AllocError` where no memory is left.
+    pub fn operators(&self, alloc: Global) -> Result<Operators<'_>, AllocError>
+        ensures body { IfOk result (λ all. listed_in all ≡ body_of self.now) }
+        ensures locations { IfOk result (λ all. located_in all ≡ locations_of self.now) }
+    {
+        match &self.body {
+            Body::Text { text, .. } => Ok(Operators::Made(text.operators(alloc)?)),
+            Body::List { operators, .. } => Ok(Operators::Lent(operators.as_slice())),
+        }
+    }
+
+    // Makes its body a list. Refused, nothing changes.
+    fn list(&mut self, alloc: Global) -> Result<(), AllocError>
+        ensures { MatchResult result (λ _. Becomes self.old self.new) (λ _. self.new ≡ self.old) }
+    {
+        if let Body::Text { text, params } = &self.body {
+            let args = ids_from(alloc, text.first_local(), *params)?;
+            let operators = text.operators(alloc)?;
+            self.body = Body::List { args, operators };
+        }
+        Ok(())
+    }
+
+    /// Its body, for writing. One that is kept as it stands in the input becomes a list. Refused for memory, nothing changes.
+    ///
+    /// # Errors
+    ///
+    /// `AllocError` where no memory is left.
+    pub fn operators_mut(&mut self, alloc: Global) -> Result<&mut Vec<Operator>, AllocError>
         ensures* writes_back { sem 𝓛 (LendsOperators self.entry result) }
         ensures body { IfOk result (λ r. ops_of r.now.items ≡ body_of self.old) }
         ensures locations { IfOk result (λ r. locations r.now.items ≡ locations_of self.old) }
     {
-        Ok(&mut self.operators)
+        self.list(alloc)?;
+        match &mut self.body {
+            Body::List { operators, .. } => Ok(operators),
+            Body::Text { .. } => unreachable!(),
+        }
     }
 
     /// How many operators its body has, the last `0B` counted.
     pub fn size(&self) -> usize
         ensures { result ≡ size_of self.now }
     {
-        self.operators.len()
+        match &self.body {
+            Body::Text { text, .. } => text.size(),
+            Body::List { operators, .. } => operators.len(),
+        }
     }
 
     /// The types of the handlers of its legacy exceptions (Instructions > Control Instructions of the legacy exception handling proposal).

@@ -1,8 +1,24 @@
 //! Functions with a body ("Structure > Modules > Functions"): their operators, parameters, and the types of their handlers. Nothing above looks
-//! inside them.
-#![tactic(auto, unfolding(crate::specs::Function::body_of, crate::specs::Function::locations_of, crate::specs::Function::args_of, crate::specs::Function::handlers_in))]
+//! inside them. A plain body is kept as it stands in the input (Binary Format > Modules > Code Section): bytes of operators with marks, which are
+//! read, walked and written without a list of operators.
+#![tactic(auto, unfolding(crate::specs::Function::as_text, crate::specs::Function::body_of, crate::specs::Function::locations_of, crate::specs::Function::args_of, crate::specs::Function::handlers_in, crate::specs::Function::listed_in, crate::specs::Function::located_in))]
 
+mod blocks;
+mod calls;
 mod function;
+mod lent;
+mod limits;
+mod locals;
+mod names;
+mod operators;
+mod place;
+mod scan;
+mod text;
+mod write;
 
 pub use function::LocalFunction;
+pub use lent::Operators;
+pub use limits::limits_of;
+pub use text::Text;
 pub use walrus_bodies::{Arg, Args, Operator};
+pub use wasm_text::Limits;

@@ -62,6 +62,13 @@ impl ModuleLocals {
         self.arena.reserve(additional)
     }
 
+    /// The id that the next local gets.
+    pub fn next_id(&self) -> LocalId
+        ensures { place result ≡ length (locals self.now) }
+    {
+        self.arena.next_id()
+    }
+
     /// Adds a local of this type, without a name. Where memory runs out, nothing changes.
     pub fn add(&mut self, ty: ValType) -> Result<LocalId, AllocError>
         ensures { MatchResult result

@@ -53,8 +53,8 @@ module _ (P Q : Builds) (weaker : (shown : MutBor InstrSeqBuilder) (given : Bor 
 
     by_kind_exported : (e : ℕ × ExportValue) (k : FunctionKind) (result : Result (Id FunctionKey) Error) → ReplacesKind P e k old new result → ReplacesKind Q e k old new result
     by_kind_exported e (Local l) (Ok id) r = record { is_next = r.is_next; args = r.args; parameters = r.parameters; function = r.function; is_new = new_by (function_type l) r.args r.function r.is_new; funcs = r.funcs; exported = r.exported; others = r.others }
-    by_kind_exported e (Local l) (Err x) ((args, parameters, inl memory), same) = ((args, parameters, inl memory), same)
-    by_kind_exported e (Local l) (Err x) ((args, parameters, inr (builder, called)), same) = ((args, parameters, inr (builder, built_by args (Err x) builder called)), same)
+    by_kind_exported e (Local l) (Err x) (inl memory, same) = (inl memory, same)
+    by_kind_exported e (Local l) (Err x) (inr (args, parameters, (builder, called)), same) = (inr (args, parameters, (builder, built_by args (Err x) builder called)), same)
     by_kind_exported e (Import i) result h = h
     by_kind_exported e (Uninitialized ty) result h = h
 

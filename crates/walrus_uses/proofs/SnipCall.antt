@@ -7,7 +7,6 @@ use Rattle.walrus_base.specs.Arena.{entries, item_at}
 use Rattle.walrus_base.specs.Id.{place}
 use Rattle.walrus_base.specs.declared.id.Id.{Id}
 use Rattle.walrus_base.specs.declared.keys.FunctionKey.{FunctionKey}
-use Rattle.walrus_base.specs.declared.keys.LocalKey.{LocalKey}
 use Rattle.walrus_types.specs.Operators.{Functions, Tables, Memories, Tags, Globals, Item, function_item}
 use Rattle.walrus_items.specs.Function.{function_type}
 use Rattle.walrus_items.specs.LocalFunction.{LocalFunction}
@@ -31,7 +30,7 @@ use Rattle.walrus_items.proofs.Found.{found-item, found-passes}
 use Rattle.walrus_contents.specs.View.{export_of, function, kind_of}
 use Rattle.walrus_contents.proofs.Slots.{entry_in}
 use Rattle.walrus_rules.specs.WellMade.{IsWellMade}
-use Rattle.walrus_module.specs.Replaced.{IsReplaced, Refuses, ReplacesExported, ReplacesFound, ReplacesKind}
+use Rattle.walrus_module.specs.Replaced.{IsReplaced, RefusesBody, ReplacesExported, ReplacesFound, ReplacesKind}
 use Rattle.walrus_module.specs.View.{contents_of, held_view}
 use Rattle.walrus_module.specs.declared.module.Module.{Module}
 use Rattle.walrus_module.proofs.CountedBodies.{held_counted}
@@ -202,16 +201,16 @@ module _ {S : Type 0} (name : List ℕ) (c : Config) (old new : Module S) (whole
           },
         )
 
-      refused : (args : List (Id LocalKey)) (x : Error) → Refuses PutsTrap args x → x ≡ out_of_memory
-      refused args x (inl memory) = memory
-      refused args x (inr (builder, built_so)) = built_so.called
+      refused : (l : LocalFunction) (x : Error) → RefusesBody PutsTrap l x → x ≡ out_of_memory
+      refused l x (inl memory) = memory
+      refused l x (inr (args, parameters, (builder, built_so))) = built_so.called
 
       abbrev Answers : Result (Id FunctionKey) Error → Type 0
       Answers result = MatchResult result (λ i. Snips name old new × IsWhole c new) (RefusesSnip name (contents_of old))
 
       by_local : (l : LocalFunction) → f.kind ≡ Local l → (result : Result (Id FunctionKey) Error) → ReplacesKind PutsTrap e (Local l) old new result → Answers result
       by_local l kind (Ok i) r = done l kind i r
-      by_local l kind (Err x) ((args, parameters, why), same) = subst (RefusesSnip name (contents_of old)) (sym (refused args x why)) tt
+      by_local l kind (Err x) (why, same) = subst (RefusesSnip name (contents_of old)) (sym (refused l x why)) tt
 
       by_import : (result : Result (Id FunctionKey) Error) → IsErrOf result error.NotReplaceable → IsKept name (functions old.funcs) (exports old.exports) → Answers result
       by_import (Ok i) is_so kept = absurd (let no_such : ◌≡◌ {A = Result (Id FunctionKey) Error} (Ok i) (Err error.NotReplaceable) = is_so in cc)

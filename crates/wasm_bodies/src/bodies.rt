@@ -11,7 +11,7 @@ use std::alloc::Global;
 use walrus_base::TypeId;
 use walrus_bodies::{Features, FunctionTypes};
 use walrus_code::{InstrLocId, IrError};
-use walrus_functions::{EmittedBody, emit_body, read_body};
+use walrus_functions::{EmittedBody, emit_body, emit_body_with, read_body};
 use walrus_text::LocalFunction;
 use walrus_types::ModuleLocals;
 use wasm_wire::{Raw, RawBody};
@@ -54,9 +54,11 @@ pub fn read_all(
     context: &mut Context,
 ) -> Result<Vec<LocalFunction>, Failure> {
     let mut functions = Vec::new(alloc);
+    let mut room = Vec::new(alloc);
     for (body, ty) in records.bodies.iter().zip(records.functions.iter()) {
         let index = functions.len();
-        let function = read_one(alloc, body, *ty, context).map_err(|error| unread(index, error))?;
+        let read = read_one(alloc, body, *ty, context, &mut room);
+        let function = read.map_err(|error| unread(index, error))?;
         functions.push(function)?;
     }
     Ok(functions)
@@ -76,6 +78,7 @@ fn read_one(
     body: &RawBody<'_>,
     ty: u32,
     context: &mut Context,
+    room: &mut Vec<u32>,
 ) -> Result<LocalFunction, IrError> {
     let ty = function_type(ty, context)?;
     read_body(
@@ -89,6 +92,8 @@ fn read_one(
         &mut context.types,
         &mut context.locals,
         &|place: &usize| InstrLocId::of_place(*place),
+        Some(context.limits),
+        room,
     )
 }
 
@@ -124,8 +129,25 @@ pub fn write_all(
     Ok(bytes)
 }
 
-// Writes one body.
+// Writes one body, of which a plain one is copied as it stands but for new numbers.
 fn write_one(
+    alloc: Global,
+    function: &LocalFunction,
+    context: &Context,
+) -> Result<EmittedBody, IrError> {
+    emit_body_with(
+        alloc,
+        function,
+        &context.types,
+        &context.locals,
+        &context.numbers,
+        &FEATURES,
+        false,
+    )
+}
+
+// Writes one body from the list of its operators.
+fn write_listed(
     alloc: Global,
     function: &LocalFunction,
     context: &Context,
@@ -140,7 +162,7 @@ fn write_one(
     )
 }
 
-/// Writes each body, reads what was written, and compares.
+/// Writes each body, also from the list of its operators, reads what was written, and compares.
 ///
 /// # Errors
 ///
@@ -166,11 +188,15 @@ fn compare_one(
     context: &mut Context,
 ) -> Result<(), Failure> {
     let body = write_one(alloc, function, context).map_err(|error| Failure::Writing(index, error))?;
+    let listed = write_listed(alloc, function, context).map_err(|error| Failure::Writing(
+        index, error,
+    ))?;
     let mut locals = ModuleLocals::new(alloc);
     let copy = read_again(alloc, &body, function.ty(), &mut locals, context).map_err(
         |error| Failure::ReadingAgain(index, error),
     )?;
-    if same_function(function, &context.locals, &body.locals, &copy, &locals) {
+    let (numbers, own) = (&body.locals, &context.locals);
+    if same_function(alloc, function, own, numbers, &copy, &locals)? && body.bytes == listed.bytes {
         Ok(())
     } else {
         Err(Failure::Differs(index))
@@ -199,5 +225,7 @@ fn read_again(
         &mut context.types,
         locals,
         &|place: &usize| InstrLocId::of_place(*place),
+        None,
+        &mut Vec::new(alloc),
     )
 }

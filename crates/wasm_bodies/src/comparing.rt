@@ -1,6 +1,6 @@
 //! Whether a body that was written and read again is the same.
 
-ghost use Rattle.std.specs.Prelude.{◌≡◌, Some, All, Decides, map, option_map};
+ghost use Rattle.std.specs.Prelude.{◌≡◌, Some, All, Decides, IfOk, map, option_map};
 ghost use Rattle.walrus_base.specs.Arena.{item_at};
 ghost use Rattle.walrus_base.specs.Id.{place};
 ghost use Rattle.walrus_types.specs.Locals.{locals};
@@ -13,6 +13,7 @@ ghost use Rattle.walrus_code.specs.Names.{named_arg, named_args, named_op, named
 ghost use Rattle.walrus_functions.specs.EmittedBody.{types_of};
 ghost use Rattle.wasm_bodies.specs.Comparing.{itself, HasItsType, IsCopied};
 
+use std::alloc::{AllocError, Global};
 use walrus_base::LocalId;
 use walrus_code::{Arg, LocalNumbers, Operator};
 use walrus_text::LocalFunction;
@@ -20,19 +21,28 @@ use walrus_types::{ModuleLocals, ValType};
 
 /// Whether the copy has the operators of a function, where its locals have the places that `numbers` gives, and the types that
 /// they have in the function. Locations aren't compared.
+///
+/// # Errors
+///
+/// `AllocError` where no memory is left.
 pub fn same_function(
+    alloc: Global,
     function: &LocalFunction,
     module_locals: &ModuleLocals,
     numbers: &LocalNumbers,
     copy: &LocalFunction,
     copy_locals: &ModuleLocals,
-) -> bool
-    ensures { Decides result (IsCopied (local_index numbers.now) (types_of (locals module_locals.now))
-        (types_of (locals copy_locals.now)) (body_of function.now) (body_of copy.now)) }
+) -> Result<bool, AllocError>
+    ensures { IfOk result (λ same. Decides same (IsCopied (local_index numbers.now)
+        (types_of (locals module_locals.now)) (types_of (locals copy_locals.now))
+        (body_of function.now) (body_of copy.now))) }
 {
-    let operators = function.operators();
-    same_operators(operators, numbers, copy.operators())
-        && same_types(operators, module_locals, numbers, copy_locals)
+    let operators = function.operators(alloc)?;
+    let copies = copy.operators(alloc)?;
+    Ok(
+        same_operators(operators.as_slice(), numbers, copies.as_slice())
+            && same_types(operators.as_slice(), module_locals, numbers, copy_locals),
+    )
 }
 
 // Whether operators are the same, with these places for the locals.

@@ -3,12 +3,14 @@
 ghost use Rattle.std.specs.Prelude.{OnOk, nat_eq};
 ghost use Rattle.std.specs.List.{IsDistinct};
 ghost use Rattle.walrus_types.specs.Operators.{Space, Types};
-ghost use Rattle.walrus_code.specs.Indices.{places_in};
+ghost use Rattle.walrus_code.specs.Indices.{ids_at, places_in};
+ghost use Rattle.walrus_functions.specs.Scanned.{AreInPlace};
 
 use crate::spaces::{in_place, indices_of};
 use std::alloc::Global;
 use walrus_base::TypeId;
 use walrus_code::{IdsToIndices, IndicesToIds, IrError};
+use walrus_functions::{Limits, limits_of};
 use walrus_groups::read_types;
 use walrus_types::{ModuleLocals, ModuleTypes};
 use wasm_wire::{Raw, RawDesc, RawImport};
@@ -26,6 +28,9 @@ pub struct Context {
     pub tag_types: Vec<TypeId>,
     /// The locals of the bodies that are read.
     pub locals: ModuleLocals,
+    /// What plain bodies may name.
+    pub limits: Limits,
+    ghost in_place: { ∥ AreInPlace limits (ids_at indices) ∥₁ },
 }
 
 /// The context of a module's bodies.
@@ -41,12 +46,14 @@ pub fn context_of(alloc: Global, records: &Raw<'_>) -> Result<Context, IrError> 
     give_ids(alloc, &mut indices, records)?;
     let numbers = indices_of(alloc, &indices)?;
     let tag_types = tag_types(alloc, records, &indices)?;
+    let limits = limits_of(&indices);
     Ok(Context {
         indices,
         numbers,
         types,
         tag_types,
         locals: ModuleLocals::new(alloc),
+        limits,
     })
 }
 

@@ -13,3 +13,5 @@ pub mod Read
 pub mod Steps
 pub mod Renaming
 pub mod Staying
+pub use Rattle.wasm_operators.proofs.Stands
+pub use Rattle.wasm_operators.proofs.Taken

@@ -68,7 +68,7 @@ leaves number arg e = ap (or_same arg) (stays number arg e)
 each_front : (number : Numbering) (arg : RawArg) (more : List RawArg) (t : Bool) → arg_names arg ≡ t → (EachFits (HasNumber number) (naming more) → EachFits (HasNumber number) more)
     → EachFits (HasNumber number) (if t then arg ∷ naming more else naming more) → EachFits (HasNumber number) (arg ∷ more)
 each_front number arg more true e rec h = (h.0, rec h.1)
-each_front number arg more false e rec h = ((arg, stays number arg e), rec h)
+each_front number arg more false e rec h = ((arg, (stays number arg e, λ held. held)), rec h)
 
 each_all : (number : Numbering) (xs : List RawArg) → EachFits (HasNumber number) (naming xs) → EachFits (HasNumber number) xs
 each_all number [] h = tt

@@ -27,6 +27,7 @@ stays_put number bytes run mark old l s =
       renewed = s.arg;
       here = found_is bytes mark s.behind s.arg s.stands;
       has = s.has;
+      holds = λ h. h;
       back = omega (arith, e, s.stands.forward, l);
       same = ap (λ k. old ++ between run k bytes) e ∙ ap (λ x. old ++ x) (sym (join bytes run p s.behind l (omega (arith, s.stands.forward)))) ∙ ap (λ x. old ++ (between run p bytes ++ x)) (sym s.spelled)
           ∙ sym (append_assoc old (between run p bytes) (arg_bytes s.arg));

@@ -8,6 +8,7 @@ use Rattle.wasm_forms.proofs.Exact.{exact}
 use Rattle.wasm_forms.proofs.Keeping.{keeps_behind}
 use Rattle.wasm_operators.specs.declared.operator.RawArg.{RawArg}
 use Rattle.wasm_operators.specs.Spelling.{arg_bytes}
+use Rattle.wasm_operators.specs.Standing.{ArgHeld}
 use Rattle.wasm_text.specs.Places.{between}
 use Rattle.wasm_text.specs.Marks.{place_of, found, spelled, end_of, fill, AreInOrder, argument, args_at}
 use Rattle.wasm_text.specs.Filling.{Numbering, renamed, or_same, anew, HasNumber, SomeLacks, Lacks, Puts, Steps}
@@ -22,9 +23,9 @@ rest_within form bytes value rest e =
     omega (arith, ap length t.1.0, length-append t.0 rest)
 
 pub puts_anew : (number : Numbering) (bytes : List ℕ) (run mark : ℕ) (old mid new : List ℕ) (arg renewed : RawArg) (rest : List ℕ)
-    → found bytes mark ≡ Some (arg, rest) → renamed number arg ≡ Some renewed → mid ≡ old ++ between run (place_of mark) bytes → new ≡ mid ++ arg_bytes renewed
+    → found bytes mark ≡ Some (arg, rest) → renamed number arg ≡ Some renewed → (ArgHeld arg → ArgHeld renewed) → mid ≡ old ++ between run (place_of mark) bytes → new ≡ mid ++ arg_bytes renewed
     → Puts number bytes run mark (length bytes - length rest) old new
-puts_anew number bytes run mark old mid new arg renewed rest here has copied written =
+puts_anew number bytes run mark old mid new arg renewed rest here has holds copied written =
     let k = length bytes - length rest in
     let e : k - k ≡ 0 = omega arith in
     record {
@@ -33,6 +34,7 @@ puts_anew number bytes run mark old mid new arg renewed rest here has copied wri
       renewed = renewed;
       here = here;
       has = has;
+      holds = holds;
       back = omega arith;
       same = ap (λ n. new ++ take n (drop k bytes)) e ∙ append-nil new ∙ written ∙ ap (λ x. x ++ arg_bytes renewed) copied;
     }
@@ -86,7 +88,7 @@ going_more number bytes marks mark more run next old to to' g p kept =
       ordered = order_from bytes next end more p.back order;
       same = ap (λ x. to' ++ x) (sym (fill_run f bytes next end more p.back order)) ∙ sym (append_assoc to' (between next end bytes) c) ∙ ap (λ x. x ++ c) (p.same ∙ append_assoc to a b) ∙ append_assoc to (a ++ b) c
           ∙ ap (λ x. to ++ x) (sym nxt) ∙ g.same;
-      all = λ h. g.all (subst (EachFits (HasNumber number)) (sym fits) ((p.renewed, p.has), h));
+      all = λ h. g.all (subst (EachFits (HasNumber number)) (sym fits) ((p.renewed, (p.has, p.holds)), h));
       some = λ h. g.some (subst (SomeLacks number) (sym fits) (inr h));
       keeps = kept;
     }

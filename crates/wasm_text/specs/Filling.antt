@@ -10,6 +10,7 @@ use Rattle.wasm_operators.specs.declared.operator.RawArg.TheVariants as args
 use Rattle.wasm_operators.specs.declared.operator.RawBlock.{RawBlock}
 use Rattle.wasm_operators.specs.declared.operator.RawBlock.TheVariants.{NoResult, OneResult, OfType}
 use Rattle.wasm_operators.specs.Spelling.{arg_bytes}
+use Rattle.wasm_operators.specs.Standing.{ArgHeld}
 use Rattle.wasm_text.specs.declared.mark.TheConstants.{MARK_LOCAL, MARK_FUNCTION, MARK_GLOBAL, MARK_TYPE, MARK_TABLE, MARK_MEMORY}
 use Rattle.wasm_text.specs.declared.renumbering.TheConstants.{NO_NUMBER}
 use Rattle.wasm_text.specs.declared.places.TheConstants.{NO_PLACE}
@@ -76,9 +77,9 @@ or_same arg (Some new) = new
 abbrev pub anew : Numbering → RawArg → RawArg
 anew number arg = or_same arg (renamed number arg)
 
--- it has a new number, or names nothing
+-- it has a new number, or names nothing; with this number it is in its range where it was
 abbrev pub HasNumber : Numbering → RawArg → Type 0
-HasNumber number arg = (new : RawArg) × (renamed number arg ≡ Some new)
+HasNumber number arg = (new : RawArg) × ((renamed number arg ≡ Some new) × (ArgHeld arg → ArgHeld new))
 
 -- one of these has no new number
 abbrev pub SomeLacks : Numbering → List RawArg → Type 0
@@ -108,6 +109,7 @@ pub record Puts (number : Numbering) (bytes : List ℕ) (run mark next : ℕ) (o
   pub renewed : RawArg
   pub here : found bytes mark ≡ Some (arg, rest)
   pub has : renamed number arg ≡ Some renewed
+  pub holds : ArgHeld arg → ArgHeld renewed
   pub back : next ≤ length bytes - length rest
   pub same : new ++ between next (length bytes - length rest) bytes ≡ old ++ between run (place_of mark) bytes ++ arg_bytes renewed
 

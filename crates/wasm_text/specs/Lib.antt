@@ -3,3 +3,11 @@ pub mod Marks
 pub mod Classes
 pub mod Scans
 pub mod Filling
+pub use Rattle.wasm_operators.specs.Forms
+pub use Rattle.wasm_operators.specs.Operators
+pub use Rattle.wasm_operators.specs.Spelling
+pub use Rattle.wasm_operators.specs.Standing
+pub use Rattle.wasm_operators.specs.Table
+pub use Rattle.wasm_operators.specs.declared.kind.Kind
+pub use Rattle.wasm_operators.specs.declared.operator.RawArg
+pub use Rattle.wasm_operators.specs.declared.operator.RawBlock

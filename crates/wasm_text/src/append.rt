@@ -1,6 +1,6 @@
 //! Bytes with marks, written anew: what arguments name gets new numbers, and each argument at a mark its one spelling.
 
-ghost use Rattle.std.specs.Prelude.{◌≡◌, ◌<◌, ◌≤◌, ◌+◌, ◌∷◌, ◌++◌, drop, length, IfOk, MatchOption, Some};
+ghost use Rattle.std.specs.Prelude.{◌≡◌, ◌<◌, ◌≤◌, ◌+◌, ◌∷◌, ◌++◌, drop, length, IfOk, IfSome, MatchOption, Some};
 ghost use Rattle.wasm_text.specs.declared.mark.TheConstants.{MARK_ACCESS};
 ghost use Rattle.wasm_text.specs.declared.places.TheConstants.{NO_PLACE};
 ghost use Rattle.wasm_forms.specs.Types.{value_bytes};
@@ -9,6 +9,7 @@ ghost use Rattle.wasm_forms.specs.Reading.{Gives};
 ghost use Rattle.wasm_forms.specs.Writing.{Keeps};
 ghost use Rattle.wasm_operators.specs.Forms.{access, access_from, block_from, block_type, has_memory};
 ghost use Rattle.wasm_operators.specs.Spelling.{access_bytes, arg_bytes, block_bytes};
+ghost use Rattle.wasm_operators.specs.Standing.{ArgHeld, BlockHeld, HeapHeld, ValueHeld};
 ghost use Rattle.wasm_text.specs.Places.{between};
 ghost use Rattle.wasm_text.specs.Marks.{AreInOrder, form_of, kind_of, place_of};
 ghost use Rattle.wasm_text.specs.Filling.{Fills, IfStays, Steps, renamed, renamed_block, renamed_heap, renamed_value};
@@ -42,7 +43,8 @@ fn new_index<N: Numbers>(numbers: &N, kind: u32, index: u32) -> Option<u32>
 
 // A heap type with its new number.
 fn rename_heap<N: Numbers>(numbers: &N, heap: RawHeap) -> Option<RawHeap>
-    ensures { result ≡ renamed_heap (N.number numbers.now) heap }
+    ensures is { result ≡ renamed_heap (N.number numbers.now) heap }
+    ensures held { IfSome result (λ new. HeapHeld heap → HeapHeld new) }
 {
     match heap {
         RawHeap::Abstract(byte) => Some(RawHeap::Abstract(byte)),
@@ -52,7 +54,8 @@ fn rename_heap<N: Numbers>(numbers: &N, heap: RawHeap) -> Option<RawHeap>
 
 // A value type with its new number.
 fn rename_value<N: Numbers>(numbers: &N, value: RawVal) -> Option<RawVal>
-    ensures { result ≡ renamed_value (N.number numbers.now) value }
+    ensures is { result ≡ renamed_value (N.number numbers.now) value }
+    ensures held { IfSome result (λ new. ValueHeld value → ValueHeld new) }
 {
     match value {
         RawVal::Ref(reference) => {
@@ -66,7 +69,8 @@ fn rename_value<N: Numbers>(numbers: &N, value: RawVal) -> Option<RawVal>
 
 // The type of a block with its new number.
 fn rename_block<N: Numbers>(numbers: &N, block: RawBlock) -> Option<RawBlock>
-    ensures { result ≡ renamed_block (N.number numbers.now) block }
+    ensures is { result ≡ renamed_block (N.number numbers.now) block }
+    ensures held { IfSome result (λ new. BlockHeld block → BlockHeld new) }
 {
     match block {
         RawBlock::NoResult => Some(RawBlock::NoResult),
@@ -218,9 +222,13 @@ fn read_number(kind: u32, bytes: &[u8]) -> Result<(RawArg, &[u8]), WireError>
     }
 }
 
-// The argument at a mark of this kind.
+/// The argument at a mark of this kind, which the bytes begin with, and the bytes behind it.
+///
+/// # Errors
+///
+/// `Malformed` where none stands there, and `Memory`.
 #[tactic(auto, unfolding(crate::specs::Marks::form_of))]
-fn read_marked(kind: u32, bytes: &[u8]) -> Result<(RawArg, &[u8]), WireError>
+pub fn read_marked(kind: u32, bytes: &[u8]) -> Result<(RawArg, &[u8]), WireError>
     ensures { IfOk result (λ r. at (form_of kind) bytes.now ≡ Some (r.0, r.1.now)) }
 {
     match kind {
@@ -243,7 +251,8 @@ fn read_marked(kind: u32, bytes: &[u8]) -> Result<(RawArg, &[u8]), WireError>
 
 // An argument with its new number.
 fn rename_arg<N: Numbers>(numbers: &N, arg: RawArg) -> Option<RawArg>
-    ensures { result ≡ renamed (N.number numbers.now) arg }
+    ensures is { result ≡ renamed (N.number numbers.now) arg }
+    ensures held { IfSome result (λ new. ArgHeld arg → ArgHeld new) }
 {
     match arg {
         RawArg::Function(n) => Some(RawArg::Function(new_index(numbers, MARK_FUNCTION, n)?)),

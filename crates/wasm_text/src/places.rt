@@ -70,9 +70,9 @@ fn long_number_at(bytes: &[u8], at: usize) -> u64
     u64::MAX
 }
 
-// What stands from a place on.
+/// What stands from a place on; nothing where the bytes end before.
 #[inline]
-pub(crate) fn rest_from(bytes: &[u8], at: usize) -> &[u8]
+pub fn rest_from(bytes: &[u8], at: usize) -> &[u8]
     ensures { result.now ≡ drop at bytes.now }
 {
     let (_front, rest) = bytes.split_at(at.min(bytes.len()));

@@ -1,47 +1,18 @@
-use Rattle.std.proofs.Common.{◌≡◌, List, get_or, rules, subst, sym}
-use Rattle.std.proofs.lemmas.Result.{err_from_is_err_and}
-use Rattle.walrus_code.specs.Code.{op_of}
-use Rattle.walrus_items.specs.Function.{body_of}
-use Rattle.walrus_code.specs.declared.operator.Operator.{Operator}
-use Rattle.walrus_types.specs.Operators.{Op, locals_of, op_locals}
-use Rattle.walrus_contents.specs.Named.{OneIsMissing, PutsTypes}
-use Rattle.walrus_contents.proofs.LocalTypes.{missing_among, types_all, types_more, types_none}
-use Rattle.walrus_contents.proofs.NamedLemmas.{refusal_map}
+use Rattle.std.proofs.Common.{List, ap, sym, subst, refl, ◌∙◌, ◌++◌}
+use Rattle.std.proofs.lemmas.List.{append-nil}
+use Rattle.std.specs.Prelude.{MatchResult}
+use Rattle.walrus_types.specs.Operators.{Item, Op, locals_of}
+use Rattle.walrus_contents.specs.Named.{OneIsMissing, PutsTypes, items_in}
+use Rattle.walrus_contents.specs.There.{IsRefusal}
 use Rattle.walrus_contents.proofs.names.push_used_types.Goals as goal
 
-pub loop-operator-init : goal.loop-operator-init
-loop-operator-init c = types_none c.args.locals.now c.args.to.now
-
-pub returns-in_err-push_operator_types : goal.returns-in_err-push_operator_types
-returns-in_err-push_operator_types c =
-    let p = err_from_is_err_and c.from_residual.result c.from_residual.ensures.1 in
-    let all = c.args.locals.now in
-    let operators = c.operators-operators.result.now in
-    let i = c.loop-operator.operator-index in
-    let x = c.operator-item.result in
-    let item : get_or operators i x ≡ x = search rules in
-    rw (p.1, p.2) (refusal_map _ (OneIsMissing all (locals_of (body_of c.args.function.now)))
-    (λ one. subst (λ (ops : List Op). OneIsMissing all (locals_of ops)) c.operators-operators.ensures.body
-    (missing_among all op_of op_locals operators i x c.loop-operator-test.true
-    (subst (λ (o : Operator). OneIsMissing all (op_locals (op_of o))) (sym item) one)))
-    c.in_err-push_operator_types.field-0.0 c.in_err-push_operator_types.ensures)
-
-pub loop-operator-preserved : goal.loop-operator-preserved
-loop-operator-preserved c =
-    let all = c.args.locals.now in
-    let operators = c.operators-operators.result.now in
-    let i = c.loop-operator.operator-index in
-    let now = c.loop-operator.to in
-    let new = c.push_operator_types.new.to in
-    let x = c.operator-item.result in
-    let item : get_or operators i x ≡ x = search rules in
-    types_more all op_of op_locals operators i x c.args.to.now now new c.loop-operator-test.true c.loop-operator.invariant
-    (subst (λ (o : Operator). PutsTypes all (op_locals (op_of o)) now new) (sym item) c.in_ok-push_operator_types.ensures)
+pub returns-then-text_names_no_types : goal.returns-then-text_names_no_types
+returns-then-text_names_no_types c =
+    let none = c.if-text_names_no_types.ensures refl in
+    let old = items_in c.args.to.now in
+    (none.0, sym (append-nil old) ∙ ap (λ (xs : List Item). old ++ xs) (sym none.1))
 
 pub returns : goal.returns
 returns c =
-    let all = c.args.locals.now in
-    let operators = c.operators-operators.result.now in
-    subst (λ (ops : List Op). PutsTypes all (locals_of ops) c.args.to.now c.loop-operator.to) c.operators-operators.ensures.body
-    (types_all all op_of op_locals operators c.loop-operator.operator-index c.args.to.now c.loop-operator.to c.loop-operator-test.false
-    c.loop-operator.invariant)
+    subst (λ (ops : List Op). MatchResult c.push_listed_types.result (λ _. PutsTypes c.args.locals.now (locals_of ops) c.args.to.now c.push_listed_types.new.to) (IsRefusal (OneIsMissing c.args.locals.now (locals_of ops))))
+    (c.as_slice.ensures.body ∙ c.in_ok-operators.ensures.body) c.push_listed_types.ensures

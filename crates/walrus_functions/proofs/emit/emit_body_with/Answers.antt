@@ -65,10 +65,10 @@ marks named once h slice named_slice all held used is one two are =
     ∙ ap (λ (ps : List ℕ). map (λ id. list_any (nat_eq (place id)) ps) all) are
     ∙ marks_are named once h all
 
-pub find_declared-requires : goal.find_declared-requires
-find_declared-requires c =
+pub find_declared-requires-clause-named : goal.find_declared-requires-clause-named
+find_declared-requires-clause-named c =
     subst (λ (ids : List Local). AreOnce (locals_of (body_of c.args.function.now)) (map place ids)) (sym c.as_slice.ensures.value)
-    (subst (λ (ops : List Op). AreOnce (locals_of ops) (map place c.in_ok-named.named.items)) c.operators-operators.ensures.body c.in_ok-named.ensures)
+    (subst (λ (ops : List Op). AreOnce (locals_of ops) (map place c.in_ok-named.named.items)) c.in_ok-code.ensures.body c.in_ok-named.ensures)
 
 pub which_named-requires : goal.which_named-requires
 which_named-requires c = subst (λ (ids : List Local). IsStrictlySortedBy nat_cmp (map place ids)) (sym c.as_slice-6.ensures.value) c.in_ok-named.ensures.rising
@@ -81,7 +81,7 @@ returns-in_err-declared-clause-written c =
 pub returns-then-len-2-clause-written : goal.returns-then-len-2-clause-written
 returns-then-len-2-clause-written c =
     let order = map place c.in_ok-declared.declared.items in
-    let are = all_places c.in_ok-all.all.items c.in_ok-declared.declared.items c.args-2.result.now c.as_slice-2.result.now (args_of c.args.function.now) c.in_ok-all.ensures c.args-2.ensures c.as_slice-2.ensures.value in
+    let are = all_places c.in_ok-all.all.items c.in_ok-declared.declared.items c.as_slice-args.result.now c.as_slice-2.result.now (args_of c.args.function.now) c.in_ok-all.ensures (ap (map place) c.as_slice-args.ensures.value ∙ c.in_ok-parameters.ensures) c.as_slice-2.ensures.value in
     let size : c.len-2.result ≡ length c.in_ok-all.all.items = search rules in
     let counted : length (args_of c.args.function.now ++ order) ≡ length c.in_ok-all.all.items = sym (ap length are) ∙ length-map c.in_ok-all.all.items place in
     let many = c.if-len-2.true in
@@ -114,12 +114,12 @@ returns-in_err-declarations-clause-written c =
 
 pub number_locals-requires-clause-distinct : goal.number_locals-requires-clause-distinct
 number_locals-requires-clause-distinct c =
-    let are = all_places c.in_ok-all.all.items c.in_ok-declared.declared.items c.args-2.result.now c.as_slice-2.result.now (args_of c.args.function.now) c.in_ok-all.ensures c.args-2.ensures c.as_slice-2.ensures.value in
+    let are = all_places c.in_ok-all.all.items c.in_ok-declared.declared.items c.as_slice-args.result.now c.as_slice-2.result.now (args_of c.args.function.now) c.in_ok-all.ensures (ap (map place) c.as_slice-args.ensures.value ∙ c.in_ok-parameters.ensures) c.as_slice-2.ensures.value in
     subst (λ (ps : List ℕ). IsDistinct nat_eq ps) (sym (ap (map place) c.as_slice-4.ensures.value ∙ are))
     (all_differ (source_of c.args.indices.now c.args.module_locals.now c.args.types.now c.args.function.now c.args.features.now) (map place c.in_ok-declared.declared.items) c.in_ok-declared.ensures.1 c.in_ok-declared.ensures.0)
 
-pub write_body-requires : goal.write_body-requires
-write_body-requires c =
+pub write_body-requires-clause-few : goal.write_body-requires-clause-few
+write_body-requires-clause-few c =
     let order = map place c.in_ok-declared.declared.items in
     let ds = c.in_ok-declarations.declarations.items in
     let written : LocalsDeclared (index_of c.args.indices.now) (types_of (locals c.args.module_locals.now)) order (declarations_of ds) = subst (λ (ids : List Local). LocalsDeclared (index_of c.args.indices.now) (types_of (locals c.args.module_locals.now)) (map place ids) (declarations_of c.in_ok-declarations.declarations.items)) c.as_slice-3.ensures.value c.in_ok-declarations.ensures in
@@ -136,7 +136,7 @@ pub returns-clause-written : goal.returns-clause-written
 returns-clause-written c =
     let s = source_of c.args.indices.now c.args.module_locals.now c.args.types.now c.args.function.now c.args.features.now in
     let order = map place c.in_ok-declared.declared.items in
-    let are = all_places c.in_ok-all.all.items c.in_ok-declared.declared.items c.args-2.result.now c.as_slice-2.result.now (args_of c.args.function.now) c.in_ok-all.ensures c.args-2.ensures c.as_slice-2.ensures.value in
+    let are = all_places c.in_ok-all.all.items c.in_ok-declared.declared.items c.as_slice-args.result.now c.as_slice-2.result.now (args_of c.args.function.now) c.in_ok-all.ensures (ap (map place) c.as_slice-args.ensures.value ∙ c.in_ok-parameters.ensures) c.as_slice-2.ensures.value in
     let ds = declarations_of c.in_ok-declarations.declarations.items in
     let written : LocalsDeclared (index_of c.args.indices.now) (types_of (locals c.args.module_locals.now)) order ds = subst (λ (ids : List Local). LocalsDeclared (index_of c.args.indices.now) (types_of (locals c.args.module_locals.now)) (map place ids) (declarations_of c.in_ok-declarations.declarations.items)) c.as_slice-3.ensures.value c.in_ok-declarations.ensures in
     let size : c.len.result ≡ length c.in_ok-declared.declared.items = search rules in
@@ -144,25 +144,25 @@ returns-clause-written c =
     let under = c.if-len.false in
     let few : length order < 2 ^ 32 = omega (arith, size, counted, under) in
     let numbers = local_index c.in_ok-locals.locals in
-    let once : AreOnce (locals_of s.ops) (map place c.in_ok-named.named.items) = subst (λ (ops : List Op). AreOnce (locals_of ops) (map place c.in_ok-named.named.items)) c.operators-operators.ensures.body c.in_ok-named.ensures in
+    let once : AreOnce (locals_of s.ops) (map place c.in_ok-named.named.items) = subst (λ (ops : List Op). AreOnce (locals_of ops) (map place c.in_ok-named.named.items)) c.in_ok-code.ensures.body c.in_ok-named.ensures in
     let places = c.write_body.ensures.written.0 in
     let made = emitted s order c.in_ok-declared.ensures.1 ds written
     (fits_type s (c.in_ok-fits.ensures.0 c.if-not-fits.false) c.in_ok-declared.ensures.0)
-    (ap (blocks_hold (is_function_at c.args.types.now)) (sym c.operators-operators.ensures.body) ∙ sym c.blocks_hold-hold.ensures ∙ c.if-not-hold.false)
+    (ap (blocks_hold (is_function_at c.args.types.now)) (sym c.in_ok-code.ensures.body) ∙ sym c.in_ok-hold.ensures ∙ c.if-not-hold.false)
     few numbers
     (λ x. c.in_ok-locals.ensures x ∙ ap (λ (ps : List ℕ). place_in ps x) (ap (map place) c.as_slice-4.ensures.value ∙ are))
     (map place c.in_ok-all.all.items) are c.in_ok-used.used.items
     (marks (locals_of s.ops) (map place c.in_ok-named.named.items) once c.as_slice-5.result.now c.as_slice-6.result.now c.in_ok-all.all.items c.in_ok-named.named.items c.in_ok-used.used.items c.in_ok-used.ensures c.as_slice-5.ensures.value c.as_slice-6.ensures.value refl)
     (λ body. body.bytes.items) (λ _. places) (λ body. local_index body.locals) (λ body. map place body.order.items) (λ body. body.used.items) c.write_body.result
     (known c.in_ok-locals.locals c.in_ok-all.all c.in_ok-used.used c.write_body.result (all_known (λ body. body.locals) (λ body. body.order) (λ body. body.used) c.in_ok-locals.locals c.in_ok-all.all c.in_ok-used.used c.write_body.result c.write_body.ensures.numbered c.write_body.ensures.ordered c.write_body.ensures.marked))
-    (rw (c.operators-operators.ensures.body, c.as_slice-7.ensures.value) at c.write_body.ensures.written.1.0) in
+    (rw (c.in_ok-code.ensures.body, c.as_slice-7.ensures.value) at c.write_body.ensures.written.1.0) in
     (places, (made, c.write_body.ensures.written.1.1))
 
 pub returns-in_err-fits-clause-written : goal.returns-in_err-fits-clause-written
-returns-in_err-fits-clause-written c = let p = err_from_is_err_and c.from_residual.result c.from_residual.ensures.1 in rw (p.1, p.2) ([], (tt, tt))
+returns-in_err-fits-clause-written c = let p = err_from_is_err_and c.from_residual-in_err-fits.result c.from_residual-in_err-fits.ensures.1 in rw (p.1, p.2) ([], (tt, tt))
 
 pub returns-in_err-fits-clause-located : goal.returns-in_err-fits-clause-located
-returns-in_err-fits-clause-located c = let p = err_from_is_err_and c.from_residual.result c.from_residual.ensures.1 in rw p.1 tt
+returns-in_err-fits-clause-located c = let p = err_from_is_err_and c.from_residual-in_err-fits.result c.from_residual-in_err-fits.ensures.1 in rw p.1 tt
 
 pub returns-in_err-all-clause-written : goal.returns-in_err-all-clause-written
 returns-in_err-all-clause-written c = let p = err_from_is_err_and c.from_residual-in_err-all.result c.from_residual-in_err-all.ensures.1 in rw (p.1, p.2) ([], (tt, tt))
@@ -214,4 +214,22 @@ returns-then-not-fits-clause-written c =
 
 pub returns-then-not-hold-clause-written : goal.returns-then-not-hold-clause-written
 returns-then-not-hold-clause-written c =
-    ([], (inr (inl (ap (blocks_hold (is_function_at c.args.types.now)) (sym c.operators-operators.ensures.body) ∙ sym c.blocks_hold-hold.ensures ∙ c.if-not-hold.true)), tt))
+    ([], (inr (inl (ap (blocks_hold (is_function_at c.args.types.now)) (sym c.in_ok-code.ensures.body) ∙ sym c.in_ok-hold.ensures ∙ c.if-not-hold.true)), tt))
+
+pub returns-in_err-parameters-clause-written : goal.returns-in_err-parameters-clause-written
+returns-in_err-parameters-clause-written c = let p = err_from_is_err_and c.from_residual.result c.from_residual.ensures.1 in rw (p.1, p.2) ([], (tt, tt))
+
+pub returns-in_err-parameters-clause-located : goal.returns-in_err-parameters-clause-located
+returns-in_err-parameters-clause-located c = let p = err_from_is_err_and c.from_residual.result c.from_residual.ensures.1 in rw p.1 tt
+
+pub returns-in_err-code-clause-written : goal.returns-in_err-code-clause-written
+returns-in_err-code-clause-written c = let p = err_from_is_err_and c.from_residual-in_err-code.result c.from_residual-in_err-code.ensures.1 in rw (p.1, p.2) ([], (tt, tt))
+
+pub returns-in_err-code-clause-located : goal.returns-in_err-code-clause-located
+returns-in_err-code-clause-located c = let p = err_from_is_err_and c.from_residual-in_err-code.result c.from_residual-in_err-code.ensures.1 in rw p.1 tt
+
+pub returns-in_err-hold-clause-written : goal.returns-in_err-hold-clause-written
+returns-in_err-hold-clause-written c = let p = err_from_is_err_and c.from_residual-in_err-hold.result c.from_residual-in_err-hold.ensures.1 in rw (p.1, p.2) ([], (tt, tt))
+
+pub returns-in_err-hold-clause-located : goal.returns-in_err-hold-clause-located
+returns-in_err-hold-clause-located c = let p = err_from_is_err_and c.from_residual-in_err-hold.result c.from_residual-in_err-hold.ensures.1 in rw p.1 tt

@@ -5,10 +5,10 @@ use Rattle.walrus_functions.specs.Declaring.{HasPlaces}
 use Rattle.walrus_functions.proofs.emit.find_declared.Goals as goal
 
 pub order_declared-requires : goal.order_declared-requires
-order_declared-requires c = c.requires.distinct
+order_declared-requires c = c.requires.named.distinct
 
 pub returns : goal.returns
 returns c =
     let has = rw c.in-Some.is at c.in_ok-parameters.ensures in
-    let places : HasPlaces (args_of c.args.function.now) c.in-Some.parameters = subst (λ (places : List ℕ). HasPlaces places c.in-Some.parameters) c.args-2.ensures has in
-    (places.distinct, c.in_ok-order_declared.ensures (locals_of (body_of c.args.function.now)) (args_of c.args.function.now) c.requires places.are)
+    let places : HasPlaces (args_of c.args.function.now) c.in-Some.parameters = subst (λ (places : List ℕ). HasPlaces places c.in-Some.parameters) c.requires.parameters has in
+    (places.distinct, c.in_ok-order_declared.ensures (locals_of (body_of c.args.function.now)) (args_of c.args.function.now) c.requires.named places.are)

@@ -20,5 +20,5 @@ returns c =
     let seen = ap (map val_type) c.as_slice.ensures.value in
     fit (item_at defs (place (function_type c.args.function.now))) slots (args_of c.args.function.now) (map val_type c.in-Some-2.held.items) (map val_type c.in-Some.signature.now.params.items) c.eq.result
     (ap (λ t. takes (item_at defs (place t))) (sym c.ty-2.ensures) ∙ ap takes c.get.ensures.value ∙ ap comp_takes c.in-Some.ensures)
-    (ap (map (item_at slots)) (sym c.args-2.ensures) ∙ held)
+    (ap (map (item_at slots)) (sym c.requires) ∙ held)
     (λ h. sym seen ∙ equal.0 (sym c.eq.ensures ∙ h) ∙ c.params.ensures, λ h. c.eq.ensures ∙ equal.1 (seen ∙ h ∙ sym c.params.ensures))

@@ -5,7 +5,6 @@ use Rattle.wasm_forms.specs.declared.error.WireError.{WireError}
 use Rattle.wasm_forms.specs.declared.error.WireError.TheVariants.{Malformed, Memory, TooLarge}
 use Rattle.wasm_forms.specs.declared.types.RawVal.{RawVal}
 use Rattle.walrus_types.specs.Operators.{Op}
-use Rattle.walrus_code.specs.Code.{ops_of}
 use Rattle.walrus_code.specs.Errors.{ir_error}
 use Rattle.walrus_code.specs.Names.{Lookup}
 use Rattle.walrus_code.specs.declared.error.IrError.{IrError}
@@ -14,6 +13,7 @@ use Rattle.walrus_bodies.specs.declared.features.Features.{Features}
 use Rattle.walrus_code.specs.Indices.{index_of, local_index}
 use Rattle.walrus_bodies.specs.Declarations.{declarations_of, spelling}
 use Rattle.walrus_bodies.specs.Emitting.{OperatorsWritten}
+use Rattle.walrus_functions.specs.Code.{ops_of_code}
 use Rattle.walrus_functions.specs.EmittedBody.{declarations_bytes}
 use Rattle.walrus_functions.specs.Writing.{WritesBehind}
 use Rattle.walrus_functions.proofs.SpellingLemmas.{spelled_same}
@@ -25,11 +25,11 @@ returns-clause-written c =
     let ds = c.args.declarations.now in
     let old : c.write_vector.new.to.items ≡ declarations_bytes (declarations_of ds) = c.in_ok-write_vector.ensures.adds.0 ∙ ap (λ (bytes : List ℕ). bytes ++ vector_bytes spelling ds) c.in_ok-bytes.ensures.items ∙ spelled_same ds in
     let all = c.in_ok-places.ensures.written in
-    let here : c.shrink_to_fit.new.self.items ≡ c.append_operators.new.to.items = c.shrink_to_fit.ensures.items in (
+    let here : c.shrink_to_fit.new.self.items ≡ c.append_code.new.to.items = c.shrink_to_fit.ensures.items in (
       all.0,
       (
-        subst (λ (bytes : List ℕ). OperatorsWritten (index_of c.args.scope.now.indices.now) (local_index c.args.locals) c.args.scope.now.features.now (ops_of c.args.operators.now) (declarations_bytes (declarations_of ds)) bytes all.0) (sym here)
-            (subst (λ (bytes : List ℕ). OperatorsWritten (index_of c.args.scope.now.indices.now) (local_index c.args.locals) c.args.scope.now.features.now (ops_of c.args.operators.now) bytes c.append_operators.new.to.items all.0) old all.1.0),
+        subst (λ (bytes : List ℕ). OperatorsWritten (index_of c.args.scope.now.indices.now) (local_index c.args.locals) c.args.scope.now.features.now (ops_of_code c.args.code.now) (declarations_bytes (declarations_of ds)) bytes all.0) (sym here)
+            (subst (λ (bytes : List ℕ). OperatorsWritten (index_of c.args.scope.now.indices.now) (local_index c.args.locals) c.args.scope.now.features.now (ops_of_code c.args.code.now) bytes c.append_code.new.to.items all.0) old all.1.0),
         all.1.1,
       ),
     )
@@ -100,7 +100,7 @@ returns-in_err-write_vector-clause-written c =
     let p = err_from_is_err_and c.from_residual-in_err-write_vector.result c.from_residual-in_err-write_vector.ensures.1 in (
       [],
       (
-        front_refused (index_of c.args.scope.now.indices.now) (local_index c.args.locals) c.args.scope.now.features.now (ops_of c.args.operators.now) (declarations_of c.args.declarations.now) (λ body. body.bytes.items) c.args.declarations.now c.from_residual-in_err-write_vector.result c.in_err-write_vector.field-0.0 _ _ _ c.requires c.in_err-write_vector.ensures.adds c.from_residual-in_err-write_vector.ensures.1,
+        front_refused (index_of c.args.scope.now.indices.now) (local_index c.args.locals) c.args.scope.now.features.now (ops_of_code c.args.code.now) (declarations_of c.args.declarations.now) (λ body. body.bytes.items) c.args.declarations.now c.from_residual-in_err-write_vector.result c.in_err-write_vector.field-0.0 _ _ _ c.requires.few c.in_err-write_vector.ensures.adds c.from_residual-in_err-write_vector.ensures.1,
         rw p.1 tt,
       ),
     )

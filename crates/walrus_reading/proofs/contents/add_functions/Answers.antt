@@ -1,6 +1,7 @@
 use Rattle.std.proofs.Common.{◌≡◌, [], ◌∷◌, ◌++◌, get_or, ap, sym, ◌∙◌}
 use Rattle.std.specs.Prelude.{length}
 use Rattle.std.specs.Fn.{FnReturnsAt}
+use Rattle.walrus_functions.specs.ReadFunction.{Given}
 use Rattle.std.proofs.lemmas.Result.{err_from_is_err_and}
 use Rattle.walrus_types.specs.Locals.{locals}
 use Rattle.walrus_types.specs.ModuleTypes.{type_slots}
@@ -43,7 +44,7 @@ loop-place-init g c = record {
   taken = none_taken (context_under c.args.under.now c.args.types.now) (types_in c.args.types.now) (tags_under c.args.under.now) c.args.of_types.now c.args.bodies.now c.requires.as_many
       (slots_of c.args.types.now) (locals c.args.all.now) (functions c.args.funcs.now) (functions c.reserve.new.self) c.requires.no_locals c.reserve.ensures.same _ c.in_ok-starts.ensures.begun;
   end = sym (ap length c.requires.no_locals);
-  located = none_located (FnReturnsAt g.L.Fn c.args.under.now.locate.now) c.args.of_types.now c.args.bodies.now c.requires.as_many (functions c.args.funcs.now) (functions c.reserve.new.self) c.reserve.ensures.same;
+  located = none_located (Given c.args.under.now.texts (FnReturnsAt g.L.Fn c.args.under.now.locate.now)) c.args.of_types.now c.args.bodies.now c.requires.as_many (functions c.args.funcs.now) (functions c.reserve.new.self) c.reserve.ensures.same;
 }
 
 pub loop-place-preserved : goal.loop-place-preserved
@@ -62,7 +63,7 @@ loop-place-preserved g c =
           (get_or c.args.of_types.now c.loop-place.place _, body_record (get_or c.args.bodies.now c.loop-place.place _)) (c.requires.declared c.loop-place.place _ c.loop-place-test.true)
           (locals c.loop-place.all) (locals c.add_function.new.all) (length (functions c.loop-place.funcs)) t.0 t.1.1) (c.in_ok-push.ensures.items ∙ ap (λ n. c.loop-place.starts.items ++ n ∷ []) end);
       end = end;
-      located = more_located (FnReturnsAt g.L.Fn c.args.under.now.locate.now) c.args.of_types.now c.args.bodies.now c.requires.as_many c.loop-place.place _ (functions c.args.funcs.now) (functions c.loop-place.funcs) (functions c.add_function.new.funcs) c.loop-place-test.true c.loop-place.invariant.located l.0 l.1.0 l.1.1;
+      located = more_located (Given c.args.under.now.texts (FnReturnsAt g.L.Fn c.args.under.now.locate.now)) c.args.of_types.now c.args.bodies.now c.requires.as_many c.loop-place.place _ (functions c.args.funcs.now) (functions c.loop-place.funcs) (functions c.add_function.new.funcs) c.loop-place-test.true c.loop-place.invariant.located l.0 l.1.0 l.1.1;
     }
 
 pub returns-clause-taken : goal.returns-clause-taken
@@ -71,4 +72,4 @@ returns-clause-taken g c =
     c.loop-place.place (slots_of c.args.types.now) (slots_of c.loop-place.types) (locals c.loop-place.all) (functions c.args.funcs.now) (functions c.loop-place.funcs) c.loop-place.starts.items c.loop-place-test.false c.loop-place.invariant.taken
 
 pub returns-clause-located : goal.returns-clause-located
-returns-clause-located g c = all_located (FnReturnsAt g.L.Fn c.args.under.now.locate.now) c.args.of_types.now c.args.bodies.now c.requires.as_many c.loop-place.place (functions c.args.funcs.now) (functions c.loop-place.funcs) c.loop-place-test.false c.loop-place.invariant.located
+returns-clause-located g c = all_located (Given c.args.under.now.texts (FnReturnsAt g.L.Fn c.args.under.now.locate.now)) c.args.of_types.now c.args.bodies.now c.requires.as_many c.loop-place.place (functions c.args.funcs.now) (functions c.loop-place.funcs) c.loop-place-test.false c.loop-place.invariant.located

@@ -1,5 +1,6 @@
 use Rattle.std.specs.Fn.{FnReturnsAt}
-use Rattle.std.proofs.Common.{ℕ, List, refl, subst, ◌≡◌, length, map, sym, ap, ◌∙◌}
+use Rattle.walrus_functions.specs.ReadFunction.{Given, GivenIf}
+use Rattle.std.proofs.Common.{ℕ, Bool, List, refl, subst, ◌≡◌, length, map, sym, ap, ◌∙◌}
 use Rattle.std.specs.Prelude.{All, Ok, Some}
 use Rattle.std.proofs.lemmas.List.{length-map}
 use Rattle.walrus_groups.specs.Groups.{types_from}
@@ -28,7 +29,7 @@ use Rattle.walrus_model.specs.Sections.{data_of, element_of, global_of, imported
 use Rattle.walrus_reading.specs.Held.{HoldsData, HoldsElement, HoldsGlobal, HoldsMemory, HoldsTable, HoldsTag, none_kept}
 use Rattle.walrus_reading.specs.Placed.{AddsPlaced, AllPlaced}
 use Rattle.walrus_reading.specs.Stays.{AllStay, DataStays, ElementStays, ExportStays, GlobalStays, TableStays, TypeStays}
-use Rattle.walrus_reading.specs.Taken.{HoldsExport, tag_types_of}
+use Rattle.walrus_reading.specs.Taken.{AreLocatedIn, HoldsExport, tag_types_of}
 use Rattle.walrus_reading.proofs.KeptSegments.{data_on_live, elements_on_live, memories_kept, tables_kept}
 use Rattle.walrus_reading.proofs.Locating.{located_in}
 use Rattle.walrus_reading.proofs.Numbered.{stay}
@@ -164,8 +165,9 @@ returns-clause-taken g c =
 pub returns-clause-located : goal.returns-clause-located
 returns-clause-located g c =
     let b = c.in_ok-contents.contents in
-    located_in (FnReturnsAt g.L.Fn c.args.locate.now) (sections c.args.raw.now) c.deref-4.result.now (functions b.funcs) (functions c.add_functions.new.funcs) (ap (map body_record) c.deref-4.ensures.value)
-    c.in_ok-contents.ensures.begun.brought.functions c.in_ok-starts.ensures.located
+    subst (λ (as_texts : Bool). AreLocatedIn (GivenIf as_texts (FnReturnsAt g.L.Fn c.args.locate.now)) (sections c.args.raw.now) (functions c.add_functions.new.funcs)) c.texts_in.ensures.asked
+    (located_in (Given c.texts_in.result (FnReturnsAt g.L.Fn c.args.locate.now)) (sections c.args.raw.now) c.deref-4.result.now (functions b.funcs) (functions c.add_functions.new.funcs) (ap (map body_record) c.deref-4.ensures.value)
+    c.in_ok-contents.ensures.begun.brought.functions c.in_ok-starts.ensures.located)
 
 pub add_producers-requires : goal.add_producers-requires
 add_producers-requires g c = record { none = c.in_ok-contents.ensures.begun.producers }

@@ -1,5 +1,6 @@
 use Rattle.std.proofs.Common.{List, refl, subst, map}
 use Rattle.std.specs.Fn.{FnReturnsAt}
+use Rattle.walrus_functions.specs.ReadFunction.{GivenIf}
 use Rattle.std.proofs.lemmas.Result.{err_from_is_err_and}
 use Rattle.wasm_frames.specs.declared.record.RawCustom.{RawCustom}
 use Rattle.wasm_frames.specs.Record.{custom_record, sections}
@@ -51,7 +52,7 @@ returns-clause-located g c =
     let b : Bounds = record { types = c.in_ok-contents.types; starts = c.in_ok-contents.starts.items; synthetic = c.args.synthetic } in
     let named : AreNamed b (sections c.args.raw.now).customs (shown contents) (shown c.in_ok-named.named) =
     subst (λ (l : List RawCustom). AreNamed b (map custom_record l) (shown contents) (shown c.in_ok-named.named)) c.deref.ensures.value c.in_ok-named.ensures.named in
-    located_still (FnReturnsAt g.L.Fn c.args.locate.now) (sections c.args.raw.now) contents c.in_ok-named.named (renamed_by_names b (sections c.args.raw.now).customs contents c.in_ok-named.named named) c.in_ok-contents.ensures.located
+    located_still (GivenIf c.args.as_texts (FnReturnsAt g.L.Fn c.args.locate.now)) (sections c.args.raw.now) contents c.in_ok-named.named (renamed_by_names b (sections c.args.raw.now).customs contents c.in_ok-named.named named) c.in_ok-contents.ensures.located
 
 pub returns-clause-produced : goal.returns-clause-produced
 returns-clause-produced g c =

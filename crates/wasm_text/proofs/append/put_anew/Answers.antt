@@ -7,7 +7,7 @@ use Rattle.wasm_text.proofs.append.put_anew.Goals as goal
 
 pub returns-in_default-rename_arg-clause-steps : goal.returns-in_default-rename_arg-clause-steps
 returns-in_default-rename_arg-clause-steps g c =
-    inl (refl, record { arg = c.in-Ok.arg; rest = c.in-Ok.rest.now; here = ap (at (form_of (kind_of c.args.mark))) (sym c.rest_from.ensures) ∙ c.in-Ok.ensures; lacks = sym c.rename_arg.ensures ∙ c.in_default-rename_arg.is })
+    inl (refl, record { arg = c.in-Ok.arg; rest = c.in-Ok.rest.now; here = ap (at (form_of (kind_of c.args.mark))) (sym c.rest_from.ensures) ∙ c.in-Ok.ensures; lacks = sym c.rename_arg.ensures.is ∙ c.in_default-rename_arg.is })
 
 pub overflow_sub-result : goal.overflow_sub-result
 overflow_sub-result g c =

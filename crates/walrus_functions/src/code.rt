@@ -1,0 +1,120 @@
+//! The operators of a body that is written, as they are held (Binary Format > Instructions).
+ghost use Rattle.std.specs.Prelude.{◌≡◌, ◌++◌, ℕ, List, true, map, IfOk};
+ghost use Rattle.walrus_base.specs.Id.{place};
+ghost use Rattle.walrus_types.specs.Operators.{locals_of};
+ghost use Rattle.walrus_text.specs.Function.{body_of, locations_of};
+ghost use Rattle.walrus_code.specs.Indices.{index_of, local_index};
+ghost use Rattle.walrus_bodies.specs.Blocks.{blocks_hold};
+ghost use Rattle.walrus_bodies.specs.Emitting.{EmitsOperators};
+ghost use Rattle.walrus_bodies.specs.FunctionTypes.{is_function_at};
+ghost use Rattle.walrus_bodies.specs.Results.{kept_if};
+ghost use Rattle.walrus_text.specs.Text.{ops_in};
+ghost use Rattle.walrus_functions.specs.Code.{is_listed, locations_of_code, ops_of_code};
+ghost use Rattle.walrus_functions.specs.Declaring.{AreOnce};
+
+use crate::declared::named_once;
+use crate::marks::marked_locals;
+use std::alloc::{AllocError, Global};
+use walrus_base::LocalId;
+use walrus_bodies::{Features, append_operators, blocks_hold};
+use walrus_code::{IdsToIndices, InstrLocId, IrError, LocalNumbers};
+use walrus_text::{LocalFunction, Operators, Text};
+use walrus_types::ModuleTypes;
+
+// The operators of a body.
+#[derive(Drop)]
+pub(crate) enum Code<'a> {
+    // As they stand in the input.
+    Text(&'a Text),
+    // A list.
+    List(Operators<'a>),
+}
+
+// The operators of a function: a list where places are asked for.
+pub(crate) fn code_of(
+    alloc: Global,
+    function: &LocalFunction,
+    asks_places: bool,
+) -> Result<Code<'_>, AllocError>
+    ensures body { IfOk result (λ code. ops_of_code code ≡ body_of function.now) }
+    ensures locations { IfOk result (λ code. locations_of_code code ≡ locations_of function.now) }
+    ensures listed { asks_places ≡ true → IfOk result (λ code. is_listed code ≡ true) }
+{
+    match function.text() {
+        Some(text) if !asks_places => Ok(Code::Text(text)),
+        _ => Ok(Code::List(function.operators(alloc)?)),
+    }
+}
+
+// Whether each type of a block in the operators is a function type.
+pub(crate) fn code_holds(types: &ModuleTypes, code: &Code) -> Result<bool, AllocError>
+    ensures { IfOk result (λ hold. hold ≡ blocks_hold (is_function_at types.now) (ops_of_code code.now)) }
+{
+    match code {
+        Code::Text(text) => text.blocks_hold(types),
+        Code::List(operators) => Ok(blocks_hold(types, operators.as_slice())),
+    }
+}
+
+// The locals that the operators of a body name, each once, by rising place.
+fn text_locals(alloc: Global, text: &Text) -> Result<Vec<LocalId>, AllocError>
+    ensures { IfOk result (λ named. AreOnce (locals_of (ops_in text.now)) (map place named.items)) }
+{
+    let used = text.used_locals(alloc)?;
+    marked_locals(alloc, text.first_local() as usize, used.as_slice())
+}
+
+// The same of any body.
+pub(crate) fn code_locals(alloc: Global, code: &Code) -> Result<Vec<LocalId>, AllocError>
+    ensures { IfOk result (λ named. AreOnce (locals_of (ops_of_code code.now)) (map place named.items)) }
+{
+    match code {
+        Code::Text(text) => text_locals(alloc, text),
+        Code::List(operators) => named_once(alloc, operators.as_slice()),
+    }
+}
+
+// For how many bytes to reserve memory: as many as stand in the input, or two for each operator, and a few for declarations.
+pub(crate) fn likely_length(code: &Code) -> usize {
+    match code {
+        Code::Text(text) => text.byte_count().saturating_add(4),
+        Code::List(operators) => {
+            let count = operators.as_slice().len();
+            count.saturating_mul(2).saturating_add(4)
+        }
+    }
+}
+
+// Appends the operators, and answers the location of each with its place, if that is asked for.
+pub(crate) fn append_code(
+    alloc: Global,
+    to: &mut Vec<u8>,
+    code: &Code,
+    indices: &IdsToIndices,
+    locals: &LocalNumbers,
+    features: &Features,
+    asks_places: bool,
+) -> Result<Vec<(InstrLocId, usize)>, IrError>
+    requires { asks_places ≡ true → is_listed code.now ≡ true }
+    ensures written { (places : List ℕ) × (EmitsOperators (index_of indices.now) (local_index locals.now)
+        features.now (ops_of_code code.now) to.old.items to.new.items (λ _. places) result
+        × IfOk result (λ placed. map (λ p. p.1) placed.items ≡ kept_if asks_places places)) }
+    ensures located { IfOk result (λ placed. map (λ p. p.0) placed.items
+        ≡ kept_if asks_places (locations_of_code code.now)) }
+{
+    match code {
+        Code::Text(text) => {
+            text.append(to, indices, locals)?;
+            Ok(Vec::new(alloc))
+        }
+        Code::List(operators) => append_operators(
+            alloc,
+            to,
+            operators.as_slice(),
+            indices,
+            locals,
+            features,
+            asks_places,
+        ),
+    }
+}

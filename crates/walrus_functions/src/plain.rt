@@ -1,0 +1,126 @@
+//! Reading a function whose body is kept as it stands in the input (Binary Format > Modules > Code Section).
+ghost use Rattle.std.specs.Prelude.{◌≡◌, ◌+◌, ℕ, List, Option, true, IfOk, IfSome, length};
+ghost use Rattle.walrus_base.specs.Arena.{item_at};
+ghost use Rattle.walrus_base.specs.Id.{place};
+ghost use Rattle.walrus_types.specs.Locals.{locals};
+ghost use Rattle.walrus_types.specs.ModuleTypes.{type_slots};
+ghost use Rattle.walrus_code.specs.Indices.{ids_at};
+ghost use Rattle.walrus_text.specs.Function.{locations_of};
+ghost use Rattle.walrus_bodies.specs.Body.{context};
+ghost use Rattle.walrus_bodies.specs.BodyRead.{BodyLocated};
+ghost use Rattle.walrus_bodies.specs.Declarations.{declarations_of};
+ghost use Rattle.walrus_bodies.specs.FunctionTypes.{is_function_at};
+ghost use Rattle.walrus_bodies.specs.declared.features.Features.{Features as Proposals};
+ghost use Rattle.walrus_text.specs.Limits.{Limits as Limited};
+ghost use Rattle.walrus_text.specs.Scanned.{AreInPlace, IsPlace};
+ghost use Rattle.walrus_functions.specs.Handlers.{params_of};
+ghost use Rattle.walrus_functions.specs.Plain.{IfPlain, IsPlainRead, total};
+ghost use Rattle.walrus_functions.specs.ReadFunction.{ReadsFunction, StaysInFront};
+ghost use Rattle.walrus_functions.specs.Signatures.{slots_of};
+
+use crate::read::add_locals;
+use std::alloc::{AllocError, Global};
+use walrus_base::TypeId;
+use walrus_bodies::{Declaration, declare, read_declarations};
+use walrus_code::{IndicesToIds, IrError};
+use walrus_text::{Limits, LocalFunction, Text};
+use walrus_types::{ModuleLocals, ModuleTypes};
+
+// A body that is kept as it stands: how many parameters its function has, the locals that it declares, and its operators.
+#[derive(Drop)]
+pub(crate) struct PlainBody {
+    params: u32,
+    declarations: Vec<Declaration>,
+    text: Text,
+}
+
+// How many locals a function has, with so many parameters and these declarations; none where that passes 32 bits.
+fn count_locals(params: u32, declarations: &[Declaration]) -> Option<u32>
+    ensures { IfSome result (λ count. count ≡ params + total (declarations_of declarations.now)) }
+{
+    let mut count = params;
+    'declarations: for declaration in declarations {
+        count = count.checked_add(declaration.count)?;
+    }
+    Some(count)
+}
+
+// The body, if it is plain and names only what is within the counts, and so many parameters and the locals that it declares, which lie from the
+// place `first` on; none where there are no counts. What stands in `room` goes.
+pub(crate) fn scan_plain(
+    alloc: Global,
+    bytes: &[u8],
+    start: usize,
+    texts: Option<Limits>,
+    params: usize,
+    first: usize,
+    types: &ModuleTypes,
+    room: &mut Vec<u32>,
+) -> Result<Option<PlainBody>, AllocError>
+    ensures { IfOk result (λ found. IfSome found (IfPlain texts (λ limits plain.
+        IsPlainRead limits (is_function_at types.now) first params start bytes.now plain))) }
+{
+    let Some(limits) = texts else {
+        return Ok(None);
+    };
+    let Ok(params) = u32::try_from(params) else {
+        return Ok(None);
+    };
+    let Ok((declarations, rest)) = read_declarations(alloc, bytes) else {
+        return Ok(None);
+    };
+    let Some(locals) = count_locals(params, declarations.as_slice()) else {
+        return Ok(None);
+    };
+    let Ok(first_local) = u32::try_from(first) else {
+        return Ok(None);
+    };
+    let within = with_locals(limits, locals);
+    let begin = start.saturating_add(bytes.len().saturating_sub(rest.len()));
+    let Some(text) = Text::scan(alloc, rest, begin, first_local, &within, room)? else {
+        return Ok(None);
+    };
+    if !text.blocks_hold(types)? {
+        return Ok(None);
+    }
+    Ok(Some(PlainBody {
+        params,
+        declarations,
+        text,
+    }))
+}
+
+// The same counts, with so many locals.
+fn with_locals(limits: Limits, locals: u32) -> Limits
+    ensures { result ≡ record limits { locals = locals } }
+{
+    let mut limits = limits;
+    limits.locals = locals;
+    limits
+}
+
+// The function of this type with a body that was found plain; its parameters and then the locals that it declares are added to the module's.
+pub(crate) fn take_plain(
+    alloc: Global,
+    plain: PlainBody,
+    ty: TypeId,
+    indices: &IndicesToIds,
+    types: &ModuleTypes,
+    module_locals: &mut ModuleLocals,
+) -> Result<LocalFunction, IrError>
+    requires typed { is_function_at types.now (place ty) ≡ true }
+    ensures taken { (limits : Limited) (start : ℕ) (bytes : List ℕ) (features : Proposals)
+        (tags : ℕ → Option ℕ) → AreInPlace limits (ids_at indices.now)
+        → IsPlainRead limits (is_function_at types.now) (length (locals module_locals.old))
+        (length (params_of (item_at (type_slots types.now) (place ty)))) start bytes plain
+        → ReadsFunction (context (ids_at indices.now) (is_function_at types.now) features) tags (place ty)
+        (slots_of types.now) (slots_of types.now) (locals module_locals.old) (locals module_locals.new)
+        bytes result × IfOk result (λ f. BodyLocated IsPlace start bytes (locations_of f)) }
+    ensures locals_stay { StaysInFront (locals module_locals.old) (locals module_locals.new) }
+{
+    let _args = add_locals(alloc, types.get(ty).params(), module_locals)?;
+    let declarations = plain.declarations.as_slice();
+    let _declared = declare(alloc, declarations, indices, module_locals)?;
+    plain.text.is_plain();
+    Ok(LocalFunction::of_text(alloc, ty, plain.params, plain.text))
+}

@@ -1,0 +1,23 @@
+-- Places one behind another.
+use Rattle.std.proofs.Common.{◌≡◌, ℕ, ◌+◌, List, [], ◌∷◌, ◌++◌, length, map, refl, ap, ◌∙◌, sym}
+use Rattle.std.proofs.lemmas.List.{map-append}
+use Rattle.std.proofs.lemmas.List.FromFn.{length-range_with_len, map-range_with_len_more}
+use Rattle.std.specs.List.{range_with_len}
+use Rattle.walrus_base.specs.Id.{place}
+use Rattle.walrus_base.specs.declared.id.Id.{Id}
+use Rattle.walrus_base.specs.declared.keys.LocalKey.{LocalKey}
+
+map_same : (ns : List ℕ) → map (λ k. k) ns ≡ ns
+map_same [] = refl
+map_same (m ∷ ns) = ap (λ (xs : List ℕ). m ∷ xs) (map_same ns)
+
+range_more : (first n : ℕ) → range_with_len first (n + 1) ≡ range_with_len first n ++ (first + n) ∷ []
+range_more first n = sym (map_same (range_with_len first (n + 1))) ∙ map-range_with_len_more (λ k. k) first n (first + n) refl ∙ ap (λ (ns : List ℕ). ns ++ (first + n) ∷ []) (map_same (range_with_len first n))
+
+-- one more place behind so many
+pub one_more : (first n : ℕ) (ids new : List (Id LocalKey)) (id : Id LocalKey) → new ≡ ids ++ id ∷ [] → map place ids ≡ range_with_len first n → place id ≡ first + n → map place new ≡ range_with_len first (n + 1)
+one_more first n ids new id is so_far at =
+    ap (map place) is ∙ map-append place ids (id ∷ []) ∙ ap (λ (ns : List ℕ). ns ++ place id ∷ []) so_far ∙ ap (λ (p : ℕ). range_with_len first n ++ p ∷ []) at ∙ sym (range_more first n)
+
+pub as_many : (first count : ℕ) → count ≡ length (range_with_len first count)
+as_many first count = sym (length-range_with_len first count)

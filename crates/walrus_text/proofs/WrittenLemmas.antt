@@ -1,0 +1,86 @@
+-- A plain body with new numbers is written.
+use Rattle.std.proofs.Common.{◌≡◌, ℕ, Bool, true, false, List, [], ◌∷◌, ◌++◌, length, map, Option, None, refl, ap, ◌∙◌}
+use Rattle.std.specs.Prelude.{◌&&◌, ◌||◌, not, nat_eq}
+use Rattle.std.specs.List.{list_all}
+use Rattle.wasm_forms.specs.Number.{AreBytes}
+use Rattle.wasm_forms.specs.Writing.{EachFits}
+use Rattle.wasm_opcodes.specs.declared.one_byte.TheConstants.{REF_FUNC}
+use Rattle.wasm_text.specs.Operators as wire
+use Rattle.wasm_text.specs.Marks.{Holds, args_at, fill, with}
+use Rattle.wasm_text.specs.Filling.{Numbering, anew, HasNumber, SomeLacks}
+use Rattle.wasm_text.specs.Classes.{is_plain}
+use Rattle.wasm_text.proofs.Renaming.{filled_renamed, lacking_lacks}
+use Rattle.walrus_types.specs.Operators.{Op}
+use Rattle.walrus_bodies.specs.Names.{Lookup, named_ops}
+use Rattle.walrus_bodies.specs.declared.features.Features.{Features}
+use Rattle.walrus_bodies.specs.Blocks.{are_nested}
+use Rattle.walrus_bodies.specs.Features.{is_legacy, is_wide_arithmetic, is_allowed, are_allowed}
+use Rattle.walrus_bodies.specs.Emitting.{places_from, OperatorsWritten}
+use Rattle.walrus_bodies.proofs.EmitLemmas.{emits}
+use Rattle.std.specs.Prelude.{Ok}
+use Rattle.walrus_text.specs.Numbers.{numbering}
+use Rattle.walrus_text.specs.Placed.{placed_ops}
+use Rattle.walrus_text.specs.Plain.{is_plain_arg, is_plain_op}
+use Rattle.walrus_text.specs.Text.{ops_in, texts_of, first_local_of}
+use Rattle.walrus_text.specs.Texts.{texts_at}
+use Rattle.walrus_text.specs.declared.text.Text.{Text}
+use Rattle.walrus_text.proofs.OrderLemmas.{shown_of}
+use Rattle.walrus_text.proofs.TextLemmas.{row_of}
+use Rattle.walrus_text.proofs.RenamedLemmas.{ops_named, ops_unnamed}
+use Rattle.walrus_text.proofs.StandLemmas.{all_stand}
+
+parts : (s t : Bool) → (s && t) ≡ true → (s ≡ true) × (t ≡ true)
+parts true true e = (refl, refl)
+parts true false e = absurd cc
+parts false true e = absurd cc
+parts false false e = absurd cc
+
+-- ---- plain operators may be used whatever the features are
+
+allowed_by : (legacy named wide taken stable : Bool) → (not (legacy || named) && not wide) ≡ true → ((not legacy || taken) && not (wide && stable)) ≡ true
+allowed_by true named wide taken stable e = absurd cc
+allowed_by false true wide taken stable e = absurd cc
+allowed_by false false true taken stable e = absurd cc
+allowed_by false false false taken stable e = refl
+
+one_allowed : (features : Features) (op : ℕ) → is_plain op ≡ true → is_allowed features op ≡ true
+one_allowed features op e = allowed_by (is_legacy op) (nat_eq op REF_FUNC) (is_wide_arithmetic op) features.legacy_exceptions features.only_stable e
+
+allowed : (features : Features) (first count : ℕ) (ops : List Op) → list_all (is_plain_op first count) ops ≡ true → are_allowed features ops ≡ true
+allowed features first count [] e = refl
+allowed features first count (o ∷ ops) e =
+    let p = parts (is_plain_op first count o) (list_all (is_plain_op first count) ops) e in
+    let q = parts (is_plain o.op) (list_all (is_plain_arg first count) o.args) p.0 in
+    ap (λ t. t && are_allowed features ops) (one_allowed features o.op q.0) ∙ allowed features first count ops p.1
+
+-- ---- a body
+
+holds : (t : Text) → Holds t.bytes.items t.marks.items (texts_at t.count t.bytes.items)
+holds t = record { row = (row_of t.count t.bytes.items t.whole).0; shown = shown_of t }
+
+pub written : (t : Text) (names : Lookup) (locals : ℕ → Option ℕ) (features : Features) (old new : List ℕ) → AreBytes t.bytes.items
+    → EachFits (HasNumber (numbering names locals t.first_local)) (args_at t.bytes.items t.marks.items) → new ≡ old ++ fill (anew (numbering names locals t.first_local)) t.bytes.items 0 t.marks.items
+    → OperatorsWritten names locals features (ops_in t) old new (places_from (length old) (map (with (anew (numbering names locals t.first_local))) (texts_of t)))
+unfolding texts_of first_local_of
+written t names locals features old new bytes each filled =
+    let number : Numbering = numbering names locals t.first_local in
+    let texts : List wire.Op = texts_at t.count t.bytes.items in
+    let after : List wire.Op = map (with (anew number)) texts in
+    let ops : List Op = placed_ops t.first_local texts in
+    let p = parts (list_all (is_plain_op t.first_local t.local_count) ops) (are_nested ops) t.plain in
+    let r = filled_renamed number t.bytes.items t.marks.items texts (holds t) each in
+    emits {X = Unit {0}} names locals features ops old new (λ _. places_from (length old) after) (Ok tt) p.1 (allowed features t.first_local t.local_count ops p.0) (record {
+      texts = after;
+      named = ops_named names locals t.first_local texts r.0;
+      spelled = filled ∙ ap (λ bs. old ++ bs) r.1;
+      placed = refl;
+      stand = all_stand number texts t.bytes.items r.0 bytes (holds t).row;
+    })
+
+pub unnamed : (t : Text) (names : Lookup) (locals : ℕ → Option ℕ) → SomeLacks (numbering names locals t.first_local) (args_at t.bytes.items t.marks.items) → named_ops names locals (ops_in t) ≡ None
+unfolding texts_of first_local_of
+unnamed t names locals some =
+    let texts : List wire.Op = texts_at t.count t.bytes.items in
+    let ops : List Op = placed_ops t.first_local texts in
+    let p = parts (list_all (is_plain_op t.first_local t.local_count) ops) (are_nested ops) t.plain in
+    ops_unnamed names locals t.first_local t.local_count texts p.0 (lacking_lacks (numbering names locals t.first_local) t.bytes.items t.marks.items texts (holds t) some)

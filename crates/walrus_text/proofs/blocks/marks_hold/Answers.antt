@@ -1,0 +1,12 @@
+use Rattle.walrus_bodies.specs.Blocks.{block_holds}
+use Rattle.walrus_bodies.specs.FromRaw.{arg_of}
+use Rattle.walrus_text.proofs.NamesShown.{hold_more, hold_not}
+use Rattle.walrus_text.proofs.blocks.marks_hold.Goals as goal
+
+pub returns-then-not-branch : goal.returns-then-not-branch
+returns-then-not-branch g c =
+    hold_not (λ arg. block_holds (g.T.FunctionTypes.function_types c.args.types.now) (arg_of arg)) c.args.bytes.now c.args.marks.now c.marks.mark-index _ c.in_ok-mark_holds.field-0 c.if-not-branch.true c.marks-test.true c.marks.invariant c.in_ok-mark_holds.ensures
+
+pub marks-preserved : goal.marks-preserved
+marks-preserved g c =
+    hold_more (λ arg. block_holds (g.T.FunctionTypes.function_types c.args.types.now) (arg_of arg)) c.args.bytes.now c.args.marks.now c.marks.mark-index _ c.in_ok-mark_holds.field-0 c.if-not-branch.false c.marks-test.true c.marks.invariant c.in_ok-mark_holds.ensures

@@ -1,0 +1,8 @@
+use Rattle.std.proofs.Common.{map, ap, ◌∙◌}
+use Rattle.std.proofs.lemmas.List.{map-append}
+use Rattle.walrus_base.specs.Id.{place}
+use Rattle.walrus_text.proofs.RangeLemmas.{one_more}
+use Rattle.walrus_text.proofs.function.ids_from.Goals as goal
+
+pub locals-preserved : goal.locals-preserved
+locals-preserved c = one_more c.args.first c.locals.offset _ _ _ c.in_ok-push.ensures.items c.locals.invariant c.at.ensures

@@ -1,0 +1,88 @@
+//! The types of the blocks of a body (Structure > Instructions > Control Instructions).
+ghost use Rattle.std.specs.Prelude.{◌≡◌, IfOk};
+ghost use Rattle.std.specs.List.{list_all};
+ghost use Rattle.wasm_text.specs.Marks.{AreInOrder, args_at};
+ghost use Rattle.walrus_bodies.specs.Blocks.{block_holds, blocks_hold};
+ghost use Rattle.walrus_types.specs.Operators.{Block};
+ghost use Rattle.walrus_bodies.specs.Code.{arg_of, block_of};
+ghost use Rattle.walrus_bodies.specs.FromRaw as from_raw;
+ghost use Rattle.walrus_text.specs.Names.{OfArgument};
+ghost use Rattle.walrus_text.specs.Text.{ops_in};
+
+use crate::place::place_arg;
+use crate::text::Text;
+use std::alloc::AllocError;
+use walrus_bodies::{Arg, BlockType, FunctionTypes};
+use wasm_text::{MARK_BLOCK, read_marked, rest_from};
+
+// Whether the type of a block is a function type, or none of the module's.
+fn type_holds<T: FunctionTypes>(types: &T, block: BlockType) -> bool
+    ensures { result ≡ block_holds (T.function_types types.now) (Block (block_of block)) }
+{
+    match block {
+        BlockType::OfType(id) => types.is_function_type(id),
+        BlockType::NoResult | BlockType::OneResult(_) => true,
+    }
+}
+
+// Whether an argument is no type of a block, or one that is a function type or none of the module's.
+fn arg_holds<T: FunctionTypes>(types: &T, arg: Arg) -> bool
+    ensures { result ≡ block_holds (T.function_types types.now) (arg_of arg) }
+{
+    match arg {
+        Arg::Block(block) => type_holds(types, block),
+        _ => true,
+    }
+}
+
+// Whether the type of a block that stands at a mark is a function type, or none of the module's.
+#[inline(never)]
+fn read_holds<T: FunctionTypes>(types: &T, bytes: &[u8], mark: u32) -> Result<bool, AllocError>
+    ensures { IfOk result (λ holds. OfArgument bytes.now mark
+        (λ arg. holds ≡ block_holds (T.function_types types.now) (from_raw.arg_of arg))) }
+{
+    let Ok((arg, _rest)) = read_marked(mark % 16, rest_from(bytes, (mark / 16) as usize)) else {
+        return Err(AllocError);
+    };
+    Ok(arg_holds(types, place_arg(&arg, 0)))
+}
+
+// Whether what stands at a mark is no type of a block, or one that is a function type or none of the module's.
+#[inline]
+fn mark_holds<T: FunctionTypes>(types: &T, bytes: &[u8], mark: u32) -> Result<bool, AllocError>
+    ensures { IfOk result (λ holds. OfArgument bytes.now mark
+        (λ arg. holds ≡ block_holds (T.function_types types.now) (from_raw.arg_of arg))) }
+{
+    if mark % 16 == MARK_BLOCK {
+        return read_holds(types, bytes, mark);
+    }
+    Ok(true)
+}
+
+// The same of all marks.
+fn marks_hold<T: FunctionTypes>(types: &T, bytes: &[u8], marks: &[u32]) -> Result<bool, AllocError>
+    requires { AreInOrder bytes.now 0 marks.now }
+    ensures { IfOk result (λ hold. hold
+        ≡ list_all (λ arg. block_holds (T.function_types types.now) (from_raw.arg_of arg))
+        (args_at bytes.now marks.now)) }
+{
+    'marks: for mark in marks {
+        if !mark_holds(types, bytes, *mark)? {
+            return Ok(false);
+        }
+    }
+    Ok(true)
+}
+
+impl Text {
+    /// Whether each type of a block in it is a function type.
+    ///
+    /// # Errors
+    ///
+    /// `AllocError` where no memory is left.
+    pub fn blocks_hold<T: FunctionTypes>(&self, types: &T) -> Result<bool, AllocError>
+        ensures { IfOk result (λ hold. hold ≡ blocks_hold (T.function_types types.now) (ops_in self.now)) }
+    {
+        marks_hold(types, self.bytes.as_slice(), self.marks.as_slice())
+    }
+}

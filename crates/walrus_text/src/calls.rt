@@ -1,0 +1,41 @@
+//! What a body tells of itself.
+ghost use Rattle.std.specs.Prelude.{◌≡◌, true, length};
+ghost use Rattle.walrus_text.specs.Plain.{are_plain};
+ghost use Rattle.walrus_text.specs.Text.{first_local_of, local_count_of, ops_in};
+
+use crate::text::Text;
+
+impl Text {
+    /// How many operators it has, the last `0B` counted.
+    pub fn size(&self) -> usize
+        ensures { result ≡ length (ops_in self.now) }
+    {
+        self.count
+    }
+
+    /// How many bytes stand in the input.
+    pub fn byte_count(&self) -> usize {
+        self.bytes.len()
+    }
+
+    /// The place of the function's first local.
+    #[tactic(auto, unfolding(crate::specs::Text::first_local_of))]
+    pub fn first_local(&self) -> u32
+        ensures { result ≡ first_local_of self.now }
+    {
+        self.first_local
+    }
+
+    /// How many locals the function has, its parameters among them. They lie one behind another.
+    #[tactic(auto, unfolding(crate::specs::Text::local_count_of))]
+    pub fn local_count(&self) -> u32
+        ensures { result ≡ local_count_of self.now }
+    {
+        self.local_count
+    }
+
+    /// That it is plain. Nothing runs.
+    pub fn is_plain(&self)
+        ensures { are_plain (first_local_of self.now) (local_count_of self.now) (ops_in self.now) ≡ true }
+    {}
+}

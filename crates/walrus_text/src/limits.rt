@@ -1,0 +1,36 @@
+//! What plain bodies may name.
+ghost use Rattle.std.specs.Prelude.{◌≡◌, ◌<◌, ℕ, Some, slice_get};
+ghost use Rattle.walrus_bodies.specs.Indices.{ids_at, places_of};
+ghost use Rattle.walrus_text.specs.Scanned.{AreInPlace};
+
+use walrus_bodies::{IndexSpace, IndicesToIds};
+use wasm_text::Limits;
+
+// How many items of a space stand in front each of which is at the place of its index; at most 2^32 - 1.
+fn count_in_place<K>(space: &IndexSpace<K>) -> u32
+    ensures { (index : ℕ) → index < result → slice_get (places_of space.now) index ≡ Some index }
+{
+    let mut count: u32 = 0;
+    'ids: for id in space.as_slice() {
+        if id.index() != count as usize || count == u32::MAX {
+            return count;
+        }
+        count += 1;
+    }
+    count
+}
+
+/// The counts below which each index is the place of its item; of locals and blocks there are none.
+pub fn limits_of(indices: &IndicesToIds) -> Limits
+    ensures { AreInPlace result (ids_at indices.now) }
+{
+    Limits {
+        functions: count_in_place(&indices.functions),
+        globals: count_in_place(&indices.globals),
+        types: count_in_place(&indices.types),
+        tables: count_in_place(&indices.tables),
+        memories: count_in_place(&indices.memories),
+        locals: 0,
+        labels: 0,
+    }
+}
