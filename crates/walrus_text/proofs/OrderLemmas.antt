@@ -76,9 +76,6 @@ order_of bytes from (mark ∷ marks) e =
 
 -- ---- of a body
 
-pub in_order_of : (bytes : List ℕ) (from : ℕ) (marks : List ℕ) → ∥ AreInOrder bytes from marks ∥₁ → AreInOrder bytes from marks
-in_order_of bytes from marks h = order_of bytes from marks (∥∥₁_elim h (hlevel props) (order_told bytes from marks))
-
 pub in_order : (t : Text) → AreInOrder t.bytes.items 0 t.marks.items
 in_order t = order_of t.bytes.items 0 t.marks.items (∥∥₁_elim t.shown (hlevel props) (λ s. order_told t.bytes.items 0 t.marks.items s.ordered))
 

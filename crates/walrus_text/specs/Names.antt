@@ -1,9 +1,9 @@
 -- What stands at marks, and what it names.
-use Rattle.std.specs.Prelude.{◌≡◌, ℕ, Bool, List, ◌++◌, flat_map, map}
+use Rattle.std.specs.Prelude.{◌≡◌, ℕ, List, ◌++◌, map}
 use Rattle.wasm_text.specs.RawArg.{RawArg}
 use Rattle.wasm_text.specs.Marks.{form_of, kind_of, place_of}
 use Rattle.wasm_text.specs.Places.{Stands}
-use Rattle.walrus_types.specs.Operators.{Item, Arg, arg_names}
+use Rattle.walrus_types.specs.Operators.{Item, arg_names}
 use Rattle.walrus_bodies.specs.Code.{item_of}
 use Rattle.walrus_bodies.specs.FromRaw.{arg_of}
 use Rattle.walrus_bodies.specs.ItemId.{ItemId}

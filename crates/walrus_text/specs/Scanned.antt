@@ -1,5 +1,5 @@
 -- What is known of a body that was scanned.
-use Rattle.std.specs.Prelude.{◌≡◌, ℕ, ◌+◌, ◌<◌, Bool, true, List, [], ◌∷◌, length, Option, Some}
+use Rattle.std.specs.Prelude.{◌≡◌, ℕ, ◌+◌, ◌<◌, true, List, length, Option, Some}
 use Rattle.std.specs.List.{list_all}
 use Rattle.wasm_forms.specs.Writing.{EachFits}
 use Rattle.wasm_text.specs.RawArg.{RawArg}

@@ -1,5 +1,5 @@
 -- Bytes as so many operators, one behind another (Binary Format > Instructions > Expressions).
-use Rattle.std.specs.Prelude.{ℕ, zero, suc, ◌+◌, ◌-◌, length, Bool, true, false, List, [], ◌∷◌, Option, Some, None, map}
+use Rattle.std.specs.Prelude.{ℕ, zero, suc, ◌-◌, length, Bool, true, false, List, [], ◌∷◌, Option, Some, None, map}
 use Rattle.wasm_forms.specs.Grammar.{Row, at}
 use Rattle.wasm_forms.specs.Spelling.{row_bytes}
 use Rattle.wasm_text.specs.Operators.{Op}

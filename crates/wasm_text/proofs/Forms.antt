@@ -34,14 +34,6 @@ fits_last half b k false e h = let l : 64 ≤ b = ltb-false b 64 e in let f : Fi
 pub signed_byte : (most half b : ℕ) → 1 ≤ most → 64 ≤ half → b < 128 → Is (Integer most half) (b ∷ []) (last_of b)
 signed_byte most half b k m h = record { spelled = signed_last b h; short = k; small = fits_last half b m (ltb b 64) refl h }
 
-pub signed_bytes : (bytes : List ℕ) (z : ℤ) → IsSigned bytes z → 1 ≤ length bytes
-signed_bytes [] z h = absurd h
-signed_bytes (b ∷ bs) z h = omega arith
-
-pub unsigned_bytes : (bytes : List ℕ) (n : ℕ) → IsUnsigned bytes n → 1 ≤ length bytes
-unsigned_bytes [] n h = absurd h
-unsigned_bytes (b ∷ bs) n h = omega arith
-
 -- a number that is small enough is one of 32 bits
 pub u32_stands : (bytes : List ℕ) (at behind n : ℕ) → StandsNumber 5 bytes at behind n → n < 4294967296 → Stands U32 bytes at behind n
 u32_stands bytes at behind n s l =

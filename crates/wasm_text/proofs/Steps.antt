@@ -1,5 +1,5 @@
 -- Bytes with marks written anew, mark by mark.
-use Rattle.std.proofs.Common.{◌≡◌, ℕ, suc, ◌+◌, ◌-◌, ◌<◌, ◌≤◌, List, [], ◌∷◌, ◌++◌, length, take, drop, drop-cons, get_or, Some, refl, sym, ap, subst, ◌∙◌, arith, append_assoc, inl, inr}
+use Rattle.std.proofs.Common.{◌≡◌, ℕ, suc, ◌+◌, ◌-◌, ◌<◌, ◌≤◌, List, [], ◌∷◌, ◌++◌, length, drop, drop-cons, get_or, Some, refl, sym, ap, subst, ◌∙◌, arith, append_assoc, inl, inr}
 use Rattle.std.proofs.lemmas.List.{append-nil, length-drop, length-append, take-append-drop}
 use Rattle.std.proofs.Math.Seq.{drop-length, take-length}
 use Rattle.wasm_forms.specs.Grammar.{Form, at}
@@ -8,10 +8,9 @@ use Rattle.wasm_forms.proofs.Exact.{exact}
 use Rattle.wasm_forms.proofs.Keeping.{keeps_behind}
 use Rattle.wasm_operators.specs.declared.operator.RawArg.{RawArg}
 use Rattle.wasm_operators.specs.Spelling.{arg_bytes}
-use Rattle.wasm_operators.specs.Standing.{ArgHeld}
 use Rattle.wasm_text.specs.Places.{between}
 use Rattle.wasm_text.specs.Marks.{place_of, found, spelled, end_of, fill, AreInOrder, argument, args_at}
-use Rattle.wasm_text.specs.Filling.{Numbering, renamed, or_same, anew, HasNumber, SomeLacks, Lacks, Puts, Steps}
+use Rattle.wasm_text.specs.Filling.{Numbering, or_same, anew, HasNumber, SomeLacks, Lacks, Puts, Steps}
 use Rattle.wasm_text.specs.declared.places.TheConstants.{NO_PLACE}
 use Rattle.wasm_text.proofs.Between.{cut}
 use Rattle.wasm_text.proofs.Filling.{found_is, fill_run}
@@ -21,23 +20,6 @@ pub rest_within : {A : Type 0} (form : Form A) (bytes : List ℕ) (value : A) (r
 rest_within form bytes value rest e =
     let t = (exact form).takes bytes (value, rest) e in
     omega (arith, ap length t.1.0, length-append t.0 rest)
-
-pub puts_anew : (number : Numbering) (bytes : List ℕ) (run mark : ℕ) (old mid new : List ℕ) (arg renewed : RawArg) (rest : List ℕ)
-    → found bytes mark ≡ Some (arg, rest) → renamed number arg ≡ Some renewed → (ArgHeld arg → ArgHeld renewed) → mid ≡ old ++ between run (place_of mark) bytes → new ≡ mid ++ arg_bytes renewed
-    → Puts number bytes run mark (length bytes - length rest) old new
-puts_anew number bytes run mark old mid new arg renewed rest here has holds copied written =
-    let k = length bytes - length rest in
-    let e : k - k ≡ 0 = omega arith in
-    record {
-      arg = arg;
-      rest = rest;
-      renewed = renewed;
-      here = here;
-      has = has;
-      holds = holds;
-      back = omega arith;
-      same = ap (λ n. new ++ take n (drop k bytes)) e ∙ append-nil new ∙ written ∙ ap (λ x. x ++ arg_bytes renewed) copied;
-    }
 
 -- ---- the loop
 
@@ -107,9 +89,6 @@ last_within number bytes marks [] run old to e g = g.ordered
 last_within number bytes marks (mark ∷ left) run old to e g = absurd cc
 
 -- ---- what the loop's function knows
-
-pub next_mark : (xs : List ℕ) (i x : ℕ) → i < length xs → x ≡ get_or xs i x → drop i xs ≡ x ∷ drop (i + 1) xs
-next_mark xs i x h e = let s : suc i ≡ i + 1 = omega arith in drop-cons xs i x h ∙ ap (λ k. k ∷ drop (suc i) xs) (sym e) ∙ ap (λ k. x ∷ drop k xs) s
 
 pub keeps_through : (old to new : List ℕ) → Keeps old to → Keeps to new → Keeps old new
 keeps_through old to new k k' = keeps_behind old to new (drop (length old) to) (sym (take-append-drop (length old) to) ∙ ap (λ x. x ++ drop (length old) to) k) k'

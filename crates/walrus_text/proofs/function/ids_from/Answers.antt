@@ -1,6 +1,3 @@
-use Rattle.std.proofs.Common.{map, ap, ◌∙◌}
-use Rattle.std.proofs.lemmas.List.{map-append}
-use Rattle.walrus_base.specs.Id.{place}
 use Rattle.walrus_text.proofs.RangeLemmas.{one_more}
 use Rattle.walrus_text.proofs.function.ids_from.Goals as goal
 
