@@ -1,5 +1,5 @@
 //! Which blocks are open at a place of a body (Structure > Instructions > Control Instructions).
-ghost use Rattle.std.specs.Prelude.{◌≡◌, ◌-◌, ◌∷◌, [], MatchOption, IfOk, length, map};
+ghost use Rattle.std.specs.Prelude.{◌≡◌, ◌-◌, ◌∷◌, [], MatchOption, IfOk, OnOk, length, map};
 ghost use Rattle.std.specs.List.{list_all};
 ghost use Rattle.walrus_code.specs.Code.{arg_of};
 ghost use Rattle.walrus_bodies.specs.Blocks.{is_none_open, blocks_behind, behind_else, behind_catch, behind_catch_all, behind_delegate, behind_end, blocks_meant, blocks_after, labels_below, label_below};
@@ -38,6 +38,19 @@ impl OpenBlocks {
         let mut blocks = Vec::new(alloc);
         blocks.push(Opened::Plain)?;
         Ok(OpenBlocks { blocks })
+    }
+
+    /// Only the function itself is open again. Takes no memory where these blocks were new once.
+    ///
+    /// # Errors
+    ///
+    /// `AllocError` where no memory is left; the blocks mean nothing then.
+    pub fn begin(&mut self) -> Result<(), AllocError>
+        ensures { OnOk result (opened self.new ≡ Opened.Plain ∷ []) }
+    {
+        self.blocks.clear();
+        self.blocks.push(Opened::Plain)?;
+        Ok(())
     }
 
     /// Whether no block is open: the function is at its end.

@@ -19,11 +19,12 @@ use Rattle.walrus_text.specs.Names.{OfArgument}
 use Rattle.walrus_text.specs.Placed.{moved_arg, placed_ops}
 use Rattle.walrus_text.specs.Plain.{is_plain_arg, is_plain_op, are_plain}
 use Rattle.walrus_text.specs.Texts.{texts_at}
-use Rattle.walrus_text.specs.Text.{texts_of, first_local_of, local_count_of, ops_in}
+use Rattle.walrus_text.specs.Text.{bytes_of, entry_of, marks_of, texts_of, first_local_of, local_count_of, ops_in}
 use Rattle.walrus_text.specs.declared.text.Text.{Text}
 use Rattle.walrus_text.proofs.OrderLemmas.{parts, shown_of}
 use Rattle.walrus_text.proofs.AtMarks.{by_kind, local_at}
 use Rattle.walrus_text.proofs.NamesShown.{AreLeft, next_at, left_at, indices_quiet, flat_shown, flat_texts}
+use Rattle.walrus_text.proofs.HeldLemmas.{plain}
 
 -- ---- one flag
 
@@ -146,14 +147,14 @@ flat_moved : (by : ℕ) (xs : List RawArg) → flat_map (λ a. map (λ x. by + x
 flat_moved by [] = refl
 flat_moved by (x ∷ xs) = ap (λ l. map (λ n. by + n) (indices_named x) ++ l) (flat_moved by xs) ∙ sym (map-append (λ n. by + n) (indices_named x) (flat_map indices_named xs))
 
-locals_shown : (t : Text) → locals_of (placed_ops t.first_local (texts_at t.count t.bytes.items)) ≡ map (λ x. t.first_local + x) (flat_map indices_named (args_at t.bytes.items t.marks.items))
+locals_shown : (t : Text) → locals_of (placed_ops t.first_local (texts_at (entry_of t).count (bytes_of t))) ≡ map (λ x. t.first_local + x) (flat_map indices_named (args_at (bytes_of t) (marks_of t)))
 locals_shown t =
     let first = t.first_local in
-    let texts = texts_at t.count t.bytes.items in
+    let texts = texts_at (entry_of t).count (bytes_of t) in
     let f = λ (a : RawArg). map (λ x. first + x) (indices_named a) in
     flat_texts arg_locals f first (λ a. moved_locals first (arg_of a)) texts
-    ∙ sym (flat_shown f (λ a e. ap (map (λ x. first + x)) (indices_quiet a e)) (all_args texts) (args_at t.bytes.items t.marks.items) (shown_of t).named)
-    ∙ flat_moved first (args_at t.bytes.items t.marks.items)
+    ∙ sym (flat_shown f (λ a e. ap (map (λ x. first + x)) (indices_quiet a e)) (all_args texts) (args_at (bytes_of t) (marks_of t)) (shown_of t).named)
+    ∙ flat_moved first (args_at (bytes_of t) (marks_of t))
 
 -- ---- each of them lies in the window
 
@@ -222,19 +223,19 @@ module _ (first count : ℕ) (start flags : List Bool) (indices places : List �
   window : AreMarked first flags places
   window x = (is_marked x, is_there x)
 
-pub used_shown : (t : Text) (bytes marks : List ℕ) (start flags : List Bool) → bytes ≡ t.bytes.items → marks ≡ t.marks.items → start ≡ replicate t.local_count false → Flags start flags (flat_map indices_named (args_at bytes marks))
+pub used_shown : (t : Text) (bytes marks : List ℕ) (start flags : List Bool) → bytes ≡ (bytes_of t) → marks ≡ (marks_of t) → start ≡ replicate (entry_of t).locals false → Flags start flags (flat_map indices_named (args_at bytes marks))
     → AreMarked (first_local_of t) flags (locals_of (ops_in t))
 unfolding texts_of first_local_of
 used_shown t bytes marks start flags b m s f =
-    let ops = placed_ops t.first_local (texts_at t.count t.bytes.items) in
-    window t.first_local t.local_count start flags (flat_map indices_named (args_at bytes marks)) (locals_of ops) (ap length s ∙ length-replicate t.local_count false) (λ x h. never t.local_count x (sym (ap (λ l. get_or l x false) s) ∙ h)) f
-    (locals_shown t ∙ ap₂ (λ b m. map (λ x. t.first_local + x) (flat_map indices_named (args_at b m))) (sym b) (sym m)) (ops_within t.first_local t.local_count ops t.plain)
+    let ops = placed_ops t.first_local (texts_at (entry_of t).count (bytes_of t)) in
+    window t.first_local (entry_of t).locals start flags (flat_map indices_named (args_at bytes marks)) (locals_of ops) (ap length s ∙ length-replicate (entry_of t).locals false) (λ x h. never (entry_of t).locals x (sym (ap (λ l. get_or l x false) s) ∙ h)) f
+    (locals_shown t ∙ ap₂ (λ b m. map (λ x. t.first_local + x) (flat_map indices_named (args_at b m))) (sym b) (sym m)) (ops_within t.first_local (entry_of t).locals ops (plain t))
 
 pub all_off : (n k : ℕ) (old new : List Bool) → old ≡ [] → k ≡ 0 → new ≡ take n old ++ replicate (n - k) false → new ≡ replicate n false
 all_off n k old new e z is =
     let m : n - k ≡ n = omega (arith, z) in
     is ∙ ap₂ (λ o i. take n o ++ replicate i false) e m ∙ ap (λ l. l ++ replicate n false) (take_all n [] (omega arith))
 
-pub count_is : (t : Text) → local_count_of t ≡ t.local_count
+pub count_is : (t : Text) → local_count_of t ≡ (entry_of t).locals
 unfolding local_count_of
 count_is t = refl

@@ -2,11 +2,13 @@ mod AgainLemmas
 pub mod AtMarks
 mod ByteLemmas
 pub mod FlagLemmas
+mod HeldLemmas
 mod LocatedLemmas
 mod NamedLemmas
 pub mod NamesShown
 pub mod OrderLemmas
 mod PlainLemmas
+mod PushedLemmas
 mod RangeLemmas
 mod RenamedLemmas
 mod ScannedLemmas

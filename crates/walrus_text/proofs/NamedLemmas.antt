@@ -20,7 +20,8 @@ use Rattle.walrus_types.specs.Operators.{Types, Functions, Tables, Memories, Glo
 use Rattle.walrus_bodies.specs.FromRaw.{heap_of, val_of, block_of, arg_of, op_of, ops_of}
 use Rattle.walrus_bodies.specs.Names.{Lookup, named_heap, named_val, named_block, named_arg, named_args, named_op, named_ops}
 use Rattle.walrus_text.specs.Placed.{moved_arg, placed_op, placed_ops}
-use Rattle.walrus_text.specs.Scanned.{AreInPlace, LieFrom, IsNamed}
+use Rattle.walrus_text.specs.PlainBody.{IsNamed}
+use Rattle.walrus_text.specs.Scanned.{AreInPlace, LieFrom}
 
 -- what is made of what is found
 found_so : {A B : Type 0} (o : Option A) (x : A) (make : A → B) → o ≡ Some x → (o >>= λ found. Some (make found)) ≡ Some (make x)

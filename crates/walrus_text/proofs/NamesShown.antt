@@ -27,7 +27,7 @@ use Rattle.walrus_text.specs.Names.{OfArgument, PutsAt, items_named}
 use Rattle.walrus_text.specs.Locals.{indices_named}
 use Rattle.walrus_text.specs.Placed.{moved_arg, placed_ops}
 use Rattle.walrus_text.specs.Texts.{texts_at}
-use Rattle.walrus_text.specs.Text.{texts_of, first_local_of, ops_in}
+use Rattle.walrus_text.specs.Text.{bytes_of, entry_of, marks_of, texts_of, first_local_of, ops_in}
 use Rattle.walrus_text.specs.declared.text.Text.{Text}
 use Rattle.walrus_text.proofs.AtMarks.{moved_names, moved_holds}
 use Rattle.walrus_text.proofs.OrderLemmas.{shown_of}
@@ -208,16 +208,16 @@ holds_texts g f first same (o ∷ texts) = ap₂ (λ a b. a && b) (holds_args g 
 
 -- ---- a body
 
-pub names_shown : (t : Text) → flat_map items_named (args_at t.bytes.items t.marks.items) ≡ names_of (ops_in t)
+pub names_shown : (t : Text) → flat_map items_named (args_at (bytes_of t) (marks_of t)) ≡ names_of (ops_in t)
 unfolding texts_of first_local_of
 names_shown t =
-    let texts = texts_at t.count t.bytes.items in
-    flat_shown items_named items_quiet (all_args texts) (args_at t.bytes.items t.marks.items) (shown_of t).named ∙ sym (flat_texts arg_names items_named t.first_local (λ a. moved_names t.first_local (arg_of a)) texts)
+    let texts = texts_at (entry_of t).count (bytes_of t) in
+    flat_shown items_named items_quiet (all_args texts) (args_at (bytes_of t) (marks_of t)) (shown_of t).named ∙ sym (flat_texts arg_names items_named t.first_local (λ a. moved_names t.first_local (arg_of a)) texts)
 
-pub blocks_shown : (holds : ℕ → Bool) (t : Text) → list_all (λ arg. block_holds holds (arg_of arg)) (args_at t.bytes.items t.marks.items) ≡ blocks_hold holds (ops_in t)
+pub blocks_shown : (holds : ℕ → Bool) (t : Text) → list_all (λ arg. block_holds holds (arg_of arg)) (args_at (bytes_of t) (marks_of t)) ≡ blocks_hold holds (ops_in t)
 unfolding texts_of first_local_of
 blocks_shown holds t =
-    let texts = texts_at t.count t.bytes.items in
+    let texts = texts_at (entry_of t).count (bytes_of t) in
     let p = λ (a : RawArg). block_holds holds (arg_of a) in
-    holds_naming p (holds_quiet holds) (args_at t.bytes.items t.marks.items) ∙ ap (list_all p) (sym (shown_of t).named) ∙ sym (holds_naming p (holds_quiet holds) (all_args texts))
+    holds_naming p (holds_quiet holds) (args_at (bytes_of t) (marks_of t)) ∙ ap (list_all p) (sym (shown_of t).named) ∙ sym (holds_naming p (holds_quiet holds) (all_args texts))
     ∙ sym (holds_texts (block_holds holds) p t.first_local (λ a. moved_holds holds t.first_local (arg_of a)) texts)

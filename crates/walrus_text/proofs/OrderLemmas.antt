@@ -15,7 +15,9 @@ use Rattle.wasm_text.specs.Operators.{Op}
 use Rattle.wasm_text.specs.Spelling.{op_bytes}
 use Rattle.wasm_forms.specs.Spelling.{row_bytes}
 use Rattle.wasm_text.proofs.Filling.{found_is}
+use Rattle.walrus_text.specs.Text.{bytes_of, entry_of, marks_of}
 use Rattle.walrus_text.specs.declared.text.Text.{Text}
+use Rattle.walrus_text.proofs.HeldLemmas.{shown_in}
 
 -- an argument ends behind its mark, and the next ones follow
 abbrev goes_on : (ℕ → Bool) → List ℕ → ℕ → Option (RawArg × List ℕ) → Bool
@@ -76,25 +78,25 @@ order_of bytes from (mark ∷ marks) e =
 
 -- ---- of a body
 
-pub in_order : (t : Text) → AreInOrder t.bytes.items 0 t.marks.items
-in_order t = order_of t.bytes.items 0 t.marks.items (∥∥₁_elim t.shown (hlevel props) (λ s. order_told t.bytes.items 0 t.marks.items s.ordered))
+pub in_order : (t : Text) → AreInOrder (bytes_of t) 0 (marks_of t)
+in_order t = order_of (bytes_of t) 0 (marks_of t) (∥∥₁_elim t.body (hlevel props) (λ b. let s = shown_in t b in order_told (bytes_of t) 0 (marks_of t) s.ordered))
 
 -- what the marks of a body show, as data
-pub shown_of : (t : Text) → AreShown t.bytes.items t.marks.items (texts_at t.count t.bytes.items)
+pub shown_of : (t : Text) → AreShown (bytes_of t) (marks_of t) (texts_at (entry_of t).count (bytes_of t))
 shown_of t = record {
   ordered = in_order t;
-  becomes = ∥∥₁_elim t.shown becomes_prop (λ s. s.becomes);
-  named = ∥∥₁_elim t.shown named_prop (λ s. s.named);
+  becomes = ∥∥₁_elim t.body becomes_prop (λ b. (shown_in t b).becomes);
+  named = ∥∥₁_elim t.body named_prop (λ b. (shown_in t b).named);
 }
   where
     bytes : List ℕ
-    bytes = t.bytes.items
+    bytes = (bytes_of t)
 
     texts : List Op
-    texts = texts_at t.count bytes
+    texts = texts_at (entry_of t).count bytes
 
-    becomes_prop : IsProp ((f : RawArg → RawArg) → Leaves f → row_bytes op_bytes (map (with f) texts) ≡ fill f bytes 0 t.marks.items)
+    becomes_prop : IsProp ((f : RawArg → RawArg) → Leaves f → row_bytes op_bytes (map (with f) texts) ≡ fill f bytes 0 (marks_of t))
     becomes_prop = hlevel props
 
-    named_prop : IsProp (naming (all_args texts) ≡ naming (args_at bytes t.marks.items))
+    named_prop : IsProp (naming (all_args texts) ≡ naming (args_at bytes (marks_of t)))
     named_prop = hlevel props

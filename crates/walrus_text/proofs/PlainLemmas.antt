@@ -26,7 +26,7 @@ use Rattle.walrus_bodies.specs.Blocks.{label_below, blocks_meant, blocks_behind,
 use Rattle.walrus_bodies.specs.Features.{is_legacy, is_wide_arithmetic, is_allowed, are_allowed}
 use Rattle.walrus_text.specs.Placed.{moved_arg, placed_ops}
 use Rattle.walrus_text.specs.Plain.{is_plain_heap, is_plain_value, is_plain_block, is_plain_arg, is_plain_op, are_plain}
-use Rattle.walrus_text.specs.Scanned.{IsNamed}
+use Rattle.walrus_text.specs.PlainBody.{IsNamed}
 use Rattle.walrus_text.proofs.NamedLemmas.{each_front, each_back}
 
 both : {a b : Bool} → a ≡ true → b ≡ true → (a && b) ≡ true

@@ -24,7 +24,7 @@ use Rattle.walrus_bodies.specs.FromRaw.{arg_of, op_of, ops_of}
 use Rattle.walrus_bodies.specs.declared.blocks.Opened.{Opened}
 use Rattle.walrus_bodies.specs.declared.blocks.Opened.TheVariants.{Plain}
 use Rattle.walrus_bodies.specs.Blocks.{is_none_open, blocks_behind, blocks_meant, blocks_after, label_below, labels_below, nests}
-use Rattle.walrus_text.specs.Scanned.{IsNamed, IsPlainBody}
+use Rattle.walrus_text.specs.PlainBody.{IsNamed, IsPlainBody}
 
 -- The operators up to a place, with these blocks open behind them: what a rest does in these blocks, all do in a function.
 pub record UpTo (limits : Limits) (bytes marks : List ℕ) (count at : ℕ) (blocks : List Opened) : Type 0 where

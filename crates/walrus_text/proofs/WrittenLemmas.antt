@@ -21,13 +21,14 @@ use Rattle.std.specs.Prelude.{Ok}
 use Rattle.walrus_text.specs.Numbers.{numbering}
 use Rattle.walrus_text.specs.Placed.{placed_ops}
 use Rattle.walrus_text.specs.Plain.{is_plain_arg, is_plain_op}
-use Rattle.walrus_text.specs.Text.{ops_in, texts_of, first_local_of}
+use Rattle.walrus_text.specs.Text.{bytes_of, entry_of, marks_of, ops_in, texts_of, first_local_of}
 use Rattle.walrus_text.specs.Texts.{texts_at}
 use Rattle.walrus_text.specs.declared.text.Text.{Text}
 use Rattle.walrus_text.proofs.OrderLemmas.{shown_of}
 use Rattle.walrus_text.proofs.TextLemmas.{row_of}
 use Rattle.walrus_text.proofs.RenamedLemmas.{ops_named, ops_unnamed}
 use Rattle.walrus_text.proofs.StandLemmas.{all_stand}
+use Rattle.walrus_text.proofs.HeldLemmas.{plain, whole}
 
 parts : (s t : Bool) → (s && t) ≡ true → (s ≡ true) × (t ≡ true)
 parts true true e = (refl, refl)
@@ -55,32 +56,32 @@ allowed features first count (o ∷ ops) e =
 
 -- ---- a body
 
-holds : (t : Text) → Holds t.bytes.items t.marks.items (texts_at t.count t.bytes.items)
-holds t = record { row = (row_of t.count t.bytes.items t.whole).0; shown = shown_of t }
+holds : (t : Text) → Holds (bytes_of t) (marks_of t) (texts_at (entry_of t).count (bytes_of t))
+holds t = record { row = (row_of (entry_of t).count (bytes_of t) (whole t)).0; shown = shown_of t }
 
-pub written : (t : Text) (names : Lookup) (locals : ℕ → Option ℕ) (features : Features) (old new : List ℕ) → AreBytes t.bytes.items
-    → EachFits (HasNumber (numbering names locals t.first_local)) (args_at t.bytes.items t.marks.items) → new ≡ old ++ fill (anew (numbering names locals t.first_local)) t.bytes.items 0 t.marks.items
+pub written : (t : Text) (names : Lookup) (locals : ℕ → Option ℕ) (features : Features) (old new : List ℕ) → AreBytes (bytes_of t)
+    → EachFits (HasNumber (numbering names locals t.first_local)) (args_at (bytes_of t) (marks_of t)) → new ≡ old ++ fill (anew (numbering names locals t.first_local)) (bytes_of t) 0 (marks_of t)
     → OperatorsWritten names locals features (ops_in t) old new (places_from (length old) (map (with (anew (numbering names locals t.first_local))) (texts_of t)))
 unfolding texts_of first_local_of
 written t names locals features old new bytes each filled =
     let number : Numbering = numbering names locals t.first_local in
-    let texts : List wire.Op = texts_at t.count t.bytes.items in
+    let texts : List wire.Op = texts_at (entry_of t).count (bytes_of t) in
     let after : List wire.Op = map (with (anew number)) texts in
     let ops : List Op = placed_ops t.first_local texts in
-    let p = parts (list_all (is_plain_op t.first_local t.local_count) ops) (are_nested ops) t.plain in
-    let r = filled_renamed number t.bytes.items t.marks.items texts (holds t) each in
-    emits {X = Unit {0}} names locals features ops old new (λ _. places_from (length old) after) (Ok tt) p.1 (allowed features t.first_local t.local_count ops p.0) (record {
+    let p = parts (list_all (is_plain_op t.first_local (entry_of t).locals) ops) (are_nested ops) (plain t) in
+    let r = filled_renamed number (bytes_of t) (marks_of t) texts (holds t) each in
+    emits {X = Unit {0}} names locals features ops old new (λ _. places_from (length old) after) (Ok tt) p.1 (allowed features t.first_local (entry_of t).locals ops p.0) (record {
       texts = after;
       named = ops_named names locals t.first_local texts r.0;
       spelled = filled ∙ ap (λ bs. old ++ bs) r.1;
       placed = refl;
-      stand = all_stand number texts t.bytes.items r.0 bytes (holds t).row;
+      stand = all_stand number texts (bytes_of t) r.0 bytes (holds t).row;
     })
 
-pub unnamed : (t : Text) (names : Lookup) (locals : ℕ → Option ℕ) → SomeLacks (numbering names locals t.first_local) (args_at t.bytes.items t.marks.items) → named_ops names locals (ops_in t) ≡ None
+pub unnamed : (t : Text) (names : Lookup) (locals : ℕ → Option ℕ) → SomeLacks (numbering names locals t.first_local) (args_at (bytes_of t) (marks_of t)) → named_ops names locals (ops_in t) ≡ None
 unfolding texts_of first_local_of
 unnamed t names locals some =
-    let texts : List wire.Op = texts_at t.count t.bytes.items in
+    let texts : List wire.Op = texts_at (entry_of t).count (bytes_of t) in
     let ops : List Op = placed_ops t.first_local texts in
-    let p = parts (list_all (is_plain_op t.first_local t.local_count) ops) (are_nested ops) t.plain in
-    ops_unnamed names locals t.first_local t.local_count texts p.0 (lacking_lacks (numbering names locals t.first_local) t.bytes.items t.marks.items texts (holds t) some)
+    let p = parts (list_all (is_plain_op t.first_local (entry_of t).locals) ops) (are_nested ops) (plain t) in
+    ops_unnamed names locals t.first_local (entry_of t).locals texts p.0 (lacking_lacks (numbering names locals t.first_local) (bytes_of t) (marks_of t) texts (holds t) some)

@@ -1,9 +1,10 @@
 -- What a contract sees of a function with a body ("Structure > Modules > Functions"). These words alone look inside one.
-use Rattle.std.specs.Prelude.{◌≡◌, ℕ, List, length, map, Option, Some, None}
+use Rattle.std.specs.Prelude.{◌≡◌, ℕ, List, [], length, map, Option, Some, None}
 use Rattle.std.specs.List.{range_with_len}
 use Rattle.walrus_base.specs.Id.{place}
 use Rattle.walrus_base.specs.declared.id.Id.{Id}
 use Rattle.walrus_base.specs.declared.keys.TypeKey.{TypeKey}
+use Rattle.walrus_types.specs.TypeDef.{name_bytes}
 use Rattle.walrus_bodies.specs.Code.{ops_of}
 use Rattle.walrus_bodies.specs.InstrLocId.{InstrLocId}
 use Rattle.walrus_bodies.specs.Operators.{Op}
@@ -27,19 +28,31 @@ with_type function type = record function { ty = type }
 
 abbrev pub text_in : Body → Option Plain
 text_in (bodies.Text text params) = Some text
-text_in (bodies.List args operators) = None
+text_in (bodies.List listed) = None
 
 abbrev pub body_in : Body → List Op
 body_in (bodies.Text text params) = ops_in text
-body_in (bodies.List args operators) = ops_of operators.items
+body_in (bodies.List listed) = ops_of listed.value.operators.items
 
 abbrev pub places_in : Body → List InstrLocId
 places_in (bodies.Text text params) = locations_in text
-places_in (bodies.List args operators) = locations operators.items
+places_in (bodies.List listed) = locations listed.value.operators.items
 
 abbrev pub args_in : Body → List ℕ
 args_in (bodies.Text text params) = range_with_len (first_local_of text) params
-args_in (bodies.List args operators) = map place args.items
+args_in (bodies.List listed) = map place listed.value.args.items
+
+abbrev pub types_in : Body → List ℕ
+types_in (bodies.Text text params) = []
+types_in (bodies.List listed) = map place listed.value.handler_types.items
+
+abbrev pub named_in : Body → Option (List ℕ)
+named_in (bodies.Text text params) = None
+named_in (bodies.List listed) = name_bytes listed.value.name
+
+-- the name that it was built with
+unfoldable pub name_of : LocalFunction → Option (List ℕ)
+name_of function = named_in function.body
 
 -- what stands in the input, if that is kept
 unfoldable pub as_text : LocalFunction → Option Plain
@@ -66,7 +79,7 @@ arg_count_of function = length (args_of function)
 
 -- the places of the types of its legacy handlers
 unfoldable pub handlers_in : LocalFunction → List ℕ
-handlers_in function = map place function.handler_types.items
+handlers_in function = types_in function.body
 
 -- ---- operators that are handed out
 
@@ -82,7 +95,7 @@ located_in (Made operators) = locations operators.items
 
 -- of the same name and type, with the same parameters
 pub record SameHead (old new : LocalFunction) : Type 0 where
-  pub name : new.name ≡ old.name
+  pub name : name_of new ≡ name_of old
   pub typed : function_type new ≡ function_type old
   pub args : args_of new ≡ args_of old
 

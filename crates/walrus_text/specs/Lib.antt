@@ -5,6 +5,8 @@ pub mod Names
 pub mod Numbers
 pub mod Placed
 pub mod Plain
+pub mod PlainBody
+pub mod PlainCode
 pub mod Scanned
 pub mod Text
 pub mod Texts

@@ -1,19 +1,11 @@
 -- What is known of a body that was scanned.
 use Rattle.std.specs.Prelude.{◌≡◌, ℕ, ◌+◌, ◌<◌, true, List, length, Option, Some}
-use Rattle.std.specs.List.{list_all}
-use Rattle.wasm_forms.specs.Writing.{EachFits}
-use Rattle.wasm_text.specs.RawArg.{RawArg}
-use Rattle.wasm_text.specs.Operators as wire
 use Rattle.wasm_text.specs.declared.limits.Limits.{Limits}
-use Rattle.wasm_text.specs.Classes.{is_plain}
-use Rattle.wasm_text.specs.Marks.{Holds, all_args}
-use Rattle.wasm_text.specs.Scans.{IsWithin}
 use Rattle.walrus_types.specs.Operators.{Space, Types, Functions, Tables, Memories, Tags, Globals, Elements, DataSegments}
-use Rattle.walrus_bodies.specs.FromRaw.{ops_of}
 use Rattle.walrus_bodies.specs.Location.{location, location_at}
 use Rattle.walrus_bodies.specs.Names.{Lookup}
 use Rattle.walrus_bodies.specs.InstrLocId.{InstrLocId}
-use Rattle.walrus_bodies.specs.Blocks.{are_nested, blocks_hold}
+use Rattle.walrus_bodies.specs.Blocks.{blocks_hold}
 use Rattle.walrus_bodies.specs.Body.{Context, Located, OperatorsRead}
 use Rattle.walrus_text.specs.Text.{first_local_of, local_count_of, ops_in, locations_in}
 use Rattle.walrus_text.specs.declared.text.Text.{Text}
@@ -52,18 +44,3 @@ pub record IsScanned (limits : Limits) (first start : ℕ) (bytes : List ℕ) (t
   pub counted : local_count_of text ≡ limits.locals
   pub reads : (c : Context) (locals : ℕ → Option ℕ) → AreInPlace limits c.names → LieFrom first limits.locals locals → blocks_hold c.is_function_type (ops_in text) ≡ true → OperatorsRead c locals bytes (ops_in text)
   pub located : Located IsPlace start bytes (locations_in text)
-
--- ---- for the functions inside
-
--- an argument within the limits, whatever blocks are open
-abbrev pub IsNamed : Limits → RawArg → Type 0
-IsNamed limits arg = (labels : ℕ) × IsWithin (record limits { labels = labels }) arg
-
--- the bytes are so many plain operators that nest, shown by the marks
-pub record IsPlainBody (limits : Limits) (bytes marks : List ℕ) (count : ℕ) : Type 0 where
-  pub texts : List wire.Op
-  pub counted : count ≡ length texts
-  pub holds : Holds bytes marks texts
-  pub fit : EachFits (IsNamed limits) (all_args texts)
-  pub plain : list_all (λ o. is_plain o.op) texts ≡ true
-  pub nested : are_nested (ops_of texts) ≡ true

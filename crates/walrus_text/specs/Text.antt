@@ -6,11 +6,25 @@ use Rattle.walrus_bodies.specs.Location.{location_at}
 use Rattle.walrus_bodies.specs.InstrLocId.{InstrLocId}
 use Rattle.walrus_text.specs.Placed.{placed_ops}
 use Rattle.walrus_text.specs.Texts.{texts_at, places_at}
+use Rattle.walrus_text.specs.declared.plain_code.Entry.{Entry}
 use Rattle.walrus_text.specs.declared.text.Text.{Text}
+use Rattle.walrus_text.specs.PlainCode.{bytes_at, entry_at, marks_at}
+
+-- what the code tells of it
+abbrev pub entry_of : Text → Entry
+entry_of text = entry_at text.code.value text.number
+
+-- the bytes of its operators
+abbrev pub bytes_of : Text → List ℕ
+bytes_of text = bytes_at text.code.value text.number
+
+-- where arguments stand that name something or aren't in their one spelling
+abbrev pub marks_of : Text → List ℕ
+marks_of text = marks_at text.code.value text.number
 
 -- its operators over indices
 unfoldable pub texts_of : Text → List wire.Op
-texts_of text = texts_at text.count text.bytes.items
+texts_of text = texts_at (entry_of text).count (bytes_of text)
 
 -- the place of its first local
 unfoldable pub first_local_of : Text → ℕ
@@ -18,7 +32,7 @@ first_local_of text = text.first_local
 
 -- how many locals the function has, its parameters among them
 unfoldable pub local_count_of : Text → ℕ
-local_count_of text = text.local_count
+local_count_of text = (entry_of text).locals
 
 -- its operators over the places of what they name
 abbrev pub ops_in : Text → List Op
@@ -30,4 +44,4 @@ at_place place = record { value = location_at place }
 
 -- where each of its operators stood in the input
 unfoldable pub locations_in : Text → List InstrLocId
-locations_in text = map at_place (places_at (text.start + length text.bytes.items) text.count text.bytes.items)
+locations_in text = map at_place (places_at ((entry_of text).start + length (bytes_of text)) (entry_of text).count (bytes_of text))

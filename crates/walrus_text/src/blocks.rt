@@ -83,6 +83,6 @@ impl Text {
     pub fn blocks_hold<T: FunctionTypes>(&self, types: &T) -> Result<bool, AllocError>
         ensures { IfOk result (λ hold. hold ≡ blocks_hold (T.function_types types.now) (ops_in self.now)) }
     {
-        marks_hold(types, self.bytes.as_slice(), self.marks.as_slice())
+        marks_hold(types, self.bytes(), self.marks())
     }
 }

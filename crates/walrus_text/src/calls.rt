@@ -10,12 +10,12 @@ impl Text {
     pub fn size(&self) -> usize
         ensures { result ≡ length (ops_in self.now) }
     {
-        self.count
+        self.entry().count as usize
     }
 
     /// How many bytes stand in the input.
     pub fn byte_count(&self) -> usize {
-        self.bytes.len()
+        self.bytes().len()
     }
 
     /// The place of the function's first local.
@@ -31,7 +31,7 @@ impl Text {
     pub fn local_count(&self) -> u32
         ensures { result ≡ local_count_of self.now }
     {
-        self.local_count
+        self.entry().locals
     }
 
     /// That it is plain. Nothing runs.

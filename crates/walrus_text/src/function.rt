@@ -1,12 +1,14 @@
 //! Functions with a body.
 ghost use Rattle.std.specs.Borrow.{sem};
-ghost use Rattle.std.specs.Prelude.{◌≡◌, [], None, IfOk, IfSome, MatchResult, map, option_map};
+ghost use Rattle.std.specs.Prelude.{◌≡◌, [], None, IfOk, IfSome, OnOk, MatchResult, map, option_map};
 ghost use Rattle.std.specs.List.{range_with_len};
+ghost use Rattle.std.specs.String.{string_bytes};
 ghost use Rattle.walrus_base.specs.Id.{place};
+ghost use Rattle.walrus_types.specs.TypeDef.{name_bytes};
 ghost use Rattle.walrus_bodies.specs.Code.{ops_of};
 ghost use Rattle.walrus_bodies.specs.Results.{locations};
 ghost use Rattle.walrus_text.specs.Text.{first_local_of, locations_in, ops_in};
-ghost use Rattle.walrus_text.specs.Function.{function_type, with_type, as_text, body_of, locations_of, size_of, args_of, arg_count_of, handlers_in, located_in, listed_in, Becomes, KeepsBody};
+ghost use Rattle.walrus_text.specs.Function.{function_type, with_type, name_of, as_text, body_of, locations_of, size_of, args_of, arg_count_of, handlers_in, located_in, listed_in, Becomes, KeepsBody};
 ghost use Rattle.walrus_text.specs.LendsOperators.{LendsOperators};
 
 use crate::lent::Operators;
@@ -19,25 +21,26 @@ use walrus_bodies::Operator;
 #[derive(Drop)]
 enum Body {
     // As it stands in the input, with so many parameters, which are the first of its locals.
-    Text {
-        text: Text,
-        params: u32,
-    },
-    // A list, with its parameters.
-    List {
-        args: Vec<LocalId>,
-        operators: Vec<Operator>,
-    },
+    Text { text: Text, params: u32 },
+    // A list, with what only such a function has.
+    List(Box<Listed>),
+}
+
+// What is held of a function whose body is a list.
+#[derive(Drop)]
+struct Listed {
+    args: Vec<LocalId>,
+    operators: Vec<Operator>,
+    handler_types: Vec<TypeId>,
+    // The name that it was built with.
+    name: Option<String>,
 }
 
 /// A function with a body (Structure > Modules > Functions).
 #[derive(Drop)]
 pub struct LocalFunction {
-    /// The name that the name section gives it.
-    pub name: Option<String>,
     ty: TypeId,
     body: Body,
-    handler_types: Vec<TypeId>,
 }
 
 // The ids of so many locals, from a place on.
@@ -52,44 +55,61 @@ fn ids_from(alloc: Global, first: u32, count: u32) -> Result<Vec<LocalId>, Alloc
 }
 
 impl LocalFunction {
-    /// A function of a type with these parameters and this body, whose last operator is the `0B` that closes it; without a name and
-    /// without handlers.
+    /// A function of a type with these parameters and this body, whose last operator is the `0B` that closes it, and with this name, if
+    /// there is one; without handlers.
+    ///
+    /// # Errors
+    ///
+    /// `AllocError` where no memory is left.
     pub fn new(
         alloc: Global,
         ty: TypeId,
         args: Vec<LocalId>,
         operators: Vec<Operator>,
-    ) -> LocalFunction
-        ensures ty { function_type result ≡ ty }
-        ensures args { args_of result ≡ map place args.items }
-        ensures body { body_of result ≡ ops_of operators.items }
-        ensures locations { locations_of result ≡ locations operators.items }
-        ensures name { result.name ≡ None }
-        ensures handler_types { handlers_in result ≡ [] }
+        name: Option<String>,
+    ) -> Result<LocalFunction, AllocError>
+        ensures ty { IfOk result (λ f. function_type f ≡ ty) }
+        ensures args { IfOk result (λ f. args_of f ≡ map place args.items) }
+        ensures body { IfOk result (λ f. body_of f ≡ ops_of operators.items) }
+        ensures locations { IfOk result (λ f. locations_of f ≡ locations operators.items) }
+        ensures name { IfOk result (λ f. name_of f ≡ name_bytes name) }
+        ensures handler_types { IfOk result (λ f. handlers_in f ≡ []) }
     {
-        LocalFunction {
-            name: None,
-            ty,
-            body: Body::List { args, operators },
+        let listed = Listed {
+            args,
+            operators,
             handler_types: Vec::new(alloc),
-        }
+            name,
+        };
+        Ok(LocalFunction {
+            ty,
+            body: Body::List(Box::new(alloc, listed)?),
+        })
     }
 
     /// A function of a type with a body that stands as in the input, whose parameters are the first so many of its locals; without a
     /// name and without handlers.
-    pub fn of_text(alloc: Global, ty: TypeId, params: u32, text: Text) -> LocalFunction
+    pub fn of_text(ty: TypeId, params: u32, text: Text) -> LocalFunction
         ensures ty { function_type result ≡ ty }
         ensures args { args_of result ≡ range_with_len (first_local_of text) params }
         ensures body { body_of result ≡ ops_in text }
         ensures locations { locations_of result ≡ locations_in text }
-        ensures name { result.name ≡ None }
+        ensures name { name_of result ≡ None }
         ensures handler_types { handlers_in result ≡ [] }
     {
         LocalFunction {
-            name: None,
             ty,
             body: Body::Text { text, params },
-            handler_types: Vec::new(alloc),
+        }
+    }
+
+    /// The name that it was built with. A function that is added to a module gets it for its own.
+    pub fn name(&self) -> Option<&String>
+        ensures { option_map (λ name. string_bytes name.now) result ≡ name_of self.now }
+    {
+        match &self.body {
+            Body::Text { .. } => None,
+            Body::List(listed) => listed.name.as_ref(),
         }
     }
 
@@ -115,7 +135,7 @@ impl LocalFunction {
     {
         match &self.body {
             Body::Text { text, .. } => Some(text),
-            Body::List { .. } => None,
+            Body::List(_) => None,
         }
     }
 
@@ -126,7 +146,7 @@ impl LocalFunction {
         ensures locations { locations result.now ≡ locations_of self.now }
     {
         match &self.body {
-            Body::List { operators, .. } => operators.as_slice(),
+            Body::List(listed) => listed.operators.as_slice(),
             Body::Text { .. } => unreachable!(),
         }
     }
@@ -138,7 +158,7 @@ impl LocalFunction {
     {
         match &self.body {
             Body::Text { params, .. } => *params as usize,
-            Body::List { args, .. } => args.len(),
+            Body::List(listed) => listed.args.len(),
         }
     }
 
@@ -152,7 +172,7 @@ impl LocalFunction {
     {
         match &self.body {
             Body::Text { text, params } => ids_from(alloc, text.first_local(), *params),
-            Body::List { args, .. } => args.to_vec(alloc),
+            Body::List(listed) => listed.args.to_vec(alloc),
         }
     }
 
@@ -167,7 +187,7 @@ impl LocalFunction {
     {
         match &self.body {
             Body::Text { text, .. } => Ok(Operators::Made(text.operators(alloc)?)),
-            Body::List { operators, .. } => Ok(Operators::Lent(operators.as_slice())),
+            Body::List(listed) => Ok(Operators::Lent(listed.operators.as_slice())),
         }
     }
 
@@ -178,7 +198,13 @@ impl LocalFunction {
         if let Body::Text { text, params } = &self.body {
             let args = ids_from(alloc, text.first_local(), *params)?;
             let operators = text.operators(alloc)?;
-            self.body = Body::List { args, operators };
+            let listed = Listed {
+                args,
+                operators,
+                handler_types: Vec::new(alloc),
+                name: None,
+            };
+            self.body = Body::List(Box::new(alloc, listed)?);
         }
         Ok(())
     }
@@ -195,7 +221,7 @@ impl LocalFunction {
     {
         self.list(alloc)?;
         match &mut self.body {
-            Body::List { operators, .. } => Ok(operators),
+            Body::List(listed) => Ok(&mut listed.operators),
             Body::Text { .. } => unreachable!(),
         }
     }
@@ -206,7 +232,7 @@ impl LocalFunction {
     {
         match &self.body {
             Body::Text { text, .. } => text.size(),
-            Body::List { operators, .. } => operators.len(),
+            Body::List(listed) => listed.operators.len(),
         }
     }
 
@@ -214,14 +240,27 @@ impl LocalFunction {
     pub fn handler_types(&self) -> &[TypeId]
         ensures { map place result.now ≡ handlers_in self.now }
     {
-        self.handler_types.as_slice()
+        match &self.body {
+            Body::Text { .. } => &[],
+            Body::List(listed) => listed.handler_types.as_slice(),
+        }
     }
 
-    /// Exchanges the types of its handlers, and nothing else.
-    pub fn set_handler_types(&mut self, types: Vec<TypeId>)
-        ensures handlers { handlers_in self.new ≡ map place types.items }
-        ensures others { KeepsBody self.old self.new }
+    /// Exchanges the types of its handlers, and nothing else. A body that is kept as it stands in the input becomes a list. Refused for
+    /// memory, nothing changes.
+    ///
+    /// # Errors
+    ///
+    /// `AllocError` where no memory is left.
+    pub fn set_handler_types(&mut self, alloc: Global, types: Vec<TypeId>) -> Result<(), AllocError>
+        ensures handlers { OnOk result (handlers_in self.new ≡ map place types.items) }
+        ensures others { MatchResult result (λ _. KeepsBody self.old self.new) (λ _. self.new ≡ self.old) }
     {
-        self.handler_types = types;
+        self.list(alloc)?;
+        match &mut self.body {
+            Body::List(listed) => listed.handler_types = types,
+            Body::Text { .. } => unreachable!(),
+        }
+        Ok(())
     }
 }

@@ -51,8 +51,8 @@ impl Text {
         ensures as_many { IfOk result (λ flags. length flags.items ≡ local_count_of self.now) }
     {
         let mut flags = Vec::new(alloc);
-        flags.resize(self.local_count as usize, false)?;
-        flag_marks(&mut flags, self.bytes.as_slice(), self.marks.as_slice());
+        flags.resize(self.local_count() as usize, false)?;
+        flag_marks(&mut flags, self.bytes(), self.marks());
         Ok(flags)
     }
 }

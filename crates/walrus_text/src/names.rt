@@ -90,6 +90,6 @@ impl Text {
         ensures { OnOk result (map item_of to.new.items ≡ map item_of to.old.items
             ++ names_of (ops_in self.now)) }
     {
-        push_items(to, self.bytes.as_slice(), self.marks.as_slice())
+        push_items(to, self.bytes(), self.marks())
     }
 }

@@ -1,11 +1,13 @@
 //! The operators of a body, one by one.
-ghost use Rattle.std.specs.Prelude.{◌≡◌, Some, IfOk};
+ghost use Rattle.std.specs.Prelude.{◌≡◌, ◌+◌, Some, IfOk, length, map, true};
 ghost use Rattle.wasm_forms.specs.Grammar.{at};
 ghost use Rattle.wasm_text.specs.Operators as wire;
 ghost use Rattle.wasm_text.specs.Forms.{operator};
 ghost use Rattle.walrus_bodies.specs.Code.{ops_of};
 ghost use Rattle.walrus_bodies.specs.Results.{locations};
-ghost use Rattle.walrus_text.specs.Text.{locations_in, ops_in};
+ghost use Rattle.walrus_text.specs.Placed.{placed_ops};
+ghost use Rattle.walrus_text.specs.Text.{at_place, locations_in, ops_in};
+ghost use Rattle.walrus_text.specs.Texts.{are_operators, places_at, texts_at};
 
 use crate::place::place_operator;
 use crate::text::Text;
@@ -25,6 +27,34 @@ fn read_next(alloc: Global, bytes: &[u8]) -> Result<(RawOperator, &[u8]), AllocE
     }
 }
 
+// So many operators, one behind another, with their locations: the first begins at `start` of the input. The locals that they name lie from a
+// place on.
+fn list_operators(
+    alloc: Global,
+    bytes: &[u8],
+    count: usize,
+    start: usize,
+    first_local: u32,
+) -> Result<Vec<Operator>, AllocError>
+    requires { are_operators count bytes.now ≡ true }
+    ensures body { IfOk result (λ list. ops_of list.items
+        ≡ placed_ops first_local (texts_at count bytes.now)) }
+    ensures locations { IfOk result (λ list. locations list.items
+        ≡ map at_place (places_at (start + length bytes.now) count bytes.now)) }
+{
+    let mut list = Vec::with_capacity(alloc, count)?;
+    let mut rest = bytes;
+    'operators: for _turn in 0..count {
+        let offset = bytes.len().saturating_sub(rest.len());
+        let loc = InstrLocId::of_place(start.saturating_add(offset));
+        let (raw, after) = read_next(alloc, rest)?;
+        let operator = place_operator(alloc, &raw, loc, first_local)?;
+        list.push(operator)?;
+        rest = after;
+    }
+    Ok(list)
+}
+
 impl Text {
     /// Its operators with their locations. The last one is the `0B` that closes the function.
     ///
@@ -35,16 +65,13 @@ impl Text {
         ensures body { IfOk result (λ list. ops_of list.items ≡ ops_in self.now) }
         ensures locations { IfOk result (λ list. locations list.items ≡ locations_in self.now) }
     {
-        let mut list = Vec::with_capacity(alloc, self.count)?;
-        let mut rest = self.bytes.as_slice();
-        'operators: for _turn in 0..self.count {
-            let offset = self.bytes.len().saturating_sub(rest.len());
-            let loc = InstrLocId::of_place(self.start.saturating_add(offset));
-            let (raw, after) = read_next(alloc, rest)?;
-            let operator = place_operator(alloc, &raw, loc, self.first_local)?;
-            list.push(operator)?;
-            rest = after;
-        }
-        Ok(list)
+        let entry = self.entry();
+        list_operators(
+            alloc,
+            self.bytes(),
+            entry.count as usize,
+            entry.start as usize,
+            self.first_local,
+        )
     }
 }

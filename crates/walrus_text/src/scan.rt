@@ -1,13 +1,47 @@
 //! Scanning a whole body (Binary Format > Instructions > Expressions).
-ghost use Rattle.std.specs.Prelude.{◌≡◌, ◌+◌, ◌∷◌, [], ℕ, true, List, drop, IfOk, IfSome};
+ghost use Rattle.std.specs.Prelude.{◌≡◌, ◌+◌, ◌∷◌, [], ℕ, true, List, Some, drop, IfOk, IfSome, IsFalse};
 ghost use Rattle.walrus_bodies.specs.Blocks.{blocks_behind};
 ghost use Rattle.walrus_bodies.specs.OpenBlocks.{opened, Steps};
-ghost use Rattle.walrus_text.specs.Scanned.{IsPlainBody, IsScanned};
+ghost use Rattle.walrus_bodies.specs.declared.blocks.Opened.{Opened as Block};
+ghost use Rattle.walrus_text.specs.PlainBody.{IsPlainBody};
 
-use crate::text::Text;
 use std::alloc::{AllocError, Global};
 use walrus_bodies::{OpenBlocks, Opened};
 use wasm_text::{Limits, NO_PLACE, scan_operator};
+
+/// Room for scanning bodies, one after another.
+#[derive(Drop)]
+pub struct ScanRoom {
+    pub(crate) marks: Vec<u32>,
+    blocks: OpenBlocks,
+}
+
+impl ScanRoom {
+    /// Room with nothing in it.
+    ///
+    /// # Errors
+    ///
+    /// `AllocError` where no memory is left.
+    pub fn new(alloc: Global) -> Result<ScanRoom, AllocError> {
+        Ok(ScanRoom {
+            marks: Vec::new(alloc),
+            blocks: OpenBlocks::new(alloc)?,
+        })
+    }
+}
+
+// How many operators the bytes are, if they are a plain body that names only what is within the limits. Its marks stand in the room then.
+pub(crate) fn scan_body(
+    bytes: &[u8],
+    limits: &Limits,
+    room: &mut ScanRoom,
+) -> Result<Option<usize>, AllocError>
+    ensures { IfOk result (λ found. IfSome found (IsPlainBody limits.now bytes.now room.new.marks.items)) }
+{
+    room.marks.clear();
+    room.blocks.begin()?;
+    scan_operators(bytes, limits, &mut room.blocks, &mut room.marks)
+}
 
 // How many operators the bytes are, if they are plain ones within the limits, each of which stands in an open block, up to the end of the
 // function and no byte more. Then their marks stand in `marks`, which holds none before.
@@ -48,9 +82,18 @@ fn turn_at(bytes: &[u8], at: usize, blocks: &mut OpenBlocks) -> Result<bool, All
         → Steps (blocks_behind first (opened blocks.old)) (opened blocks.new) result }
 {
     match bytes.get(at) {
-        Some(byte) => blocks.turn(u32::from(*byte)),
+        Some(byte) if may_turn(*byte) => blocks.turn(u32::from(*byte)),
+        Some(_) => Ok(true),
         None => Ok(false),
     }
+}
+
+// Whether an operator that begins with this byte may open or close a block: those that do lie in two ranges.
+#[inline]
+fn may_turn(byte: u8) -> bool
+    ensures { IsFalse result → (blocks : List Block) → blocks_behind byte blocks ≡ Some blocks }
+{
+    byte < 12 || (byte >= 24 && byte < 32)
 }
 
 // One more than `turn`, if it is so.
@@ -58,38 +101,4 @@ fn count_if(is_so: bool, turn: usize) -> Option<usize>
     ensures { IfSome result (λ count. (is_so ≡ true) × (count ≡ turn + 1)) }
 {
     if is_so { turn.checked_add(1) } else { None }
-}
-
-impl Text {
-    /// The body whose operators are these bytes, which begin at `start` of the input, if it is plain and names only what is within the limits:
-    /// so many locals, the first of them at the place `first_local`. What stands in `marks` goes; it serves as room.
-    ///
-    /// # Errors
-    ///
-    /// `AllocError` where no memory is left.
-    pub fn scan(
-        alloc: Global,
-        operators: &[u8],
-        start: usize,
-        first_local: u32,
-        limits: &Limits,
-        marks: &mut Vec<u32>,
-    ) -> Result<Option<Text>, AllocError>
-        ensures { IfOk result (λ found. IfSome found
-            (IsScanned limits.now first_local start operators.now)) }
-    {
-        marks.clear();
-        let mut blocks = OpenBlocks::new(alloc)?;
-        let Some(count) = scan_operators(operators, limits, &mut blocks, marks)? else {
-            return Ok(None);
-        };
-        Ok(Some(Text {
-            bytes: operators.to_vec(alloc)?,
-            marks: marks.to_vec(alloc)?,
-            count,
-            start,
-            first_local,
-            local_count: limits.locals,
-        }))
-    }
 }

@@ -80,8 +80,8 @@ impl Text {
             locals,
             first_local: self.first_local,
         };
-        let bytes = self.bytes.as_slice();
-        let marks = self.marks.as_slice();
+        let bytes = self.bytes();
+        let marks = self.marks();
         bytes_are_held(bytes);
         if append_filled(to, bytes, marks, &numbers)? {
             Ok(())

@@ -8,9 +8,9 @@ use Rattle.walrus_text.proofs.NamesShown.{names_shown}
 use Rattle.walrus_text.proofs.text.Text.push_names.Goals as goal
 
 pub push_items-requires : goal.push_items-requires
-push_items-requires c = rw (c.as_slice.ensures.value, c.as_slice-2.ensures.value) (in_order c.args.self.now)
+push_items-requires c = rw (c.bytes.ensures, c.marks.ensures) (in_order c.args.self.now)
 
 pub returns : goal.returns
 returns c =
-    let same = ap₂ (λ b m. flat_map items_named (args_at b m)) c.as_slice.ensures.value c.as_slice-2.ensures.value ∙ names_shown c.args.self.now in
+    let same = ap₂ (λ b m. flat_map items_named (args_at b m)) c.bytes.ensures c.marks.ensures ∙ names_shown c.args.self.now in
     on_ok_weaker c.push_items.result (λ put. put ∙ ap (λ x. map item_of c.args.to.now.items ++ x) same) c.push_items.ensures
