@@ -16,7 +16,8 @@ mod read;
 mod tag_and_try;
 mod taken;
 
-pub use emit::{EmittedBody, emit_body, emit_body_with};
+pub use code::likely_length;
+pub use emit::{AppendedBody, EmittedBody, append_body, emit_body, emit_body_with};
 pub use law::{bodies_read_once, declared_in_one_order, locals_move, unwritable_is_ill_formed};
 pub use read::{add_locals, read_body};
 pub use walrus_bodies::Features;
