@@ -120,66 +120,21 @@ pub fn emit_body_with(
     })
 }
 
-/// What is known of a body that was appended.
-#[derive(Drop)]
-pub struct AppendedBody {
-    /// The body's locals by their indices: its parameters, and then those that it declares.
-    pub order: Vec<LocalId>,
-    /// Whether its operators name each of these.
-    pub used: Vec<bool>,
-}
-
-/// Appends the bytes of a function's body, as [`emit_body`] makes them. Refused, what was appended means nothing.
-///
-/// # Errors
-///
-/// As [`emit_body`].
-pub fn append_body(
-    alloc: Global,
-    function: &LocalFunction,
-    types: &ModuleTypes,
-    module_locals: &ModuleLocals,
-    indices: &IdsToIndices,
-    features: &Features,
-    to: &mut Vec<u8>,
-) -> Result<AppendedBody, IrError>
-    ensures written { (bytes places : List ℕ) × (numbers : ℕ → Option ℕ) × (EmitsBody
-        (source_of indices.now module_locals.now types.now function.now features.now)
-        (λ _. bytes) (λ _. places) (λ _. numbers) (λ body. map place body.order.items)
-        (λ body. body.used.items) result
-        × IfOk result (λ _. to.new.items ≡ to.old.items ++ bytes)) }
-{
-    let known = append_all(
-        alloc,
-        function,
-        types,
-        module_locals,
-        indices,
-        features,
-        false,
-        to,
-    )?;
-    Ok(AppendedBody {
-        order: known.order,
-        used: known.used,
-    })
-}
-
 // All that is known of a body that was appended.
 #[derive(Drop)]
-struct KnownBody {
+pub(crate) struct KnownBody {
     // As far as asked for: the location of each operator, with the place of its first byte, counted from the front of the body.
-    places: Vec<(InstrLocId, usize)>,
+    pub(crate) places: Vec<(InstrLocId, usize)>,
     // The index of each parameter and of each local that the body uses.
-    locals: LocalNumbers,
+    pub(crate) locals: LocalNumbers,
     // The body's locals by their indices.
-    order: Vec<LocalId>,
+    pub(crate) order: Vec<LocalId>,
     // Whether its operators name each of these.
-    used: Vec<bool>,
+    pub(crate) used: Vec<bool>,
 }
 
 // Appends the bytes of a function's body; where places are asked for, as the first ones.
-fn append_all(
+pub(crate) fn append_all(
     alloc: Global,
     function: &LocalFunction,
     types: &ModuleTypes,
@@ -240,7 +195,7 @@ fn append_all(
 }
 
 // Whether the function's type takes what its parameters hold.
-fn parameters_fit(
+pub(crate) fn parameters_fit(
     alloc: Global,
     function: &LocalFunction,
     args: &[LocalId],
@@ -295,7 +250,7 @@ fn joined(alloc: Global, args: &[LocalId], declared: &[LocalId]) -> Result<Vec<L
 }
 
 // The declarations of locals in this order.
-fn declare(
+pub(crate) fn declare(
     alloc: Global,
     declared: &[LocalId],
     module_locals: &ModuleLocals,

@@ -23,11 +23,11 @@ use Rattle.walrus_bodies.specs.FunctionTypes.{is_function_at}
 use Rattle.walrus_functions.specs.Declaring.{AreOnce}
 use Rattle.walrus_functions.specs.EmittedBody.{FitsType, source_of, types_of}
 use Rattle.walrus_functions.specs.Writing.{DeclaresLocals, LocalsDeclared}
-use Rattle.walrus_functions.specs.declared.emit.EmittedBody.{EmittedBody}
+use Rattle.walrus_functions.specs.declared.emit.KnownBody.{KnownBody}
 use Rattle.walrus_functions.proofs.AmongLemmas.{marks_are}
 use Rattle.walrus_functions.proofs.WrittenLemmas.{emitted, refused_declared, refused_found, all_there, all_differ, few_declarations, fits_type}
 use Rattle.std.proofs.lemmas.Result.{err_from_is_err_and}
-use Rattle.walrus_functions.proofs.emit.emit_body_with.Goals as goal
+use Rattle.walrus_functions.proofs.emit.append_all.Goals as goal
 
 abbrev Local : Type 0
 Local = Id LocalKey
@@ -52,7 +52,7 @@ all_known f g h a b c (Ok x) p q s = (p, q, s)
 all_known f g h a b c (Err e) p q s = tt
 
 -- what is handed on is what is known
-known : (numbers : LocalNumbers) (order : Vec Local Global) (used : Vec Bool Global) (r : Result EmittedBody IrError) → IfOk r (λ body. (body.locals ≡ numbers) × (body.order ≡ order) × (body.used ≡ used))
+known : (numbers : LocalNumbers) (order : Vec Local Global) (used : Vec Bool Global) (r : Result KnownBody IrError) → IfOk r (λ body. (body.locals ≡ numbers) × (body.order ≡ order) × (body.used ≡ used))
     → IfOk r (λ body. (local_index body.locals ≡ local_index numbers) × (map place body.order.items ≡ map place order.items) × (body.used.items ≡ used.items))
 known numbers order used (Ok body) h = (ap local_index h.0, ap view_ids h.1, ap (λ (marks : Vec Bool Global). marks.items) h.2)
 known numbers order used (Err e) h = tt
@@ -76,7 +76,7 @@ which_named-requires c = subst (λ (ids : List Local). IsStrictlySortedBy nat_cm
 pub returns-in_err-declared-clause-written : goal.returns-in_err-declared-clause-written
 returns-in_err-declared-clause-written c =
     let p = err_from_is_err_and c.from_residual-in_err-declared.result c.from_residual-in_err-declared.ensures.1 in
-    ([], (refused_found (source_of c.args.indices.now c.args.module_locals.now c.args.types.now c.args.function.now c.args.features.now) _ _ _ _ _ view_ids c.from_residual-in_err-declared.result c.in_err-declared.field-0.0 c.from_residual-in_err-declared.ensures.1 c.in_err-declared.ensures, rw p.1 tt))
+    ([], [], (refused_found (source_of c.args.indices.now c.args.module_locals.now c.args.types.now c.args.function.now c.args.features.now) _ _ _ _ _ view_ids c.from_residual-in_err-declared.result c.in_err-declared.field-0.0 c.from_residual-in_err-declared.ensures.1 c.in_err-declared.ensures, rw p.1 tt))
 
 pub returns-then-len-2-clause-written : goal.returns-then-len-2-clause-written
 returns-then-len-2-clause-written c =
@@ -86,7 +86,7 @@ returns-then-len-2-clause-written c =
     let counted : length (args_of c.args.function.now ++ order) ≡ length c.in_ok-all.all.items = sym (ap length are) ∙ length-map c.in_ok-all.all.items place in
     let many = c.if-len-2.true in
     let large : 2 ^ 32 < length (args_of c.args.function.now ++ order) = omega (arith, size, counted, many) in
-    ([], ((order, (c.in_ok-declared.ensures.1, inr large)), tt))
+    ([], [], ((order, (c.in_ok-declared.ensures.1, inr large)), tt))
 
 pub returns-then-len-clause-written : goal.returns-then-len-clause-written
 returns-then-len-clause-written c =
@@ -95,7 +95,7 @@ returns-then-len-clause-written c =
     let counted = length-map c.in_ok-declared.declared.items place in
     let many = c.if-len.true in
     let large : 2 ^ 32 ≤ length order = omega (arith, size, counted, many) in
-    ([], ((order, (c.in_ok-declared.ensures.1, inl large)), tt))
+    ([], [], ((order, (c.in_ok-declared.ensures.1, inl large)), tt))
 
 pub declare-requires-clause-there : goal.declare-requires-clause-there
 declare-requires-clause-there c =
@@ -104,6 +104,7 @@ declare-requires-clause-there c =
 pub returns-in_err-declarations-clause-written : goal.returns-in_err-declarations-clause-written
 returns-in_err-declarations-clause-written c =
     let p = err_from_is_err_and c.from_residual-in_err-declarations.result c.from_residual-in_err-declarations.ensures.1 in (
+      [],
       [],
       (
         refused_declared (source_of c.args.indices.now c.args.module_locals.now c.args.types.now c.args.function.now c.args.features.now) (map place c.in_ok-declared.declared.items) c.in_ok-declared.ensures.1 _ _ _ _ _ view_declarations c.from_residual-in_err-declarations.result c.in_err-declarations.field-0.0 c.from_residual-in_err-declarations.ensures.1
@@ -145,7 +146,8 @@ returns-clause-written c =
     let few : length order < 2 ^ 32 = omega (arith, size, counted, under) in
     let numbers = local_index c.in_ok-locals.locals in
     let once : AreOnce (locals_of s.ops) (map place c.in_ok-named.named.items) = subst (λ (ops : List Op). AreOnce (locals_of ops) (map place c.in_ok-named.named.items)) c.in_ok-code.ensures.body c.in_ok-named.ensures in
-    let places = c.write_body.ensures.written.0 in
+    let bytes = c.write_body.ensures.written.0 in
+    let places = c.write_body.ensures.written.1 in
     let made = emitted s order c.in_ok-declared.ensures.1 ds written
     (fits_type s (c.in_ok-fits.ensures.0 c.if-not-fits.false) c.in_ok-declared.ensures.0)
     (ap (blocks_hold (is_function_at c.args.types.now)) (sym c.in_ok-code.ensures.body) ∙ sym c.in_ok-hold.ensures ∙ c.if-not-hold.false)
@@ -153,25 +155,25 @@ returns-clause-written c =
     (λ x. c.in_ok-locals.ensures x ∙ ap (λ (ps : List ℕ). place_in ps x) (ap (map place) c.as_slice-4.ensures.value ∙ are))
     (map place c.in_ok-all.all.items) are c.in_ok-used.used.items
     (marks (locals_of s.ops) (map place c.in_ok-named.named.items) once c.as_slice-5.result.now c.as_slice-6.result.now c.in_ok-all.all.items c.in_ok-named.named.items c.in_ok-used.used.items c.in_ok-used.ensures c.as_slice-5.ensures.value c.as_slice-6.ensures.value refl)
-    (λ body. body.bytes.items) (λ _. places) (λ body. local_index body.locals) (λ body. map place body.order.items) (λ body. body.used.items) c.write_body.result
+    (λ _. bytes) (λ _. places) (λ body. local_index body.locals) (λ body. map place body.order.items) (λ body. body.used.items) c.write_body.result
     (known c.in_ok-locals.locals c.in_ok-all.all c.in_ok-used.used c.write_body.result (all_known (λ body. body.locals) (λ body. body.order) (λ body. body.used) c.in_ok-locals.locals c.in_ok-all.all c.in_ok-used.used c.write_body.result c.write_body.ensures.numbered c.write_body.ensures.ordered c.write_body.ensures.marked))
-    (rw (c.in_ok-code.ensures.body, c.as_slice-7.ensures.value) at c.write_body.ensures.written.1.0) in
-    (places, (made, c.write_body.ensures.written.1.1))
+    (rw (c.in_ok-code.ensures.body, c.as_slice-7.ensures.value) at c.write_body.ensures.written.2.0) in
+    (bytes, places, (made, c.write_body.ensures.written.2.1))
 
 pub returns-in_err-fits-clause-written : goal.returns-in_err-fits-clause-written
-returns-in_err-fits-clause-written c = let p = err_from_is_err_and c.from_residual-in_err-fits.result c.from_residual-in_err-fits.ensures.1 in rw (p.1, p.2) ([], (tt, tt))
+returns-in_err-fits-clause-written c = let p = err_from_is_err_and c.from_residual-in_err-fits.result c.from_residual-in_err-fits.ensures.1 in rw (p.1, p.2) ([], [], (tt, tt))
 
 pub returns-in_err-fits-clause-located : goal.returns-in_err-fits-clause-located
 returns-in_err-fits-clause-located c = let p = err_from_is_err_and c.from_residual-in_err-fits.result c.from_residual-in_err-fits.ensures.1 in rw p.1 tt
 
 pub returns-in_err-all-clause-written : goal.returns-in_err-all-clause-written
-returns-in_err-all-clause-written c = let p = err_from_is_err_and c.from_residual-in_err-all.result c.from_residual-in_err-all.ensures.1 in rw (p.1, p.2) ([], (tt, tt))
+returns-in_err-all-clause-written c = let p = err_from_is_err_and c.from_residual-in_err-all.result c.from_residual-in_err-all.ensures.1 in rw (p.1, p.2) ([], [], (tt, tt))
 
 pub returns-in_err-all-clause-located : goal.returns-in_err-all-clause-located
 returns-in_err-all-clause-located c = let p = err_from_is_err_and c.from_residual-in_err-all.result c.from_residual-in_err-all.ensures.1 in rw p.1 tt
 
 pub returns-in_err-locals-clause-written : goal.returns-in_err-locals-clause-written
-returns-in_err-locals-clause-written c = let p = err_from_is_err_and c.from_residual-in_err-locals.result c.from_residual-in_err-locals.ensures.1 in rw (p.1, p.2) ([], (tt, tt))
+returns-in_err-locals-clause-written c = let p = err_from_is_err_and c.from_residual-in_err-locals.result c.from_residual-in_err-locals.ensures.1 in rw (p.1, p.2) ([], [], (tt, tt))
 
 pub returns-in_err-locals-clause-located : goal.returns-in_err-locals-clause-located
 returns-in_err-locals-clause-located c = let p = err_from_is_err_and c.from_residual-in_err-locals.result c.from_residual-in_err-locals.ensures.1 in rw p.1 tt
@@ -195,13 +197,13 @@ pub returns-then-len-2-clause-located : goal.returns-then-len-2-clause-located
 returns-then-len-2-clause-located c = tt
 
 pub returns-in_err-named-clause-written : goal.returns-in_err-named-clause-written
-returns-in_err-named-clause-written c = let p = err_from_is_err_and c.from_residual-in_err-named.result c.from_residual-in_err-named.ensures.1 in rw (p.1, p.2) ([], (tt, tt))
+returns-in_err-named-clause-written c = let p = err_from_is_err_and c.from_residual-in_err-named.result c.from_residual-in_err-named.ensures.1 in rw (p.1, p.2) ([], [], (tt, tt))
 
 pub returns-in_err-named-clause-located : goal.returns-in_err-named-clause-located
 returns-in_err-named-clause-located c = let p = err_from_is_err_and c.from_residual-in_err-named.result c.from_residual-in_err-named.ensures.1 in rw p.1 tt
 
 pub returns-in_err-used-clause-written : goal.returns-in_err-used-clause-written
-returns-in_err-used-clause-written c = let p = err_from_is_err_and c.from_residual-in_err-used.result c.from_residual-in_err-used.ensures.1 in rw (p.1, p.2) ([], (tt, tt))
+returns-in_err-used-clause-written c = let p = err_from_is_err_and c.from_residual-in_err-used.result c.from_residual-in_err-used.ensures.1 in rw (p.1, p.2) ([], [], (tt, tt))
 
 pub returns-in_err-used-clause-located : goal.returns-in_err-used-clause-located
 returns-in_err-used-clause-located c = let p = err_from_is_err_and c.from_residual-in_err-used.result c.from_residual-in_err-used.ensures.1 in rw p.1 tt
@@ -210,26 +212,26 @@ pub returns-then-not-fits-clause-written : goal.returns-then-not-fits-clause-wri
 returns-then-not-fits-clause-written c =
     let s = source_of c.args.indices.now c.args.module_locals.now c.args.types.now c.args.function.now c.args.features.now in
     let unfit : FitsType s.def s.slots s.parameters → ⊥ = (λ fits. untrue _ (c.in_ok-fits.ensures.1 (fits.types, (fits.taken, fits.typed))) c.if-not-fits.true) in
-    ([], (inr (inr (inl unfit)), tt))
+    ([], [], (inr (inr (inl unfit)), tt))
 
 pub returns-then-not-hold-clause-written : goal.returns-then-not-hold-clause-written
 returns-then-not-hold-clause-written c =
-    ([], (inr (inl (ap (blocks_hold (is_function_at c.args.types.now)) (sym c.in_ok-code.ensures.body) ∙ sym c.in_ok-hold.ensures ∙ c.if-not-hold.true)), tt))
+    ([], [], (inr (inl (ap (blocks_hold (is_function_at c.args.types.now)) (sym c.in_ok-code.ensures.body) ∙ sym c.in_ok-hold.ensures ∙ c.if-not-hold.true)), tt))
 
 pub returns-in_err-parameters-clause-written : goal.returns-in_err-parameters-clause-written
-returns-in_err-parameters-clause-written c = let p = err_from_is_err_and c.from_residual.result c.from_residual.ensures.1 in rw (p.1, p.2) ([], (tt, tt))
+returns-in_err-parameters-clause-written c = let p = err_from_is_err_and c.from_residual.result c.from_residual.ensures.1 in rw (p.1, p.2) ([], [], (tt, tt))
 
 pub returns-in_err-parameters-clause-located : goal.returns-in_err-parameters-clause-located
 returns-in_err-parameters-clause-located c = let p = err_from_is_err_and c.from_residual.result c.from_residual.ensures.1 in rw p.1 tt
 
 pub returns-in_err-code-clause-written : goal.returns-in_err-code-clause-written
-returns-in_err-code-clause-written c = let p = err_from_is_err_and c.from_residual-in_err-code.result c.from_residual-in_err-code.ensures.1 in rw (p.1, p.2) ([], (tt, tt))
+returns-in_err-code-clause-written c = let p = err_from_is_err_and c.from_residual-in_err-code.result c.from_residual-in_err-code.ensures.1 in rw (p.1, p.2) ([], [], (tt, tt))
 
 pub returns-in_err-code-clause-located : goal.returns-in_err-code-clause-located
 returns-in_err-code-clause-located c = let p = err_from_is_err_and c.from_residual-in_err-code.result c.from_residual-in_err-code.ensures.1 in rw p.1 tt
 
 pub returns-in_err-hold-clause-written : goal.returns-in_err-hold-clause-written
-returns-in_err-hold-clause-written c = let p = err_from_is_err_and c.from_residual-in_err-hold.result c.from_residual-in_err-hold.ensures.1 in rw (p.1, p.2) ([], (tt, tt))
+returns-in_err-hold-clause-written c = let p = err_from_is_err_and c.from_residual-in_err-hold.result c.from_residual-in_err-hold.ensures.1 in rw (p.1, p.2) ([], [], (tt, tt))
 
 pub returns-in_err-hold-clause-located : goal.returns-in_err-hold-clause-located
 returns-in_err-hold-clause-located c = let p = err_from_is_err_and c.from_residual-in_err-hold.result c.from_residual-in_err-hold.ensures.1 in rw p.1 tt
