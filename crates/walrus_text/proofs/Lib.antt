@@ -3,6 +3,7 @@ pub mod AtMarks
 mod ByteLemmas
 pub mod FlagLemmas
 mod HeldLemmas
+mod KeptLemmas
 mod LocatedLemmas
 mod NamedLemmas
 pub mod NamesShown

@@ -14,6 +14,7 @@ mod operators;
 mod pieces;
 mod place;
 mod plain_code;
+mod range;
 mod scan;
 mod text;
 mod write;

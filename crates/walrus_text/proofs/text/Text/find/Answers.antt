@@ -28,11 +28,11 @@ returns c =
     let same : bytes_at code n ≡ bytes = sym (c.bytes_of.ensures ∙ ap₂ bytes_in c.as_ref-shared.ensures told) ∙ c.are_same.ensures c.if-not-are_same.false in
     let body : ∥ IsPlainBody limits bytes (marks_at code n) (entry_at code n).count ∥₁ =
     subst (λ (l : ℕ). ∥ IsPlainBody (with_locals code.limits l) bytes (marks_at code n) (entry_at code n).count ∥₁) locals
-        (subst (λ (bs : List ℕ). ∥ IsPlainBody (limits_at code n) bs (marks_at code n) (entry_at code n).count ∥₁) same is) in
+    (subst (λ (bs : List ℕ). ∥ IsPlainBody (limits_at code n) bs (marks_at code n) (entry_at code n).count ∥₁) same is) in
     let one = c.in_ok-clone.ensures.cases in
     is_scanned limits c.args.first_local c.args.start bytes (marks_at code n) _
-        (ap (λ (k : PlainCode). bytes_at k n) one ∙ same)
-        refl
-        (ap (λ (k : PlainCode). (entry_at k n).locals) one ∙ locals)
-        (ap (λ (k : PlainCode). (entry_at k n).start) one ∙ starts)
-        (subst (λ (k : PlainCode). ∥ IsPlainBody limits bytes (marks_at code n) (entry_at k n).count ∥₁) (sym one) body)
+    (ap (λ (k : PlainCode). bytes_at k n) one ∙ same)
+    refl
+    (ap (λ (k : PlainCode). (entry_at k n).locals) one ∙ locals)
+    (ap (λ (k : PlainCode). (entry_at k n).start) one ∙ starts)
+    (subst (λ (k : PlainCode). ∥ IsPlainBody limits bytes (marks_at code n) (entry_at k n).count ∥₁) (sym one) body)
