@@ -5,7 +5,8 @@ ghost use Rattle.walrus_base.specs.Id.{place};
 ghost use Rattle.walrus_types.specs.Alone.{FoundOrAdded};
 ghost use Rattle.walrus_types.specs.Composite.{function_of};
 ghost use Rattle.walrus_types.specs.ModuleTypes.{type_slots, type_names};
-ghost use Rattle.walrus_text.specs.Function.{function_type, body_of, locations_of, args_of, handlers_in};
+ghost use Rattle.walrus_types.specs.TypeDef.{name_bytes};
+ghost use Rattle.walrus_text.specs.Function.{function_type, name_of, body_of, locations_of, args_of, handlers_in};
 ghost use Rattle.walrus_builder.specs.Instructions.{end_op, i32_const_op, drop_op, nowhere};
 ghost use Rattle.walrus_text.specs.Location.{location};
 ghost use Rattle.walrus_builder.specs.Sequence.{built, located};
@@ -74,9 +75,9 @@ impl FunctionBuilder {
 
     /// The function of this name and type with these argument locals. Its body is the operators that were built, and behind them
     /// the last `0B`, which came from nowhere. It has no handlers.
-    #[tactic(auto, unfolding(walrus_text::specs::Function::body_of, walrus_text::specs::Function::locations_of, walrus_text::specs::Function::args_of, walrus_text::specs::Function::handlers_in))]
+    #[tactic(auto, unfolding(walrus_text::specs::Function::name_of, walrus_text::specs::Function::body_of, walrus_text::specs::Function::locations_of, walrus_text::specs::Function::args_of, walrus_text::specs::Function::handlers_in))]
     pub fn local_func(self, args: Vec<LocalId>) -> Result<LocalFunction, AllocError>
-        ensures name { IfOk result (λ f. f.name ≡ builder_name self) }
+        ensures name { IfOk result (λ f. name_of f ≡ name_bytes (builder_name self)) }
         ensures ty { IfOk result (λ f. function_type f ≡ builder_type self) }
         ensures args { IfOk result (λ f. args_of f ≡ map place args.items) }
         ensures body { IfOk result (λ f. body_of f ≡ built (builder_body self) ++ end_op ∷ []) }
@@ -90,9 +91,7 @@ impl FunctionBuilder {
             body,
             alloc,
         } = self;
-        let mut function = body.into_function(alloc, ty, args)?;
-        function.name = name;
-        Ok(function)
+        body.into_named(alloc, ty, args, name)
     }
 }
 

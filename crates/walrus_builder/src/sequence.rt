@@ -1,8 +1,9 @@
 //! Sequences of operators, built one behind another.
 ghost use Rattle.std.specs.Prelude.{◌≡◌, ◌∷◌, ◌++◌, [], None, length, map, IfOk, OnOk, OnErr};
 ghost use Rattle.walrus_base.specs.Id.{place};
+ghost use Rattle.walrus_types.specs.TypeDef.{name_bytes};
 ghost use Rattle.walrus_text.specs.Code.{op_of, ops_of};
-ghost use Rattle.walrus_text.specs.Function.{function_type, body_of, locations_of, args_of, handlers_in};
+ghost use Rattle.walrus_text.specs.Function.{function_type, name_of, body_of, locations_of, args_of, handlers_in};
 ghost use Rattle.walrus_text.specs.Location.{location};
 ghost use Rattle.walrus_builder.specs.Instructions.{end_op, unreachable_op, call_op, drop_op, local_get_op, i32_const_op, nowhere};
 
@@ -53,7 +54,25 @@ impl InstrSeqBuilder {
         ty: TypeId,
         args: Vec<LocalId>,
     ) -> Result<LocalFunction, AllocError>
-        ensures name { IfOk result (λ f. f.name ≡ None) }
+        ensures name { IfOk result (λ f. name_of f ≡ None) }
+        ensures ty { IfOk result (λ f. function_type f ≡ ty) }
+        ensures args { IfOk result (λ f. args_of f ≡ map place args.items) }
+        ensures body { IfOk result (λ f. body_of f ≡ built self ++ end_op ∷ []) }
+        ensures locations { IfOk result (λ f. map location (locations_of f) ≡ located self ++ nowhere ∷ []) }
+        ensures handler_types { IfOk result (λ f. handlers_in f ≡ []) }
+    {
+        self.into_named(alloc, ty, args, None)
+    }
+
+    // The same with this name, if there is one.
+    pub(crate) fn into_named(
+        self,
+        alloc: Global,
+        ty: TypeId,
+        args: Vec<LocalId>,
+        name: Option<String>,
+    ) -> Result<LocalFunction, AllocError>
+        ensures name { IfOk result (λ f. name_of f ≡ name_bytes name) }
         ensures ty { IfOk result (λ f. function_type f ≡ ty) }
         ensures args { IfOk result (λ f. args_of f ≡ map place args.items) }
         ensures body { IfOk result (λ f. body_of f ≡ built self ++ end_op ∷ []) }
@@ -62,7 +81,7 @@ impl InstrSeqBuilder {
     {
         let mut body = self;
         body.push(Operator::new(Operator::END, Args::None))?;
-        Ok(LocalFunction::new(alloc, ty, args, body.operators))
+        LocalFunction::new(alloc, ty, args, body.operators, name)
     }
 
     // Puts an operator behind those that are there. Where memory runs out, it is dropped, and nothing changes.

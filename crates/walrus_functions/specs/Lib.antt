@@ -22,6 +22,7 @@ pub use Rattle.walrus_bodies.specs.Blocks
 pub use Rattle.walrus_text.specs.Classes
 pub use Rattle.walrus_text.specs.Function
 pub use Rattle.walrus_text.specs.Plain as PlainBodies
+pub use Rattle.walrus_text.specs.PlainCode
 pub use Rattle.walrus_text.specs.Scanned
 pub use Rattle.walrus_text.specs.Text
 pub use Rattle.walrus_text.specs.contracts.function.LocalFunction as FunctionRow

@@ -25,6 +25,6 @@ pub record IsPlainRead (limits : Limits) (is_function_type : ℕ → Bool) (firs
   pub scanned : IsScanned (record limits { locals = params + total (declarations_of plain.declarations.items) }) first (min (start + length front) (2 ^ 64 - 1)) rest plain.text
   pub blocks : blocks_hold is_function_type (ops_in plain.text) ≡ true
 
--- there are counts, under which this holds
-abbrev pub IfPlain : Option Limits → (Limits → PlainBody → Type 0) → PlainBody → Type 0
-IfPlain texts P plain = (limits : Limits) × ((texts ≡ Some limits) × P limits plain)
+-- there is a code of such bodies, and of it this holds
+abbrev pub IfPlain : {X : Type 0} → Option X → (X → PlainBody → Type 0) → PlainBody → Type 0
+IfPlain {X} texts P plain = (code : X) × ((texts ≡ Some code) × P code plain)

@@ -14,7 +14,7 @@ use Rattle.walrus_types.specs.TypeDef.{TypeDef}
 use Rattle.walrus_types.specs.Value.{val_type}
 use Rattle.walrus_types.specs.declared.locals.Local.{Local}
 use Rattle.walrus_types.specs.declared.value.ValType.{ValType as DeclaredValType}
-use Rattle.walrus_text.specs.Function.{function_type, body_of, args_of, handlers_in}
+use Rattle.walrus_text.specs.Function.{function_type, name_of, body_of, args_of, handlers_in}
 use Rattle.walrus_code.specs.declared.location.InstrLocId.{InstrLocId}
 use Rattle.walrus_text.specs.Scanned.{IsPlace}
 use Rattle.walrus_code.specs.declared.error.IrError.{IrError}
@@ -42,7 +42,7 @@ locals_from first count index = slice_get (range_with_len first count) index
 -- the module in this order, the function has the first of them as its parameters, and the types of its handlers are found or added.
 pub record FunctionIsRead (c : Context) (tags : ℕ → Option ℕ) (ty : ℕ) (old_types new_types : Slots) (old_locals new_locals : List (Option Local)) (bytes : List ℕ) (f : LocalFunction) : Type 0 where
   pub own_type : place (function_type f) ≡ ty
-  pub unnamed : f.name ≡ None
+  pub unnamed : name_of f ≡ None
   pub params : List DeclaredValType
   pub declared : List DeclaredValType
   pub takes : map val_type params ≡ params_of (item_at old_types.types ty)

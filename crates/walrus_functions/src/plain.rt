@@ -12,6 +12,7 @@ ghost use Rattle.walrus_bodies.specs.Declarations.{declarations_of};
 ghost use Rattle.walrus_bodies.specs.FunctionTypes.{is_function_at};
 ghost use Rattle.walrus_bodies.specs.declared.features.Features.{Features as Proposals};
 ghost use Rattle.walrus_text.specs.Limits.{Limits as Limited};
+ghost use Rattle.walrus_text.specs.PlainCode.{limits_in};
 ghost use Rattle.walrus_text.specs.Scanned.{AreInPlace, IsPlace};
 ghost use Rattle.walrus_functions.specs.Handlers.{params_of};
 ghost use Rattle.walrus_functions.specs.Plain.{IfPlain, IsPlainRead, total};
@@ -20,10 +21,11 @@ ghost use Rattle.walrus_functions.specs.Signatures.{slots_of};
 
 use crate::read::add_locals;
 use std::alloc::{AllocError, Global};
+use std::rc::Rc;
 use walrus_base::TypeId;
 use walrus_bodies::{Declaration, declare, read_declarations};
 use walrus_code::{IndicesToIds, IrError};
-use walrus_text::{Limits, LocalFunction, Text};
+use walrus_text::{LocalFunction, PlainCode, ScanRoom, Text};
 use walrus_types::{ModuleLocals, ModuleTypes};
 
 // A body that is kept as it stands: how many parameters its function has, the locals that it declares, and its operators.
@@ -45,22 +47,50 @@ fn count_locals(params: u32, declarations: &[Declaration]) -> Option<u32>
     Some(count)
 }
 
-// The body, if it is plain and names only what is within the counts, and so many parameters and the locals that it declares, which lie from the
-// place `first` on; none where there are no counts. What stands in `room` goes.
-pub(crate) fn scan_plain(
+/// These bodies, and behind them one more, from its bytes, which begin at `start` of the input; its function has so many parameters.
+///
+/// # Errors
+///
+/// `AllocError` where no memory is left.
+pub fn scan_body(
+    alloc: Global,
+    code: PlainCode,
+    bytes: &[u8],
+    start: usize,
+    params: usize,
+    room: &mut ScanRoom,
+) -> Result<PlainCode, AllocError>
+    ensures { IfOk result (λ new. limits_in new ≡ limits_in code) }
+{
+    let Ok(params) = u32::try_from(params) else {
+        return code.skip();
+    };
+    let Ok((declarations, rest)) = read_declarations(alloc, bytes) else {
+        return code.skip();
+    };
+    let Some(locals) = count_locals(params, declarations.as_slice()) else {
+        return code.skip();
+    };
+    let begin = start.saturating_add(bytes.len().saturating_sub(rest.len()));
+    code.scan(rest, begin, locals, room)
+}
+
+// The body of this number in the code, if it is that of these bytes, which begin at `start` of the input, where its function has so many
+// parameters and the locals that it declares, which lie from the place `first` on; none where there is no code.
+pub(crate) fn find_plain(
     alloc: Global,
     bytes: &[u8],
     start: usize,
-    texts: Option<Limits>,
+    texts: &Option<Rc<PlainCode>>,
+    number: u32,
     params: usize,
     first: usize,
     types: &ModuleTypes,
-    room: &mut Vec<u32>,
 ) -> Result<Option<PlainBody>, AllocError>
-    ensures { IfOk result (λ found. IfSome found (IfPlain texts (λ limits plain.
-        IsPlainRead limits (is_function_at types.now) first params start bytes.now plain))) }
+    ensures { IfOk result (λ found. IfSome found (IfPlain texts.now (λ code plain.
+        IsPlainRead (limits_in code.value) (is_function_at types.now) first params start bytes.now plain))) }
 {
-    let Some(limits) = texts else {
+    let Some(code) = texts else {
         return Ok(None);
     };
     let Ok(params) = u32::try_from(params) else {
@@ -75,9 +105,8 @@ pub(crate) fn scan_plain(
     let Ok(first_local) = u32::try_from(first) else {
         return Ok(None);
     };
-    let within = with_locals(limits, locals);
     let begin = start.saturating_add(bytes.len().saturating_sub(rest.len()));
-    let Some(text) = Text::scan(alloc, rest, begin, first_local, &within, room)? else {
+    let Some(text) = Text::find(code, number, rest, begin, first_local, locals)? else {
         return Ok(None);
     };
     if !text.blocks_hold(types)? {
@@ -88,15 +117,6 @@ pub(crate) fn scan_plain(
         declarations,
         text,
     }))
-}
-
-// The same counts, with so many locals.
-fn with_locals(limits: Limits, locals: u32) -> Limits
-    ensures { result ≡ record limits { locals = locals } }
-{
-    let mut limits = limits;
-    limits.locals = locals;
-    limits
 }
 
 // The function of this type with a body that was found plain; its parameters and then the locals that it declares are added to the module's.
@@ -122,5 +142,5 @@ pub(crate) fn take_plain(
     let declarations = plain.declarations.as_slice();
     let _declared = declare(alloc, declarations, indices, module_locals)?;
     plain.text.is_plain();
-    Ok(LocalFunction::of_text(alloc, ty, plain.params, plain.text))
+    Ok(LocalFunction::of_text(ty, plain.params, plain.text))
 }

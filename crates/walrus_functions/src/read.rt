@@ -9,17 +9,19 @@ ghost use Rattle.walrus_text.specs.Function.{locations_of};
 ghost use Rattle.walrus_bodies.specs.Body.{context};
 ghost use Rattle.walrus_bodies.specs.BodyRead.{AddsLocals, BodyLocated};
 ghost use Rattle.walrus_bodies.specs.FunctionTypes.{is_function_at};
+ghost use Rattle.walrus_text.specs.PlainCode.{limits_in};
 ghost use Rattle.walrus_text.specs.Scanned.{AreInPlace};
 ghost use Rattle.walrus_functions.specs.ReadFunction.{Given, ReadsFunction, StaysInFront};
 ghost use Rattle.walrus_functions.specs.Signatures.{slots_of, tag_places};
 
 use crate::handlers::add_handler_types;
-use crate::plain::{scan_plain, take_plain};
+use crate::plain::{find_plain, take_plain};
 use std::alloc::{AllocError, Global};
+use std::rc::Rc;
 use walrus_base::{LocalId, TypeId};
 use walrus_bodies::{Features, read_body_over};
 use walrus_code::{IndicesToIds, InstrLocId, IrError};
-use walrus_text::{Limits, LocalFunction};
+use walrus_text::{LocalFunction, PlainCode};
 use walrus_types::{ModuleLocals, ModuleTypes, ValType};
 
 /// Reads the body of a function of a type from its bytes, which begin at `start` of the input. Its parameters and then its declared locals
@@ -27,9 +29,9 @@ use walrus_types::{ModuleLocals, ModuleTypes, ValType};
 /// with parameters p in a `try` with results r the type p to r, unless p is empty and r has at most one; for a `catch_all` the type of nothing
 /// to r, where r has more than one. `tag_types` are the types of the tags, by their places.
 ///
-/// Where `texts` are counts below which each index is the place of its item, a plain body is kept as it stands in the input; each operator's
-/// location is its place then. Those of another body are given by `locate`, by the place of an operator's first byte. What stands in
-/// `room` goes.
+/// Where `texts` is a code in which this body stands under its `number`, and within the limits of which each index is the place of its item, a
+/// plain body is kept as it stands in the input; each operator's location is its place then. Those of another body are given by `locate`, by
+/// the place of an operator's first byte.
 ///
 /// There is no limit on declared locals here, and memory is taken for each: six bytes can declare 2^32 - 1 of them. Who reads bytes that weren't
 /// checked first, as `check` of `wasm_wire` does for a whole module, gets what they declare.
@@ -46,23 +48,23 @@ pub fn read_body<L: Fn(&usize) -> InstrLocId>(
     types: &mut ModuleTypes,
     module_locals: &mut ModuleLocals,
     locate: &L,
-    texts: Option<Limits>,
-    room: &mut Vec<u32>,
+    texts: &Option<Rc<PlainCode>>,
+    number: u32,
 ) -> Result<LocalFunction, IrError>
     requires typed { is_function_at types.old (place ty) ≡ true }
     requires callable { L.IsAlwaysCallable locate.now }
-    requires in_place { IfSome texts (λ limits. AreInPlace limits (ids_at indices.now)) }
+    requires in_place { IfSome texts.now (λ code. AreInPlace (limits_in code.value) (ids_at indices.now)) }
     ensures read { ReadsFunction (context (ids_at indices.now) (is_function_at types.old) features.now)
         (tag_places tag_types.now) (place ty) (slots_of types.old) (slots_of types.new)
         (locals module_locals.old) (locals module_locals.new) bytes.now result }
-    ensures located { IfOk result (λ f. BodyLocated (Given texts (FnReturnsAt L.Fn locate.now)) start
+    ensures located { IfOk result (λ f. BodyLocated (Given texts.now (FnReturnsAt L.Fn locate.now)) start
         bytes.now (locations_of f)) }
     ensures types_stay { StaysInFront (type_slots types.old) (type_slots types.new) }
     ensures locals_stay { StaysInFront (locals module_locals.old) (locals module_locals.new) }
 {
     let params = types.get(ty).params().len();
     let first = module_locals.next_id().index();
-    let found = scan_plain(alloc, bytes, start, texts, params, first, types, room)?;
+    let found = find_plain(alloc, bytes, start, texts, number, params, first, types)?;
     if let Some(plain) = found {
         return take_plain(alloc, plain, ty, indices, types, module_locals);
     }
@@ -116,8 +118,8 @@ fn read_list<L: Fn(&usize) -> InstrLocId>(
         locate,
     )?;
     let handler_types = add_handler_types(alloc, types, tag_types, body.operators.as_slice())?;
-    let mut function = LocalFunction::new(alloc, ty, args, body.operators);
-    function.set_handler_types(handler_types);
+    let mut function = LocalFunction::new(alloc, ty, args, body.operators, None)?;
+    function.set_handler_types(alloc, handler_types)?;
     Ok(function)
 }
 

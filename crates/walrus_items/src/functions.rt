@@ -55,8 +55,8 @@ impl Function {
 }
 
 // A text like this one, if there is one.
-fn copied(text: &Option<String>) -> result::Result<Option<String>, AllocError>
-    ensures { IfOk result (λ t. text_of t ≡ text_of text.now) }
+fn copied(text: Option<&String>) -> result::Result<Option<String>, AllocError>
+    ensures { IfOk result (λ t. text_of t ≡ option_map (λ s. string_bytes s.now) text) }
 {
     match text {
         Some(text) => Ok(Some(text.clone()?)),
@@ -131,11 +131,11 @@ impl Items<FunctionKey, Function> {
         ensures { MatchResult result
             (λ id. (place id ≡ length (functions self.old))
             × (functions self.new ≡ functions self.old
-            ++ Some (record { id = place id; kind = FunctionKind.Local local; name = text_of local.name }) ∷
+            ++ Some (record { id = place id; kind = FunctionKind.Local local; name = name_of local }) ∷
             []))
             (λ e. (e ≡ out_of_memory) × (functions self.new ≡ functions self.old)) }
     {
-        let name = copied(&local.name)?;
+        let name = copied(local.name())?;
         let id = self.arena.next_id();
         Ok(
             self.arena.alloc(Function {

@@ -74,7 +74,7 @@ pub record HoldsBody (first ty arity : ℕ) (body : Said) (f : LocalFunction) : 
   pub typed : place (function_type f) ≡ ty
   pub parameters : args_of f ≡ range_with_len first arity
   pub operators : body_of f ≡ map (moved_op first) body.1
-  pub unnamed : f.name ≡ None
+  pub unnamed : name_of f ≡ None
 
 -- a slot holds, with this id, a function of this type with the body that was read
 pub record HoldsFunction (types : ℕ → Option TypeDef) (id first : ℕ) (f : ℕ × Said) (slot : Option FunctionValue) : Type 0 where

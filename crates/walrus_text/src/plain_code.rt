@@ -158,7 +158,7 @@ impl PlainCode {
         let limits = with_locals(self.limits, locals);
         match scan_body(operators, &limits, room)? {
             Some(count) => self.push(operators, &room.marks, count, start, locals),
-            None => self.push_none(),
+            None => self.skip(),
         }
     }
 
@@ -175,7 +175,7 @@ impl PlainCode {
         ensures { IfOk result (λ code. limits_in code ≡ limits_in self) }
     {
         let Some(entry) = self.entry_behind(operators, marks, count, start, locals) else {
-            return self.push_none();
+            return self.skip();
         };
         let mut code = self;
         code.bytes.extend_from_slice(operators)?;
@@ -184,8 +184,12 @@ impl PlainCode {
         Ok(code)
     }
 
-    // The same with a body behind them that has no operators here.
-    fn push_none(self) -> Result<PlainCode, AllocError>
+    /// The same bodies, and behind them one that isn't plain.
+    ///
+    /// # Errors
+    ///
+    /// `AllocError` where no memory is left.
+    pub fn skip(self) -> Result<PlainCode, AllocError>
         ensures { IfOk result (λ code. limits_in code ≡ limits_in self) }
     {
         let mut code = self;

@@ -8,6 +8,7 @@ use Rattle.walrus_types.specs.ModuleTypes.{type_slots}
 use Rattle.walrus_types.specs.Value.{val_type}
 use Rattle.walrus_code.specs.Indices.{ids_at}
 use Rattle.walrus_bodies.specs.FunctionTypes.{is_function_at}
+use Rattle.walrus_text.specs.PlainCode.{limits_in}
 use Rattle.walrus_text.specs.Scanned.{AreInPlace, IsPlace}
 use Rattle.walrus_functions.specs.Handlers.{params_of}
 use Rattle.walrus_functions.specs.Plain.{IfPlain, IsPlainRead}
@@ -26,14 +27,15 @@ returns-in-Some g c =
     let start = c.args.start in
     let bytes = c.args.bytes.now in
     let is_given = FnReturnsAt g.L.Fn c.args.locate.now in
-    let found : IfPlain c.args.texts (λ limits plain. IsPlainRead limits holds c.index-first.result (length params) start bytes plain) c.in-Some.plain = rw c.in-Some.is at c.in_ok-found.ensures in
-    let placed : AreInPlace found.0 (ids_at c.args.indices.now) = rw found.1.0 at c.requires.in_place in
+    let found : IfPlain c.args.texts.now (λ code plain. IsPlainRead (limits_in code.value) holds c.index-first.result (length params) start bytes plain) c.in-Some.plain = rw c.in-Some.is at c.in_ok-found.ensures in
+    let limits = limits_in found.0.value in
+    let placed : AreInPlace limits (ids_at c.args.indices.now) = rw found.1.0 at c.requires.in_place in
     let count : length params ≡ length asked = sym (length-map params val_type) ∙ ap length (c.params-params.ensures ∙ ap params_of (sym c.get.ensures.value)) in
-    let known = read_of found.0 holds c.index-first.result (length old) (length params) (length asked) start bytes c.in-Some.plain (c.index-first.ensures ∙ c.next_id.ensures) count found.1.1 in
-    let taken = c.take_plain.ensures.taken found.0 start bytes c.args.features.now (tag_places c.args.tag_types.now) placed known in
+    let known = read_of limits holds c.index-first.result (length old) (length params) (length asked) start bytes c.in-Some.plain (c.index-first.ensures ∙ c.next_id.ensures) count found.1.1 in
+    let taken = c.take_plain.ensures.taken limits start bytes c.args.features.now (tag_places c.args.tag_types.now) placed known in
     record {
       read = taken.0;
-      located = result_located IsPlace (Given c.args.texts is_given) (given_place c.args.texts found.0 found.1.0 is_given) start bytes c.take_plain.result taken.1;
+      located = result_located IsPlace (Given c.args.texts.now is_given) (given_place c.args.texts.now found.0 found.1.0 is_given) start bytes c.take_plain.result taken.1;
       types_stay = search rules;
       locals_stay = c.take_plain.ensures.locals_stay;
     }
@@ -41,4 +43,4 @@ returns-in-Some g c =
 pub returns-clause-located : goal.returns-clause-located
 returns-clause-located g c =
     let is_given = FnReturnsAt g.L.Fn c.args.locate.now in
-    result_located is_given (Given c.args.texts is_given) (given c.args.texts is_given) c.args.start c.args.bytes.now c.read_list.result c.read_list.ensures.located
+    result_located is_given (Given c.args.texts.now is_given) (given c.args.texts.now is_given) c.args.start c.args.bytes.now c.read_list.result c.read_list.ensures.located

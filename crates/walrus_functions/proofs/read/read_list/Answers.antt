@@ -42,30 +42,30 @@ returns-clause-read g c =
     let args = c.in_ok-args.args.items in
     let params = c.params.result.now in
     let body = c.in_ok-body.body in
-    let keeps = c.set_handler_types.ensures.others in
+    let keeps = c.in_ok-set_handler_types.ensures.others in
     let added = c.in_ok-args.ensures.added in
     let read : BodyIsRead d (map place args) middle new bytes body = subst (λ (ids : List (Id LocalKey)). BodyIsRead d (map place ids) middle new bytes body) c.as_slice.ensures.value c.in_ok-body.ensures.read in
-    let ops_are : body_of c.set_handler_types.new.self ≡ ops_of body.operators.items = keeps.body ∙ c.new-function.ensures.body in
+    let ops_are : body_of c.set_handler_types.new.self ≡ ops_of body.operators.items = keeps.body ∙ c.in_ok-function.ensures.body in
     let old_types = item_at (type_slots c.args.types.now) in
     let handler_places = map place c.in_ok-handler_types.handler_types.items in
     record {
-      own_type = ap place (keeps.head.typed ∙ c.new-function.ensures.ty);
-      unnamed = keeps.head.name ∙ c.new-function.ensures.name;
+      own_type = ap place (keeps.head.typed ∙ c.in_ok-function.ensures.ty);
+      unnamed = keeps.head.name ∙ c.in_ok-function.ensures.name;
       params = params;
       declared = read.types;
       takes = c.params.ensures ∙ ap params_of (sym c.get.ensures.value);
-      parameters = keeps.head.args ∙ c.new-function.ensures.args ∙ added.places;
+      parameters = keeps.head.args ∙ c.in_ok-function.ensures.args ∙ added.places;
       ids = args ++ body.declared.items;
       added = adds_others old middle args params added new body.declared.items read.types read.added;
       reads = subst (λ (ops : List Op). BodyReads d (locals_from (length old) (length params + length read.types)) bytes (map val_type read.types) ops) (sym ops_are)
           (subst (λ (l : ℕ → Option ℕ). BodyReads d l bytes (map val_type read.types) (ops_of body.operators.items)) (one_range old middle args params added (length read.types)) read.reads);
-      handlers = subst (λ (ps : List ℕ). AddsTypes (handlers_of old_types (tag_places c.args.tag_types.now) (body_of c.set_handler_types.new.self)) (slots_of c.args.types.now) (slots_of c.add_handler_types.new.types) ps) (sym c.set_handler_types.ensures.handlers)
+      handlers = subst (λ (ps : List ℕ). AddsTypes (handlers_of old_types (tag_places c.args.tag_types.now) (body_of c.set_handler_types.new.self)) (slots_of c.args.types.now) (slots_of c.add_handler_types.new.types) ps) (sym c.in_ok-set_handler_types.ensures.handlers)
           (subst (λ (ops : List Op). AddsTypes (handlers_of old_types (tag_places c.args.tag_types.now) ops) (slots_of c.args.types.now) (slots_of c.add_handler_types.new.types) handler_places) (ap ops_of c.as_slice-2.ensures.value ∙ sym ops_are) c.in_ok-handler_types.ensures.added);
     }
 
 pub returns-clause-located : goal.returns-clause-located
 returns-clause-located g c =
-    subst (λ (locs : List InstrLocId). BodyLocated (FnReturnsAt g.L.Fn c.args.locate.now) c.args.start c.args.bytes.now locs) (sym (c.set_handler_types.ensures.others.locations ∙ c.new-function.ensures.locations)) c.in_ok-body.ensures.located
+    subst (λ (locs : List InstrLocId). BodyLocated (FnReturnsAt g.L.Fn c.args.locate.now) c.args.start c.args.bytes.now locs) (sym (c.in_ok-set_handler_types.ensures.others.locations ∙ c.in_ok-function.ensures.locations)) c.in_ok-body.ensures.located
 
 pub returns-in_err-args-clause-read : goal.returns-in_err-args-clause-read
 returns-in_err-args-clause-read g c = let p = err_from_is_err_and c.from_residual.result c.from_residual.ensures.1 in rw (p.1, p.2) tt
@@ -105,3 +105,27 @@ returns-clause-types_stay g c = c.add_handler_types.ensures.stays
 
 pub returns-clause-locals_stay : goal.returns-clause-locals_stay
 returns-clause-locals_stay g c = stays_trans (locals c.args.module_locals.now) (locals c.add_locals.new.module_locals) (locals c.read_body_over.new.module_locals) c.add_locals.ensures.stays c.read_body_over.ensures.stays
+
+pub returns-in_err-function-clause-read : goal.returns-in_err-function-clause-read
+returns-in_err-function-clause-read g c = let p = err_from_is_err_and c.from_residual-in_err-function.result c.from_residual-in_err-function.ensures.1 in rw (p.1, p.2) tt
+
+pub returns-in_err-function-clause-located : goal.returns-in_err-function-clause-located
+returns-in_err-function-clause-located g c = let p = err_from_is_err_and c.from_residual-in_err-function.result c.from_residual-in_err-function.ensures.1 in rw p.1 tt
+
+pub returns-in_err-function-clause-types_stay : goal.returns-in_err-function-clause-types_stay
+returns-in_err-function-clause-types_stay g c = c.add_handler_types.ensures.stays
+
+pub returns-in_err-function-clause-locals_stay : goal.returns-in_err-function-clause-locals_stay
+returns-in_err-function-clause-locals_stay g c = stays_trans (locals c.args.module_locals.now) (locals c.add_locals.new.module_locals) (locals c.read_body_over.new.module_locals) c.add_locals.ensures.stays c.read_body_over.ensures.stays
+
+pub returns-in_err-set_handler_types-clause-read : goal.returns-in_err-set_handler_types-clause-read
+returns-in_err-set_handler_types-clause-read g c = let p = err_from_is_err_and c.from_residual-in_err-set_handler_types.result c.from_residual-in_err-set_handler_types.ensures.1 in rw (p.1, p.2) tt
+
+pub returns-in_err-set_handler_types-clause-located : goal.returns-in_err-set_handler_types-clause-located
+returns-in_err-set_handler_types-clause-located g c = let p = err_from_is_err_and c.from_residual-in_err-set_handler_types.result c.from_residual-in_err-set_handler_types.ensures.1 in rw p.1 tt
+
+pub returns-in_err-set_handler_types-clause-types_stay : goal.returns-in_err-set_handler_types-clause-types_stay
+returns-in_err-set_handler_types-clause-types_stay g c = c.add_handler_types.ensures.stays
+
+pub returns-in_err-set_handler_types-clause-locals_stay : goal.returns-in_err-set_handler_types-clause-locals_stay
+returns-in_err-set_handler_types-clause-locals_stay g c = stays_trans (locals c.args.module_locals.now) (locals c.add_locals.new.module_locals) (locals c.read_body_over.new.module_locals) c.add_locals.ensures.stays c.read_body_over.ensures.stays

@@ -1,5 +1,5 @@
 use Rattle.walrus_text.proofs.PushedLemmas.{none_more}
-use Rattle.walrus_text.proofs.plain_code.PlainCode.push_none.Goals as goal
+use Rattle.walrus_text.proofs.plain_code.PlainCode.skip.Goals as goal
 
 pub invariant_of-code : goal.invariant_of-code
 invariant_of-code c = record {
