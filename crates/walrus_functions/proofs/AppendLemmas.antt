@@ -14,7 +14,7 @@ use Rattle.walrus_code.specs.Names.{Lookup}
 use Rattle.walrus_code.specs.declared.error.IrError.{IrError}
 use Rattle.walrus_code.specs.declared.error.IrError.TheVariants.{Malformed, Memory, NoIndex, NotWritable, TooLarge}
 use Rattle.walrus_bodies.specs.declared.declarations.Declaration.{Declaration}
-use Rattle.walrus_bodies.specs.Declarations.{declarations_of, spelling}
+use Rattle.walrus_bodies.specs.Declarations.{declarations_of}
 use Rattle.walrus_bodies.specs.Emitting.{EmitsOperators, OperatorsWritten, places_from}
 use Rattle.walrus_bodies.specs.Results.{kept_if}
 use Rattle.walrus_bodies.specs.declared.features.Features.{Features}

@@ -1,5 +1,5 @@
 -- Locals that keep their indices are declared in their order.
-use Rattle.std.proofs.Common.{◌≡◌, ℕ, zero, suc, ◌+◌, ◌-◌, ◌<◌, ◌≤◌, ◌⊎◌, inl, inr, Bool, true, false, List, [], ◌∷◌, ◌++◌, length, map, get_or, take, drop, Option, Some, None, refl, sym, ap, ap₂, ◌∙◌, subst, arith, add-one}
+use Rattle.std.proofs.Common.{◌≡◌, ℕ, zero, suc, ◌+◌, ◌-◌, ◌<◌, ◌≤◌, ◌⊎◌, inl, inr, Bool, true, false, List, [], ◌∷◌, ◌++◌, length, map, get_or, take, drop, Option, Some, None, refl, sym, ap, ap₂, ◌∙◌, subst, arith}
 use Rattle.std.specs.Prelude.{AllPairs, Contains, nat_eq, option_map, unwrap_or, if◌then◌else◌}
 use Rattle.std.specs.List.{AllByRecursion, IsDistinct, list_any, range_with_len}
 use Rattle.std.proofs.lemmas.Bool.{cases_lt, ne_eqb}
@@ -48,6 +48,12 @@ module _ (slots : List (Option (ValType ℕ))) (flags : List Bool) (first params
         | inr e ↦ subst (λ (n : ℕ). rank_at slots (first + i) ≤ rank_at slots (first + n)) (sym e) (let h = highest i from (omega (arith, below, e)) in omega (arith, h, here))
       ];
     }
+
+pub highest_more : (slots : List (Option (ValType ℕ))) (first params count r : ℕ) → rank_at slots (first + count) ≡ r → ((i : ℕ) → params ≤ i → i < count → rank_at slots (first + i) ≤ r) → (i : ℕ) → params ≤ i → i < count + 1 → rank_at slots (first + i) ≤ r
+highest_more slots first params count r here highest i from low = elim (one_of i count low) as (λ _. rank_at slots (first + i) ≤ r) [
+  | inl h ↦ highest i from h
+  | inr e ↦ subst (λ (n : ℕ). rank_at slots (first + n) ≤ r) (sym e) (omega (arith, here))
+]
 
 -- ---- ranges
 

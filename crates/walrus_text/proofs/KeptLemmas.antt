@@ -1,11 +1,11 @@
 -- A plain body is written the same under look-ups that agree on its locals.
-use Rattle.std.proofs.Common.{◌≡◌, ℕ, ◌+◌, ◌-◌, ◌<◌, ◌≤◌, Bool, true, false, List, [], ◌∷◌, length, Option, Some, None, Result, Ok, refl, sym, ap, ap₂, ◌∙◌, arith}
-use Rattle.std.specs.Prelude.{◌&&◌, nat_le, nat_lt}
+use Rattle.std.proofs.Common.{◌≡◌, ℕ, ◌+◌, ◌-◌, ◌<◌, ◌≤◌, true, List, [], ◌∷◌, Option, Some, None, Ok, refl, sym, ap, ap₂, ◌∙◌, arith}
+use Rattle.std.specs.Prelude.{nat_le, nat_lt}
 use Rattle.std.specs.List.{list_all}
 use Rattle.wasm_forms.specs.Reading.{◌>>=◌}
 use Rattle.wasm_text.specs.Classes.{is_plain}
 use Rattle.walrus_types.specs.Operators.{Arg, Index, Label, Local, Number, Count, Byte, S32, S64, Bits32, Bits64, Value, Heap, Block, Access, Op}
-use Rattle.walrus_bodies.specs.Names.{Lookup, named_arg, named_args, named_op, named_ops}
+use Rattle.walrus_bodies.specs.Names.{Lookup, named_arg, named_args, named_ops}
 use Rattle.walrus_bodies.specs.declared.features.Features.{Features}
 use Rattle.walrus_bodies.specs.Blocks.{are_nested}
 use Rattle.walrus_bodies.specs.Emitting.{OperatorsWritten}

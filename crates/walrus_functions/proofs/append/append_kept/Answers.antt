@@ -1,4 +1,4 @@
-use Rattle.std.proofs.Common.{◌≡◌, ◌<◌, ◌≤◌, ◌^◌, ◌+◌, ◌++◌, ◌-◌, [], inl, inr, ℕ, Bool, true, false, List, Option, Some, None, Result, Ok, Err, IfOk, length, map, take, drop, sym, ap, ◌∙◌, subst, refl, arith}
+use Rattle.std.proofs.Common.{◌≡◌, ◌<◌, ◌^◌, ◌+◌, ◌++◌, ◌-◌, [], inl, inr, ℕ, Bool, true, false, List, Option, Some, None, Result, Ok, Err, IfOk, length, map, take, drop, sym, ap, ◌∙◌, subst, refl, arith}
 use Rattle.std.specs.Prelude.{All, IfSome, IsSome, Vec}
 use Rattle.std.specs.Global.{Global}
 use Rattle.std.specs.List.{range_with_len}
@@ -9,9 +9,7 @@ use Rattle.walrus_base.specs.Arena.{item_at}
 use Rattle.walrus_base.specs.Id.{place}
 use Rattle.walrus_base.specs.declared.id.Id.{Id}
 use Rattle.walrus_base.specs.declared.keys.LocalKey.{LocalKey}
-use Rattle.walrus_types.specs.Locals.{locals}
 use Rattle.walrus_types.specs.Operators.{Op, locals_of}
-use Rattle.walrus_code.specs.Indices.{index_of}
 use Rattle.walrus_code.specs.declared.error.IrError.{IrError}
 use Rattle.walrus_bodies.specs.Blocks.{blocks_hold}
 use Rattle.walrus_bodies.specs.Declarations.{declaration, declarations_of}
@@ -21,7 +19,7 @@ use Rattle.walrus_text.specs.Function.{arg_count_of, args_of, as_text}
 use Rattle.walrus_text.specs.Locals.{AreMarked}
 use Rattle.walrus_text.specs.Text.{first_local_of, local_count_of, ops_in}
 use Rattle.walrus_text.specs.declared.text.Text.{Text}
-use Rattle.walrus_functions.specs.EmittedBody.{EmitsBody, FitsType, Source, index_in, source_of, types_of}
+use Rattle.walrus_functions.specs.EmittedBody.{EmitsBody, FitsType, Source, index_in, source_of}
 use Rattle.walrus_functions.specs.Kept.{KeepsIndices}
 use Rattle.walrus_functions.specs.declared.append.AppendedBody.{AppendedBody}
 use Rattle.walrus_functions.specs.Writing.{DeclaresLocals, HasSignature, LocalsDeclared, WritesBehind}

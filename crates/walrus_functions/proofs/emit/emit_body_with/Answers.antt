@@ -3,6 +3,8 @@ use Rattle.std.proofs.lemmas.Result.{err_from_is_err_and}
 use Rattle.walrus_base.specs.Id.{place}
 use Rattle.walrus_code.specs.Indices.{local_index}
 use Rattle.walrus_functions.specs.EmittedBody.{BodyWritten, source_of}
+use Rattle.walrus_functions.specs.declared.emit.KnownBody.{KnownBody}
+use Rattle.walrus_functions.specs.declared.emit.EmittedBody.{EmittedBody}
 use Rattle.walrus_functions.proofs.AppendLemmas.{refused_body}
 use Rattle.walrus_functions.proofs.emit.emit_body_with.Goals as goal
 
@@ -20,7 +22,7 @@ returns-in_err-known-clause-written c =
     let p = err_from_is_err_and c.from_residual-in_err-known.result c.from_residual-in_err-known.ensures.1 in
     let s = source_of c.args.indices.now c.args.module_locals.now c.args.types.now c.args.function.now c.args.features.now in
     let all = c.in_err-known.ensures.written in
-    (all.1, (refused_body s (λ _. all.0) (λ _. all.1) (λ body. local_index body.locals) (λ body. map place body.order.items) (λ body. body.used.items) (λ body. body.bytes.items) (λ _. all.1) (λ body. local_index body.locals) (λ body. map place body.order.items) (λ body. body.used.items) c.from_residual-in_err-known.result c.in_err-known.field-0.0 c.from_residual-in_err-known.ensures.1 all.2.0, rw p.1 tt))
+    (all.1, (refused_body {X = KnownBody} {Y = EmittedBody} s (λ _. all.0) (λ _. all.1) (λ body. local_index body.locals) (λ body. map place body.order.items) (λ body. body.used.items) (λ body. body.bytes.items) (λ _. all.1) (λ body. local_index body.locals) (λ body. map place body.order.items) (λ body. body.used.items) c.from_residual-in_err-known.result c.in_err-known.field-0.0 c.from_residual-in_err-known.ensures.1 all.2.0, rw p.1 tt))
 
 pub returns-in_err-known-clause-located : goal.returns-in_err-known-clause-located
 returns-in_err-known-clause-located c = let p = err_from_is_err_and c.from_residual-in_err-known.result c.from_residual-in_err-known.ensures.1 in rw p.1 tt

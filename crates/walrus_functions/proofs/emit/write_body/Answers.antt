@@ -1,22 +1,15 @@
-use Rattle.std.proofs.Common.{◌≡◌, ◌<◌, ◌^◌, ℕ, List, [], ◌∷◌, ◌++◌, Option, Result, Ok, Err, IsErrAnd, length, ap, ◌∙◌, subst, sym, refl}
-use Rattle.wasm_forms.specs.Spelling.{row_bytes, vector_bytes}
+use Rattle.std.proofs.Common.{◌≡◌, ℕ, List, [], ◌++◌, length, ap, ◌∙◌, subst, refl}
+use Rattle.wasm_forms.specs.Spelling.{row_bytes}
 use Rattle.wasm_operators.specs.Spelling.{op_bytes}
-use Rattle.wasm_forms.specs.Writing.{Adds, EachFits, FitsVector}
-use Rattle.wasm_forms.specs.declared.error.WireError.{WireError}
-use Rattle.wasm_forms.specs.declared.error.WireError.TheVariants.{Malformed, Memory, TooLarge}
-use Rattle.wasm_forms.specs.declared.types.RawVal.{RawVal}
-use Rattle.walrus_types.specs.Operators.{Op}
-use Rattle.walrus_code.specs.Errors.{ir_error}
-use Rattle.walrus_code.specs.Names.{Lookup}
-use Rattle.walrus_code.specs.declared.error.IrError.{IrError}
-use Rattle.walrus_bodies.specs.declared.declarations.Declaration.{Declaration}
-use Rattle.walrus_bodies.specs.declared.features.Features.{Features}
 use Rattle.walrus_code.specs.Indices.{index_of, local_index}
-use Rattle.walrus_bodies.specs.Declarations.{declarations_of, spelling}
+use Rattle.walrus_bodies.specs.Declarations.{declarations_of}
 use Rattle.walrus_bodies.specs.Emitting.{OperatorsWritten, places_from}
+use Rattle.std.specs.Prelude.{Vec}
+use Rattle.std.specs.Global.{Global}
+use Rattle.walrus_code.specs.declared.location.InstrLocId.{InstrLocId}
+use Rattle.walrus_functions.specs.declared.emit.KnownBody.{KnownBody}
 use Rattle.walrus_functions.specs.Code.{ops_of_code}
 use Rattle.walrus_functions.specs.EmittedBody.{declarations_bytes}
-use Rattle.walrus_functions.specs.Writing.{WritesBehind}
 use Rattle.walrus_functions.proofs.AppendLemmas.{front_refused, moved, refused_operators, told}
 use Rattle.walrus_functions.proofs.SpellingLemmas.{spelled_same}
 use Rattle.std.proofs.lemmas.List.{append_assoc}
@@ -41,7 +34,7 @@ pub returns-in_err-places-clause-written : goal.returns-in_err-places-clause-wri
 returns-in_err-places-clause-written c =
     let p = err_from_is_err_and c.from_residual-in_err-places.result c.from_residual-in_err-places.ensures.1 in
     let all = c.in_err-places.ensures.written in
-    ([], [], (refused_operators (index_of c.args.scope.now.indices.now) (local_index c.args.locals) c.args.scope.now.features.now (ops_of_code c.args.code.now) c.write_vector.new.to.items c.append_code.new.to.items (declarations_of c.args.declarations.now) (λ _. all.0) (λ _. []) (λ _. []) c.from_residual-in_err-places.result c.in_err-places.field-0.0 c.from_residual-in_err-places.ensures.1 all.1.0, rw p.1 tt))
+    ([], [], (refused_operators {Y = KnownBody} {Z = Vec (InstrLocId × ℕ) Global} (index_of c.args.scope.now.indices.now) (local_index c.args.locals) c.args.scope.now.features.now (ops_of_code c.args.code.now) c.write_vector.new.to.items c.append_code.new.to.items (declarations_of c.args.declarations.now) (λ _. all.0) (λ _. []) (λ _. []) c.from_residual-in_err-places.result c.in_err-places.field-0.0 c.from_residual-in_err-places.ensures.1 all.1.0, rw p.1 tt))
 
 pub returns-in_err-write_vector-clause-located : goal.returns-in_err-write_vector-clause-located
 returns-in_err-write_vector-clause-located c = let p = err_from_is_err_and c.from_residual.result c.from_residual.ensures.1 in rw p.1 tt

@@ -1,4 +1,4 @@
-use Rattle.std.proofs.Common.{Bool, true, false, [], length, map, subst, Ok, ◌∙◌}
+use Rattle.std.proofs.Common.{Bool, true, false, [], length, map, subst, Ok}
 use Rattle.wasm_forms.specs.Number.{AreBytes}
 use Rattle.wasm_text.specs.Marks.{with}
 use Rattle.wasm_text.specs.Filling.{Fills, Numbering, anew}
