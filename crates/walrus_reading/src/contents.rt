@@ -1,5 +1,5 @@
 //! From the records of a module's sections to what a module in memory holds.
-ghost use Rattle.std.specs.Prelude.{true, ◌≡◌, ◌≢◌, ◌<◌, ℕ, [], length, map, zip, All, IfOk, IfSome, OnOk, IsOkUnless, Some, None, is_some, option_and_then, option_map};
+ghost use Rattle.std.specs.Prelude.{true, ◌≡◌, ◌≢◌, ◌<◌, ℕ, [], length, map, zip, All, IfOk, IfSome, OnOk, IsOkUnless, Some, None, option_and_then, option_map};
 ghost use Rattle.std.specs.Fn.{FnReturnsAt};
 ghost use Rattle.std.specs.List.{range_with_len};
 ghost use Rattle.walrus_base.specs.Arena.{items};
@@ -10,6 +10,7 @@ ghost use Rattle.walrus_types.specs.Operators.{Functions, Space, Types};
 ghost use Rattle.walrus_code.specs.Indices.{places_in, ids_at};
 ghost use Rattle.walrus_bodies.specs.BodyRead.{BodyLocated};
 ghost use Rattle.walrus_bodies.specs.FunctionTypes.{is_function_at};
+ghost use Rattle.walrus_functions.specs.PlainCode.{limits_in};
 ghost use Rattle.walrus_model.specs.Scanned.{AreInPlace};
 ghost use Rattle.walrus_functions.specs.ReadFunction.{Given, GivenIf, ReadsFunction};
 ghost use Rattle.walrus_functions.specs.Signatures.{slots_of};
@@ -38,13 +39,16 @@ use crate::numbers::number_items;
 use crate::producers::add_producers;
 use crate::segments::add_data;
 use crate::starts::{end_of, first_starts};
+use crate::texts::texts_of;
 use std::alloc::{AllocError, Global};
+use std::rc::Rc;
 use std::result;
 use walrus_contents::Contents;
+use walrus_functions::PlainCode;
 use walrus_groups::read_types;
 use walrus_ir::{
-    Features, FunctionId, IndicesToIds, InstrLocId, IrError, Limits, LocalFunction, ModuleLocals,
-    ModuleTypes, TypeId, limits_of, read_body,
+    Features, FunctionId, IndicesToIds, InstrLocId, IrError, LocalFunction, ModuleLocals, ModuleTypes,
+    TypeId, read_body,
 };
 use walrus_items::{ExportItem, ModuleExports, ModuleFunctions, ModuleTags};
 use walrus_parts::{Error, Result};
@@ -77,13 +81,14 @@ pub(crate) fn read_contents<L: Fn(&usize) -> InstrLocId>(
     let (mut contents, type_count) = read_imported(alloc, raw, &mut indices)?;
     add_tags(&raw.tags, &indices, &mut contents.tags)?;
     let tag_types = types_of_tags(alloc, &contents.tags)?;
+    let texts = texts_of(alloc, as_texts, raw, &indices, &contents.types)?;
     let starts = add_functions(
         &Under {
             alloc,
             features,
             indices: &indices,
             tag_types: &tag_types,
-            texts: texts_in(&indices, as_texts),
+            texts,
             locate,
         },
         &raw.functions,
@@ -144,19 +149,7 @@ fn start_named(raw: Option<u32>, indices: &IndicesToIds) -> Option<FunctionId>
     indices.get_func(raw?)
 }
 
-// What plain bodies that are kept as they stand in the input may name, if they are to be kept so.
-fn texts_in(indices: &IndicesToIds, as_texts: bool) -> Option<Limits>
-    ensures asked { is_some result ≡ as_texts }
-    ensures in_place { IfSome result (λ limits. AreInPlace limits (ids_at indices.now)) }
-{
-    if as_texts {
-        Some(limits_of(indices))
-    } else {
-        None
-    }
-}
-
-// What bodies are read under: the proposals that they may use, what indices name, the types of tags by their places, what those may name that
+// What bodies are read under: the proposals that they may use, what indices name, the types of tags by their places, the code of those that
 // are kept as they stand in the input, and what gives the operators of others their locations.
 #[derive(Drop)]
 struct Under<'a, L> {
@@ -164,7 +157,7 @@ struct Under<'a, L> {
     features: &'a Features,
     indices: &'a IndicesToIds,
     tag_types: &'a [TypeId],
-    texts: Option<Limits>,
+    texts: Option<Rc<PlainCode>>,
     locate: &'a L,
 }
 
@@ -216,10 +209,10 @@ fn add_function<L: Fn(&usize) -> InstrLocId>(
     types: &mut ModuleTypes,
     all: &mut ModuleLocals,
     funcs: &mut ModuleFunctions,
-    room: &mut Vec<u32>,
+    number: u32,
 ) -> Result<()>
     requires callable { L.IsAlwaysCallable under.now.locate.now }
-    requires in_place { IfSome under.now.texts (λ limits. AreInPlace limits (ids_at under.now.indices.now)) }
+    requires in_place { IfSome under.now.texts (λ code. AreInPlace (limits_in code.value) (ids_at under.now.indices.now)) }
     requires declared { ids_at under.now.indices.now Types index ≡ Some index }
     requires typed { is_function_at types.old index ≡ true }
     ensures taken { TakesFunction (context_under under.now types.old) (types_in types.old)
@@ -231,7 +224,7 @@ fn add_function<L: Fn(&usize) -> InstrLocId>(
     let Some(ty) = under.indices.get_type(index) else {
         unreachable!();
     };
-    let function = read_located(under, ty, body, types, all, room)?;
+    let function = read_located(under, ty, body, types, all, number)?;
     funcs.add_local(function)?;
     Ok(())
 }
@@ -243,11 +236,11 @@ fn read_located<L: Fn(&usize) -> InstrLocId>(
     body: &RawBody<'_>,
     types: &mut ModuleTypes,
     all: &mut ModuleLocals,
-    room: &mut Vec<u32>,
+    number: u32,
 ) -> result::Result<LocalFunction, IrError>
     requires typed { is_function_at types.old (place ty) ≡ true }
     requires callable { L.IsAlwaysCallable under.now.locate.now }
-    requires in_place { IfSome under.now.texts (λ limits. AreInPlace limits (ids_at under.now.indices.now)) }
+    requires in_place { IfSome under.now.texts (λ code. AreInPlace (limits_in code.value) (ids_at under.now.indices.now)) }
     ensures read { ReadsFunction (context_under under.now types.old) (tags_under under.now) (place ty)
         (slots_of types.old) (slots_of types.new) (locals all.old) (locals all.new)
         body.now.bytes.now result }
@@ -266,8 +259,8 @@ fn read_located<L: Fn(&usize) -> InstrLocId>(
         types,
         all,
         under.locate,
-        under.texts,
-        room,
+        &under.texts,
+        number,
     )
 }
 
@@ -282,7 +275,7 @@ fn add_functions<L: Fn(&usize) -> InstrLocId>(
     funcs: &mut ModuleFunctions,
 ) -> Result<Vec<usize>>
     requires callable { L.IsAlwaysCallable under.now.locate.now }
-    requires in_place { IfSome under.now.texts (λ limits. AreInPlace limits (ids_at under.now.indices.now)) }
+    requires in_place { IfSome under.now.texts (λ code. AreInPlace (limits_in code.value) (ids_at under.now.indices.now)) }
     requires no_locals { locals all.old ≡ [] }
     requires as_many { length bodies.now ≡ length of_types.now }
     requires declared { All (λ t. ids_at under.now.indices.now Types t ≡ Some t) of_types.now }
@@ -298,10 +291,11 @@ fn add_functions<L: Fn(&usize) -> InstrLocId>(
     funcs.reserve(of_types.len())?;
     let mut starts = first_starts(under.alloc, funcs)?;
     let mut end = 0;
-    let mut room = Vec::new(under.alloc);
+    let mut number: u32 = 0;
     for place in 0..of_types.len() {
         let body = &bodies[place];
-        add_function(under, of_types[place], body, types, all, funcs, &mut room)?;
+        add_function(under, of_types[place], body, types, all, funcs, number)?;
+        number = number.wrapping_add(1);
         end = end_of(all, end)?;
         starts.push(end)?;
     }

@@ -13,5 +13,6 @@ mod numbers;
 mod producers;
 mod segments;
 mod starts;
+mod texts;
 
 pub use module::{ReadModule, read};
