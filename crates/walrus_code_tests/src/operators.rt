@@ -170,7 +170,7 @@ fn what_came_from_nowhere_has_the_default_location(_rt: HostRuntime) -> Result<(
 fn a_function_takes_another_type(rt: HostRuntime) -> Result<(), Fail> {
     let (first, second) = (first_id(rt.alloc()), second_id(rt.alloc()));
     let (args, operators) = (Vec::new(rt.alloc()), Vec::new(rt.alloc()));
-    let mut function = LocalFunction::new(rt.alloc(), first, args, operators);
+    let mut function = LocalFunction::new(rt.alloc(), first, args, operators, None)?;
     function.set_ty(second);
     demand(function.ty() == second, "the other type")?;
     demand(function.size() == 0, "no operator")
@@ -182,7 +182,7 @@ fn a_function_has_its_parts(rt: HostRuntime) -> Result<(), Fail> {
     let mut operators = Vec::new(rt.alloc());
     let end = Operator::new(Operator::END, Args::None);
     demand(operators.push(end).is_ok(), "memory")?;
-    let function = LocalFunction::new(rt.alloc(), ty, Vec::new(rt.alloc()), operators);
+    let function = LocalFunction::new(rt.alloc(), ty, Vec::new(rt.alloc()), operators, None)?;
     demand(function.ty() == ty, "its type")?;
     demand(function.size() == 1, "one operator")?;
     demand(function.handler_types().is_empty(), "no handler's type")

@@ -12,7 +12,7 @@ pub use walrus_builder::{FunctionBuilder, InstrSeqBuilder};
 pub use walrus_functions::{
     Arg, Args, BlockType, EmittedBody, Features, IdsToIndices, IndexSpace, IndicesToIds,
     InstrLocId, IrError, ItemId, Limits, LocalFunction, LocalNumbers, Numbering, Operator,
-    Operators, add_locals, emit_body, limits_of, read_body,
+    Operators, PlainCode, ScanRoom, add_locals, emit_body, limits_of, read_body, scan_body,
 };
 pub use walrus_types::{
     AbstractHeapType, ArrayType, CompositeType, ConstExpr, ConstOp, FieldType, FunctionType,

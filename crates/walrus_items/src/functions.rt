@@ -2,9 +2,11 @@
 ghost use Rattle.std.specs.Prelude.{◌≡◌, ◌++◌, ◌∷◌, [], length, Some, None, IsTrue, ◌↔◌, MatchResult, IfOk, IsOkUnless, count_by, is_some, slice_set, option_map, IsOk, OnOk};
 ghost use Rattle.std.specs.Borrow.{sem};
 ghost use Rattle.std.specs.Iterator.{YieldsFirstBy, item_count};
+ghost use Rattle.std.specs.String.{string_bytes};
 ghost use Rattle.walrus_base.specs.Id.{place};
 ghost use Rattle.walrus_base.specs.Arena.{HasRoom, item_at, IsLive, items, entries, kept_by};
 ghost use Rattle.walrus_parts.specs.Errors.{out_of_memory};
+ghost use Rattle.walrus_parts.specs.Function.{name_of};
 ghost use Rattle.walrus_parts.specs.FunctionKinds.{kind_type};
 ghost use Rattle.walrus_items.specs.Seen.{text_of, text_is};
 ghost use Rattle.walrus_items.specs.Searches.{first};
@@ -56,7 +58,7 @@ impl Function {
 
 // A text like this one, if there is one.
 fn copied(text: Option<&String>) -> result::Result<Option<String>, AllocError>
-    ensures { IfOk result (λ t. text_of t ≡ option_map (λ s. string_bytes s.now) text) }
+    ensures { IfOk result (λ t. text_of t ≡ option_map (λ s. string_bytes s.now) text.entry) }
 {
     match text {
         Some(text) => Ok(Some(text.clone()?)),

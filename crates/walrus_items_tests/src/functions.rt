@@ -8,9 +8,9 @@ use walrus_ir::LocalFunction;
 use walrus_items::{FunctionKind, ImportedFunction, ModuleFunctions};
 
 fn called_f(alloc: Global) -> Result<LocalFunction, AllocError> {
-    let mut local = LocalFunction::new(alloc, second_id(alloc), Vec::new(alloc), Vec::new(alloc));
-    local.name = Some(String::from_str(alloc, "f")?);
-    Ok(local)
+    let name = Some(String::from_str(alloc, "f")?);
+    let ty = second_id(alloc);
+    LocalFunction::new(alloc, ty, Vec::new(alloc), Vec::new(alloc), name)
 }
 
 fn is_of_type(functions: &ModuleFunctions, id: FunctionId, ty: TypeId) -> bool {
@@ -49,12 +49,12 @@ fn takes_import(kind: &mut FunctionKind, import: ImportId) -> bool {
     matches!(kind, FunctionKind::Import(_)) && kind.unwrap_import().import == import
 }
 
-fn loses_name(kind: &mut FunctionKind) -> bool {
+fn changes_type(kind: &mut FunctionKind, ty: TypeId) -> bool {
     if !matches!(kind, FunctionKind::Local(_)) {
         return false;
     }
-    kind.unwrap_local_mut().name = None;
-    matches!(kind, FunctionKind::Local(_)) && kind.unwrap_local().name.is_none()
+    kind.unwrap_local_mut().set_ty(ty);
+    matches!(kind, FunctionKind::Local(_)) && kind.unwrap_local().ty() == ty
 }
 
 #[test]
@@ -68,5 +68,8 @@ fn kinds_of_functions_are_changed(rt: HostRuntime) -> Result<(), Fail> {
         "another import",
     )?;
     let mut local = FunctionKind::Local(called_f(rt.alloc())?);
-    demand(loses_name(&mut local), "a body without a name")
+    demand(
+        changes_type(&mut local, first_id(rt.alloc())),
+        "a body of another type",
+    )
 }

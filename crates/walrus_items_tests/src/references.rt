@@ -14,7 +14,7 @@ fn naming(alloc: Global, other: FunctionId) -> Result<LocalFunction, AllocError>
     body.push(Operator::new(REF_FUNC, Args::One(Arg::Function(other))))?;
     body.push(Operator::new(DROP, Args::None))?;
     body.push(Operator::new(Operator::END, Args::None))?;
-    Ok(LocalFunction::new(alloc, first_id(alloc), Vec::new(alloc), body))
+    LocalFunction::new(alloc, first_id(alloc), Vec::new(alloc), body, None)
 }
 
 // Two functions that name each other, of which the first is exported.

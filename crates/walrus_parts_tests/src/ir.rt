@@ -1,13 +1,18 @@
 //! Bodies.
+ghost use Rattle.std.specs.Prelude.{IfOk};
+ghost use Rattle.walrus_bodies.specs.Indices.{ids_at};
+ghost use Rattle.walrus_ir.specs.PlainCode.{limits_in};
+ghost use Rattle.walrus_ir.specs.Scanned.{AreInPlace};
 
 use std::alloc::{AllocError, Global};
+use std::rc::Rc;
 use std::test::Fail;
 use test_support::{add_bytes, are, demand, first_id};
 use walrus_base::FunctionId;
 use walrus_bodies::FunctionTypes;
 use walrus_ir::{
     Features, IdsToIndices, IndicesToIds, InstrLocId, LocalFunction, ModuleLocals, ModuleTypes,
-    emit_body, limits_of, read_body,
+    PlainCode, ScanRoom, emit_body, limits_of, read_body, scan_body,
 };
 
 // Two locals of i32: i32.const 5, local.set 0, local.get 0, drop, call 0, nop, end
@@ -51,6 +56,16 @@ fn is_written(
     }
 }
 
+// The code of this body alone.
+fn scanned(alloc: Global, bytes: &[u8], ids: &IndicesToIds) -> Result<Rc<PlainCode>, AllocError>
+    ensures { IfOk result (λ code. AreInPlace (limits_in code.value) (ids_at ids.now)) }
+{
+    let empty = PlainCode::new(alloc, limits_of(ids), 1, bytes.len())?;
+    let mut room = ScanRoom::new(alloc)?;
+    let code = scan_body(alloc, empty, bytes, 40, 0, &mut room)?;
+    code.share(alloc)
+}
+
 fn read(
     alloc: Global,
     id: FunctionId,
@@ -64,6 +79,7 @@ fn read(
         return None;
     }
     let locate = |place: &usize| InstrLocId::of_place(*place);
+    let code = scanned(alloc, bytes, &ids).ok()?;
     read_body(
         alloc,
         bytes,
@@ -75,8 +91,8 @@ fn read(
         types,
         locals,
         &locate,
-        Some(limits_of(&ids)),
-        &mut Vec::new(alloc),
+        &Some(code),
+        0,
     )
     .ok()
 }

@@ -44,11 +44,10 @@ use std::alloc::{AllocError, Global};
 use std::rc::Rc;
 use std::result;
 use walrus_contents::Contents;
-use walrus_functions::PlainCode;
 use walrus_groups::read_types;
 use walrus_ir::{
-    Features, FunctionId, IndicesToIds, InstrLocId, IrError, LocalFunction, ModuleLocals, ModuleTypes,
-    TypeId, read_body,
+    Features, FunctionId, IndicesToIds, InstrLocId, IrError, LocalFunction, ModuleLocals,
+    ModuleTypes, PlainCode, TypeId, read_body,
 };
 use walrus_items::{ExportItem, ModuleExports, ModuleFunctions, ModuleTags};
 use walrus_parts::{Error, Result};
@@ -81,14 +80,13 @@ pub(crate) fn read_contents<L: Fn(&usize) -> InstrLocId>(
     let (mut contents, type_count) = read_imported(alloc, raw, &mut indices)?;
     add_tags(&raw.tags, &indices, &mut contents.tags)?;
     let tag_types = types_of_tags(alloc, &contents.tags)?;
-    let texts = texts_of(alloc, as_texts, raw, &indices, &contents.types)?;
     let starts = add_functions(
         &Under {
             alloc,
             features,
             indices: &indices,
             tag_types: &tag_types,
-            texts,
+            texts: texts_of(alloc, as_texts, raw, &indices, &contents.types)?,
             locate,
         },
         &raw.functions,
@@ -212,7 +210,8 @@ fn add_function<L: Fn(&usize) -> InstrLocId>(
     number: u32,
 ) -> Result<()>
     requires callable { L.IsAlwaysCallable under.now.locate.now }
-    requires in_place { IfSome under.now.texts (λ code. AreInPlace (limits_in code.value) (ids_at under.now.indices.now)) }
+    requires in_place { IfSome under.now.texts (λ code.
+        AreInPlace (limits_in code.value) (ids_at under.now.indices.now)) }
     requires declared { ids_at under.now.indices.now Types index ≡ Some index }
     requires typed { is_function_at types.old index ≡ true }
     ensures taken { TakesFunction (context_under under.now types.old) (types_in types.old)
@@ -240,7 +239,8 @@ fn read_located<L: Fn(&usize) -> InstrLocId>(
 ) -> result::Result<LocalFunction, IrError>
     requires typed { is_function_at types.old (place ty) ≡ true }
     requires callable { L.IsAlwaysCallable under.now.locate.now }
-    requires in_place { IfSome under.now.texts (λ code. AreInPlace (limits_in code.value) (ids_at under.now.indices.now)) }
+    requires in_place { IfSome under.now.texts (λ code.
+        AreInPlace (limits_in code.value) (ids_at under.now.indices.now)) }
     ensures read { ReadsFunction (context_under under.now types.old) (tags_under under.now) (place ty)
         (slots_of types.old) (slots_of types.new) (locals all.old) (locals all.new)
         body.now.bytes.now result }
@@ -275,7 +275,8 @@ fn add_functions<L: Fn(&usize) -> InstrLocId>(
     funcs: &mut ModuleFunctions,
 ) -> Result<Vec<usize>>
     requires callable { L.IsAlwaysCallable under.now.locate.now }
-    requires in_place { IfSome under.now.texts (λ code. AreInPlace (limits_in code.value) (ids_at under.now.indices.now)) }
+    requires in_place { IfSome under.now.texts (λ code.
+        AreInPlace (limits_in code.value) (ids_at under.now.indices.now)) }
     requires no_locals { locals all.old ≡ [] }
     requires as_many { length bodies.now ≡ length of_types.now }
     requires declared { All (λ t. ids_at under.now.indices.now Types t ≡ Some t) of_types.now }

@@ -8,8 +8,7 @@ ghost use Rattle.walrus_parts.specs.Errors.{out_of_memory};
 use std::alloc::{AllocError, Global};
 use std::rc::Rc;
 use std::result;
-use walrus_functions::{PlainCode, ScanRoom, scan_body};
-use walrus_ir::{IndicesToIds, ModuleTypes, limits_of};
+use walrus_ir::{IndicesToIds, ModuleTypes, PlainCode, ScanRoom, limits_of, scan_body};
 use walrus_parts::Result;
 use wasm_wire::{Raw, RawBody};
 

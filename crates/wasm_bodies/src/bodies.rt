@@ -3,15 +3,19 @@
 ghost use Rattle.std.specs.Prelude.{◌≡◌, true, IfOk};
 ghost use Rattle.walrus_base.specs.Id.{place};
 ghost use Rattle.walrus_bodies.specs.FunctionTypes.{is_function_at};
+ghost use Rattle.walrus_functions.specs.PlainCode.{limits_in};
 
 use crate::comparing::same_function;
 use crate::context::Context;
 use crate::failure::Failure;
-use std::alloc::Global;
+use std::alloc::{AllocError, Global};
+use std::rc::Rc;
 use walrus_base::TypeId;
 use walrus_bodies::{Features, FunctionTypes};
 use walrus_code::{InstrLocId, IrError};
-use walrus_functions::{EmittedBody, emit_body, emit_body_with, read_body};
+use walrus_functions::{
+    EmittedBody, Limits, PlainCode, ScanRoom, emit_body, emit_body_with, read_body, scan_body,
+};
 use walrus_text::LocalFunction;
 use walrus_types::ModuleLocals;
 use wasm_wire::{Raw, RawBody};
@@ -54,10 +58,9 @@ pub fn read_all(
     context: &mut Context,
 ) -> Result<Vec<LocalFunction>, Failure> {
     let mut functions = Vec::new(alloc);
-    let mut room = Vec::new(alloc);
     for (body, ty) in records.bodies.iter().zip(records.functions.iter()) {
         let index = functions.len();
-        let read = read_one(alloc, body, *ty, context, &mut room);
+        let read = read_one(alloc, body, *ty, context);
         let function = read.map_err(|error| unread(index, error))?;
         functions.push(function)?;
     }
@@ -78,9 +81,10 @@ fn read_one(
     body: &RawBody<'_>,
     ty: u32,
     context: &mut Context,
-    room: &mut Vec<u32>,
 ) -> Result<LocalFunction, IrError> {
     let ty = function_type(ty, context)?;
+    let params = context.types.get(ty).params().len();
+    let texts = Some(code_of(alloc, body, params, context.limits)?);
     read_body(
         alloc,
         body.bytes,
@@ -92,9 +96,24 @@ fn read_one(
         &mut context.types,
         &mut context.locals,
         &|place: &usize| InstrLocId::of_place(*place),
-        Some(context.limits),
-        room,
+        &texts,
+        0,
     )
+}
+
+// The code of this body alone, of a function of so many parameters.
+fn code_of(
+    alloc: Global,
+    body: &RawBody<'_>,
+    params: usize,
+    limits: Limits,
+) -> Result<Rc<PlainCode>, AllocError>
+    ensures { IfOk result (λ code. limits_in code.value ≡ limits) }
+{
+    let empty = PlainCode::new(alloc, limits, 1, body.bytes.len())?;
+    let mut room = ScanRoom::new(alloc)?;
+    let code = scan_body(alloc, empty, body.bytes, body.start, params, &mut room)?;
+    code.share(alloc)
 }
 
 // The function type of this index.
@@ -225,7 +244,7 @@ fn read_again(
         &mut context.types,
         locals,
         &|place: &usize| InstrLocId::of_place(*place),
-        None,
-        &mut Vec::new(alloc),
+        &None,
+        0,
     )
 }

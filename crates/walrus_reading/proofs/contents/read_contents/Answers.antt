@@ -165,8 +165,8 @@ returns-clause-taken g c =
 pub returns-clause-located : goal.returns-clause-located
 returns-clause-located g c =
     let b = c.in_ok-contents.contents in
-    subst (λ (as_texts : Bool). AreLocatedIn (GivenIf as_texts (FnReturnsAt g.L.Fn c.args.locate.now)) (sections c.args.raw.now) (functions c.add_functions.new.funcs)) c.in_ok-texts.ensures.asked
-    (located_in (Given c.in_ok-texts.texts (FnReturnsAt g.L.Fn c.args.locate.now)) (sections c.args.raw.now) c.deref-4.result.now (functions b.funcs) (functions c.add_functions.new.funcs) (ap (map body_record) c.deref-4.ensures.value)
+    subst (λ (as_texts : Bool). AreLocatedIn (GivenIf as_texts (FnReturnsAt g.L.Fn c.args.locate.now)) (sections c.args.raw.now) (functions c.add_functions.new.funcs)) c.in_ok-texts_of.ensures.asked
+    (located_in (Given c.in_ok-texts_of.field-0 (FnReturnsAt g.L.Fn c.args.locate.now)) (sections c.args.raw.now) c.deref-4.result.now (functions b.funcs) (functions c.add_functions.new.funcs) (ap (map body_record) c.deref-4.ensures.value)
     c.in_ok-contents.ensures.begun.brought.functions c.in_ok-starts.ensures.located)
 
 pub add_producers-requires : goal.add_producers-requires

@@ -15,5 +15,5 @@ returns c =
       at,
       ap (map (option_map function_value)) added.1
           ∙ map-append (option_map function_value) old _
-          ∙ ap₂ (λ (i : ℕ) (n : Option (List ℕ)). let f : FunctionValue = record { id = i; kind = Local c.args.local; name = n } in map (option_map function_value) old ++ Some f ∷ []) own c.in_ok-name.ensures,
+          ∙ ap₂ (λ (i : ℕ) (n : Option (List ℕ)). let f : FunctionValue = record { id = i; kind = Local c.args.local; name = n } in map (option_map function_value) old ++ Some f ∷ []) own (c.in_ok-name.ensures ∙ c.name.ensures),
     )
