@@ -14,7 +14,7 @@ use Rattle.walrus_types.specs.Operators.{function_item}
 use Rattle.walrus_types.specs.TypeDef.{TypeDef}
 use Rattle.walrus_types.specs.Value.{val_type}
 use Rattle.walrus_types.specs.declared.value.ValType.{ValType}
-use Rattle.walrus_items.specs.Function.{function_type}
+use Rattle.walrus_items.specs.Function.{function_type, name_of}
 use Rattle.walrus_items.specs.LocalFunction.{LocalFunction}
 use Rattle.walrus_model.specs.BodyRead.{AddsLocals}
 use Rattle.walrus_model.specs.BlockHandlers.{params_of}
@@ -27,7 +27,6 @@ use Rattle.walrus_items.specs.Exports.{ExportValue, exports, exports_item}
 use Rattle.walrus_items.specs.Functions.{FunctionValue, functions}
 use Rattle.walrus_items.specs.Imports.{ImportValue, imports, imports_item}
 use Rattle.walrus_items.specs.Searches.{first}
-use Rattle.walrus_items.specs.Seen.{text_of}
 use Rattle.walrus_items.proofs.Found.{IsFound, is_found}
 use Rattle.walrus_module.specs.Replaced.{AddsParameters, AreParameters, Builds, IsMadeLocal, IsNew, LendsBody, LendsKind, MakesFoundLocal, MakesKindLocal, MakesLocal, OnlyLocals, Refuses, RefusesBody, RefusesLocal, ReplacesExported, ReplacesFound, ReplacesImported, ReplacesKind, SameFunctions, TellsKind, TellsType, naming, with_body}
 use Rattle.walrus_module.specs.declared.module.Module.{Module}
@@ -114,7 +113,7 @@ module _ {S : Type 0} (post : Builds) (fid : Id FunctionKey) (old new : Module S
         by_cause (inr closure) = inr (args, taken, closure)
 
       pub export_replaced : (function : LocalFunction) (id : Id FunctionKey) → IsNew post ty args function → place id ≡ length (functions old.funcs)
-          → functions new.funcs ≡ functions old.funcs ++ Some (record { id = place id; kind = Local function; name = text_of function.name }) ∷ []
+          → functions new.funcs ≡ functions old.funcs ++ Some (record { id = place id; kind = Local function; name = name_of function }) ∷ []
           → exports new.exports ≡ slice_set (exports old.exports) n (option_map (naming id) (item_at (exports old.exports) n))
           → new ≡ record old { funcs = new.funcs; exports = new.exports } → ReplacesExported post fid old new (Ok id)
       export_replaced function id made next funcs redirected others = exported (Ok id) (record {
@@ -123,7 +122,7 @@ module _ {S : Type 0} (post : Builds) (fid : Id FunctionKey) (old new : Module S
         parameters = taken;
         function = function;
         is_new = subst (λ t. IsNew post t args function) typed made;
-        funcs = funcs ∙ ap (λ (name : Option (List ℕ)). functions old.funcs ++ Some (record { id = place id; kind = Local function; name = name }) ∷ []) (ap text_of made.unnamed);
+        funcs = funcs ∙ ap (λ (name : Option (List ℕ)). functions old.funcs ++ Some (record { id = place id; kind = Local function; name = name }) ∷ []) made.unnamed;
         exported = redirected ∙ ap (λ (o : Option ExportValue). slice_set (exports old.exports) n (option_map (naming id) o)) found.item ∙ ap (λ (i : ℕ). slice_set (exports old.exports) i (Some (naming id found.entry.1))) (sym found.at_place);
         others = others;
       })

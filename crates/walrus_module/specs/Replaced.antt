@@ -15,7 +15,7 @@ use Rattle.walrus_types.specs.TypeDef.{TypeDef}
 use Rattle.walrus_types.specs.Value.{val_type}
 use Rattle.walrus_types.specs.declared.value.ValType.{ValType}
 use Rattle.walrus_code.specs.Location.{location}
-use Rattle.walrus_items.specs.Function.{function_type, body_of, locations_of, args_of, handlers_in}
+use Rattle.walrus_items.specs.Function.{function_type, name_of, body_of, locations_of, args_of, handlers_in}
 use Rattle.walrus_items.specs.LocalFunction.{LocalFunction}
 use Rattle.walrus_builder.specs.Instructions.{end_op, nowhere}
 use Rattle.walrus_builder.specs.Sequence.{built, located}
@@ -72,7 +72,7 @@ pub record IsNew (post : Builds) (ty : Id TypeKey) (args : List (Id LocalKey)) (
   pub body : body_of function ≡ built builder ++ end_op ∷ []
   pub places : map location (locations_of function) ≡ located builder ++ nowhere ∷ []
   pub handlers : handlers_in function ≡ []
-  pub unnamed : function.name ≡ None
+  pub unnamed : name_of function ≡ None
 
 -- memory ran out, or the closure answered so
 abbrev pub Refuses : Builds → List (Id LocalKey) → Error → Type 0
