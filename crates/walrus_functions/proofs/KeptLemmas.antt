@@ -1,15 +1,19 @@
 -- Locals that keep their indices are declared in their order.
 use Rattle.std.proofs.Common.{◌≡◌, ℕ, zero, suc, ◌+◌, ◌-◌, ◌<◌, ◌≤◌, ◌⊎◌, inl, inr, Bool, true, false, List, [], ◌∷◌, ◌++◌, length, map, get_or, take, drop, Option, Some, None, refl, sym, ap, ap₂, ◌∙◌, subst, arith}
-use Rattle.std.specs.Prelude.{AllPairs, Contains, nat_eq, option_map, unwrap_or, if◌then◌else◌}
-use Rattle.std.specs.List.{AllByRecursion, IsDistinct, list_any, range_with_len}
-use Rattle.std.proofs.lemmas.Bool.{cases_lt, ne_eqb}
+use Rattle.std.specs.Prelude.{◌&&◌, AllPairs, Contains, flat_map, nat_eq, nat_le, nat_lt, option_map, unwrap_or, if◌then◌else◌}
+use Rattle.std.specs.List.{AllByRecursion, IsDistinct, list_all, list_any, range_with_len}
+use Rattle.std.proofs.lemmas.Bool.{cases_lt, leb-true, ltb-true, ne_eqb}
 use Rattle.std.proofs.lemmas.Bool.Decides.{eqb_tells}
 use Rattle.std.proofs.lemmas.List.{take-append-drop}
 use Rattle.std.proofs.lemmas.List.FromFn.{length-range_with_len, get_or-range_with_len}
 use Rattle.walrus_base.specs.Arena.{item_at}
 use Rattle.walrus_base.specs.Types.{ValType, I32, I64, F32, F64, V128, Ref}
+use Rattle.walrus_types.specs.Operators.{Arg, Index, Label, Local, Number, Count, Byte, S32, S64, Bits32, Bits64, Value, Heap, Block, Access, Op, arg_locals, op_locals, locals_of}
 use Rattle.walrus_types.specs.Shape.{place_in}
+use Rattle.walrus_bodies.specs.Blocks.{are_nested}
+use Rattle.walrus_text.specs.Classes.{is_plain}
 use Rattle.walrus_text.specs.Locals.{AreMarked}
+use Rattle.walrus_text.specs.Plain.{are_plain, is_plain_arg, is_plain_op}
 use Rattle.walrus_functions.specs.DeclaredLocals.{rank, AreDeclared, GoesBefore, IsDeclared, TypeGoesBefore}
 use Rattle.walrus_functions.specs.Kept.{KeepsIndices, rank_at}
 use Rattle.walrus_functions.proofs.AmongLemmas.{among, tested}
@@ -243,3 +247,43 @@ module _ (flags : List Bool) (used : List ℕ) (first : ℕ) (marked : AreMarked
       which = λ x. (λ c. let b = bounds_of (first + params) (count - params) x c in let within = k.within in behind x b.0 (omega (arith, b.1, within)), stands x);
       sorted = sorted;
     }
+
+-- ---- no locals
+
+and_parts : (a b : Bool) → (a && b) ≡ true → (a ≡ true) × (b ≡ true)
+and_parts true true e = (refl, refl)
+and_parts true false e = absurd cc
+and_parts false true e = absurd cc
+and_parts false false e = absurd cc
+
+no_local : (first : ℕ) (a : Arg) → is_plain_arg first 0 a ≡ true → arg_locals a ≡ []
+no_local first (Index x) plain = refl
+no_local first (Local n) plain =
+    let p = and_parts (nat_le first n) (nat_lt n (first + 0)) plain in
+    let low = leb-true first n p.0 in
+    let high = ltb-true n (first + 0) p.1 in
+    absurd (omega (arith, low, high))
+no_local first (Label n) plain = refl
+no_local first (Number n) plain = refl
+no_local first (Count n) plain = refl
+no_local first (Byte n) plain = refl
+no_local first (S32 z) plain = refl
+no_local first (S64 z) plain = refl
+no_local first (Bits32 n) plain = refl
+no_local first (Bits64 n) plain = refl
+no_local first (Value v) plain = refl
+no_local first (Heap h) plain = refl
+no_local first (Block b) plain = refl
+no_local first (Access flags memory offset) plain = refl
+
+none_of : {A : Type 0} (f : A → List ℕ) (test : A → Bool) → ((a : A) → test a ≡ true → f a ≡ []) → (xs : List A) → list_all test xs ≡ true → flat_map f xs ≡ []
+none_of f test none [] all = refl
+none_of f test none (x ∷ xs) all =
+    let p = and_parts (test x) (list_all test xs) all in
+    ap (λ (ns : List ℕ). ns ++ flat_map f xs) (none x p.0) ∙ none_of f test none xs p.1
+
+pub no_locals : (first : ℕ) (ops : List Op) → are_plain first 0 ops ≡ true → locals_of ops ≡ []
+no_locals first ops plain =
+    none_of op_locals (is_plain_op first 0)
+    (λ o one. none_of arg_locals (is_plain_arg first 0) (no_local first) o.args (and_parts (is_plain o.op) (list_all (is_plain_arg first 0) o.args) one).1)
+    ops (and_parts (list_all (is_plain_op first 0) ops) (are_nested ops) plain).0

@@ -8,6 +8,7 @@ mod ParameterLemmas
 mod PlainLemmas
 pub mod ApartLemmas
 pub mod AppendLemmas
+pub mod BareWritten
 pub mod CountLemmas
 pub mod DeclarationLemmas
 pub mod DistinctLemmas

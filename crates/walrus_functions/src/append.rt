@@ -1,22 +1,24 @@
 //! Appending the body of a function (Binary Format > Modules > Code Section).
-ghost use Rattle.std.specs.Prelude.{◌≡◌, ◌<◌, ◌+◌, ◌++◌, ◌^◌, ℕ, List, Option, Some, length, map, IfOk};
+ghost use Rattle.std.specs.Prelude.{◌≡◌, ◌<◌, ◌+◌, ◌++◌, ◌^◌, ◌↔◌, [], ℕ, List, Option, Some, length, map, IfOk, IsTrue};
+ghost use Rattle.walrus_base.specs.Arena.{item_at};
 ghost use Rattle.walrus_base.specs.Id.{place};
 ghost use Rattle.walrus_types.specs.Operators.{locals_of};
 ghost use Rattle.walrus_types.specs.Locals.{locals};
+ghost use Rattle.walrus_types.specs.ModuleTypes.{type_slots};
 ghost use Rattle.walrus_text.specs.Function.{as_text, arg_count_of, body_of};
 ghost use Rattle.walrus_text.specs.Locals.{AreMarked};
 ghost use Rattle.walrus_text.specs.Text.{first_local_of, local_count_of, ops_in};
 ghost use Rattle.walrus_code.specs.Indices.{index_of};
 ghost use Rattle.walrus_bodies.specs.Declarations.{declarations_of};
 ghost use Rattle.walrus_bodies.specs.declared.features.Features.{Features as Proposals};
-ghost use Rattle.walrus_functions.specs.EmittedBody.{EmitsBody, source_of, types_of};
+ghost use Rattle.walrus_functions.specs.EmittedBody.{EmitsBody, source_of, takes, types_of};
 ghost use Rattle.walrus_functions.specs.Kept.{KeepsIndices};
 ghost use Rattle.walrus_functions.specs.Writing.{WritesBehind};
 
 use crate::emit::{append_all, declare, parameters_fit};
 use crate::kept::keeps_indices;
 use std::alloc::Global;
-use walrus_base::LocalId;
+use walrus_base::{LocalId, TypeId};
 use walrus_bodies::{Declaration, Features};
 use walrus_code::{IdsToIndices, IrError};
 use walrus_text::{LocalFunction, Text};
@@ -118,6 +120,18 @@ fn append_text(
         (λ body. body.used.items) result
         × IfOk result (λ _. to.new.items ≡ to.old.items ++ bytes)) }
 {
+    if text.local_count() == 0 && function.arg_count() == 0 {
+        return append_bare(
+            alloc,
+            function,
+            text,
+            types,
+            module_locals,
+            indices,
+            features,
+            to,
+        );
+    }
     let used = text.used_locals(alloc)?;
     let first = text.first_local() as usize;
     let count = text.local_count() as usize;
@@ -136,6 +150,57 @@ fn append_text(
         );
     }
     append_any(alloc, function, types, module_locals, indices, features, to)
+}
+
+// The same where there are none.
+fn append_bare(
+    alloc: Global,
+    function: &LocalFunction,
+    text: &Text,
+    types: &ModuleTypes,
+    module_locals: &ModuleLocals,
+    indices: &IdsToIndices,
+    features: &Features,
+    to: &mut Vec<u8>,
+) -> Result<AppendedBody, IrError>
+    requires text { as_text function.now ≡ Some text.now }
+    requires body { body_of function.now ≡ ops_in text.now }
+    requires bare { local_count_of text.now ≡ 0 }
+    requires no_parameters { arg_count_of function.now ≡ 0 }
+    ensures { (bytes places : List ℕ) × (numbers : ℕ → Option ℕ) × (EmitsBody
+        (source_of indices.now module_locals.now types.now function.now features.now)
+        (λ _. bytes) (λ _. places) (λ _. numbers) (λ body. map place body.order.items)
+        (λ body. body.used.items) result
+        × IfOk result (λ _. to.new.items ≡ to.old.items ++ bytes)) }
+{
+    text.is_plain();
+    function.args_are_first();
+    let fits = takes_nothing(types, function.ty());
+    if !fits {
+        return Err(IrError::NotWritable);
+    }
+    let hold = text.blocks_hold(types)?;
+    if !hold {
+        return Err(IrError::NotWritable);
+    }
+    write_kept(to, &[], text, indices)?;
+    Ok(AppendedBody {
+        order: Vec::new(alloc),
+        used: Vec::new(alloc),
+    })
+}
+
+// Whether this is the type of a function without parameters.
+fn takes_nothing(types: &ModuleTypes, ty: TypeId) -> bool
+    ensures { IsTrue result ↔ (takes (item_at (type_slots types.now) (place ty)) ≡ Some []) }
+{
+    if !types.contains(ty) {
+        return false;
+    }
+    match types.get(ty).as_function() {
+        Some(signature) => signature.params().is_empty(),
+        None => false,
+    }
 }
 
 // The same where they keep them.
