@@ -7,10 +7,13 @@ mod LawTags
 mod ParameterLemmas
 mod PlainLemmas
 pub mod ApartLemmas
+pub mod AppendLemmas
 pub mod CountLemmas
 pub mod DeclarationLemmas
 pub mod DistinctLemmas
 pub mod FitLemmas
+pub mod KeptLemmas
+pub mod KeptWritten
 pub mod LawMoves
 pub mod LawNamed
 pub mod LawOnce

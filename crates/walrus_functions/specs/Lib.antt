@@ -3,6 +3,7 @@ pub mod DeclaredLocals
 pub mod Declaring
 pub mod EmittedBody
 pub mod Handlers
+pub mod Kept
 pub mod Known
 pub mod Laws
 pub mod Marked

@@ -74,14 +74,12 @@ pub(crate) fn code_locals(alloc: Global, code: &Code) -> Result<Vec<LocalId>, Al
     }
 }
 
-// For how many bytes to reserve memory: as many as stand in the input, or two for each operator, and a few for declarations.
-pub(crate) fn likely_length(code: &Code) -> usize {
-    match code {
-        Code::Text(text) => text.byte_count().saturating_add(4),
-        Code::List(operators) => {
-            let count = operators.as_slice().len();
-            count.saturating_mul(2).saturating_add(4)
-        }
+/// For how many bytes to reserve memory where a function's body is written: as many as stand in the input, or two for each operator, and a few for
+/// declarations. A body may take more.
+pub fn likely_length(function: &LocalFunction) -> usize {
+    match function.text() {
+        Some(text) => text.byte_count().saturating_add(4),
+        None => function.size().saturating_mul(2).saturating_add(4),
     }
 }
 

@@ -163,7 +163,7 @@ fn lowest_locals(alloc: Global, found: &[(usize, ValType)]) -> Result<Lowest, Al
 }
 
 // Where types go in the order of declarations: the number types and the vector type by their bytes, then references.
-fn rank(ty: ValType) -> u8
+pub(crate) fn rank(ty: ValType) -> u8
     ensures { result ≡ rank (val_type ty) }
 {
     match ty {

@@ -1,5 +1,5 @@
 //! Writing the body of a function (Binary Format > Modules > Code Section).
-ghost use Rattle.std.specs.Prelude.{◌≡◌, ◌<◌, ◌++◌, ◌↔◌, ◌^◌, ℕ, List, true, length, map, All, IfOk, IsSome, IsTrue};
+ghost use Rattle.std.specs.Prelude.{◌≡◌, ◌<◌, ◌++◌, ◌↔◌, ◌^◌, [], ℕ, List, Option, true, length, map, All, IfOk, IsSome, IsTrue};
 ghost use Rattle.walrus_base.specs.Arena.{item_at};
 ghost use Rattle.walrus_base.specs.Id.{place};
 ghost use Rattle.walrus_types.specs.Operators.{locals_of};
@@ -99,6 +99,61 @@ pub fn emit_body_with(
     ensures located { IfOk result (λ body. map (λ p. p.0) body.places.items
         ≡ kept_if asks_places (locations_of function.now)) }
 {
+    let mut bytes = Vec::with_capacity(alloc, likely_length(function))?;
+    let known = append_all(
+        alloc,
+        function,
+        types,
+        module_locals,
+        indices,
+        features,
+        asks_places,
+        &mut bytes,
+    )?;
+    bytes.shrink_to_fit();
+    Ok(EmittedBody {
+        bytes,
+        places: known.places,
+        locals: known.locals,
+        order: known.order,
+        used: known.used,
+    })
+}
+
+// All that is known of a body that was appended.
+#[derive(Drop)]
+pub(crate) struct KnownBody {
+    // As far as asked for: the location of each operator, with the place of its first byte, counted from the front of the body.
+    pub(crate) places: Vec<(InstrLocId, usize)>,
+    // The index of each parameter and of each local that the body uses.
+    pub(crate) locals: LocalNumbers,
+    // The body's locals by their indices.
+    pub(crate) order: Vec<LocalId>,
+    // Whether its operators name each of these.
+    pub(crate) used: Vec<bool>,
+}
+
+// Appends the bytes of a function's body; where places are asked for, as the first ones.
+pub(crate) fn append_all(
+    alloc: Global,
+    function: &LocalFunction,
+    types: &ModuleTypes,
+    module_locals: &ModuleLocals,
+    indices: &IdsToIndices,
+    features: &Features,
+    asks_places: bool,
+    to: &mut Vec<u8>,
+) -> Result<KnownBody, IrError>
+    requires { asks_places ≡ true → to.old.items ≡ [] }
+    ensures written { (bytes places : List ℕ) × (EmitsBody
+        (source_of indices.now module_locals.now types.now function.now features.now)
+        (λ _. bytes) (λ _. places) (λ body. local_index body.locals)
+        (λ body. map place body.order.items) (λ body. body.used.items) result
+        × IfOk result (λ body. (to.new.items ≡ to.old.items ++ bytes)
+        × (map (λ p. p.1) body.places.items ≡ kept_if asks_places places))) }
+    ensures located { IfOk result (λ body. map (λ p. p.0) body.places.items
+        ≡ kept_if asks_places (locations_of function.now)) }
+{
     let parameters = function.args(alloc)?;
     let args = parameters.as_slice();
     let fits = parameters_fit(alloc, function, args, types, module_locals)?;
@@ -135,11 +190,12 @@ pub fn emit_body_with(
         all,
         used,
         &scope,
+        to,
     )
 }
 
 // Whether the function's type takes what its parameters hold.
-fn parameters_fit(
+pub(crate) fn parameters_fit(
     alloc: Global,
     function: &LocalFunction,
     args: &[LocalId],
@@ -194,7 +250,7 @@ fn joined(alloc: Global, args: &[LocalId], declared: &[LocalId]) -> Result<Vec<L
 }
 
 // The declarations of locals in this order.
-fn declare(
+pub(crate) fn declare(
     alloc: Global,
     declared: &[LocalId],
     module_locals: &ModuleLocals,
@@ -222,7 +278,7 @@ struct Scope<'a> {
     asks_places: bool,
 }
 
-// Writes declarations, and the operators behind them. What is known of the locals is handed on.
+// Appends declarations, and the operators behind them. What is known of the locals is handed on.
 fn write_body(
     alloc: Global,
     code: &Code,
@@ -231,35 +287,27 @@ fn write_body(
     order: Vec<LocalId>,
     used: Vec<bool>,
     scope: &Scope,
-) -> Result<EmittedBody, IrError>
+    to: &mut Vec<u8>,
+) -> Result<KnownBody, IrError>
     requires few { length declarations.now < 2 ^ 32 }
     requires listed { scope.now.asks_places ≡ true → is_listed code.now ≡ true }
-    ensures written { (places : List ℕ) × (WritesBehind (index_of scope.now.indices.now)
+    requires alone { scope.now.asks_places ≡ true → to.old.items ≡ [] }
+    ensures written { (bytes places : List ℕ) × (WritesBehind (index_of scope.now.indices.now)
         (local_index locals) scope.now.features.now (ops_of_code code.now) (declarations_of declarations.now)
-        (λ body. body.bytes.items) (λ _. places) result
-        × IfOk result (λ body. map (λ p. p.1) body.places.items ≡ kept_if scope.now.asks_places places)) }
+        (λ _. bytes) (λ _. places) result
+        × IfOk result (λ body. (to.new.items ≡ to.old.items ++ bytes)
+        × (map (λ p. p.1) body.places.items ≡ kept_if scope.now.asks_places places))) }
     ensures located { IfOk result (λ body. map (λ p. p.0) body.places.items
         ≡ kept_if scope.now.asks_places (locations_of_code code.now)) }
     ensures numbered { IfOk result (λ body. body.locals ≡ locals) }
     ensures ordered { IfOk result (λ body. body.order ≡ order) }
     ensures marked { IfOk result (λ body. body.used ≡ used) }
 {
-    let mut bytes = Vec::with_capacity(alloc, likely_length(code))?;
-    write_vector(&mut bytes, declarations)?;
+    write_vector(to, declarations)?;
     let (indices, features) = (scope.indices, scope.features);
     let asks_places = scope.asks_places;
-    let places = append_code(
-        alloc,
-        &mut bytes,
-        code,
-        indices,
-        &locals,
-        features,
-        asks_places,
-    )?;
-    bytes.shrink_to_fit();
-    Ok(EmittedBody {
-        bytes,
+    let places = append_code(alloc, to, code, indices, &locals, features, asks_places)?;
+    Ok(KnownBody {
         places,
         locals,
         order,

@@ -2,12 +2,14 @@
 //! locals, operators, and the types of legacy exception handlers.
 #![tactic(auto)]
 
+mod append;
 mod blocks;
 mod code;
 mod declared;
 mod emit;
 mod groups;
 mod handlers;
+mod kept;
 mod law;
 mod lowest;
 mod marks;
@@ -16,6 +18,8 @@ mod read;
 mod tag_and_try;
 mod taken;
 
+pub use append::{AppendedBody, append_body};
+pub use code::likely_length;
 pub use emit::{EmittedBody, emit_body, emit_body_with};
 pub use law::{bodies_read_once, declared_in_one_order, locals_move, unwritable_is_ill_formed};
 pub use read::{add_locals, read_body};

@@ -2,6 +2,7 @@ mod AgainLemmas
 pub mod AtMarks
 mod ByteLemmas
 pub mod FlagLemmas
+mod KeptLemmas
 mod LocatedLemmas
 mod NamedLemmas
 pub mod NamesShown

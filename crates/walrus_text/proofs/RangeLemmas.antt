@@ -2,10 +2,16 @@
 use Rattle.std.proofs.Common.{◌≡◌, ℕ, ◌+◌, List, [], ◌∷◌, ◌++◌, length, map, refl, ap, ◌∙◌, sym}
 use Rattle.std.proofs.lemmas.List.{map-append}
 use Rattle.std.proofs.lemmas.List.FromFn.{length-range_with_len, map-range_with_len_more}
+use Rattle.std.specs.Prelude.{IfSome}
 use Rattle.std.specs.List.{range_with_len}
 use Rattle.walrus_base.specs.Id.{place}
 use Rattle.walrus_base.specs.declared.id.Id.{Id}
 use Rattle.walrus_base.specs.declared.keys.LocalKey.{LocalKey}
+use Rattle.walrus_text.specs.Function.{as_text, args_of, arg_count_of, args_in, text_in}
+use Rattle.walrus_text.specs.Text.{first_local_of}
+use Rattle.walrus_text.specs.declared.function.Body.{Body}
+use Rattle.walrus_text.specs.declared.function.Body.TheVariants as bodies
+use Rattle.walrus_text.specs.declared.function.LocalFunction.{LocalFunction}
 
 map_same : (ns : List ℕ) → map (λ k. k) ns ≡ ns
 map_same [] = refl
@@ -21,3 +27,12 @@ one_more first n ids new id is so_far at =
 
 pub as_many : (first count : ℕ) → count ≡ length (range_with_len first count)
 as_many first count = sym (length-range_with_len first count)
+
+-- the parameters of a body that stands as in the input are its first locals
+first_in : (b : Body) → IfSome (text_in b) (λ text. args_in b ≡ range_with_len (first_local_of text) (length (args_in b)))
+first_in (bodies.Text text params) = ap (range_with_len (first_local_of text)) (as_many (first_local_of text) params)
+first_in (bodies.List args operators) = tt
+
+pub args_first : (f : LocalFunction) → IfSome (as_text f) (λ text. args_of f ≡ range_with_len (first_local_of text) (arg_count_of f))
+unfolding as_text args_of
+args_first f = first_in f.body

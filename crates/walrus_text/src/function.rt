@@ -41,7 +41,7 @@ pub struct LocalFunction {
 }
 
 // The ids of so many locals, from a place on.
-fn ids_from(alloc: Global, first: u32, count: u32) -> Result<Vec<LocalId>, AllocError>
+pub(crate) fn ids_from(alloc: Global, first: u32, count: u32) -> Result<Vec<LocalId>, AllocError>
     ensures { IfOk result (λ ids. map place ids.items ≡ range_with_len first count) }
 {
     let mut ids = Vec::with_capacity(alloc, count as usize)?;

@@ -12,6 +12,7 @@ mod locals;
 mod names;
 mod operators;
 mod place;
+mod range;
 mod scan;
 mod text;
 mod write;

@@ -1,12 +1,13 @@
 //! Writing a body with new numbers (Binary Format > Instructions).
-ghost use Rattle.std.specs.Prelude.{ℕ, List};
+ghost use Rattle.std.specs.Prelude.{◌≡◌, ◌+◌, ◌<◌, ℕ, List, Option, Some};
 ghost use Rattle.wasm_forms.specs.Number.{AreBytes};
 ghost use Rattle.wasm_text.specs.Filling.{Answers};
+ghost use Rattle.walrus_bodies.specs.Names.{Lookup};
 ghost use Rattle.walrus_bodies.specs.Indices.{index_of, local_index};
 ghost use Rattle.walrus_bodies.specs.Emitting.{EmitsOperators};
 ghost use Rattle.walrus_bodies.specs.declared.features.Features.{Features as Proposals};
-ghost use Rattle.walrus_text.specs.Numbers.{numbers_in};
-ghost use Rattle.walrus_text.specs.Text.{ops_in};
+ghost use Rattle.walrus_text.specs.Numbers.{item_number, kept_numbers_in, numbering, numbers_in};
+ghost use Rattle.walrus_text.specs.Text.{first_local_of, local_count_of, ops_in};
 
 use crate::text::Text;
 use walrus_base::Id;
@@ -24,6 +25,13 @@ pub(crate) struct BodyNumbers<'a> {
     pub(crate) first_local: u32,
 }
 
+// The same where its locals keep their indices.
+#[derive(Drop)]
+pub(crate) struct KeptNumbers<'a> {
+    pub(crate) indices: &'a IdsToIndices,
+    pub(crate) first_local: u32,
+}
+
 // The number, or the one that stands for none.
 #[inline]
 fn number_or_none(number: Option<u32>) -> u64
@@ -35,22 +43,44 @@ fn number_or_none(number: Option<u32>) -> u64
     }
 }
 
+// The new number of an item, by the kind of a mark; none for other kinds.
+#[inline]
+fn item_number(indices: &IdsToIndices, kind: u32, index: u32) -> Option<u32>
+    ensures { result ≡ item_number (index_of indices.now) kind index }
+{
+    let place = index as usize;
+    match kind {
+        MARK_FUNCTION => indices.get_func_index(Id::at(place)),
+        MARK_GLOBAL => indices.get_global_index(Id::at(place)),
+        MARK_TYPE => indices.get_type_index(Id::at(place)),
+        MARK_TABLE => indices.get_table_index(Id::at(place)),
+        MARK_MEMORY => indices.get_memory_index(Id::at(place)),
+        _ => None,
+    }
+}
+
 impl<'a> Numbers for BodyNumbers<'a> {
     ghost number = { numbers_in };
 
     #[inline]
     fn new_number(&self, kind: u32, index: u32) -> u64 {
-        let place = index as usize;
-        let number = match kind {
-            MARK_LOCAL => self.locals.get(Id::at(self.first_local as usize + place)),
-            MARK_FUNCTION => self.indices.get_func_index(Id::at(place)),
-            MARK_GLOBAL => self.indices.get_global_index(Id::at(place)),
-            MARK_TYPE => self.indices.get_type_index(Id::at(place)),
-            MARK_TABLE => self.indices.get_table_index(Id::at(place)),
-            MARK_MEMORY => self.indices.get_memory_index(Id::at(place)),
-            _ => None,
-        };
-        number_or_none(number)
+        if kind == MARK_LOCAL {
+            let place = self.first_local as usize + index as usize;
+            return number_or_none(self.locals.get(Id::at(place)));
+        }
+        number_or_none(item_number(self.indices, kind, index))
+    }
+}
+
+impl<'a> Numbers for KeptNumbers<'a> {
+    ghost number = { kept_numbers_in };
+
+    #[inline]
+    fn new_number(&self, kind: u32, index: u32) -> u64 {
+        if kind == MARK_LOCAL {
+            return u64::from(index);
+        }
+        number_or_none(item_number(self.indices, kind, index))
     }
 }
 
@@ -58,6 +88,25 @@ impl<'a> Numbers for BodyNumbers<'a> {
 fn bytes_are_held(bytes: &[u8])
     ensures { AreBytes bytes.now }
 {}
+
+// Appends the operators of a text with these numbers, each argument in its one spelling.
+fn append_numbered<N: Numbers>(text: &Text, to: &mut Vec<u8>, numbers: &N) -> Result<(), IrError>
+    ensures { (names : Lookup) (given locals : ℕ → Option ℕ) (features : Proposals)
+        → N.number numbers.now ≡ numbering names given (first_local_of text.now)
+        → ((i : ℕ) → i < local_count_of text.now
+        → given (first_local_of text.now + i) ≡ locals (first_local_of text.now + i))
+        → (places : List ℕ) × EmitsOperators names locals features (ops_in text.now) to.old.items
+        to.new.items (λ _. places) result }
+{
+    let bytes = text.bytes.as_slice();
+    let marks = text.marks.as_slice();
+    bytes_are_held(bytes);
+    if append_filled(to, bytes, marks, numbers)? {
+        Ok(())
+    } else {
+        Err(IrError::NoIndex)
+    }
+}
 
 impl Text {
     /// Appends its operators with the indices of what they name, each argument in its one spelling (Binary Format > Instructions).
@@ -80,13 +129,24 @@ impl Text {
             locals,
             first_local: self.first_local,
         };
-        let bytes = self.bytes.as_slice();
-        let marks = self.marks.as_slice();
-        bytes_are_held(bytes);
-        if append_filled(to, bytes, marks, &numbers)? {
-            Ok(())
-        } else {
-            Err(IrError::NoIndex)
-        }
+        append_numbered(self, to, &numbers)
+    }
+
+    /// The same, where each local keeps its index.
+    ///
+    /// # Errors
+    ///
+    /// [`IrError::NoIndex`] where an item that they name has no index, and `Memory`. What was appended means nothing then.
+    pub fn append_kept(&self, to: &mut Vec<u8>, indices: &IdsToIndices) -> Result<(), IrError>
+        ensures { (locals : ℕ → Option ℕ) (features : Proposals)
+            → ((i : ℕ) → i < local_count_of self.now → locals (first_local_of self.now + i) ≡ Some i)
+            → (places : List ℕ) × EmitsOperators (index_of indices.now) locals features (ops_in self.now)
+            to.old.items to.new.items (λ _. places) result }
+    {
+        let numbers = KeptNumbers {
+            indices,
+            first_local: self.first_local,
+        };
+        append_numbered(self, to, &numbers)
     }
 }

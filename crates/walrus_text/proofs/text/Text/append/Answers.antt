@@ -1,36 +1,8 @@
-use Rattle.std.proofs.Common.{Bool, [], length, map, subst, Ok}
-use Rattle.wasm_forms.specs.Number.{AreBytes}
-use Rattle.wasm_text.specs.Marks.{with}
-use Rattle.wasm_text.specs.Filling.{Fills, anew}
+use Rattle.std.proofs.Common.{refl}
 use Rattle.walrus_bodies.specs.Indices.{index_of, local_index}
-use Rattle.walrus_bodies.specs.Emitting.{places_from}
-use Rattle.walrus_text.specs.Numbers.{numbering}
-use Rattle.walrus_text.specs.Text.{texts_of}
-use Rattle.walrus_text.proofs.OrderLemmas.{in_order}
-use Rattle.walrus_text.proofs.WrittenLemmas.{written, unnamed}
+use Rattle.walrus_text.specs.Text.{first_local_of}
 use Rattle.walrus_text.proofs.text.Text.append.Goals as goal
 
-pub append_filled-requires : goal.append_filled-requires
-append_filled-requires c = rw (c.as_slice-bytes.ensures.value, c.as_slice-marks.ensures.value) (in_order c.args.self.now)
-
-pub returns-then-branch : goal.returns-then-branch
-returns-then-branch c features =
-    let t = c.args.self.now in
-    let names = index_of c.args.indices.now in
-    let locals = local_index c.args.locals.now in
-    let full = numbering names locals t.first_local in
-    let bytes : AreBytes t.bytes.items = subst AreBytes c.as_slice-bytes.ensures.value c.bytes_are_held.ensures in
-    let f = subst (λ (b : Bool). Fills {E = Unit {0}} full c.as_slice-bytes.result.now c.as_slice-marks.result.now c.args.to.now.items c.append_filled.new.to.items (Ok b)) c.if-branch.true c.in_ok-append_filled.ensures.fills in
-    let each = rw (c.as_slice-bytes.ensures.value, c.as_slice-marks.ensures.value) at f.0 in
-    let same = rw (c.as_slice-bytes.ensures.value, c.as_slice-marks.ensures.value) at f.1 in
-    (places_from (length c.args.to.now.items) (map (with (anew full)) (texts_of t)), written t names locals features c.args.to.now.items c.append_filled.new.to.items bytes each same)
-
-pub returns-else-branch : goal.returns-else-branch
-returns-else-branch c features =
-    let t = c.args.self.now in
-    let names = index_of c.args.indices.now in
-    let locals = local_index c.args.locals.now in
-    let full = numbering names locals t.first_local in
-    let f = subst (λ (b : Bool). Fills {E = Unit {0}} full c.as_slice-bytes.result.now c.as_slice-marks.result.now c.args.to.now.items c.append_filled.new.to.items (Ok b)) c.if-branch.false c.in_ok-append_filled.ensures.fills in
-    let some = rw (c.as_slice-bytes.ensures.value, c.as_slice-marks.ensures.value) at f in
-    ([], unnamed t names locals some)
+pub returns : goal.returns
+unfolding first_local_of
+returns c features = c.append_numbered.ensures (index_of c.args.indices.now) (local_index c.args.locals.now) (local_index c.args.locals.now) features refl (λ i low. refl)

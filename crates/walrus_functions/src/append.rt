@@ -1,0 +1,198 @@
+//! Appending the body of a function (Binary Format > Modules > Code Section).
+ghost use Rattle.std.specs.Prelude.{◌≡◌, ◌<◌, ◌+◌, ◌++◌, ◌^◌, ℕ, List, Option, Some, length, map, IfOk};
+ghost use Rattle.walrus_base.specs.Id.{place};
+ghost use Rattle.walrus_types.specs.Operators.{locals_of};
+ghost use Rattle.walrus_types.specs.Locals.{locals};
+ghost use Rattle.walrus_text.specs.Function.{as_text, arg_count_of, body_of};
+ghost use Rattle.walrus_text.specs.Locals.{AreMarked};
+ghost use Rattle.walrus_text.specs.Text.{first_local_of, local_count_of, ops_in};
+ghost use Rattle.walrus_code.specs.Indices.{index_of};
+ghost use Rattle.walrus_bodies.specs.Declarations.{declarations_of};
+ghost use Rattle.walrus_bodies.specs.declared.features.Features.{Features as Proposals};
+ghost use Rattle.walrus_functions.specs.EmittedBody.{EmitsBody, source_of, types_of};
+ghost use Rattle.walrus_functions.specs.Kept.{KeepsIndices};
+ghost use Rattle.walrus_functions.specs.Writing.{WritesBehind};
+
+use crate::emit::{append_all, declare, parameters_fit};
+use crate::kept::keeps_indices;
+use std::alloc::Global;
+use walrus_base::LocalId;
+use walrus_bodies::{Declaration, Features};
+use walrus_code::{IdsToIndices, IrError};
+use walrus_text::{LocalFunction, Text};
+use walrus_types::{ModuleLocals, ModuleTypes};
+use wasm_forms::write_vector;
+
+/// What is known of a body that was appended.
+#[derive(Drop)]
+pub struct AppendedBody {
+    /// The body's locals by their indices: its parameters, and then those that it declares.
+    pub order: Vec<LocalId>,
+    /// Whether its operators name each of these.
+    pub used: Vec<bool>,
+}
+
+/// Appends the bytes of a function's body, as [`emit_body`] makes them. Refused, what was appended means nothing.
+///
+/// # Errors
+///
+/// As [`emit_body`].
+pub fn append_body(
+    alloc: Global,
+    function: &LocalFunction,
+    types: &ModuleTypes,
+    module_locals: &ModuleLocals,
+    indices: &IdsToIndices,
+    features: &Features,
+    to: &mut Vec<u8>,
+) -> Result<AppendedBody, IrError>
+    ensures written { (bytes places : List ℕ) × (numbers : ℕ → Option ℕ) × (EmitsBody
+        (source_of indices.now module_locals.now types.now function.now features.now)
+        (λ _. bytes) (λ _. places) (λ _. numbers) (λ body. map place body.order.items)
+        (λ body. body.used.items) result
+        × IfOk result (λ _. to.new.items ≡ to.old.items ++ bytes)) }
+{
+    match function.text() {
+        Some(text) => append_text(
+            alloc,
+            function,
+            text,
+            types,
+            module_locals,
+            indices,
+            features,
+            to,
+        ),
+        None => append_any(alloc, function, types, module_locals, indices, features, to),
+    }
+}
+
+// The same, without a look at how the body is kept.
+fn append_any(
+    alloc: Global,
+    function: &LocalFunction,
+    types: &ModuleTypes,
+    module_locals: &ModuleLocals,
+    indices: &IdsToIndices,
+    features: &Features,
+    to: &mut Vec<u8>,
+) -> Result<AppendedBody, IrError>
+    ensures { (bytes places : List ℕ) × (numbers : ℕ → Option ℕ) × (EmitsBody
+        (source_of indices.now module_locals.now types.now function.now features.now)
+        (λ _. bytes) (λ _. places) (λ _. numbers) (λ body. map place body.order.items)
+        (λ body. body.used.items) result
+        × IfOk result (λ _. to.new.items ≡ to.old.items ++ bytes)) }
+{
+    let known = append_all(
+        alloc,
+        function,
+        types,
+        module_locals,
+        indices,
+        features,
+        false,
+        to,
+    )?;
+    Ok(AppendedBody {
+        order: known.order,
+        used: known.used,
+    })
+}
+
+// The same of a body that stands as in the input: its locals may keep their indices.
+fn append_text(
+    alloc: Global,
+    function: &LocalFunction,
+    text: &Text,
+    types: &ModuleTypes,
+    module_locals: &ModuleLocals,
+    indices: &IdsToIndices,
+    features: &Features,
+    to: &mut Vec<u8>,
+) -> Result<AppendedBody, IrError>
+    requires text { as_text function.now ≡ Some text.now }
+    requires body { body_of function.now ≡ ops_in text.now }
+    ensures { (bytes places : List ℕ) × (numbers : ℕ → Option ℕ) × (EmitsBody
+        (source_of indices.now module_locals.now types.now function.now features.now)
+        (λ _. bytes) (λ _. places) (λ _. numbers) (λ body. map place body.order.items)
+        (λ body. body.used.items) result
+        × IfOk result (λ _. to.new.items ≡ to.old.items ++ bytes)) }
+{
+    let used = text.used_locals(alloc)?;
+    let first = text.first_local() as usize;
+    let count = text.local_count() as usize;
+    let params = function.arg_count();
+    if keeps_indices(module_locals, used.as_slice(), first, params, count) {
+        return append_kept(
+            alloc,
+            function,
+            text,
+            used,
+            types,
+            module_locals,
+            indices,
+            features,
+            to,
+        );
+    }
+    append_any(alloc, function, types, module_locals, indices, features, to)
+}
+
+// The same where they keep them.
+fn append_kept(
+    alloc: Global,
+    function: &LocalFunction,
+    text: &Text,
+    used: Vec<bool>,
+    types: &ModuleTypes,
+    module_locals: &ModuleLocals,
+    indices: &IdsToIndices,
+    features: &Features,
+    to: &mut Vec<u8>,
+) -> Result<AppendedBody, IrError>
+    requires text { as_text function.now ≡ Some text.now }
+    requires body { body_of function.now ≡ ops_in text.now }
+    requires used { AreMarked (first_local_of text.now) used.items (locals_of (ops_in text.now)) }
+    requires many { length used.items ≡ local_count_of text.now }
+    requires few { local_count_of text.now < 2 ^ 32 }
+    requires kept { KeepsIndices (types_of (locals module_locals.now)) used.items (first_local_of text.now)
+        (arg_count_of function.now) (local_count_of text.now) }
+    ensures { (bytes places : List ℕ) × (numbers : ℕ → Option ℕ) × (EmitsBody
+        (source_of indices.now module_locals.now types.now function.now features.now)
+        (λ _. bytes) (λ _. places) (λ _. numbers) (λ body. map place body.order.items)
+        (λ body. body.used.items) result
+        × IfOk result (λ _. to.new.items ≡ to.old.items ++ bytes)) }
+{
+    function.args_are_first();
+    let order = text.locals(alloc)?;
+    let (parameters, declared) = order.as_slice().split_at(function.arg_count());
+    let fits = parameters_fit(alloc, function, parameters, types, module_locals)?;
+    if !fits {
+        return Err(IrError::NotWritable);
+    }
+    let hold = text.blocks_hold(types)?;
+    if !hold {
+        return Err(IrError::NotWritable);
+    }
+    let declarations = declare(alloc, declared, module_locals, indices)?;
+    write_kept(to, declarations.as_slice(), text, indices)?;
+    Ok(AppendedBody { order, used })
+}
+
+// Appends declarations, and the operators behind them, where the locals keep their indices.
+fn write_kept(
+    to: &mut Vec<u8>,
+    declarations: &[Declaration],
+    text: &Text,
+    indices: &IdsToIndices,
+) -> Result<(), IrError>
+    requires { length declarations.now < 2 ^ 32 }
+    ensures { (numbers : ℕ → Option ℕ) (features : Proposals)
+        → ((i : ℕ) → i < local_count_of text.now → numbers (first_local_of text.now + i) ≡ Some i)
+        → (bytes places : List ℕ) × (WritesBehind (index_of indices.now) numbers features
+        (ops_in text.now) (declarations_of declarations.now) (λ _. bytes) (λ _. places) result
+        × IfOk result (λ _. to.new.items ≡ to.old.items ++ bytes)) }
+{
+    write_vector(to, declarations)?;
+    text.append_kept(to, indices)
+}
