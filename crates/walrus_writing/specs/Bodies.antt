@@ -8,7 +8,7 @@ use Rattle.walrus_base.specs.declared.keys.FunctionKey.{FunctionKey}
 use Rattle.walrus_types.specs.Locals.{locals}
 use Rattle.walrus_code.specs.Names.{Lookup}
 use Rattle.walrus_bodies.specs.declared.features.Features.{Features}
-use Rattle.walrus_functions.specs.declared.emit.AppendedBody.{AppendedBody}
+use Rattle.walrus_functions.specs.declared.append.AppendedBody.{AppendedBody}
 use Rattle.walrus_contents.specs.declared.parts.Parts.{Parts}
 use Rattle.walrus_names.specs.Names.{all_local_names, used_listed}
 use Rattle.walrus_writing.specs.Parts.{BodySeen, IsWrittenBody}

@@ -4,7 +4,7 @@ use Rattle.std.proofs.lemmas.List.{length-map}
 use Rattle.std.proofs.lemmas.Result.{err_from_is_err_and}
 use Rattle.walrus_base.specs.Id.{place}
 use Rattle.walrus_code.specs.Indices.{index_of}
-use Rattle.walrus_functions.specs.declared.emit.AppendedBody.{AppendedBody}
+use Rattle.walrus_functions.specs.declared.append.AppendedBody.{AppendedBody}
 use Rattle.walrus_writing.proofs.Indexed.{body_refused, local_seen}
 use Rattle.walrus_writing.proofs.TooMany.{as_many, many_refused}
 use Rattle.walrus_writing.proofs.bodies.append_one.Goals as goal

@@ -1,5 +1,4 @@
-use Rattle.std.proofs.Common.{◌∙◌, length, map, sym, ap, subst}
-use Rattle.std.specs.Prelude.{Ok}
+use Rattle.std.proofs.Common.{◌∙◌, List, length, map, ap, subst}
 use Rattle.walrus_base.specs.declared.id.Id.{Id}
 use Rattle.walrus_base.specs.declared.keys.FunctionKey.{FunctionKey}
 use Rattle.walrus_code.specs.Indices.{index_of}
@@ -21,13 +20,11 @@ written_bodies-requires-clause-few c =
 pub returns-clause-written : goal.returns-clause-written
 returns-clause-written c =
     let w = c.in_ok-written.ensures.value in
-    let used = map (λ (b : BodySeen). b.used) w.bodies in
-    let here = λ asked. w.names_are asked ∙ ap (λ first. all_local_names (locals c.args.parts.locals.now) first used) c.first_index-first.ensures in
-    (
+    let used = map (λ (b : BodySeen). b.used) w.bodies in (
       w.bodies,
       (
         subst (λ (ids : List (Id FunctionKey)). AreBodies c.args.parts (index_of c.args.prepared.now.indices) c.args.choices.now.features ids w.bodies) c.as_slice-order.ensures.value w.are,
         w.texts,
-        c.both_payloads-payloads.ensures _ _ (c.in_ok-names.ensures used here) c.in_ok-producers.ensures,
+        c.both_payloads-payloads.ensures _ _ (c.in_ok-names.ensures used (λ asked. w.names_are asked ∙ ap (λ first. all_local_names (locals c.args.parts.locals.now) first used) c.first_index-first.ensures)) c.in_ok-producers.ensures,
       ),
     )
