@@ -1,3 +1,4 @@
 pub mod NamesLemmas
 pub mod PlacedNames
 pub mod TextNames
+pub mod UsedNames

@@ -5,9 +5,6 @@ use Rattle.std.specs.Global.{Vec}
 use Rattle.wasm_payloads.specs.Lent.{NamesFit}
 use Rattle.wasm_payloads.specs.Spelling.{NameMap, NameText, names_bytes}
 use Rattle.walrus_base.specs.Arena.{entries, entries_from, item_at}
-use Rattle.walrus_base.specs.Id.{place}
-use Rattle.walrus_base.specs.declared.id.Id.{Id}
-use Rattle.walrus_base.specs.declared.keys.LocalKey.{LocalKey}
 use Rattle.walrus_types.specs.Locals.{locals}
 use Rattle.walrus_types.specs.ModuleTypes.{type_names}
 use Rattle.walrus_types.specs.Operators.{Space, Types, Functions, Tables, Memories, Tags, Globals, Elements, DataSegments}
@@ -26,7 +23,6 @@ use Rattle.walrus_model.specs.Plan as model
 use Rattle.walrus_parts.specs.declared.error.Error.{Error}
 use Rattle.walrus_parts.specs.declared.error.Error.TheVariants as errors
 use Rattle.walrus_plan.specs.declared.plan.Plan.{Plan}
-use Rattle.walrus_names.specs.declared.locals.WrittenBody.{WrittenBody}
 use Rattle.walrus_rules.specs.Examples.{no_names}
 use Rattle.walrus_rules.specs.Namings.{space_of}
 
@@ -52,6 +48,16 @@ item_names p plan space = entries (map (item_name p space) (plan space))
 -- the name of the local at a place, if one is there and has a name
 abbrev pub local_name : List (Option Local) → ℕ → Option Name
 local_name all x = option_and_then (λ l. name_bytes l.name) (item_at all x)
+
+-- those of these locals that are used
+abbrev pub used_among : List ℕ → List Bool → List (Option ℕ)
+used_among (x ∷ xs) (true ∷ us) = Some x ∷ used_among xs us
+used_among (x ∷ xs) (false ∷ us) = None ∷ used_among xs us
+used_among xs us = []
+
+-- of the locals of a function, by their indices, those that are used, each with its index
+abbrev pub used_listed : List ℕ → List Bool → List (ℕ × ℕ)
+used_listed ids used = entries (used_among ids used)
 
 -- one with its index
 abbrev pub local_entry : List (Option Local) → ℕ × ℕ → Option (ℕ × Name)
@@ -82,13 +88,6 @@ names_said p plan first bodies = record {
 -- the index of the first function that the module defines
 abbrev pub first_own : Plan → ℕ
 first_own plan = length plan.brought_functions.items
-
--- used locals, by their places
-abbrev pub used_seen : List (ℕ × Id LocalKey) → List (ℕ × ℕ)
-used_seen used = map (λ u. (u.0, place u.1)) used
-
-abbrev pub body_used : WrittenBody → List (ℕ × ℕ)
-body_used body = used_seen body.used.items
 
 -- names, where they are chosen
 abbrev pub if_chosen : Bool → NameText → NameText

@@ -5,5 +5,5 @@ mod locals;
 mod named;
 mod payload;
 
-pub use locals::WrittenBody;
-pub use payload::names_payload;
+pub use locals::push_local_names;
+pub use payload::{first_index, names_payload};

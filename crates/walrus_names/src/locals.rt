@@ -1,28 +1,18 @@
 //! The names of the used locals of functions, lent ("Appendix > Custom Sections > Name Section").
-ghost use Rattle.std.specs.Prelude.{◌≡◌, ◌<◌, ◌+◌, ◌^◌, IfOk, IsOkUnless, OnOk, length, map};
+ghost use Rattle.std.specs.Prelude.{[], ◌∷◌, ◌≡◌, ◌<◌, ◌≤◌, ◌^◌, ◌++◌, IfOk, IsOkUnless, OnOk, length, map};
 ghost use Rattle.wasm_payloads.specs.Lent.{entry, locals_entry, text_of};
+ghost use Rattle.walrus_base.specs.Arena.{entries_from};
 ghost use Rattle.walrus_base.specs.Id.{place};
 ghost use Rattle.walrus_types.specs.Locals.{locals};
 ghost use Rattle.walrus_parts.specs.Errors.{out_of_memory};
-ghost use Rattle.walrus_names.specs.Names.{all_local_names, body_used, local_name, local_names, used_seen};
+ghost use Rattle.walrus_names.specs.Names.{local_name, local_names, used_among, used_listed};
 ghost use Rattle.walrus_names.specs.Pushed.{with_map};
 
 use crate::named::lent;
 use std::alloc::Global;
-use walrus_ir::{InstrLocId, LocalId, ModuleLocals};
+use walrus_ir::{LocalId, ModuleLocals};
 use walrus_parts::Result;
 use wasm_payloads::{RawLocals, RawName};
-
-/// The body of a function as it is written.
-#[derive(Drop)]
-pub struct WrittenBody {
-    /// Its bytes.
-    pub bytes: Vec<u8>,
-    /// The locals that its operators name, each with its index, by rising index.
-    pub used: Vec<(u32, LocalId)>,
-    /// The location of each operator, beside the place of its first byte, counted from the front of the body. Empty where these aren't asked for.
-    pub places: Vec<(InstrLocId, usize)>,
-}
 
 // The name of the local of this id, if it is there and has one.
 fn name_of_local(all: &ModuleLocals, id: LocalId) -> Option<&str>
@@ -34,24 +24,50 @@ fn name_of_local(all: &ModuleLocals, id: LocalId) -> Option<&str>
     lent(&all.get(id).name)
 }
 
-// Of these locals with their indices, those that have a name.
+// Puts the name of a local behind others, under its index, where the local is used and has one.
+fn push_name<'a>(
+    to: &mut Vec<RawName<'a>>,
+    all: &'a ModuleLocals,
+    used: bool,
+    index: usize,
+    id: LocalId,
+) -> Result<()>
+    requires { index < 2 ^ 32 }
+    ensures value { OnOk result (map entry to.new.items ≡ map entry to.old.items
+        ++ local_names (locals all.now) (entries_from index (used_among (place id ∷ []) (used ∷ [])))) }
+    ensures fails { IsOkUnless result out_of_memory }
+{
+    if !used {
+        return Ok(());
+    }
+    let Some(name) = name_of_local(all, id) else {
+        return Ok(());
+    };
+    to.push(RawName {
+        index: index as u32,
+        name,
+    })?;
+    Ok(())
+}
+
+// Of a function's locals, by their indices, the names of those that are used and have one.
 fn named_locals<'a>(
     alloc: Global,
     all: &'a ModuleLocals,
-    used: &[(u32, LocalId)],
+    order: &[LocalId],
+    used: &[bool],
 ) -> Result<Vec<RawName<'a>>>
+    requires few { length order.now ≤ 2 ^ 32 }
+    requires as_many { length used.now ≡ length order.now }
     ensures value { IfOk result (λ raw. map entry raw.items
-        ≡ local_names (locals all.now) (used_seen used.now)) }
+        ≡ local_names (locals all.now) (used_listed (map place order.now) used.now)) }
     ensures fails { IsOkUnless result out_of_memory }
 {
     let mut raw = Vec::new(alloc);
-    'locals: for (index, id) in used {
-        if let Some(name) = name_of_local(all, *id) {
-            raw.push(RawName {
-                index: *index,
-                name,
-            })?;
-        }
+    let mut index: usize = 0;
+    'locals: for id in order {
+        push_name(&mut raw, all, used[index], index, *id)?;
+        index += 1;
     }
     Ok(raw)
 }
@@ -73,25 +89,23 @@ fn push_locals<'a>(
     Ok(())
 }
 
-/// The names of the used locals of each of these bodies, under the indices of their functions, of which this is the first. Want of memory is
-/// the only refusal.
-pub fn locals_along<'a>(
+/// Puts the names of a function's used locals behind others, where there are any: of its locals, which are given by their indices, with which
+/// of them are used. Want of memory is the only refusal.
+pub fn push_local_names<'a>(
     alloc: Global,
     all: &'a ModuleLocals,
-    first: u32,
-    bodies: &[WrittenBody],
-) -> Result<Vec<RawLocals<'a>>>
-    requires few { first + length bodies.now < 2 ^ 32 }
-    ensures value { IfOk result (λ raw. map locals_entry raw.items
-        ≡ all_local_names (locals all.now) first (map body_used bodies.now)) }
+    function: u32,
+    order: &[LocalId],
+    used: &[bool],
+    to: &mut Vec<RawLocals<'a>>,
+) -> Result<()>
+    requires few { length order.now ≤ 2 ^ 32 }
+    requires as_many { length used.now ≡ length order.now }
+    ensures value { OnOk result (map locals_entry to.new.items
+        ≡ with_map (map locals_entry to.old.items) function
+        (local_names (locals all.now) (used_listed (map place order.now) used.now))) }
     ensures fails { IsOkUnless result out_of_memory }
 {
-    let mut raw = Vec::new(alloc);
-    let mut function = first;
-    'bodies: for body in bodies {
-        let names = named_locals(alloc, all, body.used.as_slice())?;
-        push_locals(&mut raw, function, names)?;
-        function += 1;
-    }
-    Ok(raw)
+    let names = named_locals(alloc, all, order, used)?;
+    push_locals(to, function, names)
 }

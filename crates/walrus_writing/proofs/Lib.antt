@@ -20,6 +20,7 @@ pub mod ImportsIndexed
 pub mod ImportsStand
 pub mod Indexed
 pub mod ItemsLeft
+pub mod JoinedBodies
 pub mod LastPlaces
 pub mod LocatedBodies
 pub mod LocatedLoops
@@ -54,12 +55,12 @@ pub mod Spelled
 pub mod SpellsLemmas
 pub mod TableRecords
 pub mod TextStands
+pub mod TooMany
 pub mod TransformAnswers
 pub mod TransformTold
 pub mod TransformTrue
 pub mod TypeRefusals
 pub mod TypesEntered
-pub mod UsedLeft
 pub mod UsedRows
 pub mod WithCustoms
 pub mod WrittenAs

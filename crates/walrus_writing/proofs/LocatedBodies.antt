@@ -1,5 +1,5 @@
 -- The offsets of the operators of bodies that are written.
-use Rattle.std.proofs.Common.{◌≡◌, ℕ, ◌+◌, ◌≤◌, Bool, List, [], ◌∷◌, ◌++◌, length, map, sym, ap, ◌∙◌, subst, arith, Some, length-append}
+use Rattle.std.proofs.Common.{◌≡◌, ℕ, ◌+◌, ◌≤◌, Bool, List, [], ◌∷◌, ◌++◌, length, map, refl, sym, ap, ◌∙◌, subst, arith, Some, length-append}
 use Rattle.std.specs.Prelude.{All, Option, option_map, slice_get}
 use Rattle.std.specs.List.{AllZip}
 use Rattle.std.proofs.lemmas.List.Elements.{All-cons, All-head, All-nil, All-tail}
@@ -22,11 +22,12 @@ use Rattle.walrus_contents.proofs.Lookups.{got_map, mapped_some}
 use Rattle.walrus_items.specs.Functions.{functions}
 use Rattle.walrus_model.proofs.Lists.{map-map}
 use Rattle.walrus_model.proofs.Standing.{some_inj, zip_right}
-use Rattle.walrus_names.specs.declared.locals.WrittenBody.{WrittenBody}
 use Rattle.walrus_parts.specs.Transform.{location_of}
 use Rattle.walrus_writing.specs.Located.{AreOffsets}
-use Rattle.walrus_writing.specs.Parts.{IsWrittenBody, local_in, source}
+use Rattle.walrus_writing.specs.Bodies.{AreBodies}
+use Rattle.walrus_writing.specs.Parts.{BodySeen, HasBytes, local_in, source, used_locals}
 use Rattle.walrus_writing.specs.Transform.{OperatorsStandAt, locations_in}
+use Rattle.walrus_writing.specs.declared.offsets.LocatedBody.{LocatedBody}
 
 -- ---- one body
 
@@ -77,30 +78,51 @@ moved_within start size (o ∷ places) h =
 -- ---- all bodies
 
 module _ (p : Parts) (names : Lookup) (features : Features) where
-  abbrev pub Located : Id FunctionKey → WrittenBody → Type 0
-  Located id b = IsWrittenBody p names features (place id) b × AreOffsets p (place id) b.bytes.items (map location_of b.places.items)
+  abbrev pub Located : Id FunctionKey → LocatedBody → Type 0
+  Located id b = HasBytes p names features (place id) b.bytes.items × AreOffsets p (place id) b.bytes.items (map location_of b.places.items)
 
-  abbrev pub bytes_of : WrittenBody → List ℕ
+  abbrev pub bytes_of : LocatedBody → List ℕ
   bytes_of b = b.bytes.items
 
-  abbrev pub offsets_of : WrittenBody → List (ℕ × ℕ)
+  abbrev pub offsets_of : LocatedBody → List (ℕ × ℕ)
   offsets_of b = map location_of b.places.items
 
-  pub both_zip : (ids : List (Id FunctionKey)) (bs : List WrittenBody) → AllZip (λ id b. IsWrittenBody p names features (place id) b) ids bs
+  pub both_zip : (ids : List (Id FunctionKey)) (bs : List LocatedBody) → AllZip (λ id b. HasBytes p names features (place id) b.bytes.items) ids bs
       → AllZip (λ id b. AreOffsets p (place id) b.bytes.items (map location_of b.places.items)) ids bs → AllZip Located ids bs
   both_zip [] [] h k = tt
   both_zip [] (b ∷ bs) h k = elim h [ ]
   both_zip (i ∷ ids) [] h k = elim h [ ]
   both_zip (i ∷ ids) (b ∷ bs) h k = ((h.0, k.0), both_zip ids bs h.1 k.1)
 
-  pub offsets_told : (ids : List (Id FunctionKey)) (bs : List WrittenBody) → AllZip Located ids bs → (k f : ℕ) (b : List ℕ) → slice_get (map place ids) k ≡ Some f → slice_get (map bytes_of bs) k ≡ Some b
+  -- they are bodies with their used locals
+  pub seen_in : (ids : List (Id FunctionKey)) (bs : List LocatedBody) → AllZip (λ id b. HasBytes p names features (place id) b.bytes.items) ids bs → List BodySeen
+  seen_in [] [] h = []
+  seen_in [] (b ∷ bs) h = []
+  seen_in (i ∷ ids) [] h = []
+  seen_in (i ∷ ids) (b ∷ bs) h = record { bytes = b.bytes.items; used = used_locals h.0 } ∷ seen_in ids bs h.1
+
+  pub seen_are : (ids : List (Id FunctionKey)) (bs : List LocatedBody) (h : AllZip (λ id b. HasBytes p names features (place id) b.bytes.items) ids bs) → AreBodies p names features ids (seen_in ids bs h)
+  unfolding seen_in
+  seen_are [] [] h = tt
+  seen_are [] (b ∷ bs) h = elim h [ ]
+  seen_are (i ∷ ids) [] h = elim h [ ]
+  seen_are (i ∷ ids) (b ∷ bs) h = ((h.0, refl), seen_are ids bs h.1)
+
+  pub seen_texts : (ids : List (Id FunctionKey)) (bs : List LocatedBody) (h : AllZip (λ id b. HasBytes p names features (place id) b.bytes.items) ids bs) → map (λ (b : BodySeen). b.bytes) (seen_in ids bs h) ≡ map bytes_of bs
+  unfolding seen_in
+  seen_texts [] [] h = refl
+  seen_texts [] (b ∷ bs) h = elim h [ ]
+  seen_texts (i ∷ ids) [] h = elim h [ ]
+  seen_texts (i ∷ ids) (b ∷ bs) h = ap (λ (l : List (List ℕ)). b.bytes.items ∷ l) (seen_texts ids bs h.1)
+
+  pub offsets_told : (ids : List (Id FunctionKey)) (bs : List LocatedBody) → AllZip Located ids bs → (k f : ℕ) (b : List ℕ) → slice_get (map place ids) k ≡ Some f → slice_get (map bytes_of bs) k ≡ Some b
       → (o : List (ℕ × ℕ)) × (slice_get (map offsets_of bs) k ≡ Some o) × AreOffsets p f b o
   offsets_told ids bs h k f b at to =
       let id = mapped_some place (slice_get ids k) f (sym (got_map place ids k) ∙ at) in
       let one = mapped_some bytes_of (slice_get bs k) b (sym (got_map bytes_of bs k) ∙ to) in
       let z = zip_right Located ids bs k id.0 h id.1 in
       let same : z.0 ≡ one.0 = some_inj z.0 one.0 (sym z.1 ∙ one.1) in
-      let moved : Located id.0 one.0 = subst (λ (l : WrittenBody). Located id.0 l) same z.2 in (
+      let moved : Located id.0 one.0 = subst (λ (l : LocatedBody). Located id.0 l) same z.2 in (
         offsets_of one.0,
         got_map offsets_of bs k ∙ ap (λ o. option_map offsets_of o) one.1,
         subst (λ (n : ℕ). AreOffsets p n b (offsets_of one.0)) (sym id.2) (subst (λ (l : List ℕ). AreOffsets p (place id.0) l (offsets_of one.0)) (sym one.2) moved.1),

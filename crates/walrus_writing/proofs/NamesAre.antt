@@ -28,13 +28,13 @@ use Rattle.walrus_model.specs.Refers.{IsUsed}
 use Rattle.walrus_model.specs.Renaming.{Renaming, renamed}
 use Rattle.walrus_model.proofs.Indices.{found_at, planned_index, planned_stands}
 use Rattle.walrus_model.proofs.Standing.{got_where, some_inj, stands_at}
-use Rattle.walrus_names.specs.Names.{filled, if_chosen, item_name, local_name, local_names}
+use Rattle.walrus_names.specs.Names.{filled, if_chosen, item_name, local_name, local_names, used_among}
 use Rattle.walrus_names.proofs.PlacedNames.{given, given_filled, gives_at, item_of_map, item_through, looked_entries, none_below}
 use Rattle.walrus_rules.specs.Examples.{no_names}
 use Rattle.walrus_rules.specs.Namings.{is_in_range, names_given, names_in_range, space_of}
 use Rattle.walrus_rules.specs.Text.{NameMap, NameText, namings_of}
 use Rattle.walrus_rules.proofs.OneName.{looked, looked_at, looked_in}
-use Rattle.walrus_writing.specs.Parts.{source, used_among}
+use Rattle.walrus_writing.specs.Parts.{source}
 use Rattle.walrus_writing.specs.Records.{Records, names_written}
 use Rattle.walrus_writing.specs.declared.write.Choices.{Choices}
 use Rattle.walrus_rules.proofs.OneNaming.{all_given, item_given, local_given, module_given}

@@ -20,7 +20,7 @@ use Rattle.walrus_model.specs.Abstract.{Abstract, ALocal, AnItem, Name}
 use Rattle.walrus_model.specs.Ordered.{StandsFor}
 use Rattle.walrus_model.specs.Spaces.{SameThing, Thing, look}
 use Rattle.walrus_model.proofs.Standing.{got_in, some_inj}
-use Rattle.walrus_names.specs.Names.{filled, if_chosen, item_name, item_names, local_name, local_names, names_said}
+use Rattle.walrus_names.specs.Names.{filled, if_chosen, item_name, item_names, local_name, local_names, names_said, used_among}
 use Rattle.walrus_names.proofs.PlacedNames.{each_entry, all_entries, entries_rise_from, item_through, map_of_item, named_through}
 use Rattle.walrus_names.proofs.TextNames.{item_stands, local_stands, module_stands, stands_some}
 use Rattle.walrus_rules.specs.Examples.{no_names}
@@ -28,7 +28,6 @@ use Rattle.walrus_rules.specs.Namings.{is_in_range, naming_of, space_of}
 use Rattle.walrus_rules.specs.Spelling.{MapStands, NamesStand}
 use Rattle.walrus_rules.specs.Text.{NameMap, NameText, function_namings, further_spaces, module_naming, namings_of, space_namings}
 use Rattle.walrus_rules.proofs.WorkedParts.{all_one}
-use Rattle.walrus_writing.specs.Parts.{used_among}
 use Rattle.walrus_writing.specs.Records.{Records, names_written}
 use Rattle.walrus_writing.specs.declared.write.Choices.{Choices}
 use Rattle.walrus_writing.proofs.CarriedOver.{written_along}

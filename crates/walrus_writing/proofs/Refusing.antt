@@ -55,8 +55,7 @@ use Rattle.walrus_parts.specs.declared.error.Error.{Error}
 use Rattle.walrus_parts.specs.declared.error.Error.TheVariants as Parts_error
 use Rattle.walrus_rules.specs.Spelling.{IsCount}
 use Rattle.walrus_rules.specs.Text.{NameText, raw_field}
-use Rattle.walrus_names.specs.Names.{body_used, first_own, if_chosen, names_said}
-use Rattle.walrus_names.specs.declared.locals.WrittenBody.{WrittenBody}
+use Rattle.walrus_names.specs.Names.{first_own, if_chosen, names_said}
 use Rattle.wasm_frames.specs.Frames.{CustomSection}
 use Rattle.wasm_writer.specs.Spelling.{SectionFits, count_place, range_of}
 use Rattle.wasm_writer.specs.declared.places.CodePlaces.{CodePlaces}
@@ -64,7 +63,8 @@ use Rattle.wasm_wire.specs.declared.written.CustomGroup.TheVariants.{Dylink}
 use Rattle.walrus_rules.proofs.OneList.{All-front}
 use Rattle.walrus_writing.specs.Located.{ArePlaces}
 use Rattle.walrus_writing.specs.Customs.{Task, chosen_producers, sections_made}
-use Rattle.walrus_writing.specs.Parts.{IsWrittenBody, export_with_index, memory_limits, tag_index, type_index, unplaced}
+use Rattle.walrus_writing.specs.Bodies.{AreBodies}
+use Rattle.walrus_writing.specs.Parts.{BodySeen, export_with_index, memory_limits, tag_index, type_index, unplaced}
 use Rattle.walrus_plan.specs.Brought.{import_numbers, own_of, own_places, places_brought}
 use Rattle.walrus_writing.specs.Imported.{IsEntryAt}
 use Rattle.walrus_plan.specs.Places.{places, places_own}
@@ -137,7 +137,7 @@ seen_by_places {T} {X} {W} seen_as f slots =
     ∙ seen_by_own (λ (t : T). None) seen_as f slots
     ∙ ap (map (λ (t : T). f (seen_as t))) (all_own (items slots))
 
-module _ (p : Parts) (job : Task) (names : Lookup) (named : names ≡ job.names) (plan : Plan) (raws : List (Vec RawSub)) (raw_imports : List RawImport) (raw_functions : List ℕ) (raw_tables : List RawTable) (raw_memories : List RawLimits) (raw_tags : List ℕ) (raw_globals : List RawGlobal) (exported : List RawExport) (bodies : List WrittenBody) (raw_elements : List RawElement) (raw_segments : List RawData) (count : Option ℕ)
+module _ (p : Parts) (job : Task) (names : Lookup) (named : names ≡ job.names) (plan : Plan) (raws : List (Vec RawSub)) (raw_imports : List RawImport) (raw_functions : List ℕ) (raw_tables : List RawTable) (raw_memories : List RawLimits) (raw_tags : List ℕ) (raw_globals : List RawGlobal) (exported : List RawExport) (bodies : List BodySeen) (raw_elements : List RawElement) (raw_segments : List RawData) (count : Option ℕ)
     (matched : ImportsMatch (parts_view p)) (reads : ReadsInOrder (parts_view p))
     (is_plan : IsPlan (parts_view p) (places plan)) (numbered : AreNumbered names (places plan)) (few : (s : Space) → length (places plan s) < 2 ^ 32)
     (types : map place plan.types.items ≡ map (λ e. e.0) (entries_in (type_slots p.types.now)))
@@ -161,7 +161,7 @@ module _ (p : Parts) (job : Task) (names : Lookup) (named : names ≡ job.names)
     (exports_are : map (λ e. Some (export_entry e)) exported ≡ map (λ v. export_with_index names (export_of v)) (items (exports p.exports.now)))
     (texts : All (λ e. IsUtf8 e.name.now) exported)
     (started : Option ℕ) (start_is : option_map (λ (i : ℕ). Some i) started ≡ option_map (names Functions) (parts_view p).start)
-    (bodies_are : AllZip (λ id body. IsWrittenBody p names job.choices.features (place id) body) plan.own_functions.items bodies)
+    (bodies_are : AreBodies p names job.choices.features plan.own_functions.items bodies)
     (elements_rise : map place plan.elements.items ≡ map (λ e. e.0) (entries_in (elements p.elements.now)))
     (elements_are : map (λ e. Some (said.element_of (element_entry e))) raw_elements ≡ map (λ e. named_element names (element_of e)) (items (elements p.elements.now)))
     (elements_stand : All (λ e. ElementStands (element_entry e)) raw_elements)
@@ -229,7 +229,7 @@ module _ (p : Parts) (job : Task) (names : Lookup) (named : names ≡ job.names)
         made_twice said.global_of global_entry raw_globals ∙ globals_are ∙ sym (seen_by_own (λ (g : GlobalValue). g.imported_by) global_of (named_global names) (globals p.globals.now));
     globals_stand = All-map GlobalStands global_entry raw_globals globals_stand;
     globals_spelled = globals_all_spelled p matched names (map import_entry raw_imports) imports_are globals_spelled;
-    bodies = map (λ (b : WrittenBody). b.bytes.items) bodies;
+    bodies = map (λ (b : BodySeen). b.bytes) bodies;
     bodies_are = bytes_zip p names job.choices.features plan.own_functions.items bodies bodies_are;
     exports = map export_entry exported;
     exports_are = map-map (λ (e : entries.Export). Some e) export_entry exported ∙ exports_are ∙ sym (map-map (export_with_index names) export_of (items (exports p.exports.now)));
@@ -254,7 +254,7 @@ module _ (p : Parts) (job : Task) (names : Lookup) (named : names ≡ job.names)
 
   -- what the name section says
   abbrev names_given : NameText
-  names_given = if_chosen job.choices.names (names_said p (places plan) (first_own plan) (map body_used bodies))
+  names_given = if_chosen job.choices.names (names_said p (places plan) (first_own plan) (map (λ (b : BodySeen). b.used) bodies))
 
   first_same : first_own plan ≡ length (places plan Functions) - length (places_own p plan Functions)
   first_same = omega (arith, length-append (map place plan.brought_functions.items) (map place plan.own_functions.items), length-map plan.brought_functions.items place)
@@ -276,7 +276,7 @@ module _ (p : Parts) (job : Task) (names : Lookup) (named : names ≡ job.names)
   })
 
   -- the module of these sections
-  module _ (order : List ℕ) (code : List wire.Body) (customs : List wire.Custom) (none : order ≡ []) (codes : code ≡ map (λ (b : WrittenBody). unplaced b.bytes.items) bodies) (customs_are : customs ≡ job.sections ++ sections_made names_given producers_chosen) where
+  module _ (order : List ℕ) (code : List wire.Body) (customs : List wire.Custom) (none : order ≡ []) (codes : code ≡ map unplaced (map (λ (b : BodySeen). b.bytes) bodies)) (customs_are : customs ≡ job.sections ++ sections_made names_given producers_chosen) where
     abbrev with_rest : List wire.Body → List wire.Custom → wire.Module
     with_rest all behind = sections_with (map group raws) (map import_entry raw_imports) raw_functions (map table_entry raw_tables) raw_memories raw_tags (map global_entry raw_globals) (map export_entry exported) started (map element_entry raw_elements) count all (map data_entry raw_segments) behind
 
@@ -286,8 +286,8 @@ module _ (p : Parts) (job : Task) (names : Lookup) (named : names ≡ job.names)
     module_is : m ≡ module_of records_of (customs_written job records_of)
     module_is =
         ap (λ (ids : List ℕ). record (with_rest code customs) { order = ids }) none
-        ∙ ap (λ (all : List wire.Body). with_rest all customs) (codes ∙ sym (map-map unplaced (λ (b : WrittenBody). b.bytes.items) bodies))
-        ∙ ap (with_rest (map unplaced (map (λ (b : WrittenBody). b.bytes.items) bodies))) (customs_are ∙ ap (λ (names : NameText). job.sections ++ sections_made names producers_chosen) names_same)
+        ∙ ap (λ (all : List wire.Body). with_rest all customs) codes
+        ∙ ap (with_rest (map unplaced (map (λ (b : BodySeen). b.bytes) bodies))) (customs_are ∙ ap (λ (names : NameText). job.sections ++ sections_made names producers_chosen) names_same)
 
     pub records_written : (bytes : List ℕ) → bytes ≡ module_bytes m → ModuleFits m → Spells p job bytes
     records_written bytes are fit = record { records = records_of; names_are = named; fit = subst ModuleFits module_is fit; are = are ∙ ap module_bytes module_is }
@@ -298,7 +298,7 @@ module _ (p : Parts) (job : Task) (names : Lookup) (named : names ≡ job.names)
     records_refused X Wire.TooLarge refused = inr (record { records = records_of; names_are = named; too_large = λ fit. refused (subst ModuleFits (sym module_is) fit) })
 
   -- the module of these sections with other custom sections: those of dynamic linking alone
-  module _ (order : List ℕ) (code : List wire.Body) (customs dylinks : List wire.Custom) (none : order ≡ []) (codes : code ≡ map (λ (b : WrittenBody). unplaced b.bytes.items) bodies) (customs_are : customs ≡ dylinks) where
+  module _ (order : List ℕ) (code : List wire.Body) (customs dylinks : List wire.Custom) (none : order ≡ []) (codes : code ≡ map unplaced (map (λ (b : BodySeen). b.bytes) bodies)) (customs_are : customs ≡ dylinks) where
     abbrev part_with : List wire.Body → List wire.Custom → wire.Module
     part_with all front = sections_with (map group raws) (map import_entry raw_imports) raw_functions (map table_entry raw_tables) raw_memories raw_tags (map global_entry raw_globals) (map export_entry exported) started (map element_entry raw_elements) count all (map data_entry raw_segments) front
 
@@ -308,10 +308,10 @@ module _ (p : Parts) (job : Task) (names : Lookup) (named : names ≡ job.names)
     part_is : part ≡ module_of records_of dylinks
     part_is =
         ap (λ (ids : List ℕ). record (part_with code customs) { order = ids }) none
-        ∙ ap (λ (all : List wire.Body). part_with all customs) (codes ∙ sym (map-map unplaced (λ (b : WrittenBody). b.bytes.items) bodies))
-        ∙ ap (part_with (map unplaced (map (λ (b : WrittenBody). b.bytes.items) bodies))) customs_are
+        ∙ ap (λ (all : List wire.Body). part_with all customs) codes
+        ∙ ap (part_with (map unplaced (map (λ (b : BodySeen). b.bytes) bodies))) customs_are
 
-    pub places_told : (places : CodePlaces) (texts_of : List (List ℕ)) → map (λ (b : WrittenBody). b.bytes.items) bodies ≡ texts_of → TellsPlaces (Ok places) part
+    pub places_told : (places : CodePlaces) (texts_of : List (List ℕ)) → map (λ (b : BodySeen). b.bytes) bodies ≡ texts_of → TellsPlaces (Ok places) part
         → ArePlaces p names job.choices.features (map place plan.own_functions.items) texts_of dylinks places
     places_told places texts_of same told = record {
       records = records_of;

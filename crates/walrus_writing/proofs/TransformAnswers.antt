@@ -36,7 +36,7 @@ use Rattle.walrus_plan.specs.Reads.{ReadsInOrder}
 use Rattle.walrus_rules.specs.Refused as causes
 use Rattle.walrus_rules.specs.Refused.{IsSayable, Refusal, RefusesToWrite}
 use Rattle.walrus_writing.specs.declared.write.Choices.{Choices}
-use Rattle.walrus_names.specs.declared.locals.WrittenBody.{WrittenBody}
+use Rattle.walrus_writing.specs.declared.offsets.LocatedBody.{LocatedBody}
 use Rattle.walrus_writing.specs.Customs.{Task, task}
 use Rattle.walrus_writing.specs.Located.{ArePlaces, AreSorted, LastPlaces, all_placed_from, by_ends, ends_of}
 use Rattle.walrus_writing.specs.Parts.{unplaced}
@@ -50,11 +50,11 @@ use Rattle.walrus_writing.proofs.TransformTold.{Offsets, is_transform_of, placed
 
 -- ---- operators stand within the ranges of their bodies
 
-abbrev pub IsWithin : Range ℕ → WrittenBody → Type 0
+abbrev pub IsWithin : Range ℕ → LocatedBody → Type 0
 IsWithin range b = All (λ (o : InstrLocId × ℕ). range.start + o.1 ≤ range.end) b.places.items
 
 module _ (p : Parts) (names : Lookup) (features : Features) where
-  within_from : (n : ℕ) (ids : List (Id FunctionKey)) (bs : List WrittenBody) → AllZip (Located p names features) ids bs → AllZip IsWithin (map range_of (placed_bodies n (map unplaced (map (bytes_of p names features) bs)))) bs
+  within_from : (n : ℕ) (ids : List (Id FunctionKey)) (bs : List LocatedBody) → AllZip (Located p names features) ids bs → AllZip IsWithin (map range_of (placed_bodies n (map unplaced (map (bytes_of p names features) bs)))) bs
   within_from n [] [] h = tt
   within_from n [] (b ∷ bs) h = elim h [ ]
   within_from n (i ∷ ids) [] h = elim h [ ]
@@ -63,7 +63,7 @@ module _ (p : Parts) (names : Lookup) (features : Features) where
     within_from (n + length (body_bytes (unplaced (bytes_of p names features b)))) ids bs h.1,
   )
 
-  module _ (ids : List (Id FunctionKey)) (bs : List WrittenBody) (located : AllZip (Located p names features) ids bs) (customs : List wire.Custom) (places : CodePlaces)
+  module _ (ids : List (Id FunctionKey)) (bs : List LocatedBody) (located : AllZip (Located p names features) ids bs) (customs : List wire.Custom) (places : CodePlaces)
       (at : ArePlaces p names features (map place ids) (map (bytes_of p names features) bs) customs places) where
     abbrev base : ℕ
     base = first_body (code_place (module_of at.records customs)) (map unplaced at.records.bodies)
@@ -87,7 +87,7 @@ module _ (p : Parts) (names : Lookup) (features : Features) where
 -- ---- what is told
 
 module _ (p : Parts) (lives : HasDead (parts_view p) → ⊥) (declared : NothingUndeclared (parts_view p)) (names : Lookup) (choices : Choices) where
-  module _ (ids : List (Id FunctionKey)) (bs : List WrittenBody) (located : AllZip (Located p names choices.features) ids bs) (dylinks : List wire.Custom) (places : CodePlaces)
+  module _ (ids : List (Id FunctionKey)) (bs : List LocatedBody) (located : AllZip (Located p names choices.features) ids bs) (dylinks : List wire.Custom) (places : CodePlaces)
       (at : ArePlaces p names choices.features (map place ids) (map (bytes_of p names choices.features) bs) dylinks places) where
     abbrev rest : List (List (ℕ × ℕ))
     rest = map (offsets_of p names choices.features) bs

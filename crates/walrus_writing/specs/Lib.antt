@@ -1,3 +1,4 @@
+pub mod Bodies
 pub mod Customs
 pub mod Elements
 pub mod Emitted

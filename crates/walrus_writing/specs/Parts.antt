@@ -5,7 +5,6 @@ use Rattle.wasm_entries.specs.declared.record.RawLimits.{RawLimits}
 use Rattle.wasm_entries.specs.declared.record.RawExportKind.TheVariants as kinds
 use Rattle.std.specs.Prelude.{ℕ, Bool, true, false, List, [], ◌∷◌, Option, Some, None, option_map, option_and_then, ◌≡◌}
 use Rattle.wasm_frames.specs.Record as wire
-use Rattle.walrus_base.specs.Arena as arena
 use Rattle.walrus_base.specs.Arena.{item_at}
 use Rattle.walrus_base.specs.Id.{place}
 use Rattle.walrus_base.specs.Types.{ValType}
@@ -22,8 +21,7 @@ use Rattle.walrus_contents.specs.View.{body, parts_view}
 use Rattle.walrus_contents.specs.declared.parts.Parts.{Parts}
 use Rattle.walrus_model.specs.Abstract as abstract
 use Rattle.walrus_model.specs.Abstract.{Body, Function}
-use Rattle.walrus_names.specs.Names.{body_used}
-use Rattle.walrus_names.specs.declared.locals.WrittenBody.{WrittenBody}
+use Rattle.walrus_names.specs.Names.{used_listed}
 
 -- the types of the locals of these parts, by their places
 abbrev pub slots_of : Parts → List (Option (ValType ℕ))
@@ -112,19 +110,18 @@ pub record IsIndexed (p : Parts) (names : Lookup) (features : Features) (number 
   pub is : (parts_view p).functions number ≡ Some (function_seen p local)
   pub indexed : LacksAnIndex (source p names features local) → ⊥
 
--- those of these locals that are used
-abbrev pub used_among : List ℕ → List Bool → List (Option ℕ)
-used_among (x ∷ xs) (true ∷ us) = Some x ∷ used_among xs us
-used_among (x ∷ xs) (false ∷ us) = None ∷ used_among xs us
-used_among xs us = []
-
 -- the used locals of a function, each with its index
 abbrev pub used_locals : {p : Parts} {names : Lookup} {features : Features} {number : ℕ} {bytes : List ℕ} → HasBytes p names features number bytes → List (ℕ × ℕ)
-used_locals b = arena.entries (used_among b.ids b.used)
+used_locals b = used_listed b.ids b.used
+
+-- a body as it is written: its bytes, and its used locals, each with its index
+pub record BodySeen : Type 0 where
+  pub bytes : List ℕ
+  pub used : List (ℕ × ℕ)
 
 -- the body is that of the function at a place, with its used locals
-abbrev pub IsWrittenBody : Parts → Lookup → Features → ℕ → WrittenBody → Type 0
-IsWrittenBody p names features number body = (b : HasBytes p names features number body.bytes.items) × (body_used body ≡ used_locals b)
+abbrev pub IsWrittenBody : Parts → Lookup → Features → ℕ → BodySeen → Type 0
+IsWrittenBody p names features number body = (b : HasBytes p names features number body.bytes) × (body.used ≡ used_locals b)
 
 -- a body's bytes, wherever they lie
 abbrev pub unplaced : List ℕ → wire.Body

@@ -1,5 +1,5 @@
 -- Why items that name nothing dead, and that have a plan, can't be written.
-use Rattle.std.specs.Prelude.{ℕ, List, Option, Some, Contains, ◌≡◌, ◌<◌, ◌^◌, ◌⊎◌, ⊤, Result, Ok, Err}
+use Rattle.std.specs.Prelude.{ℕ, List, Option, Some, Contains, ◌≡◌, ◌⊎◌, ⊤, Result, Ok, Err}
 use Rattle.walrus_base.specs.Arena.{items}
 use Rattle.walrus_types.specs.ModuleTypes.{type_slots}
 use Rattle.walrus_types.specs.TypeDef.{TypeDef}
@@ -67,9 +67,3 @@ RefusesBodies p features (Memory e) = ⊤
 RefusesBodies p features NotWritable = HasBody p features CantBeWritten
 RefusesBodies p features TooLarge = HasBody p features HasTooManyLocals
 RefusesBodies p features _ = ⊥
-
--- used locals are listed: an index passes 32 bits
-abbrev pub RefusesUsed : (locals : ℕ) → Error → Type 0
-RefusesUsed locals (Memory e) = ⊤
-RefusesUsed locals TooLarge = 2 ^ 32 < locals
-RefusesUsed locals _ = ⊥

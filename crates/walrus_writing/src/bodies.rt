@@ -1,33 +1,44 @@
-//! The bodies of functions, their bytes and their used locals ("Binary Format > Modules > Code Section").
-ghost use Rattle.std.specs.Prelude.{◌≡◌, ◌<◌, ◌^◌, [], ◌∷◌, ◌++◌, All, IfOk, IfErr, IsOkUnless, OnOk, length, map, option_map, true};
-ghost use Rattle.std.specs.List.{AllZip};
-ghost use Rattle.walrus_base.specs.Arena.{entries, entries_from};
+//! The bodies of functions, one behind another ("Binary Format > Modules > Code Section"), and the names of their used locals.
+ghost use Rattle.std.specs.Prelude.{◌≡◌, ◌<◌, ◌≤◌, ◌+◌, ◌^◌, ◌++◌, ℕ, List, All, IfErr, IfOk, IsOkUnless, OnOk, true, length, map, option_map, sum};
+ghost use Rattle.wasm_frames.specs.Record.{body_record};
+ghost use Rattle.wasm_payloads.specs.Lent.{locals_entry};
 ghost use Rattle.walrus_base.specs.Id.{place};
+ghost use Rattle.walrus_types.specs.Locals.{locals};
 ghost use Rattle.walrus_code.specs.Indices.{index_of};
 ghost use Rattle.walrus_items.specs.Functions.{functions};
-ghost use Rattle.walrus_names.specs.Names.{used_seen};
+ghost use Rattle.walrus_names.specs.Names.{local_names, used_listed};
+ghost use Rattle.walrus_names.specs.Pushed.{with_map};
 ghost use Rattle.walrus_parts.specs.Errors.{out_of_memory};
-ghost use Rattle.walrus_parts.specs.Transform.{location_of};
-ghost use Rattle.walrus_writing.specs.Located.{AreOffsets};
-ghost use Rattle.walrus_writing.specs.Parts.{local_in, IsIndexed, IsWrittenBody, used_among};
-ghost use Rattle.walrus_writing.specs.Refusals.{RefusesBodies, RefusesUsed};
+ghost use Rattle.walrus_writing.specs.Bodies.{AreWritten, appended_seen, texts_in, texts_of};
+ghost use Rattle.walrus_writing.specs.Parts.{local_in, unplaced, IsIndexed, IsWrittenBody};
+ghost use Rattle.walrus_writing.specs.Refusals.{RefusesBodies};
 
+use crate::joined::WrittenBodies;
 use std::alloc::Global;
 use walrus_contents::Parts;
-use walrus_functions::emit_body_with;
-use walrus_ir::{Features, FunctionId, IdsToIndices, LocalFunction, LocalId};
+use walrus_functions::{AppendedBody, append_body, likely_length};
+use walrus_ir::{Features, FunctionId, IdsToIndices, LocalFunction};
 use walrus_items::{FunctionKind, ModuleFunctions};
-use walrus_names::WrittenBody;
+use walrus_names::push_local_names;
 use walrus_parts::{Error, Result};
+use wasm_payloads::RawLocals;
+use wasm_wire::RawBody;
 
-/// What bodies are written under: the module's parts, the indices of its items, the proposals that bodies may use, and whether the places of
-/// their operators are asked for.
+/// What bodies are written under: the module's parts, the indices of its items, and the proposals that bodies may use.
 #[derive(Clone, Copy)]
 pub struct Indexed<'a, 'b, 'c> {
     pub parts: Parts<'a>,
     pub indices: &'b IdsToIndices,
     pub features: &'c Features,
-    pub asks_places: bool,
+}
+
+/// The bodies of functions, and the names of their used locals.
+#[derive(Drop)]
+pub struct NamedBodies<'a> {
+    /// The bodies.
+    pub bodies: WrittenBodies,
+    /// The names, of each function that has some.
+    pub named: Vec<RawLocals<'a>>,
 }
 
 /// The body at a place, if a function with one is there.
@@ -43,89 +54,133 @@ pub fn local_of(funcs: &ModuleFunctions, id: FunctionId) -> Option<&LocalFunctio
     }
 }
 
-// Puts a local behind others, with its index, where it is used.
-fn push_used(to: &mut Vec<(u32, LocalId)>, used: bool, index: usize, id: LocalId) -> Result<()>
-    requires { index < 2 ^ 32 }
-    ensures value { OnOk result (used_seen to.new.items ≡ used_seen to.old.items
-        ++ entries_from index (used_among (place id ∷ []) (used ∷ []))) }
-    ensures fails { IsOkUnless result out_of_memory }
-{
-    if !used {
-        return Ok(());
+// For how many bytes to reserve memory for the bodies of these functions.
+fn likely_lengths(funcs: &ModuleFunctions, order: &[FunctionId]) -> usize {
+    let mut total: usize = 0;
+    'order: for id in order {
+        if let Some(local) = local_of(funcs, *id) {
+            total = total.saturating_add(likely_length(local));
+        }
     }
-    to.push((index as u32, id))?;
-    Ok(())
+    total
 }
 
-// Of these locals, by rising index, those that are used, with their indices.
-fn used_of(alloc: Global, order: &[LocalId], used: &[bool]) -> Result<Vec<(u32, LocalId)>>
-    requires { length used.now ≡ length order.now }
-    ensures value { IfOk result (λ found. used_seen found.items
-        ≡ entries (used_among (map place order.now) used.now)) }
-    ensures fails { IfErr result (RefusesUsed (length order.now)) }
-{
-    if order.len() > 1 << 32 {
-        return Err(Error::TooLarge);
-    }
-    let mut found = Vec::new(alloc);
-    let mut index: usize = 0;
-    'locals: for id in order {
-        push_used(&mut found, used[index], index, *id)?;
-        index += 1;
-    }
-    Ok(found)
-}
-
-// The body of the function of this id, under these indices.
-fn one_body(alloc: Global, under: Indexed<'_, '_, '_>, id: FunctionId) -> Result<WrittenBody>
+// Appends the body of the function of this id, under these indices. Refused, what was appended means nothing.
+fn append_one(
+    alloc: Global,
+    under: Indexed<'_, '_, '_>,
+    id: FunctionId,
+    to: &mut Vec<u8>,
+) -> Result<AppendedBody>
     requires indexed { IsIndexed under.parts (index_of under.indices.now) under.features.now (place id) }
-    ensures value { IfOk result (IsWrittenBody under.entry.parts (index_of under.entry.indices.now)
-        under.entry.features.now (place id)) }
-    ensures located { under.entry.asks_places ≡ true → IfOk result (λ body. AreOffsets under.entry.parts
-        (place id) body.bytes.items (map location_of body.places.items)) }
+    ensures value { (text : List ℕ) × (IfOk result (λ body. (to.new.items ≡ to.old.items ++ text)
+        × IsWrittenBody under.entry.parts (index_of under.entry.indices.now) under.entry.features.now
+        (place id) (appended_seen text body))) }
+    ensures few { IfOk result (λ body. length body.order.items ≤ 2 ^ 32) }
+    ensures as_many { IfOk result (λ body. length body.used.items ≡ length body.order.items) }
     ensures fails { IfErr result (RefusesBodies under.entry.parts under.entry.features.now) }
 {
     let Some(local) = local_of(under.parts.funcs, id) else {
         unreachable!();
     };
-    let body = emit_body_with(
+    let body = append_body(
         alloc,
         local,
         under.parts.types,
         under.parts.locals,
         under.indices,
         under.features,
-        under.asks_places,
+        to,
     )?;
-    let used = used_of(alloc, body.order.as_slice(), body.used.as_slice())?;
-    Ok(WrittenBody {
-        bytes: body.bytes,
-        used,
-        places: body.places,
+    if body.order.len() > 1 << 32 {
+        return Err(Error::TooLarge);
+    }
+    Ok(body)
+}
+
+// Puts the names of a body's used locals behind others, where they are chosen.
+fn push_names<'a>(
+    alloc: Global,
+    parts: Parts<'a>,
+    chosen: bool,
+    function: u32,
+    body: &AppendedBody,
+    to: &mut Vec<RawLocals<'a>>,
+) -> Result<()>
+    requires few { length body.now.order.items ≤ 2 ^ 32 }
+    requires as_many { length body.now.used.items ≡ length body.now.order.items }
+    ensures value { chosen ≡ true → OnOk result (map locals_entry to.new.items
+        ≡ with_map (map locals_entry to.old.items) function (local_names (locals parts.entry.locals.now)
+        (used_listed (map place body.now.order.items) body.now.used.items))) }
+    ensures fails { IsOkUnless result out_of_memory }
+{
+    if !chosen {
+        return Ok(());
+    }
+    let order = body.order.as_slice();
+    let used = body.used.as_slice();
+    push_local_names(alloc, parts.locals, function, order, used, to)
+}
+
+/// Each function's body, in the order of the functions, of which the first has this index; and the names of their used locals, where these are
+/// chosen.
+pub fn written_bodies<'a>(
+    alloc: Global,
+    under: Indexed<'a, '_, '_>,
+    order: &[FunctionId],
+    first: u32,
+    chosen: bool,
+) -> Result<NamedBodies<'a>>
+    requires indexed { All (λ id.
+        IsIndexed under.parts (index_of under.indices.now) under.features.now (place id)) order.now }
+    requires few { first + length order.now < 2 ^ 32 }
+    ensures value { IfOk result (λ written. AreWritten under.entry.parts
+        (index_of under.entry.indices.now) under.entry.features.now order.now first chosen
+        written.bodies.bytes.items written.bodies.lengths.items (map locals_entry written.named.items)) }
+    ensures fails { IfErr result (RefusesBodies under.entry.parts under.entry.features.now) }
+{
+    let mut bytes = Vec::with_capacity(alloc, likely_lengths(under.parts.funcs, order))?;
+    let mut lengths = Vec::with_capacity(alloc, order.len())?;
+    let mut named = Vec::new(alloc);
+    let mut function = first;
+    'order: for id in order {
+        let before = bytes.len();
+        let body = append_one(alloc, under, *id, &mut bytes)?;
+        let size = bytes.len() - before;
+        lengths.push(size)?;
+        push_names(alloc, under.parts, chosen, function, &body, &mut named)?;
+        function += 1;
+    }
+    Ok(NamedBodies {
+        bodies: WrittenBodies { bytes, lengths },
+        named,
     })
 }
 
-/// Each function's body, in the order of the functions.
-pub fn written_bodies(
-    alloc: Global,
-    under: Indexed<'_, '_, '_>,
-    order: &[FunctionId],
-) -> Result<Vec<WrittenBody>>
-    requires indexed { All (λ id.
-        IsIndexed under.parts (index_of under.indices.now) under.features.now (place id)) order.now }
-    ensures value { IfOk result (λ bodies. AllZip (λ id body.
-        IsWrittenBody under.entry.parts (index_of under.entry.indices.now) under.entry.features.now
-        (place id) body)
-        order.now bodies.items) }
-    ensures located { under.entry.asks_places ≡ true → IfOk result (λ bodies. AllZip (λ id body.
-        AreOffsets under.entry.parts (place id) body.bytes.items (map location_of body.places.items))
-        order.now bodies.items) }
-    ensures fails { IfErr result (RefusesBodies under.entry.parts under.entry.features.now) }
+// The records of bodies of these lengths, with which bytes begin.
+fn raw_texts<'a>(alloc: Global, lengths: &[usize], bytes: &'a [u8]) -> Result<Vec<RawBody<'a>>>
+    requires within { sum lengths.now ≤ length bytes.now }
+    ensures value { IfOk result (λ raw. map body_record raw.items
+        ≡ map unplaced (texts_in lengths.now bytes.now)) }
+    ensures fails { IsOkUnless result out_of_memory }
 {
-    let mut bodies = Vec::with_capacity(alloc, order.len())?;
-    'order: for id in order {
-        let one = one_body(alloc, under, *id)?;
-        bodies.push(one)?;
+    let mut raw = Vec::with_capacity(alloc, lengths.len())?;
+    let mut rest = bytes;
+    'lengths: for size in lengths {
+        let (text, behind) = rest.split_at(*size);
+        raw.push(RawBody {
+            start: 0,
+            bytes: text,
+        })?;
+        rest = behind;
     }
-    Ok(bodies)
+    Ok(raw)
+}
+
+/// The records of bodies, lent.
+pub fn raw_bodies<'a>(alloc: Global, bodies: &'a WrittenBodies) -> Result<Vec<RawBody<'a>>>
+    ensures value { IfOk result (λ raw. map body_record raw.items ≡ map unplaced (texts_of bodies.now)) }
+    ensures fails { IsOkUnless result out_of_memory }
+{
+    raw_texts(alloc, bodies.lengths.as_slice(), bodies.bytes.as_slice())
 }

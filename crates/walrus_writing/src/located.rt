@@ -7,10 +7,10 @@ ghost use Rattle.walrus_parts.specs.Errors.{out_of_memory};
 ghost use Rattle.walrus_parts.specs.Transform.{location_of, range_of};
 ghost use Rattle.walrus_writing.specs.Located.{AreSorted, LastPlaces, all_placed_from, by_ends, ends_of, first_if_last, is_first_last, lasts, placed_from, placed_one};
 
+use crate::offsets::LocatedBody;
 use std::alloc::Global;
 use std::ops::Range;
 use walrus_ir::{FunctionId, InstrLocId};
-use walrus_names::WrittenBody;
 use walrus_parts::Result;
 
 // Each function's id with where its body starts and ends, in the order of the bodies.
@@ -100,7 +100,7 @@ fn push_places(
 fn all_places(
     alloc: Global,
     ranges: &[Range<usize>],
-    bodies: &[WrittenBody],
+    bodies: &[LocatedBody],
 ) -> Result<Vec<(u32, usize)>>
     requires as_many { length bodies.now ≡ length ranges.now }
     requires within { AllZip (λ range body. All (λ o. range.start + o.1 ≤ range.end) body.places.items)
@@ -160,7 +160,7 @@ fn last_places(alloc: Global, sorted: &[(u32, usize)]) -> Result<Vec<(InstrLocId
 pub fn instruction_map(
     alloc: Global,
     ranges: &[Range<usize>],
-    bodies: &[WrittenBody],
+    bodies: &[LocatedBody],
     asked: bool,
 ) -> Result<Vec<(InstrLocId, usize)>>
     requires as_many { length bodies.now ≡ length ranges.now }

@@ -16,9 +16,8 @@ ghost use Rattle.walrus_contents.specs.View.{export_of, memory_of, parts_view, t
 ghost use Rattle.walrus_parts.specs.Errors.{out_of_memory};
 ghost use Rattle.wasm_entries.specs.Record.{group, export_entry};
 ghost use Rattle.wasm_entries.specs.TypeSpelling.{LimitsStand};
-ghost use Rattle.wasm_frames.specs.Record.{body_record};
 ghost use Rattle.walrus_plan.specs.Brought.{own_of};
-ghost use Rattle.walrus_writing.specs.Parts.{index_at, kind_in, type_index, limits_with, memory_limits, tag_index, export_with_index, unplaced};
+ghost use Rattle.walrus_writing.specs.Parts.{index_at, kind_in, type_index, limits_with, memory_limits, tag_index, export_with_index};
 ghost use Rattle.walrus_writing.specs.Refusals.{RefusesTypes};
 
 use crate::bodies::local_of;
@@ -29,7 +28,6 @@ use walrus_ir::{FunctionId, IdsToIndices, ModuleTypes};
 use walrus_items::{
     Export, ExportItem, Memory, ModuleExports, ModuleFunctions, ModuleMemories, ModuleTags, Tag,
 };
-use walrus_names::WrittenBody;
 use walrus_parts::{Error, Result};
 use walrus_plan::tag_import;
 use wasm_wire::{RawBody, RawExport, RawExportKind, RawGroup, RawLimits};
@@ -234,19 +232,4 @@ pub fn raw_start(start: Option<FunctionId>, indices: &IdsToIndices) -> Option<u3
     ensures { result ≡ option_and_then (index_of indices.now Functions) (option_map place start) }
 {
     indices.get_func_index(start?)
-}
-
-pub fn raw_bodies<'a>(alloc: Global, bodies: &'a [WrittenBody]) -> Result<Vec<RawBody<'a>>>
-    ensures value { IfOk result (λ raw. map body_record raw.items
-        ≡ map (λ body. unplaced body.bytes.items) bodies.now) }
-    ensures fails { IsOkUnless result out_of_memory }
-{
-    let mut raw = Vec::with_capacity(alloc, bodies.len())?;
-    for body in bodies {
-        raw.push(RawBody {
-            start: 0,
-            bytes: body.bytes.as_slice(),
-        })?;
-    }
-    Ok(raw)
 }

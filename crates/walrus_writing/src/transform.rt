@@ -13,25 +13,23 @@ ghost use Rattle.walrus_model.specs.Declared.{NothingUndeclared};
 ghost use Rattle.walrus_plan.specs.Prepared.{IsPrepared};
 ghost use Rattle.walrus_writing.specs.Customs.{task};
 ghost use Rattle.walrus_writing.specs.Located.{ArePlaces};
-ghost use Rattle.walrus_writing.specs.Parts.{IsWrittenBody};
+ghost use Rattle.walrus_writing.specs.Parts.{HasBytes};
 ghost use Rattle.walrus_writing.specs.Refusals.{RefusesItems};
 ghost use Rattle.walrus_writing.specs.Transform.{RefusesTransform, TellsTransform};
 
-use crate::bodies::{Indexed, written_bodies};
+use crate::bodies::Indexed;
 use crate::customs::copied;
 use crate::data::raw_data;
 use crate::elements::raw_elements;
 use crate::globals::raw_globals;
 use crate::imported::raw_imports;
 use crate::located::{function_ranges, instruction_map};
-use crate::records::{
-    raw_bodies, raw_exports, raw_functions, raw_memories, raw_start, raw_tags, raw_types,
-};
+use crate::offsets::{LocatedBody, located_bodies, raw_located};
+use crate::records::{raw_exports, raw_functions, raw_memories, raw_start, raw_tags, raw_types};
 use crate::tables::raw_tables;
 use crate::write::Choices;
 use std::alloc::Global;
 use walrus_contents::Parts;
-use walrus_names::WrittenBody;
 use walrus_parts::{CodeTransform, Result};
 use walrus_plan::Prepared;
 use wasm_wire::{CodePlaces, Raw, RawCustom, code_places};
@@ -42,14 +40,14 @@ fn item_places<'a>(
     alloc: Global,
     parts: Parts<'a>,
     prepared: &Prepared,
-    bodies: &'a [WrittenBody],
+    bodies: &'a [LocatedBody],
     dylinks: &'a [RawCustom<'a>],
     choices: &Choices,
 ) -> Result<CodePlaces>
     requires there { HasDead (parts_view parts) → ⊥ }
     requires planned { IsPrepared parts prepared.now }
     requires written { AllZip (λ id body.
-        IsWrittenBody parts (index_of prepared.now.indices) choices.now.features (place id) body)
+        HasBytes parts (index_of prepared.now.indices) choices.now.features (place id) body.bytes.items)
         prepared.now.plan.own_functions.items bodies.now }
     ensures told { IfOk result (ArePlaces parts.entry (index_of prepared.now.indices) choices.now.features
         (map place prepared.now.plan.own_functions.items)
@@ -62,7 +60,7 @@ fn item_places<'a>(
     let types = raw_types(alloc, parts.types, indices)?;
     let functions = raw_functions(alloc, parts, order, indices)?;
     let customs = copied(alloc, dylinks)?;
-    let code = raw_bodies(alloc, bodies)?;
+    let code = raw_located(alloc, bodies)?;
     let imports = raw_imports(alloc, parts, indices)?;
     let tables = raw_tables(alloc, parts.tables, indices)?;
     let memories = raw_memories(alloc, parts.memories)?;
@@ -122,10 +120,9 @@ pub fn code_transform<'a>(
         parts,
         indices: &prepared.indices,
         features: &choices.features,
-        asks_places: true,
     };
     let order = prepared.plan.own_functions.as_slice();
-    let bodies = written_bodies(alloc, under, order)?;
+    let bodies = located_bodies(alloc, under, order)?;
     let lent = bodies.as_slice();
     let places = item_places(alloc, parts, prepared, lent, dylinks, choices)?;
     let ranges = places.bodies.as_slice();

@@ -1,6 +1,5 @@
 //! Writing a module's parts as bytes.
-ghost use Rattle.std.specs.Prelude.{All, IfErr, IfOk, map};
-ghost use Rattle.std.specs.List.{AllZip};
+ghost use Rattle.std.specs.Prelude.{◌≡◌, All, IfErr, IfOk, List, map};
 ghost use Rattle.wasm_frames.specs.Record.{custom_record};
 ghost use Rattle.walrus_base.specs.Id.{place};
 ghost use Rattle.walrus_code.specs.Indices.{index_of};
@@ -14,27 +13,27 @@ ghost use Rattle.walrus_rules.specs.Refused.{RefusesToWrite};
 ghost use Rattle.walrus_contents.specs.View.{parts_view};
 ghost use Rattle.walrus_writing.specs.Customs.{AreSpelled, IsAsked, task};
 ghost use Rattle.walrus_writing.specs.Emitted.{IsEmitted, IsWrittenWith, told};
-ghost use Rattle.walrus_names.specs.Names.{body_used, first_own, if_chosen, names_said};
+ghost use Rattle.walrus_names.specs.Names.{first_own, if_chosen, names_said};
 ghost use Rattle.walrus_plan.specs.Places.{places};
 ghost use Rattle.walrus_plan.specs.Prepared.{IsPrepared};
-ghost use Rattle.walrus_writing.specs.Parts.{IsIndexed, IsWrittenBody};
+ghost use Rattle.walrus_writing.specs.Bodies.{AreBodies, texts_of};
+ghost use Rattle.walrus_writing.specs.Parts.{BodySeen, IsIndexed};
 ghost use Rattle.walrus_writing.specs.Records.{Spells};
 ghost use Rattle.walrus_writing.specs.Refusals.{RefusesBodies, RefusesItems};
 
-use crate::bodies::{Indexed, written_bodies};
+use crate::bodies::{Indexed, raw_bodies, written_bodies};
 use crate::customs::{Payloads, both_payloads, producers_payload, raw_customs};
 use crate::data::raw_data;
 use crate::elements::raw_elements;
 use crate::globals::raw_globals;
 use crate::imported::raw_imports;
-use crate::records::{
-    raw_bodies, raw_exports, raw_functions, raw_memories, raw_start, raw_tags, raw_types,
-};
+use crate::joined::WrittenBodies;
+use crate::records::{raw_exports, raw_functions, raw_memories, raw_start, raw_tags, raw_types};
 use crate::tables::raw_tables;
 use std::alloc::Global;
 use walrus_contents::Parts;
 use walrus_ir::Features;
-use walrus_names::{WrittenBody, names_payload};
+use walrus_names::{first_index, names_payload};
 use walrus_parts::{Error, Result};
 use walrus_plan::Prepared;
 use wasm_wire::{Raw, RawCustom, written_module};
@@ -53,7 +52,7 @@ pub struct Choices {
 // What is made for sections that only lend it: the bodies, and the payloads of custom sections.
 #[derive(Drop)]
 struct Made {
-    bodies: Vec<WrittenBody>,
+    bodies: WrittenBodies,
     payloads: Option<Payloads>,
 }
 
@@ -62,27 +61,32 @@ fn make(alloc: Global, parts: Parts<'_>, prepared: &Prepared, choices: &Choices)
     requires planned { IsPrepared parts prepared.now }
     requires indexed { All (λ id. IsIndexed parts (index_of prepared.now.indices) choices.now.features
         (place id)) prepared.now.plan.own_functions.items }
-    ensures bodies { IfOk result (λ made. AllZip (λ id body.
-        IsWrittenBody parts.entry (index_of prepared.now.indices) choices.now.features (place id) body)
-        prepared.now.plan.own_functions.items made.bodies.items) }
-    ensures payloads { IfOk result (λ made. AreSpelled (if_chosen choices.now.names
+    ensures written { IfOk result (λ made. (bodies : List BodySeen)
+        × (AreBodies parts.entry (index_of prepared.now.indices) choices.now.features
+        prepared.now.plan.own_functions.items bodies
+        × (texts_of made.bodies ≡ map (λ b. b.bytes) bodies)
+        × AreSpelled (if_chosen choices.now.names
         (names_said parts.entry (places prepared.now.plan) (first_own prepared.now.plan)
-        (map body_used made.bodies.items)))
-        (if_written choices.now.producers (producers parts.entry.producers.now)) made.payloads) }
+        (map (λ b. b.used) bodies)))
+        (if_written choices.now.producers (producers parts.entry.producers.now)) made.payloads)) }
     ensures fails { IfErr result (RefusesBodies parts.entry choices.now.features) }
 {
     let under = Indexed {
         parts,
         indices: &prepared.indices,
         features: &choices.features,
-        asks_places: false,
     };
     let plan = &prepared.plan;
-    let bodies = written_bodies(alloc, under, plan.own_functions.as_slice())?;
-    let names = names_payload(alloc, parts, plan, bodies.as_slice(), choices.names)?;
+    let order = plan.own_functions.as_slice();
+    let first = first_index(plan);
+    let written = written_bodies(alloc, under, order, first, choices.names)?;
+    let names = names_payload(alloc, parts, plan, written.named, choices.names)?;
     let producers = producers_payload(alloc, parts.producers, choices.producers)?;
     let payloads = both_payloads(names, producers);
-    Ok(Made { bodies, payloads })
+    Ok(Made {
+        bodies: written.bodies,
+        payloads,
+    })
 }
 
 /// The bytes of a module of these parts with custom sections of its own, in which nothing dead is named and nothing is undeclared, in the
@@ -139,7 +143,7 @@ fn write_items<'a>(
     let made = make(alloc, parts, prepared, choices)?;
     let lent = &made;
     let customs = raw_customs(alloc, own, &lent.payloads)?;
-    let code = raw_bodies(alloc, lent.bodies.as_slice())?;
+    let code = raw_bodies(alloc, &lent.bodies)?;
     let imports = raw_imports(alloc, parts, indices)?;
     let tables = raw_tables(alloc, parts.tables, indices)?;
     let memories = raw_memories(alloc, parts.memories)?;

@@ -211,7 +211,7 @@ fn write_sections(writer: &mut Writer, raw: &Raw<'_>) -> Result<(), WireError>
 {
     write_customs(writer, CustomGroup::Dylink, &raw.customs)?;
     write_before_code(writer, raw)?;
-    writer.code_section(&raw.bodies)?;
+    writer.bodies_section(&raw.bodies)?;
     writer.data_section(&raw.data_)?;
     write_customs(writer, CustomGroup::Names, &raw.customs)?;
     write_customs(writer, CustomGroup::Producers, &raw.customs)?;

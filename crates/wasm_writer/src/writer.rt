@@ -13,7 +13,7 @@ ghost use Rattle.wasm_writer.specs.Writing.{written, unless_empty, room, UsesRoo
 ghost use Rattle.wasm_writer.specs.Spelling.{section_bytes, spelled, listed, SectionFits, WrittenFrames, count_place, first_body, placed_bodies, range_of};
 
 use crate::measuring::{custom_content_len, tags_content_len};
-use crate::places::{CodePlaces, code_len, code_places, write_bodies};
+use crate::places::{CodePlaces, code_len, places_of_code, write_bodies};
 use crate::tag::write_tags;
 use std::alloc::Global;
 use wasm_entries::{
@@ -380,17 +380,29 @@ impl Writer {
             (room self.old ≤ room self.new + length (listed Code (map body_record bodies.now))) }
     {
         let alloc = *self.bytes.allocator();
+        let places = places_of_code(alloc, self.len(), bodies)?;
+        self.bodies_section(bodies)?;
+        Ok(places)
+    }
+
+    /// Appends the code section as [`Writer::code_section`] does, and tells no places: so it takes no memory but room for the section
+    /// (Binary Format > Modules > Code Section).
+    ///
+    /// # Errors
+    ///
+    /// `TooLarge` exactly where a count or a size is 2^32 or more, and `Memory`. Refused, the bytes stay.
+    pub fn bodies_section(&mut self, bodies: &[RawBody<'_>]) -> Result<(), WireError>
+        ensures appends { let written_bodies = map body_record bodies.now in
+            Wrote result (written self.old) (written self.new)
+            (listed Code written_bodies) (SectionFits (Code written_bodies)) }
+        ensures room { UsesRoom result self.old self.new (listed Code (map body_record bodies.now)) }
+    {
         if bodies.is_empty() {
-            return Ok(CodePlaces {
-                count: 0,
-                bodies: Vec::new(alloc),
-            });
+            return Ok(());
         }
         let size = code_len(bodies)?;
-        let places = code_places(alloc, self.len(), size, bodies)?;
         self.open(10, size)?;
-        write_bodies(&mut self.bytes, bodies)?;
-        Ok(places)
+        write_bodies(&mut self.bytes, bodies)
     }
 
     /// Appends the data section, or nothing where there are no data segments (Binary Format > Modules > Data Section).

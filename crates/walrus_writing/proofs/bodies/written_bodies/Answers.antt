@@ -1,28 +1,31 @@
-use Rattle.std.proofs.Common.{◌+◌, map, subst, sym, take}
-use Rattle.std.specs.List.{AllZip}
-use Rattle.walrus_base.specs.Id.{place}
-use Rattle.walrus_base.specs.declared.id.Id.{Id}
-use Rattle.walrus_base.specs.declared.keys.FunctionKey.{FunctionKey}
+use Rattle.std.proofs.Common.{◌+◌, arith, ap, map}
+use Rattle.wasm_payloads.specs.Lent.{locals_entry}
 use Rattle.walrus_code.specs.Indices.{index_of}
-use Rattle.walrus_names.specs.declared.locals.WrittenBody.{WrittenBody}
-use Rattle.walrus_parts.specs.Transform.{location_of}
-use Rattle.walrus_writing.specs.Located.{AreOffsets}
-use Rattle.walrus_writing.specs.Parts.{IsWrittenBody}
-use Rattle.walrus_plan.proofs.Turns.{zip_turn}
+use Rattle.walrus_writing.specs.Bodies.{appended_seen}
+use Rattle.walrus_writing.proofs.JoinedBodies.{all_written, grown, no_fewer, none_written, one_written}
 use Rattle.walrus_writing.proofs.bodies.written_bodies.Goals as goal
+
+pub append_one-requires : goal.append_one-requires
+append_one-requires c = record { indexed = c.requires.indexed c.order.id-index _ c.order-test.true }
+
+pub order-init : goal.order-init
+order-init c = record {
+  counted = omega arith;
+  written = none_written c.args.under.parts (index_of c.args.under.indices.now) c.args.under.features.now _ _ _ _ _ c.in_ok-bytes.ensures.items c.in_ok-lengths.ensures.items (ap (map locals_entry) c.new-named.ensures.items);
+}
+
+pub overflow_sub-size : goal.overflow_sub-size
+overflow_sub-size c = no_fewer _ _ _ _ _ c.len-before.ensures c.len.ensures c.in_ok-body.ensures.value.1.0
 
 pub order-preserved : goal.order-preserved
 order-preserved c =
-    let held = c.args.under.parts in
-    let Written = λ (id : Id FunctionKey) (body : WrittenBody). IsWrittenBody held (index_of c.args.under.indices.now) c.args.under.features.now (place id) body in
-    let Located = λ (id : Id FunctionKey) (body : WrittenBody). AreOffsets held (place id) body.bytes.items (map location_of body.places.items) in
-    let done = take (c.order.id-index + 1) c.args.order.now in
+    let text = c.in_ok-body.ensures.value.0 in
     record {
-      written = subst (λ bs. AllZip Written done bs) (sym c.in_ok-push.ensures.items)
-          (zip_turn Written c.args.order.now c.order.id-index _ c.order.bodies.items _ c.order-test.true c.order.invariant.written c.in_ok-one.ensures.value);
-      located = λ asked. subst (λ bs. AllZip Located done bs) (sym c.in_ok-push.ensures.items)
-          (zip_turn Located c.args.order.now c.order.id-index _ c.order.bodies.items _ c.order-test.true (c.order.invariant.located asked) (c.in_ok-one.ensures.located asked));
+      counted = omega (arith, c.order.invariant.counted);
+      written = one_written c.args.under.parts (index_of c.args.under.indices.now) c.args.under.features.now c.args.order.now c.order.id-index _ c.args.first c.args.chosen _ _ _ _ _ _ _ _ (appended_seen text c.in_ok-body.body) c.order-test.true c.order.invariant.counted c.order.invariant.written
+          c.in_ok-body.ensures.value.1.1 c.in_ok-body.ensures.value.1.0 (grown _ _ _ _ _ c.len-before.ensures c.len.ensures c.in_ok-body.ensures.value.1.0) c.in_ok-push.ensures.items
+          c.in_ok-push_names.ensures.value;
     }
 
-pub one_body-requires : goal.one_body-requires
-one_body-requires c = record { indexed = c.requires.indexed c.order.id-index _ c.order-test.true }
+pub returns-clause-value : goal.returns-clause-value
+returns-clause-value c = all_written c.args.under.parts (index_of c.args.under.indices.now) c.args.under.features.now c.args.order.now c.order.id-index _ _ _ _ _ (omega (arith, c.order-test.false)) c.order.invariant.written

@@ -1,15 +1,12 @@
-use Rattle.std.proofs.Common.{◌≡◌, map, take, true}
-use Rattle.std.specs.List.{AllZip}
-use Rattle.walrus_base.specs.Id.{place}
+use Rattle.std.proofs.Common.{◌≡◌, ◌+◌, map, take}
+use Rattle.wasm_payloads.specs.Lent.{locals_entry}
 use Rattle.walrus_code.specs.Indices.{index_of}
-use Rattle.walrus_parts.specs.Transform.{location_of}
-use Rattle.walrus_writing.specs.Located.{AreOffsets}
-use Rattle.walrus_writing.specs.Parts.{IsWrittenBody}
+use Rattle.walrus_writing.specs.Bodies.{AreWritten}
 use Rattle.walrus_writing.proofs.bodies.written_bodies.Given as goal
 
 -- the bodies so far are those of the functions so far
 abbrev pub invariant-order : goal.invariant-order
 invariant-order l = record {
-  written : AllZip (λ id body. IsWrittenBody l.under.parts (index_of l.under.indices.now) l.under.features.now (place id) body) (take l.id-index l.order) l.bodies.items;
-  located : l.under.asks_places ≡ true → AllZip (λ id body. AreOffsets l.under.parts (place id) body.bytes.items (map location_of body.places.items)) (take l.id-index l.order) l.bodies.items;
+  counted : l.function ≡ l.first + l.id-index;
+  written : AreWritten l.under.parts (index_of l.under.indices.now) l.under.features.now (take l.id-index l.order) l.first l.chosen l.bytes.items l.lengths.items (map locals_entry l.named.items);
 }

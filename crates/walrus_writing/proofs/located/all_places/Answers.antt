@@ -4,7 +4,7 @@ use Rattle.std.specs.declared.ops.Range.{Range}
 use Rattle.walrus_code.specs.declared.location.InstrLocId.{InstrLocId}
 use Rattle.walrus_parts.specs.Transform.{location_of}
 use Rattle.walrus_writing.specs.Located.{placed_from}
-use Rattle.walrus_names.specs.declared.locals.WrittenBody.{WrittenBody}
+use Rattle.walrus_writing.specs.declared.offsets.LocatedBody.{LocatedBody}
 use Rattle.walrus_writing.proofs.LocatedLoops.{all_end, all_step, ends, turn, zip_get}
 use Rattle.walrus_writing.proofs.located.all_places.Goals as goal
 
@@ -16,7 +16,7 @@ bodies-preserved c =
       counted = ap (λ n. n + 1) c.bodies.invariant.counted;
       listed = turn _ _ _ _ _ _
           (all_step (λ r. r.start) (λ b. map location_of b.places.items) c.args.ranges.now c.args.bodies.now c.bodies.body-index c.bodies.index none c.body-item.result c.bodies-test.true c.requires.as_many c.bodies.invariant.counted)
-          (c.in_ok-push_places.ensures.value ∙ ap (λ (l : List (InstrLocId × ℕ)). c.bodies.found.items ++ placed_from range.start (map location_of l)) (c.as_slice.ensures.value ∙ ap (λ (b : WrittenBody). b.places.items) c.body-item.is))
+          (c.in_ok-push_places.ensures.value ∙ ap (λ (l : List (InstrLocId × ℕ)). c.bodies.found.items ++ placed_from range.start (map location_of l)) (c.as_slice.ensures.value ∙ ap (λ (b : LocatedBody). b.places.items) c.body-item.is))
           c.bodies.invariant.listed;
     }
 
@@ -28,6 +28,6 @@ push_places-requires c =
     let none : Range ℕ = record { start = 0; end = 0 } in
     let range : Range ℕ = slice_index_or c.args.ranges.now c.bodies.index none in
     record {
-      within = subst (λ (l : List (InstrLocId × ℕ)). All (λ (o : InstrLocId × ℕ). range.start + o.1 ≤ range.end) l) (sym (c.as_slice.ensures.value ∙ ap (λ (b : WrittenBody). b.places.items) c.body-item.is))
-          (zip_get (λ (r : Range ℕ) (b : WrittenBody). All (λ (o : InstrLocId × ℕ). r.start + o.1 ≤ r.end) b.places.items) c.args.ranges.now c.args.bodies.now c.requires.within c.bodies.body-index c.bodies.index none c.body-item.result c.bodies-test.true c.requires.as_many c.bodies.invariant.counted);
+      within = subst (λ (l : List (InstrLocId × ℕ)). All (λ (o : InstrLocId × ℕ). range.start + o.1 ≤ range.end) l) (sym (c.as_slice.ensures.value ∙ ap (λ (b : LocatedBody). b.places.items) c.body-item.is))
+          (zip_get (λ (r : Range ℕ) (b : LocatedBody). All (λ (o : InstrLocId × ℕ). r.start + o.1 ≤ r.end) b.places.items) c.args.ranges.now c.args.bodies.now c.requires.within c.bodies.body-index c.bodies.index none c.body-item.result c.bodies-test.true c.requires.as_many c.bodies.invariant.counted);
     }

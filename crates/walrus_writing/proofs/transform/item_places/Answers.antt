@@ -1,4 +1,4 @@
-use Rattle.std.proofs.Common.{◌∙◌, ℕ, [], map, refl, ap}
+use Rattle.std.proofs.Common.{◌∙◌, ℕ, [], map, refl, sym, ap}
 use Rattle.std.specs.Prelude.{Some, option_and_then, option_map}
 use Rattle.std.proofs.lemmas.Result.{err_from_is_err_and}
 use Rattle.walrus_base.specs.Arena.{items}
@@ -14,11 +14,12 @@ use Rattle.walrus_items.specs.Tags.{TagValue, tags}
 use Rattle.wasm_frames.specs.Record.{custom_record}
 use Rattle.walrus_writing.specs.Customs.{task}
 use Rattle.wasm_writer.specs.declared.places.CodePlaces.{CodePlaces}
-use Rattle.walrus_writing.specs.Parts.{type_index, tag_index}
+use Rattle.walrus_writing.specs.Parts.{type_index, tag_index, unplaced}
 use Rattle.walrus_plan.specs.Places.{places}
 use Rattle.walrus_rules.proofs.Matches.{imports_live}
 use Rattle.walrus_writing.proofs.ImportsIndexed.{imports_indexed, written_indexed}
 use Rattle.walrus_writing.proofs.Indexed.{ids_typed, no_type_lacks, exports_indexed, data_indexed, elements_indexed, globals_indexed, start_indexed, tables_indexed, tags_indexed}
+use Rattle.walrus_writing.proofs.LocatedBodies.{seen_are, seen_in, seen_texts}
 use Rattle.walrus_writing.proofs.OwnPlaces.{own_indexed}
 use Rattle.walrus_writing.proofs.RefusesUnspelled.{imports_refused}
 use Rattle.walrus_writing.proofs.Refusing.{data_refused, elements_refused, globals_refused, places_refused, places_told, tables_refused, types_refused}
@@ -108,8 +109,9 @@ pub returns-in_err-places-clause-refused : goal.returns-in_err-places-clause-ref
 returns-in_err-places-clause-refused c = λ sections same.
     let names = index_of c.args.prepared.now.indices in
     let plan = c.requires.planned in
+    let codes = sym (ap (map unplaced) (seen_texts c.args.parts names c.args.choices.now.features c.args.prepared.now.plan.own_functions.items c.args.bodies.now c.requires.written)) in
     let p = err_from_is_err_and c.from_residual-in_err-places.result c.from_residual-in_err-places.ensures.1 in
-    rw (p.1, p.2) (places_refused c.args.parts (task c.args.choices.now names sections) names refl c.args.prepared.now.plan c.in_ok-types.types.items c.in_ok-imports.imports.items c.in_ok-functions.functions.items c.in_ok-tables.tables.items c.in_ok-memories.memories.items c.in_ok-tags.tags.items c.in_ok-globals.globals.items c.in_ok-exports.exports.items c.args.bodies.now c.in_ok-elements.elements.items c.in_ok-data_segments.data_segments.items c.args.prepared.now.data_count
+    rw (p.1, p.2) (places_refused c.args.parts (task c.args.choices.now names sections) names refl c.args.prepared.now.plan c.in_ok-types.types.items c.in_ok-imports.imports.items c.in_ok-functions.functions.items c.in_ok-tables.tables.items c.in_ok-memories.memories.items c.in_ok-tags.tags.items c.in_ok-globals.globals.items c.in_ok-exports.exports.items (seen_in c.args.parts names c.args.choices.now.features c.args.prepared.now.plan.own_functions.items c.args.bodies.now c.requires.written) c.in_ok-elements.elements.items c.in_ok-data_segments.data_segments.items c.args.prepared.now.data_count
     plan.matched plan.reads plan.is_plan plan.numbered plan.few
     plan.types plan.brought plan.tables plan.memories plan.tags plan.globals
     c.in_ok-types.ensures.value c.in_ok-imports.ensures.value
@@ -119,18 +121,19 @@ returns-in_err-places-clause-refused c = λ sections same.
     c.in_ok-globals.ensures.value c.in_ok-globals.ensures.stand c.in_ok-globals.ensures.spelled
     c.in_ok-exports.ensures.value c.in_ok-exports.ensures.text
     c.raw_start-start.result (ap (option_map (λ (i : ℕ). Some i)) c.raw_start-start.ensures ∙ start_indexed c.args.parts c.requires.there names (places c.args.prepared.now.plan) plan.is_plan plan.numbered)
-    c.requires.written
+    (seen_are c.args.parts names c.args.choices.now.features c.args.prepared.now.plan.own_functions.items c.args.bodies.now c.requires.written)
     plan.elements c.in_ok-elements.ensures.value c.in_ok-elements.ensures.stand c.in_ok-elements.ensures.chosen c.in_ok-elements.ensures.spelled
     plan.data_segments c.in_ok-data_segments.ensures.value c.in_ok-data_segments.ensures.stand c.in_ok-data_segments.ensures.spelled plan.data_count
     _ _ _ (map custom_record c.args.dylinks.now) c.new.ensures.items
-    c.in_ok-code.ensures.value c.in_ok-customs.ensures.value
+    (c.in_ok-code.ensures.value ∙ codes) c.in_ok-customs.ensures.value
     same CodePlaces _ c.in_err-places.ensures)
 
 pub returns-clause-told : goal.returns-clause-told
 returns-clause-told c =
     let names = index_of c.args.prepared.now.indices in
     let plan = c.requires.planned in
-    places_told c.args.parts (task c.args.choices.now names []) names refl c.args.prepared.now.plan c.in_ok-types.types.items c.in_ok-imports.imports.items c.in_ok-functions.functions.items c.in_ok-tables.tables.items c.in_ok-memories.memories.items c.in_ok-tags.tags.items c.in_ok-globals.globals.items c.in_ok-exports.exports.items c.args.bodies.now c.in_ok-elements.elements.items c.in_ok-data_segments.data_segments.items c.args.prepared.now.data_count
+    let codes = sym (ap (map unplaced) (seen_texts c.args.parts names c.args.choices.now.features c.args.prepared.now.plan.own_functions.items c.args.bodies.now c.requires.written)) in
+    places_told c.args.parts (task c.args.choices.now names []) names refl c.args.prepared.now.plan c.in_ok-types.types.items c.in_ok-imports.imports.items c.in_ok-functions.functions.items c.in_ok-tables.tables.items c.in_ok-memories.memories.items c.in_ok-tags.tags.items c.in_ok-globals.globals.items c.in_ok-exports.exports.items (seen_in c.args.parts names c.args.choices.now.features c.args.prepared.now.plan.own_functions.items c.args.bodies.now c.requires.written) c.in_ok-elements.elements.items c.in_ok-data_segments.data_segments.items c.args.prepared.now.data_count
     plan.matched plan.reads plan.is_plan plan.numbered plan.few
     plan.types plan.brought plan.tables plan.memories plan.tags plan.globals
     c.in_ok-types.ensures.value c.in_ok-imports.ensures.value
@@ -140,9 +143,9 @@ returns-clause-told c =
     c.in_ok-globals.ensures.value c.in_ok-globals.ensures.stand c.in_ok-globals.ensures.spelled
     c.in_ok-exports.ensures.value c.in_ok-exports.ensures.text
     c.raw_start-start.result (ap (option_map (λ (i : ℕ). Some i)) c.raw_start-start.ensures ∙ start_indexed c.args.parts c.requires.there names (places c.args.prepared.now.plan) plan.is_plan plan.numbered)
-    c.requires.written
+    (seen_are c.args.parts names c.args.choices.now.features c.args.prepared.now.plan.own_functions.items c.args.bodies.now c.requires.written)
     plan.elements c.in_ok-elements.ensures.value c.in_ok-elements.ensures.stand c.in_ok-elements.ensures.chosen c.in_ok-elements.ensures.spelled
     plan.data_segments c.in_ok-data_segments.ensures.value c.in_ok-data_segments.ensures.stand c.in_ok-data_segments.ensures.spelled plan.data_count
     _ _ _ (map custom_record c.args.dylinks.now) c.new.ensures.items
-    c.in_ok-code.ensures.value c.in_ok-customs.ensures.value
-    c.in_ok-places.places _ refl c.in_ok-places.ensures
+    (c.in_ok-code.ensures.value ∙ codes) c.in_ok-customs.ensures.value
+    c.in_ok-places.places _ (seen_texts c.args.parts names c.args.choices.now.features c.args.prepared.now.plan.own_functions.items c.args.bodies.now c.requires.written) c.in_ok-places.ensures

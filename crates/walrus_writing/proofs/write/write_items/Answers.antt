@@ -14,9 +14,8 @@ use Rattle.walrus_items.specs.Tables.{TableValue, tables}
 use Rattle.walrus_items.specs.Tags.{TagValue, tags}
 use Rattle.wasm_frames.specs.Record.{custom_record}
 use Rattle.walrus_writing.specs.Customs.{chosen_producers, task}
-use Rattle.walrus_names.specs.Names.{body_used, first_own, if_chosen, names_said}
-use Rattle.walrus_names.specs.declared.locals.WrittenBody.{WrittenBody}
-use Rattle.walrus_writing.specs.Parts.{type_index, tag_index, unplaced}
+use Rattle.walrus_names.specs.Names.{first_own, if_chosen, names_said}
+use Rattle.walrus_writing.specs.Parts.{BodySeen, type_index, tag_index, unplaced}
 use Rattle.walrus_plan.specs.Places.{places}
 use Rattle.walrus_rules.proofs.Matches.{imports_live}
 use Rattle.walrus_writing.proofs.ImportsIndexed.{imports_indexed, written_indexed}
@@ -123,9 +122,9 @@ returns-in_err-bytes-clause-refused c =
     let names = index_of c.args.prepared.now.indices in
     let plan = c.requires.planned in
     let producers = chosen_producers c.args.parts c.args.choices.now in
-    let said = if_chosen c.args.choices.now.names (names_said c.args.parts (places c.args.prepared.now.plan) (first_own c.args.prepared.now.plan) (map body_used c.in_ok-made.made.bodies.items)) in
+    let said = if_chosen c.args.choices.now.names (names_said c.args.parts (places c.args.prepared.now.plan) (first_own c.args.prepared.now.plan) (map (λ (b : BodySeen). b.used) c.in_ok-made.ensures.written.0)) in
     let p = err_from_is_err_and c.from_residual-in_err-bytes.result c.from_residual-in_err-bytes.ensures.1 in
-    rw (p.1, p.2) (records_refused c.args.parts (task c.args.choices.now (index_of c.args.prepared.now.indices) (map custom_record c.args.own.now)) names refl c.args.prepared.now.plan c.in_ok-types.types.items c.in_ok-imports.imports.items c.in_ok-functions.functions.items c.in_ok-tables.tables.items c.in_ok-memories.memories.items c.in_ok-tags.tags.items c.in_ok-globals.globals.items c.in_ok-exports.exports.items c.in_ok-made.made.bodies.items c.in_ok-elements.elements.items c.in_ok-data_segments.data_segments.items c.args.prepared.now.data_count
+    rw (p.1, p.2) (records_refused c.args.parts (task c.args.choices.now (index_of c.args.prepared.now.indices) (map custom_record c.args.own.now)) names refl c.args.prepared.now.plan c.in_ok-types.types.items c.in_ok-imports.imports.items c.in_ok-functions.functions.items c.in_ok-tables.tables.items c.in_ok-memories.memories.items c.in_ok-tags.tags.items c.in_ok-globals.globals.items c.in_ok-exports.exports.items c.in_ok-made.ensures.written.0 c.in_ok-elements.elements.items c.in_ok-data_segments.data_segments.items c.args.prepared.now.data_count
     plan.matched plan.reads plan.is_plan plan.numbered plan.few
     plan.types plan.brought plan.tables plan.memories plan.tags plan.globals
     c.in_ok-types.ensures.value c.in_ok-imports.ensures.value
@@ -135,19 +134,19 @@ returns-in_err-bytes-clause-refused c =
     c.in_ok-globals.ensures.value c.in_ok-globals.ensures.stand c.in_ok-globals.ensures.spelled
     c.in_ok-exports.ensures.value c.in_ok-exports.ensures.text
     c.raw_start-start.result (ap (option_map (λ (i : ℕ). Some i)) c.raw_start-start.ensures ∙ start_indexed c.args.parts c.requires.there names (places c.args.prepared.now.plan) plan.is_plan plan.numbered)
-    c.in_ok-made.ensures.bodies
+    c.in_ok-made.ensures.written.1.0
     plan.elements c.in_ok-elements.ensures.value c.in_ok-elements.ensures.stand c.in_ok-elements.ensures.chosen c.in_ok-elements.ensures.spelled
     plan.data_segments c.in_ok-data_segments.ensures.value c.in_ok-data_segments.ensures.stand c.in_ok-data_segments.ensures.spelled plan.data_count
-    _ _ _ c.new.ensures.items (c.in_ok-code.ensures.value ∙ ap (map (λ (b : WrittenBody). unplaced b.bytes.items)) c.as_slice.ensures.value)
-    (c.in_ok-customs.ensures.value ∙ ap (λ l. map custom_record c.args.own.now ++ l) (sections_given said producers c.in_ok-made.made.payloads (c.is_none.ensures ∙ ap not c.if-is_none.false) c.in_ok-made.ensures.payloads)) (Vec ℕ) _ c.in_err-bytes.ensures)
+    _ _ _ c.new.ensures.items (c.in_ok-code.ensures.value ∙ ap (map unplaced) c.in_ok-made.ensures.written.1.1)
+    (c.in_ok-customs.ensures.value ∙ ap (λ l. map custom_record c.args.own.now ++ l) (sections_given said producers c.in_ok-made.made.payloads (c.is_none.ensures ∙ ap not c.if-is_none.false) c.in_ok-made.ensures.written.1.2)) (Vec ℕ) _ c.in_err-bytes.ensures)
 
 pub returns-then-is_none-clause-refused : goal.returns-then-is_none-clause-refused
 returns-then-is_none-clause-refused c =
     let names = index_of c.args.prepared.now.indices in
     let plan = c.requires.planned in
     let producers = chosen_producers c.args.parts c.args.choices.now in
-    let said = if_chosen c.args.choices.now.names (names_said c.args.parts (places c.args.prepared.now.plan) (first_own c.args.prepared.now.plan) (map body_used c.in_ok-made.made.bodies.items)) in
-    payloads_refused c.args.parts (task c.args.choices.now (index_of c.args.prepared.now.indices) (map custom_record c.args.own.now)) names refl c.args.prepared.now.plan c.in_ok-types.types.items c.in_ok-imports.imports.items c.in_ok-functions.functions.items c.in_ok-tables.tables.items c.in_ok-memories.memories.items c.in_ok-tags.tags.items c.in_ok-globals.globals.items c.in_ok-exports.exports.items c.in_ok-made.made.bodies.items c.in_ok-elements.elements.items c.in_ok-data_segments.data_segments.items c.args.prepared.now.data_count
+    let said = if_chosen c.args.choices.now.names (names_said c.args.parts (places c.args.prepared.now.plan) (first_own c.args.prepared.now.plan) (map (λ (b : BodySeen). b.used) c.in_ok-made.ensures.written.0)) in
+    payloads_refused c.args.parts (task c.args.choices.now (index_of c.args.prepared.now.indices) (map custom_record c.args.own.now)) names refl c.args.prepared.now.plan c.in_ok-types.types.items c.in_ok-imports.imports.items c.in_ok-functions.functions.items c.in_ok-tables.tables.items c.in_ok-memories.memories.items c.in_ok-tags.tags.items c.in_ok-globals.globals.items c.in_ok-exports.exports.items c.in_ok-made.ensures.written.0 c.in_ok-elements.elements.items c.in_ok-data_segments.data_segments.items c.args.prepared.now.data_count
     plan.matched plan.reads plan.is_plan plan.numbered plan.few
     plan.types plan.brought plan.tables plan.memories plan.tags plan.globals
     c.in_ok-types.ensures.value c.in_ok-imports.ensures.value
@@ -157,18 +156,18 @@ returns-then-is_none-clause-refused c =
     c.in_ok-globals.ensures.value c.in_ok-globals.ensures.stand c.in_ok-globals.ensures.spelled
     c.in_ok-exports.ensures.value c.in_ok-exports.ensures.text
     c.raw_start-start.result (ap (option_map (λ (i : ℕ). Some i)) c.raw_start-start.ensures ∙ start_indexed c.args.parts c.requires.there names (places c.args.prepared.now.plan) plan.is_plan plan.numbered)
-    c.in_ok-made.ensures.bodies
+    c.in_ok-made.ensures.written.1.0
     plan.elements c.in_ok-elements.ensures.value c.in_ok-elements.ensures.stand c.in_ok-elements.ensures.chosen c.in_ok-elements.ensures.spelled
     plan.data_segments c.in_ok-data_segments.ensures.value c.in_ok-data_segments.ensures.stand c.in_ok-data_segments.ensures.spelled plan.data_count
-    (Vec ℕ) (sections_refused said producers c.in_ok-made.made.payloads (c.is_none.ensures ∙ ap not c.if-is_none.true) c.in_ok-made.ensures.payloads)
+    (Vec ℕ) (sections_refused said producers c.in_ok-made.made.payloads (c.is_none.ensures ∙ ap not c.if-is_none.true) c.in_ok-made.ensures.written.1.2)
 
 pub returns-clause-spells : goal.returns-clause-spells
 returns-clause-spells c =
     let names = index_of c.args.prepared.now.indices in
     let plan = c.requires.planned in
     let producers = chosen_producers c.args.parts c.args.choices.now in
-    let said = if_chosen c.args.choices.now.names (names_said c.args.parts (places c.args.prepared.now.plan) (first_own c.args.prepared.now.plan) (map body_used c.in_ok-made.made.bodies.items)) in
-    records_written c.args.parts (task c.args.choices.now (index_of c.args.prepared.now.indices) (map custom_record c.args.own.now)) names refl c.args.prepared.now.plan c.in_ok-types.types.items c.in_ok-imports.imports.items c.in_ok-functions.functions.items c.in_ok-tables.tables.items c.in_ok-memories.memories.items c.in_ok-tags.tags.items c.in_ok-globals.globals.items c.in_ok-exports.exports.items c.in_ok-made.made.bodies.items c.in_ok-elements.elements.items c.in_ok-data_segments.data_segments.items c.args.prepared.now.data_count
+    let said = if_chosen c.args.choices.now.names (names_said c.args.parts (places c.args.prepared.now.plan) (first_own c.args.prepared.now.plan) (map (λ (b : BodySeen). b.used) c.in_ok-made.ensures.written.0)) in
+    records_written c.args.parts (task c.args.choices.now (index_of c.args.prepared.now.indices) (map custom_record c.args.own.now)) names refl c.args.prepared.now.plan c.in_ok-types.types.items c.in_ok-imports.imports.items c.in_ok-functions.functions.items c.in_ok-tables.tables.items c.in_ok-memories.memories.items c.in_ok-tags.tags.items c.in_ok-globals.globals.items c.in_ok-exports.exports.items c.in_ok-made.ensures.written.0 c.in_ok-elements.elements.items c.in_ok-data_segments.data_segments.items c.args.prepared.now.data_count
     plan.matched plan.reads plan.is_plan plan.numbered plan.few
     plan.types plan.brought plan.tables plan.memories plan.tags plan.globals
     c.in_ok-types.ensures.value c.in_ok-imports.ensures.value
@@ -178,8 +177,8 @@ returns-clause-spells c =
     c.in_ok-globals.ensures.value c.in_ok-globals.ensures.stand c.in_ok-globals.ensures.spelled
     c.in_ok-exports.ensures.value c.in_ok-exports.ensures.text
     c.raw_start-start.result (ap (option_map (λ (i : ℕ). Some i)) c.raw_start-start.ensures ∙ start_indexed c.args.parts c.requires.there names (places c.args.prepared.now.plan) plan.is_plan plan.numbered)
-    c.in_ok-made.ensures.bodies
+    c.in_ok-made.ensures.written.1.0
     plan.elements c.in_ok-elements.ensures.value c.in_ok-elements.ensures.stand c.in_ok-elements.ensures.chosen c.in_ok-elements.ensures.spelled
     plan.data_segments c.in_ok-data_segments.ensures.value c.in_ok-data_segments.ensures.stand c.in_ok-data_segments.ensures.spelled plan.data_count
-    _ _ _ c.new.ensures.items (c.in_ok-code.ensures.value ∙ ap (map (λ (b : WrittenBody). unplaced b.bytes.items)) c.as_slice.ensures.value)
-    (c.in_ok-customs.ensures.value ∙ ap (λ l. map custom_record c.args.own.now ++ l) (sections_given said producers c.in_ok-made.made.payloads (c.is_none.ensures ∙ ap not c.if-is_none.false) c.in_ok-made.ensures.payloads)) c.in_ok-bytes.bytes.items c.in_ok-bytes.ensures.0 c.in_ok-bytes.ensures.1
+    _ _ _ c.new.ensures.items (c.in_ok-code.ensures.value ∙ ap (map unplaced) c.in_ok-made.ensures.written.1.1)
+    (c.in_ok-customs.ensures.value ∙ ap (λ l. map custom_record c.args.own.now ++ l) (sections_given said producers c.in_ok-made.made.payloads (c.is_none.ensures ∙ ap not c.if-is_none.false) c.in_ok-made.ensures.written.1.2)) c.in_ok-bytes.bytes.items c.in_ok-bytes.ensures.0 c.in_ok-bytes.ensures.1

@@ -23,13 +23,13 @@ returns c =
     let old : List ℕ = written c.args.writer.now in
     let w1 : List ℕ = written c.write_customs.new.writer in
     let w2 : List ℕ = written c.write_before_code.new.writer in
-    let w3 : List ℕ = written c.code_section.new.self in
+    let w3 : List ℕ = written c.bodies_section.new.self in
     let w4 : List ℕ = written c.data_section.new.self in
     let w5 : List ℕ = written c.write_customs-2.new.writer in
     let w6 : List ℕ = written c.write_customs-3.new.writer in
     let w7 : List ℕ = written c.write_customs-4.new.writer in
     let first : w1 ≡ old ++ group_bytes Dylink xs = group_as Dylink _ xs old w1 c.deref.ensures.value c.in_ok-write_customs.ensures in
-    let code : w3 ≡ w1 ++ all_spelled (before_code m ++ if_any Code m.bodies) = listed_grown w1 w2 w3 (before_code m) Code _ m.bodies (ap (map body_record) c.deref-2.ensures.value) c.in_ok-write_before_code.ensures c.in_ok-code_section.ensures.appends.0 in
+    let code : w3 ≡ w1 ++ all_spelled (before_code m ++ if_any Code m.bodies) = listed_grown w1 w2 w3 (before_code m) Code _ m.bodies (ap (map body_record) c.deref-2.ensures.value) c.in_ok-write_before_code.ensures c.in_ok-bodies_section.ensures.appends.0 in
     let standard : w4 ≡ w1 ++ all_spelled (standard_sections m) =
     listed_grown w1 w3 w4 (before_code m ++ if_any Code m.bodies) DataSegments _ m.data_segments (ap (map data_entry) c.deref-3.ensures.value) code c.in_ok-data_section.ensures.appends.0 in
     let front : w4 ≡ old ++ all_spelled (customs_of Dylink m ++ standard_sections m) = grown old w1 w4 (customs_of Dylink m) (standard_sections m) first standard in

@@ -6,7 +6,7 @@ use Rattle.wasm_frames.specs.Record.{Body, body_record}
 use Rattle.wasm_frames.specs.Spelling.{body_bytes}
 use Rattle.wasm_frames.specs.Frames.{Code}
 use Rattle.wasm_writer.proofs.Listed.{no_section}
-use Rattle.wasm_writer.proofs.writer.Writer.code_section.Goals as goal
+use Rattle.wasm_writer.proofs.writer.Writer.bodies_section.Goals as goal
 
 pub returns-then-is_empty-clause-appends : goal.returns-then-is_empty-clause-appends
 returns-then-is_empty-clause-appends c =

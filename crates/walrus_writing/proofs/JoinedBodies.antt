@@ -1,0 +1,133 @@
+-- Bodies one behind another: one more of them, and each of them again.
+use Rattle.std.proofs.Common.{◌≡◌, ℕ, ◌+◌, ◌-◌, ◌<◌, ◌≤◌, Bool, true, List, [], ◌∷◌, ◌++◌, length, map, take, drop, append_assoc, refl, sym, ap, ap₂, ◌∙◌, arith, Some, None}
+use Rattle.std.specs.Prelude.{Option, slice_index_or, sum}
+use Rattle.std.proofs.lemmas.List.{append-nil, drop-append-le, drop_more, length-append, length-drop, length-map, length-take-le, take-append-le, take_all}
+use Rattle.std.proofs.lemmas.List.Sums.{sum_by-cons, sum_by-drop_more, sum_by_push}
+use Rattle.wasm_frames.specs.Record as wire
+use Rattle.wasm_payloads.specs.Spelling.{NameMap}
+use Rattle.walrus_base.specs.Arena.{entries_from}
+use Rattle.walrus_base.specs.Id.{place}
+use Rattle.walrus_base.specs.declared.id.Id.{Id}
+use Rattle.walrus_base.specs.declared.keys.FunctionKey.{FunctionKey}
+use Rattle.walrus_types.specs.Locals.{locals}
+use Rattle.walrus_types.specs.declared.locals.Local.{Local}
+use Rattle.walrus_code.specs.Names.{Lookup}
+use Rattle.walrus_code.proofs.Turns.{map_snoc}
+use Rattle.walrus_bodies.specs.declared.features.Features.{Features}
+use Rattle.walrus_contents.specs.declared.parts.Parts.{Parts}
+use Rattle.walrus_contents.proofs.Steps.{zip_length}
+use Rattle.walrus_names.specs.Names.{all_local_names, filled, local_names}
+use Rattle.walrus_names.specs.Pushed.{with_map}
+use Rattle.walrus_plan.proofs.Turns.{zip_turn}
+use Rattle.walrus_writing.specs.Bodies.{AreBodies, AreWritten, texts_in}
+use Rattle.walrus_writing.specs.Parts.{BodySeen, IsWrittenBody, unplaced}
+
+-- ---- texts
+
+no_more : (bytes : List ℕ) → 0 ≡ length bytes → bytes ≡ []
+no_more [] none = refl
+no_more (b ∷ bytes) none = absurd (omega arith)
+
+-- one text more
+pub texts_more : (ns bytes text : List ℕ) → sum ns ≡ length bytes → texts_in (ns ++ length text ∷ []) (bytes ++ text) ≡ texts_in ns bytes ++ text ∷ []
+texts_more [] bytes text whole =
+    ap (λ (l : List ℕ). texts_in (length text ∷ []) (l ++ text)) (no_more bytes whole) ∙ ap (λ (l : List ℕ). l ∷ []) (take_all (length text) text (omega arith))
+texts_more (n ∷ ns) bytes text whole =
+    let all : sum (n ∷ ns) ≡ n + sum ns = sum_by-cons (λ (x : ℕ). x) n ns in
+    let within : n ≤ length bytes = omega (arith, all, whole) in
+    let rest : sum ns ≡ length (drop n bytes) = omega (arith, all, whole, length-drop n bytes) in
+    ap₂ (λ (l : List ℕ) (ls : List (List ℕ)). l ∷ ls) (take-append-le n bytes text within)
+    (ap (texts_in (ns ++ length text ∷ [])) (drop-append-le n bytes text within) ∙ texts_more ns (drop n bytes) text rest)
+
+-- the next of the texts that are left
+pub texts_turn : (ns : List ℕ) (i d : ℕ) (rest front behind : List ℕ) (raw new : List wire.Body) (all : List wire.Body) → i < length ns
+    → front ≡ take (slice_index_or ns i d) rest → behind ≡ drop (slice_index_or ns i d) rest → new ≡ raw ++ unplaced front ∷ []
+    → raw ++ map unplaced (texts_in (drop i ns) rest) ≡ all → new ++ map unplaced (texts_in (drop (i + 1) ns) behind) ≡ all
+texts_turn ns i d rest front behind raw new all low first then pushed so =
+    ap₂ (λ (l : List wire.Body) (b : List ℕ). l ++ map unplaced (texts_in (drop (i + 1) ns) b)) pushed then
+    ∙ append_assoc raw (unplaced front ∷ []) (map unplaced (texts_in (drop (i + 1) ns) (drop (slice_index_or ns i d) rest)))
+    ∙ ap (λ (t : List ℕ). raw ++ unplaced t ∷ map unplaced (texts_in (drop (i + 1) ns) (drop (slice_index_or ns i d) rest))) first
+    ∙ ap (λ (l : List ℕ). raw ++ map unplaced (texts_in l rest)) (sym (drop_more ns i d low))
+    ∙ so
+
+-- it stands there, and so do those behind it
+pub text_within : (ns : List ℕ) (i d many : ℕ) → i < length ns → sum (drop i ns) ≤ many → slice_index_or ns i d ≤ many
+text_within ns i d many low within = omega (arith, within, sum_by-drop_more (λ (x : ℕ). x) ns i d low)
+
+pub texts_within : (ns : List ℕ) (i d many left : ℕ) → i < length ns → sum (drop i ns) ≤ many → left + slice_index_or ns i d ≡ many → sum (drop (i + 1) ns) ≤ left
+texts_within ns i d many left low within rest = omega (arith, within, rest, sum_by-drop_more (λ (x : ℕ). x) ns i d low)
+
+-- ---- names
+
+entries_snoc : {X : Type 0} (k : ℕ) (os : List (Option X)) (o : Option X) → entries_from k (os ++ o ∷ []) ≡ entries_from k os ++ entries_from (k + length os) (o ∷ [])
+entries_snoc {X} k [] o = ap (λ (n : ℕ). entries_from n (o ∷ [])) (omega arith)
+entries_snoc {X} k (None ∷ os) o = entries_snoc (k + 1) os o ∙ ap (λ (n : ℕ). entries_from (k + 1) os ++ entries_from n (o ∷ [])) (omega arith)
+entries_snoc {X} k (Some x ∷ os) o = ap (λ (l : List (ℕ × X)). (k, x) ∷ l) (entries_snoc (k + 1) os o ∙ ap (λ (n : ℕ). entries_from (k + 1) os ++ entries_from n (o ∷ [])) (omega arith))
+
+one_map : (maps : List (ℕ × NameMap)) (k : ℕ) (names : NameMap) → maps ++ entries_from k (filled names ∷ []) ≡ with_map maps k names
+one_map maps k [] = append-nil maps
+one_map maps k (e ∷ es) = refl
+
+-- the names of one body more
+pub names_more : (all : List (Option Local)) (first k : ℕ) (bodies : List (List (ℕ × ℕ))) (used : List (ℕ × ℕ)) → k ≡ first + length bodies
+    → with_map (all_local_names all first bodies) k (local_names all used) ≡ all_local_names all first (bodies ++ used ∷ [])
+names_more all first k bodies used at =
+    let F = λ (us : List (ℕ × ℕ)). filled (local_names all us) in
+    sym (one_map (all_local_names all first bodies) k (local_names all used))
+    ∙ ap (λ (n : ℕ). all_local_names all first bodies ++ entries_from n (F used ∷ [])) (at ∙ ap (λ (n : ℕ). first + n) (sym (length-map bodies F)))
+    ∙ sym (entries_snoc first (map F bodies) (F used))
+    ∙ ap (entries_from first) (sym (map_snoc F bodies used))
+
+-- ---- bodies
+
+module _ (p : Parts) (names : Lookup) (features : Features) where
+  abbrev IsBody : Id FunctionKey → BodySeen → Type 0
+  IsBody id b = IsWrittenBody p names features (place id) b
+
+  abbrev text_of : BodySeen → List ℕ
+  text_of b = b.bytes
+
+  abbrev used_of : BodySeen → List (ℕ × ℕ)
+  used_of b = b.used
+
+  pub none_written : (first : ℕ) (chosen : Bool) (bytes lengths : List ℕ) (named : List (ℕ × NameMap)) → bytes ≡ [] → lengths ≡ [] → named ≡ [] → AreWritten p names features [] first chosen bytes lengths named
+  none_written first chosen bytes lengths named b l n = record {
+    bodies = [];
+    are = tt;
+    texts = ap₂ texts_in l b;
+    whole = ap sum l ∙ sym (ap length b);
+    names_are = λ asked. n;
+  }
+
+  -- the last one is
+  pub all_written : (order : List (Id FunctionKey)) (i first : ℕ) (chosen : Bool) (bytes lengths : List ℕ) (named : List (ℕ × NameMap)) → length order ≤ i
+      → AreWritten p names features (take i order) first chosen bytes lengths named → AreWritten p names features order first chosen bytes lengths named
+  all_written order i first chosen bytes lengths named most w = subst (λ (l : List (Id FunctionKey)). AreWritten p names features l first chosen bytes lengths named) (take_all i order most) w
+
+  -- one more is written
+  pub one_written : (order : List (Id FunctionKey)) (i : ℕ) (d : Id FunctionKey) (first : ℕ) (chosen : Bool) (function : ℕ) (bytes lengths : List ℕ) (named : List (ℕ × NameMap)) (new more : List ℕ) (maps : List (ℕ × NameMap)) (size : ℕ) (one : BodySeen)
+      → i < length order → function ≡ first + i → AreWritten p names features (take i order) first chosen bytes lengths named
+      → IsBody (slice_index_or order i d) one → new ≡ bytes ++ one.bytes → size ≡ length one.bytes → more ≡ lengths ++ size ∷ []
+      → (chosen ≡ true → maps ≡ with_map named function (local_names (locals p.locals.now) one.used))
+      → AreWritten p names features (take (i + 1) order) first chosen new more maps
+  one_written order i d first chosen function bytes lengths named new more maps size one low counted w is appended sized pushed noted =
+      let more_is : more ≡ lengths ++ length one.bytes ∷ [] = pushed ∙ ap (λ (n : ℕ). lengths ++ n ∷ []) sized in
+      let so_many : i ≡ length w.bodies = sym (length-take-le i order (omega (arith, low))) ∙ zip_length IsBody (take i order) w.bodies w.are in
+      record {
+        bodies = w.bodies ++ one ∷ [];
+        are = zip_turn IsBody order i d w.bodies one low w.are is;
+        texts = ap₂ texts_in more_is appended ∙ texts_more lengths bytes one.bytes w.whole ∙ ap (λ (l : List (List ℕ)). l ++ one.bytes ∷ []) w.texts ∙ sym (map_snoc text_of w.bodies one);
+        whole = omega (arith, ap sum more_is, sum_by_push (λ (x : ℕ). x) lengths (length one.bytes), w.whole, ap length appended, length-append bytes one.bytes);
+        names_are = λ asked.
+            noted asked
+            ∙ ap₂ (λ (l : List (ℕ × NameMap)) (k : ℕ). with_map l k (local_names (locals p.locals.now) one.used)) (w.names_are asked) counted
+            ∙ names_more (locals p.locals.now) first (first + i) (map used_of w.bodies) one.used (ap (λ (n : ℕ). first + n) (so_many ∙ sym (length-map w.bodies used_of)))
+            ∙ ap (all_local_names (locals p.locals.now) first) (sym (map_snoc used_of w.bodies one));
+      }
+
+-- how many bytes were appended
+pub grown : (before after : ℕ) (old new text : List ℕ) → before ≡ length old → after ≡ length new → new ≡ old ++ text → after - before ≡ length text
+grown before after old new text b a is = omega (arith, b, a, ap length is, length-append old text)
+
+pub no_fewer : (before after : ℕ) (old new text : List ℕ) → before ≡ length old → after ≡ length new → new ≡ old ++ text → before ≤ after
+no_fewer before after old new text b a is = omega (arith, b, a, ap length is, length-append old text)

@@ -1,0 +1,41 @@
+-- The bodies of functions as they are written, one behind another.
+use Rattle.std.specs.Prelude.{ℕ, Bool, true, List, [], ◌∷◌, drop, length, map, sum, take, ◌≡◌}
+use Rattle.std.specs.List.{AllZip}
+use Rattle.wasm_payloads.specs.Spelling.{NameMap}
+use Rattle.walrus_base.specs.Id.{place}
+use Rattle.walrus_base.specs.declared.id.Id.{Id}
+use Rattle.walrus_base.specs.declared.keys.FunctionKey.{FunctionKey}
+use Rattle.walrus_types.specs.Locals.{locals}
+use Rattle.walrus_code.specs.Names.{Lookup}
+use Rattle.walrus_bodies.specs.declared.features.Features.{Features}
+use Rattle.walrus_functions.specs.declared.append.AppendedBody.{AppendedBody}
+use Rattle.walrus_contents.specs.declared.parts.Parts.{Parts}
+use Rattle.walrus_names.specs.Names.{all_local_names, used_listed}
+use Rattle.walrus_writing.specs.Parts.{BodySeen, IsWrittenBody}
+use Rattle.walrus_writing.specs.declared.joined.WrittenBodies.{WrittenBodies}
+
+-- the texts of these lengths that bytes begin with
+abbrev pub texts_in : List ℕ → List ℕ → List (List ℕ)
+texts_in [] bytes = []
+texts_in (n ∷ ns) bytes = take n bytes ∷ texts_in ns (drop n bytes)
+
+-- the bytes of each body
+abbrev pub texts_of : WrittenBodies → List (List ℕ)
+texts_of b = texts_in b.lengths.items b.bytes.items
+
+-- a body that was appended as this text
+abbrev pub appended_seen : List ℕ → AppendedBody → BodySeen
+appended_seen text b = record { bytes = text; used = used_listed (map place b.order.items) b.used.items }
+
+-- each of these is the body of the function at its place
+abbrev pub AreBodies : Parts → Lookup → Features → List (Id FunctionKey) → List BodySeen → Type 0
+AreBodies p names features order bodies = AllZip (λ id b. IsWrittenBody p names features (place id) b) order bodies
+
+-- The bodies of these functions, the first of which has this index, are written as bytes of these lengths; and these are the names of
+-- their used locals, where they are chosen.
+pub record AreWritten (p : Parts) (names : Lookup) (features : Features) (order : List (Id FunctionKey)) (first : ℕ) (chosen : Bool) (bytes lengths : List ℕ) (named : List (ℕ × NameMap)) : Type 0 where
+  pub bodies : List BodySeen
+  pub are : AreBodies p names features order bodies
+  pub texts : texts_in lengths bytes ≡ map (λ b. b.bytes) bodies
+  pub whole : sum lengths ≡ length bytes
+  pub names_are : chosen ≡ true → named ≡ all_local_names (locals p.locals.now) first (map (λ b. b.used) bodies)
