@@ -1,4 +1,4 @@
-use Rattle.std.proofs.Common.{◌≡◌, ◌∙◌, List, ap, arith, eqb-true, length, map, sym}
+use Rattle.std.proofs.Common.{◌≡◌, ◌∙◌, List, ap, arith, eqb-true, map, sym}
 use Rattle.std.proofs.lemmas.List.{length-map}
 use Rattle.std.specs.Prelude.{filter, not, vec_len}
 use Rattle.std.specs.Global.{Vec}
