@@ -52,7 +52,7 @@ module _ (v : Abstract) (alive : HasDead v → ⊥) where
   }
 
 module _ (c : Config) (bytes : List ℕ) (v : Abstract) (parsed : IsParsed c bytes v) where
-  nothing_dead : HasDead v → ⊥
+  pub nothing_dead : HasDead v → ⊥
   nothing_dead = (well_no_cause c v (parsed_is_well c bytes parsed.module_read v parsed.reads parsed.holds parsed.parsed)).all_there
 
   reaches_sound : ReachesSound v
@@ -65,7 +65,7 @@ module _ (c : Config) (bytes : List ℕ) (v : Abstract) (parsed : IsParsed c byt
 
 module _ (c : Config) (bytes : List ℕ) (v w : Abstract) (parsed : IsParsed c bytes v) (collected : Collected v w) where
   -- what gc leaves names nothing dead
-  nothing_dead_left : HasDead w → ⊥
+  pub nothing_dead_left : HasDead w → ⊥
   nothing_dead_left =
       let m = parsed.module_read in
       let made = parsed_is_well c bytes m v parsed.reads parsed.holds parsed.parsed in

@@ -74,7 +74,7 @@ fn smaller(alloc: Global, bytes: Vec<u8>, config: &ModuleConfig) -> Result<Vec<u
     let mut module = config.parse(alloc, &bytes)?;
     drop(bytes);
     gc::run(alloc, &mut module)?;
-    module.emit_wasm(alloc)
+    module.emit_whole(alloc)
 }
 
 // The report on the module that the bytes say.

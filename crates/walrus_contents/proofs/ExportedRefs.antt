@@ -395,3 +395,8 @@ module _ (c : Contents) where
       rising = AllPairs-filter (λ i j. i < j) (λ f. not (holds f)) (marked_from 0 bs) (marks_rise bs 0);
       are = λ f. (told f, found f);
     })
+
+  -- nothing, where nothing is named
+  pub none_named : (fs : List ℕ) → fs ≡ N → length fs ≡ 0 → AreUndeclared (IsLive V) V fs
+  none_named [] same e = undeclared [] (has D) [] D same refl (λ f. refl) (λ f. refl) [] refl
+  none_named (f ∷ fs) same e = absurd (omega (arith, e))

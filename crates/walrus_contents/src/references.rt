@@ -339,13 +339,16 @@ fn marked_without(
 
 /// The functions that `ref.func` names in a body or in the initialiser of a global and that nothing declares, neither an export nor a
 /// segment of elements, by rising id, those that aren't there included. It takes time and memory by the largest id that is named or
-/// declared. `Memory` is the only error.
+/// declared; where none is named what is declared isn't looked at. `Memory` is the only error.
 pub fn undeclared_functions(alloc: Global, parts: Parts<'_>) -> Result<Vec<FunctionId>>
     ensures undeclared { IfOk result (λ ids. AreUndeclared (IsLive (parts_view parts.entry))
         (parts_view parts.entry) (map place ids.items)) }
     ensures fails { IsOkUnless result out_of_memory }
 {
     let named = named_functions(alloc, parts)?;
+    if named.is_empty() {
+        return Ok(named);
+    }
     let declared = declared_functions(alloc, parts)?;
     let named_marks = marks_of(alloc, named.as_slice())?;
     let declared_marks = marks_of(alloc, declared.as_slice())?;

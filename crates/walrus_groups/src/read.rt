@@ -192,7 +192,7 @@ fn name_fields(
     ensures { Finds (λ fields. map field_type fields.items) result
         (named_fields (ids_at indices.now) (map field_of raw.now)) }
 {
-    let mut fields = Vec::new(alloc);
+    let mut fields = Vec::with_capacity(alloc, raw.len())?;
     for field in raw {
         let Some(named) = name_field(*field, indices) else {
             return Err(IrError::Malformed);

@@ -80,7 +80,8 @@ fn index_group(
         (items (type_slots types.now)) result }
 {
     types.groups_are_whole();
-    let mut members = Vec::new(alloc);
+    // Most groups have one member.
+    let mut members = Vec::with_capacity(alloc, 1)?;
     for member in types.group(id) {
         members.push(index_member(alloc, types, member, indices)?)?;
     }

@@ -2,6 +2,7 @@
 ghost use Rattle.std.specs.Prelude.{◌≡◌, ◌⊎◌, IfOk, IsOkUnless, OnErr, OnOk, true};
 ghost use Rattle.walrus_contents.specs.View.{parts_view};
 ghost use Rattle.walrus_items.specs.Elements.{elements};
+ghost use Rattle.walrus_model.specs.Dead.{HasDead};
 ghost use Rattle.walrus_model.specs.Declared.{NothingUndeclared};
 ghost use Rattle.walrus_parts.specs.Errors.{out_of_memory};
 ghost use Rattle.walrus_rules.specs.Chain.{Leaves};
@@ -127,7 +128,52 @@ impl Module {
         self.emit(alloc, true)
     }
 
-    // The same, where the places are only true if they are asked for, or sections are to follow the code.
+    /// The same as [`Module::emit_wasm`] of a module in which nothing is named that isn't there, as of what was parsed, or is left of that by gc:
+    /// so nothing dead is looked for.
+    ///
+    /// # Errors
+    ///
+    /// Those of [`Module::emit_wasm`] but `DeadItem`.
+    pub fn emit_whole(&mut self, alloc: Global) -> Result<Vec<u8>>
+        requires { HasDead (view ⟦<dyn CustomSection as CustomSection>⟧ self.old) → ⊥ }
+        ensures left { LeavesBy (view ⟦<dyn CustomSection as CustomSection>⟧ self.old)
+            (view ⟦<dyn CustomSection as CustomSection>⟧ (but_customs self.old self.new)) (told result) }
+        ensures segments { AddsDeclared (elements self.old.elements) (elements self.new.elements) }
+        ensures others { ChangesElements self.old (but_customs self.old self.new) }
+        ensures settled { NothingUndeclared (view ⟦<dyn CustomSection as CustomSection>⟧ self.old)
+            → but_customs self.old self.new ≡ self.old }
+        ensures customs { LeavesCustoms ⟦<dyn CustomSection as CustomSection>⟧
+            (settings self.old).preserve_code_transform
+            (λ r x. IsSayable (view ⟦<dyn CustomSection as CustomSection>⟧ self.new)
+            → IsTransformOf (config_of (settings self.old)) true (locations_of self.new)
+            (view ⟦<dyn CustomSection as CustomSection>⟧ self.new) r.items x)
+            (IsToldOf (config_of (settings self.old)) (contents_of self.new)
+            (asked_first (meanings ⟦<dyn CustomSection as CustomSection>⟧ self.old)))
+            self.old.customs self.new.customs result }
+        ensures raw { AreRaw (sections self.old.customs) → self.new.customs ≡ self.old.customs }
+        ensures emitted { IfOk result (λ r. IsEmitted (config_of (settings self.old))
+            (view ⟦<dyn CustomSection as CustomSection>⟧ self.new) r.items) }
+        ensures refused { RefusesToWrite
+            (OneMayRefuseThen ⟦<dyn CustomSection as CustomSection>⟧ self.old.customs self.new.customs)
+            (config_of (settings self.old))
+            (view ⟦<dyn CustomSection as CustomSection>⟧ self.new) (told result) }
+        ensures declared { OnOk result (NothingUndeclared
+            (view ⟦<dyn CustomSection as CustomSection>⟧ self.new)) }
+        ensures well_made { IsWellMade (config_of (settings self.old))
+            (view ⟦<dyn CustomSection as CustomSection>⟧ self.old) → WritesUnless
+            (PassesLimits (config_of (settings self.old))
+            (view ⟦<dyn CustomSection as CustomSection>⟧ self.new))
+            (OneMayRefuseThen ⟦<dyn CustomSection as CustomSection>⟧ self.old.customs self.new.customs)
+            (λ r. IsWellWritten (config_of (settings self.old))
+            (view ⟦<dyn CustomSection as CustomSection>⟧ self.new) r.items) (told result) }
+        ensures own_ids { ItemsAtOwnIds (contents_of self.old) → ItemsAtOwnIds (contents_of self.new) }
+    {
+        let (bytes, transform) = self.emit_live(alloc, false)?;
+        drop(transform);
+        Ok(bytes)
+    }
+
+    // The same as both, where the places are only true if they are asked for, or sections are to follow the code.
     fn emit(&mut self, alloc: Global, tells: bool) -> Result<(Vec<u8>, CodeTransform)>
         ensures left { LeavesBy (view ⟦<dyn CustomSection as CustomSection>⟧ self.old)
             (view ⟦<dyn CustomSection as CustomSection>⟧ (but_customs self.old self.new)) (told result) }
@@ -165,6 +211,47 @@ impl Module {
             (transform_of r.1)) }
     {
         check_live(alloc, self.parts())?;
+        self.emit_live(alloc, tells)
+    }
+
+    // The same where nothing dead is named.
+    fn emit_live(&mut self, alloc: Global, tells: bool) -> Result<(Vec<u8>, CodeTransform)>
+        requires { HasDead (held_view self.old) → ⊥ }
+        ensures left { LeavesBy (view ⟦<dyn CustomSection as CustomSection>⟧ self.old)
+            (view ⟦<dyn CustomSection as CustomSection>⟧ (but_customs self.old self.new)) (told result) }
+        ensures segments { AddsDeclared (elements self.old.elements) (elements self.new.elements) }
+        ensures others { ChangesElements self.old (but_customs self.old self.new) }
+        ensures settled { NothingUndeclared (view ⟦<dyn CustomSection as CustomSection>⟧ self.old)
+            → but_customs self.old self.new ≡ self.old }
+        ensures customs { LeavesCustoms ⟦<dyn CustomSection as CustomSection>⟧
+            (settings self.old).preserve_code_transform
+            (λ r x. x ≡ transform_of r.1)
+            (IsToldOf (config_of (settings self.old)) (contents_of self.new)
+            (asked_first (meanings ⟦<dyn CustomSection as CustomSection>⟧ self.old)))
+            self.old.customs self.new.customs result }
+        ensures raw { AreRaw (sections self.old.customs) → self.new.customs ≡ self.old.customs }
+        ensures emitted { IfOk result (λ r. IsEmitted (config_of (settings self.old))
+            (view ⟦<dyn CustomSection as CustomSection>⟧ self.new) r.0.items) }
+        ensures refused { RefusesToWrite
+            (OneMayRefuseThen ⟦<dyn CustomSection as CustomSection>⟧ self.old.customs self.new.customs)
+            (config_of (settings self.old))
+            (view ⟦<dyn CustomSection as CustomSection>⟧ self.new) (told result) }
+        ensures declared { OnOk result (NothingUndeclared
+            (view ⟦<dyn CustomSection as CustomSection>⟧ self.new)) }
+        ensures well_made { IsWellMade (config_of (settings self.old))
+            (view ⟦<dyn CustomSection as CustomSection>⟧ self.old) → WritesUnless
+            (PassesLimits (config_of (settings self.old))
+            (view ⟦<dyn CustomSection as CustomSection>⟧ self.new))
+            (OneMayRefuseThen ⟦<dyn CustomSection as CustomSection>⟧ self.old.customs self.new.customs)
+            (λ r. IsWellWritten (config_of (settings self.old))
+            (view ⟦<dyn CustomSection as CustomSection>⟧ self.new) r.0.items) (told result) }
+        ensures own_ids { ItemsAtOwnIds (contents_of self.old) → ItemsAtOwnIds (contents_of self.new) }
+        ensures transform { ((settings self.old).preserve_code_transform ≡ true) ⊎ (tells ≡ true)
+            → IfOk result (λ r. IsSayable (view ⟦<dyn CustomSection as CustomSection>⟧ self.new)
+            → IsTransformOf (config_of (settings self.old)) (settings self.old).preserve_code_transform
+            (locations_of self.new) (view ⟦<dyn CustomSection as CustomSection>⟧ self.new) r.0.items
+            (transform_of r.1)) }
+    {
         self.declare_references(alloc)?;
         let start = self.start;
         let parts = Parts {

@@ -174,7 +174,7 @@ fn sized_functions(
         ≡ local_sizes (functions funcs.now)) }
     ensures fails { IsOkUnless result out_of_memory }
 {
-    let mut sized = Vec::new(alloc);
+    let mut sized = Vec::with_capacity(alloc, funcs.len())?;
     for (id, local) in funcs.iter_local() {
         sized.push((Reverse(local.size()), id))?;
     }

@@ -84,7 +84,7 @@ pub fn raw_data<'a>(
     ensures spelled { IfOk result (λ _. All IsSpelledData (items (data_segments all.now))) }
     ensures fails { IfErr result (RefusesData (items (data_segments all.now))) }
 {
-    let mut raw = Vec::new(alloc);
+    let mut raw = Vec::with_capacity(alloc, all.len())?;
     for segment in all.iter() {
         let one = raw_segment(alloc, segment, indices)?;
         raw.push(one)?;

@@ -193,7 +193,7 @@ pub fn raw_elements(
     ensures spelled { IfOk result (λ _. All IsSpelledElement (items (elements all.now))) }
     ensures fails { IfErr result (RefusesElements (items (elements all.now))) }
 {
-    let mut raw = Vec::new(alloc);
+    let mut raw = Vec::with_capacity(alloc, all.len())?;
     for segment in all.iter() {
         let one = raw_element(alloc, segment, all_tables, indices)?;
         raw.push(one)?;

@@ -129,7 +129,7 @@ pub fn raw_memories(alloc: Global, all: &ModuleMemories) -> Result<Vec<RawLimits
     ensures stand { IfOk result (λ raw. All LimitsStand raw.items) }
     ensures fails { IsOkUnless result out_of_memory }
 {
-    let mut raw = Vec::new(alloc);
+    let mut raw = Vec::with_capacity(alloc, all.len())?;
     for memory in all.iter() {
         if memory.import.is_none() {
             raw.push(raw_memory(memory))?;
@@ -153,7 +153,7 @@ pub fn raw_tags(alloc: Global, all: &ModuleTags, indices: &IdsToIndices) -> Resu
         (own_of (λ x. x.imported_by) (items (tags all.now)))) }
     ensures fails { IsOkUnless result out_of_memory }
 {
-    let mut raw = Vec::new(alloc);
+    let mut raw = Vec::with_capacity(alloc, all.len())?;
     for tag in all.iter() {
         if tag_import(&tag.kind).is_none() {
             let Some(index) = raw_tag(tag, indices) else {
@@ -217,7 +217,7 @@ pub fn raw_exports<'a>(
     ensures text { IfOk result (λ raw. All (λ e. IsUtf8 e.name.now) raw.items) }
     ensures fails { IsOkUnless result out_of_memory }
 {
-    let mut raw = Vec::new(alloc);
+    let mut raw = Vec::with_capacity(alloc, all_exports.len())?;
     for export in all_exports.iter() {
         let Some(one) = raw_export(export, indices) else {
             unreachable!();

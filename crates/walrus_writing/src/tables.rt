@@ -108,7 +108,7 @@ pub fn raw_tables(
         (own_of (λ x. x.imported_by) (items (tables all.now)))) }
     ensures fails { IfErr result (RefusesTables (items (tables all.now))) }
 {
-    let mut raw = Vec::new(alloc);
+    let mut raw = Vec::with_capacity(alloc, all.len())?;
     for table in all.iter() {
         if table.import.is_none() {
             let one = raw_table(alloc, table, indices)?;

@@ -1,5 +1,6 @@
-use Rattle.std.proofs.Common.{◌≡◌, ◌∙◌, List, ap, map}
-use Rattle.std.specs.Prelude.{filter, not}
+use Rattle.std.proofs.Common.{◌≡◌, ◌∙◌, List, ap, arith, eqb-true, map, sym}
+use Rattle.std.proofs.lemmas.List.{length-map}
+use Rattle.std.specs.Prelude.{filter, not, vec_len}
 use Rattle.std.specs.Global.{Vec}
 use Rattle.walrus_base.specs.Id.{place}
 use Rattle.walrus_base.specs.Marks.{is_marked, places_marked}
@@ -8,8 +9,14 @@ use Rattle.walrus_base.specs.declared.keys.FunctionKey.{FunctionKey}
 use Rattle.walrus_model.specs.Declared.{AreUndeclared}
 use Rattle.walrus_model.specs.Live.{IsLive}
 use Rattle.walrus_contents.specs.View.{lent, parts_view}
-use Rattle.walrus_contents.proofs.ExportedRefs.{if_ok, undeclared}
+use Rattle.walrus_contents.proofs.ExportedRefs.{if_ok, none_named, undeclared}
 use Rattle.walrus_contents.proofs.references.undeclared_functions.Goals as goal
+
+pub returns-then-is_empty-clause-undeclared : goal.returns-then-is_empty-clause-undeclared
+returns-then-is_empty-clause-undeclared c =
+    let ids = c.in_ok-named.named in
+    let none : vec_len ids ≡ 0 = eqb-true (vec_len ids) 0 (sym c.is_empty.ensures ∙ c.if-is_empty.true) in
+    none_named (lent c.args.parts) (map place ids.items) c.in_ok-named.ensures.names (length-map ids.items place ∙ omega (arith, none, ids.ok.0))
 
 pub returns-clause-undeclared : goal.returns-clause-undeclared
 returns-clause-undeclared c =

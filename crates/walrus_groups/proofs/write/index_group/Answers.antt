@@ -16,7 +16,7 @@ loop-member-init c =
       tt,
       tt,
       subst (AllLive slots) (sym same) (group_live slots (place c.args.id) c.groups_are_whole.ensures),
-      completes_first (StandsFor (index_of c.args.indices.now) slots) (group_at slots (place c.args.id)) _ sub c.new-members.result.items same c.new-members.ensures.items,
+      completes_first (StandsFor (index_of c.args.indices.now) slots) (group_at slots (place c.args.id)) _ sub c.in_ok-members.members.items same c.in_ok-members.ensures.items,
     )
 
 pub loop-member-preserved : goal.loop-member-preserved

@@ -17,7 +17,7 @@ pub returns-in_err-one-clause-fails : goal.returns-in_err-one-clause-fails
 returns-in_err-one-clause-fails c =
     let every = items (data_segments c.args.all.now) in
     let named = λ (d : DataValue). named_data (index_of c.args.indices.now) (data_of d) in
-    let p = err_from_is_err_and c.from_residual.result c.from_residual.ensures.1 in
+    let p = err_from_is_err_and c.from_residual-in_err-one.result c.from_residual-in_err-one.ensures.1 in
     let w = c.loop-segment.invariant.2 in
     rw (p.1, p.2) (segment_refused (index_of c.args.indices.now) _ every _ (first_among _ _ _ c.in-Some.ensures.steps every w.among)
     (next_has (map (λ d. Some (said.data_of (data_entry d))) c.loop-segment.raw.items) named _ _ _ _ w.made (own_step _ _ _ c.in-Some.ensures.steps no_import refl)
@@ -31,7 +31,7 @@ pub loop-segment-init : goal.loop-segment-init
 loop-segment-init c = (
   tt,
   tt,
-  written_begins _ _ _ _ _ (items (data_segments c.args.all.now)) _ _ c.new-raw.ensures.items (ap data_segments_left c.into_iter-segment-iterator.ensures.into_iter_gives ∙ c.iter-segment-items.ensures),
+  written_begins _ _ _ _ _ (items (data_segments c.args.all.now)) _ _ c.in_ok-raw.ensures.items (ap data_segments_left c.into_iter-segment-iterator.ensures.into_iter_gives ∙ c.iter-segment-items.ensures),
 )
 
 pub returns-clause-value : goal.returns-clause-value

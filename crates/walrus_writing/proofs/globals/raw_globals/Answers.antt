@@ -17,7 +17,7 @@ raw_global-requires c = record { own = none_brings place _ _ _ c.global_import.e
 pub returns-in_err-one-clause-fails : goal.returns-in_err-one-clause-fails
 returns-in_err-one-clause-fails c =
     let every = items (globals c.args.all.now) in
-    let p = err_from_is_err_and c.from_residual.result c.from_residual.ensures.1 in
+    let p = err_from_is_err_and c.from_residual-in_err-one.result c.from_residual-in_err-one.ensures.1 in
     let w = c.loop-global.invariant.2 in
     rw (p.1, p.2) (global_refused (index_of c.args.indices.now) _ every _ (first_among _ _ _ c.in-Some.ensures.steps every w.among)
     (next_has (map (λ g. Some (said.global_of (global_entry g))) c.loop-global.raw.items) (λ g. named_global (index_of c.args.indices.now) (global_of g)) _ _ _ _ w.made (own_step _ _ _ c.in-Some.ensures.steps (λ x. x.imported_by) (none_brings place _ _ _ c.global_import.ensures c.is_none.ensures c.if-is_none.true)) c.requires.indexed)
@@ -37,7 +37,7 @@ pub loop-global-init : goal.loop-global-init
 loop-global-init c = (
   tt,
   tt,
-  written_begins _ _ _ _ _ (items (globals c.args.all.now)) _ _ c.new-raw.ensures.items (ap globals_left c.into_iter-global-iterator.ensures.into_iter_gives ∙ c.iter-global-items.ensures),
+  written_begins _ _ _ _ _ (items (globals c.args.all.now)) _ _ c.in_ok-raw.ensures.items (ap globals_left c.into_iter-global-iterator.ensures.into_iter_gives ∙ c.iter-global-items.ensures),
 )
 
 pub returns-clause-value : goal.returns-clause-value

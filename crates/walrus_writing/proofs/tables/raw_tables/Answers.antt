@@ -17,7 +17,7 @@ raw_table-requires c = record { own = none_brings place _ _ _ refl c.is_none.ens
 pub returns-in_err-one-clause-fails : goal.returns-in_err-one-clause-fails
 returns-in_err-one-clause-fails c =
     let every = items (tables c.args.all.now) in
-    let p = err_from_is_err_and c.from_residual.result c.from_residual.ensures.1 in
+    let p = err_from_is_err_and c.from_residual-in_err-one.result c.from_residual-in_err-one.ensures.1 in
     let w = c.loop-table.invariant.2 in
     rw (p.1, p.2) (table_refused (index_of c.args.indices.now) _ every _ (first_among _ _ _ c.in-Some.ensures.steps every w.among)
     (next_has (map (λ t. Some (said.table_of (table_entry t))) c.loop-table.raw.items) (λ t. named_table (index_of c.args.indices.now) (table_of t)) _ _ _ _ w.made (own_step _ _ _ c.in-Some.ensures.steps (λ x. x.imported_by) (none_brings place _ _ _ refl c.is_none.ensures c.if-is_none.true)) c.requires.indexed)
@@ -37,7 +37,7 @@ pub loop-table-init : goal.loop-table-init
 loop-table-init c = (
   tt,
   tt,
-  written_begins _ _ _ _ _ (items (tables c.args.all.now)) _ _ c.new-raw.ensures.items (ap tables_left c.into_iter-table-iterator.ensures.into_iter_gives ∙ c.iter-table-items.ensures),
+  written_begins _ _ _ _ _ (items (tables c.args.all.now)) _ _ c.in_ok-raw.ensures.items (ap tables_left c.into_iter-table-iterator.ensures.into_iter_gives ∙ c.iter-table-items.ensures),
 )
 
 pub returns-clause-value : goal.returns-clause-value
