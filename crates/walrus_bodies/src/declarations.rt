@@ -1,5 +1,5 @@
 //! Reading the locals that a body declares (Binary Format > Modules > Code Section).
-ghost use Rattle.std.specs.Prelude.{◌≡◌, ℕ, map, IfOk, ◌++◌, replicate};
+ghost use Rattle.std.specs.Prelude.{◌≡◌, ℕ, map, IfOk, IfSome, ◌∷◌, ◌++◌, replicate};
 ghost use Rattle.wasm_forms.specs.Grammar.{Vector, U32, ◌then◌, at};
 ghost use Rattle.wasm_forms.specs.Types.{value_type};
 ghost use Rattle.wasm_forms.specs.declared.types.RawVal.{RawVal as DeclaredVal};
@@ -66,7 +66,21 @@ pub fn read_declarations(alloc: Global, bytes: &[u8]) -> Result<(Vec<Declaration
 fn take_declarations(alloc: Global, bytes: &[u8]) -> Result<(Vec<Declaration>, &[u8]), IrError>
     ensures { Gives (λ r. (declarations_of r.0.items, r.1.now)) result (at declarations bytes.now) }
 {
+    if let Some(rest) = behind_zero(bytes) {
+        return Ok((Vec::new(alloc), rest));
+    }
     Ok(read_vector::<Declaration>(alloc, bytes)?)
+}
+
+// The bytes behind a first one that is 0.
+#[inline]
+fn behind_zero(bytes: &[u8]) -> Option<&[u8]>
+    ensures { IfSome result (λ rest. bytes.now ≡ 0 ∷ rest.now) }
+{
+    match bytes.split_first() {
+        Some((first, rest)) if *first == 0 => Some(rest),
+        _ => None,
+    }
 }
 
 // The types of the locals that these declare, one for each.

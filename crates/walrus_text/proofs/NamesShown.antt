@@ -1,7 +1,7 @@
 -- What the arguments at marks name, one behind another, is what the operators name that they show.
-use Rattle.std.proofs.Common.{◌≡◌, ℕ, suc, ◌+◌, ◌<◌, ◌≤◌, Bool, true, false, List, [], ◌∷◌, ◌++◌, length, drop, get_or, map, drop-cons, refl, sym, ap, ap₂, subst, ◌∙◌, arith, append_assoc, append-nil}
-use Rattle.std.specs.Prelude.{flat_map, if◌then◌else◌, ◌&&◌, ℤ}
-use Rattle.std.specs.List.{list_all}
+use Rattle.std.proofs.Common.{◌≡◌, ℕ, zero, suc, ◌+◌, ◌<◌, ◌≤◌, Bool, true, false, List, [], ◌∷◌, ◌++◌, length, drop, get_or, map, drop-cons, refl, sym, ap, ap₂, subst, ◌∙◌, arith, append_assoc, append-nil}
+use Rattle.std.specs.Prelude.{flat_map, if◌then◌else◌, ◌&&◌, ◌≢◌, ℤ}
+use Rattle.std.specs.List.{All, list_all}
 use Rattle.std.proofs.lemmas.Grind.{flat_map-append}
 use Rattle.std.proofs.lemmas.List.Folds.{list_all-append}
 use Rattle.std.proofs.lemmas.List.{drop_all}
@@ -29,7 +29,7 @@ use Rattle.walrus_text.specs.Placed.{moved_arg, placed_ops}
 use Rattle.walrus_text.specs.Texts.{texts_at}
 use Rattle.walrus_text.specs.Text.{bytes_of, entry_of, marks_of, texts_of, first_local_of, ops_in}
 use Rattle.walrus_text.specs.declared.text.Text.{Text}
-use Rattle.walrus_text.proofs.AtMarks.{moved_names, moved_holds}
+use Rattle.walrus_text.proofs.AtMarks.{holds_at, moved_names, moved_holds}
 use Rattle.walrus_text.proofs.OrderLemmas.{shown_of}
 
 -- ---- one mark behind another
@@ -106,6 +106,14 @@ hold_not p bytes marks i d t e h g is = ap (λ x. x && list_all p (args_at bytes
 
 pub hold_all : (p : RawArg → Bool) (bytes marks : List ℕ) (i : ℕ) → length marks ≤ i → Holding p bytes marks (drop i marks) → true ≡ list_all p (args_at bytes marks)
 hold_all p bytes marks i h g = sym (ap (λ l. list_all p (args_at bytes l)) (drop_all i marks h)) ∙ g.same
+
+-- where no mark is that of a type of a block, all hold
+pub none_hold : (holds : ℕ → Bool) (bytes marks : List ℕ) → AreInOrder bytes 0 marks → All (λ mark. kind_of mark ≢ 10) marks → true ≡ list_all (λ arg. block_holds holds (arg_of arg)) (args_at bytes marks)
+none_hold holds bytes marks order none = go (length marks) 0 (omega arith) (hold_first (λ arg. block_holds holds (arg_of arg)) bytes marks order)
+  where
+    go : (n i : ℕ) → i + n ≡ length marks → Holding (λ arg. block_holds holds (arg_of arg)) bytes marks (drop i marks) → true ≡ list_all (λ arg. block_holds holds (arg_of arg)) (args_at bytes marks)
+    go zero i e h = hold_all (λ arg. block_holds holds (arg_of arg)) bytes marks i (omega (arith, e)) h
+    go (suc n) i e h = go n (i + 1) (omega (arith, e)) (hold_more (λ arg. block_holds holds (arg_of arg)) bytes marks i 0 true refl (omega (arith, e)) h (holds_at holds bytes (get_or marks i 0) (none i 0 (omega (arith, e)))))
 
 -- ---- what names nothing
 

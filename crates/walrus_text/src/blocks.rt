@@ -1,7 +1,8 @@
 //! The types of the blocks of a body (Structure > Instructions > Control Instructions).
-ghost use Rattle.std.specs.Prelude.{◌≡◌, IfOk};
-ghost use Rattle.std.specs.List.{list_all};
-ghost use Rattle.wasm_text.specs.Marks.{AreInOrder, args_at};
+ghost use Rattle.std.specs.Prelude.{◌≡◌, ◌≢◌, false, IfOk, IsFalse};
+ghost use Rattle.std.specs.List.{All, list_all};
+ghost use Rattle.wasm_text.specs.Marks.{AreInOrder, args_at, kind_of};
+ghost use Rattle.wasm_text.specs.declared.mark.TheConstants.{MARK_BLOCK as BLOCK_KIND};
 ghost use Rattle.walrus_bodies.specs.Blocks.{block_holds, blocks_hold};
 ghost use Rattle.walrus_types.specs.Operators.{Block};
 ghost use Rattle.walrus_bodies.specs.Code.{arg_of, block_of};
@@ -59,6 +60,25 @@ fn mark_holds<T: FunctionTypes>(types: &T, bytes: &[u8], mark: u32) -> Result<bo
     Ok(true)
 }
 
+// Whether there was one before, or this mark is that of a type of a block.
+#[inline]
+fn or_block(found: bool, mark: u32) -> bool
+    ensures { IsFalse result → (found ≡ false) × (kind_of mark ≢ BLOCK_KIND) }
+{
+    found || mark % 16 == MARK_BLOCK
+}
+
+// Whether one of these marks is that of a type of a block.
+fn has_blocks(marks: &[u32]) -> bool
+    ensures { IsFalse result → All (λ mark. kind_of mark ≢ BLOCK_KIND) marks.now }
+{
+    let mut found = false;
+    'marks: for mark in marks {
+        found = or_block(found, *mark);
+    }
+    found
+}
+
 // The same of all marks.
 fn marks_hold<T: FunctionTypes>(types: &T, bytes: &[u8], marks: &[u32]) -> Result<bool, AllocError>
     requires { AreInOrder bytes.now 0 marks.now }
@@ -66,6 +86,9 @@ fn marks_hold<T: FunctionTypes>(types: &T, bytes: &[u8], marks: &[u32]) -> Resul
         ≡ list_all (λ arg. block_holds (T.function_types types.now) (from_raw.arg_of arg))
         (args_at bytes.now marks.now)) }
 {
+    if !has_blocks(marks) {
+        return Ok(true);
+    }
     'marks: for mark in marks {
         if !mark_holds(types, bytes, *mark)? {
             return Ok(false);
