@@ -1,4 +1,4 @@
-use Rattle.std.proofs.Common.{Bool, List, ℕ, map, subst, sym, arith}
+use Rattle.std.proofs.Common.{ℕ, map, subst, sym}
 use Rattle.walrus_base.specs.Id.{place}
 use Rattle.walrus_types.specs.Operators.{locals_of}
 use Rattle.walrus_text.specs.Text.{ops_in}

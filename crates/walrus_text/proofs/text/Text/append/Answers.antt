@@ -1,4 +1,4 @@
-use Rattle.std.proofs.Common.{List, Option, None, ◌≡◌, ◌+◌, ◌-◌, ◌<◌, ℕ, get_or, map, ap, ◌∙◌, refl, arith}
+use Rattle.std.proofs.Common.{List, Option, None, ◌≡◌, ◌+◌, ◌-◌, ℕ, get_or, map, ap, ◌∙◌, refl, arith}
 use Rattle.std.specs.List.{range_with_len}
 use Rattle.std.proofs.lemmas.List.FromFn.{get_or-map-range_with_len}
 use Rattle.walrus_bodies.specs.Indices.{index_of, local_index}
