@@ -5,16 +5,18 @@ ghost use Rattle.walrus_base.specs.Id.{place};
 ghost use Rattle.walrus_types.specs.Operators.{locals_of};
 ghost use Rattle.walrus_types.specs.Locals.{locals};
 ghost use Rattle.walrus_types.specs.ModuleTypes.{type_slots};
-ghost use Rattle.walrus_text.specs.Function.{as_text, arg_count_of, body_of};
+ghost use Rattle.walrus_text.specs.Function.{as_text, arg_count_of, body_of, locations_of};
 ghost use Rattle.walrus_text.specs.Locals.{AreMarked};
-ghost use Rattle.walrus_text.specs.Text.{first_local_of, local_count_of, ops_in};
+ghost use Rattle.walrus_text.specs.Text.{first_local_of, local_count_of, locations_in, ops_in};
 ghost use Rattle.walrus_code.specs.Indices.{index_of};
 ghost use Rattle.walrus_bodies.specs.Declarations.{declarations_of};
 ghost use Rattle.walrus_bodies.specs.declared.features.Features.{Features as Proposals};
+ghost use Rattle.walrus_functions.specs.Code.{IsFlagged, locations_of_code, ops_of_code};
 ghost use Rattle.walrus_functions.specs.EmittedBody.{EmitsBody, source_of, takes, types_of};
 ghost use Rattle.walrus_functions.specs.Kept.{KeepsIndices};
 ghost use Rattle.walrus_functions.specs.Writing.{WritesBehind};
 
+use crate::code::{Code, code_of};
 use crate::emit::{append_all, declare, parameters_fit};
 use crate::kept::keeps_indices;
 use std::alloc::Global;
@@ -65,20 +67,36 @@ pub fn append_body(
             features,
             to,
         ),
-        None => append_any(alloc, function, types, module_locals, indices, features, to),
+        None => {
+            let code = code_of(alloc, function, false)?;
+            append_any(
+                alloc,
+                function,
+                &code,
+                types,
+                module_locals,
+                indices,
+                features,
+                to,
+            )
+        }
     }
 }
 
-// The same, without a look at how the body is kept.
+// The same, without a look at how the body is kept: its operators are these.
 fn append_any(
     alloc: Global,
     function: &LocalFunction,
+    code: &Code,
     types: &ModuleTypes,
     module_locals: &ModuleLocals,
     indices: &IdsToIndices,
     features: &Features,
     to: &mut Vec<u8>,
 ) -> Result<AppendedBody, IrError>
+    requires body { ops_of_code code.now ≡ body_of function.now }
+    requires locations { locations_of_code code.now ≡ locations_of function.now }
+    requires flagged { IsFlagged code.now }
     ensures { (bytes places : List ℕ) × (numbers : ℕ → Option ℕ) × (EmitsBody
         (source_of indices.now module_locals.now types.now function.now features.now)
         (λ _. bytes) (λ _. places) (λ _. numbers) (λ body. map place body.order.items)
@@ -88,6 +106,7 @@ fn append_any(
     let known = append_all(
         alloc,
         function,
+        code,
         types,
         module_locals,
         indices,
@@ -114,6 +133,7 @@ fn append_text(
 ) -> Result<AppendedBody, IrError>
     requires text { as_text function.now ≡ Some text.now }
     requires body { body_of function.now ≡ ops_in text.now }
+    requires locations { locations_of function.now ≡ locations_in text.now }
     ensures { (bytes places : List ℕ) × (numbers : ℕ → Option ℕ) × (EmitsBody
         (source_of indices.now module_locals.now types.now function.now features.now)
         (λ _. bytes) (λ _. places) (λ _. numbers) (λ body. map place body.order.items)
@@ -149,7 +169,16 @@ fn append_text(
             to,
         );
     }
-    append_any(alloc, function, types, module_locals, indices, features, to)
+    append_any(
+        alloc,
+        function,
+        &Code::Text { text, used },
+        types,
+        module_locals,
+        indices,
+        features,
+        to,
+    )
 }
 
 // The same where there are none.

@@ -9,7 +9,7 @@ ghost use Rattle.walrus_bodies.specs.Emitting.{EmitsOperators};
 ghost use Rattle.walrus_bodies.specs.FunctionTypes.{is_function_at};
 ghost use Rattle.walrus_bodies.specs.Results.{kept_if};
 ghost use Rattle.walrus_text.specs.Text.{ops_in};
-ghost use Rattle.walrus_functions.specs.Code.{is_listed, locations_of_code, ops_of_code};
+ghost use Rattle.walrus_functions.specs.Code.{AreFlags, IsFlagged, is_listed, locations_of_code, ops_of_code};
 ghost use Rattle.walrus_functions.specs.Declaring.{AreOnce};
 
 use crate::declared::named_once;
@@ -24,8 +24,8 @@ use walrus_types::ModuleTypes;
 // The operators of a body.
 #[derive(Drop)]
 pub(crate) enum Code<'a> {
-    // As they stand in the input.
-    Text(&'a Text),
+    // As they stand in the input, with a flag for each local of the function: whether they name it.
+    Text { text: &'a Text, used: Vec<bool> },
     // A list.
     List(Operators<'a>),
 }
@@ -39,9 +39,13 @@ pub(crate) fn code_of(
     ensures body { IfOk result (λ code. ops_of_code code ≡ body_of function.now) }
     ensures locations { IfOk result (λ code. locations_of_code code ≡ locations_of function.now) }
     ensures listed { asks_places ≡ true → IfOk result (λ code. is_listed code ≡ true) }
+    ensures flagged { IfOk result (λ code. IsFlagged code) }
 {
     match function.text() {
-        Some(text) if !asks_places => Ok(Code::Text(text)),
+        Some(text) if !asks_places => {
+            let used = text.used_locals(alloc)?;
+            Ok(Code::Text { text, used })
+        }
         _ => Ok(Code::List(function.operators(alloc)?)),
     }
 }
@@ -51,25 +55,27 @@ pub(crate) fn code_holds(types: &ModuleTypes, code: &Code) -> Result<bool, Alloc
     ensures { IfOk result (λ hold. hold ≡ blocks_hold (is_function_at types.now) (ops_of_code code.now)) }
 {
     match code {
-        Code::Text(text) => text.blocks_hold(types),
+        Code::Text { text, .. } => text.blocks_hold(types),
         Code::List(operators) => Ok(blocks_hold(types, operators.as_slice())),
     }
 }
 
 // The locals that the operators of a body name, each once, by rising place.
-fn text_locals(alloc: Global, text: &Text) -> Result<Vec<LocalId>, AllocError>
+fn text_locals(alloc: Global, text: &Text, used: &[bool]) -> Result<Vec<LocalId>, AllocError>
+    requires { AreFlags text.now used.now }
     ensures { IfOk result (λ named. AreOnce (locals_of (ops_in text.now)) (map place named.items)) }
 {
-    let used = text.used_locals(alloc)?;
-    marked_locals(alloc, text.first_local() as usize, used.as_slice())
+    let _count = text.local_count();
+    marked_locals(alloc, text.first_local() as usize, used)
 }
 
 // The same of any body.
 pub(crate) fn code_locals(alloc: Global, code: &Code) -> Result<Vec<LocalId>, AllocError>
+    requires { IsFlagged code.now }
     ensures { IfOk result (λ named. AreOnce (locals_of (ops_of_code code.now)) (map place named.items)) }
 {
     match code {
-        Code::Text(text) => text_locals(alloc, text),
+        Code::Text { text, used } => text_locals(alloc, text, used.as_slice()),
         Code::List(operators) => named_once(alloc, operators.as_slice()),
     }
 }
@@ -101,7 +107,7 @@ pub(crate) fn append_code(
         ≡ kept_if asks_places (locations_of_code code.now)) }
 {
     match code {
-        Code::Text(text) => {
+        Code::Text { text, .. } => {
             text.append(to, indices, locals)?;
             Ok(Vec::new(alloc))
         }

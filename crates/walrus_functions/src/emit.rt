@@ -9,7 +9,7 @@ ghost use Rattle.walrus_text.specs.Function.{function_type, body_of, locations_o
 ghost use Rattle.walrus_code.specs.Indices.{index_of, local_index};
 ghost use Rattle.walrus_bodies.specs.Declarations.{declarations_of};
 ghost use Rattle.walrus_bodies.specs.Results.{kept_if};
-ghost use Rattle.walrus_functions.specs.Code.{is_listed, locations_of_code, ops_of_code};
+ghost use Rattle.walrus_functions.specs.Code.{IsFlagged, is_listed, locations_of_code, ops_of_code};
 ghost use Rattle.walrus_functions.specs.Declaring.{AreOnce};
 ghost use Rattle.walrus_functions.specs.EmittedBody.{EmitsBody, source_of, types_of};
 ghost use Rattle.walrus_functions.specs.Writing.{HasSignature, FindsDeclared, DeclaresLocals, WritesBehind};
@@ -99,10 +99,12 @@ pub fn emit_body_with(
     ensures located { IfOk result (λ body. map (λ p. p.0) body.places.items
         ≡ kept_if asks_places (locations_of function.now)) }
 {
+    let code = code_of(alloc, function, asks_places)?;
     let mut bytes = Vec::with_capacity(alloc, likely_length(function))?;
     let known = append_all(
         alloc,
         function,
+        &code,
         types,
         module_locals,
         indices,
@@ -133,10 +135,11 @@ pub(crate) struct KnownBody {
     pub(crate) used: Vec<bool>,
 }
 
-// Appends the bytes of a function's body; where places are asked for, as the first ones.
+// Appends the bytes of a function's body, whose operators these are; where places are asked for, as the first ones.
 pub(crate) fn append_all(
     alloc: Global,
     function: &LocalFunction,
+    code: &Code,
     types: &ModuleTypes,
     module_locals: &ModuleLocals,
     indices: &IdsToIndices,
@@ -144,7 +147,11 @@ pub(crate) fn append_all(
     asks_places: bool,
     to: &mut Vec<u8>,
 ) -> Result<KnownBody, IrError>
-    requires { asks_places ≡ true → to.old.items ≡ [] }
+    requires body { ops_of_code code.now ≡ body_of function.now }
+    requires locations { locations_of_code code.now ≡ locations_of function.now }
+    requires flagged { IsFlagged code.now }
+    requires listed { asks_places ≡ true → is_listed code.now ≡ true }
+    requires alone { asks_places ≡ true → to.old.items ≡ [] }
     ensures written { (bytes places : List ℕ) × (EmitsBody
         (source_of indices.now module_locals.now types.now function.now features.now)
         (λ _. bytes) (λ _. places) (λ body. local_index body.locals)
@@ -160,12 +167,11 @@ pub(crate) fn append_all(
     if !fits {
         return Err(IrError::NotWritable);
     }
-    let code = code_of(alloc, function, asks_places)?;
-    let hold = code_holds(types, &code)?;
+    let hold = code_holds(types, code)?;
     if !hold {
         return Err(IrError::NotWritable);
     }
-    let named = code_locals(alloc, &code)?;
+    let named = code_locals(alloc, code)?;
     let declared = find_declared(alloc, function, args, named.as_slice(), module_locals)?;
     if declared.len() >= 1 << 32 {
         return Err(IrError::TooLarge);
@@ -184,7 +190,7 @@ pub(crate) fn append_all(
     };
     write_body(
         alloc,
-        &code,
+        code,
         declarations.as_slice(),
         locals,
         all,

@@ -1,10 +1,10 @@
 -- The new numbers of what a body names.
-use Rattle.std.specs.Prelude.{ℕ, ◌+◌, ◌-◌, Option, Some, None, nat_eq, if◌then◌else◌}
+use Rattle.std.specs.Prelude.{ℕ, ◌+◌, ◌-◌, List, Option, Some, None, slice_index_or, nat_eq, if◌then◌else◌}
 use Rattle.wasm_text.specs.Filling.{Numbering}
 use Rattle.wasm_text.specs.declared.mark.TheConstants.{MARK_LOCAL, MARK_FUNCTION, MARK_GLOBAL, MARK_TYPE, MARK_TABLE, MARK_MEMORY}
 use Rattle.walrus_types.specs.Operators.{Types, Functions, Tables, Memories, Globals}
 use Rattle.walrus_bodies.specs.Names.{Lookup}
-use Rattle.walrus_bodies.specs.Indices.{index_of, local_index}
+use Rattle.walrus_bodies.specs.Indices.{index_of}
 use Rattle.walrus_text.specs.declared.write.BodyNumbers.{BodyNumbers}
 use Rattle.walrus_text.specs.declared.write.KeptNumbers.{KeptNumbers}
 
@@ -22,9 +22,13 @@ item_number names kind index =
 abbrev pub numbering : Lookup → (ℕ → Option ℕ) → (first : ℕ) → Numbering
 numbering names locals first kind index = if nat_eq kind MARK_LOCAL then locals (first + index) else item_number names kind index
 
+-- the number of a local in a table of those from a place on
+abbrev pub table_index : ℕ → List (Option ℕ) → ℕ → Option ℕ
+table_index first table place = slice_index_or table (place - first) None
+
 -- those of a body
 abbrev pub numbers_in : BodyNumbers → Numbering
-numbers_in numbers = numbering (index_of numbers.indices.now) (local_index numbers.locals.now) numbers.first_local
+numbers_in numbers = numbering (index_of numbers.indices.now) (table_index numbers.first_local numbers.table.now) numbers.first_local
 
 -- the index of a local that lies behind the first one
 abbrev pub kept_index : ℕ → ℕ → Option ℕ

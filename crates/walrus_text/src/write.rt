@@ -1,5 +1,6 @@
 //! Writing a body with new numbers (Binary Format > Instructions).
-ghost use Rattle.std.specs.Prelude.{◌≡◌, ◌+◌, ◌<◌, ℕ, List, Option, Some};
+ghost use Rattle.std.specs.Prelude.{◌≡◌, ◌+◌, ◌<◌, ℕ, List, None, Option, Some, map, slice_index_or, IfOk};
+ghost use Rattle.std.specs.List.{range_with_len};
 ghost use Rattle.wasm_forms.specs.Number.{AreBytes};
 ghost use Rattle.wasm_text.specs.Filling.{Answers};
 ghost use Rattle.walrus_bodies.specs.Names.{Lookup};
@@ -10,6 +11,7 @@ ghost use Rattle.walrus_text.specs.Numbers.{item_number, kept_numbers_in, number
 ghost use Rattle.walrus_text.specs.Text.{first_local_of, local_count_of, ops_in};
 
 use crate::text::Text;
+use std::alloc::{AllocError, Global};
 use walrus_base::Id;
 use walrus_bodies::{IdsToIndices, IrError, LocalNumbers};
 use wasm_text::{
@@ -17,11 +19,11 @@ use wasm_text::{
     append_filled,
 };
 
-// The new numbers of what a body names: its locals lie from a place on.
+// The new numbers of what a body names: its locals lie from a place on, and stand in a table in that order.
 #[derive(Drop)]
 pub(crate) struct BodyNumbers<'a> {
     pub(crate) indices: &'a IdsToIndices,
-    pub(crate) locals: &'a LocalNumbers,
+    pub(crate) table: &'a [Option<u32>],
     pub(crate) first_local: u32,
 }
 
@@ -40,6 +42,37 @@ fn number_or_none(number: Option<u32>) -> u64
     match number {
         Some(number) => u64::from(number),
         None => NO_NUMBER,
+    }
+}
+
+// The new numbers of so many locals from a place on.
+fn new_numbers(
+    alloc: Global,
+    locals: &LocalNumbers,
+    first: u32,
+    count: u32,
+) -> Result<Vec<Option<u32>>, AllocError>
+    ensures { IfOk result (λ table. table.items
+        ≡ map (local_index locals.now) (range_with_len first count)) }
+{
+    let mut table = Vec::with_capacity(alloc, count as usize)?;
+    'locals: for offset in 0..count {
+        let place = first as usize + offset as usize;
+        table.push(locals.get(Id::at(place)))?;
+    }
+    Ok(table)
+}
+
+// What a table has at an index; none behind its end.
+#[inline]
+fn entry_at(table: &[Option<u32>], index: u32) -> Option<u32>
+    ensures { result ≡ slice_index_or table.now index None }
+{
+    let place = index as usize;
+    if place < table.len() {
+        table[place]
+    } else {
+        None
     }
 }
 
@@ -65,8 +98,7 @@ impl<'a> Numbers for BodyNumbers<'a> {
     #[inline]
     fn new_number(&self, kind: u32, index: u32) -> u64 {
         if kind == MARK_LOCAL {
-            let place = self.first_local as usize + index as usize;
-            return number_or_none(self.locals.get(Id::at(place)));
+            return number_or_none(entry_at(self.table, index));
         }
         number_or_none(item_number(self.indices, kind, index))
     }
@@ -124,9 +156,11 @@ impl Text {
             (local_index locals.now) features (ops_in self.now) to.old.items to.new.items
             (λ _. places) result }
     {
+        let alloc = *to.allocator();
+        let table = new_numbers(alloc, locals, self.first_local, self.local_count)?;
         let numbers = BodyNumbers {
             indices,
-            locals,
+            table: table.as_slice(),
             first_local: self.first_local,
         };
         append_numbered(self, to, &numbers)

@@ -1,4 +1,4 @@
-use Rattle.std.proofs.Common.{Bool, List, ℕ, map, subst, sym}
+use Rattle.std.proofs.Common.{ℕ, map, subst, sym}
 use Rattle.walrus_base.specs.Id.{place}
 use Rattle.walrus_types.specs.Operators.{locals_of}
 use Rattle.walrus_text.specs.Text.{ops_in}
@@ -9,6 +9,5 @@ use Rattle.walrus_functions.proofs.code.text_locals.Goals as goal
 pub returns : goal.returns
 returns c =
     let places = locals_of (ops_in c.args.text.now) in
-    let from_here = subst (λ (first : ℕ). AreMarked first c.in_ok-used.used.items places) (sym c.first_local.ensures) c.in_ok-used.ensures.flags in
-    let all = subst (λ (marks : List Bool). AreMarked c.first_local.result marks places) (sym c.as_slice.ensures.value) from_here in
-    taken_once (λ named. map place named.items) c.marked_locals.result c.first_local.result c.as_slice.result.now places all c.marked_locals.ensures
+    let all = subst (λ (first : ℕ). AreMarked first c.args.used.now places) (sym c.first_local.ensures) c.requires.marked in
+    taken_once (λ named. map place named.items) c.marked_locals.result c.first_local.result c.args.used.now places all c.marked_locals.ensures

@@ -68,7 +68,7 @@ marks named once h slice named_slice all held used is one two are =
 pub find_declared-requires-clause-named : goal.find_declared-requires-clause-named
 find_declared-requires-clause-named c =
     subst (λ (ids : List Local). AreOnce (locals_of (body_of c.args.function.now)) (map place ids)) (sym c.as_slice.ensures.value)
-    (subst (λ (ops : List Op). AreOnce (locals_of ops) (map place c.in_ok-named.named.items)) c.in_ok-code.ensures.body c.in_ok-named.ensures)
+    (subst (λ (ops : List Op). AreOnce (locals_of ops) (map place c.in_ok-named.named.items)) c.requires.body c.in_ok-named.ensures)
 
 pub which_named-requires : goal.which_named-requires
 which_named-requires c = subst (λ (ids : List Local). IsStrictlySortedBy nat_cmp (map place ids)) (sym c.as_slice-6.ensures.value) c.in_ok-named.ensures.rising
@@ -145,19 +145,19 @@ returns-clause-written c =
     let under = c.if-len.false in
     let few : length order < 2 ^ 32 = omega (arith, size, counted, under) in
     let numbers = local_index c.in_ok-locals.locals in
-    let once : AreOnce (locals_of s.ops) (map place c.in_ok-named.named.items) = subst (λ (ops : List Op). AreOnce (locals_of ops) (map place c.in_ok-named.named.items)) c.in_ok-code.ensures.body c.in_ok-named.ensures in
+    let once : AreOnce (locals_of s.ops) (map place c.in_ok-named.named.items) = subst (λ (ops : List Op). AreOnce (locals_of ops) (map place c.in_ok-named.named.items)) c.requires.body c.in_ok-named.ensures in
     let bytes = c.write_body.ensures.written.0 in
     let places = c.write_body.ensures.written.1 in
     let made = emitted s order c.in_ok-declared.ensures.1 ds written
     (fits_type s (c.in_ok-fits.ensures.0 c.if-not-fits.false) c.in_ok-declared.ensures.0)
-    (ap (blocks_hold (is_function_at c.args.types.now)) (sym c.in_ok-code.ensures.body) ∙ sym c.in_ok-hold.ensures ∙ c.if-not-hold.false)
+    (ap (blocks_hold (is_function_at c.args.types.now)) (sym c.requires.body) ∙ sym c.in_ok-hold.ensures ∙ c.if-not-hold.false)
     few numbers
     (λ x. c.in_ok-locals.ensures x ∙ ap (λ (ps : List ℕ). place_in ps x) (ap (map place) c.as_slice-4.ensures.value ∙ are))
     (map place c.in_ok-all.all.items) are c.in_ok-used.used.items
     (marks (locals_of s.ops) (map place c.in_ok-named.named.items) once c.as_slice-5.result.now c.as_slice-6.result.now c.in_ok-all.all.items c.in_ok-named.named.items c.in_ok-used.used.items c.in_ok-used.ensures c.as_slice-5.ensures.value c.as_slice-6.ensures.value refl)
     (λ _. bytes) (λ _. places) (λ body. local_index body.locals) (λ body. map place body.order.items) (λ body. body.used.items) c.write_body.result
     (known c.in_ok-locals.locals c.in_ok-all.all c.in_ok-used.used c.write_body.result (all_known (λ body. body.locals) (λ body. body.order) (λ body. body.used) c.in_ok-locals.locals c.in_ok-all.all c.in_ok-used.used c.write_body.result c.write_body.ensures.numbered c.write_body.ensures.ordered c.write_body.ensures.marked))
-    (rw (c.in_ok-code.ensures.body, c.as_slice-7.ensures.value) at c.write_body.ensures.written.2.0) in
+    (rw (c.requires.body, c.as_slice-7.ensures.value) at c.write_body.ensures.written.2.0) in
     (bytes, places, (made, c.write_body.ensures.written.2.1))
 
 pub returns-in_err-fits-clause-written : goal.returns-in_err-fits-clause-written
@@ -216,19 +216,13 @@ returns-then-not-fits-clause-written c =
 
 pub returns-then-not-hold-clause-written : goal.returns-then-not-hold-clause-written
 returns-then-not-hold-clause-written c =
-    ([], [], (inr (inl (ap (blocks_hold (is_function_at c.args.types.now)) (sym c.in_ok-code.ensures.body) ∙ sym c.in_ok-hold.ensures ∙ c.if-not-hold.true)), tt))
+    ([], [], (inr (inl (ap (blocks_hold (is_function_at c.args.types.now)) (sym c.requires.body) ∙ sym c.in_ok-hold.ensures ∙ c.if-not-hold.true)), tt))
 
 pub returns-in_err-parameters-clause-written : goal.returns-in_err-parameters-clause-written
 returns-in_err-parameters-clause-written c = let p = err_from_is_err_and c.from_residual.result c.from_residual.ensures.1 in rw (p.1, p.2) ([], [], (tt, tt))
 
 pub returns-in_err-parameters-clause-located : goal.returns-in_err-parameters-clause-located
 returns-in_err-parameters-clause-located c = let p = err_from_is_err_and c.from_residual.result c.from_residual.ensures.1 in rw p.1 tt
-
-pub returns-in_err-code-clause-written : goal.returns-in_err-code-clause-written
-returns-in_err-code-clause-written c = let p = err_from_is_err_and c.from_residual-in_err-code.result c.from_residual-in_err-code.ensures.1 in rw (p.1, p.2) ([], [], (tt, tt))
-
-pub returns-in_err-code-clause-located : goal.returns-in_err-code-clause-located
-returns-in_err-code-clause-located c = let p = err_from_is_err_and c.from_residual-in_err-code.result c.from_residual-in_err-code.ensures.1 in rw p.1 tt
 
 pub returns-in_err-hold-clause-written : goal.returns-in_err-hold-clause-written
 returns-in_err-hold-clause-written c = let p = err_from_is_err_and c.from_residual-in_err-hold.result c.from_residual-in_err-hold.ensures.1 in rw (p.1, p.2) ([], [], (tt, tt))

@@ -8,14 +8,20 @@ use Rattle.walrus_functions.specs.declared.emit.EmittedBody.{EmittedBody}
 use Rattle.walrus_functions.proofs.AppendLemmas.{refused_body}
 use Rattle.walrus_functions.proofs.emit.emit_body_with.Goals as goal
 
-pub append_all-requires : goal.append_all-requires
-append_all-requires c _ = c.in_ok-bytes.ensures.items
+pub append_all-requires-clause-alone : goal.append_all-requires-clause-alone
+append_all-requires-clause-alone c _ = c.in_ok-bytes.ensures.items
+
+pub returns-in_err-code-clause-written : goal.returns-in_err-code-clause-written
+returns-in_err-code-clause-written c = let p = err_from_is_err_and c.from_residual.result c.from_residual.ensures.1 in rw (p.1, p.2) ([], (tt, tt))
+
+pub returns-in_err-code-clause-located : goal.returns-in_err-code-clause-located
+returns-in_err-code-clause-located c = let p = err_from_is_err_and c.from_residual.result c.from_residual.ensures.1 in rw p.1 tt
 
 pub returns-in_err-bytes-clause-written : goal.returns-in_err-bytes-clause-written
-returns-in_err-bytes-clause-written c = let p = err_from_is_err_and c.from_residual.result c.from_residual.ensures.1 in rw (p.1, p.2) ([], (tt, tt))
+returns-in_err-bytes-clause-written c = let p = err_from_is_err_and c.from_residual-in_err-bytes.result c.from_residual-in_err-bytes.ensures.1 in rw (p.1, p.2) ([], (tt, tt))
 
 pub returns-in_err-bytes-clause-located : goal.returns-in_err-bytes-clause-located
-returns-in_err-bytes-clause-located c = let p = err_from_is_err_and c.from_residual.result c.from_residual.ensures.1 in rw p.1 tt
+returns-in_err-bytes-clause-located c = let p = err_from_is_err_and c.from_residual-in_err-bytes.result c.from_residual-in_err-bytes.ensures.1 in rw p.1 tt
 
 pub returns-in_err-known-clause-written : goal.returns-in_err-known-clause-written
 returns-in_err-known-clause-written c =
