@@ -1,4 +1,4 @@
-use Rattle.std.proofs.Common.{◌+◌, arith, ap, map}
+use Rattle.std.proofs.Common.{◌+◌, ◌∙◌, arith, ap, map}
 use Rattle.wasm_payloads.specs.Lent.{locals_entry}
 use Rattle.walrus_code.specs.Indices.{index_of}
 use Rattle.walrus_writing.specs.Bodies.{appended_seen}
@@ -15,7 +15,7 @@ order-init c = record {
 }
 
 pub overflow_sub-size : goal.overflow_sub-size
-overflow_sub-size c = no_fewer _ _ _ _ _ c.len-before.ensures c.len.ensures c.in_ok-body.ensures.value.1.0
+overflow_sub-size c = no_fewer c.len-before.result c.len.result c.order.bytes.items c.append_one.new.to.items c.in_ok-body.ensures.value.0 (c.len-before.ensures ∙ c.order.bytes.ok.0) (c.len.ensures ∙ c.append_one.new.to.ok.0) c.in_ok-body.ensures.value.1.0
 
 pub order-preserved : goal.order-preserved
 order-preserved c =
@@ -23,9 +23,9 @@ order-preserved c =
     record {
       counted = omega (arith, c.order.invariant.counted);
       written = one_written c.args.under.parts (index_of c.args.under.indices.now) c.args.under.features.now c.args.order.now c.order.id-index _ c.args.first c.args.chosen _ _ _ _ _ _ _ _ (appended_seen text c.in_ok-body.body) c.order-test.true c.order.invariant.counted c.order.invariant.written
-          c.in_ok-body.ensures.value.1.1 c.in_ok-body.ensures.value.1.0 (grown _ _ _ _ _ c.len-before.ensures c.len.ensures c.in_ok-body.ensures.value.1.0) c.in_ok-push.ensures.items
+          c.in_ok-body.ensures.value.1.1 c.in_ok-body.ensures.value.1.0 (grown c.len-before.result c.len.result c.order.bytes.items c.append_one.new.to.items c.in_ok-body.ensures.value.0 (c.len-before.ensures ∙ c.order.bytes.ok.0) (c.len.ensures ∙ c.append_one.new.to.ok.0) c.in_ok-body.ensures.value.1.0) c.in_ok-push.ensures.items
           c.in_ok-push_names.ensures.value;
     }
 
 pub returns-clause-value : goal.returns-clause-value
-returns-clause-value c = all_written c.args.under.parts (index_of c.args.under.indices.now) c.args.under.features.now c.args.order.now c.order.id-index _ _ _ _ _ (omega (arith, c.order-test.false)) c.order.invariant.written
+returns-clause-value c = all_written c.args.under.parts (index_of c.args.under.indices.now) c.args.under.features.now c.args.order.now c.order.id-index _ _ _ _ _ c.order-test.false c.order.invariant.written
