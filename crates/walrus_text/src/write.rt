@@ -157,7 +157,7 @@ impl Text {
             (λ _. places) result }
     {
         let alloc = *to.allocator();
-        let table = new_numbers(alloc, locals, self.first_local, self.local_count)?;
+        let table = new_numbers(alloc, locals, self.first_local, self.local_count())?;
         let numbers = BodyNumbers {
             indices,
             table: table.as_slice(),
