@@ -14,7 +14,8 @@ use walrus_base::TypeId;
 use walrus_bodies::{Features, FunctionTypes};
 use walrus_code::{InstrLocId, IrError};
 use walrus_functions::{
-    EmittedBody, Limits, PlainCode, ScanRoom, emit_body, emit_body_with, read_body, scan_body,
+    AppendedBody, EmittedBody, Limits, PlainCode, ScanRoom, append_body, emit_body, read_body,
+    scan_body,
 };
 use walrus_text::LocalFunction;
 use walrus_types::ModuleLocals;
@@ -139,29 +140,29 @@ pub fn write_all(
     let mut bytes = Vec::new(alloc);
     let mut index = 0usize;
     for function in functions {
-        let body = write_one(alloc, function, context).map_err(|error| Failure::Writing(
-            index, error,
-        ))?;
-        bytes.extend_from_slice(&body.bytes)?;
+        let _known = append_one(alloc, function, context, &mut bytes).map_err(
+            |error| Failure::Writing(index, error),
+        )?;
         index = index.saturating_add(1);
     }
     Ok(bytes)
 }
 
-// Writes one body, of which a plain one is copied as it stands but for new numbers.
-fn write_one(
+// Appends one body, of which a plain one is copied as it stands but for new numbers.
+fn append_one(
     alloc: Global,
     function: &LocalFunction,
     context: &Context,
-) -> Result<EmittedBody, IrError> {
-    emit_body_with(
+    to: &mut Vec<u8>,
+) -> Result<AppendedBody, IrError> {
+    append_body(
         alloc,
         function,
         &context.types,
         &context.locals,
         &context.numbers,
         &FEATURES,
-        false,
+        to,
     )
 }
 
@@ -206,16 +207,20 @@ fn compare_one(
     function: &LocalFunction,
     context: &mut Context,
 ) -> Result<(), Failure> {
-    let body = write_one(alloc, function, context).map_err(|error| Failure::Writing(index, error))?;
+    let mut bytes = Vec::new(alloc);
+    let known = append_one(alloc, function, context, &mut bytes).map_err(|error| Failure::Writing(
+        index, error,
+    ))?;
     let listed = write_listed(alloc, function, context).map_err(|error| Failure::Writing(
         index, error,
     ))?;
     let mut locals = ModuleLocals::new(alloc);
-    let copy = read_again(alloc, &body, function.ty(), &mut locals, context).map_err(
+    let copy = read_again(alloc, &listed, function.ty(), &mut locals, context).map_err(
         |error| Failure::ReadingAgain(index, error),
     )?;
-    let (numbers, own) = (&body.locals, &context.locals);
-    if same_function(alloc, function, own, numbers, &copy, &locals)? && body.bytes == listed.bytes {
+    let (numbers, own) = (&listed.locals, &context.locals);
+    let same = bytes == listed.bytes && known.order == listed.order && known.used == listed.used;
+    if same_function(alloc, function, own, numbers, &copy, &locals)? && same {
         Ok(())
     } else {
         Err(Failure::Differs(index))
