@@ -6,7 +6,6 @@ use Rattle.wasm_entries.specs.declared.record.RawExportKind.TheVariants as kinds
 use Rattle.std.proofs.Common.{◌≡◌, ℕ, List, [], ◌∷◌, map, refl, sym, ap, ap₂, subst, ◌∙◌, inl, inr, ⊎_elim, ◌<◌, Bool, true}
 use Rattle.std.specs.Prelude.{Option, Some, None, IsSome, Contains, filter_map, option_map, slice_get, ◌++◌}
 use Rattle.std.specs.List.{AllZip}
-use Rattle.walrus_base.specs.Id.{place}
 use Rattle.walrus_base.specs.Types.{ValType}
 use Rattle.walrus_types.specs.Operators.{Space, Types, Functions, Tables, Memories, Tags, Globals, Elements, DataSegments, locals_of}
 use Rattle.walrus_types.specs.TypeDef.{TypeDef}

@@ -19,7 +19,7 @@ use Rattle.walrus_contents.proofs.Steps.{zip_length}
 use Rattle.walrus_names.specs.Names.{all_local_names, filled, local_names}
 use Rattle.walrus_names.specs.Pushed.{with_map}
 use Rattle.walrus_plan.proofs.Turns.{zip_turn}
-use Rattle.walrus_writing.specs.Bodies.{AreBodies, AreWritten, texts_in}
+use Rattle.walrus_writing.specs.Bodies.{AreWritten, texts_in}
 use Rattle.walrus_writing.specs.Parts.{BodySeen, IsWrittenBody, unplaced}
 
 -- ---- texts

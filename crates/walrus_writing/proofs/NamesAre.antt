@@ -11,7 +11,6 @@ use Rattle.std.proofs.lemmas.Map.Views.{Contains-from_any, list_any-from_Contain
 use Rattle.wasm_payloads.specs.declared.naming.NameSpace.{NameSpace}
 use Rattle.wasm_payloads.specs.declared.naming.NameSpace.TheVariants as spaces
 use Rattle.walrus_base.specs.Arena.{item_at}
-use Rattle.walrus_base.specs.Id.{place}
 use Rattle.walrus_types.specs.Locals.{locals}
 use Rattle.walrus_types.specs.Operators.{Space, Types, Functions, Tables, Memories, Tags, Globals, Elements, DataSegments, Item, locals_of}
 use Rattle.walrus_types.specs.declared.locals.Local.{Local}

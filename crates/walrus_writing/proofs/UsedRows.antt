@@ -3,7 +3,6 @@ use Rattle.std.proofs.Common.{◌≡◌, ℕ, zero, suc, ◌+◌, ◌-◌, ◌<�
 use Rattle.std.specs.Prelude.{Option, filter_map, option_and_then, slice_get, zip}
 use Rattle.std.specs.List.{AllZip}
 use Rattle.std.proofs.lemmas.List.{length-append}
-use Rattle.walrus_base.specs.Id.{place}
 use Rattle.walrus_types.specs.Operators.{Functions}
 use Rattle.walrus_items.specs.Function.{args_of}
 use Rattle.walrus_bodies.specs.declared.features.Features.{Features}

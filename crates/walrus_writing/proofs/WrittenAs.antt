@@ -1,9 +1,8 @@
 -- The text that records make, the module of indices that it says, and the renaming.
 use Rattle.wasm_frames.specs.Record as wire
-use Rattle.std.proofs.Common.{◌≡◌, ℕ, List, [], ◌∷◌, ◌++◌, map, sym, ap, Some}
+use Rattle.std.proofs.Common.{◌≡◌, ℕ, List, [], ◌∷◌, ◌++◌, sym, ap, Some}
 use Rattle.std.specs.Prelude.{Option, unwrap_or, ◌==◌, if◌then◌else◌}
 use Rattle.std.specs.List.{AllZip}
-use Rattle.walrus_base.specs.Id.{place}
 use Rattle.walrus_types.specs.Operators.{Space, Functions}
 use Rattle.walrus_types.specs.Shape.{place_in}
 use Rattle.walrus_code.specs.Names.{Lookup}

@@ -1,6 +1,5 @@
-use Rattle.std.proofs.Common.{◌<◌, ◌^◌, [], length, map, refl, sym, ap, ◌∙◌, arith}
+use Rattle.std.proofs.Common.{◌<◌, ◌^◌, [], length, map, refl, sym, arith}
 use Rattle.std.proofs.lemmas.Bool.Decides.{nat_tests}
-use Rattle.std.proofs.lemmas.List.{length-map}
 use Rattle.std.proofs.lemmas.Result.{err_from_is_err_and}
 use Rattle.walrus_base.specs.Id.{place}
 use Rattle.walrus_code.specs.Indices.{index_of}

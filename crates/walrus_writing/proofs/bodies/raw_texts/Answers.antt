@@ -1,4 +1,4 @@
-use Rattle.std.proofs.Common.{◌≡◌, ◌∙◌, ap, map, length}
+use Rattle.std.proofs.Common.{◌∙◌, ap, map}
 use Rattle.wasm_frames.specs.Record.{body_record}
 use Rattle.walrus_code.proofs.Turns.{map_snoc}
 use Rattle.walrus_writing.proofs.JoinedBodies.{text_within, texts_turn, texts_within}

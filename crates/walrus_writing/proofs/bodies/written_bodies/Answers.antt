@@ -1,4 +1,4 @@
-use Rattle.std.proofs.Common.{◌+◌, ◌∙◌, arith, ap, map}
+use Rattle.std.proofs.Common.{◌∙◌, arith, ap, map}
 use Rattle.wasm_payloads.specs.Lent.{locals_entry}
 use Rattle.walrus_code.specs.Indices.{index_of}
 use Rattle.walrus_writing.specs.Bodies.{appended_seen}
