@@ -23,8 +23,8 @@ returns-in_err-one-clause-fails c =
     (next_has (map (λ g. Some (said.global_of (global_entry g))) c.loop-global.raw.items) (λ g. named_global (index_of c.args.indices.now) (global_of g)) _ _ _ _ w.made (own_step _ _ _ c.in-Some.ensures.steps (λ x. x.imported_by) (none_brings place _ _ _ c.global_import.ensures c.is_none.ensures c.if-is_none.true)) c.requires.indexed)
     c.in_err-one.ensures)
 
-pub loop-global-preserved-in-Continue-branch-2 : goal.loop-global-preserved-in-Continue-branch-2
-loop-global-preserved-in-Continue-branch-2 c = (
+pub loop-global-preserved-in-Continue-branch-3 : goal.loop-global-preserved-in-Continue-branch-3
+loop-global-preserved-in-Continue-branch-3 c = (
   tt,
   tt,
   written_more _ _ _ _ _ _ _ _ _ _ _ c.in-Some.ensures.steps c.loop-global.invariant.2 _ (none_brings place _ _ _ c.global_import.ensures c.is_none.ensures c.if-is_none.true) c.in_ok-push.ensures.items c.in_ok-one.ensures.1 c.in_ok-one.ensures.2 (sym c.in_ok-one.ensures.0),

@@ -23,8 +23,8 @@ returns-in_err-one-clause-fails c =
     (next_has (map (λ t. Some (said.table_of (table_entry t))) c.loop-table.raw.items) (λ t. named_table (index_of c.args.indices.now) (table_of t)) _ _ _ _ w.made (own_step _ _ _ c.in-Some.ensures.steps (λ x. x.imported_by) (none_brings place _ _ _ refl c.is_none.ensures c.if-is_none.true)) c.requires.indexed)
     c.in_err-one.ensures)
 
-pub loop-table-preserved-in-Continue-branch-2 : goal.loop-table-preserved-in-Continue-branch-2
-loop-table-preserved-in-Continue-branch-2 c = (
+pub loop-table-preserved-in-Continue-branch-3 : goal.loop-table-preserved-in-Continue-branch-3
+loop-table-preserved-in-Continue-branch-3 c = (
   tt,
   tt,
   written_more _ _ _ _ _ _ _ _ _ _ _ c.in-Some.ensures.steps c.loop-table.invariant.2 _ (none_brings place _ _ _ refl c.is_none.ensures c.if-is_none.true) c.in_ok-push.ensures.items c.in_ok-one.ensures.1 c.in_ok-one.ensures.2 (sym c.in_ok-one.ensures.0),
