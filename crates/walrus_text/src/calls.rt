@@ -18,6 +18,11 @@ impl Text {
         self.bytes().len()
     }
 
+    /// How many bytes the bodies of its module have together that are kept as this one is.
+    pub fn code_length(&self) -> usize {
+        self.code.as_ref().bytes.len()
+    }
+
     /// The place of the function's first local.
     #[tactic(auto, unfolding(crate::specs::Text::first_local_of))]
     pub fn first_local(&self) -> u32

@@ -54,8 +54,17 @@ pub fn local_of(funcs: &ModuleFunctions, id: FunctionId) -> Option<&LocalFunctio
     }
 }
 
+// How many bytes those bodies have that are kept as they stand in the input, if the first of these functions has one.
+fn kept_length(funcs: &ModuleFunctions, order: &[FunctionId]) -> Option<usize> {
+    let first = local_of(funcs, *order.first()?)?;
+    Some(first.text()?.code_length())
+}
+
 // For how many bytes to reserve memory for the bodies of these functions.
 fn likely_lengths(funcs: &ModuleFunctions, order: &[FunctionId]) -> usize {
+    if let Some(kept) = kept_length(funcs, order) {
+        return kept.saturating_add(order.len().saturating_mul(4));
+    }
     let mut total: usize = 0;
     'order: for id in order {
         if let Some(local) = local_of(funcs, *id) {
