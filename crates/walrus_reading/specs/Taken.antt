@@ -14,7 +14,7 @@ use Rattle.walrus_types.specs.Value.{val_type}
 use Rattle.walrus_types.specs.declared.locals.Local.{Local as LocalItem}
 use Rattle.walrus_types.specs.declared.locals.ModuleLocals.{ModuleLocals}
 use Rattle.walrus_types.specs.declared.module_types.ModuleTypes.{ModuleTypes}
-use Rattle.walrus_items.specs.Function.{function_type, body_of, locations_of, args_of}
+use Rattle.walrus_items.specs.Function.{function_type, name_of, body_of, locations_of, args_of}
 use Rattle.walrus_items.specs.LocalFunction.{LocalFunction}
 use Rattle.walrus_code.specs.Location.{location, location_at}
 use Rattle.walrus_code.specs.declared.location.InstrLocId.{InstrLocId}
