@@ -5,7 +5,6 @@ use Rattle.walrus_base.specs.Id.{place}
 use Rattle.walrus_types.specs.Locals.{locals}
 use Rattle.walrus_functions.specs.Signatures.{slots_of}
 use Rattle.walrus_items.specs.Functions.{functions}
-use Rattle.walrus_items.specs.Seen.{text_of}
 use Rattle.walrus_parts.specs.declared.function_kind.FunctionKind.TheVariants.{Local}
 use Rattle.wasm_frames.specs.Record.{body_record}
 use Rattle.walrus_contents.proofs.Taking.{some_same}
@@ -29,7 +28,7 @@ returns-clause-taken g c =
         taken (context_under c.args.under.now c.args.types.now) (tags_under c.args.under.now) (c.args.index, body_record c.args.body.now) (place c.in-Some.ty) own
             (slots_of c.args.types.now) (slots_of c.read_located.new.types) (locals c.args.all.now) (locals c.read_located.new.all)
             c.in_ok-function.function c.in_ok-function.ensures.read (length (functions c.args.funcs.now)) _
-            (ap₂ (λ i n. Some (record { id = i; kind = Local c.in_ok-function.function; name = n })) c.in_ok-add_local.ensures.0 (ap text_of c.in_ok-function.ensures.read.unnamed)),
+            (ap₂ (λ i n. Some (record { id = i; kind = Local c.in_ok-function.function; name = n })) c.in_ok-add_local.ensures.0 c.in_ok-function.ensures.read.unnamed),
       ),
     )
 
