@@ -3,9 +3,9 @@
 use crate::made::read;
 use std::alloc::Global;
 use std::test::Fail;
-use test_support::{are, demand};
+use test_support::{add_bytes, are, demand};
 use walrus::passes::{Used, gc};
-use walrus::{FunctionId, Module};
+use walrus::{Error, FunctionId, Module, ModuleConfig};
 use walrus_test_support::demand_output;
 
 const EMPTY: &str = "00 61 73 6D 01 00 00 00";
@@ -50,6 +50,22 @@ fn drop_in_turn(alloc: Global, module: &mut Module) -> Result<(), Fail> {
 fn reads_drops_and_writes(rt: HostRuntime) -> Result<(), Fail> {
     let mut module = read(rt.alloc(), INPUT)?;
     drop_in_turn(rt.alloc(), &mut module)
+}
+
+// What the module that the text says is written as, in which nothing dead is looked for.
+fn written_whole(alloc: Global, text: &str) -> Result<Vec<u8>, Error> {
+    let mut bytes = Vec::new(alloc);
+    add_bytes(&mut bytes, text);
+    let mut config = ModuleConfig::new();
+    config.generate_producers_section(false);
+    let mut module = config.parse(alloc, &bytes)?;
+    module.emit_whole(alloc)
+}
+
+#[test]
+fn what_was_read_is_written_whole(rt: HostRuntime) -> Result<(), Fail> {
+    let alloc = rt.alloc();
+    demand_output(alloc, written_whole(alloc, INPUT), INPUT)
 }
 
 // Two equal types, a function of each, which are exported as a and b.
