@@ -1,7 +1,8 @@
 -- Bytes from one place up to another.
-use Rattle.std.proofs.Common.{◌≡◌, ℕ, ◌+◌, ◌-◌, ◌≤◌, List, [], ◌∷◌, ◌++◌, length, take, drop, sym, ap, ◌∙◌, arith}
-use Rattle.std.proofs.lemmas.List.{take-append-drop, length-drop, length-take-le, take_at, drop-drop, length-append}
+use Rattle.std.proofs.Common.{◌≡◌, ℕ, zero, suc, ◌+◌, ◌-◌, ◌<◌, ◌≤◌, List, [], ◌∷◌, ◌++◌, length, take, drop, get_or, sym, ap, subst, ◌∙◌, arith}
+use Rattle.std.proofs.lemmas.List.{take-append-drop, length-drop, length-take-le, take_at, drop-drop, length-append, get_or-drop}
 use Rattle.std.proofs.Math.Seq.{take-add}
+use Rattle.wasm_forms.specs.Number.{AreBytes}
 use Rattle.wasm_text.specs.Places.{between}
 
 -- what stands from a place on: what stands up to another one, and what stands from there on
@@ -33,3 +34,31 @@ pub one_byte : (bytes : List ℕ) (at b : ℕ) → drop at bytes ≡ b ∷ drop 
 one_byte bytes at b e =
     let n : at + 1 - at ≡ 1 = omega arith in
     ap (λ k. take k (drop at bytes)) n ∙ ap (take 1) e
+
+-- each is a byte
+bytes_of : (xs : List ℕ) → ((i : ℕ) → get_or xs i 0 < 256) → AreBytes xs
+bytes_of [] h = tt
+bytes_of (x ∷ xs) h = (h 0, bytes_of xs (λ i. h (suc i)))
+
+bytes_from : (xs : List ℕ) (at : ℕ) → ((i : ℕ) → get_or xs i 0 < 256) → AreBytes (drop at xs)
+bytes_from xs at h = bytes_of (drop at xs) (λ i. subst (λ (k : ℕ). k < 256) (sym (get_or-drop at xs i 0)) (h (at + i)))
+
+pub bytes_front : (n : ℕ) (xs : List ℕ) → AreBytes xs → AreBytes (take n xs)
+bytes_front zero xs h = tt
+bytes_front (suc n) [] h = tt
+bytes_front (suc n) (x ∷ xs) h = (h.0, bytes_front n xs h.1)
+
+pub bytes_between : (bytes : List ℕ) (at behind : ℕ) → ((i : ℕ) → get_or bytes i 0 < 256) → AreBytes (between at behind bytes)
+bytes_between bytes at behind h = bytes_front (behind - at) (drop at bytes) (bytes_from bytes at h)
+
+-- no more than there are from one place up to the other
+take_most : (n : ℕ) (xs : List ℕ) → length (take n xs) ≤ n
+take_most zero xs = omega arith
+take_most (suc n) [] = omega arith
+take_most (suc n) (x ∷ xs) = omega (arith, take_most n xs)
+
+pub between_most : (bytes : List ℕ) (at behind : ℕ) → length (between at behind bytes) ≤ behind - at
+between_most bytes at behind = take_most (behind - at) (drop at bytes)
+
+pub between_none : (bytes : List ℕ) (at : ℕ) → between at at bytes ≡ []
+between_none bytes at = let e : at - at ≡ 0 = omega arith in ap (λ k. take k (drop at bytes)) e

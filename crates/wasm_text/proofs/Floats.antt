@@ -1,6 +1,5 @@
 -- The bytes of floats.
-use Rattle.std.proofs.Common.{◌≡◌, ℕ, zero, suc, ◌+◌, ◌-◌, ◌*◌, ◌/◌, ◌%◌, ◌<◌, ◌≤◌, List, [], ◌∷◌, length, take, drop, get_or, refl, sym, ap, ap₂, subst, ◌∙◌, arith, inl, inr}
-use Rattle.std.proofs.lemmas.List.{get_or-drop}
+use Rattle.std.proofs.Common.{◌≡◌, ℕ, zero, suc, ◌+◌, ◌-◌, ◌*◌, ◌/◌, ◌%◌, ◌<◌, ◌≤◌, List, [], ◌∷◌, length, get_or, refl, sym, ap, ap₂, subst, ◌∙◌, arith, inl, inr}
 use Rattle.wasm_forms.specs.Number.{AreBytes, little}
 use Rattle.wasm_forms.specs.Spelling.{little_bytes}
 use Rattle.wasm_operators.specs.declared.operator.RawArg.TheVariants as args
@@ -9,20 +8,8 @@ use Rattle.wasm_operators.specs.Forms.{arg_form, args_form}
 use Rattle.wasm_text.specs.declared.limits.Limits.{Limits}
 use Rattle.wasm_text.specs.Places.{between, IfPlace}
 use Rattle.wasm_text.specs.Scans.{ScansArgs}
-use Rattle.wasm_text.proofs.Between.{length_between}
+use Rattle.wasm_text.proofs.Between.{length_between, bytes_between}
 use Rattle.wasm_text.proofs.Scans.{of_one, plain_arg}
-
-bytes_of : (xs : List ℕ) → ((i : ℕ) → get_or xs i 0 < 256) → AreBytes xs
-bytes_of [] h = tt
-bytes_of (x ∷ xs) h = (h 0, bytes_of xs (λ i. h (suc i)))
-
-bytes_from : (xs : List ℕ) (at : ℕ) → ((i : ℕ) → get_or xs i 0 < 256) → AreBytes (drop at xs)
-bytes_from xs at h = bytes_of (drop at xs) (λ i. subst (λ (k : ℕ). k < 256) (sym (get_or-drop at xs i 0)) (h (at + i)))
-
-pub bytes_front : (n : ℕ) (xs : List ℕ) → AreBytes xs → AreBytes (take n xs)
-bytes_front zero xs h = tt
-bytes_front (suc n) [] h = tt
-bytes_front (suc n) (x ∷ xs) h = (h.0, bytes_front n xs h.1)
 
 little_again : (count : ℕ) (xs : List ℕ) → length xs ≡ count → AreBytes xs → little_bytes count (little xs) ≡ xs
 little_again zero [] e h = refl
@@ -36,7 +23,7 @@ little_again (suc count) (x ∷ xs) e h =
 once : (count : ℕ) (bytes : List ℕ) (at behind : ℕ) → ((i : ℕ) → get_or bytes i 0 < 256) → behind ≡ at + count → behind ≤ length bytes → (length (between at behind bytes) ≡ count) × (little_bytes count (little (between at behind bytes)) ≡ between at behind bytes)
 once count bytes at behind small e w =
     let long : length (between at behind bytes) ≡ count = length_between bytes at behind w ∙ omega (arith, e) in
-    (long, little_again count (between at behind bytes) long (bytes_front (behind - at) (drop at bytes) (bytes_from bytes at small)))
+    (long, little_again count (between at behind bytes) long (bytes_between bytes at behind small))
 
 pub f32_scans : (limits : Limits) (bytes : List ℕ) (start at behind : ℕ) (old : List ℕ) → ((i : ℕ) → get_or bytes i 0 < 256) → IfPlace behind ((behind ≡ at + 4) × (behind ≤ length bytes)) → ScansArgs (args_form (kinds.F32 ∷ [])) limits bytes start at old old behind
 unfolding arg_form

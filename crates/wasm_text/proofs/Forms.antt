@@ -45,15 +45,15 @@ small_stands bytes at behind value (inr (n, s)) is small =
     let same : value ≡ n = is behind n s in
     inr (subst (λ (k : ℕ). Stands U32 bytes at behind k) (sym same) (u32_stands bytes at behind n s (omega (arith, same, small))))
 
--- ---- a number in one byte is its one spelling
+-- ---- a number of one byte is in its one spelling
 
-pub number_lone : (bytes : List ℕ) (n : ℕ) → length bytes ≡ 1 → IsUnsigned bytes n → number_bytes n ≡ bytes
+pub number_lone : (bytes : List ℕ) (n : ℕ) → length bytes ≤ 1 → IsUnsigned bytes n → number_bytes n ≡ bytes
 unfolding number_bytes
 number_lone [] n e h = absurd h
 number_lone (b ∷ []) n e h = groups-last false 128 8 n (omega (arith, h.0, h.1)) ∙ ap (λ k. k ∷ []) h.1
 number_lone (b ∷ c ∷ bs) n e h = absurd (omega (arith, e))
 
-integer_lone : (bytes : List ℕ) (z : ℤ) → length bytes ≡ 1 → IsSigned bytes z → integer_bytes z ≡ bytes
+pub integer_lone : (bytes : List ℕ) (z : ℤ) → length bytes ≤ 1 → IsSigned bytes z → integer_bytes z ≡ bytes
 unfolding integer_bytes
 integer_lone [] z e h = absurd h
 integer_lone (b ∷ []) z e (inl h) = ap integer_bytes h.1 ∙ groups-last false 64 8 b h.0
@@ -62,9 +62,3 @@ integer_lone (b ∷ []) z e (inr h) =
     let q : 127 - (127 - b) ≡ b = omega arith in
     ap integer_bytes p ∙ groups-last true 64 8 (127 - b) (omega arith) ∙ ap (λ k. k ∷ []) q
 integer_lone (b ∷ c ∷ bs) z e h = absurd (omega (arith, e))
-
-pub number_once : (most top : ℕ) (bytes : List ℕ) (at behind n : ℕ) → behind ≡ at + 1 → Stands (Number most top) bytes at behind n → number_bytes n ≡ between at behind bytes
-number_once most top bytes at behind n e s = number_lone (between at behind bytes) n (omega (arith, length_between bytes at behind s.within, e)) s.text.spelled
-
-pub integer_once : (most half : ℕ) (bytes : List ℕ) (at behind : ℕ) (z : ℤ) → behind ≡ at + 1 → Stands (Integer most half) bytes at behind z → integer_bytes z ≡ between at behind bytes
-integer_once most half bytes at behind z e s = integer_lone (between at behind bytes) z (omega (arith, length_between bytes at behind s.within, e)) s.text.spelled

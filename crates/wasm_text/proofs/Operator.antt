@@ -53,7 +53,7 @@ two_code n h =
     let lead : (op / 65536) % 256 ≡ 252 = omega arith in
     let low : op % 65536 ≡ n = omega arith in
     ap (λ t. if t then (op % 256) ∷ [] else ((op / 65536) % 256) ∷ number_bytes (op % 65536)) (le-ltb op 65536 (omega arith))
-    ∙ ap₂ (λ (x : ℕ) (y : List ℕ). x ∷ y) lead (ap number_bytes low ∙ number_lone (n ∷ []) n refl (h, refl))
+    ∙ ap₂ (λ (x : ℕ) (y : List ℕ). x ∷ y) lead (ap number_bytes low ∙ number_lone (n ∷ []) n (omega arith) (h, refl))
 
 -- ---- together
 

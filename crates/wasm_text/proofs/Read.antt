@@ -14,8 +14,7 @@ use Rattle.wasm_text.specs.declared.limits.Limits.{Limits}
 use Rattle.wasm_text.specs.Places.{between, Stands, IsNumberAt}
 use Rattle.wasm_text.specs.Marks.{shifted, Holds}
 use Rattle.wasm_text.specs.Scans.{HasOperator}
-use Rattle.wasm_text.proofs.Between.{join, length_between}
-use Rattle.wasm_text.proofs.Floats.{bytes_front}
+use Rattle.wasm_text.proofs.Between.{join, length_between, bytes_front}
 use Rattle.wasm_text.proofs.Showing.{holds_more}
 
 -- ---- numbers

@@ -14,11 +14,12 @@ use Rattle.wasm_operators.specs.Forms.{arg_form, args_form, access, access_from,
 use Rattle.wasm_operators.specs.Spelling.{arg_bytes}
 use Rattle.wasm_text.specs.declared.limits.Limits.{Limits}
 use Rattle.wasm_text.specs.declared.places.TheConstants.{NO_PLACE}
-use Rattle.wasm_text.specs.Places.{between, Stands, IfPlace, IsPast, IsBehind, IsNumberAt}
+use Rattle.wasm_text.specs.Places.{between, Stands, IsShortest, IfPlace, IsPast, IsBehind, IsNumberAt}
 use Rattle.wasm_text.specs.Marks.{form_of, naming, arg_names, Leaves}
-use Rattle.wasm_text.specs.Scans.{IsWithin, mark_at, IsMarked, IsMarkedIfLonger, IsIndexed, HasArgs, ScansArgs, count_form}
+use Rattle.wasm_text.specs.Scans.{IsWithin, mark_at, IsMarked, IsMarkedIfPadded, IsIndexed, HasArgs, ScansArgs, count_form}
 use Rattle.wasm_text.proofs.Between.{length_between, join}
-use Rattle.wasm_text.proofs.Forms.{u32_stands, number_once, integer_once}
+use Rattle.wasm_text.proofs.Forms.{u32_stands}
+use Rattle.wasm_text.proofs.Shortest.{number_once, integer_once}
 use Rattle.wasm_text.proofs.Showing.{shows_plain, shows_marked}
 
 -- ---- one argument
@@ -116,25 +117,25 @@ pub memory_scans : {E : Type 0} (limits : Limits) (bytes : List ℕ) (start at :
 unfolding form_of arg_form
 memory_scans limits bytes start at old new = index_scans kinds.Memory args.Memory limits bytes start at limits.memories 5 old new (omega arith) (λ b n h. (n, (refl, h))) (λ b n h. (n, (refl, h))) (λ n h. h)
 
--- ---- arguments that get a mark where they are longer than a byte
+-- ---- arguments that get a mark where they are padded
 
-pub longer_arg : (form : Form (List RawArg)) (limits : Limits) (bytes : List ℕ) (start at behind kind : ℕ) (old new : List ℕ) (place : ℕ) (arg found : RawArg) → kind < 16
+pub padded_arg : (form : Form (List RawArg)) (limits : Limits) (bytes : List ℕ) (start at behind kind : ℕ) (old new : List ℕ) (place : ℕ) (arg found : RawArg) → kind < 16
     → Stands (form_of kind) bytes at behind found → Is form (between at behind bytes) (arg ∷ []) → arg_names arg ≡ false → arg_names found ≡ false → arg_bytes arg ≡ arg_bytes found
-    → (behind ≡ at + 1 → arg_bytes arg ≡ between at behind bytes) → IsWithin limits arg → IsMarkedIfLonger start at kind behind old new place → ScansArgs form limits bytes start at old new place
-longer_arg form limits bytes start at behind kind old new place arg found small stands is none none' same once fits (inl e) = inl e
-longer_arg form limits bytes start at behind kind old new place arg found small stands is none none' same once fits (inr (e, inl (one, kept))) =
+    → (IsShortest (between at behind bytes) → arg_bytes arg ≡ between at behind bytes) → IsWithin limits arg → IsMarkedIfPadded bytes start at kind behind old new place → ScansArgs form limits bytes start at old new place
+padded_arg form limits bytes start at behind kind old new place arg found small stands is none none' same once fits (inl e) = inl e
+padded_arg form limits bytes start at behind kind old new place arg found small stands is none none' same once fits (inr (e, inl (one, kept))) =
     inr (subst (λ (k : ℕ). HasArgs form limits bytes start at k old new) (sym e) (subst (λ (k : List ℕ). HasArgs form limits bytes start at behind old k) (sym kept)
-    (plain_arg form limits bytes start at behind old arg (omega (arith, one)) stands.within is none (once one) fits)))
-longer_arg form limits bytes start at behind kind old new place arg found small stands is none none' same once fits (inr (e, inr put)) =
+    (plain_arg form limits bytes start at behind old arg (omega (arith, stands.forward)) stands.within is none (once one) fits)))
+padded_arg form limits bytes start at behind kind old new place arg found small stands is none none' same once fits (inr (e, inr put)) =
     inr (subst (λ (k : ℕ). HasArgs form limits bytes start at k old new) (sym e)
     (marked_arg form limits bytes start at behind kind old new arg found small stands is
     (λ f l. ap arg_bytes (l arg none) ∙ same ∙ sym (ap arg_bytes (l found none')))
     (ap (λ t. if t then arg ∷ [] else []) none ∙ sym (ap (λ t. if t then found ∷ [] else []) none')) fits put))
 
 -- where no number stands, none is answered
-no_place : {A : Type 0} (start at kind behind : ℕ) (old new : List ℕ) (place : ℕ) → behind ≡ NO_PLACE → IsMarkedIfLonger start at kind behind old new place → IfPlace place A
-no_place start at kind behind old new place e (inl n) = inl n
-no_place start at kind behind old new place e (inr (same, put)) = inl (same ∙ e)
+no_place : {A : Type 0} (bytes : List ℕ) (start at kind behind : ℕ) (old new : List ℕ) (place : ℕ) → behind ≡ NO_PLACE → IsMarkedIfPadded bytes start at kind behind old new place → IfPlace place A
+no_place bytes start at kind behind old new place e (inl n) = inl n
+no_place bytes start at kind behind old new place e (inr (same, put)) = inl (same ∙ e)
 
 number_form : (kind : ℕ) → kind ≡ 7 → (b : List ℕ) (n : ℕ) → Is U32 b n → Is (form_of kind) b (args.Number n)
 unfolding form_of
@@ -142,41 +143,41 @@ number_form kind e b n h = subst (λ (k : ℕ). Is (form_of k) b (args.Number n)
 
 pub number_scans : (form : Form (List RawArg)) (make : ℕ → RawArg) (limits : Limits) (bytes : List ℕ) (start at behind value : ℕ) (old new : List ℕ) (place : ℕ)
     → ((b : List ℕ) → Is U32 b value → Is form b (make value ∷ [])) → arg_names (make value) ≡ false → arg_bytes (make value) ≡ number_bytes value → IsWithin limits (make value)
-    → value < 4294967296 → IsNumberAt bytes at value → IsPast bytes at 5 behind → IsMarkedIfLonger start at 7 behind old new place → ScansArgs form limits bytes start at old new place
-number_scans form make limits bytes start at behind value old new place formed none spelled fits small is (inl e) m = no_place start at 7 behind old new place e m
+    → value < 4294967296 → IsNumberAt bytes at value → IsPast bytes at 5 behind → IsMarkedIfPadded bytes start at 7 behind old new place → ScansArgs form limits bytes start at old new place
+number_scans form make limits bytes start at behind value old new place formed none spelled fits small is (inl e) m = no_place bytes start at 7 behind old new place e m
 number_scans form make limits bytes start at behind value old new place formed none spelled fits small is (inr (n, s)) m =
     let same : value ≡ n = is behind n s in
     let stands : Stands U32 bytes at behind value = subst (λ (k : ℕ). Stands U32 bytes at behind k) (sym same) (u32_stands bytes at behind n s (omega (arith, same, small))) in
-    longer_arg form limits bytes start at behind 7 old new place (make value) (args.Number value) (omega arith)
+    padded_arg form limits bytes start at behind 7 old new place (make value) (args.Number value) (omega arith)
     (record { forward = stands.forward; within = stands.within; text = number_form 7 refl (between at behind bytes) value stands.text })
-    (formed (between at behind bytes) stands.text) none refl spelled (λ e. spelled ∙ number_once 5 4294967296 bytes at behind value e stands) fits m
+    (formed (between at behind bytes) stands.text) none refl spelled (λ e. spelled ∙ number_once 5 4294967296 bytes at behind value (omega arith) e stands) fits m
 
 pub label_scans : (limits : Limits) (bytes : List ℕ) (start at behind value : ℕ) (old new : List ℕ) (place : ℕ) → value < limits.labels
-    → value < 4294967296 → IsNumberAt bytes at value → IsPast bytes at 5 behind → IsMarkedIfLonger start at 7 behind old new place → ScansArgs (args_form (kinds.Label ∷ [])) limits bytes start at old new place
+    → value < 4294967296 → IsNumberAt bytes at value → IsPast bytes at 5 behind → IsMarkedIfPadded bytes start at 7 behind old new place → ScansArgs (args_form (kinds.Label ∷ [])) limits bytes start at old new place
 unfolding arg_form
 label_scans limits bytes start at behind value old new place fits =
     number_scans (args_form (kinds.Label ∷ [])) args.Label limits bytes start at behind value old new place (λ b h. of_one kinds.Label b (args.Label value ∷ []) (value, (refl, h))) refl refl fits
 
 pub count_scans : (limits : Limits) (bytes : List ℕ) (start at behind value : ℕ) (old new : List ℕ) (place : ℕ)
-    → value < 4294967296 → IsNumberAt bytes at value → IsPast bytes at 5 behind → IsMarkedIfLonger start at 7 behind old new place → ScansArgs (count_form value) limits bytes start at old new place
+    → value < 4294967296 → IsNumberAt bytes at value → IsPast bytes at 5 behind → IsMarkedIfPadded bytes start at 7 behind old new place → ScansArgs (count_form value) limits bytes start at old new place
 count_scans limits bytes start at behind value old new place =
     number_scans (count_form value) args.Count limits bytes start at behind value old new place (λ b h. (value, (refl, (h, eq-eqb value value refl)))) refl refl tt
 
-pub s32_scans : (limits : Limits) (bytes : List ℕ) (start at behind : ℕ) (old new : List ℕ) (place : ℕ) → IsBehind S32 bytes at behind → IsMarkedIfLonger start at 8 behind old new place → ScansArgs (args_form (kinds.S32 ∷ [])) limits bytes start at old new place
+pub s32_scans : (limits : Limits) (bytes : List ℕ) (start at behind : ℕ) (old new : List ℕ) (place : ℕ) → IsBehind S32 bytes at behind → IsMarkedIfPadded bytes start at 8 behind old new place → ScansArgs (args_form (kinds.S32 ∷ [])) limits bytes start at old new place
 unfolding form_of arg_form
-s32_scans limits bytes start at behind old new place (inl e) m = no_place start at 8 behind old new place e m
+s32_scans limits bytes start at behind old new place (inl e) m = no_place bytes start at 8 behind old new place e m
 s32_scans limits bytes start at behind old new place (inr (z, s)) m =
-    longer_arg (args_form (kinds.S32 ∷ [])) limits bytes start at behind 8 old new place (args.S32 z) (args.S32 z) (omega arith)
+    padded_arg (args_form (kinds.S32 ∷ [])) limits bytes start at behind 8 old new place (args.S32 z) (args.S32 z) (omega arith)
     (record { forward = s.forward; within = s.within; text = (z, (refl, s.text)) })
-    (of_one kinds.S32 (between at behind bytes) (args.S32 z ∷ []) (z, (refl, s.text))) refl refl refl (λ e. integer_once 5 2147483648 bytes at behind z e s) tt m
+    (of_one kinds.S32 (between at behind bytes) (args.S32 z ∷ []) (z, (refl, s.text))) refl refl refl (λ e. integer_once 5 2147483648 bytes at behind z (omega arith) e s) tt m
 
-pub s64_scans : (limits : Limits) (bytes : List ℕ) (start at behind : ℕ) (old new : List ℕ) (place : ℕ) → IsBehind S64 bytes at behind → IsMarkedIfLonger start at 9 behind old new place → ScansArgs (args_form (kinds.S64 ∷ [])) limits bytes start at old new place
+pub s64_scans : (limits : Limits) (bytes : List ℕ) (start at behind : ℕ) (old new : List ℕ) (place : ℕ) → IsBehind S64 bytes at behind → IsMarkedIfPadded bytes start at 9 behind old new place → ScansArgs (args_form (kinds.S64 ∷ [])) limits bytes start at old new place
 unfolding form_of arg_form
-s64_scans limits bytes start at behind old new place (inl e) m = no_place start at 9 behind old new place e m
+s64_scans limits bytes start at behind old new place (inl e) m = no_place bytes start at 9 behind old new place e m
 s64_scans limits bytes start at behind old new place (inr (z, s)) m =
-    longer_arg (args_form (kinds.S64 ∷ [])) limits bytes start at behind 9 old new place (args.S64 z) (args.S64 z) (omega arith)
+    padded_arg (args_form (kinds.S64 ∷ [])) limits bytes start at behind 9 old new place (args.S64 z) (args.S64 z) (omega arith)
     (record { forward = s.forward; within = s.within; text = (z, (refl, s.text)) })
-    (of_one kinds.S64 (between at behind bytes) (args.S64 z ∷ []) (z, (refl, s.text))) refl refl refl (λ e. integer_once 10 9223372036854775808 bytes at behind z e s) tt m
+    (of_one kinds.S64 (between at behind bytes) (args.S64 z ∷ []) (z, (refl, s.text))) refl refl refl (λ e. integer_once 10 9223372036854775808 bytes at behind z (omega arith) e s) tt m
 
 -- ---- accesses
 

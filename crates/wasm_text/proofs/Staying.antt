@@ -1,20 +1,23 @@
 -- Arguments that stay as they stand.
-use Rattle.std.proofs.Common.{◌≡◌, ℕ, zero, suc, Bool, true, false, eqb-true, ◌+◌, ◌-◌, ◌<◌, ◌≤◌, List, [], ◌∷◌, ◌++◌, length, drop, Some, refl, sym, ap, ap₂, subst, ◌∙◌, arith, append_assoc, inr}
+use Rattle.std.proofs.Common.{◌≡◌, ℕ, zero, suc, Bool, true, false, eqb-true, ◌+◌, ◌-◌, ◌<◌, ◌≤◌, List, [], ◌∷◌, ◌++◌, length, take, drop, get_or, Some, refl, sym, ap, ap₂, subst, ◌∙◌, arith, append_assoc, inl, inr}
 use Rattle.std.specs.Prelude.{Option, None, option_map, nat_eq}
-use Rattle.std.proofs.lemmas.List.{length-drop}
+use Rattle.std.proofs.lemmas.List.{length-drop, append-nil}
 use Rattle.wasm_forms.specs.Grammar.{Is, U32, U64}
 use Rattle.wasm_forms.specs.Spelling.{number_bytes}
-use Rattle.wasm_forms.proofs.Groups.{groups-last}
+use Rattle.wasm_forms.proofs.Turns.{power_up}
 use Rattle.wasm_operators.specs.declared.operator.RawArg.{RawArg}
 use Rattle.wasm_operators.specs.declared.operator.RawArg.TheVariants as args
 use Rattle.wasm_operators.specs.Forms.{access}
 use Rattle.wasm_operators.specs.Spelling.{arg_bytes}
-use Rattle.wasm_text.specs.Places.{between, Stands}
+use Rattle.wasm_operators.specs.Standing.{ArgHeld}
+use Rattle.wasm_text.specs.declared.places.TheConstants.{NO_PLACE}
+use Rattle.wasm_text.specs.Places.{between, Stands, StandsNumber, IsShortest, IsPast}
 use Rattle.wasm_text.specs.Marks.{place_of, kind_of, form_of}
-use Rattle.wasm_text.specs.Filling.{Numbering, Answers, renamed, Puts, Steps, Stays, IfStays}
-use Rattle.wasm_text.proofs.Between.{one_byte, join}
+use Rattle.wasm_text.specs.Filling.{Numbering, Answers, renamed, Lacks, Puts, Steps, Stays, IfStays}
+use Rattle.wasm_text.proofs.Between.{join, length_between, between_none, bytes_between}
 use Rattle.wasm_text.proofs.Filling.{found_is}
-use Rattle.wasm_text.proofs.Forms.{stands_byte, unsigned_byte, number_once}
+use Rattle.wasm_text.proofs.Forms.{stands_byte, unsigned_byte}
+use Rattle.wasm_text.proofs.Shortest.{number_once, lone_between, unsigned_bound}
 use Rattle.wasm_text.proofs.Scans.{access_text}
 
 pub stays_put : (number : Numbering) (bytes : List ℕ) (run mark : ℕ) (old : List ℕ) → run ≤ place_of mark → Stays number bytes mark → Puts number bytes run mark run old old
@@ -37,46 +40,69 @@ pub stays_step : (number : Numbering) (bytes : List ℕ) (run mark : ℕ) (old :
 stays_step number bytes run mark old true e l s = inr (stays_put number bytes run mark old l s)
 stays_step number bytes run mark old false e l s = absurd cc
 
--- an index that is one byte, and keeps its number
-record OneIndex (number : Numbering) (kind b : ℕ) : Type 0 where
-  arg : RawArg
-  is : Is (form_of kind) (b ∷ []) arg
-  has : renamed number arg ≡ Some arg
-  spelled : arg_bytes arg ≡ number_bytes b
+-- ---- indices
 
-one_index : (number : Numbering) (kind b : ℕ) → kind ≤ 5 → b < 128 → number kind b ≡ Some b → OneIndex number kind b
+-- the arguments that are indices of this kind
+record OfIndex (kind : ℕ) : Type 0 where
+  make : ℕ → RawArg
+  is : (bytes : List ℕ) (n : ℕ) → Is U32 bytes n → Is (form_of kind) bytes (make n)
+  renames : (number : Numbering) (n : ℕ) → renamed number (make n) ≡ option_map make (number kind n)
+  spelled : (n : ℕ) → arg_bytes (make n) ≡ number_bytes n
+  held : (n : ℕ) → n < 4294967296 → ArgHeld (make n)
+
+of_index : (kind : ℕ) → kind ≤ 5 → OfIndex kind
 unfolding form_of
-one_index number zero b k h e = record { arg = args.Local b; is = (b, (refl, unsigned_byte 5 4294967296 b (omega arith) h (omega arith))); has = ap (option_map args.Local) e; spelled = refl }
-one_index number (suc zero) b k h e = record { arg = args.Function b; is = (b, (refl, unsigned_byte 5 4294967296 b (omega arith) h (omega arith))); has = ap (option_map args.Function) e; spelled = refl }
-one_index number (suc (suc zero)) b k h e = record { arg = args.Global b; is = (b, (refl, unsigned_byte 5 4294967296 b (omega arith) h (omega arith))); has = ap (option_map args.Global) e; spelled = refl }
-one_index number (suc (suc (suc zero))) b k h e = record { arg = args.«Type» b; is = (b, (refl, unsigned_byte 5 4294967296 b (omega arith) h (omega arith))); has = ap (option_map args.«Type») e; spelled = refl }
-one_index number (suc (suc (suc (suc zero)))) b k h e = record { arg = args.Table b; is = (b, (refl, unsigned_byte 5 4294967296 b (omega arith) h (omega arith))); has = ap (option_map args.Table) e; spelled = refl }
-one_index number (suc (suc (suc (suc (suc zero))))) b k h e = record { arg = args.Memory b; is = (b, (refl, unsigned_byte 5 4294967296 b (omega arith) h (omega arith))); has = ap (option_map args.Memory) e; spelled = refl }
-one_index number (suc (suc (suc (suc (suc (suc n)))))) b k h e = absurd (omega (arith, k))
+of_index zero k = record { make = args.Local; is = λ b n h. (n, (refl, h)); renames = λ number n. refl; spelled = λ n. refl; held = λ n h. h }
+of_index (suc zero) k = record { make = args.Function; is = λ b n h. (n, (refl, h)); renames = λ number n. refl; spelled = λ n. refl; held = λ n h. h }
+of_index (suc (suc zero)) k = record { make = args.Global; is = λ b n h. (n, (refl, h)); renames = λ number n. refl; spelled = λ n. refl; held = λ n h. h }
+of_index (suc (suc (suc zero))) k = record { make = args.«Type»; is = λ b n h. (n, (refl, h)); renames = λ number n. refl; spelled = λ n. refl; held = λ n h. h }
+of_index (suc (suc (suc (suc zero)))) k = record { make = args.Table; is = λ b n h. (n, (refl, h)); renames = λ number n. refl; spelled = λ n. refl; held = λ n h. h }
+of_index (suc (suc (suc (suc (suc zero))))) k = record { make = args.Memory; is = λ b n h. (n, (refl, h)); renames = λ number n. refl; spelled = λ n. refl; held = λ n h. h }
+of_index (suc (suc (suc (suc (suc (suc n)))))) k = absurd (omega (arith, k))
 
-small_bytes : (b : ℕ) → b < 128 → number_bytes b ≡ b ∷ []
-unfolding number_bytes
-small_bytes b h = groups-last false 128 8 b h
+index_stands : (bytes : List ℕ) (mark behind n : ℕ) (o : OfIndex (kind_of mark)) → Stands U32 bytes (place_of mark) behind n → Stands (form_of (kind_of mark)) bytes (place_of mark) behind (o.make n)
+index_stands bytes mark behind n o s = record { forward = s.forward; within = s.within; text = o.is (between (place_of mark) behind bytes) n s.text }
 
-index_kept : (number : Numbering) (bytes : List ℕ) (mark b : ℕ) → kind_of mark ≤ 5 → b < 128 → drop (place_of mark) bytes ≡ b ∷ drop (place_of mark + 1) bytes → place_of mark < length bytes → number (kind_of mark) b ≡ Some b → Stays number bytes mark
-index_kept number bytes mark b k h first there e =
-    let o = one_index number (kind_of mark) b k h e in
+-- one without a new number
+pub index_lacks : (number : Numbering) (bytes : List ℕ) (mark behind n : ℕ) → kind_of mark ≤ 5 → Stands U32 bytes (place_of mark) behind n → number (kind_of mark) n ≡ None → Lacks number bytes mark
+index_lacks number bytes mark behind n k s e =
+    let o = of_index (kind_of mark) k in
+    record { arg = o.make n; rest = drop behind bytes; here = found_is bytes mark behind (o.make n) (index_stands bytes mark behind n o s); lacks = o.renames number n ∙ ap (option_map o.make) e }
+
+-- one that keeps its number, and is in its one spelling
+index_kept : (number : Numbering) (bytes : List ℕ) (mark behind n : ℕ) → kind_of mark ≤ 5 → Stands U32 bytes (place_of mark) behind n → number (kind_of mark) n ≡ Some n → IsShortest (between (place_of mark) behind bytes) → Stays number bytes mark
+index_kept number bytes mark behind n k s e t =
+    let o = of_index (kind_of mark) k in
     record {
-      arg = o.arg;
-      behind = place_of mark + 1;
-      stands = stands_byte (form_of (kind_of mark)) bytes (place_of mark) b o.arg first there o.is;
-      has = o.has;
-      spelled = o.spelled ∙ small_bytes b h ∙ sym (one_byte bytes (place_of mark) b first);
+      arg = o.make n;
+      behind = behind;
+      stands = index_stands bytes mark behind n o s;
+      has = o.renames number n ∙ ap (option_map o.make) e;
+      spelled = o.spelled n ∙ number_once 5 4294967296 bytes (place_of mark) behind n (omega arith) t s;
     }
 
-answered : (o : Option ℕ) (new b : ℕ) → b < 128 → new ≡ b → Answers new o → o ≡ Some b
-answered None new b h e a = absurd (omega (arith, h, e, a))
-answered (Some n) new b h e a = ap (λ k. Some k) (sym a.0 ∙ e)
+pub index_stays : (number : Numbering) (bytes : List ℕ) (run mark behind n : ℕ) (old : List ℕ) → run ≤ place_of mark → kind_of mark ≤ 5 → Stands U32 bytes (place_of mark) behind n → number (kind_of mark) n ≡ Some n
+    → IsShortest (between (place_of mark) behind bytes) → Steps number bytes run mark old old run
+index_stays number bytes run mark behind n old l k s e t = inr (stays_put number bytes run mark old l (index_kept number bytes mark behind n k s e t))
 
-pub index_if : (number : Numbering) (bytes : List ℕ) (mark b new : ℕ) → kind_of mark ≤ 5 → b < 128 → drop (place_of mark) bytes ≡ b ∷ drop (place_of mark + 1) bytes → place_of mark < length bytes → Answers new (number (kind_of mark) b)
-    → (t : Bool) → nat_eq new b ≡ t → IfStays number bytes mark t
-index_if number bytes mark b new k h first there a true e = index_kept number bytes mark b k h first there (answered (number (kind_of mark) b) new b h (eqb-true new b e) a)
-index_if number bytes mark b new k h first there a false e = tt
+-- one whose new number is written
+pub index_put : (number : Numbering) (bytes : List ℕ) (run mark behind n renewed : ℕ) (old new : List ℕ) → run ≤ place_of mark → kind_of mark ≤ 5 → Stands U32 bytes (place_of mark) behind n
+    → number (kind_of mark) n ≡ Some renewed → renewed < 4294967296 → new ≡ old ++ between run (place_of mark) bytes ++ number_bytes renewed → Steps number bytes run mark old new behind
+index_put number bytes run mark behind n renewed old new l k s e small w =
+    let o = of_index (kind_of mark) k in
+    let r : length bytes - length (drop behind bytes) ≡ behind = omega (arith, length-drop behind bytes, s.within) in
+    let none : between behind behind bytes ≡ [] = between_none bytes behind in
+    let p : Puts number bytes run mark behind old new = record {
+      arg = o.make n;
+      rest = drop behind bytes;
+      renewed = o.make renewed;
+      here = found_is bytes mark behind (o.make n) (index_stands bytes mark behind n o s);
+      has = o.renames number n ∙ ap (option_map o.make) e;
+      holds = λ h. o.held renewed small;
+      back = omega (arith, r);
+      same = ap (λ m. new ++ between behind m bytes) r ∙ ap (λ m. new ++ m) none ∙ append-nil new ∙ w ∙ ap (λ m. old ++ between run (place_of mark) bytes ++ m) (sym (o.spelled renewed));
+    } in
+    inr p
 
 -- ---- accesses
 
@@ -84,30 +110,39 @@ as_access : (kind : ℕ) (b : List ℕ) (x : RawArg) → kind ≡ 6 → Is acces
 unfolding form_of
 as_access kind b x e h = subst (λ (k : ℕ). Is (form_of k) b x) (sym e) h
 
-access_kept : (number : Numbering) (bytes : List ℕ) (mark flags offset : ℕ) → kind_of mark ≡ 6 → flags < 64 → offset < 128 → drop (place_of mark) bytes ≡ flags ∷ drop (place_of mark + 1) bytes
-    → drop (place_of mark + 1) bytes ≡ offset ∷ drop (place_of mark + 1 + 1) bytes → place_of mark + 1 < length bytes → number 5 0 ≡ Some 0 → Stays number bytes mark
-access_kept number bytes mark flags offset k f o first second there e =
+-- a number of nine bytes is one of 64 bits
+u64_stands : (bytes : List ℕ) (at behind n : ℕ) → ((i : ℕ) → get_or bytes i 0 < 256) → StandsNumber 9 bytes at behind n → Stands U64 bytes at behind n
+u64_stands bytes at behind n small s =
+    let e = length_between bytes at behind s.within in
+    let b = unsigned_bound (between at behind bytes) n (bytes_between bytes at behind small) s.spelled in
+    record { forward = s.forward; within = s.within; text = record { spelled = s.spelled; short = omega (arith, e, s.short); small = omega (arith, b, power_up (length (between at behind bytes)) 9 (omega (arith, e, s.short))) } }
+
+access_kept : (number : Numbering) (bytes : List ℕ) (mark behind flags offset : ℕ) → kind_of mark ≡ 6 → flags < 64 → drop (place_of mark) bytes ≡ flags ∷ drop (place_of mark + 1) bytes → place_of mark < length bytes
+    → Stands U64 bytes (place_of mark + 1) behind offset → IsShortest (between (place_of mark + 1) behind bytes) → number 5 0 ≡ Some 0 → Stays number bytes mark
+access_kept number bytes mark behind flags offset k f first there second short e =
     let p = place_of mark in
+    let lead : Stands U32 bytes p (p + 1) flags = stands_byte U32 bytes p flags flags first there (unsigned_byte 5 4294967296 flags (omega arith) (omega (arith, f)) (omega (arith, f))) in
     let s : Stays number bytes mark = record {
       arg = args.Access flags 0 offset;
-      behind = p + 1 + 1;
+      behind = behind;
       stands = record {
-        forward = omega arith;
-        within = omega (arith, there);
-        text = as_access (kind_of mark) (between p (p + 1 + 1) bytes) (args.Access flags 0 offset) k (access_text bytes p (p + 1) (p + 1 + 1) flags offset f (first_stands p) (second_stands p));
+        forward = omega (arith, second.forward);
+        within = second.within;
+        text = as_access (kind_of mark) (between p behind bytes) (args.Access flags 0 offset) k (access_text bytes p (p + 1) behind flags offset f lead second);
       };
       has = ap (option_map (λ n. args.Access flags n offset)) e;
-      spelled = ap₂ (λ x y. x ++ y) (number_once 5 4294967296 bytes p (p + 1) flags refl (first_stands p)) (number_once 10 18446744073709551616 bytes (p + 1) (p + 1 + 1) offset refl (second_stands p)) ∙ join bytes p (p + 1) (p + 1 + 1) (omega arith) (omega arith);
+      spelled = ap₂ (λ x y. x ++ y) (number_once 5 4294967296 bytes p (p + 1) flags (omega arith) (lone_between bytes p (p + 1) (omega arith)) lead) (number_once 10 18446744073709551616 bytes (p + 1) behind offset (omega arith) short second)
+          ∙ join bytes p (p + 1) behind (omega arith) (omega (arith, second.forward));
     } in
     s
-  where
-    first_stands : (p : ℕ) → Stands U32 bytes (place_of mark) (place_of mark + 1) flags
-    first_stands p = stands_byte U32 bytes (place_of mark) flags flags first (omega (arith, there)) (unsigned_byte 5 4294967296 flags (omega arith) (omega (arith, f)) (omega (arith, f)))
 
-    second_stands : (p : ℕ) → Stands U64 bytes (place_of mark + 1) (place_of mark + 1 + 1) offset
-    second_stands p = stands_byte U64 bytes (place_of mark + 1) offset offset second there (unsigned_byte 10 18446744073709551616 offset (omega arith) o (omega (arith, o)))
+memory_kept : (o : Option ℕ) (new : ℕ) → new ≡ 0 → Answers new o → o ≡ Some 0
+memory_kept None new e a = absurd (omega (arith, e, a))
+memory_kept (Some n) new e a = ap (λ k. Some k) (sym a.0 ∙ e)
 
-pub access_if : (number : Numbering) (bytes : List ℕ) (mark flags offset new : ℕ) → kind_of mark ≡ 6 → flags < 64 → offset < 128 → drop (place_of mark) bytes ≡ flags ∷ drop (place_of mark + 1) bytes
-    → drop (place_of mark + 1) bytes ≡ offset ∷ drop (place_of mark + 1 + 1) bytes → place_of mark + 1 < length bytes → Answers new (number 5 0) → (t : Bool) → nat_eq new 0 ≡ t → IfStays number bytes mark t
-access_if number bytes mark flags offset new k f o first second there a true e = access_kept number bytes mark flags offset k f o first second there (answered (number 5 0) new 0 (omega arith) (eqb-true new 0 e) a)
-access_if number bytes mark flags offset new k f o first second there a false e = tt
+pub access_if : (number : Numbering) (bytes : List ℕ) (mark behind flags new : ℕ) → ((i : ℕ) → get_or bytes i 0 < 256) → kind_of mark ≡ 6 → flags < 64 → drop (place_of mark) bytes ≡ flags ∷ drop (place_of mark + 1) bytes → place_of mark < length bytes
+    → IsPast bytes (place_of mark + 1) 9 behind → (behind ≡ NO_PLACE → ⊥) → IsShortest (between (place_of mark + 1) behind bytes) → Answers new (number 5 0) → (t : Bool) → nat_eq new 0 ≡ t → IfStays number bytes mark t
+access_if number bytes mark behind flags new small k f first there (inl e) some short a t z = absurd (some e)
+access_if number bytes mark behind flags new small k f first there (inr (offset, s)) some short a true z =
+    access_kept number bytes mark behind flags offset k f first there (u64_stands bytes (place_of mark + 1) behind offset small s) short (memory_kept (number 5 0) new (eqb-true new 0 z) a)
+access_if number bytes mark behind flags new small k f first there (inr (offset, s)) some short a false z = tt

@@ -1,6 +1,7 @@
 -- Numbers by the places where they stand in bytes (Binary Format > Values > Integers).
-use Rattle.std.specs.Prelude.{◌≡◌, ℕ, ◌-◌, ◌<◌, ◌≤◌, List, take, drop, length, ◌⊎◌}
-use Rattle.wasm_forms.specs.Number.{IsUnsigned}
+use Rattle.std.specs.Prelude.{◌≡◌, ℕ, ℤ, ◌-◌, ◌<◌, ◌≤◌, Bool, true, false, List, take, drop, length, ◌⊎◌}
+use Rattle.wasm_forms.specs.Number.{IsUnsigned, IsSigned}
+use Rattle.wasm_forms.specs.Spelling.{number_bytes, integer_bytes}
 use Rattle.wasm_forms.specs.Grammar.{Form, Is}
 use Rattle.wasm_text.specs.declared.places.TheConstants.{NO_PLACE}
 
@@ -20,6 +21,15 @@ pub record StandsNumber (most : ℕ) (bytes : List ℕ) (at behind : ℕ) (n : �
   pub within : behind ≤ length bytes
   pub short : behind - at ≤ most
   pub spelled : IsUnsigned (between at behind bytes) n
+
+-- bytes, at most ten, are the one spelling of the number that they spell, be it unsigned or signed
+pub record IsShortest (bytes : List ℕ) : Type 0 where
+  pub unsigned : (n : ℕ) → length bytes ≤ 10 → IsUnsigned bytes n → number_bytes n ≡ bytes
+  pub signed : (z : ℤ) → length bytes ≤ 10 → IsSigned bytes z → integer_bytes z ≡ bytes
+
+abbrev pub IfShortest : List ℕ → Bool → Type 0
+IfShortest bytes true = IsShortest bytes
+IfShortest bytes false = Unit {0}
 
 -- a place, or the one that stands for none
 abbrev pub IfPlace : ℕ → Type 0 → Type 0

@@ -11,7 +11,7 @@ use Rattle.wasm_operators.specs.declared.kind.Kind.{Kind}
 use Rattle.wasm_operators.specs.Operators.{Op}
 use Rattle.wasm_operators.specs.Spelling.{arg_bytes}
 use Rattle.wasm_text.specs.declared.limits.Limits.{Limits}
-use Rattle.wasm_text.specs.Places.{between, Stands, IfPlace}
+use Rattle.wasm_text.specs.Places.{between, Stands, IfPlace, IsShortest}
 use Rattle.wasm_text.specs.Marks.{shifted, value_names, heap_names, Shows, HoldsOne}
 use Rattle.wasm_opcodes.specs.Prefixed.{opcode_behind}
 use Rattle.wasm_opcodes.specs.declared.one_byte.TheConstants.{PREFIX_FC}
@@ -62,10 +62,10 @@ mark_at start at kind = 16 * (at - start) + kind
 abbrev pub IsMarked : (start at kind behind : ℕ) → (old new : List ℕ) → ℕ → Type 0
 IsMarked start at kind behind old new place = IfPlace place ((place ≡ behind) × (new ≡ old ++ mark_at start at kind ∷ []))
 
--- the same, but that a single byte gets no mark
-abbrev pub IsMarkedIfLonger : (start at kind behind : ℕ) → (old new : List ℕ) → ℕ → Type 0
-IsMarkedIfLonger start at kind behind old new place =
-    IfPlace place ((place ≡ behind) × (((behind ≡ at + 1) × (new ≡ old)) ⊎ (new ≡ old ++ mark_at start at kind ∷ [])))
+-- the same, but that what stands in its one spelling gets no mark
+abbrev pub IsMarkedIfPadded : (bytes : List ℕ) → (start at kind behind : ℕ) → (old new : List ℕ) → ℕ → Type 0
+IsMarkedIfPadded bytes start at kind behind old new place =
+    IfPlace place ((place ≡ behind) × ((IsShortest (between at behind bytes) × (new ≡ old)) ⊎ (new ≡ old ++ mark_at start at kind ∷ [])))
 
 -- ---- arguments
 

@@ -1,16 +1,17 @@
 //! Bytes with marks, written anew: what arguments name gets new numbers, and each argument at a mark its one spelling.
 
-ghost use Rattle.std.specs.Prelude.{◌≡◌, ◌<◌, ◌≤◌, ◌+◌, ◌∷◌, ◌++◌, drop, length, IfOk, IfSome, MatchOption, Some};
+ghost use Rattle.std.specs.Prelude.{◌≡◌, ◌<◌, ◌≤◌, ◌+◌, ◌++◌, length, IfOk, IfSome, Some};
 ghost use Rattle.wasm_text.specs.declared.mark.TheConstants.{MARK_ACCESS};
 ghost use Rattle.wasm_text.specs.declared.places.TheConstants.{NO_PLACE};
 ghost use Rattle.wasm_forms.specs.Types.{value_bytes};
-ghost use Rattle.wasm_forms.specs.Grammar.{at};
+ghost use Rattle.wasm_forms.specs.Grammar.{at, U32};
+ghost use Rattle.wasm_forms.specs.Spelling.{number_bytes};
 ghost use Rattle.wasm_forms.specs.Reading.{Gives};
 ghost use Rattle.wasm_forms.specs.Writing.{Keeps};
 ghost use Rattle.wasm_operators.specs.Forms.{access, access_from, block_from, block_type, has_memory};
 ghost use Rattle.wasm_operators.specs.Spelling.{access_bytes, arg_bytes, block_bytes};
 ghost use Rattle.wasm_operators.specs.Standing.{ArgHeld, BlockHeld, HeapHeld, ValueHeld};
-ghost use Rattle.wasm_text.specs.Places.{between};
+ghost use Rattle.wasm_text.specs.Places.{between, IfShortest, Stands};
 ghost use Rattle.wasm_text.specs.Marks.{AreInOrder, form_of, kind_of, place_of};
 ghost use Rattle.wasm_text.specs.Filling.{Fills, IfStays, Steps, renamed, renamed_block, renamed_heap, renamed_value};
 
@@ -18,7 +19,7 @@ use crate::mark::{
     MARK_ACCESS, MARK_BLOCK, MARK_FUNCTION, MARK_GLOBAL, MARK_LOCAL, MARK_MEMORY, MARK_NUMBER,
     MARK_S32, MARK_S64, MARK_TABLE, MARK_TYPE,
 };
-use crate::places::{NO_PLACE, byte_from, rest_from};
+use crate::places::{NO_PLACE, byte_from, is_shortest, number_at, past_number, rest_from};
 use crate::renumbering::{NO_NUMBER, Numbers};
 use std::alloc::AllocError;
 use wasm_forms::{
@@ -335,57 +336,141 @@ fn put_anew<N: Numbers>(
     Ok(bytes.len() - rest.len())
 }
 
-// The two bytes at a place.
-#[inline]
-fn two_from(bytes: &[u8], at: usize) -> Option<(u8, u8)>
-    ensures { MatchOption result (Unit {0}) (λ two. (drop at bytes.now ≡ two.0 ∷ drop (at + 1) bytes.now)
-        × (drop (at + 1) bytes.now ≡ two.1 ∷ drop (at + 1 + 1) bytes.now) × (at + 1 < length bytes.now)) }
+// Copies what stands up to an index, and writes its new number.
+#[inline(never)]
+fn put_number(
+    to: &mut Vec<u8>,
+    bytes: &[u8],
+    run: usize,
+    at: usize,
+    number: u32,
+) -> Result<(), AllocError>
+    requires ordered { run ≤ at }
+    requires within { at ≤ length bytes.now }
+    ensures written { IfOk result (λ _. to.new.items
+        ≡ to.old.items ++ between run at bytes.now ++ number_bytes number) }
+    ensures keeps { Keeps to.old.items to.new.items }
 {
-    let first = byte_from(bytes, at)?;
-    let second = byte_from(bytes, at + 1)?;
-    Some((first, second))
+    copy(to, bytes, run, at)?;
+    write_u32(to, number)
 }
 
-// Whether the index at a mark stands in one byte and keeps its number.
+// The index at a mark: in its one spelling, and with its number, it stays to be copied with what stands in front of it; else its new
+// number is written.
 #[inline]
-fn index_stays<N: Numbers>(bytes: &[u8], mark: u32, numbers: &N) -> bool
-    requires { kind_of mark ≤ 5 }
-    ensures { IfStays (N.number numbers.now) bytes.now mark result }
+fn put_index_as<N: Numbers>(
+    to: &mut Vec<u8>,
+    bytes: &[u8],
+    run: usize,
+    mark: u32,
+    numbers: &N,
+    index: u32,
+    behind: usize,
+    shortest: bool,
+) -> Result<usize, AllocError>
+    requires ordered { run ≤ place_of mark }
+    requires kind { kind_of mark ≤ 5 }
+    requires stands { Stands U32 bytes.now (place_of mark) behind index }
+    requires shortest { IfShortest (between (place_of mark) behind bytes.now) shortest }
+    ensures steps { IfOk result (λ next.
+        Steps (N.number numbers.now) bytes.now run mark to.old.items to.new.items next) }
+    ensures keeps { Keeps to.old.items to.new.items }
 {
-    let Some(byte) = byte_from(bytes, (mark / 16) as usize) else {
-        return false;
+    let Some(new) = new_index(numbers, mark % 16, index) else {
+        return Ok(NO_PLACE);
     };
-    if byte < 128 {
-        let new = numbers.new_number(mark % 16, u32::from(byte));
-        return new == u64::from(byte);
+    if new == index && shortest {
+        return Ok(run);
     }
-    false
+    put_number(to, bytes, run, (mark / 16) as usize, new)?;
+    Ok(behind)
 }
 
-// Whether the access at a mark is one to memory 0 that keeps its number, and its flags and its offset stand in one byte each.
+// The index at a mark that isn't one byte.
+#[inline(never)]
+fn put_long_index<N: Numbers>(
+    to: &mut Vec<u8>,
+    bytes: &[u8],
+    run: usize,
+    mark: u32,
+    numbers: &N,
+) -> Result<usize, AllocError>
+    requires ordered { run ≤ place_of mark }
+    requires kind { kind_of mark ≤ 5 }
+    ensures steps { IfOk result (λ next.
+        Steps (N.number numbers.now) bytes.now run mark to.old.items to.new.items next) }
+    ensures keeps { Keeps to.old.items to.new.items }
+{
+    let at = (mark / 16) as usize;
+    let index = number_at(bytes, at);
+    let behind = past_number(bytes, at, 5);
+    if index >= 1 << 32 || behind == NO_PLACE {
+        return Err(AllocError);
+    }
+    let shortest = is_shortest(bytes, at, behind);
+    put_index_as(
+        to,
+        bytes,
+        run,
+        mark,
+        numbers,
+        index as u32,
+        behind,
+        shortest,
+    )
+}
+
+// The index at a mark.
+#[inline]
+fn put_index<N: Numbers>(
+    to: &mut Vec<u8>,
+    bytes: &[u8],
+    run: usize,
+    mark: u32,
+    numbers: &N,
+) -> Result<usize, AllocError>
+    requires ordered { run ≤ place_of mark }
+    requires kind { kind_of mark ≤ 5 }
+    ensures steps { IfOk result (λ next.
+        Steps (N.number numbers.now) bytes.now run mark to.old.items to.new.items next) }
+    ensures keeps { Keeps to.old.items to.new.items }
+{
+    let at = (mark / 16) as usize;
+    match byte_from(bytes, at) {
+        Some(byte) if byte < 128 => {
+            put_index_as(to, bytes, run, mark, numbers, u32::from(byte), at + 1, true)
+        }
+        _ => put_long_index(to, bytes, run, mark, numbers),
+    }
+}
+
+// Whether the access at a mark is one to memory 0 that keeps its number, with flags of one byte and an offset in its one spelling.
 #[inline]
 fn access_stays<N: Numbers>(bytes: &[u8], mark: u32, numbers: &N) -> bool
     requires { kind_of mark ≡ MARK_ACCESS }
     ensures { IfStays (N.number numbers.now) bytes.now mark result }
 {
-    let Some((flags, offset)) = two_from(bytes, (mark / 16) as usize) else {
+    let at = (mark / 16) as usize;
+    let Some(flags) = byte_from(bytes, at) else {
         return false;
     };
-    if flags < 64 && offset < 128 {
+    if flags >= 64 {
+        return false;
+    }
+    let offset = at + 1;
+    let behind = past_number(bytes, offset, 9);
+    if behind != NO_PLACE && is_shortest(bytes, offset, behind) {
         let new = numbers.new_number(MARK_MEMORY, 0);
         return new == 0;
     }
     false
 }
 
-// Whether the argument at a mark stays as it stands: an index in one byte that keeps its number, or such an access.
+// Whether the argument at a mark, which is no index, stays as it stands: such an access does.
 #[inline]
 fn stays<N: Numbers>(bytes: &[u8], mark: u32, numbers: &N) -> bool
     ensures { IfStays (N.number numbers.now) bytes.now mark result }
 {
-    if mark % 16 <= MARK_MEMORY {
-        return index_stays(bytes, mark, numbers);
-    }
     if mark % 16 == MARK_ACCESS {
         return access_stays(bytes, mark, numbers);
     }
@@ -407,6 +492,9 @@ fn put_mark<N: Numbers>(
         Steps (N.number numbers.now) bytes.now run mark to.old.items to.new.items next) }
     ensures keeps { Keeps to.old.items to.new.items }
 {
+    if mark % 16 <= MARK_MEMORY {
+        return put_index(to, bytes, run, mark, numbers);
+    }
     if stays(bytes, mark, numbers) {
         return Ok(run);
     }

@@ -1,8 +1,8 @@
 //! Numbers by the places where they stand in bytes (Binary Format > Values > Integers): a place in, one word out.
 
-ghost use Rattle.std.specs.Prelude.{◌≡◌, ◌∷◌, ◌+◌, ◌<◌, ◌≤◌, [], length, drop, MatchOption};
+ghost use Rattle.std.specs.Prelude.{◌≡◌, ◌∷◌, ◌+◌, ◌-◌, ◌<◌, ◌≤◌, ◌||◌, [], length, drop, nat_eq, nat_le, MatchOption};
 ghost use Rattle.wasm_forms.specs.Grammar.{S32, S64, U64};
-ghost use Rattle.wasm_text.specs.Places.{IsPast, IsBehind, IsNumberAt};
+ghost use Rattle.wasm_text.specs.Places.{between, IfShortest, IsPast, IsBehind, IsNumberAt};
 
 use wasm_forms::{read_s32, read_s64, read_u64};
 
@@ -68,6 +68,38 @@ fn long_number_at(bytes: &[u8], at: usize) -> u64
         scale *= 128;
     }
     u64::MAX
+}
+
+// Whether there is at most one byte from one place up to another.
+#[inline]
+fn is_lone(at: usize, behind: usize) -> bool
+    requires { at ≤ behind }
+    ensures { result ≡ nat_le (behind - at) 1 }
+{
+    behind - at <= 1
+}
+
+// Whether a number may do without its last byte.
+#[inline]
+fn may_pad(last: u8) -> bool
+    ensures { result ≡ (nat_eq last 0 || nat_eq last 127) }
+{
+    last == 0 || last == 127
+}
+
+// Whether the number from one place up to another stands in its one spelling for certain: it is one byte, or its last byte doesn't pad.
+#[inline]
+pub(crate) fn is_shortest(bytes: &[u8], at: usize, behind: usize) -> bool
+    requires { at ≤ behind }
+    ensures { IfShortest (between at behind bytes.now) result }
+{
+    if is_lone(at, behind) {
+        return true;
+    }
+    match byte_from(bytes, behind - 1) {
+        Some(last) => !may_pad(last),
+        None => false,
+    }
 }
 
 /// What stands from a place on; nothing where the bytes end before.

@@ -5,7 +5,7 @@ ghost use Rattle.wasm_forms.specs.Writing.{Keeps};
 ghost use Rattle.wasm_operators.specs.declared.kind.Kind.TheVariants as kinds;
 ghost use Rattle.wasm_operators.specs.Forms.{args_form};
 ghost use Rattle.wasm_text.specs.Places.{IfPlace};
-ghost use Rattle.wasm_text.specs.Scans.{IsMarked, IsMarkedIfLonger, IsIndexed, Scans, ScansArgs, ScansClass};
+ghost use Rattle.wasm_text.specs.Scans.{IsMarked, IsMarkedIfPadded, IsIndexed, Scans, ScansArgs, ScansClass};
 ghost use Rattle.wasm_text.specs.Scans.{ScansOperator, labels_form};
 ghost use Rattle.wasm_text.specs.declared.class.Class.TheVariants as class;
 
@@ -16,7 +16,8 @@ use crate::mark::{
     MARK_S32, MARK_S64, MARK_TABLE, MARK_TYPE,
 };
 use crate::places::{
-    NO_PLACE, byte_from, number_at, past_number, past_s32, past_s64, past_u64, rest_from,
+    NO_PLACE, byte_from, is_shortest, number_at, past_number, past_s32, past_s64, past_u64,
+    rest_from,
 };
 use std::alloc::AllocError;
 use wasm_forms::read_index_from;
@@ -79,9 +80,10 @@ fn scan_index(
     put_mark(marks, start, at, kind, past_number(bytes, at, 5))
 }
 
-// Puts a mark behind the others, unless the argument is one byte.
+// Puts a mark behind the others, unless the argument stands in its one spelling.
 #[inline]
-fn put_mark_if_longer(
+fn put_mark_if_padded(
+    bytes: &[u8],
     marks: &mut Vec<u32>,
     start: usize,
     at: usize,
@@ -92,10 +94,10 @@ fn put_mark_if_longer(
     requires forward { at ≤ behind }
     requires kind { kind < 16 }
     ensures marked { IfOk result (λ place.
-        IsMarkedIfLonger start at kind behind marks.old.items marks.new.items place) }
+        IsMarkedIfPadded bytes.now start at kind behind marks.old.items marks.new.items place) }
     ensures keeps { Keeps marks.old.items marks.new.items }
 {
-    if behind - at == 1 {
+    if is_shortest(bytes, at, behind) {
         return Ok(behind);
     }
     put_mark(marks, start, at, kind, behind)
@@ -119,7 +121,14 @@ fn scan_label(
     if label >= limits.labels as u64 || label >= 1 << 32 {
         return Ok(NO_PLACE);
     }
-    put_mark_if_longer(marks, start, at, MARK_NUMBER, past_number(bytes, at, 5))
+    put_mark_if_padded(
+        bytes,
+        marks,
+        start,
+        at,
+        MARK_NUMBER,
+        past_number(bytes, at, 5),
+    )
 }
 
 // So many labels.
@@ -166,7 +175,7 @@ fn scan_labels(
         return Ok(NO_PLACE);
     }
     let first = past_number(bytes, at, 5);
-    let behind = put_mark_if_longer(marks, start, at, MARK_NUMBER, first)?;
+    let behind = put_mark_if_padded(bytes, marks, start, at, MARK_NUMBER, first)?;
     if behind == NO_PLACE {
         return Ok(NO_PLACE);
     }
@@ -256,7 +265,7 @@ fn scan_s32(
         marks.old.items marks.new.items result }
     ensures keeps { Keeps marks.old.items marks.new.items }
 {
-    put_mark_if_longer(marks, start, at, MARK_S32, past_s32(bytes, at))
+    put_mark_if_padded(bytes, marks, start, at, MARK_S32, past_s32(bytes, at))
 }
 
 // The constant of `i64.const`.
@@ -273,7 +282,7 @@ fn scan_s64(
         marks.old.items marks.new.items result }
     ensures keeps { Keeps marks.old.items marks.new.items }
 {
-    put_mark_if_longer(marks, start, at, MARK_S64, past_s64(bytes, at))
+    put_mark_if_padded(bytes, marks, start, at, MARK_S64, past_s64(bytes, at))
 }
 
 // The type of a block that begins with the byte `first` and is the index of a type.
