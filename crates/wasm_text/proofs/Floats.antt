@@ -1,5 +1,5 @@
 -- The bytes of floats.
-use Rattle.std.proofs.Common.{◌≡◌, ℕ, zero, suc, ◌+◌, ◌-◌, ◌*◌, ◌/◌, ◌%◌, ◌<◌, ◌≤◌, List, [], ◌∷◌, length, get_or, refl, sym, ap, ap₂, subst, ◌∙◌, arith, inl, inr}
+use Rattle.std.proofs.Common.{◌≡◌, ℕ, zero, suc, ◌+◌, ◌*◌, ◌/◌, ◌%◌, ◌<◌, ◌≤◌, List, [], ◌∷◌, length, get_or, refl, ap, ap₂, ◌∙◌, arith, inl, inr}
 use Rattle.wasm_forms.specs.Number.{AreBytes, little}
 use Rattle.wasm_forms.specs.Spelling.{little_bytes}
 use Rattle.wasm_operators.specs.declared.operator.RawArg.TheVariants as args

@@ -8,7 +8,7 @@ use Rattle.wasm_forms.specs.Spelling.{number_bytes, integer_bytes}
 use Rattle.wasm_forms.proofs.Leb.{signed_last}
 use Rattle.wasm_forms.proofs.Ends.{last_low, last_high}
 use Rattle.wasm_forms.proofs.Groups.{groups-last}
-use Rattle.wasm_text.specs.Places.{between, Stands, StandsNumber, IfPlace, IsPast, IsNumberAt}
+use Rattle.wasm_text.specs.Places.{Stands, StandsNumber, IfPlace, IsPast, IsNumberAt}
 use Rattle.wasm_text.proofs.Between.{front_is, one_byte, length_between}
 
 -- what was read in front of the bytes from a place on, by the bytes that are left
@@ -27,12 +27,15 @@ stands_byte form bytes at b value e l is = record { forward = omega arith; withi
 pub unsigned_byte : (most top b : ℕ) → 1 ≤ most → b < 128 → b < top → Is (Number most top) (b ∷ []) b
 unsigned_byte most top b k h l = record { spelled = (h, refl); short = k; small = l }
 
-fits_last : (half b : ℕ) → 64 ≤ half → (t : Bool) → ltb b 64 ≡ t → b < 128 → Fits half (last_of b)
-fits_last half b k true e h = let l : b < 64 = ltb-true b 64 e in let f : Fits half (pos b) = omega arith in subst (Fits half) (sym (last_low b l)) f
-fits_last half b k false e h = let l : 64 ≤ b = ltb-false b 64 e in let f : Fits half (negsuc (128 - suc b)) = omega arith in subst (Fits half) (sym (last_high b l h)) f
+fits_last_at : (half b : ℕ) → 64 ≤ half → (t : Bool) → ltb b 64 ≡ t → b < 128 → Fits half (last_of b)
+fits_last_at half b k true e h = let l : b < 64 = ltb-true b 64 e in let f : Fits half (pos b) = omega arith in subst (Fits half) (sym (last_low b l)) f
+fits_last_at half b k false e h = let l : 64 ≤ b = ltb-false b 64 e in let f : Fits half (negsuc (128 - suc b)) = omega arith in subst (Fits half) (sym (last_high b l h)) f
+
+pub fits_last : (half b : ℕ) → 64 ≤ half → b < 128 → Fits half (last_of b)
+fits_last half b k h = fits_last_at half b k (ltb b 64) refl h
 
 pub signed_byte : (most half b : ℕ) → 1 ≤ most → 64 ≤ half → b < 128 → Is (Integer most half) (b ∷ []) (last_of b)
-signed_byte most half b k m h = record { spelled = signed_last b h; short = k; small = fits_last half b m (ltb b 64) refl h }
+signed_byte most half b k m h = record { spelled = signed_last b h; short = k; small = fits_last half b m h }
 
 -- a number that is small enough is one of 32 bits
 pub u32_stands : (bytes : List ℕ) (at behind n : ℕ) → StandsNumber 5 bytes at behind n → n < 4294967296 → Stands U32 bytes at behind n

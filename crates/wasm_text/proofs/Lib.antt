@@ -1,6 +1,7 @@
 pub mod Between
 pub mod NumberPlaces
 pub mod Forms
+pub mod Fitting
 pub mod Shortest
 pub mod Filling
 pub mod Showing

@@ -1,8 +1,7 @@
 -- Numbers that stand in their one spelling.
-use Rattle.std.proofs.Common.{◌≡◌, ℕ, zero, suc, Bool, true, false, ◌+◌, ◌-◌, ◌*◌, ◌/◌, ◌%◌, ◌^◌, ◌<◌, ◌≤◌, List, [], ◌∷◌, ◌++◌, length, drop, get_or, refl, sym, ap, ap₂, subst, ◌∙◌, arith, inl, inr, ℤ, pos, negsuc, ◌+ℤ◌, ◌*ℤ◌}
+use Rattle.std.proofs.Common.{◌≡◌, ℕ, zero, suc, Bool, true, false, ◌+◌, ◌-◌, ◌*◌, ◌/◌, ◌%◌, ◌<◌, ◌≤◌, List, [], ◌∷◌, ◌++◌, length, drop, get_or, refl, sym, ap, ap₂, subst, ◌∙◌, arith, inl, inr, ℤ, pos, negsuc, ◌+ℤ◌, ◌*ℤ◌}
 use Rattle.std.specs.Prelude.{nat_eq, not, ◌||◌}
 use Rattle.std.proofs.lemmas.Bool.{eqb-false}
-use Rattle.std.proofs.lemmas.Nat.{pow-add}
 use Rattle.std.proofs.lemmas.Int.{ints}
 use Rattle.wasm_forms.specs.Number.{AreBytes, IsUnsigned, IsSigned}
 use Rattle.wasm_forms.specs.Grammar.{Number, Integer}
@@ -48,15 +47,6 @@ unsigned_groups (suc most) (b ∷ c ∷ bs) last n l a e s (more, (high, is, res
       same = groups-more false 128 most n (omega (arith, is, r.some)) ∙ ap₂ (λ (x : ℕ) (xs : List ℕ). x ∷ xs) low (ap (groups false 128 most) up ∙ r.same);
       some = omega (arith, is, r.some);
     }
-
--- a number is no larger than its bytes hold
-pub unsigned_bound : (bytes : List ℕ) (n : ℕ) → AreBytes bytes → IsUnsigned bytes n → n < 128 ^ length bytes
-unsigned_bound [] n a h = absurd h
-unsigned_bound (b ∷ []) n a h = omega (arith, h.0, h.1)
-unsigned_bound (b ∷ c ∷ bs) n a h =
-    let r = unsigned_bound (c ∷ bs) h.1.0 a.1 h.1.2 in
-    let e : length (c ∷ bs) + 1 ≡ length (b ∷ c ∷ bs) = omega arith in
-    omega (arith, a.0, h.0, h.1.1, pow-add 128 (length (c ∷ bs)) 1, ap (λ k. 128 ^ k) e)
 
 -- ---- signed numbers
 

@@ -1,23 +1,22 @@
 -- Arguments that stay as they stand.
-use Rattle.std.proofs.Common.{◌≡◌, ℕ, zero, suc, Bool, true, false, eqb-true, ◌+◌, ◌-◌, ◌<◌, ◌≤◌, List, [], ◌∷◌, ◌++◌, length, take, drop, get_or, Some, refl, sym, ap, ap₂, subst, ◌∙◌, arith, append_assoc, inl, inr}
+use Rattle.std.proofs.Common.{◌≡◌, ℕ, zero, suc, Bool, true, false, eqb-true, ◌+◌, ◌-◌, ◌<◌, ◌≤◌, List, [], ◌∷◌, ◌++◌, length, drop, Some, refl, sym, ap, ap₂, subst, ◌∙◌, arith, append_assoc, inl, inr}
 use Rattle.std.specs.Prelude.{Option, None, option_map, nat_eq}
 use Rattle.std.proofs.lemmas.List.{length-drop, append-nil}
 use Rattle.wasm_forms.specs.Grammar.{Is, U32, U64}
 use Rattle.wasm_forms.specs.Spelling.{number_bytes}
-use Rattle.wasm_forms.proofs.Turns.{power_up}
 use Rattle.wasm_operators.specs.declared.operator.RawArg.{RawArg}
 use Rattle.wasm_operators.specs.declared.operator.RawArg.TheVariants as args
 use Rattle.wasm_operators.specs.Forms.{access}
 use Rattle.wasm_operators.specs.Spelling.{arg_bytes}
 use Rattle.wasm_operators.specs.Standing.{ArgHeld}
 use Rattle.wasm_text.specs.declared.places.TheConstants.{NO_PLACE}
-use Rattle.wasm_text.specs.Places.{between, Stands, StandsNumber, IsShortest, IsPast}
+use Rattle.wasm_text.specs.Places.{between, Stands, IsShortest, IsBehind}
 use Rattle.wasm_text.specs.Marks.{place_of, kind_of, form_of}
 use Rattle.wasm_text.specs.Filling.{Numbering, Answers, renamed, Lacks, Puts, Steps, Stays, IfStays}
-use Rattle.wasm_text.proofs.Between.{join, length_between, between_none, bytes_between}
+use Rattle.wasm_text.proofs.Between.{join, between_none}
 use Rattle.wasm_text.proofs.Filling.{found_is}
 use Rattle.wasm_text.proofs.Forms.{stands_byte, unsigned_byte}
-use Rattle.wasm_text.proofs.Shortest.{number_once, lone_between, unsigned_bound}
+use Rattle.wasm_text.proofs.Shortest.{number_once, lone_between}
 use Rattle.wasm_text.proofs.Scans.{access_text}
 
 pub stays_put : (number : Numbering) (bytes : List ℕ) (run mark : ℕ) (old : List ℕ) → run ≤ place_of mark → Stays number bytes mark → Puts number bytes run mark run old old
@@ -110,13 +109,6 @@ as_access : (kind : ℕ) (b : List ℕ) (x : RawArg) → kind ≡ 6 → Is acces
 unfolding form_of
 as_access kind b x e h = subst (λ (k : ℕ). Is (form_of k) b x) (sym e) h
 
--- a number of nine bytes is one of 64 bits
-u64_stands : (bytes : List ℕ) (at behind n : ℕ) → ((i : ℕ) → get_or bytes i 0 < 256) → StandsNumber 9 bytes at behind n → Stands U64 bytes at behind n
-u64_stands bytes at behind n small s =
-    let e = length_between bytes at behind s.within in
-    let b = unsigned_bound (between at behind bytes) n (bytes_between bytes at behind small) s.spelled in
-    record { forward = s.forward; within = s.within; text = record { spelled = s.spelled; short = omega (arith, e, s.short); small = omega (arith, b, power_up (length (between at behind bytes)) 9 (omega (arith, e, s.short))) } }
-
 access_kept : (number : Numbering) (bytes : List ℕ) (mark behind flags offset : ℕ) → kind_of mark ≡ 6 → flags < 64 → drop (place_of mark) bytes ≡ flags ∷ drop (place_of mark + 1) bytes → place_of mark < length bytes
     → Stands U64 bytes (place_of mark + 1) behind offset → IsShortest (between (place_of mark + 1) behind bytes) → number 5 0 ≡ Some 0 → Stays number bytes mark
 access_kept number bytes mark behind flags offset k f first there second short e =
@@ -140,9 +132,8 @@ memory_kept : (o : Option ℕ) (new : ℕ) → new ≡ 0 → Answers new o → o
 memory_kept None new e a = absurd (omega (arith, e, a))
 memory_kept (Some n) new e a = ap (λ k. Some k) (sym a.0 ∙ e)
 
-pub access_if : (number : Numbering) (bytes : List ℕ) (mark behind flags new : ℕ) → ((i : ℕ) → get_or bytes i 0 < 256) → kind_of mark ≡ 6 → flags < 64 → drop (place_of mark) bytes ≡ flags ∷ drop (place_of mark + 1) bytes → place_of mark < length bytes
-    → IsPast bytes (place_of mark + 1) 9 behind → (behind ≡ NO_PLACE → ⊥) → IsShortest (between (place_of mark + 1) behind bytes) → Answers new (number 5 0) → (t : Bool) → nat_eq new 0 ≡ t → IfStays number bytes mark t
-access_if number bytes mark behind flags new small k f first there (inl e) some short a t z = absurd (some e)
-access_if number bytes mark behind flags new small k f first there (inr (offset, s)) some short a true z =
-    access_kept number bytes mark behind flags offset k f first there (u64_stands bytes (place_of mark + 1) behind offset small s) short (memory_kept (number 5 0) new (eqb-true new 0 z) a)
-access_if number bytes mark behind flags new small k f first there (inr (offset, s)) some short a false z = tt
+pub access_if : (number : Numbering) (bytes : List ℕ) (mark behind flags new : ℕ) → kind_of mark ≡ 6 → flags < 64 → drop (place_of mark) bytes ≡ flags ∷ drop (place_of mark + 1) bytes → place_of mark < length bytes
+    → IsBehind U64 bytes (place_of mark + 1) behind → (behind ≡ NO_PLACE → ⊥) → IsShortest (between (place_of mark + 1) behind bytes) → Answers new (number 5 0) → (t : Bool) → nat_eq new 0 ≡ t → IfStays number bytes mark t
+access_if number bytes mark behind flags new k f first there (inl e) some short a t z = absurd (some e)
+access_if number bytes mark behind flags new k f first there (inr (offset, s)) some short a true z = access_kept number bytes mark behind flags offset k f first there s short (memory_kept (number 5 0) new (eqb-true new 0 z) a)
+access_if number bytes mark behind flags new k f first there (inr (offset, s)) some short a false z = tt

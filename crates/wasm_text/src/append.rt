@@ -19,7 +19,9 @@ use crate::mark::{
     MARK_ACCESS, MARK_BLOCK, MARK_FUNCTION, MARK_GLOBAL, MARK_LOCAL, MARK_MEMORY, MARK_NUMBER,
     MARK_S32, MARK_S64, MARK_TABLE, MARK_TYPE,
 };
-use crate::places::{NO_PLACE, byte_from, is_shortest, number_at, past_number, rest_from};
+use crate::places::{
+    NO_PLACE, byte_from, is_shortest, number_at, past_number, past_u64, rest_from,
+};
 use crate::renumbering::{NO_NUMBER, Numbers};
 use std::alloc::AllocError;
 use wasm_forms::{
@@ -458,7 +460,7 @@ fn access_stays<N: Numbers>(bytes: &[u8], mark: u32, numbers: &N) -> bool
         return false;
     }
     let offset = at + 1;
-    let behind = past_number(bytes, offset, 9);
+    let behind = past_u64(bytes, offset);
     if behind != NO_PLACE && is_shortest(bytes, offset, behind) {
         let new = numbers.new_number(MARK_MEMORY, 0);
         return new == 0;

@@ -111,11 +111,15 @@ pub fn rest_from(bytes: &[u8], at: usize) -> &[u8]
     rest
 }
 
-// The place behind an s32 that isn't one byte.
+// The place behind an s32 that isn't one byte: one of at most four bytes is always small enough.
 #[inline(never)]
 fn past_long_s32(bytes: &[u8], at: usize) -> usize
     ensures { IsBehind S32 bytes.now at result }
 {
+    let behind = past_number(bytes, at, 4);
+    if behind != NO_PLACE {
+        return behind;
+    }
     match read_s32(rest_from(bytes, at)) {
         Ok((_value, after)) => bytes.len() - after.len(),
         Err(_) => NO_PLACE,
@@ -133,11 +137,15 @@ pub fn past_s32(bytes: &[u8], at: usize) -> usize
     }
 }
 
-// The place behind an s64 that isn't one byte.
+// The place behind an s64 that isn't one byte: one of at most nine bytes is always small enough.
 #[inline(never)]
 fn past_long_s64(bytes: &[u8], at: usize) -> usize
     ensures { IsBehind S64 bytes.now at result }
 {
+    let behind = past_number(bytes, at, 9);
+    if behind != NO_PLACE {
+        return behind;
+    }
     match read_s64(rest_from(bytes, at)) {
         Ok((_value, after)) => bytes.len() - after.len(),
         Err(_) => NO_PLACE,
@@ -155,11 +163,15 @@ pub fn past_s64(bytes: &[u8], at: usize) -> usize
     }
 }
 
-// The place behind a u64 that isn't one byte.
+// The place behind a u64 that isn't one byte: one of at most nine bytes is always small enough.
 #[inline(never)]
 fn past_long_u64(bytes: &[u8], at: usize) -> usize
     ensures { IsBehind U64 bytes.now at result }
 {
+    let behind = past_number(bytes, at, 9);
+    if behind != NO_PLACE {
+        return behind;
+    }
     match read_u64(rest_from(bytes, at)) {
         Ok((_value, after)) => bytes.len() - after.len(),
         Err(_) => NO_PLACE,
