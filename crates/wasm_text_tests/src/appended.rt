@@ -8,13 +8,14 @@ use test_support::{add_bytes, demand};
 use wasm_text::{Limits, NO_NUMBER, Numbers, append_filled, scan_operator};
 
 /// Operators, and what they become where each index below 100 is ten more.
-const ROWS: [(&str, &str); 8] = [
+const ROWS: [(&str, &str); 9] = [
     ("6A", "6A"),
     ("20 00", "20 0A"),
     ("10 83 80 80 80 00", "10 0D"),
     ("21 E3 00", "21 6D"),
     ("11 02 00", "11 0C 0A"),
     ("41 C0 BB F8 7F", "41 C0 BB 78"),
+    ("36 02 E5 8E 26", "36 42 0A E5 8E 26"),
     ("03 03", "03 0D"),
     ("0E 02 00 81 00 00", "0E 02 00 01 00"),
 ];

@@ -6,7 +6,7 @@ use test_support::{add_bytes, demand};
 use wasm_text::{Limits, NO_PLACE, scan_operator};
 
 /// Operators, and their marks: sixteen times the offset, where `nop` stands at 0, and the kind.
-const ROWS: [(&str, &str); 36] = [
+const ROWS: [(&str, &str); 38] = [
     ("00", ""),
     ("6A", ""),
     ("05", ""),
@@ -25,9 +25,11 @@ const ROWS: [(&str, &str); 36] = [
     ("3F 00", "25"),
     ("40 00", "25"),
     ("41 7F", ""),
-    ("41 C0 BB 78", "28"),
+    ("41 C0 BB 78", ""),
+    ("41 C0 BB F8 7F", "28"),
     ("42 3F", ""),
-    ("42 80 01", "29"),
+    ("42 80 01", ""),
+    ("42 C0 00", "29"),
     ("43 00 00 80 3F", ""),
     ("44 00 00 00 00 00 00 F0 3F", ""),
     ("02 40", ""),
