@@ -1,8 +1,8 @@
-use Rattle.std.proofs.Common.{◌≡◌, ◌<◌, ◌≤◌, ◌∙◌, ℕ, List, Some, ap, arith, length, slice_get, subst, sym, take}
+use Rattle.std.proofs.Common.{◌≡◌, ◌<◌, ◌≤◌, ◌∙◌, ℕ, Some, ap, arith, length, slice_get, subst, sym, take}
 use Rattle.std.specs.Prelude.{option_map}
 use Rattle.std.proofs.lemmas.List.{length-take-le}
 use Rattle.walrus_base.specs.Id.{place}
-use Rattle.walrus_code.specs.Indices.{NumbersAlong, given_in, places_of}
+use Rattle.walrus_code.specs.Indices.{given_in, places_of}
 use Rattle.walrus_code.proofs.Placing.{new_place, place_turn}
 use Rattle.wasm_bodies.proofs.spaces.numbered.Goals as goal
 
@@ -23,4 +23,4 @@ push-requires-clause-room g c =
 pub indices-preserved : goal.indices-preserved
 indices-preserved g c =
     place_turn c.indices.numbers c.push.new.self (places_of c.args.space.now) c.indices.index (place c.in-Some.id) (sym c.get.ensures ∙ ap (option_map place) c.in-Some.is)
-        c.requires c.indices.invariant c.in_ok-push.ensures
+    c.requires c.indices.invariant c.in_ok-push.ensures
