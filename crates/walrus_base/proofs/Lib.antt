@@ -1,2 +1,3 @@
 mod Found
+pub mod InSet
 pub mod Kept

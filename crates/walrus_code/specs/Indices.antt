@@ -1,6 +1,7 @@
 -- What a contract sees of the two tables between indices and ids.
 use Rattle.std.specs.Prelude.{◌≡◌, ◌≢◌, ℕ, ◌+◌, ◌-◌, Bool, ◌&&◌, if◌then◌else◌, List, [], ◌∷◌, ◌++◌, Option, Some, None, map, length, slice_get, slice_index_or, nat_eq, nat_le, nat_lt}
 use Rattle.std.specs.HashMap.{get}
+use Rattle.std.specs.List.{range_with_len}
 use Rattle.walrus_base.specs.Id.{place}
 use Rattle.walrus_types.specs.Shape.{place_in}
 use Rattle.walrus_types.specs.Operators.{Space, Types, Functions, Tables, Memories, Tags, Globals, Elements, DataSegments}
@@ -15,7 +16,7 @@ use Rattle.walrus_code.specs.declared.local_numbers.LocalNumbers.{LocalNumbers}
 
 -- the places of the items of one space, in the order of their indices
 abbrev pub places_of : {K : Type 0} → IndexSpace K → List ℕ
-places_of space = map place space.ids.items
+places_of space = range_with_len 0 space.front ++ map place space.behind.items
 
 -- those of each space
 abbrev pub places_in : IndicesToIds → Space → List ℕ

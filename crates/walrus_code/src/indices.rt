@@ -1,9 +1,8 @@
 //! Items by their indices (Structure > Modules > Indices).
-ghost use Rattle.std.specs.Prelude.{◌≡◌, ◌≤◌, ◌<◌, ◌^◌, ◌++◌, ◌∷◌, [], length, map, Contains, IfOk, MatchResult, option_map, slice_get};
+ghost use Rattle.std.specs.Prelude.{◌≡◌, ◌≤◌, ◌<◌, ◌^◌, ◌++◌, ◌∷◌, [], ℕ, length, Some, Contains, IfOk, MatchResult, option_map, slice_get};
 ghost use Rattle.std.specs.List.{range_with_len};
 ghost use Rattle.walrus_base.specs.Id.{place};
 ghost use Rattle.walrus_types.specs.Operators.{Space, Types, Functions, Tables, Memories, Tags, Globals, Elements, DataSegments};
-ghost use Rattle.walrus_code.specs.Indices.{places_of, places_in, ids_at, Pushes, SamePlaces};
 
 use std::alloc::{AllocError, Global};
 use walrus_base::{
@@ -12,18 +11,27 @@ use walrus_base::{
 };
 
 /// The ids of the items of one index space by their indices.
+///
+/// Those in front that are the places of their indices are counted, and take no memory.
 #[derive(Drop)]
 pub struct IndexSpace<K> {
-    ids: Vec<Id<K>>,
+    // So many are counted in front.
+    front: usize,
+    // Those behind.
+    behind: Vec<Id<K>>,
+    ghost few: { front ≤ 2 ^ 32 },
 }
 
 impl<K> IndexSpace<K> {
-    /// No index is given yet. Takes no memory until the first one is.
+    ghost use Rattle.walrus_code.specs.Indices.{places_of};
+
+    /// No index is given yet. Takes no memory until an item comes that isn't at the place of its index.
     pub fn new(alloc: Global) -> IndexSpace<K>
         ensures { places_of result ≡ [] }
     {
         IndexSpace {
-            ids: Vec::new(alloc),
+            front: 0,
+            behind: Vec::new(alloc),
         }
     }
 
@@ -32,11 +40,10 @@ impl<K> IndexSpace<K> {
         requires { count ≤ 2 ^ 32 }
         ensures { IfOk result (λ space. places_of space ≡ range_with_len 0 count) }
     {
-        let mut ids = Vec::with_capacity(alloc, count)?;
-        'places: for place in 0..count {
-            ids.push(Id::at(place))?;
-        }
-        Ok(IndexSpace { ids })
+        Ok(IndexSpace {
+            front: count,
+            behind: Vec::new(alloc),
+        })
     }
 
     /// Gives the item, which has no index yet, the next one. Where memory runs out, nothing changes.
@@ -47,7 +54,11 @@ impl<K> IndexSpace<K> {
             (λ _. places_of self.new ≡ places_of self.old ++ place id ∷ [])
             (λ _. places_of self.new ≡ places_of self.old) }
     {
-        self.ids.push(id)?;
+        if self.behind.is_empty() && id.index() == self.front {
+            self.front += 1;
+            return Ok(());
+        }
+        self.behind.push(id)?;
         Ok(())
     }
 
@@ -55,21 +66,25 @@ impl<K> IndexSpace<K> {
     pub fn get(&self, index: u32) -> Option<Id<K>>
         ensures { option_map place result ≡ slice_get (places_of self.now) index }
     {
-        self.ids.get(index as usize).copied()
+        let index = index as usize;
+        if index < self.front {
+            return Some(Id::at(index));
+        }
+        self.behind.get(index - self.front).copied()
     }
 
     /// How many indices are given.
     pub fn len(&self) -> usize
         ensures { result ≡ length (places_of self.now) }
     {
-        self.ids.len()
+        self.front + self.behind.len()
     }
 
-    /// The items in the order of their indices.
-    pub fn as_slice(&self) -> &[Id<K>]
-        ensures { map place result.now ≡ places_of self.now }
+    /// So many items stand in front each of which is at the place of its index.
+    pub fn in_front(&self) -> usize
+        ensures { (index : ℕ) → index < result → slice_get (places_of self.now) index ≡ Some index }
     {
-        self.ids.as_slice()
+        self.front
     }
 }
 
@@ -95,6 +110,8 @@ pub struct IndicesToIds {
 }
 
 impl IndicesToIds {
+    ghost use Rattle.walrus_code.specs.Indices.{places_in, ids_at, Pushes, SamePlaces};
+
     /// No index is given yet. Takes no memory until the first one is.
     pub fn new(alloc: Global) -> IndicesToIds
         ensures { (space : Space) → places_in result space ≡ [] }

@@ -10,7 +10,17 @@ fn items_are_found(alloc: Global) -> bool {
     let mut space: IndexSpace<TableKey> = IndexSpace::new(alloc);
     space.push(Id::at(5)).is_ok()
         && space.len() == 1
+        && space.in_front() == 0
         && space.get(0) == Some(Id::at(5))
+        && space.get(1).is_none()
+}
+
+fn an_item_in_place_is_found(alloc: Global) -> bool {
+    let mut space: IndexSpace<TableKey> = IndexSpace::new(alloc);
+    space.push(Id::at(0)).is_ok()
+        && space.len() == 1
+        && space.in_front() == 1
+        && space.get(0) == Some(Id::at(0))
         && space.get(1).is_none()
 }
 
@@ -18,7 +28,10 @@ fn items_are_in_place(alloc: Global) -> bool {
     let Ok(space) = IndexSpace::<TableKey>::in_place(alloc, 3) else {
         return false;
     };
-    space.len() == 3 && space.get(2) == Some(Id::at(2)) && space.get(3).is_none()
+    space.len() == 3
+        && space.in_front() == 3
+        && space.get(2) == Some(Id::at(2))
+        && space.get(3).is_none()
 }
 
 fn items_are_numbered(alloc: Global) -> bool {
@@ -106,6 +119,7 @@ fn locals_are_numbered(alloc: Global) -> bool {
 #[test]
 fn a_space_has_indices(rt: HostRuntime) -> Result<(), Fail> {
     demand(items_are_found(rt.alloc()), "items pushed")?;
+    demand(an_item_in_place_is_found(rt.alloc()), "an item pushed in place")?;
     demand(items_are_in_place(rt.alloc()), "items in place")
 }
 

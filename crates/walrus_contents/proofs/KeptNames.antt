@@ -2,15 +2,13 @@
 use Rattle.std.proofs.Common.{◌≡◌, inl, inr, ℕ, Bool, List, ◌++◌, map, Some, sym, ap, ◌∙◌, subst, ⊎_elim}
 use Rattle.std.specs.Prelude.{◌↔◌, Contains, IsTrue}
 use Rattle.std.specs.Global.{Vec}
-use Rattle.std.proofs.lemmas.Cmp.{nat_cmp_total}
 use Rattle.std.proofs.lemmas.List.Elements.{Contains-append_cases, Contains-append_left, Contains-append_right}
-use Rattle.std.proofs.lemmas.Map.Lookups.{exact_unsigned}
-use Rattle.std.proofs.lemmas.Map.Views.{btree_set_contains_iff}
 use Rattle.walrus_base.specs.Arena.{item_at}
 use Rattle.walrus_base.specs.IdSet.{has_id, ids_in}
 use Rattle.walrus_base.specs.declared.keys.DataKey.{DataKey}
 use Rattle.walrus_base.specs.declared.keys.ElementKey.{ElementKey}
 use Rattle.walrus_base.specs.declared.set.IdHashSet.{IdHashSet}
+use Rattle.walrus_base.proofs.InSet.{id_is_listed}
 use Rattle.walrus_types.specs.Operators.{Space, Functions, Tables, Memories, Elements, DataSegments, Item, type_item}
 use Rattle.walrus_code.specs.declared.items.ItemId.{ItemId}
 use Rattle.walrus_items.specs.Functions.{FunctionValue, functions}
@@ -51,9 +49,9 @@ module _ {K : Type 0} (space : Space) (set : IdHashSet K) where
   set_items y = (
     (λ c.
         let from = Contains-unmap (segment_item space) (ids_in set) y c in
-        (from.0, (btree_set_contains_iff nat_cmp_total exact_unsigned set.places from.0).1 from.1, sym from.2)),
+        (from.0, (id_is_listed set from.0).1 from.1, sym from.2)),
     (λ h. subst (λ (z : Item). Contains held_items z) (sym h.2)
-        (Contains-map (segment_item space) h.0 (ids_in set) ((btree_set_contains_iff nat_cmp_total exact_unsigned set.places h.0).0 h.1))),
+        (Contains-map (segment_item space) h.0 (ids_in set) ((id_is_listed set h.0).0 h.1))),
   )
 
   -- and so just those that something says it keeps

@@ -10,14 +10,7 @@ use wasm_text::Limits;
 fn count_in_place<K>(space: &IndexSpace<K>) -> u32
     ensures { (index : ℕ) → index < result → slice_get (places_of space.now) index ≡ Some index }
 {
-    let mut count: u32 = 0;
-    'ids: for id in space.as_slice() {
-        if id.index() != count as usize || count == u32::MAX {
-            return count;
-        }
-        count += 1;
-    }
-    count
+    u32::try_from(space.in_front()).unwrap_or(u32::MAX)
 }
 
 /// The counts below which each index is the place of its item; of locals and blocks there are none.

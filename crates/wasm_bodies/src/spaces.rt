@@ -50,5 +50,12 @@ fn numbered<K>(alloc: Global, space: &IndexSpace<K>) -> Result<Numbering<K>, IrE
     if space.len() > 1 << 32 {
         return Err(IrError::TooLarge);
     }
-    Ok(Numbering::along(alloc, space.as_slice())?)
+    let mut numbers = Numbering::new(alloc);
+    'indices: for index in 0..space.len() {
+        let Some(id) = space.get(index as u32) else {
+            unreachable!()
+        };
+        numbers.push(id)?;
+    }
+    Ok(numbers)
 }
