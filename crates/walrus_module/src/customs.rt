@@ -1,10 +1,10 @@
 //! The custom sections of a module, each by its id.
 
-ghost use Rattle.std.specs.Prelude.{◌≡◌, ◌++◌, ◌∷◌, [], length, Some, None, IfOk, IsOkUnless, MatchResult, MatchOption, option_map, slice_set, option_and_then, IsTrue, ◌↔◌};
+ghost use Rattle.std.specs.Prelude.{◌≡◌, ◌++◌, ◌∷◌, [], length, Some, None, IfOk, IsOkUnless, MatchResult, option_map, slice_set, option_and_then};
 ghost use Rattle.std.specs.Option.{option_copied, option_copied_mut};
 ghost use Rattle.std.specs.Borrow.{sem};
 ghost use Rattle.std.specs.Iterator.{YieldsFirstBy, item_count};
-ghost use Rattle.walrus_base.specs.Arena.{item_at, entries, IsLive};
+ghost use Rattle.walrus_base.specs.Arena.{item_at, entries};
 ghost use Rattle.walrus_base.specs.Id.{place};
 ghost use Rattle.walrus_module.specs.Entry.{names_raw, raw_of};
 ghost use Rattle.walrus_parts.specs.Errors.{out_of_memory};

@@ -1,5 +1,5 @@
 //! Handing the code transform to custom sections ("Binary Format > Custom Section").
-ghost use Rattle.std.specs.Prelude.{◌≡◌, ◌⊎◌, OnOk, OnErr, IfErr, false, length, map, Some, slice_set, true};
+ghost use Rattle.std.specs.Prelude.{◌≡◌, OnOk, OnErr, IfErr, false, map, Some, true};
 ghost use Rattle.walrus_base.specs.Arena.{item_at, items};
 ghost use Rattle.walrus_base.specs.Id.{place};
 ghost use Rattle.walrus_parts.specs.Section.{FailsAsSection};

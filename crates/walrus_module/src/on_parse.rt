@@ -1,7 +1,7 @@
 //! What a caller does with a module as soon as it is read.
 ghost use Rattle.std.specs.Prelude.{◌≡◌, IfErr, IfOk, IsOkUnless};
 ghost use Rattle.std.specs.List.{range_with_len};
-ghost use Rattle.walrus_code.specs.Indices.{places_in, places_of};
+ghost use Rattle.walrus_code.specs.Indices.{places_of};
 ghost use Rattle.walrus_module.specs.Flags.{config_of, flags};
 ghost use Rattle.walrus_module.specs.Located.{Gives};
 ghost use Rattle.walrus_module.specs.OnParse.{AreInPlace, Effect, IsNumbered, IsUnread, RunsHook};

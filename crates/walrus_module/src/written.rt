@@ -1,5 +1,5 @@
 //! The bytes of a module's parts with custom sections of its own, which follow the code before, where that is asked for.
-ghost use Rattle.std.specs.Prelude.{◌≡◌, ◌⊎◌, All, IfErr, IfOk, Err, false, true};
+ghost use Rattle.std.specs.Prelude.{◌≡◌, ◌⊎◌, All, IfErr, IfOk, Err, true};
 ghost use Rattle.std.specs.Str.{IsUtf8};
 ghost use Rattle.walrus_code.specs.Indices.{index_of};
 ghost use Rattle.walrus_contents.specs.View.{lent, parts_view};
@@ -67,12 +67,12 @@ impl ModuleCustomSections {
         &self,
         alloc: Global,
         parts: Parts<'_>,
-        prepared: &Prepared,
+        prepared: Prepared,
         switches: Switches,
     ) -> Result<Vec<u8>>
         requires there { HasDead (parts_view parts) → ⊥ }
         requires declared { NothingUndeclared (parts_view parts) }
-        requires planned { IsPrepared parts prepared.now }
+        requires planned { IsPrepared parts prepared }
         ensures emitted { IfOk result (λ bytes. IsEmitted (config_of (flags_of switches))
             (with_sections (parts_view parts.entry)
             (meant ⟦<dyn CustomSection as CustomSection>⟧ self.now)) bytes.items) }
@@ -82,11 +82,11 @@ impl ModuleCustomSections {
             (with_sections (parts_view parts.entry)
             (meant ⟦<dyn CustomSection as CustomSection>⟧ self.now)) (told result) }
         ensures spells { IfOk result (λ bytes. Spells parts.entry
-            (task (choices_of (config_of (flags_of switches))) (index_of prepared.now.indices)
-            (all_asked (index_of prepared.now.indices)
+            (task (choices_of (config_of (flags_of switches))) (index_of prepared.indices)
+            (all_asked (index_of prepared.indices)
             (meant ⟦<dyn CustomSection as CustomSection>⟧ self.now))) bytes.items) }
         ensures texts { IfOk result (λ _. All (λ c. IsUtf8 c.name)
-            (all_asked (index_of prepared.now.indices)
+            (all_asked (index_of prepared.indices)
             (meant ⟦<dyn CustomSection as CustomSection>⟧ self.now))) }
     {
         let asked = self.asked(alloc, &prepared.indices)?;
@@ -187,6 +187,6 @@ pub(crate) fn write_parts(
 {
     let prepared = prepare(alloc, parts)?;
     let transform = customs.followed(alloc, parts, &prepared, switches, tells)?;
-    let bytes = customs.written(alloc, parts, &prepared, switches)?;
+    let bytes = customs.written(alloc, parts, prepared, switches)?;
     Ok((bytes, transform))
 }

@@ -68,7 +68,7 @@ use Rattle.walrus_writing.specs.Parts.{BodySeen, export_with_index, memory_limit
 use Rattle.walrus_plan.specs.Brought.{import_numbers, own_of, own_places, places_brought}
 use Rattle.walrus_writing.specs.Imported.{IsEntryAt}
 use Rattle.walrus_plan.specs.Places.{places, places_own}
-use Rattle.walrus_writing.specs.Records.{Records, Spells, customs_written, module_of, names_written, sections_with}
+use Rattle.walrus_writing.specs.Records.{IsModuleOf, Records, Spells, customs_written, module_of, names_written, sections_with}
 use Rattle.walrus_writing.specs.Elements.{ChoosesFlag, IsSpelledElement, RefusesElements}
 use Rattle.walrus_writing.specs.Globals.{IsSpelledGlobal, RefusesGlobals}
 use Rattle.walrus_writing.specs.Segments.{IsSpelledData, RefusesData}
@@ -115,6 +115,24 @@ module _ (p : Parts) (job : Task) (X : Type 0) where
   data_refused (Parts_error.Memory m) r = tt
   data_refused Parts_error.NotWritable r = ASegment r.0 r.1 r.2
   data_refused _ r = absurd r
+
+  -- whatever would have been given
+  pub refuses_any : (Y : Type 0) (e : Error) → RefusesItems {X = Y} p job (Err e) → RefusesItems {X = X} p job (Err e)
+  refuses_any Y (Parts_error.Memory m) r = tt
+  refuses_any Y Parts_error.NotWritable r = r
+  refuses_any Y Parts_error.TooLarge r = r
+  refuses_any Y _ r = absurd r
+
+-- ---- the module
+
+module _ (p : Parts) (job : Task) (m : wire.Module) (made : IsModuleOf p job m) where
+  pub module_written : (bytes : List ℕ) → bytes ≡ module_bytes m → ModuleFits m → Spells p job bytes
+  module_written bytes are fit = record { records = made.records; names_are = made.names_are; fit = subst ModuleFits made.is fit; are = are ∙ ap module_bytes made.is }
+
+  pub module_refused : (X : Type 0) (e : WireError) → WritesModule (Err e) m → RefusesItems {X = X} p job (Err (error_of_wire e))
+  module_refused X Wire.Malformed refused = absurd refused
+  module_refused X (Wire.Memory e) refused = tt
+  module_refused X Wire.TooLarge refused = inr (record { records = made.records; names_are = made.names_are; too_large = λ fit. refused (subst ModuleFits (sym made.is) fit) })
 
 -- ---- the records
 
@@ -289,13 +307,8 @@ module _ (p : Parts) (job : Task) (names : Lookup) (named : names ≡ job.names)
         ∙ ap (λ (all : List wire.Body). with_rest all customs) codes
         ∙ ap (with_rest (map unplaced (map (λ (b : BodySeen). b.bytes) bodies))) (customs_are ∙ ap (λ (names : NameText). job.sections ++ sections_made names producers_chosen) names_same)
 
-    pub records_written : (bytes : List ℕ) → bytes ≡ module_bytes m → ModuleFits m → Spells p job bytes
-    records_written bytes are fit = record { records = records_of; names_are = named; fit = subst ModuleFits module_is fit; are = are ∙ ap module_bytes module_is }
-
-    pub records_refused : (X : Type 0) (e : WireError) → WritesModule (Err e) m → RefusesItems {X = X} p job (Err (error_of_wire e))
-    records_refused X Wire.Malformed refused = absurd refused
-    records_refused X (Wire.Memory e) refused = tt
-    records_refused X Wire.TooLarge refused = inr (record { records = records_of; names_are = named; too_large = λ fit. refused (subst ModuleFits (sym module_is) fit) })
+    pub records_made : IsModuleOf p job m
+    records_made = record { records = records_of; names_are = named; is = module_is }
 
   -- the module of these sections with other custom sections: those of dynamic linking alone
   module _ (order : List ℕ) (code : List wire.Body) (customs dylinks : List wire.Custom) (none : order ≡ []) (codes : code ≡ map unplaced (map (λ (b : BodySeen). b.bytes) bodies)) (customs_are : customs ≡ dylinks) where

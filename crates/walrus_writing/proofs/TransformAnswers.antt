@@ -37,7 +37,7 @@ use Rattle.walrus_rules.specs.Refused as causes
 use Rattle.walrus_rules.specs.Refused.{IsSayable, Refusal, RefusesToWrite}
 use Rattle.walrus_writing.specs.declared.write.Choices.{Choices}
 use Rattle.walrus_writing.specs.declared.offsets.LocatedBody.{LocatedBody}
-use Rattle.walrus_writing.specs.Customs.{Task, task}
+use Rattle.walrus_writing.specs.Customs.{task}
 use Rattle.walrus_writing.specs.Located.{ArePlaces, AreSorted, LastPlaces, all_placed_from, by_ends, ends_of}
 use Rattle.walrus_writing.specs.Parts.{unplaced}
 use Rattle.walrus_writing.specs.Records.{module_of}
@@ -46,6 +46,7 @@ use Rattle.walrus_writing.specs.Transform.{HasCause, IsTransformOf, RefusesTrans
 use Rattle.walrus_writing.proofs.Emitting.{small, unfit}
 use Rattle.walrus_writing.proofs.LocatedBodies.{Located, bytes_of, moved_within, offsets_of, offsets_told, operators_within}
 use Rattle.walrus_writing.proofs.RefusesAll.{items_refused}
+use Rattle.walrus_writing.proofs.Refusing.{refuses_any}
 use Rattle.walrus_writing.proofs.TransformTold.{Offsets, is_transform_of, placed_many}
 
 -- ---- operators stand within the ranges of their bodies
@@ -116,19 +117,13 @@ module _ (p : Parts) (lives : HasDead (parts_view p) → ⊥) (declared : Nothin
 
   -- ---- why it is refused
 
-  refuses_any : (X Y : Type 0) (job : Task) (e : Error) → RefusesItems {X = X} p job (Err e) → RefusesItems {X = Y} p job (Err e)
-  refuses_any X Y job (Memory m) r = tt
-  refuses_any X Y job NotWritable r = r
-  refuses_any X Y job TooLarge r = r
-  refuses_any X Y job _ r = absurd r
-
   pub refuses : (matched : ImportsMatch (parts_view p)) (reads : ReadsInOrder (parts_view p)) (in_order : AreInOrder (type_slots p.types.now)) (dylinks : List wire.Custom) (X : Type 0) (e : Error)
       → ((sections : List wire.Custom) → group_of Dylink sections ≡ dylinks → RefusesItems {X = X} p (task choices names sections) (Err e)) → RefusesTransform p choices names dylinks e
   refuses matched reads in_order dylinks X e refused = λ c v sections with asked same.
       subst (λ (z : Abstract). HasCause c z e) (sym asked.parts)
       (items_refused c p v.customs v.section_roots lives matched reads in_order names sections choices with {X = Unit {0}} (λ u. []) (Err e)
       (unfit c p lives declared v.customs v.section_roots names sections asked.asked asked.texts choices with, small c p lives declared v.customs v.section_roots names sections asked.asked asked.texts choices with)
-      tt (refuses_any X (Unit {0}) (task choices names sections) e (refused sections same)))
+      tt (refuses_any p (task choices names sections) (Unit {0}) X e (refused sections same)))
 
 -- so it is of a call whose sections may refuse
 pub cause_asked : (X : Type 0) (Asked : Type 0) (c : Config) (v : Abstract) (r : Refusal) → RefusesToWrite {X = Unit {0}} ⊥ c v (Err r) → RefusesToWrite {X = X} Asked c v (Err r)

@@ -10,6 +10,7 @@ use Rattle.wasm_entries.specs.Spelling.{DataStands, ElementStands, GlobalStands,
 use Rattle.wasm_entries.specs.TypeSpelling.{GroupStands, LimitsStand}
 use Rattle.wasm_wire.specs.ModuleSpelling.{ModuleFits, module_bytes}
 use Rattle.walrus_types.specs.Operators.{Space, Types, Functions, Tables, Memories, Tags, Globals, Elements, DataSegments}
+use Rattle.walrus_code.specs.Indices.{index_of}
 use Rattle.walrus_code.specs.Names.{Lookup}
 use Rattle.walrus_bodies.specs.declared.features.Features.{Features}
 use Rattle.walrus_groups.specs.Groups.{types_from}
@@ -27,17 +28,21 @@ use Rattle.walrus_model.specs.WellMade.{ImportsMatch}
 use Rattle.walrus_rules.specs.Examples.{empty_text}
 use Rattle.walrus_rules.specs.Spelling.{IsCount}
 use Rattle.walrus_rules.specs.Text.{BodyText, NameText, Text}
-use Rattle.walrus_names.specs.Names.{if_chosen, names_said}
-use Rattle.walrus_writing.specs.Customs.{Task, chosen_producers, sections_made}
+use Rattle.walrus_names.specs.Names.{first_own, if_chosen, names_said}
+use Rattle.walrus_writing.specs.Bodies.{AreBodies, texts_of}
+use Rattle.walrus_writing.specs.Customs.{AreSpelled, Task, chosen_producers, sections_made}
 use Rattle.walrus_writing.specs.Elements.{ChoosesFlag, ElementIsUnspelled}
 use Rattle.walrus_writing.specs.Globals.{GlobalIsUnspelled}
 use Rattle.walrus_plan.specs.Brought.{import_numbers}
+use Rattle.walrus_plan.specs.Places.{places}
+use Rattle.walrus_plan.specs.declared.prepared.Prepared.{Prepared}
 use Rattle.walrus_writing.specs.Imported.{IsEntryAt}
-use Rattle.walrus_writing.specs.Parts.{type_index, memory_limits, tag_index, export_with_index, HasBytes, unplaced, used_locals}
+use Rattle.walrus_writing.specs.Parts.{BodySeen, type_index, memory_limits, tag_index, export_with_index, HasBytes, unplaced, used_locals}
 use Rattle.walrus_plan.specs.Reads.{ReadsInOrder}
 use Rattle.walrus_writing.specs.Segments.{DataIsUnspelled}
 use Rattle.walrus_writing.specs.Tables.{TableIsUnspelled}
 use Rattle.walrus_writing.specs.declared.write.Choices.{Choices}
+use Rattle.walrus_writing.specs.declared.write.Made.{Made}
 
 -- the things of a space, in the order of the plan, have these records
 abbrev pub AreRecords : {W : Type 0} → Abstract → Plan → (s : Space) → (Thing s → Option W) → List W → Type 0
@@ -150,6 +155,19 @@ sections_with types imports functions tables memories tags globals exports start
 -- the module of these records, with these custom sections
 abbrev pub module_of : {p : Parts} {features : Features} → Records p features → List wire.Custom → wire.Module
 module_of r customs = sections_with r.types r.imports r.functions r.tables r.memories r.tags r.globals r.exports r.start r.elements r.data_count (map unplaced r.bodies) r.data_segments customs
+
+-- what is made of the plan of parts for sections that lend it: the bodies, and the payloads of the chosen custom sections
+abbrev pub IsMade : Parts → Prepared → Choices → Made → Type 0
+IsMade p prepared choices made =
+    (bodies : List BodySeen) × (AreBodies p (index_of prepared.indices) choices.features prepared.plan.own_functions.items bodies
+    × (texts_of made.bodies ≡ map (λ b. b.bytes) bodies)
+    × AreSpelled (if_chosen choices.names (names_said p (places prepared.plan) (first_own prepared.plan) (map (λ b. b.used) bodies))) (chosen_producers p choices) made.payloads)
+
+-- the module is that of records with its custom sections
+pub record IsModuleOf (p : Parts) (t : Task) (made : wire.Module) : Type 0 where
+  pub records : Records p t.choices.features
+  pub names_are : records.names ≡ t.names
+  pub is : made ≡ module_of records (customs_written t records)
 
 -- the bytes are those of the module of records with its custom sections, which fits
 pub record Spells (p : Parts) (t : Task) (bytes : List ℕ) : Type 0 where

@@ -20,7 +20,6 @@ ghost use Rattle.walrus_items.specs.Functions.{function_value};
 ghost use Rattle.walrus_parts.specs.Kinds.{imported};
 ghost use Rattle.walrus_items.specs.Imports.{import_value, imports};
 ghost use Rattle.walrus_model.specs.Live.{IsLive};
-ghost use Rattle.walrus_model.specs.Sections as said;
 ghost use Rattle.walrus_writing.specs.Imported.{Describes, ImportsIndexed, IndexesDesc, IndexesImport, IndexesItem, IsEntryAt, RefusesImports};
 
 use crate::records::raw_memory;

@@ -28,9 +28,9 @@ use walrus_ir::{FunctionId, IdsToIndices, ModuleTypes};
 use walrus_items::{
     Export, ExportItem, Memory, ModuleExports, ModuleFunctions, ModuleMemories, ModuleTags, Tag,
 };
-use walrus_parts::{Error, Result};
+use walrus_parts::Result;
 use walrus_plan::tag_import;
-use wasm_wire::{RawBody, RawExport, RawExportKind, RawGroup, RawLimits};
+use wasm_wire::{RawExport, RawExportKind, RawGroup, RawLimits};
 
 // The groups of the type section.
 pub fn raw_types(

@@ -1,25 +1,21 @@
 //! Writing a module's parts as bytes.
-ghost use Rattle.std.specs.Prelude.{◌≡◌, All, IfErr, IfOk, List, map};
-ghost use Rattle.wasm_frames.specs.Record.{custom_record};
+ghost use Rattle.std.specs.Prelude.{All, IfErr, IfOk, map};
+ghost use Rattle.wasm_frames.specs.Record.{custom_record, sections};
 ghost use Rattle.walrus_base.specs.Id.{place};
 ghost use Rattle.walrus_code.specs.Indices.{index_of};
 ghost use Rattle.walrus_model.specs.Abstract.{Abstract};
 ghost use Rattle.walrus_model.specs.Config.{Config};
 ghost use Rattle.walrus_model.specs.Dead.{HasDead};
 ghost use Rattle.walrus_model.specs.Declared.{NothingUndeclared};
-ghost use Rattle.walrus_model.specs.Producers.{if_written};
-ghost use Rattle.walrus_producers.specs.Seen.{producers};
 ghost use Rattle.walrus_rules.specs.Refused.{RefusesToWrite};
 ghost use Rattle.walrus_contents.specs.View.{parts_view};
-ghost use Rattle.walrus_writing.specs.Customs.{AreSpelled, IsAsked, task};
+ghost use Rattle.walrus_writing.specs.Customs.{IsAsked, task};
 ghost use Rattle.walrus_writing.specs.Emitted.{IsEmitted, IsWrittenWith, told};
-ghost use Rattle.walrus_names.specs.Names.{first_own, if_chosen, names_said};
-ghost use Rattle.walrus_plan.specs.Places.{places};
 ghost use Rattle.walrus_plan.specs.Prepared.{IsPrepared};
-ghost use Rattle.walrus_writing.specs.Bodies.{AreBodies, texts_of};
-ghost use Rattle.walrus_writing.specs.Parts.{BodySeen, IsIndexed};
-ghost use Rattle.walrus_writing.specs.Records.{Spells};
+ghost use Rattle.walrus_writing.specs.Parts.{IsIndexed};
+ghost use Rattle.walrus_writing.specs.Records.{IsMade, IsModuleOf, Spells};
 ghost use Rattle.walrus_writing.specs.Refusals.{RefusesBodies, RefusesItems};
+ghost use Rattle.walrus_writing.specs.declared.write.Choices.{Choices};
 
 use crate::bodies::{Indexed, raw_bodies, written_bodies};
 use crate::customs::{Payloads, both_payloads, producers_payload, raw_customs};
@@ -61,14 +57,7 @@ fn make(alloc: Global, parts: Parts<'_>, prepared: &Prepared, choices: &Choices)
     requires planned { IsPrepared parts prepared.now }
     requires indexed { All (λ id. IsIndexed parts (index_of prepared.now.indices) choices.now.features
         (place id)) prepared.now.plan.own_functions.items }
-    ensures written { IfOk result (λ made. (bodies : List BodySeen)
-        × (AreBodies parts.entry (index_of prepared.now.indices) choices.now.features
-        prepared.now.plan.own_functions.items bodies
-        × (texts_of made.bodies ≡ map (λ b. b.bytes) bodies)
-        × AreSpelled (if_chosen choices.now.names
-        (names_said parts.entry (places prepared.now.plan) (first_own prepared.now.plan)
-        (map (λ b. b.used) bodies)))
-        (if_written choices.now.producers (producers parts.entry.producers.now)) made.payloads)) }
+    ensures written { IfOk result (IsMade parts.entry prepared.now choices.now) }
     ensures fails { IfErr result (RefusesBodies parts.entry choices.now.features) }
 {
     let under = Indexed {
@@ -89,61 +78,29 @@ fn make(alloc: Global, parts: Parts<'_>, prepared: &Prepared, choices: &Choices)
     })
 }
 
-/// The bytes of a module of these parts with custom sections of its own, in which nothing dead is named and nothing is undeclared, in the
-/// order of a plan of the parts and by its indices; bodies may use the chosen proposals. These sections are what a module that is seen as the
-/// parts asks to be written under the indices ("Binary Format > Modules > Custom Section"): sections of dynamic linking stand before all
-/// others, and the others behind the name section and the producers section, each of which is written where it is chosen and says something.
-///
-/// # Errors
-///
-/// Each with a cause of its own: `NotWritable` where a body isn't well formed, an exact heap type is written, or an initialiser, an offset or
-/// an item of a segment has no operator; `TooLarge` where a count or a size passes 32 bits; and `Memory`. What [`walrus_plan::prepare`] refuses
-/// comes before.
-pub fn write_prepared<'a>(
+// The records of items that name nothing dead, in the order of their plan, by the indices that it gives.
+fn raw_items<'a>(
     alloc: Global,
     parts: Parts<'a>,
     prepared: &Prepared,
-    customs: &'a [RawCustom<'a>],
-    choices: &Choices,
-) -> Result<Vec<u8>>
-    requires there { HasDead (parts_view parts) → ⊥ }
-    requires declared { NothingUndeclared (parts_view parts) }
-    requires planned { IsPrepared parts prepared.now }
-    ensures spells { IfOk result (λ bytes. Spells parts.entry
-        (task choices.now (index_of prepared.now.indices) (map custom_record customs.now)) bytes.items) }
-    ensures written { (c : Config) (v : Abstract) → IsWrittenWith c choices.now
-        → IsAsked parts.entry (index_of prepared.now.indices) (map custom_record customs.now) v
-        → IfOk result (λ bytes. IsEmitted c v bytes.items) }
-    ensures refused { (c : Config) (v : Abstract) → IsWrittenWith c choices.now
-        → IsAsked parts.entry (index_of prepared.now.indices) (map custom_record customs.now) v
-        → RefusesToWrite ⊥ c v (told result) }
-{
-    write_items(alloc, parts, prepared, customs, choices)
-}
-
-// The bytes of items that name nothing dead, in the order of their plan, by the indices that it gives.
-fn write_items<'a>(
-    alloc: Global,
-    parts: Parts<'a>,
-    prepared: &Prepared,
+    made: &'a Made,
     own: &'a [RawCustom<'a>],
-    choices: &Choices,
-) -> Result<Vec<u8>>
+) -> Result<Raw<'a>>
     requires there { HasDead (parts_view parts) → ⊥ }
     requires planned { IsPrepared parts prepared.now }
-    ensures spells { IfOk result (λ bytes. Spells parts.entry
-        (task choices.now (index_of prepared.now.indices) (map custom_record own.now)) bytes.items) }
-    ensures refused { RefusesItems parts.entry
-        (task choices.now (index_of prepared.now.indices) (map custom_record own.now)) result }
+    ensures records { (choices : Choices) → IsMade parts.entry prepared.now choices made.now
+        → IfOk result (λ raw. IsModuleOf parts.entry
+        (task choices (index_of prepared.now.indices) (map custom_record own.now)) (sections raw)) }
+    ensures refused { (choices : Choices) → IsMade parts.entry prepared.now choices made.now
+        → RefusesItems parts.entry
+        (task choices (index_of prepared.now.indices) (map custom_record own.now)) result }
 {
     let indices = &prepared.indices;
     let order = prepared.plan.own_functions.as_slice();
     let types = raw_types(alloc, parts.types, indices)?;
     let functions = raw_functions(alloc, parts, order, indices)?;
-    let made = make(alloc, parts, prepared, choices)?;
-    let lent = &made;
-    let customs = raw_customs(alloc, own, &lent.payloads)?;
-    let code = raw_bodies(alloc, &lent.bodies)?;
+    let customs = raw_customs(alloc, own, &made.payloads)?;
+    let code = raw_bodies(alloc, &made.bodies)?;
     let imports = raw_imports(alloc, parts, indices)?;
     let tables = raw_tables(alloc, parts.tables, indices)?;
     let memories = raw_memories(alloc, parts.memories)?;
@@ -153,10 +110,10 @@ fn write_items<'a>(
     let start = raw_start(parts.start, indices);
     let elements = raw_elements(alloc, parts.elements, parts.tables, indices)?;
     let data_segments = raw_data(alloc, parts.data_, indices)?;
-    if lent.payloads.is_none() {
+    if made.payloads.is_none() {
         return Err(Error::TooLarge);
     }
-    let raw = Raw {
+    Ok(Raw {
         order: Vec::new(alloc),
         types,
         imports,
@@ -172,7 +129,59 @@ fn write_items<'a>(
         bodies: code,
         data_: data_segments,
         customs,
-    };
+    })
+}
+
+/// The bytes of a module of these parts with custom sections of its own, in which nothing dead is named and nothing is undeclared, in the
+/// order of a plan of the parts and by its indices; bodies may use the chosen proposals. These sections are what a module that is seen as the
+/// parts asks to be written under the indices ("Binary Format > Modules > Custom Section"): sections of dynamic linking stand before all
+/// others, and the others behind the name section and the producers section, each of which is written where it is chosen and says something.
+///
+/// # Errors
+///
+/// Each with a cause of its own: `NotWritable` where a body isn't well formed, an exact heap type is written, or an initialiser, an offset or
+/// an item of a segment has no operator; `TooLarge` where a count or a size passes 32 bits; and `Memory`. What [`walrus_plan::prepare`] refuses
+/// comes before.
+pub fn write_prepared<'a>(
+    alloc: Global,
+    parts: Parts<'a>,
+    prepared: Prepared,
+    customs: &'a [RawCustom<'a>],
+    choices: &Choices,
+) -> Result<Vec<u8>>
+    requires there { HasDead (parts_view parts) → ⊥ }
+    requires declared { NothingUndeclared (parts_view parts) }
+    requires planned { IsPrepared parts prepared }
+    ensures spells { IfOk result (λ bytes. Spells parts.entry
+        (task choices.now (index_of prepared.indices) (map custom_record customs.now)) bytes.items) }
+    ensures written { (c : Config) (v : Abstract) → IsWrittenWith c choices.now
+        → IsAsked parts.entry (index_of prepared.indices) (map custom_record customs.now) v
+        → IfOk result (λ bytes. IsEmitted c v bytes.items) }
+    ensures refused { (c : Config) (v : Abstract) → IsWrittenWith c choices.now
+        → IsAsked parts.entry (index_of prepared.indices) (map custom_record customs.now) v
+        → RefusesToWrite ⊥ c v (told result) }
+{
+    write_items(alloc, parts, prepared, customs, choices)
+}
+
+// The bytes of items that name nothing dead, in the order of their plan, by the indices that it gives. It is dropped before they are made.
+fn write_items<'a>(
+    alloc: Global,
+    parts: Parts<'a>,
+    prepared: Prepared,
+    own: &'a [RawCustom<'a>],
+    choices: &Choices,
+) -> Result<Vec<u8>>
+    requires there { HasDead (parts_view parts) → ⊥ }
+    requires planned { IsPrepared parts prepared }
+    ensures spells { IfOk result (λ bytes. Spells parts.entry
+        (task choices.now (index_of prepared.indices) (map custom_record own.now)) bytes.items) }
+    ensures refused { RefusesItems parts.entry
+        (task choices.now (index_of prepared.indices) (map custom_record own.now)) result }
+{
+    let made = make(alloc, parts, &prepared, choices)?;
+    let raw = raw_items(alloc, parts, &prepared, &made, own)?;
+    drop(prepared);
     let bytes = written_module(alloc, &raw)?;
     Ok(bytes)
 }

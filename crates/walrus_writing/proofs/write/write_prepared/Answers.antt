@@ -14,7 +14,7 @@ pub returns-clause-written : goal.returns-clause-written
 returns-clause-written c =
     λ config v with asked.
     let sections = map custom_record c.args.customs.now in
-    let names = index_of c.args.prepared.now.indices in
+    let names = index_of c.args.prepared.indices in
     subst (λ (x : Abstract). IfOk c.write_items.result (λ bytes. IsEmitted config x bytes.items)) (sym asked.parts)
     (emitted_ok config c.args.parts c.requires.there c.requires.declared v.customs v.section_roots names sections asked.asked asked.texts c.args.choices.now with c.write_items.result c.write_items.ensures.spells)
 
@@ -22,7 +22,7 @@ pub returns-clause-refused : goal.returns-clause-refused
 returns-clause-refused c =
     λ config v with asked.
     let sections = map custom_record c.args.customs.now in
-    let names = index_of c.args.prepared.now.indices in
+    let names = index_of c.args.prepared.indices in
     let p = c.args.parts in
     let plan = c.requires.planned in
     subst (λ (x : Abstract). RefusesToWrite ⊥ config x (told c.write_items.result)) (sym asked.parts)

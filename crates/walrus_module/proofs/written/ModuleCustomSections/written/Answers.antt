@@ -16,7 +16,7 @@ use Rattle.walrus_module.proofs.written.ModuleCustomSections.written.Goals as go
 
 pub returns-clause-spells : goal.returns-clause-spells
 returns-clause-spells g c =
-    let names = index_of c.args.prepared.now.indices in
+    let names = index_of c.args.prepared.indices in
     let same = ap (map custom_record) c.as_slice-2.ensures.value ∙ c.in_ok-customs.ensures.value ∙ ap (map section_seen) c.as_slice.ensures.value ∙ c.in_ok-asked.ensures.value in
     spells_as c.args.parts names _ _ _ _ c.choices.ensures same c.write_prepared.result c.write_prepared.ensures.spells
 
@@ -32,7 +32,7 @@ returns-clause-emitted g c =
     let seen = ap (map section_seen) c.as_slice.ensures.value ∙ c.in_ok-asked.ensures.value in
     let same = ap (map custom_record) c.as_slice-2.ensures.value ∙ c.in_ok-customs.ensures.value ∙ seen in
     c.write_prepared.ensures.written (config_of (flags_of c.args.switches)) (with_sections (parts_view c.args.parts) ms) (written_with _ _ c.choices.ensures)
-    (asks c.args.parts (index_of c.args.prepared.now.indices) ms _ same
+    (asks c.args.parts (index_of c.args.prepared.indices) ms _ same
     (subst (All (λ (x : Custom). IsUtf8 x.name)) (sym (ap (map custom_record) c.as_slice-2.ensures.value ∙ c.in_ok-customs.ensures.value ∙ ap (map section_seen) c.as_slice.ensures.value)) (All-map (λ (x : Custom). IsUtf8 x.name) section_seen _ c.in_ok-asked.ensures.texts)))
 
 pub returns-clause-refused : goal.returns-clause-refused
@@ -42,5 +42,5 @@ returns-clause-refused g c =
     let same = ap (map custom_record) c.as_slice-2.ensures.value ∙ c.in_ok-customs.ensures.value ∙ seen in
     refused_anyway (OneAskedMayRefuse ms) (config_of (flags_of c.args.switches)) (with_sections (parts_view c.args.parts) ms) (told c.write_prepared.result)
     (c.write_prepared.ensures.refused (config_of (flags_of c.args.switches)) (with_sections (parts_view c.args.parts) ms) (written_with _ _ c.choices.ensures)
-    (asks c.args.parts (index_of c.args.prepared.now.indices) ms _ same
+    (asks c.args.parts (index_of c.args.prepared.indices) ms _ same
     (subst (All (λ (x : Custom). IsUtf8 x.name)) (sym (ap (map custom_record) c.as_slice-2.ensures.value ∙ c.in_ok-customs.ensures.value ∙ ap (map section_seen) c.as_slice.ensures.value)) (All-map (λ (x : Custom). IsUtf8 x.name) section_seen _ c.in_ok-asked.ensures.texts))))
