@@ -1,9 +1,9 @@
 -- Data segments have to be counted where one is passive or a body names one: that the tests of these are the standard's.
 use Rattle.std.proofs.Common.{◌≡◌, ◌⊎◌, inl, inr, ⊎_elim, ℕ, Bool, true, false, List, [], ◌∷◌, map, refl, sym, ap, ◌∙◌, subst, Some, None}
-use Rattle.std.specs.Prelude.{flat_map, Contains, Option, option_map}
+use Rattle.std.specs.Prelude.{flat_map, Contains, IsSome, Option, option_map}
 use Rattle.std.specs.List.{list_any}
 use Rattle.std.proofs.lemmas.Bool.{false≢true}
-use Rattle.std.proofs.lemmas.List.Elements.{Contains-append_cases}
+use Rattle.std.proofs.lemmas.List.Elements.{Contains-append_cases, Contains-append_left}
 use Rattle.std.proofs.lemmas.List.Folds.{Any-from_list_any, list_any_at}
 use Rattle.walrus_base.specs.Arena.{entries, item_at, items}
 use Rattle.walrus_base.specs.Types.{heap_names, val_names}
@@ -19,8 +19,11 @@ use Rattle.walrus_parts.specs.declared.segments.DataKind.TheVariants.{Active, Pa
 use Rattle.walrus_contents.specs.View.{data_kind_of, data_of, function, kind_of, parts_view}
 use Rattle.walrus_contents.specs.declared.parts.Parts.{Parts}
 use Rattle.walrus_contents.proofs.Slots.{entry_in, item_seen}
-use Rattle.walrus_model.specs.Abstract.{Abstract, PassiveData}
+use Rattle.walrus_model.specs.Abstract.{Abstract, Function, FunctionKind as Kind, ImportedFunction, LocalFunction, PassiveData, Uninitialised}
+use Rattle.walrus_model.specs.Dead.{DeadName, HasDead}
+use Rattle.walrus_model.specs.Live.{IsLive}
 use Rattle.walrus_model.specs.Names.{body_of_function, body_of_kind}
+use Rattle.walrus_model.specs.Refers.{function_names, kind_names, local_names, named_by, used_locals}
 use Rattle.walrus_model.proofs.Lists.{Contains-head, Contains-map, Contains-none, Contains-tail, Contains-uncons}
 use Rattle.walrus_model.proofs.Reach.{Contains-unmap}
 use Rattle.walrus_model.proofs.TypeRules.{Contains-flat_map}
@@ -138,6 +141,16 @@ function_seen : (all : ModuleLocals) (o : Option FunctionValue) (d : ℕ) → Na
 function_seen all None d at = absurd at
 function_seen all (Some x) d at = (x, (refl, kind_seen all x.kind d at))
 
+-- what a body names stands written in its function
+written_kind : (k : Kind) (d : ℕ) → NamesData (body_of_kind k) d → Contains (kind_names k) (DataSegments, d)
+written_kind (LocalFunction b) d at = Contains-append_left (names_of b.operators) (flat_map (local_names b) (used_locals b)) (DataSegments, d) at
+written_kind (ImportedFunction i) d at = absurd at
+written_kind Uninitialised d at = absurd at
+
+written_body : (o : Option Function) (d : ℕ) → NamesData (body_of_function o) d → Contains (named_by function_names o) (DataSegments, d)
+written_body None d at = absurd at
+written_body (Some f) d at = Contains-tail (type_item f.ty) (DataSegments, d) (kind_names f.kind) (written_kind f.kind d at)
+
 -- ---- segments
 
 passive_found : (k : DataKind) → is_passive_data k ≡ true → data_kind_of k ≡ PassiveData
@@ -147,6 +160,10 @@ passive_found (Active memory offset) h = absurd (false≢true h)
 passive_seen : (k : DataKind) → data_kind_of k ≡ PassiveData → is_passive_data k ≡ true
 passive_seen Passive h = refl
 passive_seen (Active memory offset) h = absurd cc
+
+there_of : (o : Option DataValue) → IsSome (option_map data_of o) → (x : DataValue) × (o ≡ Some x)
+there_of None h = absurd (false≢true h)
+there_of (Some x) h = (x, refl)
 
 segment_seen : (o : Option DataValue) → IsPassive (option_map data_of o) → (x : DataValue) × ((o ≡ Some x) × (is_passive_value x ≡ true))
 segment_seen None h = absurd h
@@ -191,3 +208,15 @@ module _ (p : Parts) where
   -- where no segment is passive, only names are left
   pub needs_names : (b : Bool) → list_any is_passive_value (items (data_segments p.data_.now)) ≡ b → b ≡ false → NeedsCount V → HasNames
   needs_names b is none h = ⊎_elim (λ (has : HasPassive). absurd (false≢true (sym none ∙ sym is ∙ has))) (λ has. has) (needs h)
+
+  -- where there is no segment, and nothing is named that isn't there
+  module _ (none : items (data_segments p.data_.now) ≡ []) (whole : HasDead V → ⊥) where
+    no_segment : (d : ℕ) (x : DataValue) → item_at (data_segments p.data_.now) d ≡ Some x → ⊥
+    no_segment d x at = Contains-none x (subst (λ (xs : List DataValue). Contains xs x) none (item_in (data_segments p.data_.now) d x at))
+
+    not_there : (d : ℕ) → IsLive V (DataSegments, d) → ⊥
+    not_there d live = let s = there_of (item_at (data_segments p.data_.now) d) live in no_segment d s.0 s.1
+
+    pub needs_none : NeedsCount V → ⊥
+    needs_none (inl (d, h)) = let s = segment_seen (item_at (data_segments p.data_.now) d) h in no_segment d s.0 s.1.0
+    needs_none (inr (f, (d, h))) = whole (DeadName (Functions, f) (DataSegments, d) (written_body (V.functions f) d h) (not_there d))

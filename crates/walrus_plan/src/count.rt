@@ -1,5 +1,5 @@
 //! How many data segments a module has, where that is said ahead of the bodies ("Binary Format > Modules > Data Count Section").
-ghost use Rattle.std.specs.Prelude.{◌≡◌, ◌↔◌, ◌<◌, ◌^◌, IsTrue};
+ghost use Rattle.std.specs.Prelude.{◌≡◌, ◌↔◌, ◌<◌, ◌^◌, [], IsFalse, IsTrue};
 ghost use Rattle.std.specs.List.{list_any};
 ghost use Rattle.walrus_base.specs.Arena.{items};
 ghost use Rattle.walrus_code.specs.Code.{arg_of, op_of, ops_of};
@@ -7,11 +7,19 @@ ghost use Rattle.walrus_items.specs.Function.{body_of};
 ghost use Rattle.walrus_items.specs.Data.{data_segments};
 ghost use Rattle.walrus_items.specs.Functions.{functions};
 ghost use Rattle.walrus_contents.specs.View.{parts_view};
+ghost use Rattle.walrus_model.specs.Dead.{HasDead};
 ghost use Rattle.walrus_rules.specs.Spelling.{IsCount, NeedsCount};
 ghost use Rattle.walrus_plan.specs.Count.{arg_is_data, kind_names_data, one_names_data, op_names_data, is_passive_value};
 
 use walrus_contents::Parts;
 use walrus_items::{Arg, FunctionKind, LocalFunction, ModuleData, ModuleFunctions, Operator};
+
+// Whether there is a segment.
+fn has_segments(segments: &ModuleData) -> bool
+    ensures { IsFalse result → items (data_segments segments.now) ≡ [] }
+{
+    segments.iter().next().is_some()
+}
 
 // Whether a segment is passive.
 fn has_passive(segments: &ModuleData) -> bool
@@ -89,15 +97,20 @@ fn has_data_names(funcs: &ModuleFunctions) -> bool
     false
 }
 
-// Whether the segments have to be counted ahead of the bodies: a segment is passive, or a body names one.
+// Whether the segments have to be counted ahead of the bodies: a segment is passive, or a body names one. Where there is none, no body does.
 fn needs_count(parts: Parts<'_>) -> bool
+    requires there { HasDead (parts_view parts) → ⊥ }
     ensures { IsTrue result ↔ NeedsCount (parts_view parts.entry) }
 {
+    if !has_segments(parts.data_) {
+        return false;
+    }
     has_passive(parts.data_) || has_data_names(parts.funcs)
 }
 
 /// How many data segments there are, where that has to be said ahead of the bodies.
 pub fn count_of(parts: Parts<'_>, segments: usize) -> Option<u32>
+    requires there { HasDead (parts_view parts) → ⊥ }
     requires few { segments < 2 ^ 32 }
     ensures { IsCount (parts_view parts.entry) segments result }
 {

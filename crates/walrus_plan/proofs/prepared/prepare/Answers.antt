@@ -29,7 +29,7 @@ pub indices-requires : goal.indices-requires
 indices-requires c = record { distinct = λ s. ((c.in_ok-plan.ensures.plan c.requires.there c.in_ok-check_matched.ensures).holds s).differ }
 
 pub count_of-data_count-requires : goal.count_of-data_count-requires
-count_of-data_count-requires c = record { few = omega (arith, c.in_ok-indices.ensures.few DataSegments, length-map c.in_ok-plan.plan.data_.items place, c.len.ensures) }
+count_of-data_count-requires c = record { there = c.requires.there; few = omega (arith, c.in_ok-indices.ensures.few DataSegments, length-map c.in_ok-plan.plan.data_.items place, c.len.ensures) }
 
 pub returns-in_err-indices-clause-refused : goal.returns-in_err-indices-clause-refused
 returns-in_err-indices-clause-refused c =
