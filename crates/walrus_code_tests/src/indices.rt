@@ -119,7 +119,10 @@ fn locals_are_numbered(alloc: Global) -> bool {
 #[test]
 fn a_space_has_indices(rt: HostRuntime) -> Result<(), Fail> {
     demand(items_are_found(rt.alloc()), "items pushed")?;
-    demand(an_item_in_place_is_found(rt.alloc()), "an item pushed in place")?;
+    demand(
+        an_item_in_place_is_found(rt.alloc()),
+        "an item pushed in place",
+    )?;
     demand(items_are_in_place(rt.alloc()), "items in place")
 }
 

@@ -16,10 +16,6 @@ use walrus_parts::Result;
 #[derive(Drop)]
 pub struct Memory {
     id: MemoryId,
-    /// Whether threads share it.
-    pub shared: bool,
-    /// Whether its addresses have 64 bits.
-    pub memory64: bool,
     /// How many pages it has at first, and at least.
     pub initial: u64,
     /// How many pages it can have at most.
@@ -28,6 +24,10 @@ pub struct Memory {
     pub page_size_log2: Option<u32>,
     /// The import that brings it in, if one does.
     pub import: Option<ImportId>,
+    /// Whether threads share it.
+    pub shared: bool,
+    /// Whether its addresses have 64 bits.
+    pub memory64: bool,
     /// The data segments that are kept as long as the memory is.
     pub data_segments: IdHashSet<DataKey>,
     /// The name that the name section gives it.

@@ -20,8 +20,6 @@ use walrus_parts::{Error, Result};
 #[derive(Drop)]
 pub struct Table {
     id: TableId,
-    /// Whether its indices have 64 bits.
-    pub table64: bool,
     /// How many elements it has at first, and at least.
     pub initial: u64,
     /// How many elements it can have at most.
@@ -32,6 +30,8 @@ pub struct Table {
     pub init: Option<ConstExpr>,
     /// The import that brings it in, if one does.
     pub import: Option<ImportId>,
+    /// Whether its indices have 64 bits.
+    pub table64: bool,
     /// The element segments that are kept as long as the table is.
     pub elem_segments: IdHashSet<ElementKey>,
     /// The name that the name section gives it.
