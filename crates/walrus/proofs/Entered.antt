@@ -320,6 +320,17 @@ module _ (v : Abstract) where
     pub enters_marked : (old new : Worklist) (is_new : Bool) → Keeps v old → is_new ≡ not (has_mark old.marks x) → is_new ≡ false → NotesAll v (x ∷ []) old new → Enters v (x ∷ []) old new
     enters_marked old new is_new kept e f_is n = enters_again old new ((kept.agrees x).0 (was_in (has_mark old.marks x) is_new e f_is)) n
 
+    -- it was entered before, and nothing changes
+    pub enters_before : (list : Worklist) → Keeps v list → has_mark list.marks x ≡ true → Enters v (x ∷ []) list list
+    enters_before list kept is = enters_again list list ((kept.agrees x).0 is) (record {
+      rest = [];
+      grows = sym (append-nil (entered_items list));
+      named_only = λ y c. absurd (Contains-none y c);
+      entered = λ y c. subst (λ (z : Item). Contains (entered_items list) z) (one y c) ((kept.agrees x).0 is);
+      taken = refl;
+      kept = kept;
+    })
+
   -- ---- nothing, and one after the other
 
   pub enters_none : (list : Worklist) → Keeps v list → Enters v [] list list

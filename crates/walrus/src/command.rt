@@ -10,7 +10,7 @@ ghost use Rattle.walrus_module.specs.Flags.{config_of};
 
 use crate::device::{Sink, Source};
 use crate::message::{refuse, text_of, write_line};
-use crate::tool::{ToolError, report, run};
+use crate::tool::{ToolError, report, run_last};
 use std::alloc::Global;
 use walrus_module::ModuleConfig;
 
@@ -57,14 +57,14 @@ fn run_or_report<R: Source, W: Sink>(
     if has(words, "--report") {
         report(alloc, input, output, config)
     } else {
-        run(alloc, input, output, config)
+        run_last(alloc, input, output, config)
     }
 }
 
 /// Runs the program on its words, its standard input, output and error, and answers its status: 0 where the smaller
 /// module, or the report in its place, was written, 1 where that was refused, 2 where a word isn't known, and then
 /// nothing is read or written. A refusal is told in one line on the last stream; where that can't be written, the
-/// status is the same.
+/// status is the same. It is the last thing that a process does: the memory of the smaller module isn't given back.
 pub fn command<R: Source, W: Sink, E: Sink>(
     alloc: Global,
     words: &[String],

@@ -37,7 +37,25 @@ pub fn run<R: Source, W: Sink>(
     ensures reads { CountsReads (R.read_failures source.old) (R.read_failures source.new) result }
     ensures writes { CountsWrites (W.write_failures sink.old) (W.write_failures sink.new) result }
 {
-    transfer(alloc, source, sink, &Run { config })
+    let is_last = false;
+    transfer(alloc, source, sink, &Run { config, is_last })
+}
+
+// The same as the last thing that the process does: the module's memory is left to the system.
+pub(crate) fn run_last<R: Source, W: Sink>(
+    alloc: Global,
+    source: &mut R,
+    sink: &mut W,
+    config: &ModuleConfig,
+) -> Result<(), ToolError>
+    ensures headline { Runs (config_of (flags config.now)) (R.left source.old) (R.left source.new)
+        (W.held sink.old) (W.held sink.new) result }
+    ensures flushed { OnOk result (W.is_flushed sink.new ≡ true) }
+    ensures reads { CountsReads (R.read_failures source.old) (R.read_failures source.new) result }
+    ensures writes { CountsWrites (W.write_failures sink.old) (W.write_failures sink.new) result }
+{
+    let is_last = true;
+    transfer(alloc, source, sink, &Run { config, is_last })
 }
 
 /// Reads all of the source as a module, writes to the sink how many of its items [`run`] keeps and how many it drops, and flushes. Nothing is

@@ -12,7 +12,8 @@ use crate::report::report_on;
 use crate::tool::ToolError;
 use crate::transfer::{ReadAllError, read_all, write_all};
 use std::alloc::Global;
-use walrus_module::{Error, ModuleConfig};
+use std::mem::forget;
+use walrus_module::{Error, Module, ModuleConfig};
 
 /// What is made of all bytes of a source.
 pub(crate) trait Work {
@@ -35,6 +36,8 @@ pub(crate) trait Work {
 #[derive(Clone, Copy)]
 pub(crate) struct Run<'a> {
     pub(crate) config: &'a ModuleConfig,
+    // Whether the process ends behind it: the module's memory is left to the system then.
+    pub(crate) is_last: bool,
 }
 
 impl<'a> Work for Run<'a> {
@@ -45,7 +48,7 @@ impl<'a> Work for Run<'a> {
     ghost is_large = { λ s. ComesOutTooLarge (config_of (flags s.config.now)) };
 
     fn make(&self, alloc: Global, bytes: Vec<u8>) -> Result<Vec<u8>, Error> {
-        smaller(alloc, bytes, self.config)
+        smaller(alloc, bytes, self.config, self.is_last)
     }
 }
 
@@ -67,14 +70,30 @@ impl<'a> Work for Report<'a> {
     }
 }
 
-// The bytes of the module without what nothing reaches.
-fn smaller(alloc: Global, bytes: Vec<u8>, config: &ModuleConfig) -> Result<Vec<u8>, Error>
+// The bytes of the module without what nothing reaches. Its memory isn't given back where that is the last thing.
+fn smaller(
+    alloc: Global,
+    bytes: Vec<u8>,
+    config: &ModuleConfig,
+    is_last: bool,
+) -> Result<Vec<u8>, Error>
     ensures { RunsOn (config_of (flags config.now)) bytes.items (λ output. output.items) result }
 {
     let mut module = config.parse(alloc, &bytes)?;
     drop(bytes);
     gc::run(alloc, &mut module)?;
-    module.emit_whole(alloc)
+    let output = module.emit_whole(alloc);
+    let_go(module, is_last);
+    output
+}
+
+// Gives the module's memory back, unless that is left to the system.
+fn let_go(module: Module, is_last: bool) {
+    if is_last {
+        forget(module);
+    } else {
+        drop(module);
+    }
 }
 
 // The report on the module that the bytes say.

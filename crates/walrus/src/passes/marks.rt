@@ -60,4 +60,20 @@ impl MarkedItems {
             ItemId::Data(id) => self.data_.mark(id),
         }
     }
+
+    /// Whether an item is marked.
+    pub(crate) fn is_marked(&self, item: ItemId) -> bool
+        ensures { result ≡ has_mark self.now (item_of item) }
+    {
+        match item {
+            ItemId::Type(id) => self.types.is_marked(id),
+            ItemId::Function(id) => self.funcs.is_marked(id),
+            ItemId::Table(id) => self.tables.is_marked(id),
+            ItemId::Memory(id) => self.memories.is_marked(id),
+            ItemId::Tag(id) => self.tags.is_marked(id),
+            ItemId::Global(id) => self.globals.is_marked(id),
+            ItemId::Element(id) => self.elements.is_marked(id),
+            ItemId::Data(id) => self.data_.is_marked(id),
+        }
+    }
 }

@@ -273,6 +273,9 @@ fn enter(parts: Parts<'_>, item: ItemId, list: &mut Worklist) -> Result<()>
         (IsDead (IsLive (parts_view parts.entry) (item_of item) → ⊥)) }
 {
     parts.types.groups_are_whole();
+    if list.marks.is_marked(item) {
+        return Ok(());
+    }
     if !is_live(parts, item) {
         return Err(Error::DeadItem);
     }

@@ -34,4 +34,4 @@ pub returns-clause-headline : goal.returns-clause-headline
 returns-clause-headline g c =
     by_words _ _ _ _ _ false c.args.words.now _
     (set _ _ _ _ _ _ _ _ _ _ c.new-made.ensures.value c.generate_name_section.ensures.value c.generate_producers_section.ensures.value c.legacy_exceptions-config.ensures.value c.has.ensures c.has-2.ensures c.has-3.ensures)
-    (sym c.has-4.ensures ∙ c.if-has.false) c.run.ensures.headline
+    (sym c.has-4.ensures ∙ c.if-has.false) c.run_last.ensures.headline

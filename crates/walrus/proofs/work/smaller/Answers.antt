@@ -16,16 +16,16 @@ returns-in_err-run g c =
     answers_gc (config_of (flags c.args.config.now)) (λ output. output.items) (OneMayRefuse (meanings _ read)) _ _ c.deref.ensures.value _ _ _ c.in_ok-module.ensures.found
     (none_refuses _ read c.in_ok-module.ensures.kept.raws c.in_ok-module.ensures.kept.are) c.in_err-run.ensures.refused c.from_residual-in_err-run.ensures.1
 
-pub emit_whole-requires : goal.emit_whole-requires
-emit_whole-requires g c = nothing_dead_left (config_of (flags c.args.config.now)) _ _ _ c.in_ok-module.ensures.found c.in_ok-run.ensures.collected
+pub emit_whole-output-requires : goal.emit_whole-output-requires
+emit_whole-output-requires g c = nothing_dead_left (config_of (flags c.args.config.now)) _ _ _ c.in_ok-module.ensures.found c.in_ok-run.ensures.collected
 
 pub returns : goal.returns
 returns g c =
     let kept = c.run.new.module in
-    let left = c.emit_whole.new.self in
+    let left = c.emit_whole-output.new.self in
     let raws = c.in_ok-module.ensures.kept.raws in
     let are = ap sections c.in_ok-run.ensures.others.2 ∙ c.in_ok-module.ensures.kept.are in
-    let same = c.emit_whole.ensures.raw (all_raw kept.customs raws are) in
+    let same = c.emit_whole-output.ensures.raw (all_raw kept.customs raws are) in
     let keeps = c.in_ok-run.ensures.others.3 ∙ c.in_ok-module.ensures.configured in
-    answers_kept (λ output. output.items) (OneMayRefuseThen _ kept.customs left.customs) (none_refuses_then _ kept left same (none_asked_refuses _ kept raws are)) _ _ keeps _ _ c.deref.ensures.value _ _ _ c.emit_whole.result
-    c.in_ok-module.ensures.found c.in_ok-run.ensures.collected (leaves_whole _ kept left same (told c.emit_whole.result) c.emit_whole.ensures.left) c.emit_whole.ensures.emitted c.emit_whole.ensures.refused
+    answers_kept (λ output. output.items) (OneMayRefuseThen _ kept.customs left.customs) (none_refuses_then _ kept left same (none_asked_refuses _ kept raws are)) _ _ keeps _ _ c.deref.ensures.value _ _ _ c.emit_whole-output.result
+    c.in_ok-module.ensures.found c.in_ok-run.ensures.collected (leaves_whole _ kept left same (told c.emit_whole-output.result) c.emit_whole-output.ensures.left) c.emit_whole-output.ensures.emitted c.emit_whole-output.ensures.refused
