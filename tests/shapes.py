@@ -240,8 +240,8 @@ def gigabytes(count, size, power):
 
 # Types.
 
-alike("types_structs", "structs without fields, none kept", STRUCT + NOTHING, entries("types"), memory=for_a_byte(269))
-alike("types_functions", "function types () -> (), none kept: a list of equal keys", PLAIN_TYPE, entries("types"), memory=for_a_byte(183))
+alike("types_structs", "structs without fields, none kept", STRUCT + NOTHING, entries("types"), memory=for_a_byte(140))
+alike("types_functions", "function types () -> (), none kept: a list of equal keys", PLAIN_TYPE, entries("types"), memory=for_a_byte(95))
 alike("types_empty_groups", "groups without types", GROUP + NOTHING, entries("types"))
 
 
@@ -294,16 +294,16 @@ def types_mesh(size):
 NAMELESS = sized(b"") + sized(b"")
 alike(
     "imports_functions", "imported functions with empty names, none kept", NAMELESS + FUNCTION + FIRST, entries("imports", types=ONE_TYPE),
-    memory=for_a_byte(92))
+    memory=for_a_byte(80))
 alike("imports_globals", "imported globals with empty names, none kept", NAMELESS + GLOBAL + I32 + IMMUTABLE, entries("imports"))
 alike("imports_tables", "imported tables with empty names, none kept", NAMELESS + TABLE + EMPTY_TABLE, entries("imports"))
-alike("tables", "tables, none kept", EMPTY_TABLE, entries("tables"), memory=for_a_byte(92))
-alike("memories", "memories, none kept", EMPTY_MEMORY, entries("memories"), memory=for_a_byte(89))
+alike("tables", "tables, none kept", EMPTY_TABLE, entries("tables"), memory=for_a_byte(80))
+alike("memories", "memories, none kept", EMPTY_MEMORY, entries("memories"), memory=for_a_byte(80))
 alike("tags", "tags, none kept", b"\0" + FIRST, entries("tags", types=ONE_TYPE))
 alike("globals_", "globals, none kept", I32 + IMMUTABLE + ZERO, entries("globals"))
 
 
-@shape("functions without operators, none kept", memory=for_a_byte(107))
+@shape("functions without operators, none kept")
 def functions_empty(size):
     count = size // 4
     return module(types=ONE_TYPE, functions=repeated(count, FIRST), code=repeated(count, EMPTY_BODY))
@@ -366,10 +366,10 @@ def tables_exported(size):
 # Segments. An element segment begins with its kind: 0 is active, 1 passive, 2 active in the table that it names, 3 declared, 7 declared by
 # expressions; then, but for 0 and 7, the kind of its items, functions. A data segment is 0, active, or 1, passive.
 
-alike("elements_passive", "passive element segments without items", b"\1" + FUNCTION + NOTHING, entries("elements"), memory=for_a_byte(79))
+alike("elements_passive", "passive element segments without items", b"\1" + FUNCTION + NOTHING, entries("elements"), memory=for_a_byte(80))
 alike("elements_declared", "declared element segments without items: roots", b"\3" + FUNCTION + NOTHING, entries("elements"))
 alike("elements_active", "active element segments without items, in one table", b"\0" + ZERO + NOTHING, entries("elements", tables=ONE_TABLE))
-alike("data_passive", "passive data segments without bytes", b"\1" + NOTHING, entries("data"), memory=for_a_byte(89))
+alike("data_passive", "passive data segments without bytes", b"\1" + NOTHING, entries("data"), memory=for_a_byte(80))
 alike("data_active", "active data segments without bytes, in one memory", b"\0" + ZERO + NOTHING, entries("data", memories=ONE_MEMORY))
 
 
@@ -610,12 +610,12 @@ def locals_apart(size):
 # What is refused late.
 
 
-@shape("function types () -> () in a list that says that it is longer than its section", ending=REFUSED, memory=for_a_byte(183))
+@shape("function types () -> () in a list that says that it is longer than its section", ending=REFUSED, memory=for_a_byte(95))
 def lies_types(size):
     return module(types=unsigned(2**32 - 1) + PLAIN_TYPE * (size // 3))
 
 
-@shape("functions without operators, and a fault in the last body", ending=REFUSED, memory=for_a_byte(107))
+@shape("functions without operators, and a fault in the last body", ending=REFUSED)
 def fault_last(size):
     count = size // 4
     code = unsigned(count) + EMPTY_BODY * (count - 1) + body(END)
