@@ -45,7 +45,8 @@ SamePlaces old new = (space : Space) → places_in new space ≡ places_in old s
 
 -- the index of the item at a place, in one space
 abbrev pub index_in : {K : Type 0} → Numbering K → ℕ → Option ℕ
-index_in numbers number = slice_index_or numbers.indices.items number None
+index_in numbers number =
+    if nat_lt number numbers.front then Some number else slice_index_or numbers.indices.items (number - numbers.front) None
 
 -- how many indices of one space are given
 abbrev pub given_in : {K : Type 0} → Numbering K → ℕ

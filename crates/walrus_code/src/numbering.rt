@@ -1,9 +1,8 @@
 //! The indices of items (Structure > Modules > Indices).
-ghost use Rattle.std.specs.Prelude.{◌≡◌, ◌≤◌, ◌<◌, ◌^◌, ℕ, None, IfOk, MatchResult, length, map, nat_eq};
+ghost use Rattle.std.specs.Prelude.{◌≡◌, ◌≢◌, ◌≤◌, ◌<◌, ◌^◌, ℕ, Some, None, IfOk, MatchResult, length, map, nat_eq, slice_index_or};
 ghost use Rattle.std.specs.List.{IsDistinct};
 ghost use Rattle.walrus_base.specs.Id.{place};
 ghost use Rattle.walrus_types.specs.Operators.{Space, Types, Functions, Tables, Memories, Tags, Globals, Elements, DataSegments};
-ghost use Rattle.walrus_code.specs.Indices.{AddsIndex, NumbersAlong, SameNumbering, given_in, index_in, index_of, given, Numbers, SameIndices};
 
 use std::alloc::{AllocError, Global};
 use std::marker::PhantomData;
@@ -13,22 +12,30 @@ use walrus_base::{
 };
 
 /// The indices of the items of one index space by their ids.
+///
+/// Those in front that are the places of their items are counted, and take no memory.
 #[derive(Drop)]
 pub struct Numbering<K> {
-    // By the places of the items.
+    // So many are counted in front.
+    front: usize,
+    // Those behind, by the places of the items less `front`.
     indices: Vec<Option<u32>>,
     // How many are given.
     count: usize,
     kind: PhantomData<K>,
+    ghost few: { front ≤ 2 ^ 32 },
 }
 
 impl<K> Numbering<K> {
-    /// No index is given yet. Takes no memory until the first one is.
+    ghost use Rattle.walrus_code.specs.Indices.{AddsIndex, NumbersAlong, SameNumbering, given_in, index_in};
+
+    /// No index is given yet. Takes no memory until one is that isn't the place of its item.
     pub fn new(alloc: Global) -> Numbering<K>
         ensures given { given_in result ≡ 0 }
         ensures indices { (number : ℕ) → index_in result number ≡ None }
     {
         Numbering {
+            front: 0,
             indices: Vec::new(alloc),
             count: 0,
             kind: PhantomData,
@@ -57,13 +64,11 @@ impl<K> Numbering<K> {
             (λ _. SameNumbering self.old self.new) }
     {
         let place = id.index();
-        if place >= self.indices.len() {
-            let Some(len) = place.checked_add(1) else {
-                return Err(AllocError);
-            };
-            self.indices.resize(len, None)?;
+        if self.indices.is_empty() && place == self.front && self.count == self.front {
+            self.front += 1;
+        } else {
+            put(&mut self.indices, place - self.front, self.count as u32)?;
         }
-        self.indices[place] = Some(self.count as u32);
         self.count += 1;
         Ok(())
     }
@@ -72,7 +77,11 @@ impl<K> Numbering<K> {
     pub fn get(&self, id: Id<K>) -> Option<u32>
         ensures { result ≡ index_in self.now (place id) }
     {
-        match self.indices.get(id.index()) {
+        let place = id.index();
+        if place < self.front {
+            return Some(place as u32);
+        }
+        match self.indices.get(place - self.front) {
             Some(index) => *index,
             None => None,
         }
@@ -84,6 +93,24 @@ impl<K> Numbering<K> {
     {
         self.count
     }
+}
+
+/// Writes the index at this place. Where memory runs out, nothing changes.
+fn put(indices: &mut Vec<Option<u32>>, place: usize, index: u32) -> Result<(), AllocError>
+    ensures { MatchResult result
+        (λ _. (slice_index_or indices.new.items place None ≡ Some index)
+        × ((other : ℕ) → other ≢ place
+        → slice_index_or indices.new.items other None ≡ slice_index_or indices.old.items other None))
+        (λ _. indices.new.items ≡ indices.old.items) }
+{
+    if place >= indices.len() {
+        let Some(len) = place.checked_add(1) else {
+            return Err(AllocError);
+        };
+        indices.resize(len, None)?;
+    }
+    indices[place] = Some(index);
+    Ok(())
 }
 
 /// The indices that a module's items get in the output, by their ids.
@@ -108,6 +135,8 @@ pub struct IdsToIndices {
 }
 
 impl IdsToIndices {
+    ghost use Rattle.walrus_code.specs.Indices.{index_of, given, Numbers, SameIndices};
+
     /// No index is given yet. Takes no memory until the first one is.
     pub fn new(alloc: Global) -> IdsToIndices
         ensures given { (space : Space) → given result space ≡ 0 }
