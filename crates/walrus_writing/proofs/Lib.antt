@@ -10,6 +10,7 @@ pub mod DataRecords
 pub mod ElementRecords
 pub mod Emitted
 pub mod Emitting
+pub mod FollowedPlan
 pub mod FunctionsWritten
 pub mod GlobalRecords
 pub mod ImportedAlong

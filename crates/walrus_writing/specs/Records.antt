@@ -12,6 +12,8 @@ use Rattle.wasm_wire.specs.ModuleSpelling.{ModuleFits, module_bytes}
 use Rattle.walrus_types.specs.Operators.{Space, Types, Functions, Tables, Memories, Tags, Globals, Elements, DataSegments}
 use Rattle.walrus_code.specs.Indices.{index_of}
 use Rattle.walrus_code.specs.Names.{Lookup}
+use Rattle.walrus_code.specs.declared.numbering.IdsToIndices.{IdsToIndices}
+use Rattle.walrus_base.specs.Id.{place}
 use Rattle.walrus_bodies.specs.declared.features.Features.{Features}
 use Rattle.walrus_groups.specs.Groups.{types_from}
 use Rattle.walrus_groups.specs.Named.{named_def}
@@ -35,6 +37,7 @@ use Rattle.walrus_writing.specs.Elements.{ChoosesFlag, ElementIsUnspelled}
 use Rattle.walrus_writing.specs.Globals.{GlobalIsUnspelled}
 use Rattle.walrus_plan.specs.Brought.{import_numbers}
 use Rattle.walrus_plan.specs.Places.{places}
+use Rattle.walrus_plan.specs.Prepared.{IsPrepared}
 use Rattle.walrus_plan.specs.declared.prepared.Prepared.{Prepared}
 use Rattle.walrus_writing.specs.Imported.{IsEntryAt}
 use Rattle.walrus_writing.specs.Parts.{BodySeen, type_index, memory_limits, tag_index, export_with_index, HasBytes, unplaced, used_locals}
@@ -162,6 +165,21 @@ IsMade p prepared choices made =
     (bodies : List BodySeen) × (AreBodies p (index_of prepared.indices) choices.features prepared.plan.own_functions.items bodies
     × (texts_of made.bodies ≡ map (λ b. b.bytes) bodies)
     × AreSpelled (if_chosen choices.names (names_said p (places prepared.plan) (first_own prepared.plan) (map (λ b. b.used) bodies))) (chosen_producers p choices) made.payloads)
+
+-- a plan with these indices, and this count of data segments
+abbrev pub planned_with : Prepared → IdsToIndices → Option ℕ → Prepared
+planned_with prepared indices count = record prepared { indices = indices; data_count = count }
+
+-- some plan of the parts gives the indices and the count
+abbrev pub HasPlan : Parts → IdsToIndices → Option ℕ → Type 0
+HasPlan p indices count = (prepared : Prepared) × IsPrepared p (planned_with prepared indices count)
+
+-- the indices of the functions' types, and what is made, are those of a plan of the parts that gives the indices and the count
+pub record FollowPlan (p : Parts) (indices : IdsToIndices) (count : Option ℕ) (choices : Choices) (functions : List ℕ) (made : Made) : Type 0 where
+  pub prepared : Prepared
+  pub planned : IsPrepared p (planned_with prepared indices count)
+  pub functions_are : map Some functions ≡ map (λ id. option_and_then (type_index (index_of indices)) ((parts_view p).functions (place id))) prepared.plan.own_functions.items
+  pub are_made : IsMade p (planned_with prepared indices count) choices made
 
 -- the module is that of records with its custom sections
 pub record IsModuleOf (p : Parts) (t : Task) (made : wire.Module) : Type 0 where

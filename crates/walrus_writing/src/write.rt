@@ -13,7 +13,7 @@ ghost use Rattle.walrus_writing.specs.Customs.{IsAsked, task};
 ghost use Rattle.walrus_writing.specs.Emitted.{IsEmitted, IsWrittenWith, told};
 ghost use Rattle.walrus_plan.specs.Prepared.{IsPrepared};
 ghost use Rattle.walrus_writing.specs.Parts.{IsIndexed};
-ghost use Rattle.walrus_writing.specs.Records.{IsMade, IsModuleOf, Spells};
+ghost use Rattle.walrus_writing.specs.Records.{FollowPlan, HasPlan, IsMade, IsModuleOf, Spells};
 ghost use Rattle.walrus_writing.specs.Refusals.{RefusesBodies, RefusesItems};
 ghost use Rattle.walrus_writing.specs.declared.write.Choices.{Choices};
 
@@ -28,7 +28,7 @@ use crate::records::{raw_exports, raw_functions, raw_memories, raw_start, raw_ta
 use crate::tables::raw_tables;
 use std::alloc::Global;
 use walrus_contents::Parts;
-use walrus_ir::Features;
+use walrus_ir::{Features, IdsToIndices};
 use walrus_names::{first_index, names_payload};
 use walrus_parts::{Error, Result};
 use walrus_plan::Prepared;
@@ -78,27 +78,28 @@ fn make(alloc: Global, parts: Parts<'_>, prepared: &Prepared, choices: &Choices)
     })
 }
 
-// The records of items that name nothing dead, in the order of their plan, by the indices that it gives.
+// The records of items that name nothing dead, by the indices that a plan of them gives, with those of functions, which follow the plan.
 fn raw_items<'a>(
     alloc: Global,
     parts: Parts<'a>,
-    prepared: &Prepared,
+    indices: &IdsToIndices,
+    count: Option<u32>,
+    functions: Vec<u32>,
     made: &'a Made,
     own: &'a [RawCustom<'a>],
 ) -> Result<Raw<'a>>
     requires there { HasDead (parts_view parts) → ⊥ }
-    requires planned { IsPrepared parts prepared.now }
-    ensures records { (choices : Choices) → IsMade parts.entry prepared.now choices made.now
+    requires planned { HasPlan parts indices.now count }
+    ensures records { (choices : Choices)
+        → FollowPlan parts.entry indices.now count choices functions.items made.now
         → IfOk result (λ raw. IsModuleOf parts.entry
-        (task choices (index_of prepared.now.indices) (map custom_record own.now)) (sections raw)) }
-    ensures refused { (choices : Choices) → IsMade parts.entry prepared.now choices made.now
+        (task choices (index_of indices.now) (map custom_record own.now)) (sections raw)) }
+    ensures refused { (choices : Choices)
+        → FollowPlan parts.entry indices.now count choices functions.items made.now
         → RefusesItems parts.entry
-        (task choices (index_of prepared.now.indices) (map custom_record own.now)) result }
+        (task choices (index_of indices.now) (map custom_record own.now)) result }
 {
-    let indices = &prepared.indices;
-    let order = prepared.plan.own_functions.as_slice();
     let types = raw_types(alloc, parts.types, indices)?;
-    let functions = raw_functions(alloc, parts, order, indices)?;
     let customs = raw_customs(alloc, own, &made.payloads)?;
     let code = raw_bodies(alloc, &made.bodies)?;
     let imports = raw_imports(alloc, parts, indices)?;
@@ -125,7 +126,7 @@ fn raw_items<'a>(
         exports,
         start,
         elements,
-        data_count: prepared.data_count,
+        data_count: count,
         bodies: code,
         data_: data_segments,
         customs,
@@ -164,7 +165,8 @@ pub fn write_prepared<'a>(
     write_items(alloc, parts, prepared, customs, choices)
 }
 
-// The bytes of items that name nothing dead, in the order of their plan, by the indices that it gives. It is dropped before they are made.
+// The bytes of items that name nothing dead, in the order of their plan, by the indices that it gives. The plan is dropped before the records
+// that don't need it are made, and the indices before the bytes.
 fn write_items<'a>(
     alloc: Global,
     parts: Parts<'a>,
@@ -180,8 +182,16 @@ fn write_items<'a>(
         (task choices.now (index_of prepared.indices) (map custom_record own.now)) result }
 {
     let made = make(alloc, parts, &prepared, choices)?;
-    let raw = raw_items(alloc, parts, &prepared, &made, own)?;
-    drop(prepared);
+    let order = prepared.plan.own_functions.as_slice();
+    let functions = raw_functions(alloc, parts, order, &prepared.indices)?;
+    let Prepared {
+        plan,
+        indices,
+        data_count,
+    } = prepared;
+    drop(plan);
+    let raw = raw_items(alloc, parts, &indices, data_count, functions, &made, own)?;
+    drop(indices);
     let bytes = written_module(alloc, &raw)?;
     Ok(bytes)
 }

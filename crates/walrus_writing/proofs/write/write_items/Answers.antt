@@ -6,7 +6,8 @@ use Rattle.wasm_frames.specs.declared.record.Raw.{Raw}
 use Rattle.walrus_code.specs.Indices.{index_of}
 use Rattle.walrus_writing.specs.Customs.{task}
 use Rattle.walrus_plan.specs.Places.{places}
-use Rattle.walrus_writing.proofs.Indexed.{ids_indexed}
+use Rattle.walrus_writing.proofs.Indexed.{ids_indexed, ids_typed}
+use Rattle.walrus_writing.proofs.FollowedPlan.{followed}
 use Rattle.walrus_writing.proofs.Refusing.{bodies_refused, module_refused, module_written, refuses_any}
 use Rattle.walrus_writing.proofs.write.write_items.Goals as goal
 
@@ -16,6 +17,14 @@ make-requires c = record {
   indexed = ids_indexed c.args.parts c.requires.there (index_of c.args.prepared.indices) (places c.args.prepared.plan) c.requires.planned.is_plan c.requires.planned.numbered c.args.prepared.plan.own_functions.items _ c.requires.planned.own refl c.args.choices.now.features;
 }
 
+pub raw_functions-requires : goal.raw_functions-requires
+raw_functions-requires c = record {
+  indexed = ids_typed c.args.parts c.requires.there (index_of c.args.prepared.indices) (places c.args.prepared.plan) c.requires.planned.is_plan c.requires.planned.numbered c.args.prepared.plan.own_functions.items _ c.requires.planned.own c.as_slice-order.ensures.value;
+}
+
+pub raw_items-requires-clause-planned : goal.raw_items-requires-clause-planned
+raw_items-requires-clause-planned c = (c.args.prepared, c.requires.planned)
+
 pub returns-in_err-made-clause-refused : goal.returns-in_err-made-clause-refused
 returns-in_err-made-clause-refused c =
     let p = err_from_is_err_and c.from_residual.result c.from_residual.ensures.1 in
@@ -24,13 +33,13 @@ returns-in_err-made-clause-refused c =
 pub returns-in_err-raw-clause-refused : goal.returns-in_err-raw-clause-refused
 returns-in_err-raw-clause-refused c =
     let p = err_from_is_err_and c.from_residual-in_err-raw.result c.from_residual-in_err-raw.ensures.1 in
-    rw (p.1, p.2) (refuses_any c.args.parts (task c.args.choices.now (index_of c.args.prepared.indices) (map custom_record c.args.own.now)) (Vec ℕ) Raw _ (c.in_err-raw.ensures.refused c.args.choices.now c.in_ok-made.ensures.written))
+    rw (p.1, p.2) (refuses_any c.args.parts (task c.args.choices.now (index_of c.args.prepared.indices) (map custom_record c.args.own.now)) (Vec ℕ) Raw _ (c.in_err-raw.ensures.refused c.args.choices.now (followed c.args.parts c.args.prepared c.requires.planned c.args.choices.now c.in_ok-functions.functions.items c.in_ok-made.made _ c.in_ok-functions.ensures.value c.as_slice-order.ensures.value c.in_ok-made.ensures.written)))
 
 pub returns-in_err-bytes-clause-refused : goal.returns-in_err-bytes-clause-refused
 returns-in_err-bytes-clause-refused c =
     let p = err_from_is_err_and c.from_residual-in_err-bytes.result c.from_residual-in_err-bytes.ensures.1 in
-    rw (p.1, p.2) (module_refused c.args.parts (task c.args.choices.now (index_of c.args.prepared.indices) (map custom_record c.args.own.now)) (sections c.in_ok-raw.raw) (c.in_ok-raw.ensures.records c.args.choices.now c.in_ok-made.ensures.written) (Vec ℕ) _ c.in_err-bytes.ensures)
+    rw (p.1, p.2) (module_refused c.args.parts (task c.args.choices.now (index_of c.args.prepared.indices) (map custom_record c.args.own.now)) (sections c.in_ok-raw.raw) (c.in_ok-raw.ensures.records c.args.choices.now (followed c.args.parts c.args.prepared c.requires.planned c.args.choices.now c.in_ok-functions.functions.items c.in_ok-made.made _ c.in_ok-functions.ensures.value c.as_slice-order.ensures.value c.in_ok-made.ensures.written)) (Vec ℕ) _ c.in_err-bytes.ensures)
 
 pub returns-clause-spells : goal.returns-clause-spells
 returns-clause-spells c =
-    module_written c.args.parts (task c.args.choices.now (index_of c.args.prepared.indices) (map custom_record c.args.own.now)) (sections c.in_ok-raw.raw) (c.in_ok-raw.ensures.records c.args.choices.now c.in_ok-made.ensures.written) c.in_ok-bytes.bytes.items c.in_ok-bytes.ensures.0 c.in_ok-bytes.ensures.1
+    module_written c.args.parts (task c.args.choices.now (index_of c.args.prepared.indices) (map custom_record c.args.own.now)) (sections c.in_ok-raw.raw) (c.in_ok-raw.ensures.records c.args.choices.now (followed c.args.parts c.args.prepared c.requires.planned c.args.choices.now c.in_ok-functions.functions.items c.in_ok-made.made _ c.in_ok-functions.ensures.value c.as_slice-order.ensures.value c.in_ok-made.ensures.written)) c.in_ok-bytes.bytes.items c.in_ok-bytes.ensures.0 c.in_ok-bytes.ensures.1
