@@ -25,9 +25,9 @@ use Rattle.walrus_items.specs.Tables.{TableValue, tables}
 use Rattle.walrus_items.specs.Tags.{tags}
 use Rattle.walrus_producers.specs.Seen.{producers}
 use Rattle.walrus_model.specs.Abstract as abstract
-use Rattle.walrus_model.specs.Abstract.{Abstract, Name, AnItem, ALocal, TheModule}
+use Rattle.walrus_model.specs.Abstract.{Name}
 use Rattle.walrus_contents.specs.View as view
-use Rattle.walrus_contents.specs.View.{contents_view, is_declared, kept_data, kept_elements, kind_of, handlers_at, named_of, name_at}
+use Rattle.walrus_contents.specs.View.{contents_view, is_declared, kept_data, kept_elements, kind_of, handlers_at, named_of}
 use Rattle.walrus_contents.specs.declared.parts.Contents.{Contents}
 use Rattle.walrus_naming.specs.Renamed.{nameless}
 use Rattle.walrus_naming.specs.Shown.{IsRenamed, LocalValue, Shown, local_value, local_values, shown, mend_function, mend_table, mend_memory, mend_tag, mend_global, mend_element, mend_data, mend_local}

@@ -1,7 +1,7 @@
 -- The report on the module of two functions: the second is kept, the first is dropped, and there is nothing else to count.
-use Rattle.std.proofs.Common.{◌≡◌, ℕ, suc, zero, ◌<◌, true, false, List, [], ◌∷◌, length, codes, refl, sym, subst, arith, inl}
-use Rattle.std.specs.Prelude.{AllPairs, Contains, IsSome}
-use Rattle.walrus_types.specs.Operators.{Space, Types, Functions, Tables, Memories, Tags, Globals, Elements, DataSegments}
+use Rattle.std.proofs.Common.{◌≡◌, ℕ, suc, zero, ◌<◌, List, [], ◌∷◌, codes, refl, sym, subst, arith, inl}
+use Rattle.std.specs.Prelude.{Contains}
+use Rattle.walrus_types.specs.Operators.{Space, Functions, Tables, Memories, Tags, Globals, Elements, DataSegments}
 use Rattle.walrus_model.specs.Examples.{two_functions}
 use Rattle.walrus_model.specs.Kept.{Kept}
 use Rattle.walrus_model.specs.Live.{IsLive}

@@ -15,7 +15,7 @@ use Rattle.walrus_items.specs.LocalFunction.{LocalFunction}
 use Rattle.walrus_builder.specs.Instructions.{end_op, unreachable_op}
 use Rattle.walrus_builder.specs.Sequence.{built}
 use Rattle.walrus_model.specs.BlockHandlers.{params_of}
-use Rattle.walrus_model.specs.BodyRead.{AddsLocals, new_locals}
+use Rattle.walrus_model.specs.BodyRead.{new_locals}
 use Rattle.walrus_model.specs.Config.{Config}
 use Rattle.walrus_model.specs.Pipeline.{ReachedIsLive}
 use Rattle.walrus_model.specs.ReadFunction.{StaysInFront}

@@ -1,4 +1,4 @@
-use Rattle.std.proofs.Common.{◌≡◌, ◌≤◌, ℕ, [], arith, refl, rules, subst}
+use Rattle.std.proofs.Common.{◌≡◌, [], arith, refl}
 use Rattle.std.specs.Prelude.{IsSome}
 use Rattle.walrus_contents.specs.Named.{local_type_names, type_at}
 use Rattle.walrus_contents.proofs.PlainBodies.{one_more}

@@ -1,4 +1,4 @@
-use Rattle.std.proofs.Common.{ℕ, List, subst, sym, ◌∙◌, ◌+◌, ◌<◌, ◌≤◌}
+use Rattle.std.proofs.Common.{List, subst, sym}
 use Rattle.walrus_types.specs.Operators.{Op, locals_of}
 use Rattle.walrus_contents.specs.Named.{NamesNoTypes}
 use Rattle.walrus_contents.proofs.PlainBodies.{each_plain, locals_within, no_types}

@@ -1,8 +1,6 @@
 use Rattle.std.proofs.Common.{◌≡◌, ◌∙◌, sym, alloc_error}
 use Rattle.wasm_forms.specs.declared.error.WireError.TheVariants.{Memory}
 use Rattle.wasm_frames.specs.Record.{custom_record}
-use Rattle.walrus_naming.specs.Shown.{shown}
-use Rattle.walrus_naming.specs.Sink.{bounds_of}
 use Rattle.walrus_naming.proofs.SectionsTaken.{bounds_stay, section_taken}
 use Rattle.walrus_naming.proofs.sections.take_section.Goals as goal
 
