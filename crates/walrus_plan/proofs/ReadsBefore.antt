@@ -30,7 +30,7 @@ use Rattle.walrus_model.proofs.Standing.{none_there, some_inj}
 use Rattle.walrus_rules.specs.Refused.{GlobalReads, LacksIndex, LaterGlobalRead, LocalGlobalRead, TableReads}
 use Rattle.walrus_plan.specs.Local.{is_own}
 use Rattle.walrus_parts.specs.declared.error.Error.{Error}
-use Rattle.walrus_plan.specs.Reads.{AreReadEarlier, AreReadImported, IsOfKind, ReadsInOrder, may_name, may_name_all, may_read}
+use Rattle.walrus_plan.specs.Reads.{AreReadEarlier, AreReadImported, ReadsInOrder, may_name, may_name_all, may_read}
 use Rattle.walrus_plan.proofs.Somes.{both_pass, neither, none_some}
 
 -- ---- tests
@@ -213,19 +213,6 @@ module _ (p : Parts) where
       let read = initialiser_reads (val_names v.ty) (option_map const_ops v.initialiser) x.0 named in
       LaterGlobalRead i x.0 (global_of v, (read.0, (view, read.1.0, read.1.1))) (subst (λ (o : Option GlobalValue). IsSome (option_map global_of o)) (sym w.1.0) refl)
       (λ either_way. ⊎_elim (λ is. not_imported x.0 w.0 w.1.0 w.1.1.0 is) (λ before. not_before i x.0 v w.0 at w.1.0 w.1.1.0 w.1.1.1 before) either_way)
-
-  -- where nothing is named in the initialiser, nothing is read
-  types_pass : (from : ℕ) (ts : List ℕ) → may_name_all slots from (map type_item ts ++ []) ≡ true
-  types_pass from [] = refl
-  types_pass from (t ∷ ts) = types_pass from ts
-
-  pub plain_passes : (i from : ℕ) (k : GlobalKind) → IsOfKind slots i k → named_by names_of (option_map const_ops (global_init k)) ≡ [] → true ≡ may_name_all slots from (written_in V (Globals, i))
-  plain_passes i from k of none =
-      let v = of.value in
-      let nothing : named_by names_of (option_map const_ops v.initialiser) ≡ [] = ap (λ (o : Option ConstExpr). named_by names_of (option_map const_ops o)) of.initialiser ∙ none in
-      sym (ap (λ (o : Option GlobalValue). may_name_all slots from (named_by global_names (option_map global_of o))) of.there
-      ∙ ap (λ (l : List Item). may_name_all slots from (map type_item (val_names v.ty) ++ l)) nothing
-      ∙ types_pass from (val_names v.ty))
 
 -- a plain value
 value_names_nothing : (v : Value) → names_of (value_op v ∷ []) ≡ []
