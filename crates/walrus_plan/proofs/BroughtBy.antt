@@ -1,6 +1,6 @@
 -- The places of what imports bring, and what an item says to be brought by.
-use Rattle.std.proofs.Common.{◌≡◌, ℕ, List, [], ◌∷◌, map, refl, ap, ◌∙◌, Some}
-use Rattle.std.specs.Prelude.{Option, Contains, filter_map, option_map}
+use Rattle.std.proofs.Common.{◌≡◌, ℕ, List, [], ◌∷◌, ◌++◌, map, refl, sym, ap, ◌∙◌, Some, None, append_assoc}
+use Rattle.std.specs.Prelude.{Option, Contains, filter_map, option_map, option_to_list}
 use Rattle.std.specs.List.{cons_option}
 use Rattle.walrus_base.specs.Arena.{entries, item_at, items}
 use Rattle.walrus_types.specs.Operators.{Space}
@@ -40,3 +40,25 @@ kind_origin Uninitialised p e = absurd (cc)
 pub origin_is : (o : Origin) (p : ℕ) → origin_import o ≡ Some p → o ≡ ImportedBy p
 origin_is (ImportedBy q) p e = ap (λ (n : ℕ). ImportedBy n) (some_inj q p e)
 origin_is Defined p e = absurd (cc)
+
+-- ---- one import more
+
+-- the places so far, and what the imports still to come bring, are what all bring
+abbrev pub Comes : Space → List ℕ → (left all : List ImportValue) → Type 0
+Comes s done left all = done ++ places_brought s left ≡ places_brought s all
+
+one_more : (o : Option ℕ) (rest : List ℕ) → option_to_list o ++ rest ≡ cons_option o rest
+one_more None rest = refl
+one_more (Some n) rest = refl
+
+pub comes_on : (s : Space) (old new : List ℕ) (i : ImportValue) (left rest all : List ImportValue) → left ≡ i ∷ rest → new ≡ old ++ option_to_list (number_in s (imported i.kind)) → Comes s old left all → Comes s new rest all
+comes_on s old new i left rest all steps longer comes =
+    ap (λ (l : List ℕ). l ++ places_brought s rest) longer
+    ∙ append_assoc old (option_to_list (number_in s (imported i.kind))) (places_brought s rest)
+    ∙ ap (λ (l : List ℕ). old ++ l) (one_more (number_in s (imported i.kind)) (places_brought s rest))
+    ∙ sym (ap (λ (l : List ImportValue). old ++ places_brought s l) steps)
+    ∙ comes
+
+-- with the module's own behind
+pub own_behind : (all first own brought : List ℕ) → all ≡ first ++ own → first ≡ brought → all ≡ brought ++ own
+own_behind all first own brought both is = both ∙ ap (λ (l : List ℕ). l ++ own) is

@@ -5,7 +5,11 @@ use Rattle.std.specs.List.{list_all}
 use borrow.Author.Tests.{ltb-true, ltb-false}
 use Rattle.walrus_base.specs.Arena.{item_at}
 use Rattle.walrus_base.specs.Types.{heap_names, val_names}
-use Rattle.walrus_types.specs.ConstOps.{const_ops}
+use Rattle.walrus_types.specs.ConstOps.{const_ops, value_op, vector_const}
+use Rattle.walrus_types.specs.declared.const_expr.ConstExpr.{ConstExpr}
+use Rattle.walrus_types.specs.declared.const_expr.ConstExpr.TheVariants as expressions
+use Rattle.walrus_types.specs.declared.const_expr.Value.{Value}
+use Rattle.walrus_types.specs.declared.const_expr.Value.TheVariants as constants
 use Rattle.walrus_types.specs.Operators.{Types, Tables, Globals, Item, Op, type_item, names_of}
 use Rattle.walrus_items.specs.Globals.{GlobalValue, globals, global_import, global_init}
 use Rattle.walrus_items.specs.Tables.{TableValue, tables}
@@ -209,6 +213,21 @@ module _ (p : Parts) where
       let read = initialiser_reads (val_names v.ty) (option_map const_ops v.initialiser) x.0 named in
       LaterGlobalRead i x.0 (global_of v, (read.0, (view, read.1.0, read.1.1))) (subst (λ (o : Option GlobalValue). IsSome (option_map global_of o)) (sym w.1.0) refl)
       (λ either_way. ⊎_elim (λ is. not_imported x.0 w.0 w.1.0 w.1.1.0 is) (λ before. not_before i x.0 v w.0 at w.1.0 w.1.1.0 w.1.1.1 before) either_way)
+
+-- a plain value
+value_names_nothing : (v : Value) → names_of (value_op v ∷ []) ≡ []
+value_names_nothing (constants.I32 n) = refl
+value_names_nothing (constants.I64 n) = refl
+value_names_nothing (constants.F32 bits) = refl
+value_names_nothing (constants.F64 bits) = refl
+value_names_nothing (constants.V128 bytes) = bytes_name_nothing bytes
+  where
+    bytes_name_nothing : (bytes : List ℕ) → names_of (vector_const bytes ∷ []) ≡ []
+    bytes_name_nothing [] = refl
+    bytes_name_nothing (b ∷ bs) = bytes_name_nothing bs
+
+pub plain_names_nothing : (e : ConstExpr) (v : Value) → e ≡ expressions.Value v → names_of (const_ops e) ≡ []
+plain_names_nothing e v plain = ap (λ (x : ConstExpr). names_of (const_ops x)) plain ∙ value_names_nothing v
 
 -- both kinds together
 pub both_in_order : (p : Parts) → AreReadImported (parts_view p) → (result : Result Bool Error) → IfOk result (λ b. b ≡ true → AreReadEarlier (parts_view p)) → IfOk result (λ b. b ≡ true → ReadsInOrder (parts_view p))

@@ -1,9 +1,10 @@
 -- What initialisers read, in the order in which globals are written ("Validation > Modules > Globals", "Tables").
-use Rattle.std.specs.Prelude.{ℕ, Bool, true, not, ◌||◌, nat_lt, List, Option, Some, None, ◌⊎◌}
+use Rattle.std.specs.Prelude.{ℕ, Bool, true, not, ◌||◌, nat_lt, List, Option, Some, None, ◌≡◌, ◌⊎◌}
 use Rattle.std.specs.List.{list_all}
 use Rattle.walrus_base.specs.Arena.{item_at}
 use Rattle.walrus_types.specs.Operators.{Tables, Globals, Item}
-use Rattle.walrus_items.specs.Globals.{GlobalValue}
+use Rattle.walrus_items.specs.Globals.{GlobalValue, global_init}
+use Rattle.walrus_parts.specs.declared.kinds.GlobalKind.{GlobalKind}
 use Rattle.walrus_model.specs.Abstract.{Abstract}
 use Rattle.walrus_model.specs.Live.{IsLive}
 use Rattle.walrus_model.specs.Order.{ByImport}
@@ -44,3 +45,9 @@ abbrev pub HasInitialiser : Item → Type 0
 HasInitialiser (Tables, i) = Unit {0}
 HasInitialiser (Globals, i) = Unit {0}
 HasInitialiser item = ⊥
+
+-- the global at a place is of this kind
+pub record IsOfKind (slots : List (Option GlobalValue)) (i : ℕ) (k : GlobalKind) : Type 0 where
+  pub value : GlobalValue
+  pub there : item_at slots i ≡ Some value
+  pub initialiser : value.initialiser ≡ global_init k

@@ -26,7 +26,7 @@ ghost use Rattle.walrus_plan.specs.Refusals.{RefusesCounts};
 ghost use Rattle.walrus_plan.specs.Sizes.{local_sizes, IsOrder};
 
 use crate::by_import::{
-    globals_by_import, imported_ids, memories_by_import, tables_by_import, tags_by_import,
+    Brought, brought_ids, globals_by_import, memories_by_import, tables_by_import, tags_by_import,
 };
 use std::alloc::Global;
 use std::cmp::Reverse;
@@ -92,15 +92,22 @@ impl Plan {
             → IsPlan (parts_view parts.entry) (places plan)) }
         ensures fails { IsOkUnless result out_of_memory }
     {
-        let brought_functions = imported_ids(alloc, parts.imports)?;
+        let brought = brought_ids(alloc, parts.imports)?;
+        let Brought {
+            functions,
+            tables,
+            memories,
+            tags,
+            globals,
+        } = brought;
         Ok(Plan {
             types: types_in_order(alloc, parts.types)?,
-            brought_functions,
+            brought_functions: functions,
             own_functions: functions_by_size(alloc, parts.funcs)?,
-            tables: tables_by_import(alloc, parts.imports, parts.tables)?,
-            memories: memories_by_import(alloc, parts.imports, parts.memories)?,
-            tags: tags_by_import(alloc, parts.imports, parts.tags)?,
-            globals: globals_by_import(alloc, parts.imports, parts.globals)?,
+            tables: tables_by_import(tables, parts.tables)?,
+            memories: memories_by_import(memories, parts.memories)?,
+            tags: tags_by_import(tags, parts.tags)?,
+            globals: globals_by_import(globals, parts.globals)?,
             elements: elements_in_order(alloc, parts.elements)?,
             data_: data_in_order(alloc, parts.data_)?,
         })

@@ -1,18 +1,23 @@
 //! Which globals initialisers read ("Validation > Modules > Globals", "Tables").
-ghost use Rattle.std.specs.Prelude.{◌≡◌, true, false, map, IfOk, IsOkUnless};
+ghost use Rattle.std.specs.Prelude.{◌≡◌, true, false, [], map, option_map, IfOk, IsOkUnless};
+ghost use Rattle.walrus_base.specs.Id.{place};
+ghost use Rattle.walrus_types.specs.ConstOps.{const_ops};
+ghost use Rattle.walrus_types.specs.Operators.{Globals, names_of};
 ghost use Rattle.walrus_code.specs.Code.{item_of};
-ghost use Rattle.walrus_items.specs.Globals.{globals};
+ghost use Rattle.walrus_items.specs.Globals.{global_init, globals};
 ghost use Rattle.walrus_model.specs.Live.{IsLive};
+ghost use Rattle.walrus_model.specs.Refers.{named_by};
 ghost use Rattle.walrus_parts.specs.Errors.{out_of_memory};
 ghost use Rattle.walrus_rules.specs.Refused.{LacksIndex};
 ghost use Rattle.walrus_contents.specs.Named.{own_written};
 ghost use Rattle.walrus_contents.specs.View.{parts_view};
-ghost use Rattle.walrus_plan.specs.Reads.{AreReadEarlier, AreReadImported, HasInitialiser, ReadsInOrder, may_name, may_name_all};
+ghost use Rattle.walrus_plan.specs.Reads.{AreReadEarlier, AreReadImported, HasInitialiser, IsOfKind, ReadsInOrder, may_name, may_name_all};
 
 use crate::plan::is_global_own;
 use std::alloc::Global;
 use walrus_contents::{Parts, push_written_names};
-use walrus_items::ItemId;
+use walrus_ir::{ConstExpr, GlobalId};
+use walrus_items::{GlobalKind, ItemId};
 use walrus_parts::{Error, Result};
 
 /// Whether each table's initialiser reads imported globals alone, and each global's imported ones and those that are written before it.
@@ -48,12 +53,49 @@ fn do_globals_read_earlier(alloc: Global, parts: Parts<'_>, named: &mut Vec<Item
     ensures lacks { IfOk result (λ b. b ≡ false → LacksIndex (parts_view parts.entry)) }
     ensures fails { IsOkUnless result out_of_memory }
 {
-    for (id, _global) in parts.globals.iter_entries() {
-        if !does_read_before(alloc, parts, ItemId::Global(id), id.index(), named)? {
+    for (id, global) in parts.globals.iter_entries() {
+        if !does_global_read_earlier(alloc, parts, id, &global.kind, named)? {
             return Ok(false);
         }
     }
     Ok(true)
+}
+
+// The same of one global, of this kind.
+fn does_global_read_earlier(
+    alloc: Global,
+    parts: Parts<'_>,
+    id: GlobalId,
+    kind: &GlobalKind,
+    named: &mut Vec<ItemId>,
+) -> Result<bool>
+    requires there { IsOfKind (globals parts.globals.now) (place id) kind.now }
+    ensures value { IfOk result (λ b. b ≡ may_name_all (globals parts.entry.globals.now) (place id)
+        (own_written (parts_view parts.entry) (Globals, place id))) }
+    ensures fails { IsOkUnless result out_of_memory }
+{
+    if reads_nothing(kind) {
+        return Ok(true);
+    }
+    does_read_before(alloc, parts, ItemId::Global(id), id.index(), named)
+}
+
+// Whether a global of this kind has no initialiser that names anything: an imported one, and one that is a plain value.
+fn reads_nothing(kind: &GlobalKind) -> bool
+    ensures { result ≡ true
+        → named_by names_of (option_map const_ops (global_init kind.now)) ≡ [] }
+{
+    match kind {
+        GlobalKind::Import(_) => true,
+        GlobalKind::Local(initialiser) => is_plain(initialiser),
+    }
+}
+
+// Whether an initialiser is a plain value, in which nothing is named.
+fn is_plain(initialiser: &ConstExpr) -> bool
+    ensures { result ≡ true → names_of (const_ops initialiser.now) ≡ [] }
+{
+    matches!(initialiser, ConstExpr::Value(_))
 }
 
 // Whether all globals that are written in an item are imported or come before this place. What was in `named` is let go.

@@ -1,10 +1,8 @@
 use Rattle.std.proofs.Common.{◌≡◌, ◌++◌, map}
-use Rattle.walrus_base.specs.Arena.{entries, items}
+use Rattle.walrus_base.specs.Arena.{entries}
 use Rattle.walrus_base.specs.Id.{place}
-use Rattle.walrus_types.specs.Operators.{Memories}
 use Rattle.walrus_items.specs.Memories.{memories, memory_entries_left}
-use Rattle.walrus_items.specs.Imports.{imports}
-use Rattle.walrus_plan.specs.Brought.{own_places, places_brought}
+use Rattle.walrus_plan.specs.Brought.{own_places}
 use Rattle.walrus_plan.proofs.by_import.memories_by_import.Given as goal
 
 -- the places so far, and those of the module's own that are still to come
@@ -12,4 +10,4 @@ abbrev pub invariant-loop-id : goal.invariant-loop-id
 invariant-loop-id l =
     goal.iterator-loop-id.can_next l.id-iterator
     × goal.iterator-loop-id.is_finite l.id-iterator
-    × (map place l.ids.items ++ own_places (λ x. x.imported_by) (memory_entries_left l.id-iterator) ≡ places_brought Memories (items (imports l.all_imports)) ++ own_places (λ x. x.imported_by) (entries (memories l.all)))
+    × (map place l.ids.items ++ own_places (λ x. x.imported_by) (memory_entries_left l.id-iterator) ≡ map place l.fn.brought.items ++ own_places (λ x. x.imported_by) (entries (memories l.all)))

@@ -1,3 +1,4 @@
+use Rattle.walrus_plan.proofs.BroughtBy.{own_behind}
 use Rattle.walrus_plan.proofs.Planning.{plan_is}
 use Rattle.walrus_plan.proofs.plan.Plan.new.Goals as goal
 
@@ -6,7 +7,7 @@ returns-clause-plan c = λ there paired.
     plan_is c.args.parts
     (record {
       types = c.in_ok-types_in_order.field-0;
-      brought_functions = c.in_ok-brought_functions.brought_functions;
+      brought_functions = c.in_ok-brought.brought.functions;
       own_functions = c.in_ok-functions_by_size.field-0;
       tables = c.in_ok-tables_by_import.field-0;
       memories = c.in_ok-memories_by_import.field-0;
@@ -15,5 +16,7 @@ returns-clause-plan c = λ there paired.
       elements = c.in_ok-elements_in_order.field-0;
       data_ = c.in_ok-data_in_order.field-0;
     })
-    c.in_ok-types_in_order.ensures.value c.in_ok-functions_by_size.ensures.value c.in_ok-brought_functions.ensures.value
-    c.in_ok-tables_by_import.ensures.value c.in_ok-memories_by_import.ensures.value c.in_ok-tags_by_import.ensures.value c.in_ok-globals_by_import.ensures.value c.in_ok-elements_in_order.ensures.value c.in_ok-data_in_order.ensures.value there paired
+    c.in_ok-types_in_order.ensures.value c.in_ok-functions_by_size.ensures.value c.in_ok-brought.ensures.functions
+    (own_behind _ _ _ _ c.in_ok-tables_by_import.ensures.value c.in_ok-brought.ensures.tables) (own_behind _ _ _ _ c.in_ok-memories_by_import.ensures.value c.in_ok-brought.ensures.memories)
+    (own_behind _ _ _ _ c.in_ok-tags_by_import.ensures.value c.in_ok-brought.ensures.tags) (own_behind _ _ _ _ c.in_ok-globals_by_import.ensures.value c.in_ok-brought.ensures.globals)
+    c.in_ok-elements_in_order.ensures.value c.in_ok-data_in_order.ensures.value there paired
