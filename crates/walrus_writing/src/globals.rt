@@ -85,7 +85,7 @@ pub fn raw_globals(
         (own_of (λ x. x.imported_by) (items (globals all.now)))) }
     ensures fails { IfErr result (RefusesGlobals (items (globals all.now))) }
 {
-    let mut raw = Vec::with_capacity(alloc, all.len())?;
+    let mut raw = Vec::with_capacity(alloc, all.next_id().index())?;
     for global in all.iter() {
         if global_import(&global.kind).is_none() {
             let one = raw_global(alloc, global, indices)?;

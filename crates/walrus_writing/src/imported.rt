@@ -145,7 +145,7 @@ pub fn raw_imports<'a>(
         (map import_entry raw.items)) }
     ensures fails { IfErr result (RefusesImports (parts_view parts.entry)) }
 {
-    let mut raw = Vec::with_capacity(alloc, parts.imports.len())?;
+    let mut raw = Vec::with_capacity(alloc, parts.imports.next_id().index())?;
     for (_, import) in parts.imports.iter_entries() {
         let one = raw_import(parts, import, indices)?;
         raw.push(one)?;

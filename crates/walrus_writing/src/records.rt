@@ -217,7 +217,7 @@ pub fn raw_exports<'a>(
     ensures text { IfOk result (λ raw. All (λ e. IsUtf8 e.name.now) raw.items) }
     ensures fails { IsOkUnless result out_of_memory }
 {
-    let mut raw = Vec::with_capacity(alloc, all_exports.len())?;
+    let mut raw = Vec::with_capacity(alloc, all_exports.next_id().index())?;
     for export in all_exports.iter() {
         let Some(one) = raw_export(export, indices) else {
             unreachable!();
