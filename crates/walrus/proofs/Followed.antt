@@ -2,7 +2,7 @@
 use Rattle.std.proofs.Common.{◌≡◌, ℕ, ◌+◌, ◌<◌, ◌≤◌, ◌⊎◌, inl, inr, ⊎_elim, List, [], ◌∷◌, ◌++◌, get_or, length, map, take, sym, ap, ◌∙◌, subst, arith}
 use Rattle.std.specs.Prelude.{◌↔◌, Contains, Result, Ok, Err, MatchResult, vec_capacity, vec_len}
 use Rattle.std.proofs.lemmas.List.{length-map, take-append-le, take_all, take_more}
-use Rattle.std.proofs.lemmas.List.Elements.{Contains-push_cases, Contains-append_left, Contains-append_cases}
+use Rattle.std.proofs.lemmas.List.Elements.{Contains-push, Contains-push_cases, Contains-append_left, Contains-append_right, Contains-append_cases}
 use Rattle.walrus_types.specs.Operators.{Item}
 use Rattle.walrus_code.specs.Code.{item_of}
 use Rattle.walrus_code.specs.declared.items.ItemId.{ItemId}
@@ -17,6 +17,7 @@ use Rattle.walrus_contents.specs.There.{IsRefusal, IsSound}
 use Rattle.walrus_model.proofs.Lists.{Contains-none}
 use Rattle.walrus_contents.proofs.Groups.{group_is_written, own_refers, refers_split}
 use Rattle.walrus_contents.proofs.NamedLemmas.{among}
+use Rattle.walrus.proofs.Entered.{enters_both, enters_none}
 use Rattle.walrus.specs.Marked.{ReachesUnsound}
 use Rattle.walrus.specs.MarkedItems.{HavePlaces, has_mark}
 use Rattle.walrus.specs.Used.{Enters, EntersAll, Follows, Found, IsDead, IsOf, NamesDead, OneDead}
@@ -29,6 +30,14 @@ use Rattle.walrus.specs.declared.passes.worklist.Worklist.{Worklist}
 pub dead_among : (v : Abstract) (xs : List ItemId) (i : ℕ) (d : ItemId) → i < length xs → (IsLive v (item_of (get_or xs i d)) → ⊥) → NamesDead v (map item_of xs)
 dead_among v xs i d lt dead = (item_of (get_or xs i d), among item_of xs i d lt, dead)
 
+-- where one of some isn't there, one of more isn't
+module _ (v : Abstract) (a b all : List Item) (same : all ≡ a ++ b) where
+  pub dead_first : NamesDead v a → NamesDead v all
+  dead_first d = subst (λ (xs : List Item). NamesDead v xs) (sym same) (d.0, Contains-append_left a b d.0 d.1, d.2)
+
+  pub dead_second : NamesDead v b → NamesDead v all
+  dead_second d = subst (λ (xs : List Item). NamesDead v xs) (sym same) (d.0, Contains-append_right a b d.0 d.1, d.2)
+
 -- what isn't there, for another reason
 pub dead_map : (P Q : Type 0) → (P → Q) → (e : Error) → IsDead P e → IsDead Q e
 dead_map P Q f e dead = (dead.0, f dead.1)
@@ -36,6 +45,39 @@ dead_map P Q f e dead = (dead.0, f dead.1)
 -- it is refused, where memory may be wanting too
 pub refused_dead : (P Q : Type 0) → (P → Q) → (e : Error) → IsDead P e → IsRefusal Q e
 refused_dead P Q f e dead = subst (λ (r : Error). IsRefusal Q r) (sym dead.0) (f dead.1)
+
+-- ---- items that are entered one by one, where those to come decide
+
+-- what those to come decide of all of them
+pub record Entering (v : Abstract) (left all : List Item) (old now : Worklist) : Type 0 where
+  pub kept : Keeps v now
+  pub enters : (new : Worklist) → Enters v left now new → Enters v all old new
+  pub dead : NamesDead v left → NamesDead v all
+
+-- at the beginning all are to come
+pub entering_all : (v : Abstract) (left all : List Item) (list : Worklist) → Keeps v list → left ≡ all → Entering v left all list list
+entering_all v left all list kept same = record {
+  kept = kept;
+  enters = λ new e. subst (λ (xs : List Item). Enters v xs list new) same e;
+  dead = λ d. subst (λ (xs : List Item). NamesDead v xs) same d;
+}
+
+module _ (v : Abstract) (left after all : List Item) (x : Item) (old now : Worklist) (steps : left ≡ x ∷ after) (e : Entering v left all old now) where
+  -- the next one is entered
+  pub entering_more : (mid : Worklist) → Enters v (x ∷ []) now mid → Entering v after all old mid
+  entering_more mid one = record {
+    kept = one.kept;
+    enters = λ new rest. e.enters new (subst (λ (xs : List Item). Enters v xs now new) (sym steps) (enters_both v (x ∷ []) after now mid new one rest));
+    dead = λ d. e.dead (dead_second v (x ∷ []) after left steps d);
+  }
+
+  -- the next one isn't there
+  pub entering_dead : (IsLive v x → ⊥) → NamesDead v all
+  entering_dead dead = e.dead (dead_first v (x ∷ []) after left steps (x, Contains-push [] x, dead))
+
+-- at the end none is to come
+pub entering_none : (v : Abstract) (left all : List Item) (old now : Worklist) → left ≡ [] → Entering v left all old now → Enters v all old now
+entering_none v left all old now none e = e.enters now (subst (λ (xs : List Item). Enters v xs now now) (sym none) (enters_none v now e.kept))
 
 -- all that an item names itself was put, and entered
 module _ {T : Type 0} (v : Abstract) (x : Item) (put added : List Item) (old new : Worklist) (same : put ≡ added) (are : (y : Item) → Contains added y ↔ NamesItself v x y) where

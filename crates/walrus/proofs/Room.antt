@@ -1,8 +1,8 @@
--- Live items of which no two are the same are no more than the live items that the collections hold.
+-- Live items of which no two are the same are no more than the live items that the collections hold, and these no more than their places.
 use Rattle.std.proofs.Common.{◌≡◌, ◌≢◌, ℕ, zero, suc, ◌+◌, ◌<◌, ◌≤◌, ⊎_elim, List, [], ◌∷◌, ◌++◌, length, length-append, filter, Option, Some, None, refl, sym, ap, ap₂, ◌∙◌, subst, arith}
 use Rattle.std.specs.Prelude.{AllPairs, Contains, IsSome, count_by, is_some}
 use Rattle.std.proofs.lemmas.List.Elements.{Contains-append_left, Contains-append_right}
-use Rattle.std.proofs.lemmas.List.Sums.{length-filter}
+use Rattle.std.proofs.lemmas.List.Sums.{count_by-le-length, length-filter}
 use Rattle.walrus_base.specs.Arena.{item_at}
 use Rattle.walrus_types.specs.ModuleTypes.{type_slots}
 use Rattle.walrus_types.specs.Operators.{Space, Types, Functions, Tables, Memories, Tags, Globals, Elements, DataSegments, Item}
@@ -18,7 +18,7 @@ use Rattle.walrus_model.proofs.Lists.{Contains-head, Contains-none, Contains-tai
 use Rattle.walrus_contents.specs.View.{contents_view, data_of, element_of, function, global_of, memory_of, table_of, tag_of}
 use Rattle.walrus_contents.specs.declared.parts.Contents.{Contents}
 use Rattle.walrus_contents.proofs.LiveLemmas.{was_there}
-use Rattle.walrus.specs.LiveCount.{live_count}
+use Rattle.walrus.specs.LiveCount.{live_count, place_count}
 use Rattle.walrus.specs.Worklist.{IsRoomForLive}
 
 -- ---- a list of distinct elements, all of them in another, is no longer
@@ -167,3 +167,21 @@ module _ (c : Contents) where
 
   pub room_for_live : IsRoomForLive (contents_view c) (live_count c)
   room_for_live xs apart live = subst (λ (n : ℕ). length xs ≤ n) so_many (fits xs all_live apart (λ z at. among_live z (live z at)))
+
+  -- each collection holds no more live items than it has places
+  within_places : live_count c ≤ place_count c
+  within_places =
+      let in_types = count_by-le-length is_some (type_slots c.types) in
+      let in_functions = count_by-le-length is_some (functions c.funcs) in
+      let in_tables = count_by-le-length is_some (tables c.tables) in
+      let in_memories = count_by-le-length is_some (memories c.memories) in
+      let in_tags = count_by-le-length is_some (tags c.tags) in
+      let in_globals = count_by-le-length is_some (globals c.globals) in
+      let in_elements = count_by-le-length is_some (elements c.elements) in
+      let in_data = count_by-le-length is_some (data_segments c.data_) in
+      omega (arith, in_types, in_functions, in_tables, in_memories, in_tags, in_globals, in_elements, in_data)
+
+  pub room_for_places : IsRoomForLive (contents_view c) (place_count c)
+  room_for_places xs apart live =
+      let few : length xs ≤ live_count c = room_for_live xs apart live in
+      omega (arith, few, within_places)

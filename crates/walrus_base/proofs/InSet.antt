@@ -1,5 +1,5 @@
 -- Which ids a set has, by the list of them.
-use Rattle.std.proofs.Common.{◌≡◌, ℕ, true, false, Option, Some, None, arith}
+use Rattle.std.proofs.Common.{ℕ, Option, Some, None, arith}
 use Rattle.std.specs.Prelude.{◌↔◌, Contains, IsTrue, []}
 use Rattle.std.specs.BTreeSet.{BTreeSet}
 use Rattle.std.specs.Global.{Box}

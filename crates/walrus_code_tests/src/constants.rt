@@ -7,7 +7,7 @@ use walrus_base::GlobalId;
 use walrus_code::{IdsToIndices, IndicesToIds};
 use walrus_constants::{raw_const, raw_consts, raw_op, read_const, read_consts, read_op};
 use walrus_types::{ConstExpr, ConstOp, Value};
-use wasm_entries::RawConst;
+use wasm_entries::{RawConst, RawExpression};
 
 // The sum of five and the value of the global with the index 0.
 const RAW_SUM: [RawConst; 3] = [
@@ -48,12 +48,10 @@ fn a_sum_is_read(rt: HostRuntime) -> Result<(), Fail> {
 }
 
 // The items of a segment: the sum, and the value of the global.
-fn items_over_indices(alloc: Global) -> Result<Vec<Vec<RawConst>>, AllocError> {
-    let mut value = Vec::new(alloc);
-    value.push(RawConst::GlobalGet(0))?;
+fn items_over_indices(alloc: Global) -> Result<Vec<RawExpression>, AllocError> {
     let mut items = Vec::new(alloc);
-    items.push(RAW_SUM.as_slice().to_vec(alloc)?)?;
-    items.push(value)?;
+    items.push(RawExpression::Listed(RAW_SUM.as_slice().to_vec(alloc)?))?;
+    items.push(RawExpression::Single(RawConst::GlobalGet(0)))?;
     Ok(items)
 }
 
@@ -88,7 +86,7 @@ fn is_raw_value(found: &[RawConst]) -> bool {
 
 fn is_written(alloc: Global, indices: &IdsToIndices, id: GlobalId) -> bool {
     matches!(raw_op(&ConstOp::GlobalGet(id), indices), Ok(raw) if raw == RawConst::GlobalGet(0))
-        && matches!(raw_const(alloc, &ConstExpr::Global(id), indices), Ok(raw) if is_raw_value(raw.as_slice()))
+        && matches!(raw_const(alloc, &ConstExpr::Global(id), indices), Ok(raw) if is_raw_value(raw.operators()))
 }
 
 fn value_is_written(alloc: Global) -> bool {
@@ -113,10 +111,11 @@ fn items_over_ids(alloc: Global, id: GlobalId) -> Result<Vec<ConstExpr>, AllocEr
     Ok(items)
 }
 
-fn are_raw_items(found: &[Vec<RawConst>]) -> bool {
+fn are_raw_items(found: &[RawExpression]) -> bool {
     match found {
         [value, five] => {
-            is_raw_value(value.as_slice()) && five.as_slice() == [RawConst::I32Const(5)].as_slice()
+            is_raw_value(value.operators())
+                && five.operators() == [RawConst::I32Const(5)].as_slice()
         }
         _ => false,
     }

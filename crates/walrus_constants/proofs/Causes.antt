@@ -9,7 +9,7 @@ use Rattle.wasm_entries.specs.Spelling.{ConstStands, ExpressionStands}
 use Rattle.walrus_base.specs.Types.{HeapType, OfHeap, Concrete, Exact, IsNotExact, ValType, I32, I64, F32, F64, V128, Ref, val_heaps, heap_names, val_names}
 use Rattle.walrus_types.specs.Operators.{Types, Memories, Item, type_item, BlockType, NoResult, OneResult, OfType, block_names, Arg, Index, Label, Local, Number, Count, Byte, S32, S64, Bits32, Bits64, Value, Heap, Block, Access, Op, arg_names, op_names, names_of}
 use Rattle.walrus_code.specs.Names.{Lookup, named_heap, named_val, named_block, named_arg, named_args}
-use Rattle.walrus_code.specs.Results.{heap_is_exact, val_is_exact, block_is_exact, arg_is_exact, args_are_exact, IndexesIn}
+use Rattle.walrus_code.specs.Results.{heap_is_exact, val_is_exact, block_is_exact, arg_is_exact, args_are_exact, Indexes, IndexesIn}
 use Rattle.walrus_code.specs.declared.error.IrError.{IrError}
 use Rattle.walrus_code.specs.declared.error.IrError.TheVariants.{Malformed, Memory, NoIndex, NotWritable, TooLarge}
 use Rattle.walrus_groups.specs.Named.{each}
@@ -222,6 +222,15 @@ const_written view names ops (Err NotWritable) n i = exact_by ops (ops_are_exact
 const_written view names ops (Err (Memory e)) n i = tt
 const_written view names ops (Err Malformed) n i = i
 const_written view names ops (Err TooLarge) n i = i
+
+--- an operator that stands alone
+pub alone_written : {X : Type 0} (view : X → Op) (names : Lookup) (o : Op) (r : Result X IrError) → Indexes view r o (named_const_op names o) → IndexesIn (λ x. view x ∷ []) r (ops_are_exact (o ∷ [])) (named_const names (o ∷ []))
+alone_written view names o (Ok x) i = (ap (λ t. t >>= λ y. Some (y ∷ [])) i.0, ap (λ t. t || false) i.1)
+alone_written view names o (Err NoIndex) i = ap (λ t. t >>= λ y. Some (y ∷ [])) i
+alone_written view names o (Err NotWritable) i = ap (λ t. t || false) i
+alone_written view names o (Err (Memory e)) i = i
+alone_written view names o (Err Malformed) i = i
+alone_written view names o (Err TooLarge) i = i
 
 none_left : {X Y : Type 0} (find : X → Option Y) (x : X) (xs : List X) → each find (x ∷ xs) ≡ Some [] → ⊥
 none_left find x xs e =

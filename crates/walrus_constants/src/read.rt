@@ -13,7 +13,7 @@ use crate::heap::read_heap;
 use std::alloc::Global;
 use walrus_code::{IndicesToIds, IrError};
 use walrus_types::{ConstExpr, ConstOp, RefType, Value};
-use wasm_entries::RawConst;
+use wasm_entries::{RawConst, RawExpression};
 
 /// The constant expression with the id for each index in it (Valid > Instructions > Expressions > Constant Expressions), in
 /// its shortest form: a constant, a global's value, a null or a function that stands alone is a case of [`ConstExpr`], and
@@ -47,7 +47,7 @@ pub fn read_const(
 /// [`IrError::Malformed`] where an index in one of them isn't declared, and [`IrError::Memory`].
 pub fn read_consts(
     alloc: Global,
-    raw: &[Vec<RawConst>],
+    raw: &[RawExpression],
     indices: &IndicesToIds,
 ) -> Result<Vec<ConstExpr>, IrError>
     ensures named { Finds (λ found. map const_ops found.items) result
@@ -56,7 +56,7 @@ pub fn read_consts(
 {
     let mut found = Vec::with_capacity(alloc, raw.len())?;
     for one in raw {
-        found.push(read_const(alloc, one.as_slice(), indices)?)?;
+        found.push(read_const(alloc, one.operators(), indices)?)?;
     }
     Ok(found)
 }

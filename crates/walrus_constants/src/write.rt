@@ -12,10 +12,9 @@ ghost use Rattle.walrus_constants.specs.Written.{ops_are_exact, IndexesConst, In
 
 use crate::heap::raw_heap;
 use std::alloc::Global;
-use std::slice;
 use walrus_code::{IdsToIndices, IrError};
 use walrus_types::{ConstExpr, ConstOp, Value};
-use wasm_entries::RawConst;
+use wasm_entries::{RawConst, RawExpression};
 
 /// The constant expression with the index for each id in it, which bytes can spell (Binary Format > Instructions > Expressions).
 ///
@@ -27,16 +26,16 @@ pub fn raw_const(
     alloc: Global,
     expr: &ConstExpr,
     indices: &IdsToIndices,
-) -> Result<Vec<RawConst>, IrError>
-    ensures indexed { IndexesConst (λ raw. consts_of raw.items) (index_of indices.now)
+) -> Result<RawExpression, IrError>
+    ensures indexed { IndexesConst (λ raw. consts_of (expression raw)) (index_of indices.now)
         (const_ops expr.now) result }
-    ensures spelled { IfOk result (λ raw. ExpressionStands raw.items) }
+    ensures spelled { IfOk result (λ raw. ExpressionStands (expression raw)) }
 {
     match expr {
-        ConstExpr::Value(value) => raw_alone(alloc, op_of_value(*value), indices),
-        ConstExpr::Global(id) => raw_alone(alloc, ConstOp::GlobalGet(*id), indices),
-        ConstExpr::RefNull(ty) => raw_alone(alloc, ConstOp::RefNull(ty.heap_type), indices),
-        ConstExpr::RefFunc(id) => raw_alone(alloc, ConstOp::RefFunc(*id), indices),
+        ConstExpr::Value(value) => raw_alone(op_of_value(*value), indices),
+        ConstExpr::Global(id) => raw_alone(ConstOp::GlobalGet(*id), indices),
+        ConstExpr::RefNull(ty) => raw_alone(ConstOp::RefNull(ty.heap_type), indices),
+        ConstExpr::RefFunc(id) => raw_alone(ConstOp::RefFunc(*id), indices),
         ConstExpr::Extended(ops) => raw_ops(alloc, ops.as_slice(), indices),
     }
 }
@@ -51,7 +50,7 @@ pub fn raw_consts(
     alloc: Global,
     all: &[ConstExpr],
     indices: &IdsToIndices,
-) -> Result<Vec<Vec<RawConst>>, IrError>
+) -> Result<Vec<RawExpression>, IrError>
     ensures indexed { IndexesConsts (λ raw. map consts_of (map expression raw.items)) (index_of indices.now)
         (map const_ops all.now) result }
     ensures spelled { IfOk result (λ raw. All ExpressionStands (map expression raw.items)) }
@@ -77,24 +76,24 @@ fn op_of_value(value: Value) -> ConstOp
 }
 
 // The expression of one operator.
-fn raw_alone(alloc: Global, op: ConstOp, indices: &IdsToIndices) -> Result<Vec<RawConst>, IrError>
-    ensures indexed { IndexesConst (λ raw. consts_of raw.items) (index_of indices.now) (const_op op ∷ [])
-        result }
-    ensures spelled { IfOk result (λ raw. ExpressionStands raw.items) }
+fn raw_alone(op: ConstOp, indices: &IdsToIndices) -> Result<RawExpression, IrError>
+    ensures indexed { IndexesConst (λ raw. consts_of (expression raw)) (index_of indices.now)
+        (const_op op ∷ []) result }
+    ensures spelled { IfOk result (λ raw. ExpressionStands (expression raw)) }
 {
-    raw_ops(alloc, slice::from_ref(&op), indices)
+    Ok(RawExpression::Single(raw_op(&op, indices)?))
 }
 
 // The expression of operators.
-fn raw_ops(alloc: Global, ops: &[ConstOp], indices: &IdsToIndices) -> Result<Vec<RawConst>, IrError>
-    ensures indexed { IndexesConst (λ raw. consts_of raw.items) (index_of indices.now)
+fn raw_ops(alloc: Global, ops: &[ConstOp], indices: &IdsToIndices) -> Result<RawExpression, IrError>
+    ensures indexed { IndexesConst (λ raw. consts_of (expression raw)) (index_of indices.now)
         (map const_op ops.now) result }
-    ensures spelled { IfOk result (λ raw. ExpressionStands raw.items) }
+    ensures spelled { IfOk result (λ raw. ExpressionStands (expression raw)) }
 {
     if ops.is_empty() {
         return Err(IrError::NotWritable);
     }
-    raw_each(alloc, ops, indices)
+    Ok(RawExpression::Listed(raw_each(alloc, ops, indices)?))
 }
 
 // Operators one by one.

@@ -1,5 +1,5 @@
 -- Where each item is whole, and what is exported is there, nothing that is named is missing; and where nothing is, all is there.
-use Rattle.std.proofs.Common.{◌≡◌, ℕ, ◌<◌, ◌+◌, List, ◌∷◌, length, map, take, get_or, Some, None, sym, ap, ◌∙◌, subst, refl, ⊎_elim}
+use Rattle.std.proofs.Common.{◌≡◌, ℕ, ◌<◌, ◌+◌, List, [], ◌∷◌, length, map, take, get_or, Some, None, sym, ap, ◌∙◌, subst, refl, ⊎_elim}
 use Rattle.std.specs.Prelude.{Option, IsSome, Contains, option_map, Result, MatchResult}
 use Rattle.walrus_base.specs.Arena.{item_at, items}
 use Rattle.walrus_types.specs.Operators.{Space, Types, Functions, Tables, Memories, Tags, Globals, Elements, DataSegments, Item}
@@ -15,10 +15,10 @@ use Rattle.walrus_model.specs.Dead.{HasDead, DeadName, DeadLocal, DeadExport, De
 use Rattle.walrus_model.specs.Live.{IsLive}
 use Rattle.walrus_model.specs.Names.{body_of_kind, body_of_function}
 use Rattle.walrus_model.specs.Refers.{named_by, written_in, type_names, function_names, table_names, memory_names, tag_names, global_names, element_names, data_names}
-use Rattle.walrus_model.proofs.Lists.{Contains-map, Contains-none}
+use Rattle.walrus_model.proofs.Lists.{Contains-head, Contains-map, Contains-none, Contains-tail, Contains-uncons}
 use Rattle.walrus_model.proofs.Reach.{Contains-unmap}
 use Rattle.walrus_items.specs.Error.{Error}
-use Rattle.walrus_contents.specs.Named.{active_names, export_names, own_written, root_elements, root_names, start_names}
+use Rattle.walrus_contents.specs.Named.{active_names, export_names, other_roots, own_written, root_elements, start_names}
 use Rattle.walrus_contents.specs.There.{AreLive, AreWhole, ImportsAreLive, IsRefusal, IsSound, IsThere, IsUnsound, IsWhole, NoBody, NoLocal, OneIsDead}
 use Rattle.walrus_items.specs.Imports.{ImportValue}
 use Rattle.walrus_contents.specs.View.{contents_view, data_of, element_of, export_of, import_of}
@@ -26,7 +26,7 @@ use Rattle.walrus_contents.specs.declared.parts.Contents.{Contents}
 use Rattle.walrus_contents.proofs.Groups.{GroupsAreWhole, own_is_written, written_split}
 use Rattle.walrus_contents.proofs.Lookups.{mapped_some}
 use Rattle.walrus_contents.proofs.NamedLemmas.{among, result_map, row_more, same_some, some_none}
-use Rattle.walrus_contents.proofs.RootNames.{export_is_root, named_active, named_root_element, named_start, root_cases, start_is_root, start_named}
+use Rattle.walrus_contents.proofs.RootNames.{named_active, named_root_element, named_start, other_cases, start_is_other, start_named}
 use Rattle.walrus_contents.proofs.Walked.{Walked, next_there, walk_goes}
 
 -- what something is written in is there
@@ -67,6 +67,33 @@ module _ (v : Abstract) (ids : List ItemId) (i : ℕ) (d : ItemId) (lt : i < len
 
   pub one_dead : (IsLive v (item_of (get_or ids i d)) → ⊥) → OneIsDead v (map item_of ids)
   one_dead dead = (item_of (get_or ids i d), (among item_of ids i d lt, dead))
+
+-- ---- exports, where those to come decide
+
+-- what the exports to come name decides of what all of them name
+pub record Decide (v : Abstract) (left all : List Item) : Type 0 where
+  pub live : AreLive v left → AreLive v all
+  pub dead : OneIsDead v left → OneIsDead v all
+
+-- at the beginning all are to come
+pub decide_all : (v : Abstract) (left all : List Item) → left ≡ all → Decide v left all
+decide_all v left all same = subst (λ (xs : List Item). Decide v left xs) same (record { live = λ h. h; dead = λ h. h })
+
+module _ (v : Abstract) (left after all : List Item) (x : Item) (steps : left ≡ x ∷ after) (d : Decide v left all) where
+  -- a step past what is there
+  pub decide_goes : IsLive v x → Decide v after all
+  decide_goes live = record {
+    live = λ rest. d.live (subst (λ (xs : List Item). AreLive v xs) (sym steps) (λ y at. ⊎_elim (λ (same : x ≡ y). subst (λ (z : Item). IsLive v z) same live) (λ h. rest y h) (Contains-uncons x y after at)));
+    dead = λ one. d.dead (subst (λ (xs : List Item). OneIsDead v xs) (sym steps) (one.0, (Contains-tail x one.0 after one.1.0, one.1.1)));
+  }
+
+  -- a stop at what isn't
+  pub decide_stops : (IsLive v x → ⊥) → OneIsDead v all
+  decide_stops dead = d.dead (subst (λ (xs : List Item). OneIsDead v xs) (sym steps) (x, (Contains-head x after, dead)))
+
+-- at the end none is to come
+pub decide_none : (v : Abstract) (left all : List Item) → left ≡ [] → Decide v left all → AreLive v all
+decide_none v left all none d = d.live (subst (λ (xs : List Item). AreLive v xs) (sym none) (λ x at. absurd (Contains-none x at)))
 
 -- ---- what isn't there
 
@@ -117,10 +144,13 @@ module _ (c : Contents) where
   abbrev V : Abstract
   V = contents_view c
 
-  exports_dead : (x : Item) → Contains (export_names c.exports) x → (IsLive V x → ⊥) → HasDead V
-  exports_dead x at dead =
+  export_dead : (x : Item) → Contains (export_names c.exports) x → (IsLive V x → ⊥) → HasDead V
+  export_dead x at dead =
       let from = Contains-unmap (λ (e : ExportValue). exported e.item) (items (exports c.exports)) x at in
       DeadExport (export_of from.0) (Contains-map export_of from.0 (items (exports c.exports)) from.1) (λ live. dead (subst (λ (y : Item). IsLive V y) from.2 live))
+
+  pub exports_dead : OneIsDead V (export_names c.exports) → HasDead V
+  exports_dead dead = export_dead dead.0 dead.1.0 dead.1.1
 
   start_dead : (x : Item) → Contains (start_names c.start) x → (IsLive V x → ⊥) → HasDead V
   start_dead x at dead =
@@ -137,18 +167,16 @@ module _ (c : Contents) where
       let from = named_root_element c.elements x at in
       subst (λ (y : Item). IsLive V y) (sym from.4) (subst (λ (o : Option ElementValue). IsSome (option_map element_of o)) (sym from.2) refl)
 
-  pub roots_dead : OneIsDead V (root_names c) → HasDead V
-  roots_dead dead = ⊎_elim
-      (λ h. exports_dead dead.0 h dead.1.1)
-      (λ others. ⊎_elim
+  pub others_dead : OneIsDead V (other_roots c) → HasDead V
+  others_dead dead = ⊎_elim
       (λ h. start_dead dead.0 h dead.1.1)
       (λ segments. absurd (dead.1.1 (⊎_elim (λ h. active_live dead.0 h) (λ h. root_element_live dead.0 h) segments)))
-      others)
-      (root_cases c dead.0 dead.1.0)
+      (other_cases c dead.0 dead.1.0)
 
   -- what the check has found before it comes to the functions
   pub record Checked : Type 0 where
-    pub roots : AreLive V (root_names c)
+    pub exports : AreLive V (export_names c.exports)
+    pub others : AreLive V (other_roots c)
     pub imports : ImportsAreLive V
     pub types : AreWhole V Types
     pub tables : AreWhole V Tables
@@ -176,9 +204,9 @@ module _ (c : Contents) where
           (fs i (subst (λ (o : Option abstract.Function). IsSome o) (sym at.1) refl)).sound.locals i at.0 b x refl at.1 at.2 used;
       exports = λ x at.
           let from = Contains-unmap export_of (items (exports c.exports)) x at in
-          subst (λ (y : abstract.Export). IsLive V y.item) from.2 (k.roots (exported from.0.item) (export_is_root c _ (Contains-map (λ (y : ExportValue). exported y.item) from.0 (items (exports c.exports)) from.1)));
+          subst (λ (y : abstract.Export). IsLive V y.item) from.2 (k.exports (exported from.0.item) (Contains-map (λ (y : ExportValue). exported y.item) from.0 (items (exports c.exports)) from.1));
       imports = k.imports;
-      start = λ f is. k.roots (Functions, f) (start_is_root c (Functions, f) (start_named c.start f is));
+      start = λ f is. k.others (Functions, f) (start_is_other c (Functions, f) (start_named c.start f is));
       initialised = λ i g at. (fs i (subst (λ (o : Option abstract.Function). IsSome o) (sym at) refl)).sound.initialised i g refl at;
     }
 

@@ -6,7 +6,6 @@ use Rattle.std.proofs.lemmas.List.{map-append, map_more}
 use Rattle.std.proofs.lemmas.List.Elements.{Contains-push_cases}
 use Rattle.std.specs.Global.{Vec}
 use Rattle.walrus_base.specs.Arena.{item_at}
-use Rattle.walrus_base.specs.Id.{place}
 use Rattle.walrus_types.specs.declared.locals.ModuleLocals.{ModuleLocals}
 use Rattle.walrus_types.specs.Operators.{Functions, Item, locals_of, names_of}
 use Rattle.walrus_items.specs.Function.{body_of}

@@ -13,7 +13,7 @@ use Rattle.walrus_items.specs.Data.{DataValue, data_segments, is_passive_data, M
 use Rattle.walrus_items.specs.Elements.{ElementValue, elements, ModuleElements}
 use Rattle.walrus_model.proofs.Lists.{Contains-head, Contains-map, Contains-none}
 use Rattle.walrus_model.proofs.Reach.{Contains-unmap}
-use Rattle.walrus_contents.specs.Named.{active_names, are_passive, export_names, root_elements, root_names, start_names}
+use Rattle.walrus_contents.specs.Named.{active_names, are_passive, export_names, other_roots, root_elements, root_names, start_names}
 use Rattle.walrus_contents.specs.declared.parts.Contents.{Contents}
 use Rattle.walrus_contents.proofs.Filters.{from_filter, in_filter}
 use Rattle.walrus_contents.proofs.NamedLemmas.{same_some}
@@ -76,33 +76,37 @@ module _ (all : ModuleElements) where
 -- ---- all of them
 
 module _ (c : Contents) (x : Item) where
-  abbrev before_segments : List Item
-  before_segments = export_names c.exports ++ start_names c.start
-
   abbrev before_elements : List Item
-  before_elements = before_segments ++ active_names c.data_
+  before_elements = start_names c.start ++ active_names c.data_
 
-  -- a root is named by the exports, or the start function, or an active data segment, or an element segment that isn't passive
-  pub root_cases : Contains (root_names c) x → Contains (export_names c.exports) x ⊎ (Contains (start_names c.start) x ⊎ (Contains (active_names c.data_) x ⊎ Contains (root_elements c.elements) x))
-  root_cases at = ⊎_elim
-      (λ before. ⊎_elim
-      (λ first. ⊎_elim (λ h. inl h) (λ h. inr (inl h)) (Contains-append_cases (export_names c.exports) (start_names c.start) x first))
-      (λ h. inr (inr (inl h)))
-      (Contains-append_cases before_segments (active_names c.data_) x before))
-      (λ h. inr (inr (inr h)))
+  -- a root that no export names is the start function, or an active data segment, or an element segment that isn't passive
+  pub other_cases : Contains (other_roots c) x → Contains (start_names c.start) x ⊎ (Contains (active_names c.data_) x ⊎ Contains (root_elements c.elements) x)
+  other_cases at = ⊎_elim
+      (λ before. ⊎_elim (λ h. inl h) (λ h. inr (inl h)) (Contains-append_cases (start_names c.start) (active_names c.data_) x before))
+      (λ h. inr (inr h))
       (Contains-append_cases before_elements (root_elements c.elements) x at)
 
-  before_is_root : Contains before_elements x → Contains (root_names c) x
-  before_is_root at = Contains-append_left before_elements (root_elements c.elements) x at
+  -- a root is named by the exports, or is one of the others
+  pub root_cases : Contains (root_names c) x → Contains (export_names c.exports) x ⊎ (Contains (start_names c.start) x ⊎ (Contains (active_names c.data_) x ⊎ Contains (root_elements c.elements) x))
+  root_cases at = ⊎_elim (λ h. inl h) (λ h. inr (other_cases h)) (Contains-append_cases (export_names c.exports) (other_roots c) x at)
+
+  pub start_is_other : Contains (start_names c.start) x → Contains (other_roots c) x
+  start_is_other at = Contains-append_left before_elements (root_elements c.elements) x (Contains-append_left (start_names c.start) (active_names c.data_) x at)
+
+  active_is_other : Contains (active_names c.data_) x → Contains (other_roots c) x
+  active_is_other at = Contains-append_left before_elements (root_elements c.elements) x (Contains-append_right (start_names c.start) (active_names c.data_) x at)
+
+  other_is_root : Contains (other_roots c) x → Contains (root_names c) x
+  other_is_root at = Contains-append_right (export_names c.exports) (other_roots c) x at
 
   pub export_is_root : Contains (export_names c.exports) x → Contains (root_names c) x
-  export_is_root at = before_is_root (Contains-append_left before_segments (active_names c.data_) x (Contains-append_left (export_names c.exports) (start_names c.start) x at))
+  export_is_root at = Contains-append_left (export_names c.exports) (other_roots c) x at
 
   pub start_is_root : Contains (start_names c.start) x → Contains (root_names c) x
-  start_is_root at = before_is_root (Contains-append_left before_segments (active_names c.data_) x (Contains-append_right (export_names c.exports) (start_names c.start) x at))
+  start_is_root at = other_is_root (start_is_other at)
 
   pub active_is_root : Contains (active_names c.data_) x → Contains (root_names c) x
-  active_is_root at = before_is_root (Contains-append_right before_segments (active_names c.data_) x at)
+  active_is_root at = other_is_root (active_is_other at)
 
   pub element_is_root : Contains (root_elements c.elements) x → Contains (root_names c) x
-  element_is_root at = Contains-append_right before_elements (root_elements c.elements) x at
+  element_is_root at = other_is_root (Contains-append_right before_elements (root_elements c.elements) x at)

@@ -91,10 +91,14 @@ are_passive (element_kinds.Active table offset) = false
 abbrev pub root_elements : ModuleElements → List Item
 root_elements all = map (λ e. (Elements, e.0)) (filter (λ e. not (are_passive e.1.kind)) (entries (elements all)))
 
+-- the roots that no export names: the start function, the active data segments, and the element segments that are active or declared
+abbrev pub other_roots : Contents → List Item
+other_roots c = start_names c.start ++ active_names c.data_ ++ root_elements c.elements
+
 -- the roots: what the exports name, then the start function, the active data segments, and then the active and the declared element
 -- segments
 abbrev pub root_names : Contents → List Item
-root_names c = export_names c.exports ++ start_names c.start ++ active_names c.data_ ++ root_elements c.elements
+root_names c = export_names c.exports ++ other_roots c
 
 -- the type of the local at a place, if one is there
 abbrev pub type_at : ModuleLocals → ℕ → Option (ValType ℕ)

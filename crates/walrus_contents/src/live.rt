@@ -5,10 +5,11 @@ ghost use Rattle.walrus_model.specs.Dead.{HasDead};
 ghost use Rattle.walrus_model.specs.Live.{IsLive};
 ghost use Rattle.walrus_items.specs.Kinds.{imported};
 ghost use Rattle.walrus_types.specs.Operators.{DataSegments, Elements, Functions, Globals, Tables, Tags, Types};
+ghost use Rattle.walrus_contents.specs.Named.{export_names};
 ghost use Rattle.walrus_contents.specs.There.{AreLive, AreWhole, ImportsAreLive, IsRefusal, IsWhole, OneIsDead};
 ghost use Rattle.walrus_contents.specs.View.{parts_view};
 
-use crate::names::{push_root_names, push_written_names};
+use crate::names::{push_other_roots, push_written_names};
 use crate::parts::{Parts, is_live};
 use std::alloc::Global;
 use walrus_items::{Error, ImportKind, ItemId, Result};
@@ -20,7 +21,8 @@ pub fn check_live(alloc: Global, parts: Parts<'_>) -> Result<()>
         (IsRefusal (HasDead (parts_view parts.entry))) }
 {
     let mut named = Vec::new(alloc);
-    push_root_names(parts, &mut named)?;
+    check_exports(parts)?;
+    push_other_roots(parts, &mut named)?;
     check_all(parts, named.as_slice())?;
     check_imports(parts)?;
     check_types(alloc, parts, &mut named)?;
@@ -30,6 +32,17 @@ pub fn check_live(alloc: Global, parts: Parts<'_>) -> Result<()>
     check_elements(alloc, parts, &mut named)?;
     check_data(alloc, parts, &mut named)?;
     check_functions(alloc, parts, &mut named)
+}
+
+// The same for what exports name.
+fn check_exports(parts: Parts<'_>) -> Result<()>
+    ensures { MatchResult result (λ _. AreLive (parts_view parts.entry)
+        (export_names parts.entry.exports.now)) (IsRefusal (HasDead (parts_view parts.entry))) }
+{
+    for export in parts.exports.iter() {
+        check_one(parts, export.item.item_id())?;
+    }
+    Ok(())
 }
 
 // The same for what imports bring.

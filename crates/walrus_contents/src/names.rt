@@ -15,7 +15,7 @@ ghost use Rattle.walrus_types.specs.ModuleTypes.{type_slots};
 ghost use Rattle.walrus_types.specs.Operators.{DataSegments, Elements, arg_locals, locals_of, names_of, op_locals, type_item};
 ghost use Rattle.walrus_types.specs.Value.{heap_type, val_type};
 ghost use Rattle.walrus_contents.specs.There.{IsRefusal, IsSound, IsUnsound};
-ghost use Rattle.walrus_contents.specs.Named.{AreThere, IsReady, IsUnready, NamesItself, NamesNoTypes, OneIsMissing, Puts, PutsAll, PutsTypes, active_names, are_passive, export_names, local_type_names, own_type_names, own_written, root_elements, root_names, start_names, type_at};
+ghost use Rattle.walrus_contents.specs.Named.{AreThere, IsReady, IsUnready, NamesItself, NamesNoTypes, OneIsMissing, Puts, PutsAll, PutsTypes, active_names, are_passive, export_names, local_type_names, own_type_names, own_written, root_elements, other_roots, root_names, start_names, type_at};
 
 use crate::initialisers::{
     push_data_names, push_element_names, push_global_names, push_table_names, push_tag_names,
@@ -36,6 +36,14 @@ pub fn push_root_names(parts: Parts<'_>, to: &mut Vec<ItemId>) -> result::Result
     ensures { OnOk result (Puts to.old to.new (root_names (lent parts.entry))) }
 {
     push_export_names(parts.exports, to)?;
+    push_other_roots(parts, to)
+}
+
+/// Puts the roots that no export names behind `to`: the start function, the active data segments by rising id, and then the active and
+/// the declared element segments by rising id.
+pub fn push_other_roots(parts: Parts<'_>, to: &mut Vec<ItemId>) -> result::Result<(), AllocError>
+    ensures { OnOk result (Puts to.old to.new (other_roots (lent parts.entry))) }
+{
     push_start_name(parts.start, to)?;
     push_active_data(parts.data_, to)?;
     push_root_elements(parts.elements, to)

@@ -1,5 +1,5 @@
 -- What a contract sees of the memories of a module ("Structure > Modules > Memories").
-use Rattle.std.specs.Prelude.{ℕ, Bool, List, Option, map, option_map}
+use Rattle.std.specs.Prelude.{ℕ, Bool, List, Option, option_map}
 use Rattle.walrus_base.specs.Id.{place}
 use Rattle.walrus_base.specs.declared.keys.MemoryKey.{MemoryKey}
 use Rattle.walrus_base.specs.IdSet.{has_id}

@@ -181,7 +181,7 @@ fn sized_functions(
         ≡ local_sizes (functions funcs.now)) }
     ensures fails { IsOkUnless result out_of_memory }
 {
-    let mut sized = Vec::with_capacity(alloc, funcs.len())?;
+    let mut sized = Vec::with_capacity(alloc, funcs.next_id().index())?;
     for (id, local) in funcs.iter_local() {
         sized.push((Reverse(local.size()), id))?;
     }
@@ -216,7 +216,7 @@ fn types_in_order(alloc: Global, types: &ModuleTypes) -> Result<Vec<TypeId>>
         ≡ map (λ e. e.0) (entries (type_slots types.now))) }
     ensures fails { IsOkUnless result out_of_memory }
 {
-    let mut ids = Vec::with_capacity(alloc, types.len())?;
+    let mut ids = Vec::with_capacity(alloc, types.next_id().index())?;
     for ty in types.iter() {
         ids.push(ty.id())?;
     }
@@ -229,7 +229,7 @@ fn elements_in_order(alloc: Global, segments: &ModuleElements) -> Result<Vec<Ele
         ≡ map (λ e. e.0) (entries (elements segments.now))) }
     ensures fails { IsOkUnless result out_of_memory }
 {
-    let mut order = Vec::with_capacity(alloc, segments.len())?;
+    let mut order = Vec::with_capacity(alloc, segments.next_id().index())?;
     for (id, _segment) in segments.iter_entries() {
         order.push(id)?;
     }
@@ -242,7 +242,7 @@ fn data_in_order(alloc: Global, segments: &ModuleData) -> Result<Vec<DataId>>
         ≡ map (λ e. e.0) (entries (data_segments segments.now))) }
     ensures fails { IsOkUnless result out_of_memory }
 {
-    let mut ids = Vec::with_capacity(alloc, segments.len())?;
+    let mut ids = Vec::with_capacity(alloc, segments.next_id().index())?;
     for (id, _segment) in segments.iter_entries() {
         ids.push(id)?;
     }

@@ -4,7 +4,6 @@ use Rattle.std.specs.Prelude.{AllPairs, Contains, filter, not, cond}
 use Rattle.std.specs.List.{range_with_len}
 use Rattle.std.proofs.lemmas.List.FromFn.{length-range_with_len, get_or-range_with_len}
 use Rattle.std.proofs.lemmas.List.Kept.{AllPairs-filter}
-use Rattle.walrus_base.specs.Id.{place}
 use Rattle.walrus_types.specs.Locals.{locals}
 use Rattle.walrus_types.specs.Operators.{locals_of}
 use Rattle.walrus_types.specs.PlaceList.{has}

@@ -25,7 +25,7 @@ use walrus_constants::read_consts;
 use walrus_ir::{ConstExpr, ElementId, FunctionId, IndicesToIds, IrError, TableId};
 use walrus_items::{ElementItems, ElementKind, ModuleElements, ModuleTables};
 use walrus_parts::{Error, Result};
-use wasm_wire::{RawConst, RawElement, RawElementMode, RawItems};
+use wasm_wire::{RawConst, RawElement, RawElementMode, RawExpression, RawItems};
 
 // Elements that are active in the table of this index.
 fn read_active(
@@ -57,7 +57,7 @@ fn read_kind(alloc: Global, raw: &RawElementMode, indices: &IndicesToIds) -> Res
 {
     match raw {
         RawElementMode::Active(table, offset) => {
-            read_active(alloc, table.unwrap_or(0), offset, indices)
+            read_active(alloc, table.unwrap_or(0), offset.operators(), indices)
         }
         RawElementMode::Passive => Ok(ElementKind::Passive),
         RawElementMode::Declared => Ok(ElementKind::Declared),
@@ -83,7 +83,7 @@ fn read_functions(alloc: Global, raw: &[u32], indices: &IndicesToIds) -> Result<
 // The constant expressions that are the items of a segment.
 fn read_expressions(
     alloc: Global,
-    raw: &[Vec<RawConst>],
+    raw: &[RawExpression],
     indices: &IndicesToIds,
 ) -> Result<Vec<ConstExpr>>
     requires stay { All (ConstStays (ids_at indices.now)) (map expression raw.now) }

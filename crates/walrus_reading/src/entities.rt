@@ -129,7 +129,7 @@ fn read_initial(alloc: Global, raw: &RawTable, indices: &IndicesToIds) -> Result
     ensures fails { IsOkUnless result out_of_memory }
 {
     match &raw.initial {
-        Some(initial) => Ok(Some(read_initialiser(alloc, initial, indices)?)),
+        Some(initial) => Ok(Some(read_initialiser(alloc, initial.operators(), indices)?)),
         None => Ok(None),
     }
 }
@@ -191,7 +191,7 @@ fn add_global(
     ensures fails { IsOkUnless result out_of_memory }
 {
     let ty = read_value(raw.ty.value, indices);
-    let initial = read_initialiser(alloc, &raw.initial, indices)?;
+    let initial = read_initialiser(alloc, raw.initial.operators(), indices)?;
     all.add_local(ty, raw.ty.mutable, raw.ty.shared, initial)?;
     Ok(())
 }

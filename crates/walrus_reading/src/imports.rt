@@ -168,7 +168,7 @@ fn add_import(raw: &RawImport<'_>, indices: &IndicesToIds, contents: &mut Conten
     ensures fails { IsOkUnless result out_of_memory }
 {
     let import = contents.imports.next_id();
-    let kind = import_item(raw.desc, import, indices, contents)?;
+    let kind = import_item(raw.desc(), import, indices, contents)?;
     contents.imports.add(raw.from, raw.name, kind)?;
     Ok(())
 }

@@ -52,7 +52,12 @@ fn read_kind(alloc: Global, raw: &RawDataMode, indices: &IndicesToIds) -> Result
     ensures fails { IsOkUnless result out_of_memory }
 {
     match raw {
-        RawDataMode::Active(memory, offset) => read_active(alloc, *memory, offset, indices),
+        RawDataMode::Active(memory, offset) => read_active(
+            alloc,
+            *memory,
+            offset.operators(),
+            indices,
+        ),
         RawDataMode::Passive => Ok(DataKind::Passive),
     }
 }

@@ -1,5 +1,5 @@
 -- What the bytes of the two worked modules read as, under any configuration.
-use Rattle.std.proofs.Common.{◌≡◌, true, drop, ℕ, ◌+◌, ◌<◌, List, [], ◌∷◌, length, refl, sym, ap, ◌∙◌, subst, arith, append-nil}
+use Rattle.std.proofs.Common.{◌≡◌, true, drop, ℕ, ◌+◌, ◌<◌, List, [], ◌∷◌, length, refl, sym, ◌∙◌, subst, arith, append-nil}
 use Rattle.std.specs.Prelude.{AllPairs, slice_get, Option, Some, None}
 use Rattle.wasm_forms.specs.Number.{IsU32, number_at, leb_at}
 use Rattle.wasm_forms.specs.Grammar.{Form, Is, at, Vector, U32, row_at, block_at}

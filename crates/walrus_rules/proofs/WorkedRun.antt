@@ -4,7 +4,7 @@ use Rattle.std.specs.Prelude.{Option, Some, None, IsTrue, IsSome, All, Contains,
 use Rattle.std.proofs.lemmas.List.Elements.{All-contains_itself}
 use Rattle.wasm_writer.specs.Spelling.{SectionFits}
 use Rattle.walrus_types.specs.Operators as items
-use Rattle.walrus_types.specs.Operators.{Space, Types, Functions, Tables, Memories, Globals, Elements, DataSegments, Item, Op}
+use Rattle.walrus_types.specs.Operators.{Space, Types, Functions, Tables, Memories, Globals, Elements, DataSegments, Item}
 use Rattle.walrus_model.specs.Abstract.{Abstract, Name, AnItem, TypeDef, Body, Function}
 use Rattle.walrus_model.specs.Carried.{Carries, Carried, In}
 use Rattle.walrus_model.specs.Config.{Config}

@@ -3,7 +3,7 @@ use Rattle.std.proofs.Common.{◌≡◌, true, ℕ, zero, suc, ◌<◌, List, []
 use Rattle.std.specs.Prelude.{codes, Some, None, Contains}
 use Rattle.walrus_base.specs.Types.{Func}
 use Rattle.walrus_types.specs.Operators as items
-use Rattle.walrus_types.specs.Operators.{Space, Types, Functions, Tables, Memories, Globals, Elements, DataSegments, Local, Op}
+use Rattle.walrus_types.specs.Operators.{Space, Types, Functions, Tables, Memories, Globals, Elements, DataSegments, Op}
 use Rattle.walrus_model.specs.Abstract.{TypeDef, Body, LocalFunction, Function, Export}
 use Rattle.walrus_model.specs.Declared.{ref_func, IsRefInBody, IsRefInGlobal}
 use Rattle.walrus_model.specs.Live.{IsLive}

@@ -1,5 +1,5 @@
 -- What is known of a plain body, as its bytes and marks alone tell it.
-use Rattle.std.proofs.Common.{◌≡◌, ℕ, true, List, map, ap, ◌∙◌, sym, subst}
+use Rattle.std.proofs.Common.{◌≡◌, ℕ, true, List, ap, ◌∙◌, sym, subst}
 use Rattle.std.specs.Prelude.{Option, Some}
 use Rattle.std.specs.List.{list_all}
 use Rattle.std.proofs.Math.Logic.{∥∥₁_elim}

@@ -1,5 +1,5 @@
 -- A scanned body: what its bytes show reads as its operators.
-use Rattle.std.proofs.Common.{◌≡◌, ℕ, ◌+◌, true, List, length, map, refl, ap, ap₂, ◌∙◌, sym, subst}
+use Rattle.std.proofs.Common.{◌≡◌, ℕ, ◌+◌, true, List, length, map, refl, ap₂, ◌∙◌, sym, subst}
 use Rattle.std.proofs.Math.Logic.{∥∥₁_elim}
 use Rattle.std.proofs.Props.{props}
 use Rattle.wasm_text.specs.Operators as wire

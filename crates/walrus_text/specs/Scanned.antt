@@ -1,5 +1,5 @@
 -- What is known of a body that was scanned.
-use Rattle.std.specs.Prelude.{◌≡◌, ℕ, ◌+◌, ◌<◌, true, List, length, Option, Some}
+use Rattle.std.specs.Prelude.{◌≡◌, ℕ, ◌+◌, ◌<◌, true, List, Option, Some}
 use Rattle.wasm_text.specs.declared.limits.Limits.{Limits}
 use Rattle.walrus_types.specs.Operators.{Space, Types, Functions, Tables, Memories, Tags, Globals, Elements, DataSegments}
 use Rattle.walrus_bodies.specs.Location.{location, location_at}

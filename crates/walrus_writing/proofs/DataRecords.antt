@@ -1,11 +1,10 @@
 -- A data segment as a record: what a refusal of its offset says of it, and what its parts say together.
 use Rattle.std.proofs.Common.{◌≡◌, ℕ, List, [], ◌∷◌, refl, sym, ap, ◌∙◌, subst}
 use Rattle.std.specs.Prelude.{Option, Some, None, Contains, Ok, Err}
-use Rattle.std.specs.Global.{Vec}
 use Rattle.wasm_forms.specs.Reading.{◌>>=◌}
-use Rattle.wasm_entries.specs.Record.{data_entry}
+use Rattle.wasm_entries.specs.Record.{expression, data_entry}
 use Rattle.wasm_entries.specs.Spelling.{DataStands, ExpressionStands, IsIndex}
-use Rattle.wasm_entries.specs.declared.record.RawConst.{RawConst}
+use Rattle.wasm_entries.specs.declared.record.RawExpression.{RawExpression}
 use Rattle.wasm_entries.specs.declared.record.RawData.{RawData}
 use Rattle.wasm_entries.specs.declared.record.RawDataMode.TheVariants.{Active, Passive}
 use Rattle.walrus_types.specs.Operators.{Memories, Op}
@@ -41,7 +40,7 @@ module _ (names : Lookup) where
         ∙ ap (λ (o : Option (List Op)). o >>= λ found. Some (ActiveData index found)) named
 
     -- its offset isn't written
-    pub offset_refused : (index : ℕ) → Some index ≡ names Memories memory → (e : IrError) → IndexesConst {X = Vec RawConst} (λ raw. consts_of raw.items) names offset (Err e) → IndexesMode names (ActiveData memory offset) (Err e)
+    pub offset_refused : (index : ℕ) → Some index ≡ names Memories memory → (e : IrError) → IndexesConst {X = RawExpression} (λ raw. consts_of (expression raw)) names offset (Err e) → IndexesMode names (ActiveData memory offset) (Err e)
     offset_refused index is Ir.NoIndex lacks = found_by index is None (not_found names offset lacks)
     offset_refused index is Ir.NotWritable unspelled = UnspelledOffset memory offset refl unspelled
     offset_refused index is (Ir.Memory m) u = tt
@@ -51,9 +50,9 @@ module _ (names : Lookup) where
     spelled_by : (IsUnspelled offset → ⊥) → KindIsUnspelled (ActiveData memory offset) → ⊥
     spelled_by spelled (UnspelledOffset m o is unspelled) = let same : o ≡ offset = cc in spelled (subst IsUnspelled same unspelled)
 
-    pub active_written : (index : ℕ) → Some index ≡ names Memories memory → IsIndex index → (raw : Vec RawConst) → IndexesConst {X = Vec RawConst} (λ r. consts_of r.items) names offset (Ok raw) → ExpressionStands raw.items
+    pub active_written : (index : ℕ) → Some index ≡ names Memories memory → IsIndex index → (raw : RawExpression) → IndexesConst {X = RawExpression} (λ r. consts_of (expression r)) names offset (Ok raw) → ExpressionStands (expression raw)
         → IndexesMode names (ActiveData memory offset) (Ok (Active index raw))
-    active_written index is stands raw h spelled = (found_by index is (Some (consts_of raw.items)) h.0, (stands, spelled), spelled_by h.1)
+    active_written index is stands raw h spelled = (found_by index is (Some (consts_of (expression raw))) h.0, (stands, spelled), spelled_by h.1)
 
   passive_spelled : KindIsUnspelled PassiveData → ⊥
   passive_spelled (UnspelledOffset m o is unspelled) = absurd (cc)

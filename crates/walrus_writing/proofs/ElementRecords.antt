@@ -10,7 +10,7 @@ use Rattle.wasm_forms.specs.declared.types.RawRef.{RawRef}
 use Rattle.wasm_entries.specs.Record as entries
 use Rattle.wasm_entries.specs.Record.{element_entry, element_mode, expression, items_of}
 use Rattle.wasm_entries.specs.Spelling.{ElementStands, ElementsStand, ExpressionStands, IsIndex}
-use Rattle.wasm_entries.specs.declared.record.RawConst.{RawConst}
+use Rattle.wasm_entries.specs.declared.record.RawExpression.{RawExpression}
 use Rattle.wasm_entries.specs.declared.record.RawElement.{RawElement}
 use Rattle.wasm_entries.specs.declared.record.RawElementMode.TheVariants as modes
 use Rattle.wasm_entries.specs.declared.record.RawItems.TheVariants as contents
@@ -94,7 +94,7 @@ module _ (names : Lookup) where
     type_refused view Ir.TooLarge u = absurd u
 
     -- one of them isn't
-    pub consts_refused : (e : IrError) → IndexesConsts {X = Vec (Vec RawConst)} (λ raw. map consts_of (map expression raw.items)) names es (Err e) → IndexesItems names (Expressions ty es) (Err e)
+    pub consts_refused : (e : IrError) → IndexesConsts {X = Vec RawExpression} (λ raw. map consts_of (map expression raw.items)) names es (Err e) → IndexesItems names (Expressions ty es) (Err e)
     consts_refused Ir.NoIndex first = items_found (named_ref names ty) refl None (consts_lacking names es first) ∙ nothing_then (named_ref names ty)
     consts_refused Ir.NotWritable first = let u = consts_unspelled names es first in UnspelledItem ty es u.0 refl u.1.0 u.1.1
     consts_refused (Ir.Memory m) u = tt
@@ -105,8 +105,8 @@ module _ (names : Lookup) where
     expressions_spelled plain spelled (ExactItems t xs is exact) = let same : t ≡ ty = cc in none_there (sym plain ∙ ap (λ (r : RefType ℕ). heap_is_exact r.heap) (sym same) ∙ exact)
     expressions_spelled plain spelled (UnspelledItem t xs ops is at unspelled) = let same : xs ≡ es = cc in All-contains IsSpelled es ops spelled (subst (λ (l : List (List Op)). Contains l ops) same at) unspelled
 
-    pub expressions_written : (element : RawRef) (raw : Vec (Vec RawConst)) → IndexesIn ref_of (Ok element) (heap_is_exact ty.heap) (named_ref names ty) → HeapStands element.heap
-        → IndexesConsts {X = Vec (Vec RawConst)} (λ r. map consts_of (map expression r.items)) names es (Ok raw) → All ExpressionStands (map expression raw.items)
+    pub expressions_written : (element : RawRef) (raw : Vec RawExpression) → IndexesIn ref_of (Ok element) (heap_is_exact ty.heap) (named_ref names ty) → HeapStands element.heap
+        → IndexesConsts {X = Vec RawExpression} (λ r. map consts_of (map expression r.items)) names es (Ok raw) → All ExpressionStands (map expression raw.items)
         → IndexesItems names (Expressions ty es) (Ok (contents.Expressions element raw))
     expressions_written element raw first heap h stands = (
       items_found (Some (ref_of element)) first.0 (Some (map consts_of (map expression raw.items))) h.0,
@@ -124,7 +124,7 @@ module _ (names : Lookup) where
         ∙ ap (λ (o : Option (List Op)). o >>= λ found. Some (ActiveElements index found)) named
 
     -- its offset isn't written
-    pub offset_refused : (index : ℕ) → Some index ≡ names Tables table → (e : IrError) → IndexesConst {X = Vec RawConst} (λ raw. consts_of raw.items) names offset (Err e) → IndexesMode names tables items (ActiveElements table offset) (Err e)
+    pub offset_refused : (index : ℕ) → Some index ≡ names Tables table → (e : IrError) → IndexesConst {X = RawExpression} (λ raw. consts_of (expression raw)) names offset (Err e) → IndexesMode names tables items (ActiveElements table offset) (Err e)
     offset_refused index is Ir.NoIndex lacks = kind_found index is None (not_found names offset lacks)
     offset_refused index is Ir.NotWritable unspelled = UnspelledOffset table offset refl unspelled
     offset_refused index is (Ir.Memory m) u = tt
@@ -134,15 +134,15 @@ module _ (names : Lookup) where
     offset_spelled : (IsUnspelled offset → ⊥) → KindIsUnspelled (ActiveElements table offset) → ⊥
     offset_spelled spelled (UnspelledOffset t o is unspelled) = let same : o ≡ offset = cc in spelled (subst IsUnspelled same unspelled)
 
-    module _ (raw : Vec RawConst) (h : IndexesConst {X = Vec RawConst} (λ r. consts_of r.items) names offset (Ok raw)) (spelled : ExpressionStands raw.items) where
+    module _ (raw : RawExpression) (h : IndexesConst {X = RawExpression} (λ r. consts_of (expression r)) names offset (Ok raw)) (spelled : ExpressionStands (expression raw)) where
       abbrev IsWrittenAs : Option ℕ → Type 0
       IsWrittenAs written = IndexesMode names tables items (ActiveElements table offset) (Ok (modes.Active written raw))
 
       left_out : Some 0 ≡ names Tables table → MayLeaveOut (tables table) 0 items → IsWrittenAs None
-      left_out is may = (kind_found 0 is (Some (consts_of raw.items)) h.0, spelled, (table, sym is, may), offset_spelled h.1)
+      left_out is may = (kind_found 0 is (Some (consts_of (expression raw))) h.0, spelled, (table, sym is, may), offset_spelled h.1)
 
       written_out : (index : ℕ) → Some index ≡ names Tables table → IsIndex index → (MayLeaveOut (tables table) index items → ⊥) → IsWrittenAs (Some index)
-      written_out index is stands must = (kind_found index is (Some (consts_of raw.items)) h.0, (stands, spelled), (table, sym is, must), offset_spelled h.1)
+      written_out index is stands must = (kind_found index is (Some (consts_of (expression raw))) h.0, (stands, spelled), (table, sym is, must), offset_spelled h.1)
 
       written_by : (index : ℕ) (first : Bool) → nat_eq index 0 ≡ first → Some index ≡ names Tables table → IsIndex index → (narrow plain : Bool) → IsTrue narrow ↔ IsNarrow (tables table) → IsTrue plain ↔ ArePlain items
           → (written : Option ℕ) → written ≡ (if first && narrow && plain then None else Some index) → IsWrittenAs written

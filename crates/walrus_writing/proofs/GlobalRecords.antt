@@ -1,11 +1,11 @@
 -- A global as a record: what a refusal of its type or its initialiser says of it, and what both parts say together.
 use Rattle.std.proofs.Common.{◌≡◌, ℕ, List, false, refl, sym, ap, ◌∙◌, subst}
 use Rattle.std.specs.Prelude.{Option, Some, None, Ok, Err}
-use Rattle.std.specs.Global.{Vec}
+use Rattle.wasm_entries.specs.Record.{expression}
 use Rattle.wasm_forms.specs.Reading.{◌>>=◌}
 use Rattle.wasm_forms.specs.Types.{ValueStands}
 use Rattle.wasm_entries.specs.Spelling.{ExpressionStands}
-use Rattle.wasm_entries.specs.declared.record.RawConst.{RawConst}
+use Rattle.wasm_entries.specs.declared.record.RawExpression.{RawExpression}
 use Rattle.wasm_entries.specs.declared.record.RawGlobal.{RawGlobal}
 use Rattle.walrus_base.specs.Types.{ValType}
 use Rattle.walrus_types.specs.Operators.{Op}
@@ -42,7 +42,7 @@ module _ (names : Lookup) (g : Global) where
   value_refused view Ir.Malformed u = absurd u
   value_refused view Ir.TooLarge u = absurd u
 
-  const_refused : (ops : List Op) (e : IrError) → g.initialiser ≡ Some ops → IndexesConst {X = Vec RawConst} (λ raw. consts_of raw.items) names ops (Err e) → IndexesGlobal names g (Err e)
+  const_refused : (ops : List Op) (e : IrError) → g.initialiser ≡ Some ops → IndexesConst {X = RawExpression} (λ raw. consts_of (expression raw)) names ops (Err e) → IndexesGlobal names g (Err e)
   const_refused ops Ir.NoIndex is lacks =
       found_by (named_val names g.ty.value) refl None (ap (named_initialiser names) is ∙ ap (λ (o : Option (List Op)). o >>= λ found. Some (Some found)) (not_found names ops lacks))
       ∙ nothing_behind (named_val names g.ty.value)
@@ -62,10 +62,10 @@ module _ (names : Lookup) (g : Global) where
   spelled_by ops is not_exact spelled (UnspelledInitialiser others at unspelled) = spelled (subst IsUnspelled (some_inj others ops (sym at ∙ is)) unspelled)
 
   pub global_written : (raw : RawGlobal) (o : Option (List Op)) → g.initialiser ≡ o → g.origin ≡ Defined → raw.ty.mutable ≡ g.ty.mutable → raw.ty.shared ≡ g.ty.shared
-      → (named_val names g.ty.value ≡ Some (val_of raw.ty.value)) × (val_is_exact g.ty.value ≡ false) → ValueStands raw.ty.value → IndexesInitialiser names o (Ok raw.initial) → ExpressionStands raw.initial.items → IndexesGlobal names g (Ok raw)
+      → (named_val names g.ty.value ≡ Some (val_of raw.ty.value)) × (val_is_exact g.ty.value ≡ false) → ValueStands raw.ty.value → IndexesInitialiser names o (Ok raw.initial) → ExpressionStands (expression raw.initial) → IndexesGlobal names g (Ok raw)
   global_written raw None is own mutable shared value stands u spelled = absurd u
   global_written raw (Some ops) is own mutable shared value stands h spelled = (
-    found_by (Some (val_of raw.ty.value)) value.0 (Some (Some (consts_of raw.initial.items)))
+    found_by (Some (val_of raw.ty.value)) value.0 (Some (Some (consts_of (expression raw.initial))))
         (ap (named_initialiser names) is ∙ ap (λ (o : Option (List Op)). o >>= λ found. Some (Some found)) h.0)
         ∙ rw (own, mutable, shared) refl,
     record { ty = stands; initial = spelled },

@@ -51,19 +51,19 @@ module _ (names : Lookup) (v : Abstract) (x : Import) where
   pub import_refused : (e : IrError) → IndexesItem names v x.item (Err e) → IndexesImport names v x (Err e)
   import_refused Ir.NoIndex h = (h.thing, h.is, h.indexed)
   import_refused Ir.NotWritable h = (h.thing, h.is, h.indexed)
-  import_refused (Ir.Memory m) h = absurd h.indexed
+  import_refused (Ir.Memory m) h = tt
   import_refused Ir.Malformed h = absurd h.indexed
   import_refused Ir.TooLarge h = absurd h.indexed
 
-  pub import_written : (raw : RawImport) → IndexesItem names v x.item (Ok raw.desc) → raw.from.now ≡ x.module_name → raw.name.now ≡ x.name → IsUtf8 raw.from.now → IsUtf8 raw.name.now → IsEntryOf names v x (import_entry raw)
-  import_written raw h from name from_text name_text = record {
+  pub import_written : (raw : RawImport) (w : entries.Import) → import_entry raw ≡ w → IndexesItem names v x.item (Ok w.desc) → w.from ≡ x.module_name → w.name ≡ x.name → IsUtf8 w.from → IsUtf8 w.name → IsEntryOf names v x (import_entry raw)
+  import_written raw w held h from name from_text name_text = subst (IsEntryOf names v x) (sym held) (record {
     from = from;
     name = name;
     thing = h.thing;
     is = h.is;
     describes = h.indexed;
     stands = record { from = from_text; name = name_text; desc = h.indexed.stands };
-  }
+  })
 
 -- ---- all of them
 
@@ -92,6 +92,6 @@ module _ (names : Lookup) (v : Abstract) where
   pub one_refused : (p : ℕ) (x : Import) (e : IrError) → v.imports p ≡ Some x → ImportsIndexed names v → IndexesImport names v x (Err e) → RefusesImports v (error_of_ir e)
   one_refused p x Ir.NoIndex at indexed lacks = absurd (indexed p x at lacks)
   one_refused p x Ir.NotWritable at indexed exact = (p, (x, (at, exact)))
-  one_refused p x (Ir.Memory m) at indexed h = absurd h
+  one_refused p x (Ir.Memory m) at indexed h = tt
   one_refused p x Ir.Malformed at indexed h = absurd h
   one_refused p x Ir.TooLarge at indexed h = absurd h

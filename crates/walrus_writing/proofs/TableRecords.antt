@@ -1,11 +1,10 @@
 -- A table as a record: what a refusal of the type of its elements or its initialiser says of it, and what both parts say together.
 use Rattle.std.proofs.Common.{◌≡◌, ℕ, List, false, refl, sym, ap, ◌∙◌, subst}
 use Rattle.std.specs.Prelude.{Option, Some, None, Ok, Err, option_map}
-use Rattle.std.specs.Global.{Vec}
 use Rattle.wasm_forms.specs.Reading.{◌>>=◌}
-use Rattle.wasm_entries.specs.Record.{table_entry}
+use Rattle.wasm_entries.specs.Record.{expression, table_entry}
 use Rattle.wasm_entries.specs.Spelling.{TableStands}
-use Rattle.wasm_entries.specs.declared.record.RawConst.{RawConst}
+use Rattle.wasm_entries.specs.declared.record.RawExpression.{RawExpression}
 use Rattle.wasm_entries.specs.declared.record.RawTable.{RawTable}
 use Rattle.walrus_base.specs.Types.{RefType}
 use Rattle.walrus_types.specs.Operators.{Op}
@@ -45,7 +44,7 @@ module _ (names : Lookup) (t : Table) where
   type_refused view Ir.Malformed u = absurd u
   type_refused view Ir.TooLarge u = absurd u
 
-  const_refused : (ops : List Op) (e : IrError) → t.initialiser ≡ Some ops → IndexesConst {X = Vec RawConst} (λ raw. consts_of raw.items) names ops (Err e) → IndexesTable names t (Err e)
+  const_refused : (ops : List Op) (e : IrError) → t.initialiser ≡ Some ops → IndexesConst {X = RawExpression} (λ raw. consts_of (expression raw)) names ops (Err e) → IndexesTable names t (Err e)
   const_refused ops Ir.NoIndex is lacks =
       found_by (named_ref names t.ty.element) refl None (ap (named_initialiser names) is ∙ ap (λ (o : Option (List Op)). o >>= λ found. Some (Some found)) (not_found names ops lacks))
       ∙ nothing_behind (named_ref names t.ty.element)
@@ -64,10 +63,10 @@ module _ (names : Lookup) (t : Table) where
   spelled_by not_exact spelled (ExactElement exact) = none_there (sym not_exact ∙ exact)
   spelled_by not_exact spelled (UnspelledInitialiser ops at unspelled) = spelled ops at unspelled
 
-  abbrev initial_of : Option (Vec RawConst) → Option (List Op)
-  initial_of raw = option_map consts_of (option_map (λ ops. ops.items) raw)
+  abbrev initial_of : Option RawExpression → Option (List Op)
+  initial_of raw = option_map consts_of (option_map expression raw)
 
-  initial_found : (raw : Option (Vec RawConst)) (o : Option (List Op)) → t.initialiser ≡ o → IndexesInitial names o (Ok raw)
+  initial_found : (raw : Option RawExpression) (o : Option (List Op)) → t.initialiser ≡ o → IndexesInitial names o (Ok raw)
       → (named_initialiser names t.initialiser ≡ Some (initial_of raw)) × ((ops : List Op) → t.initialiser ≡ Some ops → IsUnspelled ops → ⊥)
   initial_found None None is h = (ap (named_initialiser names) is, λ ops at u. none_some ops (sym is ∙ at))
   initial_found (Some raw) None is h = absurd (cc)

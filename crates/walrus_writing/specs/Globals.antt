@@ -1,9 +1,8 @@
 -- What is answered where a global that the module defines is written as a record.
 use Rattle.std.specs.Prelude.{◌≡◌, ⊤, List, true, Option, Some, None, Result, Ok, Err, Contains}
-use Rattle.std.specs.Global.{Vec}
-use Rattle.wasm_entries.specs.Record.{global_entry}
+use Rattle.wasm_entries.specs.Record.{expression, global_entry}
 use Rattle.wasm_entries.specs.Spelling.{GlobalStands}
-use Rattle.wasm_entries.specs.declared.record.RawConst.{RawConst}
+use Rattle.wasm_entries.specs.declared.record.RawExpression.{RawExpression}
 use Rattle.wasm_entries.specs.declared.record.RawGlobal.{RawGlobal}
 use Rattle.walrus_types.specs.Operators.{Op}
 use Rattle.walrus_code.specs.Names.{Lookup}
@@ -26,9 +25,9 @@ pub data GlobalIsUnspelled (g : Global) : Type 0 where
   UnspelledInitialiser : (ops : List Op) → g.initialiser ≡ Some ops → IsUnspelled ops → GlobalIsUnspelled g
 
 -- an initialiser, where there is one
-abbrev pub IndexesInitialiser : Lookup → Option (List Op) → Result (Vec RawConst) IrError → Type 0
+abbrev pub IndexesInitialiser : Lookup → Option (List Op) → Result RawExpression IrError → Type 0
 IndexesInitialiser names None result = ⊥
-IndexesInitialiser names (Some ops) result = IndexesConst (λ raw. consts_of raw.items) names ops result
+IndexesInitialiser names (Some ops) result = IndexesConst (λ raw. consts_of (expression raw)) names ops result
 
 -- the record is that of the global under the look-up; refused only with a cause, and never Ok with one
 abbrev pub IndexesGlobal : Lookup → Global → Result RawGlobal IrError → Type 0

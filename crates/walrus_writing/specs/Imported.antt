@@ -128,12 +128,12 @@ ImportLacksIndex names v x = (thing : Thing x.item.0) × (look v x.item.0 x.item
 abbrev pub ImportIsExact : Abstract → Import → Type 0
 ImportIsExact v x = (thing : Thing x.item.0) × (look v x.item.0 x.item.1 ≡ Some thing) × (is_exact_thing x.item.0 thing ≡ true)
 
--- the entry of an import; refused only with a cause
+-- the entry of an import; refused only with a cause, or for want of memory
 abbrev pub IndexesImport : Lookup → Abstract → Import → Result RawImport IrError → Type 0
 IndexesImport names v x (Ok raw) = IsEntryOf names v x (import_entry raw)
 IndexesImport names v x (Err NoIndex) = ImportLacksIndex names v x
 IndexesImport names v x (Err NotWritable) = ImportIsExact v x
-IndexesImport names v x (Err (Memory e)) = ⊥
+IndexesImport names v x (Err (Memory e)) = ⊤
 IndexesImport names v x (Err Malformed) = ⊥
 IndexesImport names v x (Err TooLarge) = ⊥
 

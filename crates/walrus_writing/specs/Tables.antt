@@ -1,9 +1,8 @@
 -- What is answered where a table that the module defines is written as a record.
 use Rattle.std.specs.Prelude.{◌≡◌, ⊤, List, true, Option, Some, None, Result, Ok, Err, Contains}
-use Rattle.std.specs.Global.{Vec}
-use Rattle.wasm_entries.specs.Record.{table_entry}
+use Rattle.wasm_entries.specs.Record.{expression, table_entry}
 use Rattle.wasm_entries.specs.Spelling.{TableStands}
-use Rattle.wasm_entries.specs.declared.record.RawConst.{RawConst}
+use Rattle.wasm_entries.specs.declared.record.RawExpression.{RawExpression}
 use Rattle.wasm_entries.specs.declared.record.RawTable.{RawTable}
 use Rattle.walrus_types.specs.Operators.{Op}
 use Rattle.walrus_code.specs.Names.{Lookup}
@@ -26,11 +25,11 @@ pub data TableIsUnspelled (t : Table) : Type 0 where
   UnspelledInitialiser : (ops : List Op) → t.initialiser ≡ Some ops → IsUnspelled ops → TableIsUnspelled t
 
 -- an initialiser, if there is one
-abbrev pub IndexesInitial : Lookup → Option (List Op) → Result (Option (Vec RawConst)) IrError → Type 0
+abbrev pub IndexesInitial : Lookup → Option (List Op) → Result (Option RawExpression) IrError → Type 0
 IndexesInitial names None result = result ≡ Ok None
 IndexesInitial names (Some ops) (Ok None) = ⊥
-IndexesInitial names (Some ops) (Ok (Some raw)) = IndexesConst (λ r. consts_of r.items) names ops (Ok raw)
-IndexesInitial names (Some ops) (Err e) = IndexesConst {X = Vec RawConst} (λ r. consts_of r.items) names ops (Err e)
+IndexesInitial names (Some ops) (Ok (Some raw)) = IndexesConst (λ r. consts_of (expression r)) names ops (Ok raw)
+IndexesInitial names (Some ops) (Err e) = IndexesConst {X = RawExpression} (λ r. consts_of (expression r)) names ops (Err e)
 
 -- the record is that of the table under the look-up; refused only with a cause, and never Ok with one
 abbrev pub IndexesTable : Lookup → Table → Result RawTable IrError → Type 0

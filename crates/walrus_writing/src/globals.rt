@@ -1,6 +1,6 @@
 //! The globals that a module defines, as records ("Binary Format > Modules > Global Section").
 ghost use Rattle.std.specs.Prelude.{◌≡◌, None, Some, IsSome, IfOk, IfErr, All, map, option_map};
-ghost use Rattle.wasm_entries.specs.Record.{global_entry};
+ghost use Rattle.wasm_entries.specs.Record.{expression, global_entry};
 ghost use Rattle.wasm_entries.specs.Spelling.{ExpressionStands, GlobalStands};
 ghost use Rattle.walrus_base.specs.Arena.{items};
 ghost use Rattle.walrus_code.specs.Indices.{index_of};
@@ -19,18 +19,18 @@ use walrus_ir::{IdsToIndices, IrError};
 use walrus_items::{GlobalKind, ModuleGlobals};
 use walrus_parts::Error;
 use walrus_plan::global_import;
-use wasm_wire::{RawConst, RawGlobal, RawGlobalType};
+use wasm_wire::{RawExpression, RawGlobal, RawGlobalType};
 
 // The initialiser of a global that the module defines, over indices.
 fn raw_initialiser(
     alloc: Global,
     kind: &GlobalKind,
     indices: &IdsToIndices,
-) -> Result<Vec<RawConst>, IrError>
+) -> Result<RawExpression, IrError>
     requires own { global_import kind.now ≡ None }
     ensures indexed { IndexesInitialiser (index_of indices.now)
         (option_map const_ops (global_init kind.now)) result }
-    ensures spelled { IfOk result (λ raw. ExpressionStands raw.items) }
+    ensures spelled { IfOk result (λ raw. ExpressionStands (expression raw)) }
 {
     match kind {
         GlobalKind::Local(expr) => raw_const(alloc, expr, indices),

@@ -109,8 +109,10 @@ fn raw_desc(parts: Parts<'_>, kind: ImportKind, indices: &IdsToIndices) -> Resul
 ///
 /// # Errors
 ///
-/// [`IrError::NoIndex`] where a type that this item names has no index, and [`IrError::NotWritable`] where no bytes spell the item's type.
+/// [`IrError::NoIndex`] where a type that this item names has no index, [`IrError::NotWritable`] where no bytes spell the item's type, and
+/// [`IrError::Memory`].
 pub fn raw_import<'a>(
+    alloc: Global,
     parts: Parts<'_>,
     import: &'a Import,
     indices: &IdsToIndices,
@@ -120,11 +122,8 @@ pub fn raw_import<'a>(
         (import_of (import_value import.now)) result }
 {
     let desc = raw_desc(parts, import.kind, indices)?;
-    Ok(RawImport {
-        from: import.module.as_str(),
-        name: import.name.as_str(),
-        desc,
-    })
+    let raw = RawImport::new(alloc, import.module.as_str(), import.name.as_str(), desc)?;
+    Ok(raw)
 }
 
 /// The records of the imports, by rising id.
@@ -147,7 +146,7 @@ pub fn raw_imports<'a>(
 {
     let mut raw = Vec::with_capacity(alloc, parts.imports.next_id().index())?;
     for (_, import) in parts.imports.iter_entries() {
-        let one = raw_import(parts, import, indices)?;
+        let one = raw_import(alloc, parts, import, indices)?;
         raw.push(one)?;
     }
     Ok(raw)

@@ -1,6 +1,6 @@
 //! The tables that a module defines, as records ("Binary Format > Modules > Table Section").
 ghost use Rattle.std.specs.Prelude.{◌≡◌, None, Some, IsSome, IfOk, IfErr, All, map, option_map};
-ghost use Rattle.wasm_entries.specs.Record.{table_entry};
+ghost use Rattle.wasm_entries.specs.Record.{expression, table_entry};
 ghost use Rattle.wasm_entries.specs.Spelling.{InitialStands, TableStands};
 ghost use Rattle.wasm_entries.specs.TypeSpelling.{TableTypeStands};
 ghost use Rattle.wasm_forms.specs.Types.{HeapStands};
@@ -23,7 +23,7 @@ use walrus_constants::raw_const;
 use walrus_ir::{ConstExpr, IdsToIndices, IrError, RefType, ValType};
 use walrus_items::{ModuleTables, Table};
 use walrus_parts::Error;
-use wasm_wire::{RawConst, RawRef, RawTable, RawTableType, RawVal};
+use wasm_wire::{RawExpression, RawRef, RawTable, RawTableType, RawVal};
 
 /// The type of the elements of a table, or of what a segment holds.
 pub(crate) fn raw_reference(ty: RefType, indices: &IdsToIndices) -> Result<RawRef, IrError>
@@ -62,9 +62,9 @@ fn raw_initial(
     alloc: Global,
     init: &Option<ConstExpr>,
     indices: &IdsToIndices,
-) -> Result<Option<Vec<RawConst>>, IrError>
+) -> Result<Option<RawExpression>, IrError>
     ensures indexed { IndexesInitial (index_of indices.now) (option_map const_ops init.now) result }
-    ensures spelled { IfOk result (λ raw. InitialStands (option_map (λ ops. ops.items) raw)) }
+    ensures spelled { IfOk result (λ raw. InitialStands (option_map expression raw)) }
 {
     match init {
         None => Ok(None),

@@ -3,7 +3,7 @@ use Rattle.std.proofs.Common.{◌≡◌, ℕ, Bool, true, false, Decides, List, 
 use Rattle.std.specs.Prelude.{All}
 use Rattle.walrus_base.specs.Types.{ValType}
 use Rattle.walrus_types.specs.Operators.{Op, locals_of}
-use Rattle.walrus_code.specs.Names.{named_op, named_ops}
+use Rattle.walrus_code.specs.Names.{named_ops}
 use Rattle.wasm_bodies.specs.Comparing.{itself, HasItsType, IsCopied}
 
 pub empty : {T : Type 0} (xs : List T) → length xs ≡ 0 → xs ≡ []

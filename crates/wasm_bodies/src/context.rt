@@ -97,7 +97,7 @@ fn kind_of(desc: &RawDesc) -> Kind {
 fn imported(imports: &[RawImport<'_>], kind: Kind) -> usize {
     imports
         .iter()
-        .filter(|import| kind_of(&import.desc) == kind)
+        .filter(|import| kind_of(&import.desc()) == kind)
         .count()
 }
 
@@ -149,7 +149,7 @@ fn push_imported_tags(
     indices: &IndicesToIds,
 ) -> Result<(), IrError> {
     for import in imports {
-        if let RawDesc::Tag(ty) = import.desc {
+        if let RawDesc::Tag(ty) = import.desc() {
             push_type(to, ty, indices)?;
         }
     }

@@ -13,9 +13,9 @@ use Rattle.wasm_payloads.specs.Sink.{Handed, after_all}
 use Rattle.wasm_wire.specs.Context.{imported, desc_function}
 use Rattle.wasm_copy.specs.Listing.{IsListed, of_names, AreListed, naming_line}
 
-pub imported_entries : (xs : List RawImport) → imported desc_function (map import_entry xs) ≡ filter_map (λ i. desc_function i.desc) xs
+pub imported_entries : (xs : List RawImport) → imported desc_function (map import_entry xs) ≡ filter_map (λ i. desc_function (import_entry i).desc) xs
 imported_entries [] = refl
-imported_entries (x ∷ xs) = ap (λ tail. cons_option (desc_function x.desc) tail) (imported_entries xs)
+imported_entries (x ∷ xs) = ap (λ tail. cons_option (desc_function (import_entry x).desc) tail) (imported_entries xs)
 
 told : (names : List Named) (text : List ℕ) → after_all (λ t n. t ++ naming_line n) text names ≡ text ++ row_bytes naming_line names
 told [] text = sym (append-nil text)

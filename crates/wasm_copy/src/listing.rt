@@ -3,6 +3,7 @@
 ghost use Rattle.std.specs.Prelude.{◌≡◌, ◌≤◌, ◌+◌, ◌++◌, ℕ, List, length, map, filter_map, string_bytes, alloc_error, IfOk, OnOk};
 ghost use Rattle.wasm_forms.specs.Spelling.{row_bytes};
 ghost use Rattle.wasm_forms.specs.declared.error.WireError.TheVariants.{Memory};
+ghost use Rattle.wasm_entries.specs.Record.{import_entry};
 ghost use Rattle.wasm_frames.specs.Record.{custom_record, sections};
 ghost use Rattle.wasm_payloads.specs.Names.{named};
 ghost use Rattle.wasm_payloads.specs.Producers.{field_record};
@@ -132,12 +133,12 @@ fn imported_function(desc: &RawDesc) -> Option<u32>
 }
 
 fn count_imported(imports: &[RawImport<'_>]) -> usize
-    ensures value { result ≡ length (filter_map (λ i. desc_function i.desc) imports.now) }
+    ensures value { result ≡ length (filter_map (λ i. desc_function (import_entry i).desc) imports.now) }
     ensures bound { result ≤ length imports.now }
 {
     imports
         .iter()
-        .filter_map(|import| imported_function(&import.desc))
+        .filter_map(|import| imported_function(&import.desc()))
         .count()
 }
 

@@ -48,6 +48,16 @@ pub until_turn : {A : Type 0} (p : Choice A) (stop most b : ℕ) (bytes after re
 until_turn p stop most b bytes after rest done x e h s =
     until_else p stop most b bytes after done false e h ∙ ap (λ o. (o >>= then_until p stop most) >>= behind done) s ∙ behind_more done x (until_at p stop most rest)
 
+-- one operator and the byte that stops
+pub until_single : {A : Type 0} (p : Choice A) (stop most b e : ℕ) (bytes after behind rest : List ℕ) (x : A) → byte_at bytes ≡ Some (b, after) → nat_eq b stop ≡ false → p b after ≡ Some (x, behind) → byte_at behind ≡ Some (e, rest) → nat_eq e stop ≡ true
+    → until_at p stop (suc (suc most)) bytes ≡ Some (x ∷ [], rest)
+until_single p stop most b e bytes after behind rest x first other operator second ends =
+    until_more p stop (suc most) bytes ∙ ap (λ o. o >>= led_until p stop (suc most)) first
+    ∙ ap (λ t. if t then Some ([], after) else (p b after >>= then_until p stop (suc most))) other
+    ∙ ap (λ o. o >>= then_until p stop (suc most)) operator
+    ∙ ap (λ o. o >>= λ xs. Some (x ∷ xs.0, xs.1))
+    (until_more p stop most behind ∙ ap (λ o. o >>= led_until p stop most) second ∙ ap (λ t. if t then Some ([], rest) else (p e rest >>= then_until p stop most)) ends)
+
 pub until_out : {A : Type 0} (p : Choice A) (stop : ℕ) (bytes : List ℕ) (done : List A) → (until_at p stop zero bytes >>= behind done) ≡ None
 unfolding until_at
 until_out p stop bytes done = refl

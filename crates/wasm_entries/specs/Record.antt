@@ -1,5 +1,5 @@
 -- The entries of a module's sections without where they lie in memory ("Structure > Modules").
-use Rattle.std.specs.Prelude.{ℕ, Bool, List, map, Option, option_map}
+use Rattle.std.specs.Prelude.{ℕ, Bool, List, [], ◌∷◌, map, Option, option_map}
 use Rattle.std.specs.Global.{Vec}
 use Rattle.wasm_forms.specs.declared.types.RawVal.{RawVal}
 use Rattle.wasm_forms.specs.declared.types.RawRef.{RawRef}
@@ -11,8 +11,13 @@ use Rattle.wasm_entries.specs.declared.record.RawSub.{RawSub}
 use Rattle.wasm_entries.specs.declared.record.RawTableType.{RawTableType}
 use Rattle.wasm_entries.specs.declared.record.RawGlobalType.{RawGlobalType}
 use Rattle.wasm_entries.specs.declared.record.RawDesc.{RawDesc}
+use Rattle.wasm_entries.specs.declared.record.RawDesc.TheVariants as descs
 use Rattle.wasm_entries.specs.declared.record.RawImport.{RawImport}
 use Rattle.wasm_entries.specs.declared.record.RawConst.{RawConst}
+use Rattle.wasm_entries.specs.declared.record.RawExpression.{RawExpression}
+use Rattle.wasm_entries.specs.declared.record.RawExpression.TheVariants as expressions
+use Rattle.wasm_entries.specs.declared.record.HeldDesc.{HeldDesc}
+use Rattle.wasm_entries.specs.declared.record.HeldDesc.TheVariants as held
 use Rattle.wasm_entries.specs.declared.record.RawTable.{RawTable}
 use Rattle.wasm_entries.specs.declared.record.RawGlobal.{RawGlobal}
 use Rattle.wasm_entries.specs.declared.record.RawExportKind.{RawExportKind}
@@ -113,23 +118,31 @@ sub s = record { is_final = s.is_final; supers = s.supers.items; comp = comp s.c
 abbrev pub group : Vec RawSub → Group
 group g = map sub g.items
 
-abbrev pub expression : Vec RawConst → Expression
-expression e = e.items
+abbrev pub expression : RawExpression → Expression
+expression (expressions.Single operator) = operator ∷ []
+expression (expressions.Listed operators) = operators.items
+
+abbrev pub held_desc : HeldDesc → RawDesc
+held_desc (held.Function ty) = descs.Function ty
+held_desc (held.Table ty) = descs.Table ty.value
+held_desc (held.Memory limits) = descs.Memory limits.value
+held_desc (held.Global ty) = descs.Global ty.value
+held_desc (held.Tag ty) = descs.Tag ty
 
 abbrev pub import_entry : RawImport → Import
-import_entry i = record { from = i.from.now; name = i.name.now; desc = i.desc }
+import_entry i = record { from = i.from.now; name = i.name.now; desc = held_desc i.held }
 
 abbrev pub table_entry : RawTable → Table
 table_entry t = record { ty = t.ty; initial = option_map expression t.initial }
 
 abbrev pub global_entry : RawGlobal → Global
-global_entry g = record { ty = g.ty; initial = g.initial.items }
+global_entry g = record { ty = g.ty; initial = expression g.initial }
 
 abbrev pub export_entry : RawExport → Export
 export_entry e = record { name = e.name.now; kind = e.kind; index = e.index }
 
 abbrev pub element_mode : RawElementMode → ElementMode
-element_mode (element_modes.Active table offset) = ActiveElements table offset.items
+element_mode (element_modes.Active table offset) = ActiveElements table (expression offset)
 element_mode element_modes.Passive = PassiveElements
 element_mode element_modes.Declared = DeclaredElements
 
@@ -141,7 +154,7 @@ abbrev pub element_entry : RawElement → Element
 element_entry e = record { mode = element_mode e.mode; items = items_of e.items }
 
 abbrev pub data_mode : RawDataMode → DataMode
-data_mode (data_modes.Active memory offset) = ActiveData memory offset.items
+data_mode (data_modes.Active memory offset) = ActiveData memory (expression offset)
 data_mode data_modes.Passive = PassiveData
 
 abbrev pub data_entry : RawData → Segment

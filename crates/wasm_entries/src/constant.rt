@@ -1,13 +1,13 @@
 //! Constant expressions (Binary Format > Instructions > Expressions), read.
 
-ghost use Rattle.std.specs.Prelude.{map};
+ghost use Rattle.std.specs.Prelude.{map, ◌≡◌, ◌∷◌, [], IfSome, Some};
 ghost use Rattle.wasm_forms.specs.Reading.{Gives};
 ghost use Rattle.wasm_forms.specs.Grammar.{F32, F64, ◌then◌, Made, Row, S32, S64, U32, Until, Vector, at};
 ghost use Rattle.wasm_entries.specs.declared.record.RawConst.TheVariants as ops;
 ghost use Rattle.wasm_entries.specs.Record.{expression};
 ghost use Rattle.wasm_entries.specs.Forms.{prefixed, vector_op, const_from, expression_form};
 
-use crate::record::RawConst;
+use crate::record::{RawConst, RawExpression};
 use std::alloc::Global;
 use wasm_forms::{
     WireError, read_byte, read_f32, read_f64, read_heap_type, read_s32, read_s64, read_u32,
@@ -149,11 +149,33 @@ fn read_const_from(first: u8, bytes: &[u8]) -> Result<(RawConst, &[u8]), WireErr
     }
 }
 
+/// The one operator that stands before the byte 0B, where one does.
+fn take_single(bytes: &[u8]) -> Option<(RawConst, &[u8])>
+    ensures { IfSome result (λ r. at (Until END const_from) bytes.now ≡ Some (r.0 ∷ [], r.1.now)) }
+{
+    if bytes.len() < 2 {
+        return None;
+    }
+    let Ok((first, after)) = read_byte(bytes) else {
+        return None;
+    };
+    let Ok((operator, behind)) = read_const_from(first, after) else {
+        return None;
+    };
+    let Ok((end, rest)) = read_byte(behind) else {
+        return None;
+    };
+    if u32::from(end) != END {
+        return None;
+    }
+    Some((operator, rest))
+}
+
 /// Operators up to the byte 0B.
 fn take_operators(alloc: Global, bytes: &[u8]) -> Result<(Vec<RawConst>, &[u8]), WireError>
     ensures { Gives (λ r. (r.0.items, r.1.now)) result (at (Until END const_from) bytes.now) }
 {
-    let mut operators = Vec::with_capacity(alloc, 1)?;
+    let mut operators = Vec::new(alloc);
     let mut rest = bytes;
     'operators: for _turn in 0..bytes.len() {
         let (first, after) = read_byte(rest)?;
@@ -172,14 +194,17 @@ fn take_operators(alloc: Global, bytes: &[u8]) -> Result<(Vec<RawConst>, &[u8]),
 ///
 /// Refused as [`WireError::Malformed`] where none stands in front.
 #[tactic(auto, unfolding(crate::specs::Forms::expression_form))]
-pub fn read_expression(alloc: Global, bytes: &[u8]) -> Result<(Vec<RawConst>, &[u8]), WireError>
+pub fn read_expression(alloc: Global, bytes: &[u8]) -> Result<(RawExpression, &[u8]), WireError>
     ensures { Gives (λ r. (expression r.0, r.1.now)) result (at expression_form bytes.now) }
 {
+    if let Some((operator, rest)) = take_single(bytes) {
+        return Ok((RawExpression::Single(operator), rest));
+    }
     let (operators, rest) = take_operators(alloc, bytes)?;
     if operators.is_empty() {
         return Err(WireError::Malformed);
     }
-    Ok((operators, rest))
+    Ok((RawExpression::Listed(operators), rest))
 }
 
 /// So many expressions, one after another.
@@ -187,7 +212,7 @@ fn take_expressions(
     alloc: Global,
     count: u32,
     bytes: &[u8],
-) -> Result<(Vec<Vec<RawConst>>, &[u8]), WireError>
+) -> Result<(Vec<RawExpression>, &[u8]), WireError>
     ensures { Gives (λ r. (map expression r.0.items, r.1.now)) result
         (at (Row expression_form count) bytes.now) }
 {
@@ -209,7 +234,7 @@ fn take_expressions(
 pub fn read_expressions(
     alloc: Global,
     bytes: &[u8],
-) -> Result<(Vec<Vec<RawConst>>, &[u8]), WireError>
+) -> Result<(Vec<RawExpression>, &[u8]), WireError>
     ensures { Gives (λ r. (map expression r.0.items, r.1.now)) result
         (at (Vector expression_form) bytes.now) }
 {

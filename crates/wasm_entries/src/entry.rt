@@ -69,11 +69,12 @@ impl<'a> Element<'a> for RawImport<'a> {
     ghost form = { import_form };
 
     #[tactic(auto, unfolding(crate::specs::Forms::import_form))]
-    fn read(_alloc: Global, bytes: &'a [u8]) -> Result<(RawImport<'a>, &'a [u8]), WireError> {
+    fn read(alloc: Global, bytes: &'a [u8]) -> Result<(RawImport<'a>, &'a [u8]), WireError> {
         let (from, behind) = read_name(bytes)?;
         let (name, after) = read_name(behind)?;
         let (desc, rest) = read_desc(after)?;
-        Ok((RawImport { from, name, desc }, rest))
+        let import = RawImport::new(alloc, from, name, desc)?;
+        Ok((import, rest))
     }
 }
 
@@ -91,9 +92,14 @@ fn read_table_from(alloc: Global, first: u8, bytes: &[u8]) -> Result<(RawTable, 
         return Err(WireError::Malformed);
     }
     let (ty, after) = read_table_type(behind)?;
-    let (operators, rest) = read_expression(alloc, after)?;
-    let initial = Some(operators);
-    Ok((RawTable { ty, initial }, rest))
+    let (initial, rest) = read_expression(alloc, after)?;
+    Ok((
+        RawTable {
+            ty,
+            initial: Some(initial),
+        },
+        rest,
+    ))
 }
 
 impl<'a> Element<'a> for RawTable {
@@ -198,7 +204,7 @@ impl<'a> Written for RawImport<'a> {
     fn write(&self, to: &mut Vec<u8>) -> Result<(), WireError> {
         write_name(to, self.from)?;
         write_name(to, self.name)?;
-        write_desc(to, &self.desc)
+        write_desc(to, &self.desc())
     }
 }
 
@@ -210,11 +216,11 @@ impl Written for RawTable {
     fn write(&self, to: &mut Vec<u8>) -> Result<(), WireError> {
         match &self.initial {
             None => write_table_type(to, &self.ty),
-            Some(operators) => {
+            Some(initial) => {
                 to.push(TABLE_WITH_INITIAL)?;
                 to.push(0)?;
                 write_table_type(to, &self.ty)?;
-                write_expression(to, operators)
+                write_expression(to, initial.operators())
             }
         }
     }
@@ -227,7 +233,7 @@ impl Written for RawGlobal {
 
     fn write(&self, to: &mut Vec<u8>) -> Result<(), WireError> {
         write_global_type(to, &self.ty)?;
-        write_expression(to, &self.initial)
+        write_expression(to, self.initial.operators())
     }
 }
 

@@ -30,7 +30,7 @@ pub use limits::{
 pub use operator::{write_expression, write_expressions};
 pub use record::{
     RawComp, RawConst, RawData, RawDataMode, RawDesc, RawElement, RawElementMode, RawExport,
-    RawExportKind, RawFieldType, RawFuncType, RawGlobal, RawGlobalType, RawGroup, RawImport,
-    RawItems, RawLimits, RawStorage, RawSub, RawTable, RawTableType,
+    RawExportKind, RawExpression, RawFieldType, RawFuncType, RawGlobal, RawGlobalType, RawGroup,
+    RawImport, RawItems, RawLimits, RawStorage, RawSub, RawTable, RawTableType,
 };
 pub use wasm_forms::{RawHeap, RawRef, RawVal, WireError};

@@ -7,7 +7,7 @@ ghost use Rattle.wasm_forms.specs.Types.{heap_bytes};
 ghost use Rattle.wasm_entries.specs.Record.{expression};
 ghost use Rattle.wasm_entries.specs.Spelling.{const_bytes, expression_bytes};
 
-use crate::record::RawConst;
+use crate::record::{RawConst, RawExpression};
 use wasm_forms::{
     RawHeap, WireError, write_f32, write_f64, write_heap_type, write_s32, write_s64, write_u32,
 };
@@ -201,7 +201,7 @@ pub fn write_expression(to: &mut Vec<u8>, operators: &[RawConst]) -> Result<(), 
 }
 
 /// Writes expressions one after another.
-fn write_each(to: &mut Vec<u8>, expressions: &[Vec<RawConst>]) -> Result<(), WireError>
+fn write_each(to: &mut Vec<u8>, expressions: &[RawExpression]) -> Result<(), WireError>
     ensures adds { Adds result to.old.items to.new.items
         (row_bytes expression_bytes (map expression expressions.now)) (Unit {0}) }
     ensures room { TakesRoom result to.old to.new
@@ -209,7 +209,7 @@ fn write_each(to: &mut Vec<u8>, expressions: &[Vec<RawConst>]) -> Result<(), Wir
     ensures keeps { Keeps to.old.items to.new.items }
 {
     'expressions: for listed in expressions {
-        write_expression(to, listed)?;
+        write_expression(to, listed.operators())?;
     }
     Ok(())
 }
@@ -220,7 +220,7 @@ fn write_each(to: &mut Vec<u8>, expressions: &[Vec<RawConst>]) -> Result<(), Wir
 /// # Errors
 ///
 /// `TooLarge` exactly where there are 2^32 expressions or more, and `Memory`.
-pub fn write_expressions(to: &mut Vec<u8>, expressions: &[Vec<RawConst>]) -> Result<(), WireError>
+pub fn write_expressions(to: &mut Vec<u8>, expressions: &[RawExpression]) -> Result<(), WireError>
     ensures adds { Adds result to.old.items to.new.items
         (vector_bytes expression_bytes (map expression expressions.now)) (FitsLength expressions.now) }
     ensures room { TakesRoom result to.old to.new

@@ -1,5 +1,10 @@
 //! The entries of a module's sections, as they are read and written. Names and bytes are borrowed from the input.
 
+ghost use Rattle.std.specs.Prelude.{◌≡◌, IfOk};
+ghost use Rattle.wasm_entries.specs.Record.{expression};
+
+use std::alloc::{AllocError, Global};
+use std::slice;
 use wasm_forms::{RawHeap, RawRef, RawVal};
 
 /// What a field of a struct or an array holds (Binary Format > Types > Composite Types, storage types).
@@ -79,12 +84,75 @@ pub enum RawDesc {
     Tag(u32),
 }
 
+// The same in 16 bytes: what has more stands in a block of its own.
+#[derive(Debug, PartialEq, Eq, Drop)]
+enum HeldDesc {
+    Function(u32),
+    Table(Box<RawTableType>),
+    Memory(Box<RawLimits>),
+    Global(Box<RawGlobalType>),
+    Tag(u32),
+}
+
+impl HeldDesc {
+    ghost use Rattle.wasm_entries.specs.Record.{held_desc};
+
+    fn of(alloc: Global, desc: RawDesc) -> Result<HeldDesc, AllocError>
+        ensures { IfOk result (λ held. held_desc held ≡ desc) }
+    {
+        match desc {
+            RawDesc::Function(ty) => Ok(HeldDesc::Function(ty)),
+            RawDesc::Table(ty) => Ok(HeldDesc::Table(Box::new(alloc, ty)?)),
+            RawDesc::Memory(limits) => Ok(HeldDesc::Memory(Box::new(alloc, limits)?)),
+            RawDesc::Global(ty) => Ok(HeldDesc::Global(Box::new(alloc, ty)?)),
+            RawDesc::Tag(ty) => Ok(HeldDesc::Tag(ty)),
+        }
+    }
+
+    fn desc(&self) -> RawDesc
+        ensures { result ≡ held_desc self.now }
+    {
+        match self {
+            HeldDesc::Function(ty) => RawDesc::Function(*ty),
+            HeldDesc::Table(ty) => RawDesc::Table(**ty),
+            HeldDesc::Memory(limits) => RawDesc::Memory(**limits),
+            HeldDesc::Global(ty) => RawDesc::Global(**ty),
+            HeldDesc::Tag(ty) => RawDesc::Tag(*ty),
+        }
+    }
+}
+
 /// An import: its two names, and what it brings (Binary Format > Modules > Import Section).
-#[derive(Clone, Copy, Debug, PartialEq, Eq)]
+#[derive(Debug, PartialEq, Eq, Drop)]
 pub struct RawImport<'a> {
     pub from: &'a str,
     pub name: &'a str,
-    pub desc: RawDesc,
+    held: HeldDesc,
+}
+
+impl<'a> RawImport<'a> {
+    ghost use Rattle.wasm_entries.specs.Record.{import_entry};
+
+    /// The import of these names that brings this. It takes memory for all but a function and a tag.
+    pub fn new(
+        alloc: Global,
+        from: &'a str,
+        name: &'a str,
+        desc: RawDesc,
+    ) -> Result<RawImport<'a>, AllocError>
+        ensures { IfOk result (λ import. import_entry import
+            ≡ record { from = from.now; name = name.now; desc = desc }) }
+    {
+        let held = HeldDesc::of(alloc, desc)?;
+        Ok(RawImport { from, name, held })
+    }
+
+    /// What it brings.
+    pub fn desc(&self) -> RawDesc
+        ensures { result ≡ (import_entry self.now).desc }
+    {
+        self.held.desc()
+    }
 }
 
 /// An instruction of a constant expression (Binary Format > Instructions > Expressions). Floats are given by their bits.
@@ -114,18 +182,37 @@ pub enum RawConst {
     RefI31,
 }
 
+/// A constant expression (Binary Format > Instructions > Expressions). One of a single operator takes no memory; no other one is held so.
+#[derive(Debug, PartialEq, Eq, Drop)]
+pub enum RawExpression {
+    Single(RawConst),
+    Listed(Vec<RawConst>),
+}
+
+impl RawExpression {
+    /// Its operators, in order.
+    pub fn operators(&self) -> &[RawConst]
+        ensures { result.now ≡ expression self.now }
+    {
+        match self {
+            RawExpression::Single(operator) => slice::from_ref(operator),
+            RawExpression::Listed(operators) => operators.as_slice(),
+        }
+    }
+}
+
 /// A table of the module, with its initialiser where it has one (Binary Format > Modules > Table Section).
 #[derive(Debug, PartialEq, Eq, Drop)]
 pub struct RawTable {
     pub ty: RawTableType,
-    pub initial: Option<Vec<RawConst>>,
+    pub initial: Option<RawExpression>,
 }
 
 /// A global of the module (Binary Format > Modules > Global Section).
 #[derive(Debug, PartialEq, Eq, Drop)]
 pub struct RawGlobal {
     pub ty: RawGlobalType,
-    pub initial: Vec<RawConst>,
+    pub initial: RawExpression,
 }
 
 /// What kind of item an export names (Binary Format > Modules > Export Section).
@@ -150,7 +237,7 @@ pub struct RawExport<'a> {
 /// (Binary Format > Modules > Element Section, flags 0 and 4).
 #[derive(Debug, PartialEq, Eq, Drop)]
 pub enum RawElementMode {
-    Active(Option<u32>, Vec<RawConst>),
+    Active(Option<u32>, RawExpression),
     Passive,
     Declared,
 }
@@ -159,7 +246,7 @@ pub enum RawElementMode {
 #[derive(Debug, PartialEq, Eq, Drop)]
 pub enum RawItems {
     Functions(Vec<u32>),
-    Expressions(RawRef, Vec<Vec<RawConst>>),
+    Expressions(RawRef, Vec<RawExpression>),
 }
 
 /// A segment of elements (Binary Format > Modules > Element Section).
@@ -172,7 +259,7 @@ pub struct RawElement {
 /// When a segment of data is used.
 #[derive(Debug, PartialEq, Eq, Drop)]
 pub enum RawDataMode {
-    Active(u32, Vec<RawConst>),
+    Active(u32, RawExpression),
     Passive,
 }
 

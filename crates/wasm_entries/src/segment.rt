@@ -11,7 +11,7 @@ ghost use Rattle.wasm_entries.specs.Spelling.{element_spelled, element_bytes, da
 
 use crate::constant::{read_expression, read_expressions};
 use crate::operator::{write_expression, write_expressions};
-use crate::record::{RawConst, RawData, RawDataMode, RawElement, RawElementMode, RawItems};
+use crate::record::{RawData, RawDataMode, RawElement, RawElementMode, RawExpression, RawItems};
 use std::alloc::Global;
 use wasm_forms::{
     Element, RawHeap, RawRef, WireError, Written, read_block, read_byte, read_reference_type,
@@ -192,7 +192,7 @@ fn write_functions(
     match mode {
         RawElementMode::Active(None, offset) => {
             to.push(0)?;
-            write_expression(to, offset)?;
+            write_expression(to, offset.operators())?;
         }
         RawElementMode::Passive => {
             to.push(1)?;
@@ -201,7 +201,7 @@ fn write_functions(
         RawElementMode::Active(Some(table), offset) => {
             to.push(2)?;
             write_u32(to, *table)?;
-            write_expression(to, offset)?;
+            write_expression(to, offset.operators())?;
             to.push(0)?;
         }
         RawElementMode::Declared => {
@@ -217,7 +217,7 @@ fn write_typed(
     to: &mut Vec<u8>,
     mode: &RawElementMode,
     ty: &RawRef,
-    expressions: &[Vec<RawConst>],
+    expressions: &[RawExpression],
 ) -> Result<(), WireError>
     ensures adds { Adds result to.old.items to.new.items
         (element_spelled (element_mode mode.now) (Expressions ty.now (map expression expressions.now)))
@@ -229,7 +229,7 @@ fn write_typed(
     match mode {
         RawElementMode::Active(None, offset) => {
             to.push(4)?;
-            write_expression(to, offset)?;
+            write_expression(to, offset.operators())?;
         }
         RawElementMode::Passive => {
             to.push(5)?;
@@ -238,7 +238,7 @@ fn write_typed(
         RawElementMode::Active(Some(table), offset) => {
             to.push(6)?;
             write_u32(to, *table)?;
-            write_expression(to, offset)?;
+            write_expression(to, offset.operators())?;
             write_reference_type(to, ty)?;
         }
         RawElementMode::Declared => {
@@ -278,11 +278,11 @@ fn write_data_mode(to: &mut Vec<u8>, mode: &RawDataMode) -> Result<(), WireError
         RawDataMode::Active(memory, offset) => {
             if *memory == 0 {
                 to.push(0)?;
-                return write_expression(to, offset);
+                return write_expression(to, offset.operators());
             }
             to.push(2)?;
             write_u32(to, *memory)?;
-            write_expression(to, offset)
+            write_expression(to, offset.operators())
         }
     }
 }

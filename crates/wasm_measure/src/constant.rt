@@ -10,7 +10,7 @@ ghost use Rattle.wasm_measure.specs.Measuring.{Measures};
 use crate::number::{integer_len, number_len};
 use crate::sum::plus;
 use crate::types::heap_len;
-use wasm_entries::RawConst;
+use wasm_entries::{RawConst, RawExpression};
 use wasm_forms::WireError;
 
 /// How many bytes `v128.const` has.
@@ -68,18 +68,18 @@ pub fn measured_expression(operators: &[RawConst]) -> Result<u32, WireError>
 }
 
 /// How many bytes the expressions have, one after another.
-fn measured_each(expressions: &[Vec<RawConst>]) -> Result<u32, WireError>
+fn measured_each(expressions: &[RawExpression]) -> Result<u32, WireError>
     ensures { Measures result (row_bytes (λ e. expression_bytes (expression e)) expressions.now) (Unit {0}) }
 {
     let mut total: u32 = 0;
     'expressions: for listed in expressions {
-        total = plus(total, measured_expression(listed)?)?;
+        total = plus(total, measured_expression(listed.operators())?)?;
     }
     Ok(total)
 }
 
 /// How many bytes the count of the expressions and each of them have.
-fn measured_counted(expressions: &[Vec<RawConst>]) -> Result<u32, WireError>
+fn measured_counted(expressions: &[RawExpression]) -> Result<u32, WireError>
     ensures { Measures result (vector_bytes (λ e. expression_bytes (expression e)) expressions.now)
         (FitsLength expressions.now) }
 {
@@ -94,7 +94,7 @@ fn measured_counted(expressions: &[Vec<RawConst>]) -> Result<u32, WireError>
 /// # Errors
 ///
 /// `TooLarge` exactly where there are 2^32 expressions or more, or all in all they have 2^32 bytes or more.
-pub fn measured_expressions(expressions: &[Vec<RawConst>]) -> Result<u32, WireError>
+pub fn measured_expressions(expressions: &[RawExpression]) -> Result<u32, WireError>
     ensures { Measures result (vector_bytes expression_bytes (map expression expressions.now))
         (FitsLength expressions.now) }
 {

@@ -31,7 +31,7 @@ pub fn measured_desc(desc: &RawDesc) -> Result<u32, WireError>
 impl<'a> Measured for RawImport<'a> {
     fn measured(&self) -> Result<u32, WireError> {
         let names = plus(measured_name(self.from)?, measured_name(self.name)?)?;
-        plus(names, measured_desc(&self.desc)?)
+        plus(names, measured_desc(&self.desc())?)
     }
 }
 
@@ -39,9 +39,9 @@ impl Measured for RawTable {
     fn measured(&self) -> Result<u32, WireError> {
         match &self.initial {
             None => measured_table_type(&self.ty),
-            Some(operators) => {
+            Some(initial) => {
                 let front = plus(2, measured_table_type(&self.ty)?)?;
-                plus(front, measured_expression(operators)?)
+                plus(front, measured_expression(initial.operators())?)
             }
         }
     }
@@ -51,7 +51,7 @@ impl Measured for RawGlobal {
     fn measured(&self) -> Result<u32, WireError> {
         plus(
             global_type_len(&self.ty),
-            measured_expression(&self.initial)?,
+            measured_expression(self.initial.operators())?,
         )
     }
 }

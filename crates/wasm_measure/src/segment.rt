@@ -12,7 +12,7 @@ use crate::number::number_len;
 use crate::sum::plus;
 use crate::types::reference_len;
 use crate::vector::{Measured, measured_block};
-use wasm_entries::{RawConst, RawData, RawDataMode, RawElement, RawElementMode, RawItems};
+use wasm_entries::{RawData, RawDataMode, RawElement, RawElementMode, RawExpression, RawItems};
 use wasm_forms::{RawRef, WireError};
 
 /// How many bytes a segment has that lists functions.
@@ -23,11 +23,14 @@ fn measured_functions(mode: &RawElementMode, functions: &[u32]) -> Result<u32, W
     let listed = measured_indices(functions)?;
     match mode {
         RawElementMode::Active(None, offset) => {
-            plus(plus(1, measured_expression(offset)?)?, listed)
+            plus(plus(1, measured_expression(offset.operators())?)?, listed)
         }
         RawElementMode::Active(Some(table), offset) => {
             let front = 2 + number_len(u64::from(*table));
-            plus(plus(front, measured_expression(offset)?)?, listed)
+            plus(
+                plus(front, measured_expression(offset.operators())?)?,
+                listed,
+            )
         }
         RawElementMode::Passive | RawElementMode::Declared => plus(2, listed),
     }
@@ -37,7 +40,7 @@ fn measured_functions(mode: &RawElementMode, functions: &[u32]) -> Result<u32, W
 fn measured_typed(
     mode: &RawElementMode,
     ty: &RawRef,
-    expressions: &[Vec<RawConst>],
+    expressions: &[RawExpression],
 ) -> Result<u32, WireError>
     ensures { Measures result
         (element_spelled (element_mode mode.now) (Expressions ty.now (map expression expressions.now)))
@@ -46,11 +49,14 @@ fn measured_typed(
     let listed = measured_expressions(expressions)?;
     match mode {
         RawElementMode::Active(None, offset) => {
-            plus(plus(1, measured_expression(offset)?)?, listed)
+            plus(plus(1, measured_expression(offset.operators())?)?, listed)
         }
         RawElementMode::Active(Some(table), offset) => {
             let front = 1 + number_len(u64::from(*table)) + reference_len(ty);
-            plus(plus(front, measured_expression(offset)?)?, listed)
+            plus(
+                plus(front, measured_expression(offset.operators())?)?,
+                listed,
+            )
         }
         RawElementMode::Passive | RawElementMode::Declared => plus(1 + reference_len(ty), listed),
     }
@@ -73,11 +79,11 @@ fn measured_data_mode(mode: &RawDataMode) -> Result<u32, WireError>
         RawDataMode::Passive => Ok(1),
         RawDataMode::Active(memory, offset) => {
             if *memory == 0 {
-                return plus(1, measured_expression(offset)?);
+                return plus(1, measured_expression(offset.operators())?);
             }
             plus(
                 1 + number_len(u64::from(*memory)),
-                measured_expression(offset)?,
+                measured_expression(offset.operators())?,
             )
         }
     }

@@ -10,7 +10,7 @@ use Rattle.wasm_forms.specs.declared.types.RawVal.{RawVal}
 use Rattle.wasm_forms.specs.declared.types.RawVal.TheVariants.{I32, I64, F32, F64, V128, Ref}
 use Rattle.wasm_forms.specs.Number.{AreBytes, little}
 use Rattle.wasm_forms.specs.Grammar as grammar
-use Rattle.wasm_forms.specs.Grammar.{Form, Is, Fails, Gives, Byte, IndexFrom, ◌then◌, Made, choose, U32, U64}
+use Rattle.wasm_forms.specs.Grammar.{Form, Is, Fails, Gives, IndexFrom, ◌then◌, Made, choose, U32, U64}
 use Rattle.wasm_forms.specs.Types.{is_abstract, heap_from, heap_type, reference, reference_from, value_from, value_type}
 use Rattle.wasm_operators.specs.declared.kind.Kind.{Kind}
 use Rattle.wasm_operators.specs.declared.kind.Kind.TheVariants as kinds

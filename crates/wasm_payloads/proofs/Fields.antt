@@ -1,5 +1,5 @@
 -- A field that is written behind its name.
-use Rattle.std.proofs.Common.{◌≡◌, ℕ, ◌≤◌, List, ◌++◌, map, refl, sym, ap, subst, ◌∙◌, Vec, vec_capacity}
+use Rattle.std.proofs.Common.{◌≡◌, ℕ, ◌≤◌, List, ◌++◌, map, sym, ap, subst, ◌∙◌, Vec, vec_capacity}
 use Rattle.std.specs.Prelude.{Result}
 use Rattle.std.specs.Borrow.{Bor}
 use Rattle.wasm_forms.specs.declared.error.WireError.{WireError}

@@ -1,10 +1,10 @@
 -- Items that are written one after another, where a loop tells each by its place alone; and records in place of what they hold.
-use Rattle.std.proofs.Common.{◌≡◌, ℕ, zero, suc, ◌+◌, ◌<◌, ◌≤◌, length, get_or, take, map, List, [], ◌∷◌, ◌++◌, refl, sym, ap, subst, ◌∙◌, append_assoc, arith, Vec, vec_capacity}
-use Rattle.std.specs.Prelude.{Result, Ok, Err}
+use Rattle.std.proofs.Common.{◌≡◌, ℕ, zero, suc, ◌+◌, ◌<◌, ◌≤◌, length, get_or, take, List, [], ◌∷◌, ◌++◌, refl, ap, ◌∙◌, append_assoc, arith, Vec, vec_capacity}
+use Rattle.std.specs.Prelude.{Err}
 use Rattle.wasm_forms.specs.declared.error.WireError.{WireError}
 use Rattle.wasm_forms.specs.declared.error.WireError.TheVariants.{Malformed, Memory, TooLarge}
 use Rattle.wasm_forms.specs.Spelling.{row_bytes}
-use Rattle.wasm_forms.specs.Writing.{Adds, Keeps, TakesRoom, EachFits}
+use Rattle.wasm_forms.specs.Writing.{Adds, TakesRoom, EachFits}
 use Rattle.wasm_forms.proofs.Items.{row_push, each_push, each_at}
 use Rattle.wasm_forms.proofs.Room.{row_refused}
 

@@ -8,7 +8,7 @@ use Rattle.wasm_payloads.specs.declared.naming.NameSpace.TheVariants as spaces
 use Rattle.wasm_payloads.specs.declared.spell_names.RawName.{RawName}
 use Rattle.wasm_payloads.specs.declared.spell_names.RawLocals.{RawLocals}
 use Rattle.wasm_payloads.specs.declared.spell_names.RawNames.{RawNames}
-use Rattle.wasm_payloads.specs.Spelling.{NameMap, NameText, entry_bytes, function_bytes, subsection_of, further_spaces}
+use Rattle.wasm_payloads.specs.Spelling.{NameMap, NameText, entry_bytes, function_bytes, further_spaces}
 
 abbrev pub entry : RawName → ℕ × List ℕ
 entry n = (n.index, n.name.now)

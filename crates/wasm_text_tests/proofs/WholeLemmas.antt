@@ -2,7 +2,6 @@
 use Rattle.std.proofs.Common.{◌≡◌, ℕ, ◌-◌, ◌<◌, List, [], ◌∷◌, length, map, take, inl, inr, refl, sym, ap, ap₂, ◌∙◌, subst, arith}
 use Rattle.std.proofs.lemmas.List.{take_all}
 use Rattle.wasm_text.specs.Marks.{AreInOrder, shifted}
-use Rattle.wasm_text.specs.Places.{between}
 use Rattle.wasm_text.specs.Scans.{ScansOperator}
 use Rattle.wasm_text.specs.declared.limits.Limits.{Limits}
 use Rattle.wasm_text.specs.declared.places.TheConstants.{NO_PLACE}

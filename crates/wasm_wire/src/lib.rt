@@ -10,8 +10,8 @@ pub use places::code_places;
 pub use rules::{Counts, check};
 pub use wasm_entries::{
     RawComp, RawConst, RawData, RawDataMode, RawDesc, RawElement, RawElementMode, RawExport,
-    RawExportKind, RawFieldType, RawFuncType, RawGlobal, RawGlobalType, RawGroup, RawImport,
-    RawItems, RawLimits, RawStorage, RawSub, RawTable, RawTableType,
+    RawExportKind, RawExpression, RawFieldType, RawFuncType, RawGlobal, RawGlobalType, RawGroup,
+    RawImport, RawItems, RawLimits, RawStorage, RawSub, RawTable, RawTableType,
 };
 pub use wasm_forms::{RawHeap, RawRef, RawVal, WireError, leb128_len};
 pub use wasm_frames::{Raw, RawBody, RawCustom, one_record, read_module};

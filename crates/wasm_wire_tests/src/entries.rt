@@ -58,7 +58,8 @@ fn rewrites_groups(alloc: Global, bytes: &[u8], written: &mut Vec<u8>) -> bool {
 
 fn rewrites_expression(alloc: Global, bytes: &[u8], written: &mut Vec<u8>) -> bool {
     match read_expression(alloc, bytes) {
-        Ok((operators, rest)) => rest.is_empty() && write_expression(written, &operators).is_ok(),
+        Ok((expression, rest)) => rest.is_empty()
+            && write_expression(written, expression.operators()).is_ok(),
         Err(_) => false,
     }
 }

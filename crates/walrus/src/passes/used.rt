@@ -10,7 +10,7 @@ ghost use Rattle.walrus_model.specs.Live.{IsLive};
 ghost use Rattle.walrus_module.specs.Asked.{OneMayRefuse};
 ghost use Rattle.walrus_module.specs.View.{contents_of, meanings, view};
 ghost use Rattle.walrus_types.specs.Operators.{Types};
-ghost use Rattle.walrus_contents.specs.Named.{NamesItself, group_names};
+ghost use Rattle.walrus_contents.specs.Named.{NamesItself, export_names, group_names};
 ghost use Rattle.walrus_contents.specs.There.{IsRefusal, IsSound};
 ghost use Rattle.walrus_contents.specs.View.{parts_view};
 ghost use Rattle.walrus.specs.Asked.{searched_view};
@@ -26,7 +26,7 @@ use crate::passes::worklist::Worklist;
 use std::alloc::{AllocError, Global};
 use std::result;
 use walrus_base::Marks;
-use walrus_contents::{Parts, is_live, push_item_names, push_root_names};
+use walrus_contents::{Parts, is_live, push_item_names, push_other_roots};
 use walrus_module::{
     CustomSection, DataKey, ElementKey, Error, FunctionKey, GlobalKey, IdHashSet, ItemId,
     MemoryKey, Module, Result, Roots, TableKey, TagKey, TypeId, TypeKey,
@@ -206,12 +206,26 @@ fn reached(alloc: Global, searched: Searched<'_>) -> Result<Worklist>
         (IsRefusal (ReachesUnsound (searched_view searched.entry))) }
 {
     let mut list = Worklist::none(alloc, searched.parts)?;
+    enter_exports(searched.parts, &mut list)?;
     let mut roots = Vec::new(alloc);
-    push_root_names(searched.parts, &mut roots)?;
+    push_other_roots(searched.parts, &mut roots)?;
     push_asked(searched.asked, &mut roots)?;
     enter_all(searched.parts, roots.as_slice(), &mut list)?;
     follow(alloc, searched, &mut list)?;
     Ok(list)
+}
+
+// Enters what exports name, but for what was entered. Takes no memory.
+fn enter_exports(parts: Parts<'_>, list: &mut Worklist) -> Result<()>
+    requires { Keeps (parts_view parts) list.old }
+    ensures { MatchResult result
+        (λ _. Enters (parts_view parts.entry) (export_names parts.entry.exports.now) list.old list.new)
+        (IsDead (NamesDead (parts_view parts.entry) (export_names parts.entry.exports.now))) }
+{
+    for export in parts.exports.iter() {
+        enter(parts, export.item.item_id(), list)?;
+    }
+    Ok(())
 }
 
 // Takes each item entered, and enters what it names.

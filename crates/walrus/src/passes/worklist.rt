@@ -3,7 +3,7 @@
 ghost use Rattle.std.specs.Prelude.{◌≡◌, ◌≤◌, ◌≢◌, ◌^◌, AllPairs, MatchOption, vec_len};
 ghost use Rattle.walrus_contents.specs.Named.{items_in};
 ghost use Rattle.walrus_contents.specs.View.{lent};
-ghost use Rattle.walrus.specs.LiveCount.{live_count};
+ghost use Rattle.walrus.specs.LiveCount.{place_count};
 
 use crate::passes::marks::MarkedItems;
 use std::alloc::{AllocError, Global};
@@ -28,13 +28,13 @@ impl Worklist {
     ghost use Rattle.walrus.specs.MarkedItems.{HasPlace, has_mark};
     ghost use Rattle.walrus.specs.Worklist.{Agrees, Keeps, Notes, Takes, entered_items};
 
-    /// No items, with a mark and room for each live one. No later entry takes memory.
+    /// No items, with a mark and room for one at each place. No later entry takes memory.
     pub(crate) fn none(alloc: Global, parts: Parts<'_>) -> Result<Worklist, AllocError>
         ensures kept { IfOk result (Keeps (parts_view parts.entry)) }
         ensures nothing { IfOk result (λ list. entered_items list ≡ []) }
-        ensures room { IfOk result (λ list. vec_capacity list.entered ≡ live_count (lent parts.entry)) }
+        ensures room { IfOk result (λ list. vec_capacity list.entered ≡ place_count (lent parts.entry)) }
     {
-        let Some(room) = live_items(parts) else {
+        let Some(room) = places(parts) else {
             return Err(AllocError);
         };
         Ok(Worklist {
@@ -88,19 +88,20 @@ impl Worklist {
     }
 }
 
-// How many live items there are, where that fits.
-fn live_items(parts: Parts<'_>) -> Option<usize>
-    ensures { MatchOption result (2 ^ 64 ≤ live_count (lent parts.entry))
-        (λ count. count ≡ live_count (lent parts.entry)) }
+// How many places the items have, those of deleted ones among them, where that fits.
+fn places(parts: Parts<'_>) -> Option<usize>
+    ensures { MatchOption result (2 ^ 64 ≤ place_count (lent parts.entry))
+        (λ count. count ≡ place_count (lent parts.entry)) }
 {
     parts
         .types
-        .len()
-        .checked_add(parts.funcs.len())?
-        .checked_add(parts.tables.len())?
-        .checked_add(parts.memories.len())?
-        .checked_add(parts.tags.len())?
-        .checked_add(parts.globals.len())?
-        .checked_add(parts.elements.len())?
-        .checked_add(parts.data_.len())
+        .next_id()
+        .index()
+        .checked_add(parts.funcs.next_id().index())?
+        .checked_add(parts.tables.next_id().index())?
+        .checked_add(parts.memories.next_id().index())?
+        .checked_add(parts.tags.next_id().index())?
+        .checked_add(parts.globals.next_id().index())?
+        .checked_add(parts.elements.next_id().index())?
+        .checked_add(parts.data_.next_id().index())
 }

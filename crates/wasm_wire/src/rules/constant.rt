@@ -1,7 +1,7 @@
 //! Constant expressions name what is declared (Validation > Instructions > Constant Expressions).
 
 ghost use Rattle.std.specs.Prelude.{◌≡◌};
-ghost use Rattle.wasm_entries.specs.Record.{Expression};
+ghost use Rattle.wasm_entries.specs.Record.{Expression, expression};
 ghost use Rattle.wasm_entries.specs.declared.record.RawConst.{RawConst};
 ghost use Rattle.wasm_wire.specs.Indices.{ConstHolds, ExpressionHolds, with_globals};
 ghost use Rattle.wasm_wire.specs.Rules.{Checks};
@@ -9,7 +9,7 @@ ghost use Rattle.wasm_wire.specs.Rules.{Checks};
 use super::counts::{Counts, check_below};
 use super::each::{Rule, check_all};
 use super::types::check_heap;
-use wasm_entries::RawConst;
+use wasm_entries::{RawConst, RawExpression};
 use wasm_forms::WireError;
 
 /// These counts, with so many globals in scope.
@@ -74,14 +74,14 @@ pub fn check_expression(counts: &Counts, held: &[RawConst]) -> Result<(), WireEr
     check_all(&Expressions { counts: *counts }, held)
 }
 
-impl Rule<Vec<RawConst>> for Expressions {
+impl Rule<RawExpression> for Expressions {
     ghost Seen = { Expression };
 
-    ghost view = { λ e. e.items };
+    ghost view = { expression };
 
     ghost Holds = { λ r e. ExpressionHolds r.counts e };
 
-    fn check(&self, item: &Vec<RawConst>) -> Result<(), WireError> {
-        check_expression(&self.counts, item)
+    fn check(&self, item: &RawExpression) -> Result<(), WireError> {
+        check_expression(&self.counts, item.operators())
     }
 }

@@ -120,7 +120,7 @@ fn gather_imported<T: Drop, K: Kind<T>>(
 {
     let mut found = Vec::new(alloc);
     for import in imports {
-        found = append_if(found, kind.of(import.desc))?;
+        found = append_if(found, kind.of(import.desc()))?;
     }
     Ok(found)
 }

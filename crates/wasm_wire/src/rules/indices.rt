@@ -71,7 +71,7 @@ impl<'a> Rule<RawImport<'a>> for Declared {
     ghost Holds = { λ r i. ImportHolds r.counts.types i };
 
     fn check(&self, item: &RawImport<'a>) -> Result<(), WireError> {
-        check_desc(self.counts.types, item.desc)
+        check_desc(self.counts.types, item.desc())
     }
 }
 
@@ -88,7 +88,7 @@ impl Rule<RawTable> for Declared {
             None => Ok(()),
             Some(initial) => {
                 let scope = with_globals(&self.counts, self.counts.imported_globals);
-                check_expression(&scope, initial)
+                check_expression(&scope, initial.operators())
             }
         }
     }
@@ -103,7 +103,10 @@ impl NumberedRule<RawGlobal> for Declared {
 
     fn check(&self, number: usize, item: &RawGlobal) -> Result<(), WireError> {
         check_value(self.counts.types, item.ty.value)?;
-        check_expression(&with_globals(&self.counts, number), &item.initial)
+        check_expression(
+            &with_globals(&self.counts, number),
+            item.initial.operators(),
+        )
     }
 }
 
@@ -139,7 +142,7 @@ fn check_element_mode(counts: &Counts, mode: &RawElementMode) -> Result<(), Wire
     match mode {
         RawElementMode::Active(table, offset) => {
             check_below(table.unwrap_or(0), counts.tables)?;
-            check_expression(counts, offset)
+            check_expression(counts, offset.operators())
         }
         RawElementMode::Passive | RawElementMode::Declared => Ok(()),
     }
@@ -187,7 +190,7 @@ impl<'a> Rule<RawData<'a>> for Declared {
         match &item.mode {
             RawDataMode::Active(memory, offset) => {
                 check_below(*memory, self.counts.memories)?;
-                check_expression(&self.counts, offset)
+                check_expression(&self.counts, offset.operators())
             }
             RawDataMode::Passive => Ok(()),
         }

@@ -94,7 +94,7 @@ impl<'d> Rule<RawElement> for Offsets<'d> {
         match &item.mode {
             RawElementMode::Active(table, offset) => {
                 match self.tables.get(table.unwrap_or(0) as usize) {
-                    Some(ty) => check_offset(self.globals, ty.limits.wide, offset),
+                    Some(ty) => check_offset(self.globals, ty.limits.wide, offset.operators()),
                     None => Ok(()),
                 }
             }
@@ -113,7 +113,7 @@ impl<'d, 'a> Rule<RawData<'a>> for Offsets<'d> {
     fn check(&self, item: &RawData<'a>) -> Result<(), WireError> {
         match &item.mode {
             RawDataMode::Active(memory, offset) => match self.memories.get(*memory as usize) {
-                Some(limits) => check_offset(self.globals, limits.wide, offset),
+                Some(limits) => check_offset(self.globals, limits.wide, offset.operators()),
                 None => Ok(()),
             },
             RawDataMode::Passive => Ok(()),

@@ -22,7 +22,7 @@ loop-one-init c = record {
 pub loop-one-preserved : goal.loop-one-preserved
 loop-one-preserved c = record {
   named = read_next (named_const (ids_at c.args.indices.now)) (map const_ops c.loop-one.found.items) _ _ _ _ _ _
-      (ap (map consts_of) (next_of expression c.args.raw.now c.loop-one.one-index c.one-item.result c.as_slice.result.now c.loop-one-test.true c.one-item.is c.as_slice.ensures.value))
+      (ap (map consts_of) (next_of expression c.args.raw.now c.loop-one.one-index c.one-item.result c.operators.result.now c.loop-one-test.true c.one-item.is c.operators.ensures))
       c.in_ok-read_const.ensures.named (mapped_push const_ops c.loop-one.found.items _ _ c.in_ok-push.ensures.items) c.loop-one.invariant.named;
   short = rw c.in_ok-push.ensures.items (All-push (λ expr. is_short expr ≡ true) c.loop-one.found.items _ c.loop-one.invariant.short c.in_ok-read_const.ensures.short);
 }
@@ -31,7 +31,7 @@ pub returns-in_err-read_const-clause-named : goal.returns-in_err-read_const-clau
 returns-in_err-read_const-clause-named c =
     let p = err_from_is_err_and c.from_residual-in_err-read_const.result c.from_residual-in_err-read_const.ensures.1 in
     rw (p.1, p.2) (read_refused (named_const (ids_at c.args.indices.now)) {A = ConstExpr} {B = Vec ConstExpr} const_ops (λ found. map const_ops found.items) (map const_ops c.loop-one.found.items) _ _ _ _ _
-    (ap (map consts_of) (next_of expression c.args.raw.now c.loop-one.one-index c.one-item.result c.as_slice.result.now c.loop-one-test.true c.one-item.is c.as_slice.ensures.value))
+    (ap (map consts_of) (next_of expression c.args.raw.now c.loop-one.one-index c.one-item.result c.operators.result.now c.loop-one-test.true c.one-item.is c.operators.ensures))
     c.loop-one.invariant.named c.in_err-read_const.ensures.named)
 
 pub returns-clause-named : goal.returns-clause-named

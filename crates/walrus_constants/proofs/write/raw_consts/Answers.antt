@@ -5,7 +5,7 @@ use Rattle.std.proofs.lemmas.List.Elements.{All-nil}
 use Rattle.std.proofs.lemmas.Result.{err_from_is_err_and}
 use Rattle.wasm_entries.specs.Record.{expression}
 use Rattle.wasm_entries.specs.Spelling.{ExpressionStands}
-use Rattle.wasm_entries.specs.declared.record.RawConst.{RawConst}
+use Rattle.wasm_entries.specs.declared.record.RawExpression.{RawExpression}
 use Rattle.walrus_types.specs.ConstOps.{const_ops}
 use Rattle.walrus_code.specs.Indices.{index_of}
 use Rattle.walrus_model.specs.Constants.{consts_of}
@@ -14,7 +14,7 @@ use Rattle.walrus_constants.proofs.write.raw_consts.Goals as goal
 
 pub loop-expr-init : goal.loop-expr-init
 loop-expr-init c = record {
-  indexed = written_begins (index_of c.args.indices.now) (map const_ops c.args.all.now) _ (ap (λ (l : List (Vec RawConst)). map consts_of (map expression l)) c.in_ok-raw.ensures.items);
+  indexed = written_begins (index_of c.args.indices.now) (map const_ops c.args.all.now) _ (ap (λ (l : List RawExpression). map consts_of (map expression l)) c.in_ok-raw.ensures.items);
   spelled = rw c.in_ok-raw.ensures.items (All-nil ExpressionStands);
 }
 
@@ -31,7 +31,7 @@ loop-expr-preserved c = record {
 pub returns-in_err-raw_const-clause-indexed : goal.returns-in_err-raw_const-clause-indexed
 returns-in_err-raw_const-clause-indexed c =
     let p = err_from_is_err_and c.from_residual-in_err-raw_const.result c.from_residual-in_err-raw_const.ensures.1 in
-    rw (p.1, p.2) (written_refused (index_of c.args.indices.now) {A = Vec RawConst} {B = Vec (Vec RawConst)} (λ raw. consts_of raw.items) (λ raw. map consts_of (map expression raw.items)) (map const_ops c.args.all.now) _ _ _ _ _
+    rw (p.1, p.2) (written_refused (index_of c.args.indices.now) {A = RawExpression} {B = Vec RawExpression} (λ raw. consts_of (expression raw)) (λ raw. map consts_of (map expression raw.items)) (map const_ops c.args.all.now) _ _ _ _ _
     (next_of const_ops c.args.all.now c.loop-expr.expr-index c.expr-item.result _ c.loop-expr-test.true c.expr-item.is refl)
     c.loop-expr.invariant.indexed c.in_err-raw_const.ensures.indexed)
 

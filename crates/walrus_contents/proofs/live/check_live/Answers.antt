@@ -3,23 +3,28 @@ use Rattle.std.proofs.lemmas.Result.{err_from_is_err_and}
 use Rattle.walrus_code.specs.Code.{item_of}
 use Rattle.walrus_code.specs.declared.items.ItemId.{ItemId}
 use Rattle.walrus_types.specs.Operators.{Item}
-use Rattle.walrus_contents.specs.Named.{root_names}
+use Rattle.walrus_contents.specs.Named.{other_roots}
 use Rattle.walrus_contents.specs.There.{AreLive, OneIsDead}
 use Rattle.walrus_model.specs.Dead.{HasDead}
 use Rattle.walrus_contents.specs.View.{lent, parts_view}
-use Rattle.walrus_contents.proofs.LiveLemmas.{roots_dead, functions_checked}
+use Rattle.walrus_contents.proofs.LiveLemmas.{functions_checked, others_dead}
 use Rattle.walrus_contents.proofs.NamedLemmas.{refusal_map}
 use Rattle.walrus_contents.proofs.live.check_live.Goals as goal
+
+pub returns-in_err-check_exports : goal.returns-in_err-check_exports
+returns-in_err-check_exports c =
+    let p = err_from_is_err_and c.from_residual.result c.from_residual.ensures.1 in
+    rw (p.1, p.2) c.in_err-check_exports.ensures
 
 pub returns-in_err-check_all : goal.returns-in_err-check_all
 returns-in_err-check_all c =
     let p = err_from_is_err_and c.from_residual-in_err-check_all.result c.from_residual-in_err-check_all.ensures.1 in
     let parts = c.args.parts in
     let v = parts_view parts in
-    let names = root_names (lent parts) in
-    let are : map item_of c.as_slice.result.now ≡ names = ap (λ (ids : List ItemId). map item_of ids) c.as_slice.ensures.value ∙ c.in_ok-push_root_names.ensures ∙ ap (λ (ids : List ItemId). map item_of ids ++ names) c.new-named.ensures.items in
+    let names = other_roots (lent parts) in
+    let are : map item_of c.as_slice.result.now ≡ names = ap (λ (ids : List ItemId). map item_of ids) c.as_slice.ensures.value ∙ c.in_ok-push_other_roots.ensures ∙ ap (λ (ids : List ItemId). map item_of ids ++ names) c.new-named.ensures.items in
     rw (p.1, p.2) (refusal_map (OneIsDead v (map item_of c.as_slice.result.now)) (HasDead v)
-    (λ dead. roots_dead (lent parts) (subst (OneIsDead v) are dead))
+    (λ dead. others_dead (lent parts) (subst (OneIsDead v) are dead))
     c.in_err-check_all.field-0.0 c.in_err-check_all.ensures)
 
 pub returns-in_err-check_types : goal.returns-in_err-check_types
@@ -61,10 +66,11 @@ pub returns : goal.returns
 returns c =
     let parts = c.args.parts in
     let v = parts_view parts in
-    let names = root_names (lent parts) in
-    let are : map item_of c.as_slice.result.now ≡ names = ap (λ (ids : List ItemId). map item_of ids) c.as_slice.ensures.value ∙ c.in_ok-push_root_names.ensures ∙ ap (λ (ids : List ItemId). map item_of ids ++ names) c.new-named.ensures.items in
+    let names = other_roots (lent parts) in
+    let are : map item_of c.as_slice.result.now ≡ names = ap (λ (ids : List ItemId). map item_of ids) c.as_slice.ensures.value ∙ c.in_ok-push_other_roots.ensures ∙ ap (λ (ids : List ItemId). map item_of ids ++ names) c.new-named.ensures.items in
     functions_checked (lent parts) (record {
-      roots = subst (λ (xs : List Item). AreLive v xs) are c.in_ok-check_all.ensures;
+      exports = c.in_ok-check_exports.ensures;
+      others = subst (λ (xs : List Item). AreLive v xs) are c.in_ok-check_all.ensures;
       imports = c.in_ok-check_imports.ensures;
       types = c.in_ok-check_types.ensures;
       tables = c.in_ok-check_tables.ensures;

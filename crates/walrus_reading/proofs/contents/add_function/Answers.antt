@@ -1,4 +1,4 @@
-use Rattle.std.proofs.Common.{refl, ◌≡◌, length, ap, ap₂, ◌∙◌}
+use Rattle.std.proofs.Common.{refl, ◌≡◌, length, ap₂, ◌∙◌}
 use Rattle.std.specs.Prelude.{Some}
 use Rattle.std.proofs.lemmas.Result.{err_from_is_err_and}
 use Rattle.walrus_base.specs.Id.{place}

@@ -15,7 +15,7 @@ read_value-ty-requires c = record { stays = value_stays (ids_at c.args.indices.n
 
 pub read_initialiser-requires : goal.read_initialiser-requires
 read_initialiser-requires c = record {
-  stays = subst (ConstStays (ids_at c.args.indices.now)) (sym c.deref.ensures.value) (initialiser_stays (ids_at c.args.indices.now) (global_entry c.args.raw.now) c.requires.stays);
+  stays = subst (ConstStays (ids_at c.args.indices.now)) (sym c.operators.ensures) (initialiser_stays (ids_at c.args.indices.now) (global_entry c.args.raw.now) c.requires.stays);
 }
 
 pub returns-clause-added : goal.returns-clause-added
@@ -27,6 +27,6 @@ returns-clause-added c =
       own_id = c.in_ok-add_local.ensures.0;
       short = c.in_ok-initial.ensures.short;
       read = ap₂ (λ value ops. record { origin = Defined; ty = record { value = value; mutable = c.args.raw.now.ty.mutable; shared = c.args.raw.now.ty.shared }; initialiser = Some ops })
-          c.read_value-ty.ensures (c.in_ok-initial.ensures.value ∙ ap consts_of c.deref.ensures.value);
+          c.read_value-ty.ensures (c.in_ok-initial.ensures.value ∙ ap consts_of c.operators.ensures);
       unnamed = refl;
     })

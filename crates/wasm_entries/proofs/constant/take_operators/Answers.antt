@@ -16,7 +16,7 @@ operator b = at (const_from b)
 
 pub returns-in_err-first : goal.returns-in_err-first
 returns-in_err-first c =
-    let p = err_from_is_err_and c.from_residual-in_err-first.result c.from_residual-in_err-first.ensures.1 in
+    let p = err_from_is_err_and c.from_residual.result c.from_residual.ensures.1 in
     let bytes = c.args.bytes.now in
     let rest = c.operators.rest.now in
     let done = c.operators.operators.items in

@@ -13,14 +13,14 @@ use Rattle.wasm_entries.proofs.operator.write_each.Goals as goal
 pub expressions-preserved : goal.expressions-preserved
 expressions-preserved c = record {
   written = written_seen expression_bytes expression c.args.expressions.now c.expressions.listed-index c.listed-item.result c.args.to.now.items c.expressions.to.items c.write_expression.new.to.items c.expressions-test.true c.listed-item.is c.expressions.invariant.written
-      (c.in_ok-write_expression.ensures.adds.0 ∙ ap (λ l. c.expressions.to.items ++ expression_bytes l) c.deref.ensures.value);
+      (c.in_ok-write_expression.ensures.adds.0 ∙ ap (λ l. c.expressions.to.items ++ expression_bytes l) c.operators.ensures);
   room = omega (arith, c.in_ok-write_expression.ensures.room);
 }
 
 pub returns-in_err-write_expression-clause-room : goal.returns-in_err-write_expression-clause-room
 returns-in_err-write_expression-clause-room c =
     let p = err_from_is_err_and c.from_residual.result c.from_residual.ensures.1 in
-    let room = subst (λ (l : List RawConst). TakesRoom {X = Unit {0}} (Err c.in_err-write_expression.field-0.0) c.expressions.to c.write_expression.new.to (expression_bytes l)) c.deref.ensures.value c.in_err-write_expression.ensures.room in
+    let room = subst (λ (l : List RawConst). TakesRoom {X = Unit {0}} (Err c.in_err-write_expression.field-0.0) c.expressions.to c.write_expression.new.to (expression_bytes l)) c.operators.ensures c.in_err-write_expression.ensures.room in
     rw (p.1, p.2)
     (refused_seen expression_bytes expression c.args.expressions.now c.expressions.listed-index c.listed-item.result c.in_err-write_expression.field-0.0 c.args.to.now c.expressions.to c.write_expression.new.to c.expressions-test.true c.listed-item.is
     c.expressions.invariant.written c.expressions.invariant.room room)

@@ -14,7 +14,7 @@ pub returns-in_err-push-in-Active-None-default-clause-keeps : goal.returns-in_er
 returns-in_err-push-in-Active-None-default-clause-keeps c = keeps_same c.args.to.now.items c.push.new.self.items c.in_err-push-in-Active-None-default.ensures.items
 
 pub returns-in_err-write_expression-in-Active-None-default-clause-adds : goal.returns-in_err-write_expression-in-Active-None-default-clause-adds
-returns-in_err-write_expression-in-Active-None-default-clause-adds c = adds_exit (Unit {0}) c.from_residual-in_err-write_expression-in-Active-None-default.result c.in_err-write_expression-in-Active-None-default.field-0.0 c.push.new.self.items c.write_expression.new.to.items (expression_bytes c.deref.result.now) c.args.to.now.items c.write_expression.new.to.items (element_spelled (element_mode c.args.mode.now) (Expressions c.args.ty.now (map expression c.args.expressions.now))) (Unit {0}) (FitsLength c.args.expressions.now) c.from_residual-in_err-write_expression-in-Active-None-default.ensures.1 (λ _. tt) c.in_err-write_expression-in-Active-None-default.ensures.adds
+returns-in_err-write_expression-in-Active-None-default-clause-adds c = adds_exit (Unit {0}) c.from_residual-in_err-write_expression-in-Active-None-default.result c.in_err-write_expression-in-Active-None-default.field-0.0 c.push.new.self.items c.write_expression.new.to.items (expression_bytes c.operators.result.now) c.args.to.now.items c.write_expression.new.to.items (element_spelled (element_mode c.args.mode.now) (Expressions c.args.ty.now (map expression c.args.expressions.now))) (Unit {0}) (FitsLength c.args.expressions.now) c.from_residual-in_err-write_expression-in-Active-None-default.ensures.1 (λ _. tt) c.in_err-write_expression-in-Active-None-default.ensures.adds
 
 pub returns-in_err-write_expression-in-Active-None-default-clause-keeps : goal.returns-in_err-write_expression-in-Active-None-default-clause-keeps
 returns-in_err-write_expression-in-Active-None-default-clause-keeps c = keeps_behind c.args.to.now.items c.push.new.self.items c.write_expression.new.to.items _ c.in_ok-push-in-Active-None-default.ensures.items c.in_err-write_expression-in-Active-None-default.ensures.keeps
@@ -44,7 +44,7 @@ pub returns-in_err-write_u32-in-Active-Some-default-clause-keeps : goal.returns-
 returns-in_err-write_u32-in-Active-Some-default-clause-keeps c = keeps_put c.args.to.now.items c.write_u32.new.to.items _ (c.in_err-write_u32-in-Active-Some-default.ensures.written ∙ c.in_ok-push-in-Active-Some-default.ensures.items)
 
 pub returns-in_err-write_expression-in-Active-Some-default-clause-adds : goal.returns-in_err-write_expression-in-Active-Some-default-clause-adds
-returns-in_err-write_expression-in-Active-Some-default-clause-adds c = adds_exit (Unit {0}) c.from_residual-in_err-write_expression-in-Active-Some-default.result c.in_err-write_expression-in-Active-Some-default.field-0.0 c.write_u32.new.to.items c.write_expression-in-Active-Some-default.new.to.items (expression_bytes c.deref-in-Active-Some-default.result.now) c.args.to.now.items c.write_expression-in-Active-Some-default.new.to.items (element_spelled (element_mode c.args.mode.now) (Expressions c.args.ty.now (map expression c.args.expressions.now))) (Unit {0}) (FitsLength c.args.expressions.now) c.from_residual-in_err-write_expression-in-Active-Some-default.ensures.1 (λ _. tt) c.in_err-write_expression-in-Active-Some-default.ensures.adds
+returns-in_err-write_expression-in-Active-Some-default-clause-adds c = adds_exit (Unit {0}) c.from_residual-in_err-write_expression-in-Active-Some-default.result c.in_err-write_expression-in-Active-Some-default.field-0.0 c.write_u32.new.to.items c.write_expression-in-Active-Some-default.new.to.items (expression_bytes c.operators-in-Active-Some-default.result.now) c.args.to.now.items c.write_expression-in-Active-Some-default.new.to.items (element_spelled (element_mode c.args.mode.now) (Expressions c.args.ty.now (map expression c.args.expressions.now))) (Unit {0}) (FitsLength c.args.expressions.now) c.from_residual-in_err-write_expression-in-Active-Some-default.ensures.1 (λ _. tt) c.in_err-write_expression-in-Active-Some-default.ensures.adds
 
 pub returns-in_err-write_expression-in-Active-Some-default-clause-keeps : goal.returns-in_err-write_expression-in-Active-Some-default-clause-keeps
 returns-in_err-write_expression-in-Active-Some-default-clause-keeps c = keeps_behind c.args.to.now.items c.write_u32.new.to.items c.write_expression-in-Active-Some-default.new.to.items _ (put_behind c.args.to.now.items c.push-in-Active-Some-default.new.self.items c.write_u32.new.to.items _ _ c.in_ok-push-in-Active-Some-default.ensures.items c.in_ok-write_u32-in-Active-Some-default.ensures.written) c.in_err-write_expression-in-Active-Some-default.ensures.keeps
