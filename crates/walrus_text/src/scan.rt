@@ -45,6 +45,7 @@ pub(crate) fn scan_body(
 
 // How many operators the bytes are, if they are plain ones within the limits, each of which stands in an open block, up to the end of the
 // function and no byte more. Then their marks stand in `marks`, which holds none before.
+#[inline(never)]
 fn scan_operators(
     bytes: &[u8],
     limits: &Limits,

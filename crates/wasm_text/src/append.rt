@@ -359,7 +359,7 @@ fn put_number(
 
 // The index at a mark: in its one spelling, and with its number, it stays to be copied with what stands in front of it; else its new
 // number is written.
-#[inline]
+#[inline(always)]
 fn put_index_as<N: Numbers>(
     to: &mut Vec<u8>,
     bytes: &[u8],

@@ -1,6 +1,6 @@
 //! Plain operators, scanned one by one as they stand in bytes.
 
-ghost use Rattle.std.specs.Prelude.{◌≡◌, ◌+◌, ◌<◌, ◌≤◌, ◌∷◌, [], ◌⊎◌, length, drop, IfOk};
+ghost use Rattle.std.specs.Prelude.{◌≡◌, ◌+◌, ◌++◌, ◌<◌, ◌≤◌, ◌∷◌, [], ◌⊎◌, length, drop, IfOk};
 ghost use Rattle.wasm_forms.specs.Writing.{Keeps};
 ghost use Rattle.wasm_operators.specs.declared.kind.Kind.TheVariants as kinds;
 ghost use Rattle.wasm_operators.specs.Forms.{args_form};
@@ -35,6 +35,29 @@ const TABLE_GROW: u8 = 15;
 
 const TABLE_FILL: u8 = 17;
 
+// Puts a number behind the others.
+#[inline]
+fn push(marks: &mut Vec<u32>, mark: u32) -> Result<(), AllocError>
+    ensures pushed { IfOk result (λ _. marks.new.items ≡ marks.old.items ++ mark ∷ []) }
+    ensures keeps { Keeps marks.old.items marks.new.items }
+{
+    if marks.len() < marks.capacity() {
+        marks.push(mark)?;
+        return Ok(());
+    }
+    push_with_room(marks, mark)
+}
+
+// The same where there may be no room: apart, so that a vector that grows stays out of the scan of one operator after another.
+#[inline(never)]
+fn push_with_room(marks: &mut Vec<u32>, mark: u32) -> Result<(), AllocError>
+    ensures pushed { IfOk result (λ _. marks.new.items ≡ marks.old.items ++ mark ∷ []) }
+    ensures keeps { Keeps marks.old.items marks.new.items }
+{
+    marks.push(mark)?;
+    Ok(())
+}
+
 // Puts a mark behind the others, and answers the place behind the argument; [`NO_PLACE`] where a mark doesn't hold its offset.
 #[inline]
 fn put_mark(
@@ -54,8 +77,30 @@ fn put_mark(
     if offset >= 1 << 28 {
         return Ok(NO_PLACE);
     }
-    marks.push(offset as u32 * 16 + kind)?;
+    push(marks, offset as u32 * 16 + kind)?;
     Ok(behind)
+}
+
+// An index below a count, with a mark of this kind, that isn't one byte.
+#[inline(never)]
+fn scan_long_index(
+    bytes: &[u8],
+    start: usize,
+    at: usize,
+    below: u32,
+    kind: u32,
+    marks: &mut Vec<u32>,
+) -> Result<usize, AllocError>
+    requires ordered { start ≤ at }
+    requires kind { kind < 16 }
+    ensures indexed { IfOk result (λ behind. IfPlace behind
+        (IsIndexed below kind bytes.now start at behind marks.old.items marks.new.items)) }
+    ensures keeps { Keeps marks.old.items marks.new.items }
+{
+    if number_at(bytes, at) >= u64::from(below) {
+        return Ok(NO_PLACE);
+    }
+    put_mark(marks, start, at, kind, past_number(bytes, at, 5))
 }
 
 // An index below a count, with a mark of this kind.
@@ -74,10 +119,15 @@ fn scan_index(
         (IsIndexed below kind bytes.now start at behind marks.old.items marks.new.items)) }
     ensures keeps { Keeps marks.old.items marks.new.items }
 {
-    if number_at(bytes, at) >= u64::from(below) {
-        return Ok(NO_PLACE);
+    match byte_from(bytes, at) {
+        Some(byte) if byte < 128 => {
+            if u32::from(byte) >= below {
+                return Ok(NO_PLACE);
+            }
+            put_mark(marks, start, at, kind, at + 1)
+        }
+        _ => scan_long_index(bytes, start, at, below, kind, marks),
     }
-    put_mark(marks, start, at, kind, past_number(bytes, at, 5))
 }
 
 // Puts a mark behind the others, unless the argument stands in its one spelling.

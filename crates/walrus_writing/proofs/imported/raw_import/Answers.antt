@@ -1,8 +1,6 @@
 use Rattle.wasm_entries.specs.Record as entries
 use Rattle.walrus_code.specs.Indices.{index_of}
-use Rattle.walrus_items.specs.Imports.{import_value}
 use Rattle.walrus_contents.specs.View.{parts_view}
-use Rattle.walrus_model.specs.WellMade.{import_of}
 use Rattle.walrus_writing.proofs.ImportedEntries.{import_written}
 use Rattle.walrus_writing.proofs.imported.raw_import.Goals as goal
 
