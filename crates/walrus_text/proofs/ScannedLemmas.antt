@@ -2,7 +2,6 @@
 use Rattle.std.proofs.Common.{◌≡◌, ℕ, ◌+◌, true, List, length, map, refl, ap₂, ◌∙◌, sym, subst}
 use Rattle.std.proofs.Math.Logic.{∥∥₁_elim}
 use Rattle.std.proofs.Props.{props}
-use Rattle.wasm_text.specs.Operators as wire
 use Rattle.wasm_text.specs.declared.limits.Limits.{Limits}
 use Rattle.walrus_types.specs.Operators.{Op}
 use Rattle.walrus_bodies.specs.InstrLocId.{InstrLocId}

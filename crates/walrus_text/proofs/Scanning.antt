@@ -1,6 +1,7 @@
 -- What the scan of a body keeps from operator to operator.
-use Rattle.std.proofs.Common.{◌≡◌, ℕ, ◌+◌, ◌-◌, ◌<◌, ◌≤◌, Bool, true, false, List, [], ◌∷◌, ◌++◌, length, take, drop, map, Option, Some, None, refl, sym, ap, ap₂, subst, ◌∙◌, arith, append_assoc, inl, inr}
+use Rattle.std.proofs.Common.{◌≡◌, ℕ, ◌+◌, ◌-◌, ◌<◌, ◌≤◌, Bool, true, false, List, [], ◌∷◌, ◌++◌, length, take, drop, map, Option, Some, refl, sym, ap, ap₂, subst, ◌∙◌, arith, append_assoc, inl, inr}
 use Rattle.std.specs.Prelude.{nat_eq, ◌&&◌, IfSome}
+use Rattle.std.specs.Bool.{then_some}
 use Rattle.std.specs.List.{list_all}
 use Rattle.std.proofs.lemmas.Bool.{eqb-true, ne_eqb, lt-ltb}
 use Rattle.std.proofs.lemmas.List.{append-nil, map-append, length-append}
@@ -121,6 +122,13 @@ first_does : (bytes : List ℕ) (at op : ℕ) (blocks : List Opened) (behind : O
 first_does bytes at op blocks behind (inl e) does = does op (drop (at + 1) bytes) e
 first_does bytes at op blocks behind (inr (e, large)) does = prefixed_stays op blocks large ∙ does 252 (drop (at + 1) bytes) e
 
+-- what the number of this byte does, does whichever byte stands there
+pub turned : (bytes behind : List ℕ) (at byte op : ℕ) (blocks : List Opened) (after : Option (List Opened)) → drop at bytes ≡ byte ∷ behind → op ≡ byte → blocks_behind op blocks ≡ after
+    → (first : ℕ) (rest : List ℕ) → drop at bytes ≡ first ∷ rest → blocks_behind first blocks ≡ after
+turned bytes behind at byte op blocks after here as_byte does first rest e =
+    let same : op ≡ first = cc in
+    subst (λ (n : ℕ). blocks_behind n blocks ≡ after) same does
+
 after_near : (op : ℕ) (args : List Arg) (blocks : List Opened) → is_none_open blocks ≡ false → labels_below (blocks_meant op blocks) args ≡ true → blocks_after op args blocks ≡ blocks_behind op blocks
 after_near op args [] closed near = absurd cc
 after_near op args (block ∷ around) closed near = rw near refl
@@ -166,9 +174,13 @@ whole_body limits bytes marks count at blocks last closed so_far =
       nested = ap (nests (Some (Plain ∷ []))) (sym (append-nil (ops_of so_far.texts))) ∙ sym (so_far.nesting []) ∙ closed;
     }
 
+counted_if : (limits : Limits) (bytes marks : List ℕ) (count at : ℕ) (blocks : List Opened) (t : Bool) → nat_eq at (length bytes) ≡ t → is_none_open blocks ≡ true
+    → UpTo limits bytes marks count at blocks → IfSome (then_some t count) (IsPlainBody limits bytes marks)
+counted_if limits bytes marks count at blocks false e closed so_far = tt
+counted_if limits bytes marks count at blocks true e closed so_far = whole_body limits bytes marks count at blocks (eqb-true at (length bytes) e) closed so_far
+
 -- counted, where nothing is left
-pub counted_body : (limits : Limits) (bytes marks : List ℕ) (turn at : ℕ) (blocks : List Opened) (found : Option ℕ) → is_none_open blocks ≡ true → UpTo limits bytes marks (turn + 1) at blocks
-    → IfSome found (λ count. (nat_eq at (length bytes) ≡ true) × (count ≡ turn + 1)) → IfSome found (IsPlainBody limits bytes marks)
-counted_body limits bytes marks turn at blocks None closed so_far h = tt
-counted_body limits bytes marks turn at blocks (Some count) closed so_far h =
-    subst (IsPlainBody limits bytes marks) (sym h.1) (whole_body limits bytes marks (turn + 1) at blocks (eqb-true at (length bytes) h.0) closed so_far)
+pub counted_body : (limits : Limits) (bytes marks : List ℕ) (count at : ℕ) (blocks : List Opened) (found : Option ℕ) → is_none_open blocks ≡ true → UpTo limits bytes marks count at blocks
+    → found ≡ then_some (nat_eq at (length bytes)) count → IfSome found (IsPlainBody limits bytes marks)
+counted_body limits bytes marks count at blocks found closed so_far same =
+    subst (λ (f : Option ℕ). IfSome f (IsPlainBody limits bytes marks)) (sym same) (counted_if limits bytes marks count at blocks (nat_eq at (length bytes)) refl closed so_far)

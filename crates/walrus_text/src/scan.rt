@@ -1,7 +1,7 @@
 //! Scanning a whole body (Binary Format > Instructions > Expressions).
-ghost use Rattle.std.specs.Prelude.{◌≡◌, ◌+◌, ◌∷◌, [], ℕ, true, List, Some, drop, IfOk, IfSome, IsFalse};
+ghost use Rattle.std.specs.Prelude.{◌≡◌, ◌+◌, ◌∷◌, [], ℕ, List, Some, drop, IfOk, IfSome, IsFalse, MatchOption};
 ghost use Rattle.walrus_bodies.specs.Blocks.{blocks_behind};
-ghost use Rattle.walrus_bodies.specs.OpenBlocks.{opened, Steps};
+ghost use Rattle.walrus_bodies.specs.OpenBlocks.{opened};
 ghost use Rattle.walrus_bodies.specs.declared.blocks.Opened.{Opened as Block};
 ghost use Rattle.walrus_text.specs.PlainBody.{IsPlainBody};
 
@@ -59,33 +59,37 @@ fn scan_operators(
     let mut here = *limits;
     here.labels = blocks.depth();
     let mut at = 0;
-    'operators: for turn in 0..bytes.len() {
+    let mut count = 0;
+    'operators: while at < bytes.len() {
         let behind = scan_operator(bytes, 0, at, &here, marks)?;
         if behind == NO_PLACE {
             return Ok(None);
         }
-        if !turn_at(bytes, at, blocks)? {
-            return Ok(None);
+        count += 1;
+        if let Some(byte) = turning_at(bytes, at) {
+            if !blocks.turn(u32::from(byte))? {
+                return Ok(None);
+            }
+            if blocks.is_closed() {
+                return Ok((behind == bytes.len()).then_some(count));
+            }
+            here.labels = blocks.depth();
         }
-        if blocks.is_closed() {
-            return Ok(count_if(behind == bytes.len(), turn));
-        }
-        here.labels = blocks.depth();
         at = behind;
     }
     Ok(None)
 }
 
-// Opens or closes what the operator does that begins at a place.
+// The first byte of the operator that begins at a place, where such an operator may open or close a block.
 #[inline]
-fn turn_at(bytes: &[u8], at: usize, blocks: &mut OpenBlocks) -> Result<bool, AllocError>
-    ensures { (first : ℕ) (rest : List ℕ) → drop at bytes.now ≡ first ∷ rest
-        → Steps (blocks_behind first (opened blocks.old)) (opened blocks.new) result }
+fn turning_at(bytes: &[u8], at: usize) -> Option<u8>
+    ensures { MatchOption result ((first : ℕ) (rest : List ℕ) → drop at bytes.now ≡ first ∷ rest
+        → (blocks : List Block) → blocks_behind first blocks ≡ Some blocks)
+        (λ byte. drop at bytes.now ≡ byte ∷ drop (at + 1) bytes.now) }
 {
     match bytes.get(at) {
-        Some(byte) if may_turn(*byte) => blocks.turn(u32::from(*byte)),
-        Some(_) => Ok(true),
-        None => Ok(false),
+        Some(byte) if may_turn(*byte) => Some(*byte),
+        _ => None,
     }
 }
 
@@ -95,11 +99,4 @@ fn may_turn(byte: u8) -> bool
     ensures { IsFalse result → (blocks : List Block) → blocks_behind byte blocks ≡ Some blocks }
 {
     byte < 12 || (byte >= 24 && byte < 32)
-}
-
-// One more than `turn`, if it is so.
-fn count_if(is_so: bool, turn: usize) -> Option<usize>
-    ensures { IfSome result (λ count. (is_so ≡ true) × (count ≡ turn + 1)) }
-{
-    if is_so { turn.checked_add(1) } else { None }
 }

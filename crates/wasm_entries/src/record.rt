@@ -182,7 +182,7 @@ pub enum RawConst {
     RefI31,
 }
 
-/// A constant expression (Binary Format > Instructions > Expressions). One of a single operator takes no memory; no other one is held so.
+/// A constant expression (Binary Format > Instructions > Expressions). `Single` takes no memory; a list of one operator means the same.
 #[derive(Debug, PartialEq, Eq, Drop)]
 pub enum RawExpression {
     Single(RawConst),

@@ -1,5 +1,5 @@
-use Rattle.std.proofs.Common.{◌≡◌, ◌+◌, ◌-◌, ℕ, suc, List, length, nat_eq, true, false, refl, sym, ap, subst, ◌∙◌, arith, eqb-true, eq-eqb}
-use Rattle.std.specs.Prelude.{Some, None}
+use Rattle.std.proofs.Common.{◌≡◌, ◌-◌, ℕ, suc, List, length, nat_eq, false, refl, sym, ap, ◌∙◌, arith, eqb-true, eq-eqb}
+use Rattle.std.specs.Prelude.{None}
 use Rattle.wasm_forms.specs.Grammar.{at, until_at}
 use Rattle.wasm_forms.proofs.Bind.{false_unless, some_not_none}
 use Rattle.wasm_entries.specs.Forms.{const_from}
