@@ -1,7 +1,7 @@
 -- Numbers one behind another in front, and others behind them.
-use Rattle.std.proofs.Common.{◌≡◌, ℕ, zero, suc, ◌+◌, ◌-◌, ◌<◌, ◌≤◌, List, [], ◌∷◌, ◌++◌, length, map, refl, sym, ap, ◌∙◌, arith, append_assoc, length-append}
+use Rattle.std.proofs.Common.{◌≡◌, ◌≢◌, Bool, true, false, subst, ℕ, zero, suc, ◌+◌, ◌-◌, ◌<◌, ◌≤◌, List, [], ◌∷◌, ◌++◌, length, map, refl, sym, ap, ◌∙◌, arith, append_assoc, length-append}
 use Rattle.std.specs.Borrow.{Bor}
-use Rattle.std.specs.Prelude.{IfSome, Option, None, Some, get_or, is_some, nat_lt, option_copied, option_map, slice_get}
+use Rattle.std.specs.Prelude.{if◌then◌else◌, IfSome, Option, None, Some, get_or, is_some, nat_lt, option_copied, option_map, slice_get}
 use Rattle.std.specs.List.{range_with_len}
 use Rattle.std.proofs.lemmas.List.{append-nil, length-map}
 use Rattle.std.proofs.lemmas.Bool.{ltb-false, ltb-true}
@@ -65,3 +65,23 @@ looked_up xs k (Some x) there at = sym (slice_get_read xs (length xs) k x.now re
 pub got_behind : {K : Type 0} (n i : ℕ) (ids : List (Id K)) (found : Option (Id K)) → found ≡ slice_get ids (i - n) → n ≤ i → option_map place found ≡ slice_get (range_with_len 0 n ++ map place ids) i
 got_behind n i ids found is past =
     ap (option_map place) is ∙ sym (slice_get-map place ids (i - n)) ∙ sym (not_in_front n i (i - n) (map place ids) (omega arith))
+
+-- none behind is no further one in front
+pub none_further : {K : Type 0} (n : ℕ) (ids : List (Id K)) → length ids ≡ 0 → slice_get (map place ids) 0 ≢ Some n
+none_further n [] none = λ e. absurd cc
+none_further n (id ∷ ids) none = absurd (omega arith)
+
+-- nor is one behind the others, unless it is the first and at the place of the next index
+pub still_no_more : {K : Type 0} (n : ℕ) (ids : List (Id K)) (id : Id K) → slice_get (map place ids) 0 ≢ Some n → (length ids ≡ 0 → place id ≢ n) → slice_get (map place (ids ++ id ∷ [])) 0 ≢ Some n
+still_no_more n [] id first other = λ e. other refl cc
+still_no_more n (x ∷ ids) id first other = first
+
+-- one that is pushed, or not for want of memory
+pub pushed_no_more : {K : Type 0} (n : ℕ) (old new : List (Id K)) (id : Id K) (t : Bool) → new ≡ (if t then old ++ id ∷ [] else old)
+    → slice_get (map place (old ++ id ∷ [])) 0 ≢ Some n → slice_get (map place old) 0 ≢ Some n → slice_get (map place new) 0 ≢ Some n
+pushed_no_more n old new id true is pushed kept = subst (λ (ids : List (Id _)). slice_get (map place ids) 0 ≢ Some n) (sym is) pushed
+pushed_no_more n old new id false is pushed kept = subst (λ (ids : List (Id _)). slice_get (map place ids) 0 ≢ Some n) (sym is) kept
+
+-- the one at the next index isn't at its place
+pub no_more_in_front : {K : Type 0} (n : ℕ) (ids : List (Id K)) → slice_get (map place ids) 0 ≢ Some n → slice_get (range_with_len 0 n ++ map place ids) n ≢ Some n
+no_more_in_front n ids other = λ e. other (sym (not_in_front n n 0 (map place ids) (omega arith)) ∙ e)

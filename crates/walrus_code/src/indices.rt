@@ -1,5 +1,5 @@
 //! Items by their indices (Structure > Modules > Indices).
-ghost use Rattle.std.specs.Prelude.{◌≡◌, ◌≤◌, ◌<◌, ◌^◌, ◌++◌, ◌∷◌, [], ℕ, length, Some, Contains, IfOk, MatchResult, option_map, slice_get};
+ghost use Rattle.std.specs.Prelude.{◌≡◌, ◌≢◌, ◌≤◌, ◌<◌, ◌^◌, ◌++◌, ◌∷◌, [], ℕ, length, map, Some, Contains, IsFalse, IsTrue, IfOk, MatchResult, option_map, slice_get};
 ghost use Rattle.std.specs.List.{range_with_len};
 ghost use Rattle.walrus_base.specs.Id.{place};
 ghost use Rattle.walrus_types.specs.Operators.{Space, Types, Functions, Tables, Memories, Tags, Globals, Elements, DataSegments};
@@ -20,6 +20,7 @@ pub struct IndexSpace<K> {
     // Those behind.
     behind: Vec<Id<K>>,
     ghost few: { front ≤ 2 ^ 32 },
+    ghost no_more: { slice_get (map place behind.items) 0 ≢ Some front },
 }
 
 impl<K> IndexSpace<K> {
@@ -54,12 +55,21 @@ impl<K> IndexSpace<K> {
             (λ _. places_of self.new ≡ places_of self.old ++ place id ∷ [])
             (λ _. places_of self.new ≡ places_of self.old) }
     {
-        if self.behind.is_empty() && id.index() == self.front {
+        if self.goes_on_with(id) {
             self.front += 1;
             return Ok(());
         }
         self.behind.push(id)?;
         Ok(())
+    }
+
+    // Whether none is behind, and the item is at the place of the next index.
+    #[inline]
+    fn goes_on_with(&self, id: Id<K>) -> bool
+        ensures yes { IsTrue result → (length self.now.behind.items ≡ 0) × (place id ≡ self.now.front) }
+        ensures no { IsFalse result → length self.now.behind.items ≡ 0 → place id ≢ self.now.front }
+    {
+        self.behind.is_empty() && id.index() == self.front
     }
 
     /// The item of this index, if one is given it.
@@ -80,9 +90,10 @@ impl<K> IndexSpace<K> {
         self.front + self.behind.len()
     }
 
-    /// So many items stand in front each of which is at the place of its index.
+    /// How many items stand in front each of which is at the place of its index.
     pub fn in_front(&self) -> usize
-        ensures { (index : ℕ) → index < result → slice_get (places_of self.now) index ≡ Some index }
+        ensures in_place { (index : ℕ) → index < result → slice_get (places_of self.now) index ≡ Some index }
+        ensures no_more { slice_get (places_of self.now) result ≢ Some result }
     {
         self.front
     }

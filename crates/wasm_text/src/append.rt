@@ -1,7 +1,7 @@
 //! Bytes with marks, written anew: what arguments name gets new numbers, and each argument at a mark its one spelling.
 
-ghost use Rattle.std.specs.Prelude.{◌≡◌, ◌<◌, ◌≤◌, ◌+◌, ◌++◌, length, IfOk, IfSome, Some};
-ghost use Rattle.wasm_text.specs.declared.mark.TheConstants.{MARK_ACCESS};
+ghost use Rattle.std.specs.Prelude.{◌≡◌, ◌≢◌, ◌<◌, ◌≤◌, ◌+◌, ◌++◌, length, IfOk, IfSome, Some};
+ghost use Rattle.wasm_text.specs.declared.mark.TheConstants.{MARK_ACCESS, MARK_BLOCK, MARK_S32, MARK_S64};
 ghost use Rattle.wasm_text.specs.declared.places.TheConstants.{NO_PLACE};
 ghost use Rattle.wasm_forms.specs.Types.{value_bytes};
 ghost use Rattle.wasm_forms.specs.Grammar.{at, U32};
@@ -210,7 +210,11 @@ fn read_access(bytes: &[u8]) -> Result<(RawArg, &[u8]), WireError>
 // An index, a label or a count, as the argument at a mark of this kind.
 #[tactic(auto, unfolding(crate::specs::Marks::form_of))]
 fn read_number(kind: u32, bytes: &[u8]) -> Result<(RawArg, &[u8]), WireError>
-    ensures { IfOk result (λ r. at (form_of kind) bytes.now ≡ Some (r.0, r.1.now)) }
+    requires access { kind ≢ MARK_ACCESS }
+    requires s32 { kind ≢ MARK_S32 }
+    requires s64 { kind ≢ MARK_S64 }
+    requires block { kind ≢ MARK_BLOCK }
+    ensures { Gives (λ r. (r.0, r.1.now)) result (at (form_of kind) bytes.now) }
 {
     let (number, rest) = read_u32(bytes)?;
     match kind {
@@ -232,7 +236,7 @@ fn read_number(kind: u32, bytes: &[u8]) -> Result<(RawArg, &[u8]), WireError>
 /// `Malformed` where none stands there, and `Memory`.
 #[tactic(auto, unfolding(crate::specs::Marks::form_of))]
 pub fn read_marked(kind: u32, bytes: &[u8]) -> Result<(RawArg, &[u8]), WireError>
-    ensures { IfOk result (λ r. at (form_of kind) bytes.now ≡ Some (r.0, r.1.now)) }
+    ensures { Gives (λ r. (r.0, r.1.now)) result (at (form_of kind) bytes.now) }
 {
     match kind {
         MARK_ACCESS => read_access(bytes),
