@@ -1,6 +1,7 @@
 -- A data segment as a record: what a refusal of its offset says of it, and what its parts say together.
 use Rattle.std.proofs.Common.{◌≡◌, ℕ, List, [], ◌∷◌, refl, sym, ap, ◌∙◌, subst}
 use Rattle.std.specs.Prelude.{Option, Some, None, Contains, Ok, Err}
+use Rattle.std.specs.Global.{Box}
 use Rattle.wasm_forms.specs.Reading.{◌>>=◌}
 use Rattle.wasm_entries.specs.Record.{expression, data_entry}
 use Rattle.wasm_entries.specs.Spelling.{DataStands, ExpressionStands, IsIndex}
@@ -50,9 +51,14 @@ module _ (names : Lookup) where
     spelled_by : (IsUnspelled offset → ⊥) → KindIsUnspelled (ActiveData memory offset) → ⊥
     spelled_by spelled (UnspelledOffset m o is unspelled) = let same : o ≡ offset = cc in spelled (subst IsUnspelled same unspelled)
 
+    -- `boxed` holds what was written of the offset
     pub active_written : (index : ℕ) → Some index ≡ names Memories memory → IsIndex index → (raw : RawExpression) → IndexesConst {X = RawExpression} (λ r. consts_of (expression r)) names offset (Ok raw) → ExpressionStands (expression raw)
-        → IndexesMode names (ActiveData memory offset) (Ok (Active index raw))
-    active_written index is stands raw h spelled = (found_by index is (Some (consts_of (expression raw))) h.0, (stands, spelled), spelled_by h.1)
+        → (boxed : Box RawExpression) → boxed.value ≡ raw → IndexesMode names (ActiveData memory offset) (Ok (Active index boxed))
+    active_written index is stands raw h spelled boxed same = (
+      found_by index is (Some (consts_of (expression raw))) h.0 ∙ ap (λ (r : RawExpression). Some (ActiveData index (consts_of (expression r)))) (sym same),
+      (stands, subst (λ (r : RawExpression). ExpressionStands (expression r)) (sym same) spelled),
+      spelled_by h.1,
+    )
 
   passive_spelled : KindIsUnspelled PassiveData → ⊥
   passive_spelled (UnspelledOffset m o is unspelled) = absurd (cc)

@@ -1,6 +1,7 @@
 -- A table as a record: what a refusal of the type of its elements or its initialiser says of it, and what both parts say together.
 use Rattle.std.proofs.Common.{◌≡◌, ℕ, List, false, refl, sym, ap, ◌∙◌, subst}
 use Rattle.std.specs.Prelude.{Option, Some, None, Ok, Err, option_map}
+use Rattle.std.specs.Global.{Box}
 use Rattle.wasm_forms.specs.Reading.{◌>>=◌}
 use Rattle.wasm_entries.specs.Record.{expression, table_entry}
 use Rattle.wasm_entries.specs.Spelling.{TableStands}
@@ -63,10 +64,10 @@ module _ (names : Lookup) (t : Table) where
   spelled_by not_exact spelled (ExactElement exact) = none_there (sym not_exact ∙ exact)
   spelled_by not_exact spelled (UnspelledInitialiser ops at unspelled) = spelled ops at unspelled
 
-  abbrev initial_of : Option RawExpression → Option (List Op)
-  initial_of raw = option_map consts_of (option_map expression raw)
+  abbrev initial_of : Option (Box RawExpression) → Option (List Op)
+  initial_of raw = option_map consts_of (option_map (λ (initial : Box RawExpression). expression initial.value) raw)
 
-  initial_found : (raw : Option RawExpression) (o : Option (List Op)) → t.initialiser ≡ o → IndexesInitial names o (Ok raw)
+  initial_found : (raw : Option (Box RawExpression)) (o : Option (List Op)) → t.initialiser ≡ o → IndexesInitial names o (Ok raw)
       → (named_initialiser names t.initialiser ≡ Some (initial_of raw)) × ((ops : List Op) → t.initialiser ≡ Some ops → IsUnspelled ops → ⊥)
   initial_found None None is h = (ap (named_initialiser names) is, λ ops at u. none_some ops (sym is ∙ at))
   initial_found (Some raw) None is h = absurd (cc)

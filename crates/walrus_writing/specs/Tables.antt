@@ -1,5 +1,6 @@
 -- What is answered where a table that the module defines is written as a record.
 use Rattle.std.specs.Prelude.{◌≡◌, ⊤, List, true, Option, Some, None, Result, Ok, Err, Contains}
+use Rattle.std.specs.Global.{Box}
 use Rattle.wasm_entries.specs.Record.{expression, table_entry}
 use Rattle.wasm_entries.specs.Spelling.{TableStands}
 use Rattle.wasm_entries.specs.declared.record.RawExpression.{RawExpression}
@@ -25,10 +26,10 @@ pub data TableIsUnspelled (t : Table) : Type 0 where
   UnspelledInitialiser : (ops : List Op) → t.initialiser ≡ Some ops → IsUnspelled ops → TableIsUnspelled t
 
 -- an initialiser, if there is one
-abbrev pub IndexesInitial : Lookup → Option (List Op) → Result (Option RawExpression) IrError → Type 0
+abbrev pub IndexesInitial : Lookup → Option (List Op) → Result (Option (Box RawExpression)) IrError → Type 0
 IndexesInitial names None result = result ≡ Ok None
 IndexesInitial names (Some ops) (Ok None) = ⊥
-IndexesInitial names (Some ops) (Ok (Some raw)) = IndexesConst (λ r. consts_of (expression r)) names ops (Ok raw)
+IndexesInitial names (Some ops) (Ok (Some raw)) = IndexesConst (λ r. consts_of (expression r)) names ops (Ok raw.value)
 IndexesInitial names (Some ops) (Err e) = IndexesConst {X = RawExpression} (λ r. consts_of (expression r)) names ops (Err e)
 
 -- the record is that of the table under the look-up; refused only with a cause, and never Ok with one

@@ -40,7 +40,7 @@ fn raw_mode(alloc: Global, kind: &DataKind, indices: &IdsToIndices) -> Result<Ra
                 return Err(IrError::NoIndex);
             };
             let raw_offset = raw_const(alloc, offset, indices)?;
-            Ok(RawDataMode::Active(index, raw_offset))
+            Ok(RawDataMode::Active(index, Box::new(alloc, raw_offset)?))
         }
         DataKind::Passive => Ok(RawDataMode::Passive),
     }

@@ -62,13 +62,17 @@ fn raw_initial(
     alloc: Global,
     init: &Option<ConstExpr>,
     indices: &IdsToIndices,
-) -> Result<Option<RawExpression>, IrError>
+) -> Result<Option<Box<RawExpression>>, IrError>
     ensures indexed { IndexesInitial (index_of indices.now) (option_map const_ops init.now) result }
-    ensures spelled { IfOk result (λ raw. InitialStands (option_map expression raw)) }
+    ensures spelled { IfOk result (λ raw.
+        InitialStands (option_map (λ initial. expression initial.value) raw)) }
 {
     match init {
         None => Ok(None),
-        Some(expr) => Ok(Some(raw_const(alloc, expr, indices)?)),
+        Some(expr) => {
+            let initial = raw_const(alloc, expr, indices)?;
+            Ok(Some(Box::new(alloc, initial)?))
+        }
     }
 }
 

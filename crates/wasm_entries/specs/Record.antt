@@ -133,7 +133,7 @@ abbrev pub import_entry : RawImport → Import
 import_entry i = record { from = i.from.now; name = i.name.now; desc = held_desc i.held }
 
 abbrev pub table_entry : RawTable → Table
-table_entry t = record { ty = t.ty; initial = option_map expression t.initial }
+table_entry t = record { ty = t.ty; initial = option_map (λ initial. expression initial.value) t.initial }
 
 abbrev pub global_entry : RawGlobal → Global
 global_entry g = record { ty = g.ty; initial = expression g.initial }
@@ -154,7 +154,7 @@ abbrev pub element_entry : RawElement → Element
 element_entry e = record { mode = element_mode e.mode; items = items_of e.items }
 
 abbrev pub data_mode : RawDataMode → DataMode
-data_mode (data_modes.Active memory offset) = ActiveData memory (expression offset)
+data_mode (data_modes.Active memory offset) = ActiveData memory (expression offset.value)
 data_mode data_modes.Passive = PassiveData
 
 abbrev pub data_entry : RawData → Segment

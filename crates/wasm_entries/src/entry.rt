@@ -96,7 +96,7 @@ fn read_table_from(alloc: Global, first: u8, bytes: &[u8]) -> Result<(RawTable, 
     Ok((
         RawTable {
             ty,
-            initial: Some(initial),
+            initial: Some(Box::new(alloc, initial)?),
         },
         rest,
     ))

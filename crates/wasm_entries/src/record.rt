@@ -205,7 +205,7 @@ impl RawExpression {
 #[derive(Debug, PartialEq, Eq, Drop)]
 pub struct RawTable {
     pub ty: RawTableType,
-    pub initial: Option<RawExpression>,
+    pub initial: Option<Box<RawExpression>>,
 }
 
 /// A global of the module (Binary Format > Modules > Global Section).
@@ -259,7 +259,7 @@ pub struct RawElement {
 /// When a segment of data is used.
 #[derive(Debug, PartialEq, Eq, Drop)]
 pub enum RawDataMode {
-    Active(u32, RawExpression),
+    Active(u32, Box<RawExpression>),
     Passive,
 }
 

@@ -133,7 +133,7 @@ fn read_data_from(
     match flags {
         0 => {
             let (offset, after) = read_expression(alloc, bytes)?;
-            let mode = RawDataMode::Active(0, offset);
+            let mode = RawDataMode::Active(0, Box::new(alloc, offset)?);
             let (bytes, rest) = read_block(after)?;
             Ok((RawData { mode, bytes }, rest))
         }
@@ -145,7 +145,7 @@ fn read_data_from(
         2 => {
             let (memory, behind) = read_u32(bytes)?;
             let (offset, after) = read_expression(alloc, behind)?;
-            let mode = RawDataMode::Active(memory, offset);
+            let mode = RawDataMode::Active(memory, Box::new(alloc, offset)?);
             let (bytes, rest) = read_block(after)?;
             Ok((RawData { mode, bytes }, rest))
         }

@@ -10,6 +10,6 @@ returns-in_err-raw_offset-in-Active c =
     let p = err_from_is_err_and c.from_residual.result c.from_residual.ensures.1 in
     rw (c.in-Active.is) (rw (p.1, p.2) (offset_refused (index_of c.args.indices.now) (place c.in-Active.memory) (const_ops c.in-Active.offset) c.in-Some.index c.in-Some.ensures.same _ c.in_err-raw_offset-in-Active.ensures.indexed))
 
-pub returns-in_ok-raw_offset-in-Active : goal.returns-in_ok-raw_offset-in-Active
-returns-in_ok-raw_offset-in-Active c =
-    rw (c.in-Active.is) (active_written (index_of c.args.indices.now) (place c.in-Active.memory) (const_ops c.in-Active.offset) c.in-Some.index c.in-Some.ensures.same c.in-Some.ensures.stands c.in_ok-raw_offset-in-Active.raw_offset c.in_ok-raw_offset-in-Active.ensures.indexed c.in_ok-raw_offset-in-Active.ensures.spelled)
+pub returns-in_ok-new-in-Active : goal.returns-in_ok-new-in-Active
+returns-in_ok-new-in-Active c =
+    rw (c.in-Active.is) (active_written (index_of c.args.indices.now) (place c.in-Active.memory) (const_ops c.in-Active.offset) c.in-Some.index c.in-Some.ensures.same c.in-Some.ensures.stands c.in_ok-raw_offset-in-Active.raw_offset c.in_ok-raw_offset-in-Active.ensures.indexed c.in_ok-raw_offset-in-Active.ensures.spelled c.in_ok-new-in-Active.field-0 c.in_ok-new-in-Active.ensures.ok)

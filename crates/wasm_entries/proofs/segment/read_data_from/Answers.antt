@@ -14,7 +14,7 @@ pub returns-in_err-bytes-in-0 : goal.returns-in_err-bytes-in-0
 returns-in_err-bytes-in-0 c = passes c.from_residual-in_err-bytes-in-0.result (λ r. (data_entry r.0, r.1.now)) c.in_err-bytes-in-0.field-0.0 (at Block c.in_ok-offset-in-0.after.now) (at (data_from c.args.flags) c.args.bytes.now) c.from_residual-in_err-bytes-in-0.ensures.1 c.in_err-bytes-in-0.ensures.gives (λ n. data_at0 c.args.flags c.args.bytes.now c.in-0.is ∙ data_second (Made (ActiveData 0) expression_form) c.args.bytes.now c.in_ok-offset-in-0.after.now (ActiveData 0 (expression c.in_ok-offset-in-0.offset)) (active0_gives c.args.bytes.now c.in_ok-offset-in-0.after.now (expression c.in_ok-offset-in-0.offset) c.in_ok-offset-in-0.ensures) n)
 
 pub returns-in_ok-bytes-in-0 : goal.returns-in_ok-bytes-in-0
-returns-in_ok-bytes-in-0 c = data_at0 c.args.flags c.args.bytes.now c.in-0.is ∙ data_gives (Made (ActiveData 0) expression_form) c.args.bytes.now c.in_ok-offset-in-0.after.now c.in_ok-bytes-in-0.rest.now c.in_ok-bytes-in-0.bytes.now (ActiveData 0 (expression c.in_ok-offset-in-0.offset)) (active0_gives c.args.bytes.now c.in_ok-offset-in-0.after.now (expression c.in_ok-offset-in-0.offset) c.in_ok-offset-in-0.ensures) c.in_ok-bytes-in-0.ensures.gives
+returns-in_ok-bytes-in-0 c = rw c.in_ok-new-in-0.ensures.ok (data_at0 c.args.flags c.args.bytes.now c.in-0.is ∙ data_gives (Made (ActiveData 0) expression_form) c.args.bytes.now c.in_ok-offset-in-0.after.now c.in_ok-bytes-in-0.rest.now c.in_ok-bytes-in-0.bytes.now (ActiveData 0 (expression c.in_ok-offset-in-0.offset)) (active0_gives c.args.bytes.now c.in_ok-offset-in-0.after.now (expression c.in_ok-offset-in-0.offset) c.in_ok-offset-in-0.ensures) c.in_ok-bytes-in-0.ensures.gives)
 
 pub returns-in_err-bytes-in-1 : goal.returns-in_err-bytes-in-1
 returns-in_err-bytes-in-1 c = passes c.from_residual-in_err-bytes-in-1.result (λ r. (data_entry r.0, r.1.now)) c.in_err-bytes-in-1.field-0.0 (at Block c.args.bytes.now) (at (data_from c.args.flags) c.args.bytes.now) c.from_residual-in_err-bytes-in-1.ensures.1 c.in_err-bytes-in-1.ensures.gives (λ n. data_at1 c.args.flags c.args.bytes.now c.in-1.is ∙ data_second (grammar.Gives PassiveData) c.args.bytes.now c.args.bytes.now PassiveData refl n)
@@ -32,4 +32,4 @@ pub returns-in_err-bytes-in-2 : goal.returns-in_err-bytes-in-2
 returns-in_err-bytes-in-2 c = passes c.from_residual-in_err-bytes-in-2.result (λ r. (data_entry r.0, r.1.now)) c.in_err-bytes-in-2.field-0.0 (at Block c.in_ok-offset-in-2.after.now) (at (data_from c.args.flags) c.args.bytes.now) c.from_residual-in_err-bytes-in-2.ensures.1 c.in_err-bytes-in-2.ensures.gives (λ n. data_at2 c.args.flags c.args.bytes.now c.in-2.is ∙ data_second (Made (λ x. ActiveData x.0 x.1) (U32 then expression_form)) c.args.bytes.now c.in_ok-offset-in-2.after.now (ActiveData c.in_ok-memory-in-2.memory (expression c.in_ok-offset-in-2.offset)) (active_gives c.args.bytes.now c.in_ok-memory-in-2.behind.now c.in_ok-offset-in-2.after.now c.in_ok-memory-in-2.memory (expression c.in_ok-offset-in-2.offset) c.in_ok-memory-in-2.ensures.gives c.in_ok-offset-in-2.ensures) n)
 
 pub returns-in_ok-bytes-in-2 : goal.returns-in_ok-bytes-in-2
-returns-in_ok-bytes-in-2 c = data_at2 c.args.flags c.args.bytes.now c.in-2.is ∙ data_gives (Made (λ x. ActiveData x.0 x.1) (U32 then expression_form)) c.args.bytes.now c.in_ok-offset-in-2.after.now c.in_ok-bytes-in-2.rest.now c.in_ok-bytes-in-2.bytes.now (ActiveData c.in_ok-memory-in-2.memory (expression c.in_ok-offset-in-2.offset)) (active_gives c.args.bytes.now c.in_ok-memory-in-2.behind.now c.in_ok-offset-in-2.after.now c.in_ok-memory-in-2.memory (expression c.in_ok-offset-in-2.offset) c.in_ok-memory-in-2.ensures.gives c.in_ok-offset-in-2.ensures) c.in_ok-bytes-in-2.ensures.gives
+returns-in_ok-bytes-in-2 c = rw c.in_ok-new-in-2.ensures.ok (data_at2 c.args.flags c.args.bytes.now c.in-2.is ∙ data_gives (Made (λ x. ActiveData x.0 x.1) (U32 then expression_form)) c.args.bytes.now c.in_ok-offset-in-2.after.now c.in_ok-bytes-in-2.rest.now c.in_ok-bytes-in-2.bytes.now (ActiveData c.in_ok-memory-in-2.memory (expression c.in_ok-offset-in-2.offset)) (active_gives c.args.bytes.now c.in_ok-memory-in-2.behind.now c.in_ok-offset-in-2.after.now c.in_ok-memory-in-2.memory (expression c.in_ok-offset-in-2.offset) c.in_ok-memory-in-2.ensures.gives c.in_ok-offset-in-2.ensures) c.in_ok-bytes-in-2.ensures.gives)
