@@ -1,11 +1,11 @@
 #!/usr/bin/env bash
 # Makes a module of each text NAME.wat of tests/made with wabt's wat2wasm, runs the built program over it, and compares what comes out with
 # the module of NAME.kept.wat, which says what has to be kept, byte for byte; wabt's wasm-validate has to accept it too. Prints a line a
-# module and the count. No part of the gate; where wabt (Debian's package of that name) isn't installed, nothing is run.
+# module and the count. Where wabt (Debian's package of that name, which tests/install.sh puts in) isn't there, nothing is run, and the status is 2.
 # tests/made.sh [PROGRAM], the proved program where none is given.
 set -eu
 top=$(cd "$(dirname "$0")/.." && pwd)
-command -v wat2wasm > /dev/null || { echo "tests/made.sh: there is no wat2wasm, so nothing is run" >&2; exit 0; }
+command -v wat2wasm > /dev/null || { echo "tests/made.sh: there is no wat2wasm, so nothing is run" >&2; exit 2; }
 program=${1:-$top/crates/walrus_gc/out/walrus_gc}
 [ $# -gt 0 ] || "$top/tests/build.sh" walrus_gc
 features=(--enable-multi-memory --enable-memory64 --enable-exceptions --enable-threads --enable-extended-const)

@@ -1,11 +1,11 @@
 #!/usr/bin/env bash
 # Holds the code transform against what wabt's wasm-objdump finds in the same bytes, over real modules: transform.py says in what. The program
 # that tells it is made in a copy of the crates, with nothing proved (unproved.sh), since it is for this script alone. No part of the gate; where
-# wabt (Debian's package of that name) isn't installed, nothing is run.
+# wabt (Debian's package of that name, which tests/install.sh puts in) isn't there, nothing is run, and the status is 2.
 # tests/transform.sh [FOLDER..], where none is given tests/samples and, where it is there, ../shared/samples.
 set -eu
 top=$(cd "$(dirname "$0")/.." && pwd)
-command -v wasm-objdump > /dev/null || { echo "tests/transform.sh: there is no wasm-objdump, so nothing is run" >&2; exit 0; }
+command -v wasm-objdump > /dev/null || { echo "tests/transform.sh: there is no wasm-objdump, so nothing is run" >&2; exit 2; }
 if [ $# = 0 ]; then
   set -- "$top/tests/samples"
   [ ! -d "$top/../shared/samples" ] || set -- "$@" "$top/../shared/samples"

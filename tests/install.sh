@@ -1,0 +1,35 @@
+#!/usr/bin/env bash
+# Puts in what the scripts of this folder compare with, as Debian's packages: wabt (wat2wasm, wasm-objdump, wasm-validate), binaryen (wasm-opt) and
+# nodejs (node). What is there stays. Where a package can't be put in, it says which commands are missing, and ends with status 1: what is compared
+# with them isn't compared then. `.ci/run` calls it, with a limit on its time. tests/install.sh [--look]: with --look nothing is put in.
+set -u
+declare -A package=([wat2wasm]=wabt [wasm-objdump]=wabt [wasm-validate]=wabt [wasm-opt]=binaryen [node]=nodejs)
+
+# The commands that aren't there, in the order of their names.
+missing() {
+  for command in "${!package[@]}"; do
+    command -v "$command" > /dev/null || echo "$command"
+  done | sort
+}
+
+# Their packages, each once.
+packages() {
+  for command; do
+    echo "${package[$command]}"
+  done | sort -u
+}
+
+# Puts packages in, by an index of them that is new where the old one doesn't have them.
+put_in() {
+  local install=(apt-get install -y -qq --no-install-recommends "$@")
+  DEBIAN_FRONTEND=noninteractive "${install[@]}" > /dev/null 2>&1 && return
+  apt-get update -qq > /dev/null 2>&1 && DEBIAN_FRONTEND=noninteractive "${install[@]}" > /dev/null 2>&1
+}
+
+mapfile -t lacking < <(missing)
+if [ "${#lacking[@]}" -gt 0 ] && [ "${1-}" != --look ]; then
+  mapfile -t wanted < <(packages "${lacking[@]}")
+  put_in "${wanted[@]}" || true
+  mapfile -t lacking < <(missing)
+fi
+[ "${#lacking[@]}" = 0 ] || { echo "tests/install.sh: there is no ${lacking[*]}" >&2; exit 1; }
