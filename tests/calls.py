@@ -22,7 +22,7 @@ HEAD = """# The calls of `walrus`
 Made by `tests/calls.py --write` from the sources: each public call with its signature, the first sentence of what its source says of it,
 and the names of its clauses, where they have names: what it requires, and what it ensures. docs/PROMISES.md has what the main ones say,
 docs/DEFINITIONS.md the words in them. A type stands once, where it is first handed on, or behind what names it where it has no name there
-(unnamed). Fields, cases of enums, constants and types without a call are left out. Names of traits stand for the calls that they bring.
+(unnamed). Public fields stand in front of a type's calls (`.name`), cases of an enum behind `|`. Names of traits stand for the calls that they bring.
 """
 ITEM = r"^pub(?:\(crate\))? (?:const )?(struct|enum|trait|type|fn|mod) "
 FUNCTION = re.compile(r"^( *)(pub )?(?:const )?fn (\w+)", re.M)
@@ -103,6 +103,26 @@ def sentence(text, at):
 def derived(text, at):
     lines = " ".join(line for line in above(text, at) if line.startswith("#["))
     return {name.strip() for names in re.findall(r"derive(?:_where)?\(([^)]*)\)", lines) for name in names.split(",")}
+
+
+FIELD = re.compile(r"^    pub (\w+): (.*),$", re.M)
+CASE = re.compile(r"^    ([A-Z]\w*)(\([^\n]*\)| \{.*?^    \}| = [^\n]*)?,$", re.M | re.S)
+CONSTANT = re.compile(r"^    pub const (\w+): (.*?) =", re.M)
+
+
+def parts_of(kind, mine, blocks):
+    """The lines of a type's public fields, of its cases, and of the constants in its blocks."""
+    lines = []
+    if kind == "struct":
+        lines += [f"- `.{it[1]}: {it[2]}` {sentence(mine, it.start())}" for it in FIELD.finditer(mine)]
+    if kind == "enum":
+        for it in CASE.finditer(mine):
+            held = " ".join(re.sub(r"^\s*///.*$", "", it[2] or "", flags=re.M).split()).replace(", }", " }")
+            lines.append(f"- `| {it[1]}{' ' if held.startswith('{') else ''}{held}` {sentence(mine, it.start())}")
+    for block in blocks:
+        if block[3] is None:
+            lines += [f"- `{block[5]}::{it[1]}: {it[2]}` {sentence(block[6], it.start())}" for it in CONSTANT.finditer(block[6])]
+    return lines
 
 
 class Call:
@@ -195,11 +215,13 @@ class Page:
         self.reach("\n".join(re.findall(r"^pub type.*|^    pub \w+:.*|^    \w+\(.*", mine, re.M)), crate, module)
         unnamed = "" if place in self.named else " (unnamed)"
         traits = traits_of(place, blocks, self.named)
-        if own or kind == "trait":
+        parts = parts_of(kind, mine, blocks)
+        if own or parts or kind == "trait":
             alias = f" = {target}" if kind == "type" else ""
             self.lines.append(f"\n**`{shown}{alias}`**{unnamed} {sentence(text, at)}" + (f" Traits: {traits}." if traits else ""))
         elif traits and kind != "type":
             self.plain.append(f"- `{shown}`{unnamed}: {traits}")
+        self.lines += parts
         if kind == "trait":
             self.add_calls(calls_in(mine, True), crate, module)
         heads = [it[2] for it in own]

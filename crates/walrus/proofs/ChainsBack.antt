@@ -17,7 +17,7 @@ use Rattle.walrus_model.specs.Roots.{IsRoot}
 use Rattle.walrus_parts.specs.Items.{is_item}
 use Rattle.walrus_parts.proofs.ItemLemmas.{is_item-same, same-is_item}
 use Rattle.walrus.specs.Traced.{IsNamedFrom, Traces, item_in, place_in}
-use Rattle.walrus.specs.Why.{IsChain, LeadsTo}
+use Rattle.walrus.specs.Why.{IsChain, IsWay}
 use Rattle.walrus.specs.Worklist.{entered_items}
 use Rattle.walrus.specs.declared.passes.worklist.Worklist.{Worklist}
 
@@ -45,7 +45,7 @@ StandsFrom items at y = (k : ℕ) × (at ≤ k) × (k < length items) × (item_i
 pub record Back (v : Abstract) (items read : List Item) (at : ℕ) (x : Item) : Type 0 where
   pub others : List Item
   pub is : reverse read ≡ item_in items at ∷ others
-  pub leads : LeadsTo v (item_in items at) others x
+  pub leads : IsWay v (item_in items at) others x
   pub once : Once read
   pub from : (y : Item) → Contains read y → StandsFrom items at y
 

@@ -17,6 +17,8 @@ use Rattle.walrus_rules.specs.Refused.{Refusal, Memory, DeadItem, NoIndex, TwoIn
 use Rattle.walrus_rules.specs.RunLaws.{AreFine, IsFew}
 use Rattle.walrus_rules.proofs.NoCause.{well_no_cause}
 use Rattle.walrus_rules.proofs.Runs.{runs_few, runs_fine, runs_too_large}
+use Rattle.walrus_rules.proofs.AgainAll.{writes_again}
+use Rattle.walrus_rules.proofs.EnginesRun.{run_looks_same}
 use Rattle.walrus_rules.proofs.SettleAll.{runs_settle}
 use Rattle.walrus_rules.proofs.StepParsed.{live_v}
 use Rattle.walrus_rules.proofs.StepRead.{read_is_plain, steps_come_out_lem}
@@ -107,7 +109,7 @@ module _ {X : Type 0} (c : Config) (view : X → List ℕ) where
       → IfOk result (λ o. IsEmitted c u (view o)) → RefusesToWrite ⊥ c u (told result) → RunsOn c bytes view result
   answers_for bytes v w u (Ok x) parsed collected left emitted refused =
       let comes = comes_to c bytes v w parsed collected u left (view x) emitted in
-      record { comes = comes; settled = λ before first. runs_settle c before bytes (view x) first comes }
+      record { comes = comes; settled = λ before first. runs_settle c before bytes (view x) first comes; again = λ before first. writes_again c before bytes (view x) first comes; alike = run_looks_same c bytes (view x) comes }
   answers_for bytes v w u (Err (error.Memory e)) parsed collected left emitted refused = tt
   answers_for bytes v w u (Err error.TooLarge) parsed collected left emitted refused = too_large c bytes v w parsed collected u left refused
   answers_for bytes v w u (Err error.DeadItem) parsed collected left emitted refused = absurd (nothing_dead_left c bytes v w parsed collected (subst HasDead left refused))

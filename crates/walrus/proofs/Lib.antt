@@ -17,3 +17,4 @@ pub mod Tracing
 pub mod TracedSearch
 pub mod ChainsBack
 pub mod SameChains
+pub mod WholeLemmas

@@ -20,7 +20,7 @@ use Rattle.walrus_rules.proofs.SameItems.{with_own}
 use Rattle.walrus.specs.Asked.{asked_items}
 use Rattle.walrus.specs.Marked.{ReachesUnsound}
 use Rattle.walrus.specs.Used.{RefusesSearch}
-use Rattle.walrus.specs.Why.{Explains, IsChain, LeadsTo}
+use Rattle.walrus.specs.Why.{Explains, IsChain, IsWay}
 use Rattle.walrus.proofs.AskedItems.{asked_are_kept}
 use Rattle.walrus.proofs.SameRoots.{SameMembers, back, refers_on, root_on, unsound_still}
 
@@ -32,7 +32,7 @@ module _ (v : Abstract) (customs : List Custom) (roots : List Item) (same : Same
   abbrev other : Abstract
   other = with_own v customs roots
 
-  leads_on : (first : Item) (others : List Item) (x : Item) → LeadsTo v first others x → LeadsTo other first others x
+  leads_on : (first : Item) (others : List Item) (x : Item) → IsWay v first others x → IsWay other first others x
   leads_on first [] x h = h
   leads_on first (next ∷ others) x h = (refers_on v customs roots first next h.0, leads_on next others x h.1)
 

@@ -1,20 +1,24 @@
 -- THE MAIN THEOREM: what a run comes to, for all that was read and all that was written. What the bytes of a module come to stands in
 -- `walrus_rules`, with the laws that leave one answer.
-use Rattle.std.specs.Prelude.{ℕ, List, ◌++◌, Option, ⊤, Result, Ok, Err}
+use Rattle.std.specs.Prelude.{ℕ, List, ◌++◌, Option, ⊤, Result, Ok, Err, ◌≡◌}
 use Rattle.std.specs.Io.KnownBytes.{Appends, Consumes, IsAtEnd, Keeps}
 use Rattle.walrus_model.specs.Config.{Config}
 use Rattle.walrus_parts.specs.declared.error.Error.{Error}
 use Rattle.walrus_parts.specs.declared.error.Error.TheVariants.{Memory, InvalidWasm, TooLarge}
 pub use Rattle.walrus_rules.specs.Headline.{Accepts, ComesTo, ComesOutTooLarge}
+use Rattle.walrus_rules.specs.Engines.{LooksSame}
 use Rattle.walrus_rules.specs.SettledLaw.{IsSettled}
 use Rattle.walrus.specs.declared.tool.ToolError.{ToolError}
 use Rattle.walrus.specs.declared.tool.ToolError.TheVariants as tool
 
--- What the bytes come to. Where a run under the same configuration wrote the bytes, the output is all of what they say: no item is dropped, no
--- segment and no shape of a type is added, and custom sections, producers and names stay, but for those of types.
+-- What the bytes come to. Where a run under the same configuration wrote the bytes, the output is the same bytes again; so no item is dropped, no
+-- segment and no shape of a type is added, and custom sections, producers and names stay. No engine that comes to items by names alone can tell
+-- the module that was written from the one that was read.
 pub record ComesOut (c : Config) (bytes output : List ℕ) : Type 0 where
   pub comes : ComesTo c bytes output
   pub settled : (before : List ℕ) → ComesTo c before bytes → IsSettled c bytes output
+  pub again : (before : List ℕ) → ComesTo c before bytes → output ≡ bytes
+  pub alike : LooksSame comes.module_read comes.module_written
 
 -- ---- the devices; where their bytes aren't known, this says nothing of them
 

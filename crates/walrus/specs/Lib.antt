@@ -15,3 +15,4 @@ pub mod LiveCount
 pub mod Worklist
 pub mod Why
 pub mod Traced
+pub mod Whole

@@ -7,9 +7,9 @@ use Rattle.walrus_model.specs.Refers.{Refers}
 use Rattle.walrus_model.specs.Roots.{IsRoot}
 
 -- from the first item on each refers to the next, and the last is x
-abbrev pub LeadsTo : Abstract → (first : Item) → (others : List Item) → Item → Type 0
-LeadsTo v first [] x = first ≡ x
-LeadsTo v first (next ∷ others) x = Refers v first next × LeadsTo v next others x
+abbrev pub IsWay : Abstract → (first : Item) → (others : List Item) → Item → Type 0
+IsWay v first [] x = first ≡ x
+IsWay v first (next ∷ others) x = Refers v first next × IsWay v next others x
 
 -- a chain of references, in which no item stands twice: its first item is a root, each refers to the next, and the last is x
 pub record IsChain (v : Abstract) (chain : List Item) (x : Item) : Type 0 where
@@ -17,7 +17,7 @@ pub record IsChain (v : Abstract) (chain : List Item) (x : Item) : Type 0 where
   pub others : List Item
   pub is : chain ≡ first ∷ others
   pub rooted : IsRoot v first
-  pub leads : LeadsTo v first others x
+  pub leads : IsWay v first others x
   pub once : AllPairs (λ y z. y ≢ z) chain
 
 -- such a chain, or none where the item isn't reached

@@ -4,6 +4,7 @@
 pub mod below;
 mod command;
 mod device;
+pub mod law;
 mod message;
 pub mod passes;
 mod report;

@@ -5,6 +5,8 @@
 #[cfg(test)]
 mod chains;
 #[cfg(test)]
+mod checked;
+#[cfg(test)]
 mod counted;
 #[cfg(test)]
 mod exchanged;

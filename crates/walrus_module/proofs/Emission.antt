@@ -12,6 +12,7 @@ use Rattle.walrus_model.specs.Declared.{NothingUndeclared}
 use Rattle.walrus_rules.specs.Chain.{Leaves}
 use Rattle.walrus_rules.specs.Refused.{Refusal, Memory, DeadItem, NoIndex, TwoIndices, TooLarge, NotWritable, Caller, Another, RefusesToWrite}
 use Rattle.walrus_rules.specs.WellMade.{IsWellMade}
+use Rattle.walrus_rules.proofs.EditTops.{customs_stay}
 use Rattle.walrus_rules.proofs.SameItems.{with_own}
 use Rattle.walrus_model.proofs.Lists.{Contains-map}
 use Rattle.walrus_model.proofs.PipelineOps.{from_map}
@@ -25,7 +26,6 @@ use Rattle.walrus_module.specs.declared.customs.ModuleCustomSections.{ModuleCust
 use Rattle.walrus_module.specs.declared.entry.SectionEntry.{SectionEntry}
 use Rattle.walrus_module.specs.declared.module.Module.{Module}
 use Rattle.walrus_module.proofs.OwnSections.{undeclared_back}
-use Rattle.walrus_module.proofs.WellWith.{well_with}
 use Rattle.walrus_module.proofs.WellWritten.{AnswersWell, well_refused, well_written}
 use Rattle.walrus_module.proofs.WrittenSections.{same_names}
 
@@ -97,8 +97,9 @@ module _ {V : Type 0} {O : V → Type 0} (G : (v : V) → Ghosts (O v)) where
   pub customs_keep_well : {X E : Type 0} (hands : Bool) (Tells : X → Transform → Type 0) (Told : Transform → Type 0) (old new : ModuleCustomSections (SectionEntry V O)) (r : Result X E) → LeavesCustoms G hands Tells Told old new r
       → (c : Config) (v : Abstract) → IsWellMade c (with_sections v (meant G old)) → IsWellMade c (with_sections v (meant G new))
   customs_keep_well hands Tells Told old new r leaves c v made =
-      well_with (with_sections v (meant G old)) (map custom_of (meant G new)) (kept_by (meant G new)) c made
+      (customs_stay c (with_sections v (meant G old)) (with_sections v (meant G new)) made refl
       (named_so (λ name. (name ≢ codes "name") × (name ≢ codes "producers")) (meant G old) (meant G new) (same_names G hands Tells Told old new r leaves) made.customs)
+      (λ x at (no : ⊥). absurd no)).made
 
 -- what is answered for a well-made module in which nothing is undeclared
 pub answers_made : {X : Type 0} (seen : X → List ℕ) (A : Type 0) (c : Config) (u : Abstract) (result : Result X Error) → IfOk result (λ x. IsEmitted c u (seen x)) → RefusesToWrite A c u (told result) → IsWellMade c u → NothingUndeclared u

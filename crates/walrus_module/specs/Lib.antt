@@ -1,6 +1,8 @@
 pub mod Answered
 pub mod Asked
+pub mod Check
 pub mod Customs
+pub mod Edits
 pub mod Entry
 pub mod Flags
 pub mod Following
@@ -14,6 +16,7 @@ pub mod OnParse
 pub mod Raws
 pub mod Replaced
 pub mod Settings
+pub mod Tested
 pub mod View
 pub mod OnlyMemory
 pub use Rattle.walrus_writing.specs.Emitted

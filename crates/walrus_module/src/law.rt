@@ -1,6 +1,7 @@
 //! The laws of a module in memory, as contracts. Nothing runs here.
 ghost use Rattle.walrus_rules.specs.OkLaws.{AreCounted};
 ghost use Rattle.walrus_rules.specs.Once.{TypesLocals};
+ghost use Rattle.walrus_module.specs.Check.{CheckedIsWellMade};
 ghost use Rattle.walrus_module.specs.Laws.{AbsentIsUncounted, EmitsAgain, HeldAreCounted, UnsayableIsOpen};
 ghost use Rattle.walrus_module.specs.View.{view};
 
@@ -24,4 +25,10 @@ pub fn bodies_are_counted(module: &Module)
         → AreCounted (view ⟦<dyn CustomSection as CustomSection>⟧ «module».now) }
     ensures held { HeldAreCounted }
     ensures needed { AbsentIsUncounted }
+{}
+
+/// A module that passes [`check`](crate::Module::check) is well made, where its bodies are well formed and no custom section of its own is called
+/// `name` or `producers`. The parameter only names the type of custom sections.
+pub fn checked_is_well_made(_module: &Module)
+    ensures { CheckedIsWellMade ⟦<dyn CustomSection as CustomSection>⟧ }
 {}

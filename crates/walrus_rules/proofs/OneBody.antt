@@ -26,20 +26,20 @@ use Rattle.walrus_rules.proofs.OneList.{got_same, told_map}
 abbrev typed : ℕ × RawVal → ℕ × ValType ℕ
 typed d = (d.0, val_of d.1)
 
-abbrev spread : List (ℕ × RawVal) → List (ValType ℕ)
+abbrev pub spread : List (ℕ × RawVal) → List (ValType ℕ)
 spread ds = flat_map (λ (d : ℕ × RawVal). replicate d.0 (val_of d.1)) ds
 
 spread_typed : (ds : List (ℕ × RawVal)) → spread_of (map typed ds) ≡ spread ds
 spread_typed [] = refl
 spread_typed (d ∷ ds) = ap (λ l. replicate d.0 (val_of d.1) ++ l) (spread_typed ds)
 
-abbrev TypeStands : ℕ × RawVal → Type 0
+abbrev pub TypeStands : ℕ × RawVal → Type 0
 TypeStands d = ValueStands d.1
 
-same_val : (v w : RawVal) → ValueStands v → ValueStands w → val_of v ≡ val_of w → v ≡ w
+pub same_val : (v w : RawVal) → ValueStands v → ValueStands w → val_of v ≡ val_of w → v ≡ w
 same_val v w h g e = one_val v w (val_stands v h) (val_stands w g) e
 
-abbrev Differ : ℕ × RawVal → ℕ × RawVal → Type 0
+abbrev pub Differ : ℕ × RawVal → ℕ × RawVal → Type 0
 Differ d e = d.1 ≢ e.1
 
 apart_each : (d : ℕ × RawVal) (ds : List (ℕ × RawVal)) → TypeStands d → AllByRecursion TypeStands ds → AllByRecursion (Differ d) ds → AllByRecursion (Apart (typed d)) (map typed ds)

@@ -26,21 +26,21 @@ by_first c false is h = named_kept c (codes "dylink.0") refl h
 dylink_kept : (c : wire.Custom) → is_dylink c ≡ true → kept c ≡ true
 dylink_kept c h = by_first c (bytes_eq c.name (codes "dylink")) refl h
 
-neither : (a b : Bool) → not (a || b) ≡ true → (a ≡ false) × (not b ≡ true)
+pub neither : (a b : Bool) → not (a || b) ≡ true → (a ≡ false) × (not b ≡ true)
 neither true b h = absurd cc
 neither false b h = (refl, h)
 
 other_kept : (c : wire.Custom) → is_other c ≡ true → kept c ≡ true
 other_kept c h = (neither (is_dylink c) (is_apart c.name) h).1
 
-other_apart : (c : wire.Custom) → is_other c ≡ true → is_dylink c ≡ false
+pub other_apart : (c : wire.Custom) → is_other c ≡ true → is_dylink c ≡ false
 other_apart c h = (neither (is_dylink c) (is_apart c.name) h).0
 
 none_more : {A : Type 0} (name : Name) (spell : List A → List ℕ) (xs : List A) → not (is_apart name) ≡ false → filter kept (more name spell xs) ≡ []
 none_more name spell [] is = refl
 none_more name spell (x ∷ xs) is = ap (λ (b : Bool). cond b (record { name = name; bytes = spell (x ∷ xs) } ∷ []) []) is
 
-abbrev left : Text → List wire.Custom
+abbrev pub left : Text → List wire.Custom
 left t = t.dylinks ++ t.others
 
 module _ (t : Text) (dylinks : All (λ c. is_dylink c ≡ true) t.dylinks) (others : All (λ c. is_other c ≡ true) t.others) where
@@ -50,7 +50,7 @@ module _ (t : Text) (dylinks : All (λ c. is_dylink c ≡ true) t.dylinks) (othe
   last_kept : filter kept t.others ≡ t.others
   last_kept = filter_all kept t.others (All-weaker (λ (c : wire.Custom). is_other c ≡ true) (λ (c : wire.Custom). kept c ≡ true) other_kept t.others others)
 
-  what_is_left : filter kept (customs_in t) ≡ left t
+  pub what_is_left : filter kept (customs_in t) ≡ left t
   what_is_left =
       let names = more (codes "name") (λ (bytes : List ℕ). bytes) (names_bytes t.names) in
       let producers = more (codes "producers") (vector_bytes field_bytes) t.producers in

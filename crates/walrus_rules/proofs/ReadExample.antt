@@ -30,8 +30,6 @@ use Rattle.walrus_rules.specs.Examples as worked
 use Rattle.walrus_rules.specs.Examples.{two_functions_bytes, one_function_bytes}
 use Rattle.walrus_rules.specs.Spelling.{IsSpelledAs}
 use Rattle.walrus_rules.proofs.Worked.{one_spelled}
-use Rattle.walrus_model.specs.Abstract.{Body}
-use Rattle.walrus_types.specs.Operators.{Op}
 use Rattle.walrus_model.specs.Examples.{no_values, export_f, empty_body, just_end, two_functions_sections, one_function_sections, two_functions, one_function}
 
 -- bytes that are read to their end are a text of the form

@@ -4,21 +4,16 @@ use Rattle.std.specs.Prelude.{Option, Some, None, option_map, is_some, Contains}
 use Rattle.walrus_types.specs.Operators.{Functions, Globals, Elements, Item, Arg, Index, Label, Local, Number, Count, Byte, S32, S64, Bits32, Bits64, Value, Heap, Block, Access, Op, function_item}
 use Rattle.walrus_model.specs.Abstract.{Abstract, Body, Function, Global, Element, ElementItems, ListedFunctions, Expressions}
 use Rattle.walrus_model.specs.Config.{Config}
-use Rattle.walrus_model.specs.Kept.{Kept}
 use Rattle.walrus_model.specs.Live.{IsLive}
 use Rattle.walrus_model.specs.Names.{body_of, body_of_function}
 use Rattle.walrus_model.specs.Renaming.{Renaming, renamed, renamed_arg, renamed_op, renamed_ops, renamed_const, renamed_global, renamed_element, renamed_element_items, renamed_export}
 use Rattle.walrus_model.specs.Same.{BothAnd, SameBody, SameFunction}
 use Rattle.walrus_model.specs.Declared.{ref_func, Lists, IsRefInBody, IsRefInGlobal, IsUndeclared, HasDeclaredSegment}
-use Rattle.walrus_model.specs.Out.{Out}
-use Rattle.walrus_model.specs.Rules.{Holds}
+use Rattle.walrus_model.specs.Out.{OutOf}
 use Rattle.walrus_model.proofs.Lists.{Contains-map, Contains-none}
 use Rattle.walrus_model.proofs.Steps.{given}
 use Rattle.walrus_model.proofs.PipelineOps.{from_map, kind_body_on, kind_body_back}
 use Rattle.walrus_model.proofs.Reach.{taken}
-use Rattle.walrus_rules.proofs.StepPlain.{IsPlain}
-use Rattle.walrus_rules.proofs.StepLeaves.{declares_none}
-use Rattle.walrus_rules.proofs.SettleReach.{SetsAre, image_kept, segment_kept}
 
 -- ---- bodies
 
@@ -90,64 +85,59 @@ module _ (r : Renaming) where
       let is : renamed_const r old ≡ ops = cc in
       (old, refl, refs_back (λ x. x) f old (subst (λ l. Contains l (ref_func f)) (sym is) at))
 
-module _ (c : Config) (m n : Abstract) (o : Out c m n) (plain : IsPlain m) (holds : Holds m) (sets_m : SetsAre m) (plain_n : IsPlain n) (sets_n : SetsAre n) where
+-- n is what comes of the chosen items of m
+module _ (K : Item → Type 0) (c : Config) (m n : Abstract) (o : OutOf K c m n) where
   abbrev r : Renaming
   r = o.renaming
 
-  image_kept_here : (x : Item) → Kept m x → Kept n (renamed r x)
-  image_kept_here x k = image_kept c m n o plain holds sets_m plain_n sets_n x k
-
   -- a function of n, by that of m
-  pub old_function : (i : ℕ) → IsLive n (Functions, i) → (j : ℕ) × Kept m (Functions, j) × (r.numbers Functions j ≡ i)
+  pub old_function : (i : ℕ) → IsLive n (Functions, i) → (j : ℕ) × K (Functions, j) × (r.numbers Functions j ≡ i)
   old_function i h = ⊎_elim (λ found. found) (λ none. absurd none) (o.carried.functions.onto i h)
 
   -- a body of n, by that of m
-  pub old_body : (i : ℕ) (d : Body) → body_of n i ≡ Some d → (j : ℕ) × (b : Body) × Kept m (Functions, j) × (r.numbers Functions j ≡ i) × (body_of m j ≡ Some b) × SameBody r j b d
+  pub old_body : (i : ℕ) (d : Body) → body_of n i ≡ Some d → (j : ℕ) × (b : Body) × K (Functions, j) × (r.numbers Functions j ≡ i) × (body_of m j ≡ Some b) × SameBody r j b d
   old_body i d at =
       let there = body_there (n.functions i) d at in
       let old = old_function i (ap is_some there.1) in
       let pair = body_pair_back r old.0 (m.functions old.0) (n.functions (r.numbers Functions old.0)) (o.carried.functions.same old.0 old.1) d (ap (λ q. body_of n q) old.2 ∙ at) in
       (old.0, pair.0, old.1, old.2, pair.1, pair.2)
 
-  abbrev OldNamed : ℕ → Type 0
-  OldNamed f = (g : ℕ) × (IsRefInBody (Kept m) m g ⊎ IsRefInGlobal (Kept m) m g) × (r.numbers Functions g ≡ f)
+  -- chosen items are chosen in n, as is the segment that was added
+  module _ (L : Item → Type 0) (image : (x : Item) → K x → L (renamed o.renaming x)) (segment : (j : ℕ) → o.segment ≡ Some j → L (Elements, j)) where
+    abbrev OldNamed : ℕ → Type 0
+    OldNamed f = (g : ℕ) × (IsRefInBody K m g ⊎ IsRefInGlobal K m g) × (r.numbers Functions g ≡ f)
 
-  in_body : (f : ℕ) → IsRefInBody (Kept n) n f → OldNamed f
-  in_body f (i, d, k, at, has) =
-      let old = old_body i d at in
-      let ref = refs_back r (r.locals old.0) f old.1.operators (subst (λ (ops : List Op). Contains ops (ref_func f)) old.5.operators has) in
-      (ref.0, inl (old.0, old.1, old.2, old.4, ref.1), ref.2)
+    in_body : (f : ℕ) → IsRefInBody L n f → OldNamed f
+    in_body f (i, d, k, at, has) =
+        let old = old_body i d at in
+        let ref = refs_back r (r.locals old.0) f old.1.operators (subst (λ (ops : List Op). Contains ops (ref_func f)) old.5.operators has) in
+        (ref.0, inl (old.0, old.1, old.2, old.4, ref.1), ref.2)
 
-  in_global : (f : ℕ) → IsRefInGlobal (Kept n) n f → OldNamed f
-  in_global f (i, g, ops, k, at, made, has) = ⊎_elim
-      (λ found.
-      let old = taken (λ x y. y ≡ renamed_global r x) (m.globals found.0) (n.globals (r.numbers Globals found.0)) g (o.carried.globals.same found.0 found.1) (ap n.globals found.2 ∙ at) in
-      let ref = initialiser_back r f old.0.initialiser ops (sym (ap (λ (x : Global). x.initialiser) old.2) ∙ made) has in
-      (ref.2.0, inr (found.0, old.0, ref.0, found.1, old.1, ref.1, ref.2.1), ref.2.2))
-      (λ none. absurd none)
-      (o.carried.globals.onto i (ap is_some at))
+    in_global : (f : ℕ) → IsRefInGlobal L n f → OldNamed f
+    in_global f (i, g, ops, k, at, made, has) = ⊎_elim
+        (λ found.
+        let old = taken (λ x y. y ≡ renamed_global r x) (m.globals found.0) (n.globals (r.numbers Globals found.0)) g (o.carried.globals.same found.0 found.1) (ap n.globals found.2 ∙ at) in
+        let ref = initialiser_back r f old.0.initialiser ops (sym (ap (λ (x : Global). x.initialiser) old.2) ∙ made) has in
+        (ref.2.0, inr (found.0, old.0, ref.0, found.1, old.1, ref.1, ref.2.1), ref.2.2))
+        (λ none. absurd none)
+        (o.carried.globals.onto i (ap is_some at))
 
-  old_undeclared : (f g : ℕ) → r.numbers Functions g ≡ f → IsRefInBody (Kept m) m g ⊎ IsRefInGlobal (Kept m) m g → IsUndeclared (Kept n) n f → IsUndeclared (Kept m) m g
-  old_undeclared f g is named u = record {
-    named = named;
-    not_exported = λ e at at_g. u.not_exported (renamed_export r e) (subst (λ l. Contains l (renamed_export r e)) (sym o.carried.exports) (Contains-map (renamed_export r) e m.exports at)) (ap (renamed r) at_g ∙ ap function_item is);
-    not_listed = λ i e k at lists.
-        let new = given (λ x y. y ≡ renamed_element r x) (m.elements i) (n.elements (r.numbers Elements i)) e (o.carried.elements.same i k) at in
-        u.not_listed (r.numbers Elements i) new.0 (image_kept_here (Elements, i) k) new.1
-        (subst (λ (z : Element). Lists z.items f) (sym new.2) (subst (λ q. Lists (renamed_element_items r e.items) q) is (lists_on r e.items g lists)));
-  }
+    old_undeclared : (f g : ℕ) → r.numbers Functions g ≡ f → IsRefInBody K m g ⊎ IsRefInGlobal K m g → IsUndeclared L n f → IsUndeclared K m g
+    old_undeclared f g is named u = record {
+      named = named;
+      not_exported = λ e at at_g. u.not_exported (renamed_export r e) (subst (λ l. Contains l (renamed_export r e)) (sym o.carried.exports) (Contains-map (renamed_export r) e m.exports at)) (ap (renamed r) at_g ∙ ap function_item is);
+      not_listed = λ i e k at lists.
+          let new = given (λ x y. y ≡ renamed_element r x) (m.elements i) (n.elements (r.numbers Elements i)) e (o.carried.elements.same i k) at in
+          u.not_listed (r.numbers Elements i) new.0 (image (Elements, i) k) new.1
+          (subst (λ (z : Element). Lists z.items f) (sym new.2) (subst (λ q. Lists (renamed_element_items r e.items) q) is (lists_on r e.items g lists)));
+    }
 
-  listed : (fs : List ℕ) (f g : ℕ) → r.numbers Functions g ≡ f → Contains fs g → HasDeclaredSegment (Kept m) r m n fs o.segment → IsUndeclared (Kept n) n f → ⊥
-  listed [] f g is at none u = Contains-none g at
-  listed (h ∷ fs) f g is at (j, here, segment) u =
-      u.not_listed j _ (segment_kept c m n o plain holds sets_m plain_n sets_n j here) segment.is (subst (λ q. Contains (map (r.numbers Functions) (h ∷ fs)) q) is (Contains-map (r.numbers Functions) g (h ∷ fs) at))
+    listed : (fs : List ℕ) (f g : ℕ) → r.numbers Functions g ≡ f → Contains fs g → HasDeclaredSegment K r m n fs o.segment → IsUndeclared L n f → ⊥
+    listed [] f g is at none u = Contains-none g at
+    listed (h ∷ fs) f g is at (j, here, declared) u =
+        u.not_listed j _ (segment j here) declared.is (subst (λ q. Contains (map (r.numbers Functions) (h ∷ fs)) q) is (Contains-map (r.numbers Functions) g (h ∷ fs) at))
 
-  pub nothing_undeclared : (f : ℕ) → IsUndeclared (Kept n) n f → ⊥
-  nothing_undeclared f u =
-      let old : OldNamed f = ⊎_elim (λ h. in_body f h) (λ h. in_global f h) u.named in
-      listed o.declares.functions f old.0 old.2 ((o.declares.undeclared.are old.0).1 (old_undeclared f old.0 old.2 old.1 u)) o.declares.declared u
-
-  -- so nothing is added for it
-  pub no_segment : (n2 : Abstract) (o2 : Out c n n2) → o2.segment ≡ None
-  no_segment n2 o2 = declares_none (Kept n) o2.renaming n n2 o2.declares.functions o2.segment
-      (λ f at. nothing_undeclared f ((o2.declares.undeclared.are f).0 at)) o2.declares.declared
+    pub nothing_undeclared : (f : ℕ) → IsUndeclared L n f → ⊥
+    nothing_undeclared f u =
+        let old : OldNamed f = ⊎_elim (λ h. in_body f h) (λ h. in_global f h) u.named in
+        listed o.declares.functions f old.0 old.2 ((o.declares.undeclared.are old.0).1 (old_undeclared f old.0 old.2 old.1 u)) o.declares.declared u

@@ -9,15 +9,13 @@ use Rattle.walrus_types.specs.Operators.{Types, Tags, Item, type_item, BlockType
 use Rattle.walrus_model.specs.BlockHandlers.{params_of, results_of, OpenBlock, Try, OtherBlock, opens_other, closes, without_innermost, catch_type, catch_all_type, tag_params, block_results, opened_results, caught_params, blocks_after, handler_at, handlers_from}
 use Rattle.walrus_model.specs.Abstract.{Abstract, TypeDef, Body, Tag}
 use Rattle.walrus_model.specs.Handlers.{tag_type, handlers_of}
-use Rattle.walrus_model.specs.Kept.{Kept}
-use Rattle.walrus_model.specs.Refers.{named_by, tag_names}
+use Rattle.walrus_model.specs.Refers.{named_by, tag_names, written_in}
 use Rattle.walrus_model.specs.Renaming.{Renaming, renamed_block, renamed_arg, renamed_op, renamed_ops, renamed_tag}
 use Rattle.walrus_model.specs.Same.{BothAnd, SameType, SameBody}
 use Rattle.walrus_model.specs.Carried.{Carried}
 use Rattle.walrus_model.proofs.Lists.{map-map, Contains-head, Contains-tail, Contains-append_1, Contains-append_2}
 use Rattle.walrus_model.proofs.Seen.{same_sub}
 use Rattle.walrus_rules.proofs.StepPlain.{CatchesTags}
-use Rattle.walrus_rules.proofs.SettleReach.{kept_closed}
 
 module _ (f : ℕ → ℕ) where
   abbrev vals : List (ValType ℕ) → List (ValType ℕ)
@@ -72,12 +70,12 @@ module _ (f : ℕ → ℕ) where
   either_pair false true xs xs' ys ys' h k = k
   either_pair false false xs xs' ys ys' h k = refl
 
-module _ (A : Item → Type 0) (r : Renaming) (m n : Abstract) (c : Carried (Kept m) A r m n) where
+module _ (K A : Item → Type 0) (r : Renaming) (m n : Abstract) (closed : (x y : Item) → K x → Contains (written_in m x) y → K y) (c : Carried K A r m n) where
   abbrev f : ℕ → ℕ
   f = r.numbers Types
 
   abbrev AllIn : List Item → Type 0
-  AllIn xs = (y : Item) → Contains xs y → Kept m y
+  AllIn xs = (y : Item) → Contains xs y → K y
 
   params_pair : (t : ℕ) (a b : Option TypeDef) → BothAnd (SameType f t) a b → params_of b ≡ vals f (params_of a)
   params_pair t (Some x) (Some y) s = ap (λ (z : SubType ℕ). type_params z.comp) (same_sub f t x y s) ∙ comp_params f x.sub.comp
@@ -112,14 +110,14 @@ module _ (A : Item → Type 0) (r : Renaming) (m n : Abstract) (c : Carried (Kep
     opened_pair (Heap k ∷ args) h = refl
     opened_pair (Access x y z ∷ args) h = refl
 
-    tags_pair : (i : ℕ) (a b : Option Tag) → m.tags i ≡ a → Kept m (Tags, i) → BothAnd (λ x y. y ≡ renamed_tag r x) a b → tag_params n.types (tag_type n) (option_map (λ t. t.ty) b) ≡ vals f (tag_params m.types (tag_type m) (option_map (λ t. t.ty) a))
+    tags_pair : (i : ℕ) (a b : Option Tag) → m.tags i ≡ a → K (Tags, i) → BothAnd (λ x y. y ≡ renamed_tag r x) a b → tag_params n.types (tag_type n) (option_map (λ t. t.ty) b) ≡ vals f (tag_params m.types (tag_type m) (option_map (λ t. t.ty) a))
     tags_pair i (Some x) (Some y) at k e =
-        let k_type : Kept m (Types, x.ty) = kept_closed m (Tags, i) (type_item x.ty) k (subst (λ (o : Option Tag). Contains (named_by tag_names o) (type_item x.ty)) (sym at) (Contains-head (type_item x.ty) [])) in
+        let k_type : K (Types, x.ty) = closed (Tags, i) (type_item x.ty) k (subst (λ (o : Option Tag). Contains (named_by tag_names o) (type_item x.ty)) (sym at) (Contains-head (type_item x.ty) [])) in
         ap (λ (t : Tag). params_of (n.types t.ty)) e ∙ params_pair x.ty (m.types x.ty) (n.types (f x.ty)) (c.types.same x.ty k_type)
     tags_pair i (Some x) None at k e = absurd e
     tags_pair i None b at k e = absurd e
 
-    tag_pair : (i : ℕ) → Kept m (Tags, i) → tag_params n.types (tag_type n) (tag_type n (r.numbers Tags i)) ≡ vals f (tag_params m.types (tag_type m) (tag_type m i))
+    tag_pair : (i : ℕ) → K (Tags, i) → tag_params n.types (tag_type n) (tag_type n (r.numbers Tags i)) ≡ vals f (tag_params m.types (tag_type m) (tag_type m i))
     tag_pair i k = tags_pair i (m.tags i) (n.tags (r.numbers Tags i)) refl k (c.tags.same i k)
 
     caught_pair : (args : List Arg) → ((x : Item) (rest : List Arg) → args ≡ Index x ∷ rest → x.0 ≡ Tags) → AllIn (flat_map arg_names args) → caught_params n.types (tag_type n) (map (renamed_arg r l) args) ≡ vals f (caught_params m.types (tag_type m) args)
@@ -127,7 +125,7 @@ module _ (A : Item → Type 0) (r : Renaming) (m n : Abstract) (c : Carried (Kep
     caught_pair (Index (space, i) ∷ args) tag h =
         let e : space ≡ Tags = tag (space, i) args refl in
         subst (λ s. tag_params n.types (tag_type n) (tag_type n (r.numbers s i)) ≡ vals f (tag_params m.types (tag_type m) (tag_type m i))) (sym e)
-        (tag_pair i (subst (λ s. Kept m (s, i)) e (h (space, i) (Contains-head (space, i) (flat_map arg_names args)))))
+        (tag_pair i (subst (λ s. K (s, i)) e (h (space, i) (Contains-head (space, i) (flat_map arg_names args)))))
     caught_pair (Block b ∷ args) tag h = refl
     caught_pair (Label k ∷ args) tag h = refl
     caught_pair (Local k ∷ args) tag h = refl

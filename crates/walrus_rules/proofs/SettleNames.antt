@@ -1,4 +1,4 @@
--- Names that were written once are written so again.
+-- What was named once is named so again.
 use Rattle.std.proofs.Common.{◌≡◌, ℕ, Bool, true, false, List, [], ◌∷◌, ◌++◌, filter, refl, sym, ap, ◌∙◌, subst}
 use Rattle.std.specs.Prelude.{Option, Some, None, IsSome, Contains, cond, if◌then◌else◌, codes, decimal}
 use Rattle.std.specs.List.{last_or}
@@ -6,24 +6,15 @@ use Rattle.walrus_types.specs.Shape.{place_in}
 use Rattle.walrus_types.specs.Operators.{Types, Functions, Tables, Memories, Tags, Globals, Elements, DataSegments, Item}
 use Rattle.walrus_model.specs.Abstract.{Abstract, Name, Body, Subject, TheModule, AnItem, ALocal}
 use Rattle.walrus_model.specs.Config.{Config}
-use Rattle.walrus_model.specs.Kept.{Kept}
-use Rattle.walrus_model.specs.Live.{IsLive}
 use Rattle.walrus_model.specs.Refers.{IsUsed, used_locals}
-use Rattle.walrus_model.specs.Renaming.{Renaming, unchanged, renamed}
-use Rattle.walrus_model.specs.Names.{body_of, own_name, last_name, name_of, names_that_count, or_else, synthetic_name, function_text, local_text, local_text_in, is_not_empty, IsNoType, MayBeNamed, AreNamed, WritesNames}
-use Rattle.walrus_model.specs.Out.{Out}
-use Rattle.walrus_model.specs.Rules.{Holds}
+use Rattle.walrus_model.specs.Renaming.{Renaming}
+use Rattle.walrus_model.specs.Names.{body_of, own_name, last_name, name_of, names_that_count, or_else, synthetic_name, function_text, local_text, local_text_in, is_not_empty, AreNamed}
+use Rattle.walrus_model.specs.Out.{OutOf}
 use Rattle.walrus_model.proofs.Follow.{used_follow}
 use Rattle.walrus_model.proofs.PipelineOps.{from_map}
-use Rattle.walrus_rules.proofs.StepPlain.{IsPlain}
-use Rattle.walrus_rules.proofs.StepParsed.{reached_live}
-use Rattle.walrus_model.proofs.PipelineCollected.{kept_is_live}
-use Rattle.walrus_rules.proofs.SettleReach.{SetsAre, live_kept}
-use Rattle.walrus_rules.proofs.SettleDeclared.{body_pair_on, old_body}
-use Rattle.walrus_model.proofs.Lists.{Contains-map}
-use Rattle.walrus_model.proofs.Steps.{live_under}
+use Rattle.walrus_rules.proofs.SettleDeclared.{old_body}
 
-or_none : (o : Option Name) → or_else o None ≡ o
+pub or_none : (o : Option Name) → or_else o None ≡ o
 or_none None = refl
 or_none (Some x) = refl
 
@@ -86,15 +77,15 @@ some_text (Some x) i b p e = refl
 text_in : (x : ℕ) (b : Body) (p : Option Body) → p ≡ Some b → local_text_in x p ≡ Some (local_text x (place_in b.parameters x))
 text_in x b p e = ap (local_text_in x) e
 
-module _ (c : Config) (m n : Abstract) (o : Out c m n) (plain : IsPlain m) (holds : Holds m) (sets_m : SetsAre m) (plain_n : IsPlain n) (sets_n : SetsAre n) where
+module _ (K : Item → Type 0) (c : Config) (m n : Abstract) (o : OutOf K c m n) where
   abbrev r : Renaming
   r = o.renaming
 
-  module _ (named : AreNamed (name_of c m) (Kept m) r m n) where
+  module _ (named : AreNamed (name_of c m) K r m n) where
     function_named : (t : Bool) → c.synthetic_names ≡ t → (i : ℕ) → name_with t n (AnItem (Functions, i)) ≡ own_name n (AnItem (Functions, i))
     function_named false is i = or_none (own_name n (AnItem (Functions, i)))
     function_named true is i = function_again (own_name n (AnItem (Functions, i))) i (body_of n i) (λ d at.
-        let old = old_body c m n o plain holds sets_m plain_n sets_n i d at in
+        let old = old_body K c m n o i d at in
         let e : own_name n (AnItem (Functions, i)) ≡ name_with true m (AnItem (Functions, old.0)) =
         ap (λ q. own_name n (AnItem (Functions, q))) (sym old.3) ∙ named.items (Functions, old.0) old.2 tt ∙ ap (λ t. name_with t m (AnItem (Functions, old.0))) is in
         subst IsSome (sym e) (some_text (own_name m (AnItem (Functions, old.0))) old.0 old.1 (body_of m old.0) old.4))
@@ -110,7 +101,7 @@ module _ (c : Config) (m n : Abstract) (o : Out c m n) (plain : IsPlain m) (hold
     plain_named true (Elements, i) other = or_none (own_name n (AnItem (Elements, i)))
     plain_named true (DataSegments, i) other = or_none (own_name n (AnItem (DataSegments, i)))
 
-    item_named : (x : Item) → name_of c n (AnItem x) ≡ own_name n (AnItem x)
+    pub item_named : (x : Item) → name_of c n (AnItem x) ≡ own_name n (AnItem x)
     item_named (Functions, i) = function_named c.synthetic_names refl i
     item_named (Types, i) = plain_named c.synthetic_names (Types, i) (λ e. absurd (cc))
     item_named (Tables, i) = plain_named c.synthetic_names (Tables, i) (λ e. absurd (cc))
@@ -120,14 +111,14 @@ module _ (c : Config) (m n : Abstract) (o : Out c m n) (plain : IsPlain m) (hold
     item_named (Elements, i) = plain_named c.synthetic_names (Elements, i) (λ e. absurd (cc))
     item_named (DataSegments, i) = plain_named c.synthetic_names (DataSegments, i) (λ e. absurd (cc))
 
-    module_named : (t : Bool) → name_with t n TheModule ≡ own_name n TheModule
+    pub module_named : (t : Bool) → name_with t n TheModule ≡ own_name n TheModule
     module_named true = or_none (own_name n TheModule)
     module_named false = or_none (own_name n TheModule)
 
-    local_named : (t : Bool) → c.synthetic_names ≡ t → (g y : ℕ) (d : Body) → body_of n g ≡ Some d → IsUsed d y → name_with t n (ALocal g y) ≡ own_name n (ALocal g y)
+    pub local_named : (t : Bool) → c.synthetic_names ≡ t → (g y : ℕ) (d : Body) → body_of n g ≡ Some d → IsUsed d y → name_with t n (ALocal g y) ≡ own_name n (ALocal g y)
     local_named false is g y d at used = or_none (own_name n (ALocal g y))
     local_named true is g y d at used =
-        let old = old_body c m n o plain holds sets_m plain_n sets_n g d at in
+        let old = old_body K c m n o g d at in
         let b = old.1 in
         let u = from_map (r.locals old.0) y (used_locals b) (subst (λ l. Contains l y) (used_follow r old.0 b d old.5) used) in
         let e : own_name n (ALocal g y) ≡ name_with true m (ALocal old.0 u.0) =
@@ -140,107 +131,3 @@ module _ (c : Config) (m n : Abstract) (o : Out c m n) (plain : IsPlain m) (hold
         or_some (last_name (filter is_not_empty (n.named (ALocal g y)))) (local_text_in y (body_of n g)) named_so.0
         (last_kept (n.named (ALocal g y)) None None named_so.0 named_so.2 (λ h. h) own)
         ∙ sym own
-
-module _ (c : Config) (m n n2 : Abstract) (o : Out c m n) (o2 : Out c n n2) (plain : IsPlain m) (holds : Holds m) (sets_m : SetsAre m) (plain_n : IsPlain n) (holds_n : Holds n) (sets_n : SetsAre n) where
-  abbrev s : Renaming
-  s = o2.renaming
-
-  live_n : (x : Item) → Kept n x → IsLive n x
-  live_n x k = kept_is_live n (λ y h. reached_live n plain_n holds_n y h) x k
-
-  abbrev Chosen : Item → Type 0
-  Chosen y = (x : Item) × Kept n x × (y ≡ renamed s x)
-
-  abbrev There : Item → Type 0
-  There y = (x : Item) × IsLive n x × (y ≡ renamed s x)
-
-  there : (y : Item) → Chosen y → There y
-  there y (x, k, is) = (x, live_n x k, is)
-
-  may_again : (y : Subject) → MayBeNamed (Kept n) s n y → MayBeNamed (IsLive n) s n y
-  may_again TheModule may = tt
-  may_again (AnItem (Types, i)) may = tt
-  may_again (AnItem (Functions, i)) may = there (Functions, i) may
-  may_again (AnItem (Tables, i)) may = there (Tables, i) may
-  may_again (AnItem (Memories, i)) may = there (Memories, i) may
-  may_again (AnItem (Tags, i)) may = there (Tags, i) may
-  may_again (AnItem (Globals, i)) may = there (Globals, i) may
-  may_again (AnItem (Elements, i)) may = there (Elements, i) may
-  may_again (AnItem (DataSegments, i)) may = there (DataSegments, i) may
-  may_again (ALocal g y) (f, b, x, k, at, used, is_g, is_y) = (f, b, x, live_n (Functions, f) k, at, used, is_g, is_y)
-
-  no_type : (x : Item) → IsNoType x → x.0 ≡ Types → ⊥
-  no_type (Types, i) h e = h
-  no_type (Functions, i) h e = absurd (cc)
-  no_type (Tables, i) h e = absurd (cc)
-  no_type (Memories, i) h e = absurd (cc)
-  no_type (Tags, i) h e = absurd (cc)
-  no_type (Globals, i) h e = absurd (cc)
-  no_type (Elements, i) h e = absurd (cc)
-  no_type (DataSegments, i) h e = absurd (cc)
-
-  kept_n : (x : Item) → (x.0 ≡ Types → ⊥) → IsLive n x → Kept n x
-  kept_n x other h = live_kept c m n o plain holds sets_m plain_n sets_n x other h
-
-  named_none : (y : Subject) → n2.named y ≡ [] → IsSome (own_name n2 y) → ⊥
-  named_none y e h = let no : false ≡ true = subst (λ l. IsSome (last_name l)) e h in absurd (cc)
-
-  by_flag : (t : Bool) → WritesNames t (name_of c m) (Kept m) o.renaming m n → WritesNames t (name_of c n) (Kept n) s n n2 → AreNamed (own_name n) (IsLive n) s n n2
-  by_flag true named again = record {
-    module_name = again.module_name ∙ module_named c m n o plain holds sets_m plain_n sets_n named c.synthetic_names;
-    items = λ x live nt. again.items x (kept_n x (no_type x nt) live) nt ∙ item_named c m n o plain holds sets_m plain_n sets_n named x;
-    locals = λ f b x live at used. again.locals f b x (kept_n (Functions, f) (λ e. absurd (cc)) live) at used ∙ local_named c m n o plain holds sets_m plain_n sets_n named c.synthetic_names refl f x b at used;
-    only = λ y is. may_again y (again.only y is);
-  }
-  by_flag false named again = record {
-    module_name = ap last_name (again TheModule) ∙ sym (ap last_name (named TheModule));
-    items = λ x live nt. ap last_name (again (AnItem (renamed s x))) ∙ sym (ap last_name (named (AnItem x)));
-    locals = λ f b x live at used. ap last_name (again (ALocal (s.numbers Functions f) (s.locals f x))) ∙ sym (ap last_name (named (ALocal f x)));
-    only = λ y is. absurd (named_none y (again y) is);
-  }
-
-  pub names_again : AreNamed (own_name n) (IsLive n) s n n2
-  names_again = by_flag c.writes_names o.names o2.names
-
-  -- ---- what n names is there in n
-
-  abbrev Here : Item → Type 0
-  Here y = (x : Item) × IsLive n x × (y ≡ renamed unchanged x)
-
-  abbrev Image : Item → Type 0
-  Image y = (x : Item) × Kept m x × (y ≡ renamed o.renaming x)
-
-  here : (y : Item) → Image y → Here y
-  here y (x, k, is) = (y, subst (λ (z : Item). IsLive n z) (sym is) (live_under (Kept m) _ o.renaming m n o.carried x.0 x.1 k), refl)
-
-  may_here : (y : Subject) → MayBeNamed (Kept m) o.renaming m y → MayBeNamed (IsLive n) unchanged n y
-  may_here TheModule may = tt
-  may_here (AnItem (Types, i)) may = tt
-  may_here (AnItem (Functions, i)) may = here (Functions, i) may
-  may_here (AnItem (Tables, i)) may = here (Tables, i) may
-  may_here (AnItem (Memories, i)) may = here (Memories, i) may
-  may_here (AnItem (Tags, i)) may = here (Tags, i) may
-  may_here (AnItem (Globals, i)) may = here (Globals, i) may
-  may_here (AnItem (Elements, i)) may = here (Elements, i) may
-  may_here (AnItem (DataSegments, i)) may = here (DataSegments, i) may
-  may_here (ALocal g y) (f, b, x, k, at, used, is_g, is_y) =
-      let pair = body_pair_on o.renaming f (m.functions f) (n.functions (o.renaming.numbers Functions f)) (o.carried.functions.same f k) b at in (
-        o.renaming.numbers Functions f,
-        pair.0,
-        o.renaming.locals f x,
-        live_under (Kept m) _ o.renaming m n o.carried Functions f k,
-        pair.1,
-        subst (λ l. Contains l (o.renaming.locals f x)) (sym (used_follow o.renaming f b pair.0 pair.2)) (Contains-map (o.renaming.locals f) x (used_locals b) used),
-        is_g,
-        is_y,
-      )
-
-  unnamed : (y : Subject) → n.named y ≡ [] → IsSome (own_name n y) → ⊥
-  unnamed y e h = let no : false ≡ true = subst (λ l. IsSome (last_name l)) e h in absurd (cc)
-
-  only_by : (t : Bool) → WritesNames t (name_of c m) (Kept m) o.renaming m n → (y : Subject) → IsSome (own_name n y) → MayBeNamed (IsLive n) unchanged n y
-  only_by true named y is = may_here y (named.only y is)
-  only_by false named y is = absurd (unnamed y (named y) is)
-
-  pub only_here : (y : Subject) → IsSome (own_name n y) → MayBeNamed (IsLive n) unchanged n y
-  only_here y is = only_by c.writes_names o.names y is

@@ -264,7 +264,7 @@ module _ (c : Config) (m n : Abstract) (o : Out c m n) (plain : IsPlain m) (hold
   pub the_segment : (j : ℕ) → o.segment ≡ Some j → n.elements j ≡ Some (record { kind = DeclaredElements; items = ListedFunctions (map (r.numbers Functions) o.declares.functions) })
   the_segment j at = segment_is o.declares.functions j at o.declares.declared
 
-  pub segment_kept : (j : ℕ) → o.segment ≡ Some j → Kept n (Elements, j)
+  segment_kept : (j : ℕ) → o.segment ≡ Some j → Kept n (Elements, j)
   segment_kept j at = inl (root (Elements, j) (element_segment j _ (the_segment j at) tt refl))
 
   function_no_memory : (fs : List ℕ) (j : ℕ) → Contains ([] ++ map (λ f. let y : Item = (Functions, f) in y) fs) (Memories, j) → ⊥

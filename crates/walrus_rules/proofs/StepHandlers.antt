@@ -244,12 +244,12 @@ placed_later old new e comps places s = record {
 }
 
 module _ (n : ℕ) where
-  record OnePlaced (comp : CompType ℕ) (old new : List TypeDef) (p : ℕ) : Type 0 where
-    extends : Extends old new
-    long : n ≤ length new
-    stands : IsLoneTypeAt comp new p
+  pub record OnePlaced (comp : CompType ℕ) (old new : List TypeDef) (p : ℕ) : Type 0 where
+    pub extends : Extends old new
+    pub long : n ≤ length new
+    pub stands : IsLoneTypeAt comp new p
 
-  one_placed : (comp : CompType ℕ) (old new : List TypeDef) (p : ℕ) → TypeIsFoundOrAdded comp old new p → Below n comp → n ≤ length old → OnePlaced comp old new p
+  pub one_placed : (comp : CompType ℕ) (old new : List TypeDef) (p : ℕ) → TypeIsFoundOrAdded comp old new p → Below n comp → n ≤ length old → OnePlaced comp old new p
   one_placed comp old new p (Found stands first same) below long = record {
     extends = λ i x e. subst (λ (l : List TypeDef). slice_get l i ≡ Some x) (sym same) e;
     long = subst (λ (l : List TypeDef). n ≤ length l) (sym same) long;
@@ -264,12 +264,12 @@ module _ (n : ℕ) where
     );
   }
 
-  record ManyPlaced (comps : List (CompType ℕ)) (old new : List TypeDef) (places : List ℕ) : Type 0 where
-    extends : Extends old new
-    long : n ≤ length new
-    placed : Placed comps new places
+  pub record ManyPlaced (comps : List (CompType ℕ)) (old new : List TypeDef) (places : List ℕ) : Type 0 where
+    pub extends : Extends old new
+    pub long : n ≤ length new
+    pub placed : Placed comps new places
 
-  many_placed : (comps : List (CompType ℕ)) (old new : List TypeDef) (places : List ℕ) → AreFoundOrAdded comps old new places → AllBelow n comps → n ≤ length old → ManyPlaced comps old new places
+  pub many_placed : (comps : List (CompType ℕ)) (old new : List TypeDef) (places : List ℕ) → AreFoundOrAdded comps old new places → AllBelow n comps → n ≤ length old → ManyPlaced comps old new places
   many_placed comps old new places (NoMore types) below long = record {
     extends = λ i x e. e;
     long = long;
@@ -295,11 +295,11 @@ module _ (n : ℕ) where
       }
 
 module _ (m : Abstract) (places : ℕ → List ℕ) (n : ℕ) (below : (f : ℕ) → AllBelow n (handlers_by m (body_of m f))) where
-  record AllPlaced (fs : List ℕ) (old new : List TypeDef) : Type 0 where
-    extends : Extends old new
-    placed : (f : ℕ) → Contains fs f → Placed (handlers_by m (body_of m f)) new (places f)
+  pub record AllPlaced (fs : List ℕ) (old new : List TypeDef) : Type 0 where
+    pub extends : Extends old new
+    pub placed : (f : ℕ) → Contains fs f → Placed (handlers_by m (body_of m f)) new (places f)
 
-  all_placed : (fs : List ℕ) (old new : List TypeDef) → AddsHandlers m places fs old new → n ≤ length old → AllPlaced fs old new
+  pub all_placed : (fs : List ℕ) (old new : List TypeDef) → AddsHandlers m places fs old new → n ≤ length old → AllPlaced fs old new
   all_placed fs old new (NoFunction types) long = record { extends = λ i x e. e; placed = λ f at. absurd (Contains-none f at) }
   all_placed whole first last (AndThose f fs old middle new one rest) long =
       let a = many_placed n (handlers_by m (body_of m f)) old middle (places f) one (below f) long in
@@ -312,7 +312,7 @@ module _ (m : Abstract) (places : ℕ → List ℕ) (n : ℕ) (below : (f : ℕ)
             (Contains-uncons f g fs at);
       }
 
-  in_range : (count f : ℕ) → f < count → Contains (range_with_len 0 count) f
+  pub in_range : (count f : ℕ) → f < count → Contains (range_with_len 0 count) f
   in_range count f lt = (
     f,
     subst (λ k. f < k) (sym (length-range_with_len 0 count)) lt,

@@ -188,18 +188,19 @@ module _ (c : Config) (m v : Abstract) (p : ParsedAs c m v) where
       pub needed : Contains (handlers_of m body) comp
       pub is : x ≡ (Types, place)
       pub stands : IsLoneTypeAt comp p.all_types place
+      pub listed : Contains (v.handler_types function) place
 
     abbrev pub IsEither : Item → Type 0
     IsEither x = Reached m x ⊎ IsPlace x
 
-    needs : (f : ℕ) (t : ℕ) (y : Item) → y ≡ type_item t → Reached m (Functions, f) → (o : Option Body) → body_of m f ≡ o → (comp : CompType ℕ) → Contains (handlers_by m o) comp → IsLoneTypeAt comp p.all_types t → IsPlace y
-    needs f t y is h None at comp has stands = absurd (Contains-none comp has)
-    needs f t y is h (Some b) at comp has stands = record { function = f; body = b; comp = comp; place = t; reached = h; at = at; needed = has; is = is; stands = stands }
+    needs : (f : ℕ) (t : ℕ) (y : Item) → y ≡ type_item t → Reached m (Functions, f) → Contains (v.handler_types f) t → (o : Option Body) → body_of m f ≡ o → (comp : CompType ℕ) → Contains (handlers_by m o) comp → IsLoneTypeAt comp p.all_types t → IsPlace y
+    needs f t y is h listed None at comp has stands = absurd (Contains-none comp has)
+    needs f t y is h listed (Some b) at comp has stands = record { function = f; body = b; comp = comp; place = t; reached = h; at = at; needed = has; is = is; stands = stands; listed = listed }
 
     keeps_either : (x y : Item) → Reached m x → KeepsToo v x y → IsEither y
     keeps_either (Functions, f) y h (t, at, is) =
         let found = (places_of f (reached_live m plain holds (Functions, f) h)).back t at in
-        inr (needs f t y is h (body_of m f) refl found.0 found.1 found.2)
+        inr (needs f t y is h at (body_of m f) refl found.0 found.1 found.2)
     keeps_either (Tables, t) y h (e, at, is) = inl (step (Tables, t) y h (inr (e, subst IsTrue (p.table_segments t e) at, is)))
     keeps_either (Memories, i) y h (d, at, is) = inl (step (Memories, i) y h (inr (d, subst IsTrue (p.memory_segments i d) at, is)))
     keeps_either (Types, i) y h none = absurd none

@@ -20,7 +20,7 @@ use Rattle.walrus_rules.proofs.HandlersOnce.{places_once}
 use Rattle.walrus_model.proofs.Lists.{map-itself, flat_map-follows}
 use Rattle.walrus_model.proofs.OpsFollow.{ops_follow, ops_locals_follow, val_items}
 use Rattle.walrus_rules.proofs.Things.{made}
-use Rattle.walrus_rules.proofs.ShapesEnd.{range_has}
+use Rattle.walrus_rules.proofs.Ranges.{range_has}
 use Rattle.walrus_rules.proofs.OneList.{got_at}
 
 -- every number stays but those of locals

@@ -27,7 +27,7 @@ use Rattle.walrus_rules.proofs.OneSections.{laid}
 use Rattle.walrus_rules.proofs.OneSpelling.{told, as_told}
 use Rattle.walrus_rules.proofs.ReadBodies.{IsRead, is_read_by}
 use Rattle.walrus_rules.proofs.ReadFits.{some_there}
-use Rattle.walrus_rules.proofs.ShapesEnd.{range_has, range_in}
+use Rattle.walrus_rules.proofs.Ranges.{range_has, range_in}
 use Rattle.walrus_rules.proofs.WellFormedWhole.{well_formed}
 use Rattle.walrus_rules.proofs.WrittenHolds.{written_holds, made_nest}
 

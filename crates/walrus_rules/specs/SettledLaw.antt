@@ -1,4 +1,4 @@
--- The laws of the settled form: a second run, under the same configuration, drops no item and adds no segment and no shape of a type.
+-- The laws of that: a second run, under the same configuration, drops no item and adds no segment and no shape of a type.
 use Rattle.std.specs.Prelude.{ℕ, List}
 use Rattle.walrus_model.specs.Abstract.{Abstract}
 use Rattle.walrus_model.specs.Config.{Config}

@@ -6,6 +6,9 @@
 //! definitions as its contract.
 #![tactic(auto)]
 
+mod again;
+mod edits;
+mod engines;
 mod run;
 mod settled;
 mod spelling;
@@ -13,6 +16,12 @@ mod steps;
 mod well_made;
 mod written;
 
+pub use again::writes_again;
+pub use edits::{
+    bodies_swapped, customs_edited, exports_edited, imports_edited, items_edited, leads_live,
+    well_made_is_sound,
+};
+pub use engines::{no_engine_tells, worked_engine};
 pub use run::runs_come_out;
 pub use settled::{one_report, settles_again, worked_report};
 pub use spelling::{has_alternatives, reads_once, spelled_once, spelled_reads, worked_row};

@@ -7,6 +7,7 @@ ghost use Rattle.walrus_rules.specs.Headline.{NotBoth, OneOutput, StepsComeOut};
 ghost use Rattle.walrus_rules.specs.OneRun.{HandlersLive, HandlersOnce, KeptLives};
 ghost use Rattle.walrus_rules.specs.SettledLaw.{IsSettled};
 ghost use Rattle.walrus_rules.specs.WellMadeLaws.{BroughtLives};
+ghost use Rattle.walrus_rules.specs.Whole.{PlainComesOut};
 ghost use Rattle.walrus_rules.specs.WorkedDeclared.{declared_bytes, undeclared_bytes};
 ghost use Rattle.walrus_rules.specs.WorkedHandler.{catching_bytes, handled_bytes};
 ghost use Rattle.walrus_rules.specs.WorkedSections.{ComesToAlone, customs_bytes, named_bytes, produced_bytes};
@@ -15,6 +16,11 @@ ghost use Rattle.walrus_rules.specs.WorkedSections.{ComesToAlone, customs_bytes,
 /// read and the one that came out, which a reader reads.
 pub fn steps_come_out()
     ensures { StepsComeOut }
+{}
+
+/// The same without gc: of parsing, the declared segment and writing. All that was read comes out.
+pub fn plain_comes_out()
+    ensures { PlainComesOut }
 {}
 
 /// What comes out is one function of what was read, and no run may call too large what another may write. The types that

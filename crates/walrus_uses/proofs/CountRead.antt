@@ -1,12 +1,10 @@
 -- The bodies of a module that was read are well formed with a call in front, under a look-up that has one function more.
 use Rattle.std.proofs.Common.{◌≡◌, ℕ, zero, suc, ◌+◌, ◌<◌, ◌^◌, Bool, List, [], ◌∷◌, ◌++◌, length, map, zip, refl, sym, ap, ◌∙◌, subst, arith, length-append}
-use Rattle.std.specs.Prelude.{Option, Some, None, IsSome, is_some, slice_get, option_to_list, if◌then◌else◌}
+use Rattle.std.specs.Prelude.{Option, Some, None, IsSome, is_some, slice_get, if◌then◌else◌}
 use Rattle.std.specs.List.{AllByRecursion, AllZip}
 use Rattle.std.proofs.lemmas.Bool.{le-ltb}
 use Rattle.std.proofs.lemmas.List.{length-map}
-use Rattle.wasm_entries.specs.declared.record.RawDesc.{RawDesc}
-use Rattle.wasm_entries.specs.declared.record.RawDesc.TheVariants as descs
-use Rattle.wasm_entries.specs.Record as entries
+use Rattle.std.proofs.lemmas.Slice.Zip.{AllZip-long, length-zip}
 use Rattle.wasm_forms.proofs.Bind.{some_same}
 use Rattle.wasm_frames.specs.Record as wire
 use Rattle.walrus_types.specs.Operators.{Types, Functions, Tables, Memories, Tags, Globals, Elements, DataSegments, Op, type_item}
@@ -14,7 +12,7 @@ use Rattle.walrus_code.specs.Names.{Lookup}
 use Rattle.walrus_bodies.specs.Body.{BodyReads, context}
 use Rattle.walrus_bodies.specs.FunctionTypes.{is_function_def}
 use Rattle.walrus_builder.specs.Instructions.{call_op}
-use Rattle.walrus_model.specs.Abstract.{Abstract, Body, Function, LocalFunction, TypeDef}
+use Rattle.walrus_model.specs.Abstract.{Abstract, Body, Function, ImportedFunction, LocalFunction, TypeDef}
 use Rattle.walrus_model.specs.BlockHandlers.{params_of}
 use Rattle.walrus_model.specs.Config.{Config}
 use Rattle.walrus_model.specs.Names.{body_of_function, body_of_kind}
@@ -31,12 +29,15 @@ use Rattle.walrus_rules.proofs.MovedBody.{ops_are}
 use Rattle.walrus_rules.proofs.ParsedWell.{Was, was}
 use Rattle.walrus_rules.proofs.ReadBodies.{IsRead, SaidIn, is_read}
 use Rattle.walrus_rules.proofs.ReadFits.{read_fits}
+use Rattle.walrus_rules.proofs.SpelledReads.{all_such}
 use Rattle.walrus_rules.proofs.StepParsed.{function_of_v, in_place, types_stay}
 use Rattle.walrus_rules.proofs.StepPlain.{IsPlain}
 use Rattle.walrus_rules.proofs.StepRead.{read_is_plain}
 use Rattle.walrus_rules.proofs.TextShaped.{all_append, all_at, local_same}
 use Rattle.walrus_rules.proofs.WellFormedWhole.{slice_there, well_formed}
 use Rattle.walrus_rules.proofs.WellStays.{function_has, reads_in}
+use Rattle.walrus_reading.proofs.AllHeld.{IsImported, all_imported}
+use Rattle.walrus_reading.proofs.Numbered.{types_many}
 use Rattle.walrus_uses.proofs.CallBody.{call_reads, counted_call, text_with, with_call}
 use Rattle.walrus_uses.proofs.MoreNames.{KnowsMore, reads_on}
 
@@ -88,16 +89,8 @@ module _ (c : Config) (s : wire.Module) (n : ℕ) (m : Abstract) where
   abbrev Fine : Function → Type 0
   Fine g = (b : Body) → g.kind ≡ LocalFunction b → SaidIn c read_as (with_function n (declared s)) g.ty b
 
-  import_fine : (i : ℕ) (d : RawDesc) → AllByRecursion Fine (option_to_list (imported_function i d))
-  import_fine i (descs.Function ty) = ((λ b e. absurd cc), tt)
-  import_fine i (descs.Table ty) = tt
-  import_fine i (descs.Memory l) = tt
-  import_fine i (descs.Global ty) = tt
-  import_fine i (descs.Tag ty) = tt
-
-  imports_fine : (i : ℕ) (xs : List entries.Import) → AllByRecursion Fine (imported imported_function i xs)
-  imports_fine i [] = tt
-  imports_fine i (x ∷ xs) = all_append Fine (option_to_list (imported_function i x.desc)) (imported imported_function (i + 1) xs) (import_fine i x.desc) (imports_fine (i + 1) xs)
+  imports_fine : AllByRecursion Fine (imported imported_function 0 s.imports)
+  imports_fine = all_such IsImported Fine (λ g by b e. absurd (let no_such : ImportedFunction by.0 ≡ LocalFunction b = sym by.1 ∙ e in cc)) (imported imported_function 0 s.imports) (all_imported 0 s.imports)
 
   function_fine : (ty : ℕ) (body : wire.Body) (said : Said) → ReadsBody c s (ty, body) said → Fine (function_with s (ty, said))
   function_fine ty body said read b e = record {
@@ -113,27 +106,6 @@ module _ (c : Config) (s : wire.Module) (n : ℕ) (m : Abstract) where
   functions_fine (ty ∷ tys) [] (said ∷ saids) read = absurd read
   functions_fine (ty ∷ tys) (body ∷ bodies) [] read = absurd read
   functions_fine (ty ∷ tys) (body ∷ bodies) (said ∷ saids) read = (function_fine ty body said read.0, functions_fine tys bodies saids read.1)
-
--- ---- as many functions as types of functions
-
-module _ (c : Config) (s : wire.Module) where
-  as_many : (tys : List ℕ) (bodies : List wire.Body) (saids : List Said) → AllZip (ReadsBody c s) (zip tys bodies) saids → length bodies ≡ length tys → length (zip tys saids) ≡ length tys
-  as_many [] bodies saids read e = refl
-  as_many (ty ∷ tys) [] saids read e = absurd (omega (arith, e))
-  as_many (ty ∷ tys) (body ∷ bodies) [] read e = absurd read
-  as_many (ty ∷ tys) (body ∷ bodies) (said ∷ saids) read e = let rest : length (zip tys saids) ≡ length tys = as_many tys bodies saids read.1 (omega (arith, e)) in omega (arith, rest)
-
-one_imported : (i : ℕ) (d : RawDesc) → length (option_to_list (imported_type i d)) ≡ length (option_to_list (imported_function i d))
-one_imported i (descs.Function ty) = refl
-one_imported i (descs.Table ty) = refl
-one_imported i (descs.Memory l) = refl
-one_imported i (descs.Global ty) = refl
-one_imported i (descs.Tag ty) = refl
-
-as_many_imported : (i : ℕ) (xs : List entries.Import) → length (imported imported_type i xs) ≡ length (imported imported_function i xs)
-as_many_imported i [] = refl
-as_many_imported i (x ∷ xs) =
-    omega (arith, length-append (option_to_list (imported_type i x.desc)) (imported imported_type (i + 1) xs), length-append (option_to_list (imported_function i x.desc)) (imported imported_function (i + 1) xs), one_imported i x.desc, as_many_imported (i + 1) xs)
 
 -- ---- a module that was read
 
@@ -152,8 +124,11 @@ module _ (c : Config) (bytes : List ℕ) (m : Abstract) (h : ReadsModule c bytes
     arith,
     length-append (imported imported_function 0 s.imports) (map (function_with s) (zip s.functions h.bodies)),
     length-map (zip s.functions h.bodies) (function_with s),
-    as_many c s s.functions s.bodies h.bodies h.read h.as_many_bodies,
-    as_many_imported 0 s.imports,
+    length-zip s.functions h.bodies,
+    length-zip s.functions s.bodies,
+    AllZip-long (ReadsBody c s) (zip s.functions s.bodies) h.bodies h.read,
+    h.as_many_bodies,
+    types_many 0 s.imports,
     length-append (imported imported_type 0 s.imports) s.functions,
   )
 
@@ -172,7 +147,7 @@ module _ (c : Config) (bytes : List ℕ) (m : Abstract) (h : ReadsModule c bytes
   module _ (n : ℕ) where
     body_said : (f : ℕ) (g : Function) (b : Body) → m.functions f ≡ Some g → g.kind ≡ LocalFunction b → SaidIn c m (with_function n (declared s)) g.ty b
     body_said f g b at is =
-        let fine = all_append (Fine c s n m) (imported imported_function 0 s.imports) (map (function_with s) (zip s.functions h.bodies)) (imports_fine c s n m 0 s.imports) (functions_fine c s n m s.functions s.bodies h.bodies h.read) in
+        let fine = all_append (Fine c s n m) (imported imported_function 0 s.imports) (map (function_with s) (zip s.functions h.bodies)) (imports_fine c s n m) (functions_fine c s n m s.functions s.bodies h.bodies h.read) in
         subst (λ (T : ℕ → Option TypeDef). SaidIn c (record m { types = T }) (with_function n (declared s)) g.ty b) (sym (ap (λ (x : Abstract). x.types) h.is))
         (all_at (Fine c s n m) all f g fine (sym (function_at f) ∙ at) b is)
 

@@ -1,6 +1,6 @@
--- What counting does to what a module holds.
-use Rattle.std.proofs.Common.{◌≡◌, ◌≢◌, ℕ, ◌<◌, ◌≤◌, List, [], ◌∷◌, filter, length, not, Option, Some, None, IsSome, option_map, refl, sym, ap, ◌∙◌, subst, inl, inr, ⊎_elim, arith}
-use Rattle.std.specs.Prelude.{Contains, ◌⊎◌, ◌&&◌}
+-- Counting, step by step: a type, a function with its import, and a call of it in front of each body.
+use Rattle.std.proofs.Common.{◌≡◌, ℕ, ◌<◌, ◌≤◌, Bool, true, false, List, [], ◌∷◌, filter, length, append-nil, not, Option, Some, None, IsSome, option_map, refl, sym, ap, ◌∙◌, subst, inl, inr, ⊎_elim, arith}
+use Rattle.std.specs.Prelude.{◌⊎◌, ◌&&◌}
 use Rattle.std.specs.List.{range_with_len}
 use Rattle.std.proofs.lemmas.Bool.{cases_lt}
 use Rattle.std.proofs.lemmas.List.{get_or_past}
@@ -11,38 +11,48 @@ use Rattle.walrus_base.specs.Id.{place}
 use Rattle.walrus_base.specs.Types.{Func}
 use Rattle.walrus_base.specs.declared.id.Id.{Id}
 use Rattle.walrus_base.specs.declared.keys.TypeKey.{TypeKey}
-use Rattle.walrus_types.specs.Alone.{Added, Found, FoundOrAdded}
 use Rattle.walrus_types.specs.Composite.{function_of}
 use Rattle.walrus_types.specs.Locals.{locals}
-use Rattle.walrus_types.specs.ModuleTypes.{type_names, type_slots}
-use Rattle.walrus_types.specs.Operators.{Op, locals_of}
+use Rattle.walrus_types.specs.Operators.{Types, Functions, Tables, Memories, Tags, Globals, Elements, DataSegments, Item, Op, function_item, locals_of}
 use Rattle.walrus_types.specs.PlaceList.{has}
-use Rattle.walrus_types.specs.TypeDef.{TypeDef}
 use Rattle.walrus_types.specs.declared.locals.ModuleLocals.{ModuleLocals}
-use Rattle.walrus_types.specs.declared.module_types.ModuleTypes.{ModuleTypes}
 use Rattle.walrus_items.specs.Function.{args_of, body_of, function_type}
 use Rattle.walrus_items.specs.LocalFunction.{LocalFunction}
 use Rattle.walrus_builder.specs.Instructions.{call_op}
 use Rattle.walrus_model.specs.Abstract as abstract
 use Rattle.walrus_model.specs.Config.{Config}
 use Rattle.walrus_model.specs.EmittedBody.{types_of as local_types}
-use Rattle.walrus_model.specs.Pipeline.{ReachedIsLive}
-use Rattle.walrus_parts.specs.FunctionKinds.{kind_type}
+use Rattle.walrus_model.specs.Live.{IsLive}
+use Rattle.walrus_model.specs.Rules.{IsFunctionType}
 use Rattle.walrus_parts.specs.declared.function_kind.FunctionKind.{FunctionKind}
 use Rattle.walrus_parts.specs.declared.function_kind.FunctionKind.TheVariants.{Import, Local, Uninitialized}
-use Rattle.walrus_parts.specs.declared.kinds.ImportKind.TheVariants.{Function}
-use Rattle.walrus_items.specs.Functions.{FunctionValue, ModuleFunctions, functions}
-use Rattle.walrus_items.specs.Imports.{ImportValue, ModuleImports, imports}
-use Rattle.walrus_contents.specs.View.{contents_view, function, functions_of, handlers_at, import_of, imports_of, kind_of, types_of}
+use Rattle.walrus_items.specs.Functions.{FunctionValue, functions}
+use Rattle.walrus_items.specs.Imports.{imports}
+use Rattle.walrus_contents.specs.View.{body, contents_view, function, handlers_at}
 use Rattle.walrus_contents.specs.declared.parts.Contents.{Contents}
 use Rattle.walrus_rules.specs.Chain.{alone}
-use Rattle.walrus_rules.specs.WellMade.{IsWellFormed, IsWellMade}
+use Rattle.walrus_rules.specs.EditLaws.{AddsLive, IsWholeModule, LeadsToLive}
+use Rattle.walrus_rules.specs.Edits.{GainsImported, GainsItem, SwapsBodies}
+use Rattle.walrus_rules.specs.Sound.{IsSound}
+use Rattle.walrus_rules.specs.WellMade.{IsWellFormed}
+use Rattle.walrus_rules.proofs.EditSound.{well_made_is_sound}
+use Rattle.walrus_model.proofs.Standing.{some_of}
+use Rattle.walrus_rules.proofs.EditKept.{none_isnt, some_is, some_there}
+use Rattle.walrus_rules.proofs.EditFunctions.{bodies_swapped}
+use Rattle.walrus_rules.proofs.EditItems.{imported_gained, item_gained}
+use Rattle.walrus_rules.proofs.EditLeads.{leads_live, leads_to_type}
+use Rattle.walrus_module.specs.Edits.{BodySet, HasType}
+use Rattle.walrus_module.specs.Replaced.{with_body}
+use Rattle.walrus_module.specs.View.{contents_of, held_view}
+use Rattle.walrus_module.specs.declared.module.Module.{Module}
+use Rattle.walrus_module.proofs.CountedBodies.{held_counted}
+use Rattle.walrus_module.proofs.EditedFunctions.{bodies_written, function_imported}
+use Rattle.walrus_module.proofs.EditedItems.{type_found}
+use Rattle.walrus_module.proofs.EditedSlots.{comes_behind}
 use Rattle.walrus_uses.proofs.CallBody.{with_call}
-use Rattle.walrus_uses.proofs.CountStays.{IsCounting, calling, calling_kind, count_reached, count_stays}
-use Rattle.walrus_reading.proofs.Carrying.{item_within}
-use Rattle.walrus_uses.proofs.SnipItems.{comes_behind, free_behind, stays_before}
-use Rattle.walrus_uses.proofs.TrapStays.{equal_or}
-use Rattle.walrus_uses.specs.Count.{CallsFirst, CountsIn, KindCalls, SlotCalls}
+use Rattle.walrus_uses.proofs.CallSound.{call_leads, call_sound, imported_refers, imported_sound, type_sound}
+use Rattle.walrus_uses.specs.Count.{CallsFirst, ImportsIn, KindCalls, SlotCalls}
+use Rattle.walrus_uses.specs.Counted.{Counts}
 
 -- ---- a function whose body begins with a call
 
@@ -65,120 +75,177 @@ module _ (all : ModuleLocals) (n : ℕ) where
       ∙ ap (λ (args : List ℕ). with_ops (function_type f) args (body_of g)) first.others.head.args
       ∙ ap (with_ops (function_type f) (args_of f)) first.in_front
 
-  kind_calls : (id : ℕ) (name : Option (List ℕ)) (k new : FunctionKind) → KindCalls n k new
-      → function all (record { id = id; kind = new; name = name }) ≡ record { ty = place (kind_type k); kind = calling_kind n (kind_of all k) }
-  kind_calls id name (Local f) new (g, is, first) = ap (λ (k : FunctionKind). function all (record { id = id; kind = k; name = name })) is ∙ local_calls f g first
-  kind_calls id name (Import i) new is = ap (λ (k : FunctionKind). function all (record { id = id; kind = k; name = name })) is
-  kind_calls id name (Uninitialized ty) new is = ap (λ (k : FunctionKind). function all (record { id = id; kind = k; name = name })) is
+-- a function with a body, before and after
+record Calling (n : ℕ) (o slot : Option FunctionValue) : Type 0 where
+  f : FunctionValue
+  old : LocalFunction
+  new : LocalFunction
+  there : o ≡ Some f
+  kind : f.kind ≡ Local old
+  now : slot ≡ Some (with_body new f)
+  first : CallsFirst n old new
 
-  pub slot_calls : (o slot : Option FunctionValue) → SlotCalls n o slot → option_map (function all) slot ≡ calling n (option_map (function all) o)
-  slot_calls None slot is = ap (option_map (function all)) is
-  slot_calls (Some f) slot (kind, is, calls) = ap (option_map (function all)) is ∙ ap Some (kind_calls f.id f.name f.kind kind calls)
+of_kind : (f : FunctionValue) (kind k : FunctionKind) (slot : Option FunctionValue) → slot ≡ Some (record f { kind = kind }) → kind ≡ k → slot ≡ Some (record f { kind = k })
+of_kind f kind k slot is same = is ∙ ap (λ (x : FunctionKind). Some (record f { kind = x })) same
 
--- the types of its handlers stay
-kind_keeps : (n id : ℕ) (name : Option (List ℕ)) (k new : FunctionKind) → KindCalls n k new → handlers_at (Some (record { id = id; kind = new; name = name })) ≡ handlers_at (Some (record { id = id; kind = k; name = name }))
-kind_keeps n id name (Local f) new (g, is, first) =
-    ap (λ (k : FunctionKind). handlers_at (Some (record { id = id; kind = k; name = name }))) is
-    ∙ first.others.handlers
-kind_keeps n id name (Import i) new is = ap (λ (k : FunctionKind). handlers_at (Some (record { id = id; kind = k; name = name }))) is
-kind_keeps n id name (Uninitialized ty) new is = ap (λ (k : FunctionKind). handlers_at (Some (record { id = id; kind = k; name = name }))) is
+turns : (n : ℕ) (o slot : Option FunctionValue) → SlotCalls n o slot → (slot ≡ o) ⊎ Calling n o slot
+turns n None slot is = inl is
+turns n (Some f) slot (kind, is, calls) = by f.kind refl calls where
+  by : (k : FunctionKind) → f.kind ≡ k → KindCalls n k kind → (slot ≡ Some f) ⊎ Calling n (Some f) slot
+  by (Local l) e (g, same, first) = inr (record { f = f; old = l; new = g; there = refl; kind = e; now = of_kind f kind (Local g) slot is same; first = first })
+  by (Import i) e same = inl (of_kind f kind f.kind slot is (same ∙ sym e))
+  by (Uninitialized ty) e same = inl (of_kind f kind f.kind slot is (same ∙ sym e))
 
-slot_keeps : (n : ℕ) (o slot : Option FunctionValue) → SlotCalls n o slot → handlers_at slot ≡ handlers_at o
-slot_keeps n None slot is = ap handlers_at is
-slot_keeps n (Some f) slot (kind, is, calls) = ap handlers_at is ∙ kind_keeps n f.id f.name f.kind kind calls
-
--- ---- a type that was found or added
-
-module _ (old new : List (Option TypeDef)) (old_names new_names : List (Option (Option (List ℕ)))) (t : ℕ) where
-  abbrev the_type : TypeDef
-  the_type = alone t (Func [] [])
-
-  stands : FoundOrAdded (function_of [] []) old new old_names new_names t → item_at new t ≡ Some the_type
-  stands (Found first same names) = ap (λ xs. item_at xs t) same ∙ first.0.0
-  stands (Added none last is names) = ap (λ xs. item_at xs t) is ∙ comes_behind old the_type t last
-
-  types_stay : FoundOrAdded (function_of [] []) old new old_names new_names t → (i : ℕ) → IsSome (item_at old i) → item_at new i ≡ item_at old i
-  types_stay (Found first same names) i there = ap (λ xs. item_at xs i) same
-  types_stay (Added none last is names) i there = ap (λ xs. item_at xs i) is ∙ stays_before old the_type i (λ e. let lt : i < length old = item_within old i there in omega (arith, lt, e))
-
-  new_type : FoundOrAdded (function_of [] []) old new old_names new_names t → (i : ℕ) → (item_at new i ≡ item_at old i) ⊎ (i ≡ t)
-  new_type (Found first same names) i = inl (ap (λ xs. item_at xs i) same)
-  new_type (Added none last is names) i = ⊎_elim
-      (λ (e : i ≡ t). inr e)
-      (λ (e : i ≢ t). inl (ap (λ xs. item_at xs i) is ∙ stays_before old the_type i (λ (at : i ≡ length old). e (at ∙ sym last))))
-      (equal_or i t)
+abbrev tells : {n : ℕ} {o slot : Option FunctionValue} → (slot ≡ o) ⊎ Calling n o slot → Bool
+tells (inl same) = false
+tells (inr calling) = true
 
 -- ---- the module
 
-module _ (m : Contents) (types : ModuleTypes) (funcs : ModuleFunctions) (imps : ModuleImports) (from name : List ℕ) (counts : CountsIn from name m.types types m.funcs funcs m.imports imps) where
-  abbrev pub after : Contents
-  after = record m { types = types; funcs = funcs; imports = imps }
+module _ {S : Type 0} (c : Config) (from name : List ℕ) (old new : Module S) (counts : Counts from name old new) (whole : IsWholeModule c (held_view old)) where
+  abbrev items : ImportsIn from name old.types (counts.middle).types (functions old.funcs) (functions (counts.middle).funcs) (imports old.imports) (imports (counts.middle).imports) counts.called
+  items = counts.imported.items
 
-  abbrev pub n : ℕ
+  abbrev p : ℕ
+  p = place items.ty
+
+  abbrev n : ℕ
   n = place counts.called
 
-  abbrev t : ℕ
-  t = place counts.imported.ty
-
   abbrev a : ℕ
-  a = place counts.imported.import_id
+  a = place items.import_id
 
-  abbrev new_function : FunctionValue
-  new_function = record { id = n; kind = Import (record { ty = counts.imported.ty; «import» = counts.imported.import_id }); name = None }
+  abbrev mid : abstract.Abstract
+  mid = held_view counts.middle
 
-  abbrev new_import : ImportValue
-  new_import = record { id = a; module_name = from; name = name; kind = Function counts.called }
+  -- ---- the type
 
-  one_at : item_at counts.with_one n ≡ Some new_function
-  one_at = ap (λ xs. item_at xs n) counts.imported.imported.items ∙ comes_behind (functions m.funcs) new_function n counts.imported.imported.item_id
+  abbrev typed : Contents
+  typed = record (contents_of old) { types = (counts.middle).types }
 
-  other_at : (i : ℕ) → i ≢ n → item_at counts.with_one i ≡ item_at (functions m.funcs) i
-  other_at i differs = ap (λ xs. item_at xs i) counts.imported.imported.items ∙ stays_before (functions m.funcs) new_function i (λ (e : i ≡ length (functions m.funcs)). differs (e ∙ sym counts.imported.imported.item_id))
+  has_type : HasType p (alone p (Func [] [])) (held_view old) (contents_view typed)
+  has_type = type_found (contents_of old) typed (function_of [] []) p refl items.typed []
 
-  calls_at : (i : ℕ) → SlotCalls n (item_at counts.with_one i) (item_at (functions funcs) i)
+  typed_whole : IsWholeModule c (contents_view typed)
+  typed_whole = ⊎_elim
+      (λ (same : contents_view typed ≡ held_view old). subst (IsWholeModule c) (sym same) whole)
+      (λ (gains : GainsItem Types p (alone p (Func [] [])) (held_view old) (contents_view typed)).
+      let s = item_gained c (held_view old) (contents_view typed) Types p (alone p (Func [] [])) gains whole.made (type_sound c (contents_view typed) p has_type.stands) (held_counted typed) in
+      record { made = s.made; reached = s.reached (λ root. (leads_live c (contents_view typed) s.made).types p (some_there ((contents_view typed).types p) has_type.stands)) whole.reached })
+      has_type.comes
+
+  -- ---- the function and its import
+
+  gains : GainsImported Functions n a (record { ty = p; kind = abstract.ImportedFunction a }) (record { module_name = from; name = name; item = function_item n }) (contents_view typed) mid
+  gains = function_imported typed (contents_of counts.middle) (counts.called, items.import_id) from name items.ty (ap contents_of counts.imported.others) items.imported []
+
+  type : IsFunctionType mid p
+  type = (alone p (Func [] []), ap (λ (x : abstract.Abstract). x.types p) gains.others ∙ has_type.stands, tt)
+
+  mid_whole : IsWholeModule c mid
+  mid_whole =
+      let s = imported_gained c (contents_view typed) mid Functions n a (record { ty = p; kind = abstract.ImportedFunction a }) (record { module_name = from; name = name; item = function_item n }) gains typed_whole.made (imported_sound c mid p n a gains.item.is type) (held_counted (contents_of counts.middle)) in
+      record { made = s.made; reached = s.reached tt typed_whole.reached }
+
+  -- ---- the bodies
+
+  abbrev pub after : Contents
+  after = record (contents_of counts.middle) { funcs = new.funcs }
+
+  abbrev w : abstract.Abstract
+  w = contents_view after
+
+  abbrev was : ℕ → Option FunctionValue
+  was i = item_at (functions (counts.middle).funcs) i
+
+  abbrev is : ℕ → Option FunctionValue
+  is i = item_at (functions new.funcs) i
+
+  calls_at : (i : ℕ) → SlotCalls n (was i) (is i)
   calls_at i = ⊎_elim
-      (λ (lt : i < length counts.with_one). AllZip-get_or (SlotCalls n) counts.with_one (functions funcs) i None None counts.calls lt)
-      (λ (le : length counts.with_one ≤ i).
-      let long : length (functions funcs) ≡ length counts.with_one = AllZip-long (SlotCalls n) counts.with_one (functions funcs) counts.calls in
-      subst (λ (o : Option FunctionValue). SlotCalls n o (item_at (functions funcs) i)) (sym (get_or_past counts.with_one i None le)) (get_or_past (functions funcs) i None (omega (arith, le, long))))
-      (cases_lt i (length counts.with_one))
+      (λ (lt : i < length (functions (counts.middle).funcs)). AllZip-get_or (SlotCalls n) (functions (counts.middle).funcs) (functions new.funcs) i None None counts.calls lt)
+      (λ (le : length (functions (counts.middle).funcs) ≤ i).
+      let long : length (functions new.funcs) ≡ length (functions (counts.middle).funcs) = AllZip-long (SlotCalls n) (functions (counts.middle).funcs) (functions new.funcs) counts.calls in
+      subst (λ (o : Option FunctionValue). SlotCalls n o (is i)) (sym (get_or_past (functions (counts.middle).funcs) i None le)) (get_or_past (functions new.funcs) i None (omega (arith, le, long))))
+      (cases_lt i (length (functions (counts.middle).funcs)))
 
-  function_now : (i : ℕ) → functions_of m.locals funcs i ≡ calling n (option_map (function m.locals) (item_at counts.with_one i))
-  function_now i = slot_calls m.locals n (item_at counts.with_one i) (item_at (functions funcs) i) (calls_at i)
+  abbrev turn : (i : ℕ) → (is i ≡ was i) ⊎ Calling n (was i) (is i)
+  turn i = turns n (was i) (is i) (calls_at i)
 
-  is_counting : IsCounting (contents_view m) (types_of types) (functions_of m.locals funcs) (imports_of imps) t n a
-  is_counting = record {
-    type = stands (type_slots m.types) (type_slots types) (type_names m.types) (type_names types) t counts.imported.typed;
-    types = types_stay (type_slots m.types) (type_slots types) (type_names m.types) (type_names types) t counts.imported.typed;
-    new_types = new_type (type_slots m.types) (type_slots types) (type_names m.types) (type_names types) t counts.imported.typed;
-    free = ap (option_map (function m.locals)) (free_behind (functions m.funcs) new_function n counts.imported.imported.item_id);
-    comes = function_now n ∙ ap (λ (o : Option FunctionValue). calling n (option_map (function m.locals) o)) one_at;
-    functions = λ i differs. function_now i ∙ ap (λ (o : Option FunctionValue). calling n (option_map (function m.locals) o)) (other_at i differs);
-    free_import = ap (option_map import_of) (free_behind (imports m.imports) new_import a counts.imported.imported.import_id);
-    brings = import_of new_import;
-    comes_import = ap (λ xs. option_map import_of (item_at xs a)) counts.imported.imported.imports ∙ ap (option_map import_of) (comes_behind (imports m.imports) new_import a counts.imported.imported.import_id);
-    brings_it = refl;
-    imports = λ i differs.
-        ap (λ xs. option_map import_of (item_at xs i)) counts.imported.imported.imports
-        ∙ ap (option_map import_of) (stays_before (imports m.imports) new_import i (λ (e : i ≡ length (imports m.imports)). differs (e ∙ sym counts.imported.imported.import_id)));
-  }
+  swaps : SwapsBodies (λ i. tells (turn i)) mid w
+  swaps = bodies_written (λ i. tells (turn i)) (contents_of counts.middle) new.funcs (counts.middle).locals ([], sym (append-nil (locals (counts.middle).locals))) (λ i. by i (turn i)) [] where
+    by : (i : ℕ) (d : (is i ≡ was i) ⊎ Calling n (was i) (is i)) → (is i ≡ was i) ⊎ ((tells d ≡ true) × BodySet (was i) (is i))
+    by i (inl same) = inl same
+    by i (inr k) = inr (refl, record { function = k.f; old = k.old; was = k.there; had = k.kind; new = k.new; is = k.now; typed = k.first.others.head.typed })
 
-  module _ (c : Config) (made : IsWellMade c (contents_view m)) where
-    -- it stays well made
-    pub count_well : ((i : ℕ) (f : abstract.Function) (b : abstract.Body) → (contents_view m).functions i ≡ Some f → f.kind ≡ abstract.LocalFunction b → IsWellFormed c (contents_view after) f.ty (with_call n b)) → IsWellMade c (contents_view after)
-    count_well formed = count_stays c (contents_view m) (types_of types) (functions_of m.locals funcs) (imports_of imps) (contents_view after).named (contents_view after).handler_types t n a is_counting made formed
+  live_on : (y : Item) → IsLive mid y → IsLive w y
+  live_on (Functions, i) h = ⊎_elim
+      (λ (same : is i ≡ was i). subst (λ (o : Option FunctionValue). IsSome (option_map (function (counts.middle).locals) o)) (sym same) h)
+      (λ (k : Calling n (was i) (is i)). subst (λ (o : Option FunctionValue). IsSome (option_map (function (counts.middle).locals) o)) (sym k.now) refl)
+      (turn i)
+  live_on (Types, i) h = h
+  live_on (Tables, i) h = h
+  live_on (Memories, i) h = h
+  live_on (Tags, i) h = h
+  live_on (Globals, i) h = h
+  live_on (Elements, i) h = h
+  live_on (DataSegments, i) h = h
 
-    no_handlers : (contents_view after).handler_types n ≡ []
-    no_handlers = slot_keeps n (item_at counts.with_one n) (item_at (functions funcs) n) (calls_at n) ∙ ap handlers_at one_at
+  keeps : (i : ℕ) → w.handler_types i ≡ mid.handler_types i
+  keeps i = ⊎_elim
+      (λ (same : is i ≡ was i). ap handlers_at same)
+      (λ (k : Calling n (was i) (is i)). ap handlers_at k.now ∙ k.first.others.handlers ∙ sym (ap (λ (x : FunctionKind). handlers_at (Some (record (k.f) { kind = x }))) k.kind) ∙ sym (ap handlers_at k.there))
+      (turn i)
 
-    handlers_before : (f k : ℕ) → f ≢ n → Contains ((contents_view after).handler_types f) k → Contains ((contents_view m).handler_types f) k
-    handlers_before f k differs has =
-        subst (λ (ks : List ℕ). Contains ks k) (slot_keeps n (item_at counts.with_one f) (item_at (functions funcs) f) (calls_at f) ∙ ap handlers_at (other_at f differs)) has
+  module _ (i : ℕ) (k : Calling n (was i) (is i)) where
+    abbrev ty : ℕ
+    ty = place (function_type k.old)
 
-    -- what is reached stays there
-    pub count_live : ReachedIsLive (contents_view m) → ReachedIsLive (contents_view after)
-    count_live live = count_reached c (contents_view m) (types_of types) (functions_of m.locals funcs) (imports_of imps) (contents_view after).named (contents_view after).handler_types t n a is_counting made no_handlers handlers_before live
+    abbrev b : abstract.Body
+    b = body (counts.middle).locals k.old
+
+    stood : mid.functions i ≡ Some (record { ty = ty; kind = abstract.LocalFunction b })
+    stood = ap (option_map (function (counts.middle).locals)) k.there ∙ ap (λ (x : FunctionKind). Some (function (counts.middle).locals (record (k.f) { kind = x }))) k.kind
+
+    stands : w.functions i ≡ Some (record { ty = ty; kind = abstract.LocalFunction (with_call n b) })
+    stands = ap (option_map (function (counts.middle).locals)) k.now ∙ ap (λ (f : abstract.Function). Some f) (local_calls (counts.middle).locals n k.old k.new k.first)
+
+    -- it isn't the imported one, so that it was there before
+    before : (held_view old).functions i ≡ Some (record { ty = ty; kind = abstract.LocalFunction b })
+    before = sym (gains.item.others i (λ (e : i ≡ n).
+        let no_such : ◌≡◌ {A = abstract.FunctionKind} (abstract.LocalFunction b) (abstract.ImportedFunction a) = ap (λ (f : abstract.Function). f.kind) (some_is (sym stood ∙ ap mid.functions e ∙ gains.item.is)) in cc)) ∙ stood
+
+  no_handlers : mid.handler_types n ≡ []
+  no_handlers = ap (λ xs. handlers_at (item_at xs n)) items.imported.items ∙ ap handlers_at (comes_behind (functions old.funcs) (record { id = n; kind = Import (record { ty = items.ty; «import» = items.import_id }); name = None }) n items.imported.item_id)
+
+  -- what is called leads to its type alone
+  called_is : w.functions n ≡ Some (record { ty = p; kind = abstract.ImportedFunction a })
+  called_is = ⊎_elim
+      (λ (same : is n ≡ was n). ap (option_map (function (counts.middle).locals)) same ∙ gains.item.is)
+      (λ (k : Calling n (was n) (is n)).
+      let no_such : ◌≡◌ {A = abstract.FunctionKind} (abstract.LocalFunction (b n k)) (abstract.ImportedFunction a) = ap (λ (f : abstract.Function). f.kind) (some_is (sym (stood n k) ∙ gains.item.is)) in cc)
+      (turn n)
+
+  module _ (formed : (i : ℕ) (f : abstract.Function) (b : abstract.Body) → (held_view old).functions i ≡ Some f → f.kind ≡ abstract.LocalFunction b → IsWellFormed c w f.ty (with_call n b)) where
+    sound : (i : ℕ) (d : (is i ≡ was i) ⊎ Calling n (was i) (is i)) → tells d ≡ true → IsSound c w (Functions, i)
+    sound i (inl same) h = absurd (let no_such : false ≡ true = h in cc)
+    sound i (inr k) h = call_sound c mid w i n (ty i k) (b i k) (stood i k) (stands i k) (((well_made_is_sound c mid).0 mid_whole.made).0.items (Functions, i)) live_on (some_there (w.functions n) called_is)
+        (formed i (record { ty = ty i k; kind = abstract.LocalFunction (b i k) }) (b i k) (before i k) refl)
+
+    added : LeadsToLive w (function_item n) → (i : ℕ) (d : (is i ≡ was i) ⊎ Calling n (was i) (is i)) → tells d ≡ true → AddsLive mid w (Functions, i)
+    added leads i (inl same) h = absurd (let no_such : false ≡ true = h in cc)
+    added leads i (inr k) h = call_leads c mid w i n (ty i k) (b i k) (stood i k) (stands i k) (keeps i) leads
+
+    pub after_whole : IsWholeModule c w
+    after_whole =
+        let s = bodies_swapped c mid w (λ i. tells (turn i)) swaps mid_whole.made (λ i. sound i (turn i)) (held_counted after) in
+        let leads : LeadsToLive w (function_item n) = leads_to_type c w s.made (Functions, n) p (some_there (w.functions n) called_is) (some_there (w.types p) type.1) (imported_refers c w p n a called_is (keeps n ∙ no_handlers)) in
+        record { made = s.made; reached = s.reached (λ i. added leads i (turn i)) mid_whole.reached }
 
   -- types that were there are those that are there
-  pub types_kept : (i : ℕ) → IsSome ((contents_view m).types i) → (contents_view after).types i ≡ (contents_view m).types i
-  types_kept = types_stay (type_slots m.types) (type_slots types) (type_names m.types) (type_names types) t counts.imported.typed
+  pub types_kept : (i : ℕ) → IsSome ((held_view old).types i) → w.types i ≡ (held_view old).types i
+  types_kept i live = ap (λ (x : abstract.Abstract). x.types i) gains.others ∙ ⊎_elim
+      (λ (same : contents_view typed ≡ held_view old). ap (λ (x : abstract.Abstract). x.types i) same)
+      (λ (g : GainsItem Types p (alone p (Func [] [])) (held_view old) (contents_view typed)).
+      g.item.others i (λ (e : i ≡ p). none_isnt (sym g.item.was ∙ ap (held_view old).types (sym e) ∙ (some_of ((held_view old).types i) live).1)))
+      has_type.comes

@@ -7,8 +7,9 @@ use Rattle.walrus_base.specs.Arena.{item_at}
 use Rattle.walrus_parts.specs.declared.function_kind.FunctionKind.{FunctionKind}
 use Rattle.walrus_items.specs.Functions.{FunctionValue, function_value}
 use Rattle.walrus_items.specs.declared.functions.Function.{Function}
-use Rattle.walrus_uses.proofs.StubStep.{set_there}
-use Rattle.walrus_uses.proofs.TrapStays.{equal_or}
+use Rattle.walrus_rules.proofs.EditKept.{some_there}
+use Rattle.walrus_module.proofs.EditedSlots.{set_here}
+use Rattle.walrus_rules.proofs.EditSpace.{equal_or}
 use Rattle.walrus_uses.specs.Count.{KindCalls, PlaceCalls, SlotCalls}
 
 -- at the first k places each function begins with the call, behind them all is as it was
@@ -59,7 +60,7 @@ call_put called slots p was kind there calls =
     subst (λ (new : List (Option FunctionValue)). PlaceCalls called p (map (option_map function_value) slots) new) (sym set)
     (record {
       calls = subst (λ (o : Option FunctionValue). SlotCalls called o (item_at (slice_set (map (option_map function_value) slots) p (Some (record (function_value was) { kind = kind }))) p)) (sym there)
-          (kind, set_there (map (option_map function_value) slots) p (function_value was) (record (function_value was) { kind = kind }) there, calls);
+          (kind, set_here (map (option_map function_value) slots) p (Some (record (function_value was) { kind = kind })) (some_there (item_at (map (option_map function_value) slots) p) there), calls);
       others = λ i differs. get_or-set_other (map (option_map function_value) slots) p i (Some (record (function_value was) { kind = kind })) None differs;
       same_length = length-set (map (option_map function_value) slots) p (Some (record (function_value was) { kind = kind }));
     })

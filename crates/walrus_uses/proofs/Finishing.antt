@@ -81,18 +81,7 @@ module _ {V : Type 0} {O : V → Type 0} (G : (v : V) → Ghosts (O v)) where
       by_result u (Err (error.Memory e)) leaves h = tt
       by_result u (Err error.TooLarge) leaves h = record { module_left = u; leaves = left_of u leaves; too_large = h }
       by_result u (Err (error.Caller text)) leaves h = absurd (never h)
-      by_result u (Err error.DeadItem) leaves h = absurd h
-      by_result u (Err error.NoIndex) leaves h = absurd h
-      by_result u (Err error.TwoIndices) leaves h = absurd h
-      by_result u (Err error.NotWritable) leaves h = absurd h
-      by_result u (Err (error.InvalidWasm kind)) leaves h = absurd h
-      by_result u (Err error.NotFound) leaves h = absurd h
-      by_result u (Err error.SeveralMemories) leaves h = absurd h
-      by_result u (Err error.NoMemory) leaves h = absurd h
-      by_result u (Err error.SeveralFunctionTables) leaves h = absurd h
-      by_result u (Err error.NotExported) leaves h = absurd h
-      by_result u (Err error.NotImported) leaves h = absurd h
-      by_result u (Err error.NotReplaceable) leaves h = absurd h
+      by_result u (Err _) leaves h = absurd h
 
       pub finished : (f : Flags) → f ≡ settings m → (result : Result (Vec ℕ) Error) → LeavesBy (view G kept) (view G (but_customs kept left)) (told result)
           → (IsWellMade (config_of f) (view G kept) → WritesUnless (PassesLimits (config_of f) (view G left)) (OneMayRefuseThen G kept.customs left.customs) (λ (b : Vec ℕ). IsWellWritten (config_of f) (view G left) b.items) (told result))

@@ -1,5 +1,5 @@
 -- The first raw section of a name among raw ones: where it stands, and what is left without it.
-use Rattle.std.proofs.Common.{◌≡◌, ℕ, ◌+◌, Bool, true, false, List, [], ◌∷◌, ◌++◌, map, length, refl, sym, ap, ◌∙◌, ⊎_elim, arith}
+use Rattle.std.proofs.Common.{◌≡◌, ℕ, ◌+◌, Bool, true, false, List, [], ◌∷◌, ◌++◌, map, length, refl, ap, ◌∙◌, subst, ⊎_elim, arith}
 use Rattle.std.specs.Prelude.{Contains, Option, Some, None, find, slice_set, bytes_eq, if◌then◌else◌, ◌≢◌}
 use Rattle.std.specs.String.{string_bytes}
 use Rattle.std.proofs.lemmas.Slice.Eq.{bytes_eq-Decides}
@@ -12,6 +12,7 @@ use Rattle.walrus_module.specs.Meaning.{Meaning, meaning, raw_meaning}
 use Rattle.walrus_module.specs.Raws.{first_raw, raw_sections}
 use Rattle.walrus_module.specs.declared.entry.SectionEntry.{SectionEntry}
 use Rattle.walrus_module.specs.declared.entry.SectionEntry.TheVariants.{Raw}
+use Rattle.walrus_uses.proofs.Looked.{differs}
 
 -- the first of these raw sections that has the name, between those
 pub record IsFirstRaw (name : List ℕ) (raws before : List RawCustomSection) (section : RawCustomSection) (after : List RawCustomSection) : Type 0 where
@@ -33,14 +34,9 @@ module _ {V : Type 0} {O : V → Type 0} (name : List ℕ) where
   FoundRaw place raws (Some e) = IsFoundRaw place raws e
 
 module _ (name : List ℕ) where
-  differs : (r s : RawCustomSection) → bytes_eq (string_bytes r.name) name ≡ false → r ≡ s → string_bytes s.name ≢ name
-  differs r s other same is =
-      let eq : bytes_eq (string_bytes r.name) name ≡ true = (bytes_eq-Decides (string_bytes r.name) name).1 (ap (λ (x : RawCustomSection). string_bytes x.name) same ∙ is) in
-      let no_such : false ≡ true = sym other ∙ eq in cc
-
   others_too : (r : RawCustomSection) (raws : List RawCustomSection) → bytes_eq (string_bytes r.name) name ≡ false → ((s : RawCustomSection) → Contains raws s → string_bytes s.name ≢ name)
       → (s : RawCustomSection) → Contains (r ∷ raws) s → string_bytes s.name ≢ name
-  others_too r raws other rest s at = ⊎_elim (λ same. differs r s other same) (λ behind. rest s behind) (Contains-uncons r s raws at)
+  others_too r raws other rest s at = ⊎_elim (λ same. subst (λ (x : RawCustomSection). string_bytes x.name ≢ name) same (differs (string_bytes r.name) name other)) (λ behind. rest s behind) (Contains-uncons r s raws at)
 
 module _ (V : Type 0) (O : V → Type 0) (name : List ℕ) where
   by_test : (place : ℕ) (r : RawCustomSection) (raws : List RawCustomSection) (t : Bool) → bytes_eq (string_bytes r.name) name ≡ t → (o : Option (ℕ × SectionEntry V O)) → FoundRaw name (place + 1) raws o

@@ -1,6 +1,6 @@
 -- What was parsed, where the first section of a name gives way to one that keeps what it lists, collected and written: what the whole way comes to.
 use Rattle.std.proofs.Common.{◌≡◌, ℕ, true, false, List, [], ◌∷◌, ◌++◌, map, flat_map, filter, length, ◌+◌, refl, sym, ap, ap₂, ◌∙◌, subst, ⊎_elim, arith}
-use Rattle.std.specs.Prelude.{Contains, Option, Some, None, IsSome, option_and_then, option_map, codes, Result, Ok, Err, ◌≢◌}
+use Rattle.std.specs.Prelude.{Contains, Option, Some, None, option_and_then, codes, Result, Ok, Err, ◌≢◌}
 use Rattle.std.specs.Global.{Vec}
 use Rattle.std.specs.String.{string_bytes}
 use Rattle.std.proofs.lemmas.List.{map-append}
@@ -12,6 +12,7 @@ use Rattle.walrus_model.specs.Live.{IsLive}
 use Rattle.walrus_model.specs.Pipeline.{ReachedIsLive}
 use Rattle.walrus_model.proofs.Lists.{Contains-append_1, Contains-append_2, Contains-head, Contains-none, Contains-tail, Contains-uncons}
 use Rattle.walrus_model.proofs.PipelineOps.{from_map}
+use Rattle.walrus_model.proofs.Standing.{was_some}
 use Rattle.walrus_rules.specs.WellMade.{IsWellMade}
 use Rattle.walrus_rules.proofs.SameItems.{with_own}
 use Rattle.walrus_rules.proofs.StepHandlers.{Contains-split}
@@ -24,6 +25,7 @@ use Rattle.walrus_parts.specs.declared.error.Error.TheVariants as error
 use Rattle.walrus_parts.specs.declared.raw_section.RawCustomSection.{RawCustomSection}
 use Rattle.walrus_items.specs.Functions.{FunctionValue, functions}
 use Rattle.walrus_contents.specs.View.{function}
+use Rattle.walrus_contents.proofs.Lookups.{still_some}
 use Rattle.walrus_module.specs.Asked.{OneMayRefuse}
 use Rattle.walrus_module.specs.Customs.{sections}
 use Rattle.walrus_module.specs.Entry.{raw_of}
@@ -39,9 +41,8 @@ use Rattle.walrus_module.specs.declared.entry.SectionEntry.TheVariants.{Raw}
 use Rattle.walrus_module.specs.declared.module.Module.{Module}
 use Rattle.walrus_module.proofs.KeptRaw.{none_refuses, raw_means}
 use Rattle.walrus_uses.proofs.FirstRaw.{FoundRaw, IsFirstRaw, found, gone_at, mean_left}
-use Rattle.walrus_uses.proofs.ListedReached.{reached_there}
+use Rattle.walrus_uses.proofs.ListedReached.{listed_made, reached_there}
 use Rattle.walrus_uses.proofs.ListedWritten.{lists_again}
-use Rattle.walrus_uses.proofs.WellWith.{well_with}
 use Rattle.walrus_uses.specs.Finding.{FindsListed, IsReady, IsThere}
 use Rattle.walrus_uses.specs.Listed.{AsksToKeep, HasFirst, HasNone, KeepsListed, Lists, ListsFunctions, found_bytes, listing}
 use Rattle.walrus_uses.specs.Listing.{AnswersListed, Finishes, IsFinished, MayListAgain}
@@ -87,14 +88,6 @@ keeps_functions before after name fs =
     ∙ ap (λ (rs : List Item). filter (λ (x : Item). can_be_kept x.0) rs) (asks_behind (before ++ after) (listed_meaning name fs ∷ []))
     ∙ functions_kept fs
 
-some_mapped : {X Y : Type 0} (h : X → Y) (o : Option X) → IsSome o → IsSome (option_map h o)
-some_mapped h (Some x) is = refl
-some_mapped h None is = is
-
-some_of_mapped : {X Y : Type 0} (h : X → Y) (o : Option X) → IsSome (option_map h o) → IsSome o
-some_of_mapped h (Some x) is = refl
-some_of_mapped h None is = is
-
 module _ {V : Type 0} {O : V → Type 0} (G : (v : V) → Ghosts (O v)) (c : Config) (bytes name : List ℕ) (read : Module (SectionEntry V O)) (parsed : IsParsed c bytes (view G read)) (raws : List RawCustomSection) (are : sections read.customs ≡ raw_sections raws) where
   read_well : IsWellMade c (view G read)
   read_well = parsed_is_well c bytes parsed.module_read (view G read) parsed.reads parsed.holds parsed.parsed
@@ -120,18 +113,7 @@ module _ {V : Type 0} {O : V → Type 0} (G : (v : V) → Ghosts (O v)) (c : Con
   by_result edited listed asks again (Err (error.Memory e)) h = tt
   by_result edited listed asks again (Err error.TooLarge) h = record { module_parsed = view G read; parsed = parsed; listed = listed; module_asking = view G edited; asks = asks; too_large = h }
   by_result edited listed asks again (Err (error.Caller text)) h = absurd h
-  by_result edited listed asks again (Err error.DeadItem) h = absurd h
-  by_result edited listed asks again (Err error.NoIndex) h = absurd h
-  by_result edited listed asks again (Err error.TwoIndices) h = absurd h
-  by_result edited listed asks again (Err error.NotWritable) h = absurd h
-  by_result edited listed asks again (Err (error.InvalidWasm kind)) h = absurd h
-  by_result edited listed asks again (Err error.NotFound) h = absurd h
-  by_result edited listed asks again (Err error.SeveralMemories) h = absurd h
-  by_result edited listed asks again (Err error.NoMemory) h = absurd h
-  by_result edited listed asks again (Err error.SeveralFunctionTables) h = absurd h
-  by_result edited listed asks again (Err error.NotExported) h = absurd h
-  by_result edited listed asks again (Err error.NotImported) h = absurd h
-  by_result edited listed asks again (Err error.NotReplaceable) h = absurd h
+  by_result edited listed asks again (Err _) h = absurd h
 
   module _ (is : config_of (settings read) ≡ c) (still : (settings read).preserve_code_transform ≡ false) (removed : ModuleCustomSections (SectionEntry V O)) (gone : sections removed ≡ without_first (first_raw name (sections read.customs)) (sections read.customs)) where
     -- ---- there is no section of the name
@@ -211,10 +193,10 @@ module _ {V : Type 0} {O : V → Type 0} (G : (v : V) → Ghosts (O v)) (c : Con
       theirs = functions read.funcs
 
       lists_in : (fs : List ℕ) → Lists (IsThere theirs) s.data_.items fs → ListsFunctions (view G read) s.data_.items fs
-      lists_in fs lists = record { spelled = lists.spelled; there = λ f at. let both = lists.there f at in (both.0, some_mapped (function read.locals) (item_at theirs f) both.1) }
+      lists_in fs lists = record { spelled = lists.spelled; there = λ f at. let both = lists.there f at in (both.0, still_some (function read.locals) (item_at theirs f) both.1) }
 
       lists_back : (fs : List ℕ) → ListsFunctions (view G read) s.data_.items fs → Lists (IsThere theirs) s.data_.items fs
-      lists_back fs lists = record { spelled = lists.spelled; there = λ f at. let both = lists.there f at in (both.0, some_of_mapped (function read.locals) (item_at theirs f) both.1) }
+      lists_back fs lists = record { spelled = lists.spelled; there = λ f at. let both = lists.there f at in (both.0, was_some (function read.locals) (item_at theirs f) both.1) }
 
       pub list_refused : (e : Error) → FindsListed theirs s.data_.items (Err e) → AnswersListed c bytes name (Err e)
       list_refused (error.Memory memory) h = tt
@@ -282,7 +264,7 @@ module _ {V : Type 0} {O : V → Type 0} (G : (v : V) → Ghosts (O v)) (c : Con
         roots_there x at = let f = from_map function_item x fs at in subst (λ (y : Item). IsLive (view G read) y) f.2 ((lists_in fs lists).there f.0 f.1).1
 
         edited_live : ReachedIsLive (view G edited)
-        edited_live = subst ReachedIsLive (sym becomes) (reached_there c bytes (view G read) parsed read_well (others ++ listing name fs ∷ []) (map function_item fs) roots_there)
+        edited_live = subst ReachedIsLive (sym becomes) (reached_there c bytes (view G read) parsed read_well (others ++ listing name fs ∷ []) (map function_item fs) roots_there all_free)
 
         never : OneMayRefuse (meanings G edited) → ⊥
         never one =
@@ -296,7 +278,7 @@ module _ {V : Type 0} {O : V → Type 0} (G : (v : V) → Ghosts (O v)) (c : Con
         pub edited_ready : IsReady G edited
         edited_ready = record {
           made = subst (λ (d : Config). IsWellMade d (view G edited)) (sym is)
-              (subst (λ (v : Abstract). IsWellMade c v) (sym becomes) (well_with (view G read) (others ++ listing name fs ∷ []) (map function_item fs) c read_well all_free));
+              (subst (λ (v : Abstract). IsWellMade c v) (sym becomes) (listed_made c bytes (view G read) parsed read_well (others ++ listing name fs ∷ []) (map function_item fs) roots_there all_free));
           reached = edited_live;
           quiet = never;
           still = still;

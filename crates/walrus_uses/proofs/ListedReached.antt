@@ -1,20 +1,22 @@
 -- A module that was parsed, with functions more that sections ask to keep: what is reached is there.
-use Rattle.std.proofs.Common.{ℕ, List, sym, ap, ◌∙◌, subst, inl, inr}
+use Rattle.std.proofs.Common.{ℕ, List, refl, sym, ap, ◌∙◌, subst, inl, inr}
 use Rattle.std.specs.Prelude.{Contains, IsTrue, is_some}
 use Rattle.walrus_types.specs.Operators.{Types, Functions, Tables, Memories, Tags, Globals, Elements, DataSegments, Item}
 use Rattle.walrus_model.specs.Abstract.{Abstract, Custom}
 use Rattle.walrus_model.specs.Config.{Config}
 use Rattle.walrus_model.specs.Live.{IsLive}
 use Rattle.walrus_model.specs.Pipeline.{ReachedIsLive}
-use Rattle.walrus_model.specs.Reached.{Reached, root, step}
-use Rattle.walrus_model.specs.Refers.{KeepsToo, Refers}
-use Rattle.walrus_model.specs.Roots.{IsRoot, exported, start, data_segment, element_segment, asked_for}
+use Rattle.walrus_model.specs.Refers.{KeepsToo}
+use Rattle.walrus_rules.specs.EditLaws.{LeadsToLive, StaysWhole, further, itself}
+use Rattle.walrus_rules.specs.Sound.{IsFreeName}
 use Rattle.walrus_rules.specs.WellMade.{IsWellMade}
+use Rattle.walrus_rules.proofs.EditTops.{customs_stay}
 use Rattle.walrus_rules.proofs.SameItems.{live_on, with_own}
+use Rattle.walrus_rules.proofs.SameItems.{live_back as live_back_own}
 use Rattle.walrus_rules.proofs.StepParsed.{live_back, live_forth, live_v, places_of}
 use Rattle.walrus_rules.proofs.StepRead.{read_is_plain}
 use Rattle.walrus_module.specs.Parsed.{IsParsed}
-use Rattle.walrus_uses.proofs.WellWith.{written_back}
+use Rattle.walrus_module.proofs.EditedKeeps.{kept_on}
 
 module _ (c : Config) (bytes : List ℕ) (v : Abstract) (parsed : IsParsed c bytes v) (made : IsWellMade c v) where
   abbrev read : Abstract
@@ -36,31 +38,21 @@ module _ (c : Config) (bytes : List ℕ) (v : Abstract) (parsed : IsParsed c byt
   keeps_live (Elements, i) y live none = absurd none
   keeps_live (DataSegments, i) y live none = absurd none
 
-  module _ (customs : List Custom) (roots : List Item) (there : (x : Item) → Contains roots x → IsLive v x) where
-    root_live : (x : Item) → IsRoot (with_own v customs roots) x → IsLive v x
-    root_live x (exported e at is) = live_v c read v parsed.parsed (read_is_plain c bytes read parsed.reads) parsed.holds x (root x (exported e at is))
-    root_live x (start f at is) = live_v c read v parsed.parsed (read_is_plain c bytes read parsed.reads) parsed.holds x (root x (start f at is))
-    root_live x (data_segment i d at has is) = live_v c read v parsed.parsed (read_is_plain c bytes read parsed.reads) parsed.holds x (root x (data_segment i d at has is))
-    root_live x (element_segment i e at has is) = live_v c read v parsed.parsed (read_is_plain c bytes read parsed.reads) parsed.holds x (root x (element_segment i e at has is))
-    root_live x (asked_for at) = there x at
+  -- sections of any free names may ask to keep what is there
+  module _ (customs : List Custom) (roots : List Item) (there : (x : Item) → Contains roots x → IsLive v x) (free : (s : Custom) → Contains customs s → IsFreeName s.name) where
+    abbrev W : Abstract
+    W = with_own v customs roots
 
-    step_live : (x y : Item) → IsLive v x → Refers (with_own v customs roots) x y → IsLive v y
-    step_live x y live (inl at) = made.rules.indices.written x y (written_back v customs roots x y at)
-    step_live x y live (inr too) = keeps_live x y live (keeps_same x y too)
-      where
-        keeps_same : (x y : Item) → KeepsToo (with_own v customs roots) x y → KeepsToo v x y
-        keeps_same (Types, i) y h = h
-        keeps_same (Functions, i) y h = h
-        keeps_same (Tables, i) y h = h
-        keeps_same (Memories, i) y h = h
-        keeps_same (Tags, i) y h = h
-        keeps_same (Globals, i) y h = h
-        keeps_same (Elements, i) y h = h
-        keeps_same (DataSegments, i) y h = h
+    stays : StaysWhole c v W ((x : Item) → Contains roots x → LeadsToLive W x)
+    stays = customs_stay c v W made refl free (λ x at asked. inr (asked x at))
 
-    reached_live : (x : Item) → Reached (with_own v customs roots) x → IsLive v x
-    reached_live x (root y r) = root_live x r
-    reached_live x (step y z h r) = step_live y x (reached_live y h) r
+    leads : (x : Item) → IsLive W x → LeadsToLive W x
+    leads x here y itself = here
+    leads x here y (further k z h (inl at)) = (stays.made).rules.indices.written k y at
+    leads x here y (further k z h (inr keeps)) = live_on v customs roots y (keeps_live k y (live_back_own v customs roots k (leads x here k h)) (kept_on v W k y (λ i is. refl) (λ i is. refl) (λ i is. refl) keeps))
 
-    pub reached_there : ReachedIsLive (with_own v customs roots)
-    reached_there x h = live_on v customs roots x (reached_live x h)
+    pub listed_made : IsWellMade c W
+    listed_made = stays.made
+
+    pub reached_there : ReachedIsLive W
+    reached_there = stays.reached (λ x at. leads x (live_on v customs roots x (there x at))) (live_v c read v parsed.parsed (read_is_plain c bytes read parsed.reads) parsed.holds)

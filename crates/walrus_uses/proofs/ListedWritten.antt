@@ -1,18 +1,18 @@
 -- The functions that a section lists stay, and it lists them in the output by their new indices.
-use Rattle.std.proofs.Common.{◌≡◌, ℕ, true, false, List, [], ◌∷◌, ◌++◌, map, filter, flat_map, refl, sym, ap, ap₂, ◌∙◌, subst, inl}
-use Rattle.std.specs.Prelude.{Contains, Option, Some, IsSome, not, ◌||◌}
+use Rattle.std.proofs.Common.{◌≡◌, ℕ, List, [], ◌∷◌, ◌++◌, map, flat_map, refl, sym, ap, ap₂, ◌∙◌, subst, inl}
+use Rattle.std.specs.Prelude.{Contains, Option, Some, IsSome}
 use Rattle.walrus_types.specs.Operators.{Functions, Item, function_item}
 use Rattle.walrus_model.specs.Abstract.{Abstract, Custom, Indices}
 use Rattle.walrus_model.specs.Config.{Config}
-use Rattle.walrus_model.specs.Customs.{fixed, is_debug_name, is_dylink, no_indices, written_customs}
+use Rattle.walrus_model.specs.Customs.{fixed, written_customs}
 use Rattle.walrus_model.specs.Kept.{Kept}
 use Rattle.walrus_model.specs.Live.{IsLive}
 use Rattle.walrus_model.specs.Pipeline.{ReachedIsLive}
 use Rattle.walrus_model.specs.Reached.{root}
 use Rattle.walrus_model.specs.Roots.{asked_for}
-use Rattle.walrus_model.proofs.Lists.{Contains-append_2, Contains-head, Contains-map, Contains-tail}
+use Rattle.walrus_model.proofs.Lists.{Contains-head, Contains-map, Contains-tail}
 use Rattle.walrus_rules.proofs.StepLeaves.{between}
-use Rattle.walrus_uses.proofs.Sections.{filtered}
+use Rattle.walrus_uses.proofs.Sections.{stands_among}
 use Rattle.walrus_uses.specs.Listed.{HasListing, found_bytes, list_bytes, listing}
 use Rattle.walrus_uses.specs.Listing.{IsFinished, ListsAgain}
 use Rattle.walrus_uses.specs.Metadata.{section_of}
@@ -28,13 +28,6 @@ module _ (indices : Indices) (new : ℕ → ℕ) where
   -- a section that lists functions says their indices
   fixed_listing : (name functions : List ℕ) → ((f : ℕ) → Contains functions f → indices (Functions, f) ≡ Some (new f)) → fixed indices (listing name functions) ≡ section_of name (list_bytes (map new functions))
   fixed_listing name functions are = ap (λ (l : List ℕ). section_of name l) (listed_under functions are)
-
--- a section that is no debug information and none of dynamic linking is written under the indices
-stands_among : (indices : Indices) (cs : List Custom) (s : Custom) → Contains cs s → is_debug_name s.name ≡ false → is_dylink s ≡ false → Contains (written_customs indices cs) (fixed indices s)
-stands_among indices cs s at no_debug no_dylink =
-    let passes : not (is_dylink s || is_debug_name s.name) ≡ true = rw (no_dylink, no_debug) refl in
-    Contains-append_2 (fixed indices s) (map (fixed no_indices) (filter is_dylink cs)) (map (fixed indices) (filter (λ c. not (is_dylink c || is_debug_name c.name)) cs))
-    (Contains-map (fixed indices) s (filter (λ c. not (is_dylink c || is_debug_name c.name)) cs) (filtered (λ c. not (is_dylink c || is_debug_name c.name)) s cs passes at))
 
 -- ---- in the output
 

@@ -26,14 +26,10 @@ use Rattle.walrus_contents.specs.declared.parts.Contents.{Contents}
 use Rattle.walrus_contents.proofs.Slots.{entry_in}
 use Rattle.walrus_rules.specs.WellMade.{IsWellMade}
 use Rattle.walrus_model.proofs.Lists.{Contains-none, Contains-uncons}
+use Rattle.walrus_model.proofs.Shapes.{made_of}
 use Rattle.walrus_uses.proofs.StubTurn.{Theirs}
-use Rattle.walrus_uses.proofs.TrapStays.{none_isnt, some_is}
+use Rattle.walrus_rules.proofs.EditKept.{none_isnt, some_is}
 use Rattle.walrus_uses.specs.Stub.{import_place}
-
--- what a slot shows is what stands there
-from_slot : {X Y : Type 0} (seen : X → Y) (o : Option X) (y : Y) → option_map seen o ≡ Some y → (x : X) × (o ≡ Some x) × (seen x ≡ y)
-from_slot seen (Some x) y e = (x, refl, some_is e)
-from_slot seen None y e = absurd (none_isnt e)
 
 -- a search that finds nothing passes over nothing
 pub finds : {X : Type 0} (p : X → Bool) (xs : List X) (x : X) → Contains xs x → p x ≡ true → find p xs ≡ None → ⊥
@@ -63,7 +59,7 @@ module _ (c : Config) (m : Contents) (made : IsWellMade c (contents_view m)) whe
   pub theirs : Theirs (functions m.funcs) (imports m.imports)
   theirs j p f at by =
       let e = made.imports.items (Functions, j) p (ap (λ o. import_in (λ (g : abstract.Function). kind_import g.kind) (option_map (function m.locals) o)) at ∙ by_kind f.kind p m.locals by) in
-      let x = from_slot import_of (item_at (imports m.imports) p) e.0 e.1 in
+      let x = made_of import_of (item_at (imports m.imports) p) e.0 e.1 in
       (x.0, x.1, ap (λ (y : abstract.Import). y.item) x.2 ∙ e.2)
 
   module _ (n j : ℕ) (x : ImportValue) (at : item_at (imports m.imports) n ≡ Some x) (is : imported x.kind ≡ function_item j) where

@@ -1,10 +1,7 @@
 -- The bodies of a module that was read, and the functions that have them.
-use Rattle.std.proofs.Common.{◌≡◌, ℕ, zero, suc, ◌+◌, ◌-◌, ◌<◌, ◌≤◌, List, [], ◌∷◌, ◌++◌, length, map, refl, sym, ap, ◌∙◌, subst, arith, ⊎_elim}
+use Rattle.std.proofs.Common.{◌≡◌, ℕ, ◌+◌, ◌-◌, ◌<◌, ◌≤◌, List, length, map, refl, sym, ap, ◌∙◌, subst, arith, ⊎_elim}
 use Rattle.std.proofs.lemmas.Option.{slice_get_within, slice_get-get_or}
-use Rattle.std.specs.Prelude.{Option, Some, None, option_to_list, slice_get, zip}
-use Rattle.wasm_entries.specs.declared.record.RawDesc.{RawDesc}
-use Rattle.wasm_entries.specs.declared.record.RawDesc.TheVariants as descs
-use Rattle.wasm_entries.specs.Record as entries
+use Rattle.std.specs.Prelude.{Option, Some, None, slice_get, zip}
 use Rattle.wasm_frames.specs.Record as wire
 use Rattle.walrus_bodies.specs.Body.{BodyReads}
 use Rattle.walrus_contents.proofs.Lookups.{got_both}
@@ -18,7 +15,9 @@ use Rattle.walrus_model.specs.Sections.{Said, imported, imported_function, funct
 use Rattle.walrus_model.proofs.Standing.{some_inj, zip_left, zip_right}
 use Rattle.walrus_rules.specs.Features.{features_of}
 use Rattle.walrus_rules.specs.Headline.{ReadsBody, ReadsModule}
+use Rattle.walrus_rules.proofs.TextShaped.{all_at}
 use Rattle.walrus_rules.proofs.UsedLocals.{behind}
+use Rattle.walrus_reading.proofs.AllHeld.{IsImported, all_imported}
 use Rattle.walrus_writing.specs.Transform.{imported_functions}
 use Rattle.walrus_uses.specs.Moves.{OperatorStands, StandsIn}
 use Rattle.walrus_uses.proofs.Looked.{at_map, map_at, unzipped}
@@ -26,25 +25,6 @@ use Rattle.walrus_uses.proofs.OwnOps.{declared_itself, locals_itself, ops_itself
 use Rattle.walrus_uses.proofs.PlacedOps.{RowIn, Text, in_row, row_in, same_texts}
 use Rattle.walrus_code.specs.FromRaw.{op_of}
 use Rattle.walrus_types.specs.Operators.{Op}
-
--- ---- what imports bring has no body
-
-import_no_body : (i : ℕ) (d : RawDesc) (g : Function) → imported_function i d ≡ Some g → body_of_kind g.kind ≡ None
-import_no_body i (descs.Function ty) g e = ap (λ (f : Function). body_of_kind f.kind) (sym (some_inj _ g e))
-import_no_body i (descs.Table ty) g e = absurd (cc)
-import_no_body i (descs.Memory l) g e = absurd (cc)
-import_no_body i (descs.Global ty) g e = absurd (cc)
-import_no_body i (descs.Tag ty) g e = absurd (cc)
-
-imported_step : (x : entries.Import) (xs : List entries.Import) (i : ℕ) (g : Function) → ((k : ℕ) → slice_get (imported imported_function (i + 1) xs) k ≡ Some g → body_of_kind g.kind ≡ None)
-    → (o : Option Function) → imported_function i x.desc ≡ o → (k : ℕ) → slice_get (option_to_list o ++ imported imported_function (i + 1) xs) k ≡ Some g → body_of_kind g.kind ≡ None
-imported_step x xs i g later None is k f = later k f
-imported_step x xs i g later (Some h) is zero f = import_no_body i x.desc g (is ∙ f)
-imported_step x xs i g later (Some h) is (suc k) f = later k f
-
-imported_no_body : (xs : List entries.Import) (i k : ℕ) (g : Function) → slice_get (imported imported_function i xs) k ≡ Some g → body_of_kind g.kind ≡ None
-imported_no_body [] i k g e = absurd (cc)
-imported_no_body (x ∷ xs) i k g e = imported_step x xs i g (λ n f. imported_no_body xs (i + 1) n g f) (imported_function i x.desc) refl k e
 
 -- ---- a function with its body's bytes
 
@@ -65,7 +45,7 @@ module _ (c : Config) (bytes : List ℕ) (m : Abstract) (reads : ReadsModule c b
 
   by_parts : (f : ℕ) (b : Body) (g : Function) → body_of_kind g.kind ≡ Some b → slice_get (functions_of s reads.bodies) f ≡ Some g → HasBytes f b
   by_parts f b g is e = ⊎_elim
-      (λ (brought : slice_get (imported imported_function 0 s.imports) f ≡ Some g). let none : None ≡ Some b = sym (imported_no_body s.imports 0 f g brought) ∙ is in absurd (cc))
+      (λ (brought : slice_get (imported imported_function 0 s.imports) f ≡ Some g). let none : None ≡ Some b = sym (ap body_of_kind (all_at IsImported (imported imported_function 0 s.imports) f g (all_imported 0 s.imports) brought).1) ∙ is in absurd (cc))
       (λ (own : (j : ℕ) × (f ≡ length (imported imported_function 0 s.imports) + j) × (slice_get (map (function_with s) (zip s.functions reads.bodies)) j ≡ Some g)).
       let made = at_map (function_with s) (zip s.functions reads.bodies) own.0 g own.2 in
       let both = unzipped s.functions reads.bodies own.0 made.0 made.1.0 in

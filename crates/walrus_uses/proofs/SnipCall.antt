@@ -1,9 +1,9 @@
 -- The call that makes an export name a function that traps, in a whole module.
-use Rattle.std.proofs.Common.{◌≡◌, ℕ, Bool, true, false, List, Option, Some, None, IsSome, Result, Ok, Err, MatchResult, refl, sym, ap, ◌∙◌, subst, inl, inr, option_map}
-use Rattle.std.specs.Prelude.{◌&&◌, ◌≢◌, bytes_eq, option_and_then, IsErrOf}
+use Rattle.std.proofs.Common.{◌≡◌, ℕ, Bool, true, false, List, Option, Some, None, IsSome, Result, Ok, Err, MatchResult, refl, sym, ap, ◌∙◌, subst, inl, inr, map, option_map}
+use Rattle.std.specs.Prelude.{Contains, ◌&&◌, bytes_eq, option_and_then, IsErrOf}
 use Rattle.std.specs.Option.{ok_or}
 use Rattle.std.proofs.lemmas.Slice.Eq.{bytes_eq-Decides}
-use Rattle.walrus_base.specs.Arena.{entries, item_at}
+use Rattle.walrus_base.specs.Arena.{entries, item_at, items}
 use Rattle.walrus_base.specs.Id.{place}
 use Rattle.walrus_base.specs.declared.id.Id.{Id}
 use Rattle.walrus_base.specs.declared.keys.FunctionKey.{FunctionKey}
@@ -13,7 +13,7 @@ use Rattle.walrus_items.specs.LocalFunction.{LocalFunction}
 use Rattle.walrus_model.specs.Abstract as abstract
 use Rattle.walrus_model.specs.Config.{Config}
 use Rattle.walrus_model.specs.Live.{IsLive}
-use Rattle.walrus_model.specs.Pipeline.{ReachedIsLive}
+use Rattle.walrus_model.proofs.Lists.{Contains-map}
 use Rattle.walrus_parts.specs.Errors.{out_of_memory}
 use Rattle.walrus_parts.specs.Kinds.{exported}
 use Rattle.walrus_parts.specs.declared.error.Error.{Error}
@@ -28,31 +28,20 @@ use Rattle.walrus_items.specs.Functions.{FunctionValue, functions}
 use Rattle.walrus_items.specs.Searches.{first}
 use Rattle.walrus_items.proofs.Found.{found-item, found-passes}
 use Rattle.walrus_contents.specs.View.{export_of, function, kind_of}
+use Rattle.walrus_contents.proofs.PlainBodies.{both}
 use Rattle.walrus_contents.proofs.Slots.{entry_in}
-use Rattle.walrus_rules.specs.WellMade.{IsWellMade}
 use Rattle.walrus_module.specs.Replaced.{IsReplaced, RefusesBody, ReplacesExported, ReplacesFound, ReplacesKind}
 use Rattle.walrus_module.specs.View.{contents_of, held_view}
 use Rattle.walrus_module.specs.declared.module.Module.{Module}
-use Rattle.walrus_module.proofs.CountedBodies.{held_counted}
+use Rattle.walrus_uses.proofs.Looked.{differs}
 use Rattle.walrus_uses.proofs.Matched.{finds}
-use Rattle.walrus_uses.proofs.SnipItems.{is_exported}
-use Rattle.walrus_uses.proofs.SnipStep.{snip_live, snip_well, with_snip}
+use Rattle.walrus_uses.proofs.SnipStep.{snip_whole}
 use Rattle.walrus_uses.proofs.StubCall.{traps}
-use Rattle.walrus_uses.proofs.TrapStays.{none_isnt, some_is}
+use Rattle.walrus_rules.proofs.EditKept.{none_isnt, some_is}
 use Rattle.walrus_uses.specs.Edited.{IsWhole}
 use Rattle.walrus_uses.specs.Snip.{Exports, IsKept, NamedBefore, SnipsIn}
-use Rattle.walrus_uses.specs.Snipped.{FindsNamed, IsNamedBefore, IsNamedFirst, RefusesSnip, Snips, first_named}
+use Rattle.walrus_uses.specs.Snipped.{FindsNamed, IsNamedBefore, IsNamedFirst, RefusesSnip, Snips, SnipsHeld, first_named}
 use Rattle.walrus_uses.specs.Stubbed.{PutsTrap}
-
--- ---- names
-
-both : (a b : Bool) → (a && b) ≡ true → (a ≡ true) × (b ≡ true)
-both true true e = (refl, refl)
-both true false e = absurd (let no_such : false ≡ true = e in cc)
-both false b e = absurd (let no_such : false ≡ true = e in cc)
-
-differs : (xs ys : List ℕ) → bytes_eq xs ys ≡ false → xs ≢ ys
-differs xs ys e same = let no_such : false ≡ true = sym e ∙ (bytes_eq-Decides xs ys).1 same in cc
 
 same_refusal : (x y : Error) → ◌≡◌ {A = Result (Id FunctionKey) Error} (Err x) (Err y) → x ≡ y
 same_refusal x y e = cc
@@ -149,6 +138,10 @@ first_told name v (Some d) e = ap (λ (x : ExportValue). bytes_eq x.name name) (
 
 -- ---- the call
 
+-- an export that stands there is exported
+is_exported : (xs : List (Option ExportValue)) (p : ℕ) (e : ExportValue) → item_at xs p ≡ Some e → Contains (map export_of (items xs)) (export_of e)
+is_exported xs p e at = Contains-map export_of e (items xs) (Contains-map (λ (d : ℕ × ExportValue). d.1) (p, e) _ (entry_in xs p e at))
+
 module _ {S : Type 0} (name : List ℕ) (c : Config) (old new : Module S) (whole : IsWhole c old) where
   -- a refusal of the search is one of snipping
   pub search_refused : (e : Error) → FindsNamed name (exports old.exports) (Err e) → RefusesSnip name (contents_of old) e
@@ -174,8 +167,8 @@ module _ {S : Type 0} (name : List ℕ) (c : Config) (old new : Module S) (whole
       there_too = ap (item_at (functions old.funcs)) its.2 ∙ there
 
       module _ (l : LocalFunction) (kind : f.kind ≡ Local l) (result : Id FunctionKey) (r : IsReplaced PutsTrap e l old new result) where
-        items : SnipsIn name (functions old.funcs) (functions new.funcs) (exports old.exports) (exports new.exports)
-        items = record {
+        its_items : SnipsIn name (functions old.funcs) (functions new.funcs) (exports old.exports) (exports new.exports)
+        its_items = record {
           export = export;
           old = f;
           there = there_too;
@@ -194,11 +187,8 @@ module _ {S : Type 0} (name : List ℕ) (c : Config) (old new : Module S) (whole
 
         done : Snips name old new × IsWhole c new
         done = (
-          record { items = items; others = r.others },
-          record {
-            made = subst (λ (m : Module S). IsWellMade c (held_view m)) (sym r.others) (snip_well c (contents_of old) new.funcs new.exports name items (held_counted (with_snip (contents_of old) new.funcs new.exports)) whole.made);
-            reached = subst (λ (m : Module S). ReachedIsLive (held_view m)) (sym r.others) (snip_live c (contents_of old) new.funcs new.exports name items whole.made whole.reached);
-          },
+          record { items = its_items; others = r.others },
+          snip_whole c old new whole result e stands (place id) f there l kind r (traps (function_type l) r.args r.function r.is_new),
         )
 
       refused : (l : LocalFunction) (x : Error) → RefusesBody PutsTrap l x → x ≡ out_of_memory
@@ -223,10 +213,13 @@ module _ {S : Type 0} (name : List ℕ) (c : Config) (old new : Module S) (whole
 
     live : IsSome (option_map (function old.locals) (item_at (functions old.funcs) (place id)))
     live = subst (λ (n : ℕ). IsSome (option_map (function old.locals) (item_at (functions old.funcs) n))) its.2
-        (subst (λ (x : Item). IsLive (held_view old) x) (ap exported its.1) (whole.made.rules.indices.exports (export_of e.1) (is_exported id (exports old.exports) e.0 e.1 stands)))
+        (subst (λ (x : Item). IsLive (held_view old) x) (ap exported its.1) (whole.made.rules.indices.exports (export_of e.1) (is_exported (exports old.exports) e.0 e.1 stands)))
 
     pub snips : (result : Result (Id FunctionKey) Error) → ReplacesExported PutsTrap id old new result → MatchResult result (λ i. Snips name old new × IsWhole c new) (RefusesSnip name (contents_of old))
     snips result h = by_slot (item_at (functions old.funcs) (place id)) refl (subst (λ (o : Option (ℕ × ExportValue)). ReplacesFound PutsTrap o (item_at (functions old.funcs) (place id)) old new result) is.found h) where
       by_slot : (o : Option FunctionValue) → item_at (functions old.funcs) (place id) ≡ o → ReplacesFound PutsTrap (Some e) o old new result → MatchResult result (λ i. Snips name old new × IsWhole c new) (RefusesSnip name (contents_of old))
       by_slot None there r = absurd (let no_such : IsSome {T = abstract.Function} None = subst (λ (o : Option FunctionValue). IsSome (option_map (function old.locals) o)) there live in cc)
       by_slot (Some f) there r = by_kind f there f.kind refl result r
+
+pub snips_held : {S : Type 0} (name : List ℕ) (old new : Module S) → Snips name old new → SnipsHeld name (contents_of old) (contents_of new)
+snips_held name old new snips = record { items = snips.items; others = ap contents_of snips.others }

@@ -1,77 +1,79 @@
--- One export of what a module holds comes to name a function that traps.
-use Rattle.std.proofs.Common.{◌≡◌, ◌≢◌, ℕ, List, map, Option, Some, None, option_map, refl, sym, ap, ◌∙◌, subst}
-use Rattle.std.specs.Prelude.{Contains}
-use Rattle.walrus_base.specs.Arena.{item_at, items}
+-- A whole module of which an export names a function that traps is whole.
+use Rattle.std.proofs.Common.{◌≡◌, ◌≢◌, ℕ, List, [], map, Some, None, option_map, refl, sym, ap, ◌∙◌, subst}
+use Rattle.std.specs.Prelude.{AllPairs}
+use Rattle.walrus_base.specs.Arena.{item_at}
 use Rattle.walrus_base.specs.Id.{place}
-use Rattle.walrus_items.specs.Function.{function_type}
+use Rattle.walrus_base.specs.declared.id.Id.{Id}
+use Rattle.walrus_base.specs.declared.keys.FunctionKey.{FunctionKey}
+use Rattle.walrus_types.specs.Operators.{Functions}
 use Rattle.walrus_model.specs.Abstract as abstract
 use Rattle.walrus_model.specs.Config.{Config}
-use Rattle.walrus_model.specs.Pipeline.{ReachedIsLive}
-use Rattle.walrus_parts.specs.Kinds.{exported}
+use Rattle.walrus_model.specs.Roots.{IsRoot}
+use Rattle.walrus_contents.specs.View.{body, contents_view, export_of, function, handlers_at}
+use Rattle.walrus_items.specs.Exports.{ExportValue, exports}
+use Rattle.walrus_items.specs.Function.{args_of, body_of, function_type}
+use Rattle.walrus_items.specs.Functions.{FunctionValue, functions}
+use Rattle.walrus_items.specs.LocalFunction.{LocalFunction}
 use Rattle.walrus_parts.specs.declared.function_kind.FunctionKind.{FunctionKind}
 use Rattle.walrus_parts.specs.declared.function_kind.FunctionKind.TheVariants.{Local}
-use Rattle.walrus_items.specs.Exports.{ModuleExports, exports}
-use Rattle.walrus_items.specs.Functions.{FunctionValue, ModuleFunctions, functions}
-use Rattle.walrus_contents.specs.View.{body, contents_view, export_of, exports_of, function, functions_of, handlers_at}
-use Rattle.walrus_contents.specs.declared.parts.Contents.{Contents}
-use Rattle.walrus_rules.specs.OkLaws.{AreCounted}
-use Rattle.walrus_rules.specs.Once.{TypesLocals}
-use Rattle.walrus_rules.specs.WellMade.{IsWellMade}
-use Rattle.walrus_uses.proofs.SnipItems.{comes_behind, exports_stay, free_behind, is_exported, names_stay, stays_before}
-use Rattle.walrus_uses.proofs.SnipStays.{IsSnip, snip_reached, snip_stays}
-use Rattle.walrus_uses.specs.Snip.{SnipsIn}
+use Rattle.walrus_rules.specs.EditLaws.{LeadsToLive, StaysWhole}
+use Rattle.walrus_rules.specs.Edits.{GainsItem, SwapsExport}
+use Rattle.walrus_rules.specs.WellMade.{IsWellFormed}
+use Rattle.walrus_rules.proofs.EditKept.{some_there}
+use Rattle.walrus_rules.proofs.EditItems.{item_gained}
+use Rattle.walrus_rules.proofs.EditTops.{export_turned}
+use Rattle.walrus_module.specs.Replaced.{IsReplaced, naming}
+use Rattle.walrus_module.specs.View.{held_view}
+use Rattle.walrus_module.specs.declared.module.Module.{Module}
+use Rattle.walrus_module.proofs.CountedBodies.{held_counted}
+use Rattle.walrus_module.proofs.EditedReplaced.{gained, turned, with_new}
+use Rattle.walrus_module.proofs.EditedSlots.{comes_behind}
+use Rattle.walrus_uses.proofs.TrapSound.{trap_leads, trap_sound}
+use Rattle.walrus_uses.specs.Edited.{IsWhole}
+use Rattle.walrus_uses.specs.Stubbed.{PutsTrap}
+use Rattle.walrus_uses.specs.Trap.{trap_ops}
 
--- what holds m holds with these functions and exports
-abbrev pub with_snip : Contents → ModuleFunctions → ModuleExports → Contents
-with_snip m funcs exps = record m { funcs = funcs; exports = exps }
+module _ {S : Type 0} (c : Config) (old new : Module S) (whole : IsWhole c old) (id : Id FunctionKey) (e : ℕ × ExportValue) (stands : item_at (exports old.exports) e.0 ≡ Some e.1) (k : ℕ) (f : FunctionValue) (there : item_at (functions old.funcs) k ≡ Some f) (l : LocalFunction) (kind : f.kind ≡ Local l)
+    (r : IsReplaced PutsTrap e l old new id) (traps : body_of r.function ≡ trap_ops) where
+  abbrev trap : abstract.Body
+  trap = body old.locals r.function
 
-module _ (c : Config) (m : Contents) (funcs : ModuleFunctions) (exps : ModuleExports) (name : List ℕ) (snips : SnipsIn name (functions m.funcs) (functions funcs) (exports m.exports) (exports exps)) where
-  abbrev new : FunctionValue
-  new = record { id = place snips.id; kind = Local snips.trap; name = None }
+  abbrev t : ℕ
+  t = place (function_type l)
 
-  abbrev j : ℕ
-  j = place snips.id
+  abbrev mid : abstract.Abstract
+  mid = contents_view (with_new PutsTrap old new id e l stands r)
 
-  abbrev k : ℕ
-  k = place snips.export.id
+  gains : GainsItem Functions (place id) (record { ty = t; kind = abstract.LocalFunction trap }) (held_view old) mid
+  gains = gained PutsTrap old new id e l stands r []
 
-  is_there : item_at (functions funcs) j ≡ Some new
-  is_there = ap (λ xs. item_at xs j) snips.comes ∙ comes_behind (functions m.funcs) new j snips.behind
+  turns : SwapsExport (export_of e.1) (export_of (naming id e.1)) mid (held_view new)
+  turns = turned PutsTrap old new id e l stands r []
 
-  others : (i : ℕ) → i ≢ j → item_at (functions funcs) i ≡ item_at (functions m.funcs) i
-  others i not = ap (λ xs. item_at xs i) snips.comes ∙ stays_before (functions m.funcs) new i (λ e. not (e ∙ sym snips.behind))
+  was : (held_view old).functions k ≡ Some (record { ty = t; kind = abstract.LocalFunction (body old.locals l) })
+  was = ap (option_map (function old.locals)) there ∙ ap (λ (x : FunctionKind). Some (function old.locals (record { id = f.id; kind = x; name = f.name }))) kind
 
-  is_snip : IsSnip (contents_view m) (functions_of m.locals funcs) (exports_of exps) j k (body m.locals snips.trap)
-  is_snip = record {
-    ty = place (function_type snips.body);
-    x = body m.locals snips.body;
-    old =
-        ap (option_map (function m.locals)) snips.there
-        ∙ ap (λ (f : FunctionKind). Some (function m.locals (record { id = snips.old.id; kind = f; name = snips.old.name }))) snips.has_body;
-    free = ap (option_map (function m.locals)) (free_behind (functions m.funcs) new j snips.behind);
-    becomes =
-        ap (option_map (function m.locals)) is_there
-        ∙ ap (λ t. Some (record { ty = place t; kind = abstract.LocalFunction (body m.locals snips.trap) })) snips.typed;
-    others = λ i not. ap (option_map (function m.locals)) (others i not);
-    traps = snips.traps;
-    parameters = snips.takes;
-    types = refl;
-    was_exported = (export_of snips.export.value, is_exported snips.id (exports m.exports) snips.export.at snips.export.value snips.export.there, ap exported snips.export.is_function);
-    same_names = ap (λ xs. map (λ (e : abstract.Export). e.name) (map export_of (items xs))) snips.named ∙ names_stay snips.id (exports m.exports) snips.export.at snips.export.value snips.export.there;
-    exports = λ e has. exports_stay snips.id (exports m.exports) snips.export.at snips.export.value snips.export.there e (subst (λ xs. Contains (map export_of (items xs)) e) snips.named has);
+  well : IsWellFormed c (held_view old) t (body old.locals l)
+  well = whole.made.bodies k (record { ty = t; kind = abstract.LocalFunction (body old.locals l) }) (body old.locals l) was refl
+
+  same : args_of r.function ≡ args_of l
+  same = sym r.is_new.takes ∙ r.parameters
+
+  first : StaysWhole c (held_view old) mid (IsRoot mid (Functions, place id) → LeadsToLive mid (Functions, place id))
+  first = item_gained c (held_view old) mid Functions (place id) (record { ty = t; kind = abstract.LocalFunction trap }) gains whole.made
+      (trap_sound mid (place id) t trap gains.item.is traps c (whole.made.rules.function_types.functions k _ was) (subst (λ (ps : List ℕ). AllPairs (λ (x : ℕ) (y : ℕ). x ≢ y) ps) (sym same) well.distinct) (ap (map trap.local_type) same ∙ well.typed))
+      (held_counted (with_new PutsTrap old new id e l stands r))
+
+  no_handlers : mid.handler_types (place id) ≡ []
+  no_handlers = ap (λ xs. handlers_at (item_at xs (place id))) r.funcs ∙ ap handlers_at (comes_behind (functions old.funcs) (record { id = place id; kind = Local r.function; name = None }) (place id) r.is_next) ∙ r.is_new.handlers
+
+  second : StaysWhole c mid (held_view new) (LeadsToLive (held_view new) (Functions, place id))
+  second = export_turned c mid (held_view new) (export_of e.1) (export_of (naming id e.1)) turns refl first.made (some_there (mid.functions (place id)) gains.item.is)
+
+  pub snip_whole : IsWhole c new
+  snip_whole = record {
+    made = second.made;
+    reached = second.reached
+        (trap_leads (held_view new) (place id) t trap (ap (λ (x : abstract.Abstract). x.functions (place id)) turns.others ∙ gains.item.is) traps c second.made (ap (λ (x : abstract.Abstract). x.handler_types (place id)) turns.others ∙ no_handlers))
+        (first.reached (λ root. trap_leads mid (place id) t trap gains.item.is traps c first.made no_handlers) whole.reached);
   }
-
-  abbrev after : abstract.Abstract
-  after = contents_view (with_snip m funcs exps)
-
-  -- it stays well made
-  pub snip_well : (TypesLocals after → AreCounted after) → IsWellMade c (contents_view m) → IsWellMade c after
-  snip_well counts made = snip_stays c (contents_view m) (functions_of m.locals funcs) (exports_of exps) after.named after.handler_types j k (body m.locals snips.trap) is_snip made counts
-
-  handlers_before : (f n : ℕ) → f ≢ j → Contains (after.handler_types f) n → Contains ((contents_view m).handler_types f) n
-  handlers_before f n not has = subst (λ (o : Option FunctionValue). Contains (handlers_at o) n) (others f not) has
-
-  -- what is reached stays there
-  pub snip_live : IsWellMade c (contents_view m) → ReachedIsLive (contents_view m) → ReachedIsLive after
-  snip_live made live = snip_reached c (contents_view m) (functions_of m.locals funcs) (exports_of exps) after.named after.handler_types j k (body m.locals snips.trap) is_snip made
-      (ap handlers_at is_there ∙ snips.no_handlers) handlers_before live

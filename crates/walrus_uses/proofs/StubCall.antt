@@ -14,10 +14,8 @@ use Rattle.walrus_items.specs.Function.{body_of}
 use Rattle.walrus_items.specs.LocalFunction.{LocalFunction}
 use Rattle.walrus_builder.specs.Instructions.{end_op, unreachable_op}
 use Rattle.walrus_builder.specs.Sequence.{built}
-use Rattle.walrus_model.specs.BlockHandlers.{params_of}
 use Rattle.walrus_model.specs.BodyRead.{new_locals}
 use Rattle.walrus_model.specs.Config.{Config}
-use Rattle.walrus_model.specs.Pipeline.{ReachedIsLive}
 use Rattle.walrus_model.specs.ReadFunction.{StaysInFront}
 use Rattle.walrus_parts.specs.Errors.{out_of_memory}
 use Rattle.walrus_parts.specs.Kinds.{imported}
@@ -28,19 +26,17 @@ use Rattle.walrus_parts.specs.declared.kinds.ImportKind.TheVariants as kinds
 use Rattle.walrus_items.specs.Functions.{FunctionValue, functions}
 use Rattle.walrus_items.specs.Imports.{ImportValue, imported_function, imports, imports_item}
 use Rattle.walrus_items.specs.Searches.{first}
-use Rattle.walrus_rules.specs.WellMade.{IsWellMade}
 use Rattle.walrus_module.specs.Replaced.{IsMadeLocal, IsNew, MakesFoundLocal, MakesKindLocal, MakesLocal, OnlyLocals, RefusesLocal, ReplacesImported}
-use Rattle.walrus_module.specs.View.{contents_of, held_view}
+use Rattle.walrus_module.specs.View.{contents_of}
 use Rattle.walrus_module.specs.declared.module.Module.{Module}
-use Rattle.walrus_module.proofs.CountedBodies.{held_counted}
 use Rattle.walrus_uses.proofs.Matched.{IsBroughtBy, brought_by, first_brings, is_searched, theirs}
 use Rattle.walrus_uses.proofs.Places.{all_below, none_below, not_yet, now_hit, passes_over, same_below}
-use Rattle.walrus_uses.proofs.StubStep.{IsStubbed, stub_reached, stub_well, with_stub}
+use Rattle.walrus_uses.proofs.StubStep.{stub_whole}
 use Rattle.walrus_uses.proofs.StubTurn.{stubs_more, stubs_none}
-use Rattle.walrus_uses.proofs.TrapStays.{none_isnt, some_is}
+use Rattle.walrus_rules.proofs.EditKept.{none_isnt, some_is, some_there}
 use Rattle.walrus_uses.specs.Edited.{IsWhole}
 use Rattle.walrus_uses.specs.Stub.{comes_from, function_from}
-use Rattle.walrus_uses.specs.Stubbed.{PutsTrap, Stubs, StubsAt, StubsSome}
+use Rattle.walrus_uses.specs.Stubbed.{PutsTrap, Stubs, StubsAt, StubsHeld, StubsSome}
 use Rattle.walrus_uses.specs.Trap.{trap_ops}
 
 -- ---- what the closure left
@@ -94,34 +90,15 @@ module _ {S : Type 0} (c : Config) (from : List ℕ) (n : ℕ) (begun old new : 
     abbrev by : IsBroughtBy (contents_of old) (place id) n
     by = brought_by c (contents_of old) some.whole.made n (place id) b.x b.there b.brings
 
-    module _ (i : ℕ) (result_id : Id FunctionKey) (at_n : i ≡ n) (local : IsMadeLocal PutsTrap id i by.f by.by.ty by.def old new result_id) where
-      abbrev stubbed : IsStubbed (contents_of old) new.funcs new.imports new.locals (place id) n local.function
-      stubbed = record {
-        f = by.f;
-        imported = by.by;
-        there = by.there;
-        kind = by.kind;
-        brought = by.at_place;
-        set = local.funcs;
-        live = subst (λ (o : Option ImportValue). IsSome o) (sym b.there) refl;
-        gone = subst (λ k. imports new.imports ≡ slice_set (imports old.imports) k None) at_n local.gone;
-        typed = local.is_new.typed;
-        traps = traps by.by.ty local.args local.function local.is_new;
-        handlers = local.is_new.handlers;
-        types = local.parameters.types;
-        taken = local.parameters.taken ∙ ap params_of (sym by.typed);
-        args = local.args;
-        parameters = local.is_new.takes;
-        added = local.parameters.added;
-      }
+    abbrev a : ℕ
+    a = place (by.by).«import»
+
+    module _ (result_id : Id FunctionKey) (local : IsMadeLocal PutsTrap id a by.f (by.by).ty by.def old new result_id) where
+      live : IsSome (item_at (imports old.imports) a)
+      live = subst (λ k. IsSome (item_at (imports old.imports) k)) (sym by.at_place) (some_there (item_at (imports old.imports) n) b.there)
 
       whole : IsWhole c new
-      whole = record {
-        made = subst (λ (m : Module S). IsWellMade c (held_view m)) (sym local.others)
-            (stub_well c (contents_of old) new.funcs new.imports new.locals (place id) n local.function stubbed (held_counted (with_stub (contents_of old) new.funcs new.imports new.locals)) some.whole.made);
-        reached = subst (λ (m : Module S). ReachedIsLive (held_view m)) (sym local.others)
-            (stub_reached c (contents_of old) new.funcs new.imports new.locals (place id) n local.function stubbed some.whole.made some.whole.reached);
-      }
+      whole = stub_whole c old new some.whole id result_id by.f by.by by.def by.there by.kind by.typed live local (traps (by.by).ty local.args local.function local.is_new)
 
       grown : StaysInFront (locals begun.locals) (locals new.locals)
       grown =
@@ -137,7 +114,8 @@ module _ {S : Type 0} (c : Config) (from : List ℕ) (n : ℕ) (begun old new : 
       made_some = record {
         stubs = record {
           items = stubs_more (λ p. nat_lt p n && C p) (λ p. nat_lt p (n + 1) && C p) (functions begun.funcs) (functions old.funcs) (functions new.funcs) (imports begun.imports) (imports old.imports) (imports new.imports) n (place id) by.f by.by local.function
-              some.stubs.items (theirs c (contents_of begun) begun_whole.made) (not_yet C n) (now_hit C n hit) (same_below C n) by.there by.kind by.at_place stubbed.typed stubbed.traps stubbed.set stubbed.live stubbed.gone;
+              some.stubs.items (theirs c (contents_of begun) begun_whole.made) (not_yet C n) (now_hit C n hit) (same_below C n) by.there by.kind by.at_place local.is_new.typed (traps (by.by).ty local.args local.function local.is_new) local.funcs (some_there (item_at (imports old.imports) n) b.there)
+              (subst (λ k. imports new.imports ≡ slice_set (imports old.imports) k None) by.at_place local.gone);
           locals = grown;
           others = local.others ∙ ap (λ (m : Module S). record m { funcs = new.funcs; imports = new.imports; locals = new.locals }) some.stubs.others;
         };
@@ -148,9 +126,9 @@ module _ {S : Type 0} (c : Config) (from : List ℕ) (n : ℕ) (begun old new : 
     refuses e (inl memory) = memory
     refuses e (inr (args, parameters, (builder, built_so))) = built_so.called
 
-    answers : (i : ℕ) (result : Result (Id FunctionKey) Error) → i ≡ n → MatchResult result (IsMadeLocal PutsTrap id i by.f by.by.ty by.def old new) (λ e. RefusesLocal PutsTrap by.def old new e × OnlyLocals old new)
+    answers : (i : ℕ) (result : Result (Id FunctionKey) Error) → i ≡ n → MatchResult result (IsMadeLocal PutsTrap id i by.f (by.by).ty by.def old new) (λ e. RefusesLocal PutsTrap by.def old new e × OnlyLocals old new)
         → MatchResult result (λ done. StubsSome c from (n + 1) begun new) (λ e. e ≡ out_of_memory)
-    answers i (Ok r) at_n local = made_some i r at_n local
+    answers i (Ok r) at_n local = made_some r (subst (λ k. IsMadeLocal PutsTrap id k by.f (by.by).ty by.def old new r) (at_n ∙ sym by.at_place) local)
     answers i (Err e) at_n refused = refuses e refused.0
 
     pub stubs_next : (result : Result (Id FunctionKey) Error) → ReplacesImported PutsTrap id old new result → MatchResult result (λ done. StubsSome c from (n + 1) begun new) (λ e. e ≡ out_of_memory)
@@ -160,7 +138,7 @@ module _ {S : Type 0} (c : Config) (from : List ℕ) (n : ℕ) (begun old new : 
       by_first None none h = absurd (is_searched c (contents_of old) some.whole.made n (place id) b.x b.there b.brings none)
       by_first (Some e) is h =
           answers e.0 result (first_brings c (contents_of old) some.whole.made n (place id) b.x b.there b.brings e is)
-          (subst (λ (o : Option TypeDef). MakesLocal PutsTrap id e.0 by.f by.by.ty o old new result) by.typed
+          (subst (λ (o : Option TypeDef). MakesLocal PutsTrap id e.0 by.f (by.by).ty o old new result) by.typed
           (subst (λ (k : FunctionKind). MakesKindLocal PutsTrap id e.0 by.f k old new result) by.kind
           (subst (λ (o : Option FunctionValue). MakesFoundLocal PutsTrap id (Some e) o old new result) by.there h)))
 
@@ -176,3 +154,6 @@ module _ {S : Type 0} (c : Config) (from : List ℕ) (old : Module S) (whole : I
   -- behind the last place all is done
   pub ends : (n : ℕ) (new : Module S) → n ≡ length (imports old.imports) → StubsSome c from n old new → Stubs from old new × IsWhole c new
   ends n new is some = (subst (λ (hits : ℕ → Bool). StubsAt hits old new) (all_below from (imports old.imports) n is) some.stubs, some.whole)
+
+pub stubs_held : {S : Type 0} (from : List ℕ) (old new : Module S) → Stubs from old new → StubsHeld from (contents_of old) (contents_of new)
+stubs_held from old new stubs = record { items = stubs.items; locals = stubs.locals; others = ap contents_of stubs.others }

@@ -1,7 +1,6 @@
 -- One function more that traps.
 use Rattle.std.proofs.Common.{◌≡◌, ◌≢◌, ℕ, Bool, true, false, List, Option, Some, None, IsSome, slice_set, refl, sym, ap, ◌∙◌, subst, ⊎_elim}
 use Rattle.std.specs.Prelude.{if◌then◌else◌}
-use Rattle.std.proofs.lemmas.List.{get_or-set_same, get_or-set_other}
 use Rattle.walrus_base.specs.Arena.{item_at}
 use Rattle.walrus_base.specs.Id.{place}
 use Rattle.walrus_types.specs.Operators.{Item, function_item}
@@ -12,9 +11,10 @@ use Rattle.walrus_parts.specs.declared.function_kind.FunctionKind.TheVariants.{I
 use Rattle.walrus_parts.specs.declared.function_kind.ImportedFunction.{ImportedFunction}
 use Rattle.walrus_items.specs.Functions.{FunctionValue}
 use Rattle.walrus_items.specs.Imports.{ImportValue}
-use Rattle.walrus_reading.proofs.Carrying.{item_within}
-use Rattle.walrus_uses.proofs.StubStep.{set_there, with_kind}
-use Rattle.walrus_uses.proofs.TrapStays.{equal_or, none_isnt, some_is}
+use Rattle.walrus_module.specs.Replaced.{with_body}
+use Rattle.walrus_module.proofs.EditedSlots.{set_elsewhere, set_here}
+use Rattle.walrus_rules.proofs.EditKept.{none_isnt, some_is, some_there}
+use Rattle.walrus_rules.proofs.EditSpace.{equal_or}
 use Rattle.walrus_uses.specs.Stub.{StubsWhere, Traps, import_place}
 use Rattle.walrus_uses.specs.Trap.{trap_ops}
 
@@ -29,7 +29,7 @@ stubs_none fs is = record { traps = λ j p f at by hit. absurd (let no_such : fa
 module _ (hits more : ℕ → Bool) (fs gs hs : List (Option FunctionValue)) (is js ks : List (Option ImportValue)) (n j : ℕ) (g : FunctionValue) (brought : ImportedFunction) (local : LocalFunction)
     (state : StubsWhere hits fs gs is js) (theirs : Theirs fs is) (not_yet : hits n ≡ false) (hit : more n ≡ true) (same_hits : (p : ℕ) → p ≢ n → more p ≡ hits p)
     (there : item_at gs j ≡ Some g) (kind : g.kind ≡ Import brought) (at_place : place brought.«import» ≡ n) (typed : function_type local ≡ brought.ty) (traps : body_of local ≡ trap_ops)
-    (set : hs ≡ slice_set gs j (Some (with_kind local g))) (live : IsSome (item_at js n)) (gone : ks ≡ slice_set js n None) where
+    (set : hs ≡ slice_set gs j (Some (with_body local g))) (live : IsSome (item_at js n)) (gone : ks ≡ slice_set js n None) where
   by_import : import_place g.kind ≡ Some n
   by_import = ap import_place kind ∙ ap Some at_place
 
@@ -51,7 +51,7 @@ module _ (hits more : ℕ → Bool) (fs gs hs : List (Option FunctionValue)) (is
     by (Some f) at = here f at (import_place f.kind) refl
 
   stays_at : (k : ℕ) → k ≢ j → item_at hs k ≡ item_at gs k
-  stays_at k not = ap (λ xs. item_at xs k) set ∙ get_or-set_other gs j k (Some (with_kind local g)) None not
+  stays_at k not = ap (λ xs. item_at xs k) set ∙ set_elsewhere gs j k (Some (with_body local g)) not
 
   -- import n brings this function alone
   only : (k : ℕ) (f : FunctionValue) → item_at fs k ≡ Some f → import_place f.kind ≡ Some n → k ≡ j
@@ -62,7 +62,7 @@ module _ (hits more : ℕ → Bool) (fs gs hs : List (Option FunctionValue)) (is
       ap (λ (x : Item). x.1) (sym one.2 ∙ ap (λ (x : ImportValue). imported x.kind) same ∙ two.2)
 
   trap_here : Traps g (item_at hs j)
-  trap_here = record { imported = brought; was = kind; function = local; is = ap (λ xs. item_at xs j) set ∙ set_there gs j g (with_kind local g) there; typed = typed; body = traps }
+  trap_here = record { imported = brought; was = kind; function = local; is = ap (λ xs. item_at xs j) set ∙ set_here gs j (Some (with_body local g)) (some_there (item_at gs j) there); typed = typed; body = traps }
 
   pub stubs_more : StubsWhere more fs hs is ks
   stubs_more = record {
@@ -81,7 +81,7 @@ module _ (hits more : ℕ → Bool) (fs gs hs : List (Option FunctionValue)) (is
         (equal_or k j);
     gone = λ i. ⊎_elim
         (λ (e : i ≡ n). subst (λ k. item_at ks k ≡ (if more k then None else item_at is k)) (sym e)
-        (ap (λ xs. item_at xs n) gone ∙ get_or-set_same js n None None (item_within js n live) ∙ ap (λ (b : Bool). if b then None else item_at is n) (sym hit)))
-        (λ (e : i ≢ n). ap (λ xs. item_at xs i) gone ∙ get_or-set_other js n i None None e ∙ state.gone i ∙ ap (λ (b : Bool). if b then None else item_at is i) (sym (same_hits i e)))
+        (ap (λ xs. item_at xs n) gone ∙ set_here js n None live ∙ ap (λ (b : Bool). if b then None else item_at is n) (sym hit)))
+        (λ (e : i ≢ n). ap (λ xs. item_at xs i) gone ∙ set_elsewhere js n i None e ∙ state.gone i ∙ ap (λ (b : Bool). if b then None else item_at is i) (sym (same_hits i e)))
         (equal_or i n);
   }

@@ -7,6 +7,7 @@ pub mod Listing
 pub mod Metadata
 pub mod Moves
 pub mod Reasons
+pub mod Renamed
 pub mod Snip
 pub mod Snipped
 pub mod Stub

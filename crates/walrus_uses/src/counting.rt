@@ -11,8 +11,8 @@ ghost use Rattle.walrus_uses.specs.Count.{PlaceCalls, SlotCalls};
 ghost use Rattle.walrus_uses.specs.Counted.{AnswersCounted, CountsAll, ImportsOne};
 
 use crate::calls::call_first;
+use crate::ending::finished;
 use std::alloc::Global;
-use walrus::passes::gc;
 use walrus::{FunctionId, Module, ModuleFunctions, Result};
 
 // The function of this id begins with a call, if it is there and has a body.
@@ -74,6 +74,5 @@ pub fn count_calls(alloc: Global, bytes: &[u8], from: &str, name: &str) -> Resul
 {
     let mut module = Module::from_buffer(alloc, bytes)?;
     count_all(alloc, &mut module, from, name)?;
-    gc::run(alloc, &mut module)?;
-    module.emit_wasm(alloc)
+    finished(alloc, module)
 }

@@ -4,6 +4,7 @@
 
 mod calls;
 mod counting;
+mod ending;
 mod law;
 mod lines;
 mod listed;
@@ -11,6 +12,7 @@ mod listing;
 mod metadata;
 mod moving;
 mod reasons;
+mod renaming;
 #[cfg(test)]
 mod samples;
 mod shrinking;
@@ -24,6 +26,7 @@ pub use listing::keep_listed;
 pub use metadata::with_metadata;
 pub use moving::moves;
 pub use reasons::why;
+pub use renaming::rename_export;
 pub use shrinking::shrink;
 pub use snipping::snip;
 pub use stubbing::stub;

@@ -3,16 +3,13 @@
 
 ghost use Rattle.walrus_items.specs.Functions.{functions};
 ghost use Rattle.walrus_module.specs.Flags.{config_of, defaults};
-ghost use Rattle.walrus_uses.specs.Finding.{FindsFirst, FindsListed, FinishesReady};
+ghost use Rattle.walrus_uses.specs.Finding.{FindsFirst, FindsListed};
 ghost use Rattle.walrus_uses.specs.Listing.{AnswersListed};
 
+use crate::ending::finished;
 use crate::listed::Listed;
 use std::alloc::Global;
-use walrus::passes::gc;
-use walrus::{
-    CustomSection, Error, FunctionId, Module, ModuleFunctions, RawCustomSection, Result,
-    SectionEntry,
-};
+use walrus::{Error, FunctionId, Module, ModuleFunctions, RawCustomSection, Result, SectionEntry};
 
 // The function whose index stands first in the bytes, and the bytes behind it.
 fn first_listed<'a>(funcs: &ModuleFunctions, bytes: &'a [u8]) -> Result<(FunctionId, &'a [u8])>
@@ -40,14 +37,6 @@ fn listed(alloc: Global, funcs: &ModuleFunctions, bytes: &[u8]) -> Result<Vec<Fu
         rest = after;
     }
     Ok(ids)
-}
-
-// The bytes of the module without what nothing reaches.
-fn finished(alloc: Global, mut module: Module) -> Result<Vec<u8>>
-    ensures { FinishesReady ⟦<dyn CustomSection as CustomSection>⟧ «module» result }
-{
-    gc::run(alloc, &mut module)?;
-    module.emit_wasm(alloc)
 }
 
 /// The bytes of the module without what nothing reaches, where the functions stay that the first custom section of this name lists by their

@@ -5,6 +5,7 @@ use crate::listing::keep_listed;
 use crate::metadata::with_metadata;
 use crate::moving::moves;
 use crate::reasons::why;
+use crate::renaming::rename_export;
 use crate::shrinking::shrink;
 use crate::snipping::snip;
 use crate::stubbing::stub;
@@ -116,6 +117,32 @@ fn a_name_of_the_format(rt: HostRuntime) -> std::result::Result<(), Fail> {
         is_refused(answer, "a name of the format's own"),
         "producers",
     )
+}
+
+// ---- rename_export
+
+// Both functions, the first exported as `f`, the second as `g`.
+const TWO_NAMES: &str =
+    "00 61 73 6D 01 00 00 00 01 04 01 60 00 00 03 03 02 00 00 07 09 02 01 66 00 00 01 67 00 01 0A 08 02 03 00 01 0B 02 00 0B";
+
+// The second one, exported as `h`.
+const NEW_NAME: &str =
+    "00 61 73 6D 01 00 00 00 01 04 01 60 00 00 03 02 01 00 07 05 01 01 68 00 00 0A 04 01 02 00 0B 00 27 09 70 72 6F 64 75 63 65 72 73 01 0C 70 72 6F 63 65 73 73 65 64 2D 62 79 01 06 77 61 6C 72 75 73 06 30 2E 32 38 2E 30";
+
+#[test]
+fn an_export_has_another_name(rt: HostRuntime) -> std::result::Result<(), Fail> {
+    let bytes = bytes_of(rt.alloc(), TWO_NAMES)?;
+    let output = rename_export(rt.alloc(), &bytes, "g", "h", "f");
+    demand_output(rt.alloc(), output, NEW_NAME)
+}
+
+#[test]
+fn missing_and_taken_names_are_refused(rt: HostRuntime) -> std::result::Result<(), Fail> {
+    let bytes = bytes_of(rt.alloc(), TWO_NAMES)?;
+    let missing = rename_export(rt.alloc(), &bytes, "g", "h", "x");
+    demand(is_refused(missing, "not found"), "no export to drop")?;
+    let taken = rename_export(rt.alloc(), &bytes, "g", "g", "f");
+    demand(is_refused(taken, "a name that is taken"), "taken")
 }
 
 // ---- stub

@@ -10,9 +10,9 @@ ghost use Rattle.walrus_module.specs.Replaced.{ReplacesExported};
 ghost use Rattle.walrus_uses.specs.Snipped.{AnswersSnipped, FindsNamed, SnipsExport, first_named};
 ghost use Rattle.walrus_uses.specs.Stubbed.{PutsTrap};
 
+use crate::ending::finished;
 use crate::traps::put_trap;
 use std::alloc::Global;
-use walrus::passes::gc;
 use walrus::{Error, FunctionId, InstrSeqBuilder, LocalId, Module, ModuleExports, Result};
 
 // Whether the function's first export has this name.
@@ -69,6 +69,5 @@ pub fn snip(alloc: Global, bytes: &[u8], name: &str) -> Result<Vec<u8>>
 {
     let mut module = Module::from_buffer(alloc, bytes)?;
     trap_named(alloc, &mut module, name)?;
-    gc::run(alloc, &mut module)?;
-    module.emit_wasm(alloc)
+    finished(alloc, module)
 }

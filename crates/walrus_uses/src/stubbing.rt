@@ -10,9 +10,9 @@ ghost use Rattle.walrus_module.specs.Replaced.{ReplacesImported};
 ghost use Rattle.walrus_uses.specs.Stub.{function_from};
 ghost use Rattle.walrus_uses.specs.Stubbed.{AnswersStubbed, PutsTrap, StubsAll, StubsOne};
 
+use crate::ending::finished;
 use crate::traps::put_trap;
 use std::alloc::Global;
-use walrus::passes::gc;
 use walrus::{
     FunctionId, ImportId, ImportKind, InstrSeqBuilder, LocalId, Module, ModuleImports, Result,
 };
@@ -74,6 +74,5 @@ pub fn stub(alloc: Global, bytes: &[u8], from: &str) -> Result<Vec<u8>>
 {
     let mut module = Module::from_buffer(alloc, bytes)?;
     trap_all(alloc, &mut module, from)?;
-    gc::run(alloc, &mut module)?;
-    module.emit_wasm(alloc)
+    finished(alloc, module)
 }

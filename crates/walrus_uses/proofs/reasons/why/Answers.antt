@@ -5,7 +5,6 @@ use Rattle.walrus.proofs.RawStays.{all_raw}
 use Rattle.walrus_contents.specs.Named.{items_in}
 use Rattle.walrus_base.specs.Id.{place}
 use Rattle.walrus_module.specs.Customs.{sections}
-use Rattle.walrus_module.specs.Flags.{config_of}
 use Rattle.walrus_module.specs.Settings.{settings}
 use Rattle.walrus_uses.proofs.ReasonEnds.{emission_lacks, function_lacks, reason_told, search_lacks}
 use Rattle.walrus_uses.proofs.reasons.why.Goals as goal
@@ -18,12 +17,12 @@ returns-in_err-function_at c =
 pub returns-in_err-chain : goal.returns-in_err-chain
 returns-in_err-chain c =
     let p = err_from_is_err_and c.from_residual-in_err-chain.result c.from_residual-in_err-chain.ensures.1 in
-    rw (p.1, p.2) (search_lacks _ c.args.bytes.now c.in_ok-module.module c.in_ok-module.ensures.found c.args.function c.in_ok-module.ensures.kept.raws c.in_ok-module.ensures.kept.are _ c.in_err-chain.ensures.refused)
+    rw (p.1, p.2) (search_lacks _ c.args.bytes.now c.in_ok-module.module c.in_ok-module.ensures.found c.args.function c.in_ok-module.ensures.kept.raws c.in_ok-module.ensures.kept.are c.in_ok-module.ensures.configured _ c.in_err-chain.ensures.refused)
 
 pub returns-in_err-run : goal.returns-in_err-run
 returns-in_err-run c =
     let p = err_from_is_err_and c.from_residual-in_err-run.result c.from_residual-in_err-run.ensures.1 in
-    rw (p.1, p.2) (search_lacks _ c.args.bytes.now c.in_ok-module.module c.in_ok-module.ensures.found c.args.function c.in_ok-module.ensures.kept.raws c.in_ok-module.ensures.kept.are _ c.in_err-run.ensures.refused)
+    rw (p.1, p.2) (search_lacks _ c.args.bytes.now c.in_ok-module.module c.in_ok-module.ensures.found c.args.function c.in_ok-module.ensures.kept.raws c.in_ok-module.ensures.kept.are c.in_ok-module.ensures.configured _ c.in_err-run.ensures.refused)
 
 pub returns-in_err-output : goal.returns-in_err-output
 returns-in_err-output c =
@@ -34,8 +33,8 @@ returns-in_err-output c =
     let left = c.emit_wasm_with_transform.new.self in
     let ran = c.in_ok-run.ensures in
     let same = c.in_err-output.ensures.raw (all_raw kept.customs raw.raws (ap sections ran.others.2 ∙ raw.are)) in
-    rw (p.1, p.2) (emission_lacks _ c.args.bytes.now read c.in_ok-module.ensures.found c.args.function raw.raws raw.are kept ran.collected ran.others.2 left same
-    (settings kept) (ap config_of (ran.others.3 ∙ c.in_ok-module.ensures.configured)) c.in_err-output.field-0.0 c.in_err-output.ensures.left c.in_err-output.ensures.well_made)
+    rw (p.1, p.2) (emission_lacks _ c.args.bytes.now read c.in_ok-module.ensures.found c.args.function raw.raws raw.are c.in_ok-module.ensures.configured kept ran.collected ran.others.2 left same
+    (settings kept) ran.others.3 c.in_err-output.field-0.0 c.in_err-output.ensures.left c.in_err-output.ensures.well_made)
 
 pub returns : goal.returns
 returns c =
@@ -46,6 +45,6 @@ returns c =
     let ran = c.in_ok-run.ensures in
     let wrote = c.in_ok-output.ensures in
     let same = wrote.raw (all_raw kept.customs raw.raws (ap sections ran.others.2 ∙ raw.are)) in
-    reason_told _ c.args.bytes.now read c.in_ok-module.ensures.found c.args.function raw.raws raw.are kept ran.collected ran.others.2 left same
+    reason_told _ c.args.bytes.now read c.in_ok-module.ensures.found c.args.function raw.raws raw.are c.in_ok-module.ensures.configured kept ran.collected ran.others.2 left same
     wrote.left (settings kept) (ran.others.3 ∙ c.in_ok-module.ensures.configured) (place c.in_ok-function_at.field-0) c.in_ok-function_at.ensures.0 c.in_ok-function_at.ensures.1
     (option_map items_in c.in_ok-chain.chain) c.in_ok-chain.ensures.found c.in_ok-output.output c.in_ok-output.transform wrote.well_made wrote.transform c.in_ok-report.field-0 c.in_ok-report.ensures

@@ -1,0 +1,50 @@
+-- What was parsed, and is emitted as it is, comes whole.
+use Rattle.std.proofs.Common.{ℕ, List, subst}
+use Rattle.std.specs.Prelude.{Ok}
+use Rattle.std.specs.Global.{Vec}
+use Rattle.walrus_parts.specs.declared.custom.CustomSection.{Ghosts}
+use Rattle.walrus_model.specs.Config.{Config}
+use Rattle.walrus_rules.specs.Chain.{Leaves}
+use Rattle.walrus_rules.specs.Refused.{PassesLimits}
+use Rattle.walrus_rules.specs.WellMade.{IsWellMade}
+use Rattle.walrus_rules.specs.Whole.{ComesWhole}
+use Rattle.walrus_module.specs.Emitted.{told}
+use Rattle.walrus_module.specs.Answered.{IsWellWritten, WritesUnless}
+use Rattle.walrus_module.specs.Flags.{Flags, config_of}
+use Rattle.walrus_module.specs.Following.{OneMayRefuseThen}
+use Rattle.walrus_module.specs.View.{view}
+use Rattle.walrus_module.specs.declared.entry.SectionEntry.{SectionEntry}
+use Rattle.walrus_module.specs.declared.module.Module.{Module}
+use Rattle.walrus.specs.Whole.{Parses, EmitsBytes, ParsedIsWritten}
+use Rattle.walrus_rules.proofs.StepLive.{plain_comes_out}
+use Rattle.walrus_rules.proofs.WritableParsed.{parsed_is_well}
+use Rattle.walrus.proofs.RawStays.{all_raw, leaves_whole}
+
+module _ {V : Type 0} {O : V → Type 0} (G : (v : V) → Ghosts (O v)) where
+  come_whole : (f : Flags) (bytes : List ℕ) (old new : Module (SectionEntry V O)) (output : Vec ℕ) → Parses G f bytes old → EmitsBytes G old new output → ComesWhole (config_of f) bytes output.items
+  come_whole f bytes old new output parses emits =
+      let c : Config = config_of f in
+      let parsed = parses.found in
+      let leaves : Leaves (view G old) (view G new) = leaves_whole G old new (emits.raw (all_raw old.customs parses.kept.raws parses.kept.are)) (told (Ok output)) emits.left in
+      let made : IsWellMade c (view G old) = parsed_is_well c bytes parsed.module_read (view G old) parsed.reads parsed.holds parsed.parsed in
+      let written : IsWellWritten c (view G new) output.items =
+      subst (λ (g : Flags). IsWellMade (config_of g) (view G old) → WritesUnless (PassesLimits (config_of g) (view G new)) (OneMayRefuseThen G old.customs new.customs) (λ (r : Vec ℕ). IsWellWritten (config_of g) (view G new) r.items) (told (Ok output)))
+      parses.configured emits.well_made made in
+      record {
+        module_read = parsed.module_read;
+        reads = parsed.reads;
+        holds = parsed.holds;
+        module_parsed = view G old;
+        parsed = parsed.parsed;
+        module_left = view G new;
+        leaves = leaves;
+        module_written = written.module_written;
+        written = written.written;
+        spelled = written.spelled;
+        output_reads = written.reads;
+        output_holds = written.holds;
+        out = plain_comes_out c bytes parsed.module_read (view G old) (view G new) written.module_written parsed.reads parsed.holds parsed.parsed leaves written.written;
+      }
+
+  pub parsed_is_written : ParsedIsWritten G
+  parsed_is_written f bytes old new output parses emits = come_whole f bytes old new output parses emits
