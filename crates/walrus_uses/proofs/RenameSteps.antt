@@ -1,6 +1,6 @@
 -- An export that is gone and one that is renamed: what was whole is whole, by the laws of edits.
-use Rattle.std.proofs.Common.{◌≡◌, ◌≢◌, ℕ, Bool, List, [], map, Option, Some, None, option_map, slice_set, refl, sym, ap, ◌∙◌}
-use Rattle.std.specs.Prelude.{Contains}
+use Rattle.std.proofs.Common.{◌≡◌, ◌≢◌, ℕ, Bool, false, List, [], map, Option, Some, None, option_map, slice_set, refl, sym, ap, ◌∙◌}
+use Rattle.std.specs.Prelude.{Contains, is_some}
 use Rattle.std.proofs.lemmas.Slice.Eq.{bytes_eq-Decides}
 use Rattle.walrus_base.specs.Arena.{entries, item_at, items}
 use Rattle.walrus_model.specs.Abstract.{Export}
@@ -48,11 +48,13 @@ module _ {S : Type 0} (c : Config) (from to dropped : List ℕ) (old : Module S)
       let second = export_renamed c (contents_view without) (held_view (record old { exports = new })) (export_of e.1) (export_of (with_name to e.1)) set refl first.made (no_other to (exports r.left) (r.renames).free) in
       record { made = second.made; reached = second.reached tt (first.reached tt whole.reached) }
 
--- ---- the steps
-
 pub none_found : (o : Option (ℕ × ExportValue)) → None ≡ option_map (λ (e : ℕ × ExportValue). e.0) o → o ≡ None
 none_found None e = refl
 none_found (Some x) e = absurd (none_isnt e)
+
+pub untaken : (o : Option (ℕ × ExportValue)) → is_some o ≡ false → o ≡ None
+untaken None e = refl
+untaken (Some x) e = absurd (cc)
 
 module _ (name : List ℕ) (old new : List (Option ExportValue)) (n : ℕ) (f : IsFound (names name) old n) where
   pub drops : new ≡ slice_set old n None → Drops name old new

@@ -1,10 +1,9 @@
 use Rattle.std.proofs.Common.{◌≡◌, ◌∙◌, ap, false, inl, inr, rules, sym, true}
-use Rattle.core.proofs.option.Match.{None-if_not_some}
 use Rattle.walrus_items.specs.Exports.{export_value, exports}
 use Rattle.walrus_items.proofs.Found.{is_found}
 use Rattle.walrus_model.proofs.Standing.{some_of}
 use Rattle.walrus_module.proofs.ReplacedLemmas.{found_lives, put_seen}
-use Rattle.walrus_uses.proofs.RenameSteps.{drops, names, none_found, renames}
+use Rattle.walrus_uses.proofs.RenameSteps.{drops, names, none_found, renames, untaken}
 use Rattle.walrus_uses.specs.Renamed.{with_name}
 use Rattle.walrus_uses.proofs.renaming.edit.Goals as goal
 
@@ -36,5 +35,5 @@ returns c =
     record {
       left = left;
       drops = drops c.args.dropped.now _ _ _ (is_found (names c.args.dropped.now) (exports c.args.all.now) _ c.in-Some.ensures) c.remove_root.ensures;
-      renames = renames c.args.from.now _ _ _ (is_found (names c.args.from.now) (exports left) _ c.in-Some-find.ensures) c.args.to.now (None-if_not_some _ (sym c.is_taken.ensures ∙ no)) set;
+      renames = renames c.args.from.now _ _ _ (is_found (names c.args.from.now) (exports left) _ c.in-Some-find.ensures) c.args.to.now (untaken _ (sym c.is_taken.ensures ∙ no)) set;
     }
