@@ -10,9 +10,8 @@ pub returns-in_err-edit : goal.returns-in_err-edit
 returns-in_err-edit c =
     let read = c.in_ok-module in
     let p = err_from_is_err_and c.from_residual-in_err-edit.result c.from_residual-in_err-edit.ensures.1 in
-    let held = RenamesHeld c.args.from.now c.args.to.now c.args.dropped.now in
     let refuses = RefusesRename c.args.from.now c.args.to.now c.args.dropped.now in
-    rw (p.1, p.2) (edit_refused _ held refuses (config_of defaults) c.args.bytes.now read.module read.ensures.found (λ k h. h) (λ h. h) _ c.in_err-edit.ensures)
+    rw (p.1, p.2) (edit_refused _ (RenamesHeld c.args.from.now c.args.to.now c.args.dropped.now) refuses (config_of defaults) c.args.bytes.now read.module read.ensures.found (λ k h. h) (λ h. h) _ c.in_err-edit.ensures)
 
 pub returns : goal.returns
 returns c =
