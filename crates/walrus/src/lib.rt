@@ -141,3 +141,4 @@ pub use walrus_module::TypeIter;
 pub use walrus_module::UntypedCustomSectionId;
 pub use walrus_module::ValType;
 pub use walrus_module::Value;
+pub use wasm_opcodes::opcodes;

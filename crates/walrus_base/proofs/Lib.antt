@@ -1,3 +1,4 @@
+pub mod Entries
 mod Found
 pub mod InSet
 pub mod Kept

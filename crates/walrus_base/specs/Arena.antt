@@ -23,6 +23,10 @@ module _ {T : Type 0} where
   abbrev pub entries : List (Option T) → List (ℕ × T)
   entries slots = entries_from 0 slots
 
+  -- the places of the live items, rising
+  abbrev pub live_places : List (Option T) → List ℕ
+  live_places slots = map (λ entry. entry.0) (entries slots)
+
   -- the items, by rising place
   abbrev pub items : List (Option T) → List T
   items slots = map (λ entry. entry.1) (entries slots)

@@ -1,8 +1,8 @@
 //! Items by their ids, in the order in which they came.
-ghost use Rattle.std.specs.Prelude.{ℕ, ◌≡◌, ◌<◌, ◌++◌, ◌∷◌, [], length, Some, None, IsTrue, IsSome, IsOk, OnOk, ◌↔◌, MatchResult, count_by, is_some, slice_set, vec_len, if◌then◌else◌};
+ghost use Rattle.std.specs.Prelude.{ℕ, ◌≡◌, ◌<◌, ◌++◌, ◌∷◌, [], length, map, All, Some, None, IfOk, IsTrue, IsSome, IsOk, OnOk, ◌↔◌, MatchResult, count_by, is_some, slice_set, vec_len, if◌then◌else◌};
 ghost use Rattle.std.specs.Borrow.{sem};
 ghost use Rattle.std.specs.Iterator.{YieldsFirstBy, item_count};
-ghost use Rattle.walrus_base.specs.Arena.{HasRoom, slots, item_at, IsLive, entries, entries_left, kept_by};
+ghost use Rattle.walrus_base.specs.Arena.{HasRoom, slots, item_at, IsLive, entries, entries_left, kept_by, live_places};
 ghost use Rattle.walrus_base.specs.LendsSome.{LendsSome};
 ghost use Rattle.walrus_base.specs.Id.{place};
 ghost use Rattle.walrus_base.specs.Marks.{is_marked};
@@ -55,6 +55,18 @@ where
     if !is_kept {
         places[place] = None;
     }
+}
+
+/// The ids of the items that are at these places, by rising place. Takes memory once.
+pub fn live_ids<K, T>(alloc: Global, places: &[Option<T>]) -> Result<Vec<Id<K>>, AllocError>
+    ensures value { IfOk result (λ ids. map place ids.items ≡ live_places places.now) }
+    ensures live { IfOk result (λ ids. All (λ id. IsLive places.now (place id)) ids.items) }
+{
+    let mut ids = Vec::with_capacity(alloc, places.len())?;
+    for (id, _item) in ArenaIter::over(places) {
+        ids.push(id)?;
+    }
+    Ok(ids)
 }
 
 impl<K, T> TombstoneArena<K, T> {
@@ -186,11 +198,15 @@ impl<K, T> TombstoneArena<K, T> {
     pub fn iter(&self) -> ArenaIter<'_, K, T>
         ensures { entries_left result ≡ entries (slots self.now) }
     {
-        ArenaIter {
-            places: self.places.as_slice(),
-            place: 0,
-            kind: PhantomData,
-        }
+        ArenaIter::over(self.places.as_slice())
+    }
+
+    /// The ids of the items, by rising place. Takes memory once.
+    pub fn ids(&self, alloc: Global) -> Result<Vec<Id<K>>, AllocError>
+        ensures value { IfOk result (λ ids. map place ids.items ≡ live_places (slots self.now)) }
+        ensures live { IfOk result (λ ids. All (λ id. IsLive (slots self.now) (place id)) ids.items) }
+    {
+        live_ids(alloc, self.places.as_slice())
     }
 }
 
@@ -201,6 +217,19 @@ pub struct ArenaIter<'a, K, T> {
     // The first place that is still to be seen.
     place: usize,
     kind: PhantomData<K>,
+}
+
+impl<'a, K, T> ArenaIter<'a, K, T> {
+    // The items at these places.
+    fn over(places: &'a [Option<T>]) -> ArenaIter<'a, K, T>
+        ensures { entries_left result ≡ entries places.now }
+    {
+        ArenaIter {
+            places,
+            place: 0,
+            kind: PhantomData,
+        }
+    }
 }
 
 impl<'a, K, T> Iterator for ArenaIter<'a, K, T> {

@@ -7,7 +7,7 @@ mod keys;
 mod marks;
 mod set;
 
-pub use arena::{ArenaIter, TombstoneArena, keep_marked};
+pub use arena::{ArenaIter, TombstoneArena, keep_marked, live_ids};
 pub use id::Id;
 pub use keys::{
     CustomSectionKey, DataId, DataKey, ElementId, ElementKey, ExportId, ExportKey, FunctionId,

@@ -4,10 +4,11 @@ use std::alloc::{AllocError, Global};
 use std::test::Fail;
 use test_support::{demand, first_id};
 use walrus_builder::{FunctionBuilder, InstrSeqBuilder};
-use walrus_code::{Arg, Args, Operator};
+use walrus_code::{Arg, Args, BlockType, Operator};
 use walrus_text::LocalFunction;
 use walrus_types::{ModuleTypes, ValType};
-use wasm_opcodes::one_byte::{CALL, DROP, END, I32_CONST, LOCAL_GET, NOP, UNREACHABLE};
+use wasm_opcodes::opcodes;
+use wasm_opcodes::opcodes::{CALL, DROP, END, I32_CONST, LOCAL_GET, NOP, UNREACHABLE};
 
 // unreachable, i32.const 5, drop, call of the first function, local.get of the first local, nop
 fn build(alloc: Global, body: &mut InstrSeqBuilder) -> Result<(), AllocError> {
@@ -73,5 +74,129 @@ fn a_function_is_built(rt: HostRuntime) -> Result<(), Fail> {
     demand(
         are_built(rt.alloc(), operators.as_slice()),
         "seven operators",
+    )
+}
+
+fn build_control(alloc: Global, body: &mut InstrSeqBuilder) -> Result<(), AllocError> {
+    body.block(BlockType::NoResult)?
+        .loop_(BlockType::OneResult(ValType::I32))?
+        .if_(BlockType::OfType(first_id(alloc)))?
+        .br(2)?
+        .else_()?
+        .br_if(1)?
+        .return_()?
+        .end()?;
+    Ok(())
+}
+
+fn is_control(alloc: Global, operators: &[Operator]) -> bool {
+    let [block, turns, choice, jump, other, maybe, back, end] = operators else {
+        return false;
+    };
+    let of_type = BlockType::OfType(first_id(alloc));
+    is(block, opcodes::BLOCK, &[Arg::Block(BlockType::NoResult)])
+        && is(
+            turns,
+            opcodes::LOOP,
+            &[Arg::Block(BlockType::OneResult(ValType::I32))],
+        )
+        && is(choice, opcodes::IF, &[Arg::Block(of_type)])
+        && is(jump, opcodes::BR, &[Arg::Label(2)])
+        && is(other, opcodes::ELSE, &[])
+        && is(maybe, opcodes::BR_IF, &[Arg::Label(1)])
+        && is(back, opcodes::RETURN, &[])
+        && is(end, END, &[])
+}
+
+#[test]
+fn blocks_and_branches_are_built(rt: HostRuntime) -> Result<(), Fail> {
+    let mut sequence = InstrSeqBuilder::new(rt.alloc());
+    build_control(rt.alloc(), &mut sequence)?;
+    demand(
+        is_control(rt.alloc(), sequence.operators()),
+        "eight operators",
+    )
+}
+
+fn build_values(alloc: Global, body: &mut InstrSeqBuilder) -> Result<(), AllocError> {
+    body.local_set(first_id(alloc))?
+        .local_tee(first_id(alloc))?
+        .global_get(first_id(alloc))?
+        .global_set(first_id(alloc))?
+        .i64_const(-7)?
+        .f32_const(8)?
+        .f64_const(9)?
+        .select()?;
+    Ok(())
+}
+
+fn are_values(alloc: Global, operators: &[Operator]) -> bool {
+    let [set, tee, global, changed, long, single, double, choice] = operators else {
+        return false;
+    };
+    is(set, opcodes::LOCAL_SET, &[Arg::Local(first_id(alloc))])
+        && is(tee, opcodes::LOCAL_TEE, &[Arg::Local(first_id(alloc))])
+        && is(global, opcodes::GLOBAL_GET, &[Arg::Global(first_id(alloc))])
+        && is(
+            changed,
+            opcodes::GLOBAL_SET,
+            &[Arg::Global(first_id(alloc))],
+        )
+        && is(long, opcodes::I64_CONST, &[Arg::S64(-7)])
+        && is(single, opcodes::F32_CONST, &[Arg::F32(8)])
+        && is(double, opcodes::F64_CONST, &[Arg::F64(9)])
+        && is(choice, opcodes::SELECT, &[])
+}
+
+#[test]
+fn values_are_built(rt: HostRuntime) -> Result<(), Fail> {
+    let mut sequence = InstrSeqBuilder::new(rt.alloc());
+    build_values(rt.alloc(), &mut sequence)?;
+    demand(
+        are_values(rt.alloc(), sequence.operators()),
+        "eight operators",
+    )
+}
+
+fn build_accesses(alloc: Global, body: &mut InstrSeqBuilder) -> Result<(), AllocError> {
+    body.load(opcodes::I32_LOAD8_U, first_id(alloc), 0, 16)?
+        .store(opcodes::I64_STORE32, first_id(alloc), 2, 8)?
+        .ref_func(first_id(alloc))?
+        .call_indirect(first_id(alloc), first_id(alloc))?
+        .op(opcodes::I32_ADD)?;
+    Ok(())
+}
+
+fn access(alloc: Global, flags: u32, offset: u64) -> Arg {
+    Arg::Access {
+        flags,
+        memory: first_id(alloc),
+        offset,
+    }
+}
+
+fn are_accesses(alloc: Global, operators: &[Operator]) -> bool {
+    let [load, store, reference, call, sum] = operators else {
+        return false;
+    };
+    let called = [Arg::Type(first_id(alloc)), Arg::Table(first_id(alloc))];
+    is(load, opcodes::I32_LOAD8_U, &[access(alloc, 0, 16)])
+        && is(store, opcodes::I64_STORE32, &[access(alloc, 2, 8)])
+        && is(
+            reference,
+            opcodes::REF_FUNC,
+            &[Arg::Function(first_id(alloc))],
+        )
+        && is(call, opcodes::CALL_INDIRECT, &called)
+        && is(sum, opcodes::I32_ADD, &[])
+}
+
+#[test]
+fn accesses_and_calls_are_built(rt: HostRuntime) -> Result<(), Fail> {
+    let mut sequence = InstrSeqBuilder::new(rt.alloc());
+    build_accesses(rt.alloc(), &mut sequence)?;
+    demand(
+        are_accesses(rt.alloc(), sequence.operators()),
+        "five operators",
     )
 }

@@ -3,7 +3,7 @@
 use std::alloc::{AllocError, Global};
 use std::test::Fail;
 use test_support::{demand, is_name};
-use walrus_base::{LocalId, TypeId};
+use walrus_base::{Id, LocalId, TypeId};
 use walrus_types::{
     AbstractHeapType, ArrayType, CompositeType, ConstExpr, ConstOp, FieldType, FunctionType,
     HeapType, ModuleLocals, ModuleTypes, NewType, RefType, StorageType, StructType, Type, ValType,
@@ -239,12 +239,23 @@ fn is_subtype(types: &ModuleTypes, id: TypeId, supertype: TypeId) -> bool {
         && takes_one_number(ty)
 }
 
+fn are_ids<K>(ids: Result<Vec<Id<K>>, AllocError>, wanted: &[Id<K>]) -> bool {
+    match ids {
+        Ok(ids) => ids.as_slice() == wanted,
+        Err(_) => false,
+    }
+}
+
 fn has_a_subtype(alloc: Global, types: &mut ModuleTypes) -> bool {
     let Some(first) = add_open(alloc, types, None) else {
         return false;
     };
     match add_open(alloc, types, Some(first)) {
-        Some(second) => { is_subtype(types, second, first) && types.iter().take(3).count() == 2 }
+        Some(second) => {
+            is_subtype(types, second, first)
+                && types.iter().take(3).count() == 2
+                && are_ids(types.ids(alloc), &[first, second])
+        }
         None => false,
     }
 }
@@ -296,17 +307,20 @@ fn is_local(locals: &ModuleLocals, id: LocalId) -> bool {
     locals.contains(id) && locals.get(id).id() == id
 }
 
-fn are_listed(locals: &mut ModuleLocals) -> bool {
+fn are_listed(alloc: Global, locals: &mut ModuleLocals) -> bool {
     let (Ok(first), Ok(second)) = (locals.add(ValType::I32), locals.add(ValType::F32)) else {
         return false;
     };
-    is_local(locals, first) && is_local(locals, second) && locals.iter().take(3).count() == 2
+    is_local(locals, first)
+        && is_local(locals, second)
+        && locals.iter().take(3).count() == 2
+        && are_ids(locals.ids(alloc), &[first, second])
 }
 
 #[test]
 fn locals_are_listed(rt: HostRuntime) -> Result<(), Fail> {
     let mut locals = ModuleLocals::new(rt.alloc());
     demand(locals.is_empty(), "no local")?;
-    demand(are_listed(&mut locals), "two locals")?;
+    demand(are_listed(rt.alloc(), &mut locals), "two locals")?;
     demand(!locals.is_empty(), "not empty behind them")
 }

@@ -8,6 +8,7 @@ use Rattle.std.proofs.lemmas.List.Folds.{list_all-append}
 use Rattle.std.proofs.lemmas.List.FromFn.{length-range_with_len, get_or-range_with_len}
 use Rattle.walrus_base.specs.Arena.{item_at, entries}
 use Rattle.walrus_base.specs.Types.{HeapType, OfHeap, Concrete, Exact, ValType, I32, I64, F32, F64, V128, Ref, StorageType, Unpacked, I8, I16, CompType, Func, Struct, Array, heap_names, val_heaps, storage_heaps, field_heaps, comp_heaps, comp_names}
+use Rattle.walrus_base.proofs.Entries.{AllThere, entries_there}
 use Rattle.walrus_types.specs.PlaceList.{has}
 use Rattle.walrus_types.specs.TypeDef.{TypeDef}
 use Rattle.walrus_types.specs.TypeSlots.{defs, last_of}
@@ -17,7 +18,7 @@ use Rattle.walrus_types.proofs.Lists.{Contains-head, Contains-tail}
 use Rattle.walrus_types.proofs.WholeLemmas.{last_row}
 use Rattle.walrus_groups.specs.Indexed.{AreInOrder, IsOutOfOrder, LaterSupertype, LaterType}
 use Rattle.walrus_groups.specs.Ordered.{heap_within, val_within, vals_within, storage_within, field_within, comp_within, all_below, is_ordered}
-use Rattle.walrus_groups.proofs.WrittenLists.{AllThere, IsRow, entries_there, group-row, has-row, entry_contained}
+use Rattle.walrus_groups.proofs.WrittenLists.{IsRow, group-row, has-row, entry_contained}
 
 -- ---- tests of lists
 

@@ -56,19 +56,6 @@ group-row (Some ty ∷ ps) (suc t) x h = group-row ps t x h
 
 -- ---- entries
 
--- each of these stands at its place
-abbrev pub AllThere : {T : Type 0} → List (Option T) → List (ℕ × T) → Type 0
-AllThere slots [] = Unit {0}
-AllThere slots (e ∷ es) = (item_at slots e.0 ≡ Some e.1) × AllThere slots es
-
-pub there_from : {T : Type 0} (slots : List (Option T)) (q : ℕ) (rest : List (Option T)) → ((j : ℕ) → item_at slots (q + j) ≡ item_at rest j) → AllThere slots (entries_from q rest)
-there_from slots q [] at = tt
-there_from slots q (None ∷ rest) at = there_from slots (q + 1) rest (λ j. let e : q + 1 + j ≡ q + suc j = omega arith in ap (item_at slots) e ∙ at (suc j))
-there_from {T} slots q (Some x ∷ rest) at = (ap (item_at slots) (sym (add-zero q)) ∙ at 0, there_from slots (q + 1) rest (λ j. let e : q + 1 + j ≡ q + suc j = omega arith in ap (item_at slots) e ∙ at (suc j)))
-
-pub entries_there : {T : Type 0} (slots : List (Option T)) → AllThere slots (entries slots)
-entries_there slots = there_from slots 0 slots (λ j. let e : 0 + j ≡ j = omega arith in ap (item_at slots) e)
-
 -- what stands at a place is among the items
 pub item_contained : {T : Type 0} (k : ℕ) (slots : List (Option T)) (t : ℕ) (x : T) → item_at slots t ≡ Some x → Contains (map (λ e. e.1) (entries_from k slots)) x
 item_contained k [] t x h = absurd cc

@@ -1,8 +1,8 @@
 //! One collection for all kinds of items.
-ghost use Rattle.std.specs.Prelude.{◌≡◌, ◌↔◌, [], None, Some, IsTrue, IsOkUnless, OnOk, count_by, is_some, length, slice_set};
+ghost use Rattle.std.specs.Prelude.{◌≡◌, ◌↔◌, [], None, Some, IsTrue, IsOkUnless, IfOk, OnOk, All, count_by, is_some, length, map, slice_set};
 ghost use Rattle.std.specs.Borrow.{sem};
 ghost use Rattle.std.specs.Iterator.{YieldsFirstBy, item_count};
-ghost use Rattle.walrus_base.specs.Arena.{HasRoom, IsLive, entries, item_at, items, kept_by};
+ghost use Rattle.walrus_base.specs.Arena.{HasRoom, IsLive, entries, item_at, items, kept_by, live_places};
 ghost use Rattle.walrus_base.specs.Id.{place};
 ghost use Rattle.walrus_base.specs.Marks.{is_marked};
 ghost use Rattle.walrus_parts.specs.Errors.{out_of_memory};
@@ -116,6 +116,15 @@ impl<K, T: Item> Items<K, T> {
         ItemEntries {
             rest: self.arena.iter(),
         }
+    }
+
+    /// The ids of the items, by rising place. Takes memory once; `Memory` is the only error.
+    pub fn ids(&self, alloc: Global) -> Result<Vec<Id<K>>>
+        ensures value { IfOk result (λ ids. map place ids.items ≡ live_places (held T.value self.now)) }
+        ensures live { IfOk result (λ ids. All (λ id. IsLive (held T.value self.now) (place id)) ids.items) }
+        ensures fails { IsOkUnless result out_of_memory }
+    {
+        Ok(self.arena.ids(alloc)?)
     }
 }
 

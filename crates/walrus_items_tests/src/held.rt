@@ -44,6 +44,14 @@ fn is_deleted(globals: &mut ModuleGlobals, id: GlobalId) -> bool {
     globals.len() == 1
 }
 
+// Whether these are the ids of all globals that are there.
+fn have_ids(alloc: Global, globals: &ModuleGlobals, wanted: &[GlobalId]) -> bool {
+    match globals.ids(alloc) {
+        Ok(ids) => ids.as_slice() == wanted,
+        Err(_) => false,
+    }
+}
+
 // Nothing is left where none is marked.
 fn lose_all(alloc: Global, globals: &mut ModuleGlobals) -> Result<(), Fail> {
     let marks = Marks::new(alloc, 2)?;
@@ -56,7 +64,13 @@ fn globals_are_held(rt: HostRuntime) -> Result<(), Fail> {
     let mut globals = ModuleGlobals::new(rt.alloc());
     let local = add_two(rt.alloc(), &mut globals)?;
     are_two(&globals)?;
+    let all = [first_id(rt.alloc()), local];
+    demand(have_ids(rt.alloc(), &globals, &all), "both ids")?;
     demand(becomes_mutable(&mut globals, local), "a global is changed")?;
     demand(is_deleted(&mut globals, local), "a global is deleted")?;
+    demand(
+        have_ids(rt.alloc(), &globals, &[first_id(rt.alloc())]),
+        "the id of the other",
+    )?;
     lose_all(rt.alloc(), &mut globals)
 }

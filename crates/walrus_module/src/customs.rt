@@ -1,10 +1,10 @@
 //! The custom sections of a module, each by its id.
 
-ghost use Rattle.std.specs.Prelude.{◌≡◌, ◌++◌, ◌∷◌, [], length, Some, None, IfOk, IsOkUnless, MatchResult, option_map, slice_set, option_and_then};
+ghost use Rattle.std.specs.Prelude.{◌≡◌, ◌++◌, ◌∷◌, [], length, map, All, Some, None, IfOk, IsOkUnless, MatchResult, option_map, slice_set, option_and_then};
 ghost use Rattle.std.specs.Option.{option_copied, option_copied_mut};
 ghost use Rattle.std.specs.Borrow.{sem};
 ghost use Rattle.std.specs.Iterator.{YieldsFirstBy, item_count};
-ghost use Rattle.walrus_base.specs.Arena.{item_at, entries};
+ghost use Rattle.walrus_base.specs.Arena.{IsLive, item_at, entries, live_places};
 ghost use Rattle.walrus_base.specs.Id.{place};
 ghost use Rattle.walrus_module.specs.Entry.{names_raw, raw_of};
 ghost use Rattle.walrus_parts.specs.Errors.{out_of_memory};
@@ -97,6 +97,15 @@ impl<S> ModuleCustomSections<S> {
         SectionIter {
             rest: self.arena.iter(),
         }
+    }
+
+    /// The ids of the sections, by rising place. Takes memory once; `Memory` is the only error.
+    pub fn ids(&self, alloc: Global) -> Result<Vec<UntypedCustomSectionId>>
+        ensures value { IfOk result (λ ids. map place ids.items ≡ live_places (sections self.now)) }
+        ensures live { IfOk result (λ ids. All (λ id. IsLive (sections self.now) (place id)) ids.items) }
+        ensures fails { IsOkUnless result out_of_memory }
+    {
+        Ok(self.arena.ids(alloc)?)
     }
 }
 

@@ -216,11 +216,7 @@ fn types_in_order(alloc: Global, types: &ModuleTypes) -> Result<Vec<TypeId>>
         ≡ map (λ e. e.0) (entries (type_slots types.now))) }
     ensures fails { IsOkUnless result out_of_memory }
 {
-    let mut ids = Vec::with_capacity(alloc, types.next_id().index())?;
-    for ty in types.iter() {
-        ids.push(ty.id())?;
-    }
-    Ok(ids)
+    Ok(types.ids(alloc)?)
 }
 
 // The element segments, by rising id.
@@ -229,24 +225,16 @@ fn elements_in_order(alloc: Global, segments: &ModuleElements) -> Result<Vec<Ele
         ≡ map (λ e. e.0) (entries (elements segments.now))) }
     ensures fails { IsOkUnless result out_of_memory }
 {
-    let mut order = Vec::with_capacity(alloc, segments.next_id().index())?;
-    for (id, _segment) in segments.iter_entries() {
-        order.push(id)?;
-    }
-    Ok(order)
+    segments.ids(alloc)
 }
 
 // The data segments, by rising id.
-fn data_in_order(alloc: Global, segments: &ModuleData) -> Result<Vec<DataId>>
+fn data_in_order(alloc: Global, data_: &ModuleData) -> Result<Vec<DataId>>
     ensures value { IfOk result (λ ids. map place ids.items
-        ≡ map (λ e. e.0) (entries (data_segments segments.now))) }
+        ≡ map (λ e. e.0) (entries (data_segments data_.now))) }
     ensures fails { IsOkUnless result out_of_memory }
 {
-    let mut ids = Vec::with_capacity(alloc, segments.next_id().index())?;
-    for (id, _segment) in segments.iter_entries() {
-        ids.push(id)?;
-    }
-    Ok(ids)
+    data_.ids(alloc)
 }
 
 // Whether there are more functions than indices.

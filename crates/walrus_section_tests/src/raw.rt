@@ -43,12 +43,25 @@ fn takes_boxed(customs: &mut ModuleCustomSections, id: UntypedCustomSectionId) -
     matches!(customs.delete(id), Some(SectionEntry::Boxed(_)))
 }
 
+// Whether these are the ids of all sections that are there.
+fn have_ids(
+    alloc: Global,
+    customs: &ModuleCustomSections,
+    wanted: &[UntypedCustomSectionId],
+) -> bool {
+    match customs.ids(alloc) {
+        Ok(ids) => ids.as_slice() == wanted,
+        Err(_) => false,
+    }
+}
+
 // Fails where a raw section isn't taken by its name, or the boxed one in front of it, which has the same, not by its id.
 fn take_raw_and_boxed(alloc: Global, customs: &mut ModuleCustomSections) -> Result<(), Fail> {
     let Some((boxed, _)) = customs.iter().next() else {
         return demand(false, "a boxed section");
     };
-    customs.add(raw_section(alloc, "s")?)?;
+    let raw = customs.add(raw_section(alloc, "s")?)?;
+    demand(have_ids(alloc, customs, &[boxed, raw]), "both ids")?;
     demand(takes_raw(customs, "s"), "the raw one, by its name")?;
     demand(takes_boxed(customs, boxed), "the boxed one, by its id")
 }

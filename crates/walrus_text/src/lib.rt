@@ -25,5 +25,5 @@ pub use limits::limits_of;
 pub use plain_code::PlainCode;
 pub use scan::ScanRoom;
 pub use text::Text;
-pub use walrus_bodies::{Arg, Args, Operator};
+pub use walrus_bodies::{Arg, Args, BlockType, Operator};
 pub use wasm_text::Limits;

@@ -1,8 +1,8 @@
 //! The locals of a module's functions.
-ghost use Rattle.std.specs.Prelude.{◌≡◌, ◌++◌, ◌∷◌, [], length, Some, None, IsTrue, ◌↔◌, MatchResult, count_by, is_some};
+ghost use Rattle.std.specs.Prelude.{◌≡◌, ◌++◌, ◌∷◌, [], length, map, All, Some, None, IsTrue, ◌↔◌, IfOk, MatchResult, count_by, is_some};
 ghost use Rattle.std.specs.Borrow.{sem};
 ghost use Rattle.std.specs.Iterator.{YieldsFirstRef, item_count};
-ghost use Rattle.walrus_base.specs.Arena.{item_at, IsLive, items};
+ghost use Rattle.walrus_base.specs.Arena.{item_at, IsLive, items, live_places};
 ghost use Rattle.walrus_base.specs.Id.{place};
 
 use crate::value::ValType;
@@ -126,6 +126,14 @@ impl ModuleLocals {
         LocalIter {
             rest: self.arena.iter(),
         }
+    }
+
+    /// The ids of the locals, by rising place. Takes memory once.
+    pub fn ids(&self, alloc: Global) -> Result<Vec<LocalId>, AllocError>
+        ensures value { IfOk result (λ ids. map place ids.items ≡ live_places (locals self.now)) }
+        ensures live { IfOk result (λ ids. All (λ id. IsLive (locals self.now) (place id)) ids.items) }
+    {
+        self.arena.ids(alloc)
     }
 }
 

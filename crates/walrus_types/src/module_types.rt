@@ -1,7 +1,7 @@
 //! The types of a module, by their ids.
-ghost use Rattle.std.specs.Prelude.{◌≡◌, ◌<◌, ◌≤◌, ◌++◌, [], ℕ, length, Some, IsTrue, ◌↔◌, MatchResult, MatchOption, IfOk, count_by, is_some, slice_set, map};
+ghost use Rattle.std.specs.Prelude.{◌≡◌, ◌<◌, ◌≤◌, ◌++◌, [], ℕ, length, Some, IsTrue, ◌↔◌, MatchResult, MatchOption, IfOk, All, count_by, is_some, slice_set, map};
 ghost use Rattle.std.specs.List.{range_with_len};
-ghost use Rattle.walrus_base.specs.Arena.{item_at, IsLive, entries, kept_by};
+ghost use Rattle.walrus_base.specs.Arena.{item_at, IsLive, entries, kept_by, live_places};
 ghost use Rattle.walrus_base.specs.Id.{place};
 ghost use Rattle.walrus_base.specs.Marks.{is_marked};
 ghost use Rattle.walrus_types.specs.Alone.{alone, IsIndexed, AreInOrder, AreNotNamed, StandsAt, StandsFirst, StandsNowhere, FoundOrAdded};
@@ -22,7 +22,7 @@ use crate::type_iter::TypeIter;
 use crate::types::Type;
 use crate::value::ValType;
 use std::alloc::{AllocError, Global};
-use walrus_base::{Id, Marks, TypeId, TypeKey, keep_marked};
+use walrus_base::{Id, Marks, TypeId, TypeKey, keep_marked, live_ids};
 
 /// The types of a module, by their ids, in groups (Structure > Types > Recursive Types).
 ///
@@ -326,5 +326,13 @@ impl ModuleTypes {
         ensures { types_left result ≡ entries (type_slots self.now) }
     {
         TypeIter::over(self.places.as_slice())
+    }
+
+    /// The ids of the types, by rising place. Takes memory once.
+    pub fn ids(&self, alloc: Global) -> Result<Vec<TypeId>, AllocError>
+        ensures value { IfOk result (λ ids. map place ids.items ≡ live_places (type_slots self.now)) }
+        ensures live { IfOk result (λ ids. All (λ id. IsLive (type_slots self.now) (place id)) ids.items) }
+    {
+        live_ids(alloc, self.places.as_slice())
     }
 }

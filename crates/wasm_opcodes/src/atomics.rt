@@ -1,0 +1,135 @@
+//! The opcodes of the byte FE and a number behind it (Instructions of the threads proposal).
+
+pub const MEMORY_ATOMIC_NOTIFY: u32 = 0xFE_0000;
+
+pub const MEMORY_ATOMIC_WAIT32: u32 = 0xFE_0001;
+
+pub const MEMORY_ATOMIC_WAIT64: u32 = 0xFE_0002;
+
+pub const ATOMIC_FENCE: u32 = 0xFE_0003;
+
+pub const I32_ATOMIC_LOAD: u32 = 0xFE_0010;
+
+pub const I64_ATOMIC_LOAD: u32 = 0xFE_0011;
+
+pub const I32_ATOMIC_LOAD8_U: u32 = 0xFE_0012;
+
+pub const I32_ATOMIC_LOAD16_U: u32 = 0xFE_0013;
+
+pub const I64_ATOMIC_LOAD8_U: u32 = 0xFE_0014;
+
+pub const I64_ATOMIC_LOAD16_U: u32 = 0xFE_0015;
+
+pub const I64_ATOMIC_LOAD32_U: u32 = 0xFE_0016;
+
+pub const I32_ATOMIC_STORE: u32 = 0xFE_0017;
+
+pub const I64_ATOMIC_STORE: u32 = 0xFE_0018;
+
+pub const I32_ATOMIC_STORE8: u32 = 0xFE_0019;
+
+pub const I32_ATOMIC_STORE16: u32 = 0xFE_001A;
+
+pub const I64_ATOMIC_STORE8: u32 = 0xFE_001B;
+
+pub const I64_ATOMIC_STORE16: u32 = 0xFE_001C;
+
+pub const I64_ATOMIC_STORE32: u32 = 0xFE_001D;
+
+pub const I32_ATOMIC_RMW_ADD: u32 = 0xFE_001E;
+
+pub const I64_ATOMIC_RMW_ADD: u32 = 0xFE_001F;
+
+pub const I32_ATOMIC_RMW8_ADD_U: u32 = 0xFE_0020;
+
+pub const I32_ATOMIC_RMW16_ADD_U: u32 = 0xFE_0021;
+
+pub const I64_ATOMIC_RMW8_ADD_U: u32 = 0xFE_0022;
+
+pub const I64_ATOMIC_RMW16_ADD_U: u32 = 0xFE_0023;
+
+pub const I64_ATOMIC_RMW32_ADD_U: u32 = 0xFE_0024;
+
+pub const I32_ATOMIC_RMW_SUB: u32 = 0xFE_0025;
+
+pub const I64_ATOMIC_RMW_SUB: u32 = 0xFE_0026;
+
+pub const I32_ATOMIC_RMW8_SUB_U: u32 = 0xFE_0027;
+
+pub const I32_ATOMIC_RMW16_SUB_U: u32 = 0xFE_0028;
+
+pub const I64_ATOMIC_RMW8_SUB_U: u32 = 0xFE_0029;
+
+pub const I64_ATOMIC_RMW16_SUB_U: u32 = 0xFE_002A;
+
+pub const I64_ATOMIC_RMW32_SUB_U: u32 = 0xFE_002B;
+
+pub const I32_ATOMIC_RMW_AND: u32 = 0xFE_002C;
+
+pub const I64_ATOMIC_RMW_AND: u32 = 0xFE_002D;
+
+pub const I32_ATOMIC_RMW8_AND_U: u32 = 0xFE_002E;
+
+pub const I32_ATOMIC_RMW16_AND_U: u32 = 0xFE_002F;
+
+pub const I64_ATOMIC_RMW8_AND_U: u32 = 0xFE_0030;
+
+pub const I64_ATOMIC_RMW16_AND_U: u32 = 0xFE_0031;
+
+pub const I64_ATOMIC_RMW32_AND_U: u32 = 0xFE_0032;
+
+pub const I32_ATOMIC_RMW_OR: u32 = 0xFE_0033;
+
+pub const I64_ATOMIC_RMW_OR: u32 = 0xFE_0034;
+
+pub const I32_ATOMIC_RMW8_OR_U: u32 = 0xFE_0035;
+
+pub const I32_ATOMIC_RMW16_OR_U: u32 = 0xFE_0036;
+
+pub const I64_ATOMIC_RMW8_OR_U: u32 = 0xFE_0037;
+
+pub const I64_ATOMIC_RMW16_OR_U: u32 = 0xFE_0038;
+
+pub const I64_ATOMIC_RMW32_OR_U: u32 = 0xFE_0039;
+
+pub const I32_ATOMIC_RMW_XOR: u32 = 0xFE_003A;
+
+pub const I64_ATOMIC_RMW_XOR: u32 = 0xFE_003B;
+
+pub const I32_ATOMIC_RMW8_XOR_U: u32 = 0xFE_003C;
+
+pub const I32_ATOMIC_RMW16_XOR_U: u32 = 0xFE_003D;
+
+pub const I64_ATOMIC_RMW8_XOR_U: u32 = 0xFE_003E;
+
+pub const I64_ATOMIC_RMW16_XOR_U: u32 = 0xFE_003F;
+
+pub const I64_ATOMIC_RMW32_XOR_U: u32 = 0xFE_0040;
+
+pub const I32_ATOMIC_RMW_XCHG: u32 = 0xFE_0041;
+
+pub const I64_ATOMIC_RMW_XCHG: u32 = 0xFE_0042;
+
+pub const I32_ATOMIC_RMW8_XCHG_U: u32 = 0xFE_0043;
+
+pub const I32_ATOMIC_RMW16_XCHG_U: u32 = 0xFE_0044;
+
+pub const I64_ATOMIC_RMW8_XCHG_U: u32 = 0xFE_0045;
+
+pub const I64_ATOMIC_RMW16_XCHG_U: u32 = 0xFE_0046;
+
+pub const I64_ATOMIC_RMW32_XCHG_U: u32 = 0xFE_0047;
+
+pub const I32_ATOMIC_RMW_CMPXCHG: u32 = 0xFE_0048;
+
+pub const I64_ATOMIC_RMW_CMPXCHG: u32 = 0xFE_0049;
+
+pub const I32_ATOMIC_RMW8_CMPXCHG_U: u32 = 0xFE_004A;
+
+pub const I32_ATOMIC_RMW16_CMPXCHG_U: u32 = 0xFE_004B;
+
+pub const I64_ATOMIC_RMW8_CMPXCHG_U: u32 = 0xFE_004C;
+
+pub const I64_ATOMIC_RMW16_CMPXCHG_U: u32 = 0xFE_004D;
+
+pub const I64_ATOMIC_RMW32_CMPXCHG_U: u32 = 0xFE_004E;
