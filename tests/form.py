@@ -28,7 +28,7 @@ WIDEST_CLAUSE = 110
 MOST_LINES_OF_THE_README = 100
 MOST_COLUMNS_OF_THE_README = 100
 # Ways down the crates, from each crate to each that it lists, and on from there.
-MOST_WAYS = 320_000
+MOST_WAYS = 332_000
 MOST_EDITS = 90
 MOST_CRATES_WITH_EDITS = 14
 # The dearest crates, since an edit costs by the size of its crate.

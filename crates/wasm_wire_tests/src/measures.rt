@@ -8,7 +8,7 @@ use wasm_wire::{Raw, RawBody, RawCustom, Section, measure, read_module};
 // Modules, and how many bytes each of their sections has with its id and its size, in hexadecimal: types, imports, functions, tables,
 // memories, tags, globals, exports, start, elements, data count, code, data (00 where there is none), and then the custom ones. The
 // lengths were taken from the bytes by a script of a few lines that steps over sections.
-const ROWS: [(&str, &str); 32] = [
+const ROWS: [(&str, &str); 34] = [
     (
         "00 61 73 6D 01 00 00 00",
         "00 00 00 00 00 00 00 00 00 00 00 00 00",
@@ -68,6 +68,14 @@ const ROWS: [(&str, &str); 32] = [
     (
         "00 61 73 6D 01 00 00 00 01 04 01 60 00 00 03 03 02 00 00 07 09 02 01 61 00 01 01 62 00 00 0A 0A 02 05 00 41 00 1A 0B 02 00 0B",
         "06 00 05 00 00 00 00 0B 00 00 00 0C 00",
+    ),
+    (
+        "00 61 73 6D 01 00 00 00 01 07 02 60 00 00 60 00 00 03 03 02 00 01 07 09 02 01 61 00 00 01 62 00 01 0A 07 02 02 00 0B 02 00 0B",
+        "09 00 05 00 00 00 00 0B 00 00 00 09 00",
+    ),
+    (
+        "00 61 73 6D 01 00 00 00 01 04 01 60 00 00 03 03 02 00 00 07 09 02 01 61 00 00 01 62 00 01 0A 07 02 02 00 0B 02 00 0B",
+        "06 00 05 00 00 00 00 0B 00 00 00 09 00",
     ),
     (
         "00 61 73 6D 01 00 00 00 01 04 01 60 00 00 03 02 01 00 07 05 01 01 66 00 00 0A 04 01 02 00 0B 00 0B 04 6E 61 6D 65 01 04 01 00 01 61",

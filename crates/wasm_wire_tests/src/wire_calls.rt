@@ -62,9 +62,15 @@ fn parts_are_written(rt: HostRuntime) -> Result<(), Fail> {
     demand(are(rt.alloc(), &writer.finish(), known), known)
 }
 
+fn takes(number: u32, bytes: usize) -> bool {
+    leb128_len(number) == bytes
+}
+
 #[test]
-fn a_length_of_a_number(_rt: HostRuntime) -> Result<(), Fail> {
-    demand(leb128_len(16384) == 3, "80 80 01")
+fn lengths_of_numbers(_rt: HostRuntime) -> Result<(), Fail> {
+    demand(takes(0, 1) && takes(127, 1), "one byte")?;
+    demand(takes(128, 2) && takes(16383, 2), "two bytes")?;
+    demand(takes(16384, 3), "80 80 01")
 }
 
 // Where the count and the bodies of the code section stand, when all in front of it is written.
