@@ -59,7 +59,7 @@ VALUE_TYPES = (I32, I64, F32, F64, V128)
 FUNCREF, NULLABLE = b"\x70", b"\x63"
 FUNCTION_TYPE, STRUCT, OPEN_SUBTYPE, GROUP = b"\x60", b"\x5F", b"\x50", b"\x4E"
 # Bytes of operators.
-UNREACHABLE, NOP, BLOCK, IF, ELSE, TRY, CATCH, END = b"\0", b"\1", b"\2", b"\4", b"\5", b"\6", b"\7", b"\x0B"
+UNREACHABLE, NOP, BLOCK, IF, ELSE, TRY, CATCH, CATCH_ALL, END = b"\0", b"\1", b"\2", b"\4", b"\5", b"\6", b"\7", b"\x19", b"\x0B"
 BR_TABLE, CALL, DROP, TYPED_SELECT, TRY_TABLE, LOCAL_GET, GLOBAL_GET = b"\x0E", b"\x10", b"\x1A", b"\x1C", b"\x1F", b"\x20", b"\x23"
 I32_CONST, I32_ADD, REF_NULL, REF_FUNC, V128_CONST, SHUFFLE = b"\x41", b"\x6A", b"\xD0", b"\xD2", b"\xFD\x0C", b"\xFD\x0D"
 NO_TYPE, CATCH_ALL_TO_0 = b"\x40", b"\2\0"
@@ -510,6 +510,24 @@ def parameters_kept(size):
 def handlers_wide(size):
     types = listed([PLAIN_TYPE, function_type(I32 * (size // 2))])
     return one_function(TRY + NO_TYPE + (CATCH + FIRST) * (size // 4) + END, types=types, tags=listed([b"\0\1"]))
+
+
+def same_body(operators, types, count, **between):
+    """Functions that all have these operators, and none of which is kept."""
+    code = repeated(count, body(operators))
+    return module(types=types, functions=repeated(count, FIRST), **between, code=code)
+
+
+@shape("many bodies that each catch one tag of many parameters", size=84 * KB)
+def handlers_bodies(size):
+    types = listed([PLAIN_TYPE, function_type(I32 * (size * 3 // 5))])
+    return same_body(TRY + NO_TYPE + CATCH + FIRST + END, types, size // 25, tags=listed([b"\0\1"]))
+
+
+@shape("many bodies that each catch all in a try of many results", size=84 * KB)
+def handlers_results(size):
+    types = listed([PLAIN_TYPE, function_type(b"", I32 * (size * 3 // 5))])
+    return same_body(TRY + b"\1" + CATCH_ALL + END, types, size // 20)
 
 
 @shape("tags of different types, each caught in each of as many tries of different types: all handlers differ", size=4 * KB, is_timed=False)

@@ -1,5 +1,5 @@
 -- Locations of operators: given ones, and places of the input.
-use Rattle.std.proofs.Common.{◌≡◌, ℕ, ◌+◌, ◌-◌, ◌^◌, inl, inr, List, [], ◌∷◌, length, min, Option, Some, None, Result, Ok, Err, IfOk, subst, arith}
+use Rattle.std.proofs.Common.{◌≡◌, ℕ, ◌+◌, ◌-◌, ◌^◌, inl, inr, List, [], ◌∷◌, length, min, Option, Some, None, Result, Ok, Err, IfOk, OnOk, subst, arith}
 use Rattle.walrus_code.specs.declared.error.IrError.{IrError}
 use Rattle.walrus_code.specs.declared.location.InstrLocId.{InstrLocId}
 use Rattle.walrus_text.specs.Function.{locations_of}
@@ -36,3 +36,8 @@ given (Some x) P place loc is = inl is
 -- and a place is, where bodies may be kept as they stand
 pub given_place : {X : Type 0} (texts : Option X) (x : X) → texts ≡ Some x → (P : ℕ → InstrLocId → Type 0) (place : ℕ) (loc : InstrLocId) → IsPlace place loc → Given texts P place loc
 given_place texts x some P place loc is = rw some (inr is)
+
+-- what holds anyway holds where nothing was refused
+pub on_any : {X E : Type 0} (result : Result X E) (P : Type 0) → P → OnOk result P
+on_any (Ok x) P is = is
+on_any (Err e) P is = tt

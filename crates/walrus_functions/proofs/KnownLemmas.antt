@@ -1,6 +1,7 @@
 -- What is known of the types of legacy exception handlers.
-use Rattle.std.proofs.Common.{◌≡◌, ℕ, zero, suc, ◌+◌, ◌<◌, Bool, true, false, cond, List, [], ◌∷◌, ◌++◌, ◌&&◌, length, Option, Some, None, option_map, option_and_then, refl, ap, ◌∙◌, sym, subst, arith, eqb-true, ◌⊎◌, ⊎_elim, inl, inr}
-use Rattle.std.specs.Prelude.{◌==◌, if◌then◌else◌}
+use Rattle.std.proofs.Common.{◌≡◌, ℕ, zero, suc, ◌+◌, ◌<◌, ◌≤◌, Bool, true, false, cond, List, [], ◌∷◌, ◌++◌, ◌&&◌, length, Option, Some, None, option_map, option_and_then, refl, ap, ◌∙◌, sym, subst, arith, eqb-true, ◌⊎◌, ⊎_elim, inl, inr}
+use Rattle.std.specs.Prelude.{◌==◌, nat_lt, if◌then◌else◌}
+use Rattle.std.proofs.lemmas.List.{length-append}
 use Rattle.std.specs.BTreeMap.{is_at}
 use Rattle.std.specs.Map.{lookup}
 use Rattle.std.specs.Option.{option_eq}
@@ -16,8 +17,8 @@ use Rattle.walrus_types.specs.TypeDef.{TypeDef}
 use Rattle.walrus_types.proofs.FunctionSame.{val_same}
 use Rattle.walrus_types.proofs.ShapesKept.{item_at-front}
 use Rattle.walrus_types.proofs.SlotLemmas.{item_at-append}
-use Rattle.walrus_functions.specs.Handlers.{block_results, caught_params, catch_all_type, catch_type, tag_params}
-use Rattle.walrus_functions.specs.Known.{AreKnown, IsFirst, IsNoted, Known, NotesOnly, id_at}
+use Rattle.walrus_functions.specs.Handlers.{block_results, caught_params, catch_all_type, catch_type, params_of, results_of, tag_params}
+use Rattle.walrus_functions.specs.Known.{AreKnown, IsFirst, IsKnown, IsNoted, Known, NotesOnly, are_below, block_is_below, id_at, is_below}
 use Rattle.walrus_functions.specs.ReadFunction.{Slots, AddsTypes, StaysInFront}
 use Rattle.walrus_functions.specs.Signatures.{first_place, given_by, handler_in, needed_by, pair_in, pair_of, pair_type, taken_by, try_block}
 use Rattle.walrus_functions.specs.declared.tag_and_try.TagAndTry.{TagAndTry}
@@ -113,15 +114,18 @@ noted_one C handler id old new are tells other = go (is_at ((order.ghosts).cmp h
     })
     go false e = inl (are other ∙ ap (λ (t : Bool). cond t (Some id) (id_at old other)) e)
 
+pub settled : (bound : ℕ) (handler : TagAndTry) (Tells : ℕ → Type 0) (old new : Known) → are_below bound (pair_of handler) ≡ true → NotesOnly Tells handler old new → NotesOnly (λ p. (are_below bound (pair_of handler) ≡ true) × Tells p) handler old new
+settled bound handler Tells old new below notes = noted_as (λ p t. (below, t)) handler old new notes
+
 found_first : (f : FunctionType) (old new : List (Option TypeDef)) (old_names new_names : List (Option (Option (List ℕ)))) (p next : ℕ) → FoundOrAdded f old new old_names new_names p → next ≡ length old → p < next → StandsFirst f old p
 found_first f old new old_names new_names p next (Found first same names) at below = first
 found_first f old new old_names new_names p next (Added none end slots names) at below = absurd (let e : p ≡ length old = end in omega (arith, e, at, below))
 
 -- an id that is noted where it was found
-pub noted_first : (f : FunctionType) (old new : List (Option TypeDef)) (old_names new_names : List (Option (Option (List ℕ)))) (p next : ℕ) → FoundOrAdded f old new old_names new_names p → next ≡ length old → (handler : TagAndTry) (known known_after : Known)
-    → NotesOnly (λ (q : ℕ). (q ≡ p) × (q < next)) handler known known_after → NotesOnly (StandsFirst f old) handler known known_after
-noted_first f old new old_names new_names p next one at handler known known_after notes =
-    noted_as (λ q t. let below : p < next = subst (λ (r : ℕ). r < next) t.0 t.1 in subst (λ (r : ℕ). StandsFirst f old r) (sym t.0) (found_first f old new old_names new_names p next one at below)) handler known known_after notes
+pub noted_first : (bound : ℕ) (f : FunctionType) (old new : List (Option TypeDef)) (old_names new_names : List (Option (Option (List ℕ)))) (p next : ℕ) → FoundOrAdded f old new old_names new_names p → next ≡ length old → (handler : TagAndTry) (known known_after : Known)
+    → NotesOnly (λ (q : ℕ). (are_below bound (pair_of handler) ≡ true) × ((q ≡ p) × (q < next))) handler known known_after → NotesOnly (λ (q : ℕ). (are_below bound (pair_of handler) ≡ true) × StandsFirst f old q) handler known known_after
+noted_first bound f old new old_names new_names p next one at handler known known_after notes =
+    noted_as (λ q t. let below : p < next = subst (λ (r : ℕ). r < next) t.1.0 t.1.1 in (t.0, subst (λ (r : ℕ). StandsFirst f old r) (sym t.1.0) (found_first f old new old_names new_names p next one at below))) handler known known_after notes
 
 -- ---- what is known
 
@@ -140,29 +144,88 @@ stands_still f old new p stays first =
           (item_at-append old stays.0 q (alone q f) (ap (λ (slots : List (Option TypeDef)). item_at slots q) (sym under) ∙ there.0)),
     )
 
-pub known_none : (types : ℕ → Option TypeDef) (slots : List (Option TypeDef)) (known : Known) → known.entries ≡ [] → AreKnown types slots known
-known_none types slots known none = λ handler id at.
+pub known_none : (bound : ℕ) (types : ℕ → Option TypeDef) (slots : List (Option TypeDef)) (known : Known) → known.entries ≡ [] → AreKnown bound types slots known
+known_none bound types slots known none = λ handler id at.
     let nothing : id_at known handler ≡ None = ap (λ (es : List (TagAndTry × Id TypeKey)). lookup (is_at ((order.ghosts).cmp handler)) es) none in
     let wrong : None ≡ Some id = sym nothing ∙ at in
     absurd cc
 
-known_still : (types : ℕ → Option TypeDef) (old new : List (Option TypeDef)) (known : Known) → StaysInFront old new → AreKnown types old known → AreKnown types new known
-known_still types old new known stays are = λ handler id at.
-    let first = are handler id at in
-    (first.0, (first.1.0, stands_still first.0 old new (place id) stays first.1.1))
+known_still : (bound : ℕ) (types : ℕ → Option TypeDef) (old new : List (Option TypeDef)) (known : Known) → StaysInFront old new → AreKnown bound types old known → AreKnown bound types new known
+known_still bound types old new known stays are = λ handler id at.
+    let first = (are handler id at).1 in
+    ((are handler id at).0, (first.0, (first.1.0, stands_still first.0 old new (place id) stays first.1.1)))
 
-known_more : (types : ℕ → Option TypeDef) (slots : List (Option TypeDef)) (known known_after : Known) (handler : TagAndTry) → AreKnown types slots known → NotesOnly (IsFirst types slots (pair_of handler)) handler known known_after → AreKnown types slots known_after
-known_more types slots known known_after handler are notes = λ other id at. ⊎_elim (λ same. are other id (sym same ∙ at))
+known_more : (bound : ℕ) (types : ℕ → Option TypeDef) (slots : List (Option TypeDef)) (known known_after : Known) (handler : TagAndTry) → AreKnown bound types slots known → NotesOnly (IsKnown bound types slots (pair_of handler)) handler known known_after → AreKnown bound types slots known_after
+known_more bound types slots known known_after handler are notes = λ other id at. ⊎_elim (λ same. are other id (sym same ∙ at))
     (λ n.
     let one : n.id ≡ id = some_same n.id id (sym n.is ∙ at) in
-    subst (λ (pair : Option ℕ × BlockType). IsFirst types slots pair (place id)) n.same (subst (λ (i : Id TypeKey). IsFirst types slots (pair_of handler) (place i)) one n.tells))
+    subst (λ (pair : Option ℕ × BlockType). IsKnown bound types slots pair (place id)) n.same (subst (λ (i : Id TypeKey). IsKnown bound types slots (pair_of handler) (place i)) one n.tells))
     (notes other)
 
 -- a type was found, and noted, or it was added
-pub known_next : (types : ℕ → Option TypeDef) (old new : List (Option TypeDef)) (known known_after : Known) (handler : TagAndTry) (f : FunctionType) → AreKnown types old known → pair_type types (pair_of handler) ≡ f ∷ [] → NotesOnly (StandsFirst f old) handler known known_after → StaysInFront old new → AreKnown types new known_after
-known_next types old new known known_after handler f are is notes stays =
-    known_still types old new known_after stays (known_more types old known known_after handler are (noted_as (λ p first. (f, (is, first))) handler known known_after notes))
+pub known_next : (bound : ℕ) (types : ℕ → Option TypeDef) (old new : List (Option TypeDef)) (known known_after : Known) (handler : TagAndTry) (f : FunctionType) → AreKnown bound types old known → pair_type types (pair_of handler) ≡ f ∷ [] → NotesOnly (λ p. (are_below bound (pair_of handler) ≡ true) × StandsFirst f old p) handler known known_after → StaysInFront old new → AreKnown bound types new known_after
+known_next bound types old new known known_after handler f are is notes stays =
+    known_still bound types old new known_after stays (known_more bound types old known known_after handler are (noted_as (λ p told. (told.0, (f, (is, told.1)))) handler known known_after notes))
 
 -- a type that is known is found
 pub known_adds : (types : ℕ → Option TypeDef) (s : Slots) (pair : Option ℕ × BlockType) (p : ℕ) → IsFirst types s.types pair p → AddsTypes (pair_type types pair) s s (p ∷ [])
 known_adds types s pair p first = subst (λ (fs : List FunctionType). AddsTypes fs s s (p ∷ [])) (sym first.1.0) (adds_one first.0 s s p (Found first.1.1 refl refl))
+
+-- ---- from one body to the next: what stands below a bound is the same where types come behind
+
+same_in_front : {T : Type 0} (slots more : List (Option T)) (p : ℕ) → p < length slots → item_at (slots ++ more) p ≡ item_at slots p
+same_in_front [] more p below = absurd (omega (arith, below))
+same_in_front (s ∷ slots) more zero below = refl
+same_in_front (s ∷ slots) more (suc p) below = same_in_front slots more p (let left : suc p < suc (length slots) = below in omega (arith, left))
+
+below_is : (p n : ℕ) → nat_lt p n ≡ true → p < n
+below_is p n below = grind arith
+
+taken_later : (slots more : List (Option TypeDef)) (t : Option ℕ) → is_below (length slots) t ≡ true → taken_by (item_at (slots ++ more)) t ≡ taken_by (item_at slots) t
+taken_later slots more None below = refl
+taken_later slots more (Some p) below = ap params_of (same_in_front slots more p (below_is p (length slots) below))
+
+given_later : (slots more : List (Option TypeDef)) (b : BlockType) → block_is_below (length slots) b ≡ true → given_by (item_at (slots ++ more)) b ≡ given_by (item_at slots) b
+given_later slots more NoResult below = refl
+given_later slots more (OneResult v) below = refl
+given_later slots more (OfType p) below = ap results_of (same_in_front slots more p (below_is p (length slots) below))
+
+type_later : (slots more : List (Option TypeDef)) (pair : Option ℕ × BlockType) → are_below (length slots) pair ≡ true → pair_type (item_at (slots ++ more)) pair ≡ pair_type (item_at slots) pair
+type_later slots more pair below =
+    let parts = and_parts _ _ below in
+    ap (λ (p : List (ValType ℕ)). catch_type p (given_by (item_at (slots ++ more)) pair.1)) (taken_later slots more pair.0 parts.0)
+    ∙ ap (λ (r : List (ValType ℕ)). catch_type (taken_by (item_at slots) pair.0) r) (given_later slots more pair.1 parts.1)
+
+lower : (p m n : ℕ) → m ≤ n → nat_lt p m ≡ true → nat_lt p n ≡ true
+lower p m n le below = grind arith
+
+is_below_later : (m n : ℕ) (t : Option ℕ) → m ≤ n → is_below m t ≡ true → is_below n t ≡ true
+is_below_later m n None le below = refl
+is_below_later m n (Some p) le below = lower p m n le below
+
+block_below_later : (m n : ℕ) (b : BlockType) → m ≤ n → block_is_below m b ≡ true → block_is_below n b ≡ true
+block_below_later m n NoResult le below = refl
+block_below_later m n (OneResult v) le below = refl
+block_below_later m n (OfType p) le below = lower p m n le below
+
+both_true : (a b : Bool) → a ≡ true → b ≡ true → (a && b) ≡ true
+both_true a b p q = cc
+
+below_later : (m n : ℕ) (pair : Option ℕ × BlockType) → m ≤ n → are_below m pair ≡ true → are_below n pair ≡ true
+below_later m n pair le below =
+    let parts = and_parts _ _ below in
+    both_true _ _ (is_below_later m n pair.0 le parts.0) (block_below_later m n pair.1 le parts.1)
+
+-- what was known at the begin of a body is known of all the types behind it
+pub known_later : (old new : List (Option TypeDef)) (known : Known) → StaysInFront old new → AreKnown (length old) (item_at old) new known → AreKnown (length new) (item_at new) new known
+known_later old new known stays are = λ handler id at.
+    let one = are handler id at in
+    let under : new ≡ old ++ stays.0 = stays.1 in
+    let count : length new ≡ length old + length stays.0 = ap length under ∙ length-append old stays.0 in
+    let more : length old ≤ length new = omega (arith, count) in
+    let same : pair_type (item_at new) (pair_of handler) ≡ pair_type (item_at old) (pair_of handler) = ap (λ (slots : List (Option TypeDef)). pair_type (item_at slots) (pair_of handler)) under ∙ type_later old stays.0 (pair_of handler) one.0 in
+    (below_later (length old) (length new) (pair_of handler) more one.0, (one.1.0, (same ∙ one.1.1.0, one.1.1.1)))
+
+-- two ways to say what types indices name
+pub bound_known : (bound other : ℕ) (types under : ℕ → Option TypeDef) (slots : List (Option TypeDef)) (known : Known) → bound ≡ other → types ≡ under → AreKnown other under slots known → AreKnown bound types slots known
+bound_known bound other types under slots known is same are = subst (λ (b : ℕ). AreKnown b types slots known) (sym is) (subst (λ (ts : ℕ → Option TypeDef). AreKnown other ts slots known) (sym same) are)

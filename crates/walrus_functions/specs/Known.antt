@@ -1,15 +1,17 @@
 -- What is known of the types of legacy exception handlers, by the types of their tags and of their tries.
 use Rattle.std.specs.BTreeMap.{BTreeMap, get}
-use Rattle.std.specs.Prelude.{◌≡◌, ◌⊎◌, ℕ, List, [], ◌∷◌, ◌++◌, map, Option, Some}
+use Rattle.std.specs.Prelude.{◌≡◌, ◌⊎◌, ℕ, Bool, true, ◌&&◌, List, [], ◌∷◌, ◌++◌, length, map, Option, Some, None, nat_lt}
+use Rattle.walrus_base.specs.Arena.{item_at}
 use Rattle.walrus_base.specs.Id.{place}
 use Rattle.walrus_base.specs.declared.id.Id.{Id}
 use Rattle.walrus_base.specs.declared.keys.TypeKey.{TypeKey}
 use Rattle.walrus_types.specs.Alone.{StandsFirst}
 use Rattle.walrus_types.specs.Composite.{FunctionType}
-use Rattle.walrus_types.specs.Operators.{BlockType}
+use Rattle.walrus_types.specs.Operators.{BlockType, NoResult, OneResult, OfType}
 use Rattle.walrus_types.specs.TypeDef.{TypeDef}
 use Rattle.walrus_functions.specs.ReadFunction.{Slots, AddsTypes}
 use Rattle.walrus_functions.specs.Signatures.{pair_of, pair_type}
+use Rattle.walrus_functions.specs.declared.handlers.HandlerTypes.{HandlerTypes}
 use Rattle.walrus_functions.specs.declared.tag_and_try.TagAndTry.{TagAndTry}
 use Rattle.walrus_functions.specs.contracts.tag_and_try.TagAndTryOrd.TheImpl as order
 
@@ -26,9 +28,30 @@ id_at known handler = get (order.ghosts).cmp known handler
 abbrev pub IsFirst : (types : ℕ → Option TypeDef) (slots : List (Option TypeDef)) → Option ℕ × BlockType → ℕ → Type 0
 IsFirst types slots pair p = (f : FunctionType) × ((pair_type types pair ≡ f ∷ []) × StandsFirst f slots p)
 
--- each id that is known is that of the first type that its handlers need
-abbrev pub AreKnown : (types : ℕ → Option TypeDef) (slots : List (Option TypeDef)) → Known → Type 0
-AreKnown types slots known = (handler : TagAndTry) (id : Id TypeKey) → id_at known handler ≡ Some id → IsFirst types slots (pair_of handler) (place id)
+-- the types that a tag and a try name stand below a bound
+abbrev pub is_below : ℕ → Option ℕ → Bool
+is_below bound None = true
+is_below bound (Some p) = nat_lt p bound
+
+abbrev pub block_is_below : ℕ → BlockType → Bool
+block_is_below bound NoResult = true
+block_is_below bound (OneResult v) = true
+block_is_below bound (OfType p) = nat_lt p bound
+
+abbrev pub are_below : ℕ → Option ℕ × BlockType → Bool
+are_below bound pair = is_below bound pair.0 && block_is_below bound pair.1
+
+-- the same of a handler that names types below a bound
+abbrev pub IsKnown : ℕ → (types : ℕ → Option TypeDef) (slots : List (Option TypeDef)) → Option ℕ × BlockType → ℕ → Type 0
+IsKnown bound types slots pair p = (are_below bound pair ≡ true) × IsFirst types slots pair p
+
+-- each id that is known is such a one
+abbrev pub AreKnown : ℕ → (types : ℕ → Option TypeDef) (slots : List (Option TypeDef)) → Known → Type 0
+AreKnown bound types slots known = (handler : TagAndTry) (id : Id TypeKey) → id_at known handler ≡ Some id → IsKnown bound types slots (pair_of handler) (place id)
+
+-- what is known is so of these types
+unfoldable pub IsOfTypes : List (Option TypeDef) → HandlerTypes → Type 0
+IsOfTypes slots handlers = AreKnown (length slots) (item_at slots) slots handlers.known
 
 -- an id was found for a handler, of which this is told, and is known of one of the same tag and try
 pub record IsNoted (Tells : ℕ → Type 0) (handler other : TagAndTry) (known : Option (Id TypeKey)) : Type 0 where

@@ -1,15 +1,16 @@
 //! The function types of legacy exception handlers (Instructions > Control Instructions of the legacy exception handling proposal).
-ghost use Rattle.std.specs.Prelude.{◌≡◌, ◌<◌, ◌∷◌, [], IfOk, length, map, option_and_then, option_map, option_to_list};
+ghost use Rattle.std.specs.Prelude.{◌≡◌, ◌<◌, ◌∷◌, [], List, Option, true, IfOk, OnOk, length, map, option_and_then, option_map, option_to_list};
 ghost use Rattle.std.specs.List.{list_any};
 ghost use Rattle.walrus_base.specs.Arena.{item_at};
 ghost use Rattle.walrus_base.specs.Id.{place};
 ghost use Rattle.walrus_types.specs.Alone.{StandsFirst};
 ghost use Rattle.walrus_types.specs.Composite.{function_type};
 ghost use Rattle.walrus_types.specs.ModuleTypes.{type_slots};
+ghost use Rattle.walrus_types.specs.TypeDef.{TypeDef};
 ghost use Rattle.walrus_types.specs.Value.{val_type};
 ghost use Rattle.walrus_code.specs.Code.{arg_of, block_of, op_of, ops_of};
 ghost use Rattle.walrus_functions.specs.Handlers.{begins_handler, params_of, results_of, catch_type, handlers_of};
-ghost use Rattle.walrus_functions.specs.Known.{AddsIds, AreKnown, NotesOnly};
+ghost use Rattle.walrus_functions.specs.Known.{AddsIds, AreKnown, IsOfTypes, NotesOnly, are_below};
 ghost use Rattle.walrus_functions.specs.ReadFunction.{AddsTypes, StaysInFront};
 ghost use Rattle.walrus_functions.specs.Signatures.{IsFunctionOf, arg_place, first_place, given_by, needed_by, pair_in, pair_of, pair_type, slots_of, tag_places, taken_by, try_block, types_in, types_below};
 
@@ -22,6 +23,26 @@ use walrus_base::TypeId;
 use walrus_code::{Arg, BlockType, Operator};
 use walrus_types::{FunctionType, ModuleTypes, ValType};
 use wasm_opcodes::one_byte::{CATCH, CATCH_ALL};
+
+/// The types of legacy exception handlers that were found: their ids, by the types of their tags and of their tries.
+///
+/// Where many bodies of a module are read with one of these, the type of each pair is looked up once or twice, whatever their number. What it
+/// knows is so of the types that it was used with, and stays so as types are added behind them.
+#[derive(Drop)]
+pub struct HandlerTypes {
+    known: BTreeMap<TagAndTry, TypeId>,
+}
+
+impl HandlerTypes {
+    /// Nothing is known yet.
+    pub fn new(alloc: Global) -> HandlerTypes
+        ensures { (slots : List (Option TypeDef)) → IsOfTypes slots result }
+    {
+        HandlerTypes {
+            known: BTreeMap::new(alloc),
+        }
+    }
+}
 
 /// The types of functions at the places below a bound.
 #[derive(Clone, Copy)]
@@ -194,23 +215,41 @@ fn note_found(
     Ok(())
 }
 
+// The same, if the types that the handler names stand below the bound: where none stands yet, one that is added may ask for another.
+fn note_settled(
+    known: &mut BTreeMap<TagAndTry, TypeId>,
+    bound: usize,
+    handler: TagAndTry,
+    id: TypeId,
+    next: TypeId,
+) -> Result<(), AllocError>
+    ensures { IfOk result (λ _. NotesOnly (λ p. (are_below bound (pair_of handler) ≡ true)
+        × ((p ≡ place id) × (p < place next))) handler known.old known.new) }
+{
+    if handler.is_below(bound) {
+        note_found(known, handler, id, next)?;
+    }
+    Ok(())
+}
+
 // Finds or adds the type that a handler needs, and puts its id behind the others.
 fn add_type(
     types: &mut ModuleTypes,
     needed: &FunctionType,
+    bound: usize,
     handler: TagAndTry,
     known: &mut BTreeMap<TagAndTry, TypeId>,
     ids: &mut Vec<TypeId>,
 ) -> Result<(), AllocError>
     ensures added { IfOk result (λ _. AddsIds (function_type needed.now ∷ []) (slots_of types.old)
         (slots_of types.new) ids.old.items ids.new.items) }
-    ensures noted { IfOk result (λ _. NotesOnly (StandsFirst (function_type needed.now)
-        (type_slots types.old)) handler known.old known.new) }
+    ensures noted { IfOk result (λ _. NotesOnly (λ p. (are_below bound (pair_of handler) ≡ true)
+        × StandsFirst (function_type needed.now) (type_slots types.old) p) handler known.old known.new) }
     ensures stays { StaysInFront (type_slots types.old) (type_slots types.new) }
 {
     let next = types.next_id();
     let id = types.add(needed.params(), needed.results())?;
-    note_found(known, handler, id, next)?;
+    note_settled(known, bound, handler, id, next)?;
     ids.push(id)?;
     Ok(())
 }
@@ -224,17 +263,17 @@ fn add_unknown(
     known: &mut BTreeMap<TagAndTry, TypeId>,
     ids: &mut Vec<TypeId>,
 ) -> Result<(), AllocError>
-    requires { AreKnown (types_below bound (type_slots types.old)) (type_slots types.old) known.old }
+    requires { AreKnown bound (types_below bound (type_slots types.old)) (type_slots types.old) known.old }
     ensures added { IfOk result (λ _. AddsIds (pair_type (types_below bound (type_slots types.old))
         (pair_of handler)) (slots_of types.old) (slots_of types.new) ids.old.items ids.new.items) }
-    ensures kept { IfOk result (λ _. AreKnown (types_below bound (type_slots types.old))
+    ensures kept { IfOk result (λ _. AreKnown bound (types_below bound (type_slots types.old))
         (type_slots types.new) known.new) }
     ensures stays { StaysInFront (type_slots types.old) (type_slots types.new) }
 {
     let signatures = Signatures { types, bound };
     match signatures.needed(alloc, &handler)? {
         Some(needed) => {
-            add_type(types, &needed, handler, known, ids)?;
+            add_type(types, &needed, bound, handler, known, ids)?;
             Ok(())
         }
         None => Ok(()),
@@ -251,10 +290,10 @@ fn add_needed(
     known: &mut BTreeMap<TagAndTry, TypeId>,
     ids: &mut Vec<TypeId>,
 ) -> Result<(), AllocError>
-    requires { AreKnown (types_below bound (type_slots types.old)) (type_slots types.old) known.old }
+    requires { AreKnown bound (types_below bound (type_slots types.old)) (type_slots types.old) known.old }
     ensures added { IfOk result (λ _. AddsIds (needed_by (types_below bound (type_slots types.old))
         (option_map pair_of begun)) (slots_of types.old) (slots_of types.new) ids.old.items ids.new.items) }
-    ensures kept { IfOk result (λ _. AreKnown (types_below bound (type_slots types.old))
+    ensures kept { IfOk result (λ _. AreKnown bound (types_below bound (type_slots types.old))
         (type_slots types.new) known.new) }
     ensures stays { StaysInFront (type_slots types.old) (type_slots types.new) }
 {
@@ -277,17 +316,19 @@ fn has_catch(operators: &[Operator]) -> bool
     operators.iter().any(|o| o.op == CATCH || o.op == CATCH_ALL)
 }
 
-// The types of the legacy exception handlers of a body, in order: each is found among the types, or added behind them. The type of each pair of a
-// tag's type and a try's is found once.
+// The types of the legacy exception handlers of a body, in order: each is known, or found among the types, or added behind them.
 pub(crate) fn add_handler_types(
     alloc: Global,
     types: &mut ModuleTypes,
     tag_types: &[TypeId],
     operators: &[Operator],
+    handlers: &mut HandlerTypes,
 ) -> Result<Vec<TypeId>, AllocError>
+    requires { IsOfTypes (type_slots types.old) handlers.old }
     ensures added { IfOk result
         (λ ids. AddsTypes (handlers_of (item_at (type_slots types.old)) (tag_places tag_types.now)
         (ops_of operators.now)) (slots_of types.old) (slots_of types.new) (map place ids.items)) }
+    ensures kept { OnOk result (IsOfTypes (type_slots types.new) handlers.new) }
     ensures stays { StaysInFront (type_slots types.old) (type_slots types.new) }
 {
     if !has_catch(operators) {
@@ -295,12 +336,11 @@ pub(crate) fn add_handler_types(
     }
     let bound = count_places(alloc, types)?;
     let mut blocks = OpenBlocks::new(alloc)?;
-    let mut known = BTreeMap::new(alloc);
     let mut ids = Vec::new(alloc);
     for operator in operators {
         let block = blocks.innermost_try();
         let handler = handler_begun(tag_types, block, operator);
-        add_needed(alloc, types, bound, handler, &mut known, &mut ids)?;
+        add_needed(alloc, types, bound, handler, &mut handlers.known, &mut ids)?;
         blocks.step(operator)?;
     }
     Ok(ids)

@@ -21,9 +21,10 @@ mod taken;
 pub use append::{AppendedBody, append_body};
 pub use code::likely_length;
 pub use emit::{EmittedBody, emit_body, emit_body_with};
+pub use handlers::HandlerTypes;
 pub use law::{bodies_read_once, declared_in_one_order, locals_move, unwritable_is_ill_formed};
 pub use plain::scan_body;
-pub use read::{add_locals, read_body};
+pub use read::{add_locals, read_body, read_body_with};
 pub use walrus_bodies::Features;
 pub use walrus_code::{
     Arg, Args, BlockType, IdsToIndices, IndexSpace, IndicesToIds, InstrLocId, IrError, ItemId,

@@ -1,5 +1,5 @@
 //! Reading a whole function (Binary Format > Modules > Code Section).
-ghost use Rattle.std.specs.Prelude.{◌≡◌, true, IfOk, IfSome};
+ghost use Rattle.std.specs.Prelude.{◌≡◌, true, IfOk, IfSome, OnOk};
 ghost use Rattle.std.specs.Fn.{FnReturnsAt};
 ghost use Rattle.walrus_base.specs.Id.{place};
 ghost use Rattle.walrus_types.specs.Locals.{locals};
@@ -11,10 +11,11 @@ ghost use Rattle.walrus_bodies.specs.BodyRead.{AddsLocals, BodyLocated};
 ghost use Rattle.walrus_bodies.specs.FunctionTypes.{is_function_at};
 ghost use Rattle.walrus_text.specs.PlainCode.{limits_in};
 ghost use Rattle.walrus_text.specs.Scanned.{AreInPlace};
+ghost use Rattle.walrus_functions.specs.Known.{IsOfTypes};
 ghost use Rattle.walrus_functions.specs.ReadFunction.{Given, ReadsFunction, StaysInFront};
 ghost use Rattle.walrus_functions.specs.Signatures.{slots_of, tag_places};
 
-use crate::handlers::add_handler_types;
+use crate::handlers::{HandlerTypes, add_handler_types};
 use crate::plain::{find_plain, take_plain};
 use std::alloc::{AllocError, Global};
 use std::rc::Rc;
@@ -62,6 +63,54 @@ pub fn read_body<L: Fn(&usize) -> InstrLocId>(
     ensures types_stay { StaysInFront (type_slots types.old) (type_slots types.new) }
     ensures locals_stay { StaysInFront (locals module_locals.old) (locals module_locals.new) }
 {
+    let mut handlers = HandlerTypes::new(alloc);
+    read_body_with(
+        alloc,
+        bytes,
+        start,
+        features,
+        ty,
+        tag_types,
+        indices,
+        types,
+        module_locals,
+        locate,
+        texts,
+        number,
+        &mut handlers,
+    )
+}
+
+/// The same, with what is known of the types of handlers from the bodies that were read before, and what is known behind it. Where many bodies have
+/// handlers of the same tags and tries, each type is looked up once or twice, and not once a body. Refused, nothing is told of what is known.
+pub fn read_body_with<L: Fn(&usize) -> InstrLocId>(
+    alloc: Global,
+    bytes: &[u8],
+    start: usize,
+    features: &Features,
+    ty: TypeId,
+    tag_types: &[TypeId],
+    indices: &IndicesToIds,
+    types: &mut ModuleTypes,
+    module_locals: &mut ModuleLocals,
+    locate: &L,
+    texts: &Option<Rc<PlainCode>>,
+    number: u32,
+    handlers: &mut HandlerTypes,
+) -> Result<LocalFunction, IrError>
+    requires typed { is_function_at types.old (place ty) ≡ true }
+    requires callable { L.IsAlwaysCallable locate.now }
+    requires in_place { IfSome texts.now (λ code. AreInPlace (limits_in code.value) (ids_at indices.now)) }
+    requires known { IsOfTypes (type_slots types.old) handlers.old }
+    ensures read { ReadsFunction (context (ids_at indices.now) (is_function_at types.old) features.now)
+        (tag_places tag_types.now) (place ty) (slots_of types.old) (slots_of types.new)
+        (locals module_locals.old) (locals module_locals.new) bytes.now result }
+    ensures located { IfOk result (λ f. BodyLocated (Given texts.now (FnReturnsAt L.Fn locate.now)) start
+        bytes.now (locations_of f)) }
+    ensures known { OnOk result (IsOfTypes (type_slots types.new) handlers.new) }
+    ensures types_stay { StaysInFront (type_slots types.old) (type_slots types.new) }
+    ensures locals_stay { StaysInFront (locals module_locals.old) (locals module_locals.new) }
+{
     let params = types.get(ty).params().len();
     let first = module_locals.next_id().index();
     let found = find_plain(alloc, bytes, start, texts, number, params, first, types)?;
@@ -79,6 +128,7 @@ pub fn read_body<L: Fn(&usize) -> InstrLocId>(
         types,
         module_locals,
         locate,
+        handlers,
     )
 }
 
@@ -94,14 +144,17 @@ fn read_list<L: Fn(&usize) -> InstrLocId>(
     types: &mut ModuleTypes,
     module_locals: &mut ModuleLocals,
     locate: &L,
+    handlers: &mut HandlerTypes,
 ) -> Result<LocalFunction, IrError>
     requires typed { is_function_at types.old (place ty) ≡ true }
     requires callable { L.IsAlwaysCallable locate.now }
+    requires known { IsOfTypes (type_slots types.old) handlers.old }
     ensures read { ReadsFunction (context (ids_at indices.now) (is_function_at types.old) features.now)
         (tag_places tag_types.now) (place ty) (slots_of types.old) (slots_of types.new)
         (locals module_locals.old) (locals module_locals.new) bytes.now result }
     ensures located { IfOk result (λ f. BodyLocated (FnReturnsAt L.Fn locate.now) start bytes.now
         (locations_of f)) }
+    ensures known { OnOk result (IsOfTypes (type_slots types.new) handlers.new) }
     ensures types_stay { StaysInFront (type_slots types.old) (type_slots types.new) }
     ensures locals_stay { StaysInFront (locals module_locals.old) (locals module_locals.new) }
 {
@@ -117,7 +170,13 @@ fn read_list<L: Fn(&usize) -> InstrLocId>(
         module_locals,
         locate,
     )?;
-    let handler_types = add_handler_types(alloc, types, tag_types, body.operators.as_slice())?;
+    let handler_types = add_handler_types(
+        alloc,
+        types,
+        tag_types,
+        body.operators.as_slice(),
+        handlers,
+    )?;
     let mut function = LocalFunction::new(alloc, ty, args, body.operators, None)?;
     function.set_handler_types(alloc, handler_types)?;
     Ok(function)

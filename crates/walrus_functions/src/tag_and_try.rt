@@ -1,4 +1,7 @@
 //! What the types of legacy exception handlers are made of (Instructions > Control Instructions of the legacy exception handling proposal).
+ghost use Rattle.std.specs.Prelude.{◌≡◌, option_map};
+ghost use Rattle.walrus_base.specs.Id.{place};
+ghost use Rattle.walrus_functions.specs.Known.{is_below};
 
 use walrus_base::TypeId;
 use walrus_code::BlockType;
@@ -18,6 +21,7 @@ pub(crate) enum TryType {
 impl TryType {
     ghost use Rattle.std.specs.Prelude.{◌≡◌};
     ghost use Rattle.walrus_code.specs.Code.{block_of};
+    ghost use Rattle.walrus_functions.specs.Known.{block_is_below};
     ghost use Rattle.walrus_functions.specs.Signatures.{try_block};
 
     // The type of a try that is a block of this type.
@@ -28,6 +32,16 @@ impl TryType {
             BlockType::NoResult => TryType::NoResult,
             BlockType::OneResult(value) => TryType::OneResult(value),
             BlockType::OfType(id) => TryType::OfType(id),
+        }
+    }
+
+    // Whether the type that it names, if it names one, stands below a bound.
+    fn is_below(&self, bound: usize) -> bool
+        ensures { result ≡ block_is_below bound (try_block self.now) }
+    {
+        match *self {
+            TryType::OfType(id) => id.index() < bound,
+            _ => true,
         }
     }
 }
@@ -44,6 +58,7 @@ impl TagAndTry {
     ghost use Rattle.std.specs.Prelude.{◌≡◌, option_map};
     ghost use Rattle.walrus_base.specs.Id.{place};
     ghost use Rattle.walrus_code.specs.Code.{block_of};
+    ghost use Rattle.walrus_functions.specs.Known.{are_below};
     ghost use Rattle.walrus_functions.specs.Signatures.{pair_of};
 
     // That of a handler whose tag has this type, in a try that is a block of this type.
@@ -54,5 +69,22 @@ impl TagAndTry {
             tag_type,
             try_type: TryType::of(block),
         }
+    }
+
+    // Whether the types that it names stand below a bound.
+    pub(crate) fn is_below(&self, bound: usize) -> bool
+        ensures { result ≡ are_below bound (pair_of self.now) }
+    {
+        is_id_below(self.tag_type, bound) && self.try_type.is_below(bound)
+    }
+}
+
+// Whether a type, if there is one, stands below a bound.
+fn is_id_below(id: Option<TypeId>, bound: usize) -> bool
+    ensures { result ≡ is_below bound (option_map place id) }
+{
+    match id {
+        Some(id) => id.index() < bound,
+        None => true,
     }
 }

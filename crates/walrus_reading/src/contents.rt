@@ -12,6 +12,7 @@ ghost use Rattle.walrus_bodies.specs.BodyRead.{BodyLocated};
 ghost use Rattle.walrus_bodies.specs.FunctionTypes.{is_function_at};
 ghost use Rattle.walrus_functions.specs.PlainCode.{limits_in};
 ghost use Rattle.walrus_model.specs.Scanned.{AreInPlace};
+ghost use Rattle.walrus_functions.specs.Known.{IsOfTypes};
 ghost use Rattle.walrus_functions.specs.ReadFunction.{Given, GivenIf, ReadsFunction};
 ghost use Rattle.walrus_functions.specs.Signatures.{slots_of};
 ghost use Rattle.walrus_parts.specs.Kinds.{exported};
@@ -44,10 +45,11 @@ use std::alloc::{AllocError, Global};
 use std::rc::Rc;
 use std::result;
 use walrus_contents::Contents;
+use walrus_functions::{HandlerTypes, read_body_with};
 use walrus_groups::read_types;
 use walrus_ir::{
     Features, FunctionId, IndicesToIds, InstrLocId, IrError, LocalFunction, ModuleLocals,
-    ModuleTypes, PlainCode, TypeId, read_body,
+    ModuleTypes, PlainCode, TypeId,
 };
 use walrus_items::{ExportItem, ModuleExports, ModuleFunctions, ModuleTags};
 use walrus_parts::{Error, Result};
@@ -208,22 +210,25 @@ fn add_function<L: Fn(&usize) -> InstrLocId>(
     all: &mut ModuleLocals,
     funcs: &mut ModuleFunctions,
     number: u32,
+    handlers: &mut HandlerTypes,
 ) -> Result<()>
     requires callable { L.IsAlwaysCallable under.now.locate.now }
     requires in_place { IfSome under.now.texts (λ code.
         AreInPlace (limits_in code.value) (ids_at under.now.indices.now)) }
     requires declared { ids_at under.now.indices.now Types index ≡ Some index }
     requires typed { is_function_at types.old index ≡ true }
+    requires known { IsOfTypes (type_slots types.old) handlers.old }
     ensures taken { TakesFunction (context_under under.now types.old) (types_in types.old)
         (tags_under under.now) (index, body_record body.now) (slots_of types.old) (slots_of types.new)
         (locals all.old) (locals all.new) (functions funcs.old) (functions funcs.new) result }
     ensures located { OnOk result (AddsLocated (Given under.now.texts (FnReturnsAt L.Fn under.now.locate.now))
         (body_record body.now) (functions funcs.old) (functions funcs.new)) }
+    ensures known { OnOk result (IsOfTypes (type_slots types.new) handlers.new) }
 {
     let Some(ty) = under.indices.get_type(index) else {
         unreachable!();
     };
-    let function = read_located(under, ty, body, types, all, number)?;
+    let function = read_located(under, ty, body, types, all, number, handlers)?;
     funcs.add_local(function)?;
     Ok(())
 }
@@ -236,19 +241,22 @@ fn read_located<L: Fn(&usize) -> InstrLocId>(
     types: &mut ModuleTypes,
     all: &mut ModuleLocals,
     number: u32,
+    handlers: &mut HandlerTypes,
 ) -> result::Result<LocalFunction, IrError>
     requires typed { is_function_at types.old (place ty) ≡ true }
     requires callable { L.IsAlwaysCallable under.now.locate.now }
     requires in_place { IfSome under.now.texts (λ code.
         AreInPlace (limits_in code.value) (ids_at under.now.indices.now)) }
+    requires known { IsOfTypes (type_slots types.old) handlers.old }
     ensures read { ReadsFunction (context_under under.now types.old) (tags_under under.now) (place ty)
         (slots_of types.old) (slots_of types.new) (locals all.old) (locals all.new)
         body.now.bytes.now result }
     ensures located { IfOk result (λ f. BodyLocated
         (Given under.now.texts (FnReturnsAt L.Fn under.now.locate.now))
         body.now.start body.now.bytes.now (locations_of f)) }
+    ensures known { OnOk result (IsOfTypes (type_slots types.new) handlers.new) }
 {
-    read_body(
+    read_body_with(
         under.alloc,
         body.bytes,
         body.start,
@@ -261,6 +269,7 @@ fn read_located<L: Fn(&usize) -> InstrLocId>(
         under.locate,
         &under.texts,
         number,
+        handlers,
     )
 }
 
@@ -293,9 +302,19 @@ fn add_functions<L: Fn(&usize) -> InstrLocId>(
     let mut starts = first_starts(under.alloc, funcs)?;
     let mut end = 0;
     let mut number: u32 = 0;
+    let mut handlers = HandlerTypes::new(under.alloc);
     for place in 0..of_types.len() {
         let body = &bodies[place];
-        add_function(under, of_types[place], body, types, all, funcs, number)?;
+        add_function(
+            under,
+            of_types[place],
+            body,
+            types,
+            all,
+            funcs,
+            number,
+            &mut handlers,
+        )?;
         number = number.wrapping_add(1);
         end = end_of(all, end)?;
         starts.push(end)?;

@@ -8,14 +8,15 @@ use Rattle.walrus_types.specs.ModuleTypes.{type_slots}
 use Rattle.walrus_types.specs.Operators.{BlockType, Op}
 use Rattle.walrus_types.specs.TypeDef.{TypeDef}
 use Rattle.walrus_code.specs.Code.{block_of, op_of, ops_of}
-use Rattle.walrus_functions.specs.Known.{AreKnown}
+use Rattle.walrus_functions.specs.Known.{IsOfTypes}
 use Rattle.walrus_functions.specs.ReadFunction.{AddsTypes}
 use Rattle.walrus_functions.specs.Signatures.{first_opened, handler_in, needed_by, opened, pair_of, slots_of, tag_places, types_below}
 use Rattle.walrus_functions.proofs.HandlerLemmas.{SoFar, next_op, none_needed, so_far_all, so_far_none, so_far_more, stays_same, stays_trans, types_are}
-use Rattle.walrus_functions.proofs.KnownLemmas.{handler_is, known_none}
+use Rattle.walrus_functions.proofs.KnownLemmas.{bound_known, handler_is, known_later}
 use Rattle.walrus_functions.proofs.handlers.add_handler_types.Goals as goal
 
 pub loop-operator-init : goal.loop-operator-init
+unfolding IsOfTypes
 loop-operator-init c =
     let types = item_at (type_slots c.args.types.now) in
     let tags = tag_places c.args.tag_types.now in
@@ -23,7 +24,7 @@ loop-operator-init c =
     let all = ops_of c.args.operators.now in
     let none : map place c.new-ids.result.items ≡ [] = ap (map place) c.new-ids.ensures.items in (
       subst (λ (ps : List ℕ). SoFar types tags old old (opened c.in_ok-blocks.blocks) all all ps) (sym none) (so_far_none types tags old (opened c.in_ok-blocks.blocks) all c.in_ok-blocks.ensures),
-      known_none types (type_slots c.args.types.now) c.new-known.result c.new-known.ensures.empty,
+      c.requires,
     )
 
 pub returns-then-not-has_catch-clause-added : goal.returns-then-not-has_catch-clause-added
@@ -37,7 +38,8 @@ pub add_needed-requires : goal.add_needed-requires
 add_needed-requires c =
     let old = type_slots c.args.types.now in
     let now = type_slots c.loop-operator.types in
-    subst (λ (ts : ℕ → Option TypeDef). AreKnown ts now c.loop-operator.known) (sym (types_are c.in_ok-bound.bound old now c.in_ok-bound.ensures c.loop-operator.invariant.0.stays)) c.loop-operator.invariant.1
+    let under = types_are c.in_ok-bound.bound old now c.in_ok-bound.ensures c.loop-operator.invariant.0.stays in
+    bound_known c.in_ok-bound.bound (length old) (types_below c.in_ok-bound.bound now) (item_at old) now c.loop-operator.handlers.known c.in_ok-bound.ensures under c.loop-operator.invariant.1
 
 pub loop-operator-preserved : goal.loop-operator-preserved
 loop-operator-preserved c =
@@ -62,7 +64,7 @@ loop-operator-preserved c =
     let added = c.in_ok-add_needed.ensures.added in
     let adds = subst (λ (fs : List FunctionType). AddsTypes fs now next added.0) needed added.1.1 in (
       so_far_more types tags old now next blocks (opened c.step.new.self) (op_of x) left (ops_of xs) (map place c.loop-operator.ids.items) added.0 (map place c.add_needed.new.ids.items) so_far adds c.in_ok-add_needed.ensures.stays c.in_ok-step.ensures added.1.0,
-      subst (λ (ts : ℕ → Option TypeDef). AreKnown ts (type_slots c.add_needed.new.types) c.add_needed.new.known) under c.in_ok-add_needed.ensures.kept,
+      bound_known (length (type_slots c.args.types.now)) c.in_ok-bound.bound types (types_below c.in_ok-bound.bound (type_slots c.loop-operator.types)) (type_slots c.add_needed.new.types) c.add_needed.new.known (sym c.in_ok-bound.ensures) (sym under) c.in_ok-add_needed.ensures.kept,
     )
 
 pub returns-in_err-bound-clause-added : goal.returns-in_err-bound-clause-added
@@ -98,3 +100,7 @@ returns-clause-added c =
 
 pub returns-clause-stays : goal.returns-clause-stays
 returns-clause-stays c = c.loop-operator.invariant.0.stays
+
+pub returns-clause-kept : goal.returns-clause-kept
+unfolding IsOfTypes
+returns-clause-kept c = known_later (type_slots c.args.types.now) (type_slots c.loop-operator.types) c.loop-operator.handlers.known c.loop-operator.invariant.0.stays c.loop-operator.invariant.1

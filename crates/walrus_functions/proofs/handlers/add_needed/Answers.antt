@@ -20,7 +20,7 @@ returns-in_ok-push-in-Some-get-clause-added c =
     let same = slots_of c.args.types.now in
     let at : id_at c.args.known.now handler ≡ Some id = sym c.get.ensures.value ∙ ap (λ r. option_copied r) c.in-Some-get.is in
     let is : needed_by types (option_map pair_of c.args.begun) ≡ pair_type types (pair_of handler) = ap (λ (b : Option TagAndTry). needed_by types (option_map pair_of b)) c.in-Some.is in
-    let adds = subst (λ (fs : List FunctionType). AddsTypes fs same same (place id ∷ [])) (sym is) (known_adds types same (pair_of handler) (place id) (c.requires handler id at)) in
+    let adds = subst (λ (fs : List FunctionType). AddsTypes fs same same (place id ∷ [])) (sym is) (known_adds types same (pair_of handler) (place id) (c.requires handler id at).1) in
     (place id ∷ [], (ap (map place) c.in_ok-push-in-Some-get.ensures.items ∙ map-append place c.args.ids.now.items (id ∷ []), adds))
 
 pub returns-in_default-clause-added : goal.returns-in_default-clause-added

@@ -17,5 +17,5 @@ returns-clause-added c =
 pub returns-clause-noted : goal.returns-clause-noted
 returns-clause-noted c =
     let one = rw (c.params.ensures, c.results.ensures) at c.in_ok-id.ensures in
-    noted_first (function_type c.args.needed.now) (type_slots c.args.types.now) (type_slots c.add.new.self) (type_names c.args.types.now) (type_names c.add.new.self) (place c.in_ok-id.id) (place c.next_id-next.result) one c.next_id-next.ensures
-    c.args.handler c.args.known.now c.note_found.new.known c.in_ok-note_found.ensures
+    noted_first c.args.bound (function_type c.args.needed.now) (type_slots c.args.types.now) (type_slots c.add.new.self) (type_names c.args.types.now) (type_names c.add.new.self) (place c.in_ok-id.id) (place c.next_id-next.result) one c.next_id-next.ensures
+    c.args.handler c.args.known.now c.note_settled.new.known c.in_ok-note_settled.ensures

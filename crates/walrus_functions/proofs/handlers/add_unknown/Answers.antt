@@ -20,7 +20,7 @@ pub returns-in_ok-add_type-in-Some-clause-kept : goal.returns-in_ok-add_type-in-
 returns-in_ok-add_type-in-Some-clause-kept c =
     let types = types_below c.args.bound (type_slots c.args.types.now) in
     let is : pair_type types (pair_of c.args.handler) ≡ function_type c.in-Some.needed ∷ [] = sym c.in_ok-needed.ensures ∙ ap (λ (f : Option DeclaredFunctionType). map function_type (option_to_list f)) c.in-Some.is in
-    known_next types (type_slots c.args.types.now) (type_slots c.add_type.new.types) c.args.known.now c.add_type.new.known c.args.handler (function_type c.in-Some.needed) c.requires is c.in_ok-add_type-in-Some.ensures.noted c.in_ok-add_type-in-Some.ensures.stays
+    known_next c.args.bound types (type_slots c.args.types.now) (type_slots c.add_type.new.types) c.args.known.now c.add_type.new.known c.args.handler (function_type c.in-Some.needed) c.requires is c.in_ok-add_type-in-Some.ensures.noted c.in_ok-add_type-in-Some.ensures.stays
 
 pub returns-in-None-clause-added : goal.returns-in-None-clause-added
 returns-in-None-clause-added c =

@@ -129,3 +129,21 @@ returns-in_err-set_handler_types-clause-types_stay g c = c.add_handler_types.ens
 
 pub returns-in_err-set_handler_types-clause-locals_stay : goal.returns-in_err-set_handler_types-clause-locals_stay
 returns-in_err-set_handler_types-clause-locals_stay g c = stays_trans (locals c.args.module_locals.now) (locals c.add_locals.new.module_locals) (locals c.read_body_over.new.module_locals) c.add_locals.ensures.stays c.read_body_over.ensures.stays
+
+pub returns-clause-known : goal.returns-clause-known
+returns-clause-known g c = c.in_ok-handler_types.ensures.kept
+
+pub returns-in_err-args-clause-known : goal.returns-in_err-args-clause-known
+returns-in_err-args-clause-known g c = let p = err_from_is_err_and c.from_residual.result c.from_residual.ensures.1 in rw p.1 tt
+
+pub returns-in_err-body-clause-known : goal.returns-in_err-body-clause-known
+returns-in_err-body-clause-known g c = let p = err_from_is_err_and c.from_residual-in_err-body.result c.from_residual-in_err-body.ensures.1 in rw p.1 tt
+
+pub returns-in_err-handler_types-clause-known : goal.returns-in_err-handler_types-clause-known
+returns-in_err-handler_types-clause-known g c = let p = err_from_is_err_and c.from_residual-in_err-handler_types.result c.from_residual-in_err-handler_types.ensures.1 in rw p.1 tt
+
+pub returns-in_err-function-clause-known : goal.returns-in_err-function-clause-known
+returns-in_err-function-clause-known g c = let p = err_from_is_err_and c.from_residual-in_err-function.result c.from_residual-in_err-function.ensures.1 in rw p.1 tt
+
+pub returns-in_err-set_handler_types-clause-known : goal.returns-in_err-set_handler_types-clause-known
+returns-in_err-set_handler_types-clause-known g c = let p = err_from_is_err_and c.from_residual-in_err-set_handler_types.result c.from_residual-in_err-set_handler_types.ensures.1 in rw p.1 tt

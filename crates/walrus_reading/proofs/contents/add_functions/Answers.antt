@@ -44,6 +44,7 @@ loop-place-init g c = record {
   taken = none_taken (context_under c.args.under.now c.args.types.now) (types_in c.args.types.now) (tags_under c.args.under.now) c.args.of_types.now c.args.bodies.now c.requires.as_many
       (slots_of c.args.types.now) (locals c.args.all.now) (functions c.args.funcs.now) (functions c.reserve.new.self) c.requires.no_locals c.reserve.ensures.same _ c.in_ok-starts.ensures.begun;
   end = sym (ap length c.requires.no_locals);
+  known = c.new-handlers.ensures (type_slots c.args.types.now);
   located = none_located (Given c.args.under.now.texts (FnReturnsAt g.L.Fn c.args.under.now.locate.now)) c.args.of_types.now c.args.bodies.now c.requires.as_many (functions c.args.funcs.now) (functions c.reserve.new.self) c.reserve.ensures.same;
 }
 
@@ -63,6 +64,7 @@ loop-place-preserved g c =
           (get_or c.args.of_types.now c.loop-place.place _, body_record (get_or c.args.bodies.now c.loop-place.place _)) (c.requires.declared c.loop-place.place _ c.loop-place-test.true)
           (locals c.loop-place.all) (locals c.add_function.new.all) (length (functions c.loop-place.funcs)) t.0 t.1.1) (c.in_ok-push.ensures.items ∙ ap (λ n. c.loop-place.starts.items ++ n ∷ []) end);
       end = end;
+      known = c.in_ok-add_function.ensures.known;
       located = more_located (Given c.args.under.now.texts (FnReturnsAt g.L.Fn c.args.under.now.locate.now)) c.args.of_types.now c.args.bodies.now c.requires.as_many c.loop-place.place _ (functions c.args.funcs.now) (functions c.loop-place.funcs) (functions c.add_function.new.funcs) c.loop-place-test.true c.loop-place.invariant.located l.0 l.1.0 l.1.1;
     }
 

@@ -14,9 +14,9 @@ use Rattle.walrus_functions.specs.Handlers.{params_of}
 use Rattle.walrus_functions.specs.Plain.{IfPlain, IsPlainRead}
 use Rattle.walrus_functions.specs.ReadFunction.{Given}
 use Rattle.walrus_functions.specs.Signatures.{tag_places}
-use Rattle.walrus_functions.proofs.GivenLemmas.{given, given_place, result_located}
+use Rattle.walrus_functions.proofs.GivenLemmas.{given, given_place, on_any, result_located}
 use Rattle.walrus_functions.proofs.PlainLemmas.{read_of}
-use Rattle.walrus_functions.proofs.read.read_body.Goals as goal
+use Rattle.walrus_functions.proofs.read.read_body_with.Goals as goal
 
 pub returns-in-Some : goal.returns-in-Some
 returns-in-Some g c =
@@ -37,6 +37,7 @@ returns-in-Some g c =
       read = taken.0;
       located = result_located IsPlace (Given c.args.texts.now is_given) (given_place c.args.texts.now found.0 found.1.0 is_given) start bytes c.take_plain.result taken.1;
       types_stay = search rules;
+      known = on_any c.take_plain.result _ c.requires.known;
       locals_stay = c.take_plain.ensures.locals_stay;
     }
 
