@@ -8,7 +8,8 @@ a body of a function of more than 40 lines; a bare hexadecimal number in src or 
 README.md of more than 100 lines, or with one of more than 100 columns; a crate that crates.txt lists for another one whose files don't
 name it; more ways down the crates than rt can sum up in a few minutes; more wrong edits in the gate than its time allows; a wrong edit, of the gate or of tests/edits, whose old
 text doesn't stand exactly once in its file; a page docs/CALLS.md that isn't what tests/calls.py makes of the sources; a file of
-definitions that docs/DEFINITIONS.md doesn't name; and a file that isn't in the layout of `rt fmt`.
+definitions that docs/DEFINITIONS.md doesn't name; a name that docs/DIFFERENCES.md calls absent and that is there; and a file that isn't in
+the layout of `rt fmt`.
 """
 import collections
 import concurrent.futures
@@ -235,6 +236,37 @@ def wrong_in_pages():
             yield f"docs/DEFINITIONS.md doesn't name {name_of(path)}"
 
 
+def absent_names():
+    """The names of the first column of the table "Absent by name": `name`, `Type::call`, `Type.field`, and `Type: Debug`."""
+    table = (TOP / "docs" / "DIFFERENCES.md").read_text(encoding="utf-8").partition("\n## Absent by name\n")[2]
+    for row in re.findall(r"^\| ([^|]*`[^|]*) \|", table, re.M):
+        for name in re.findall(r"`([^`]*)`", row.removeprefix("`Debug` of ")):
+            yield name + (": Debug" if row.startswith("`Debug` of ") else "")
+
+
+def public_items(name):
+    """Where something of this name is public in the crates whose names begin with `walrus`, or is a call of a trait or an `impl` there."""
+    owner, field, call = re.fullmatch(r"(?:(\w+)(?=[.:]))?(?:\.(\w+)|(?:::)?(\w+)|: Debug)?", name).groups()
+    if name.endswith(": Debug"):
+        wanted = rf"^#\[derive(_where)?\([^]]*\bDebug\b[^]]*\]\n(^[#/].*\n)*^pub (struct|enum) {owner}\b|^impl.* (fmt::)?Debug for {owner}\b"
+    elif field:
+        wanted = rf"^pub struct {owner}\b[^}}]*^    pub {field}:"
+    else:
+        wanted = rf"^ *(pub )?(const )?fn {call}\b|^pub (const |struct |enum |trait |type ){call}\b"
+    for path in sources():
+        if path.parts[-3].startswith("walrus") and re.search(wanted, path.read_text(encoding="utf-8"), re.M):
+            yield path
+
+
+def wrong_in_differences():
+    names = [*absent_names()]
+    if not names:
+        yield "docs/DIFFERENCES.md has no table `Absent by name`"
+    for name in names:
+        for path in public_items(name):
+            yield f"docs/DIFFERENCES.md says that `{name}` isn't there: {name_of(path)} has it"
+
+
 def wrong_in_layout_of(rattle, crate):
     files = sorted(path for part in ("src", "specs", "proofs") for path in (crate / part).rglob("*") if path.suffix in (".rt", ".antt"))
     told = subprocess.run([rattle, "fmt", "--check", *files], capture_output=True, text=True, check=False)
@@ -257,7 +289,7 @@ def wrong_in_layout():
 def main():
     checks = (
         wrong_in_sources, wrong_in_clauses, wrong_in_bodies, wrong_in_numbers, wrong_in_readme, wrong_in_crates, wrong_in_ways, wrong_in_gate,
-        wrong_in_edits, wrong_in_pages, wrong_in_layout)
+        wrong_in_edits, wrong_in_pages, wrong_in_differences, wrong_in_layout)
     wrong = [line for check in checks for line in check()]
     for line in wrong:
         print(line)

@@ -4,9 +4,8 @@ pub use walrus_code::{push_locals, push_names as push_operator_names};
 pub use walrus_ir::{
     AbstractHeapType, Arg, Args, ArrayType, BlockType, CompositeType, ConstExpr, ConstOp,
     EmittedBody, Features, FieldType, FunctionBuilder, FunctionType, GroupIds, HeapType,
-    IdsToIndices, IndicesToIds, InstrLocId, InstrSeqBuilder, IrError, ItemId, Limits, Local,
-    LocalFunction, LocalIter, LocalNumbers, ModuleLocals, ModuleTypes, NewType, Operator,
-    Operators, RefType, StorageType, StructType, TombstoneArena, Type, TypeIter, ValType, Value,
-    emit_body, limits_of, read_body,
+    IdsToIndices, IndicesToIds, InstrLocId, InstrSeqBuilder, IrError, ItemId, Local, LocalFunction,
+    LocalIter, LocalNumbers, ModuleLocals, ModuleTypes, NewType, Operator, Operators, RefType,
+    StorageType, StructType, TombstoneArena, Type, TypeIter, ValType, Value, emit_body, read_body,
 };
 pub use walrus_types::push_names as push_type_names;

@@ -8,3 +8,4 @@ pub mod why;
 mod worklist;
 
 pub use used::Used;
+pub use walrus_module::Roots;
