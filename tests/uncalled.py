@@ -49,8 +49,8 @@ def handed_on(crate):
 
 
 def is_law(text):
-    """Whether a function does nothing and answers nothing: its contract is all that it is."""
-    return "->" not in text and re.search(r"\{\s*\}\s*$", text) is not None
+    """Whether a function does nothing: its contract is all that it is."""
+    return re.search(r"\{\s*\}\s*$", text) is not None
 
 
 def main():
