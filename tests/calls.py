@@ -13,17 +13,59 @@ import functools
 import pathlib
 import re
 import sys
+import textwrap
 
 TOP = pathlib.Path(__file__).resolve().parent.parent
 CRATES = TOP / "crates"
 PAGE = TOP / "docs" / "CALLS.md"
 HEAD = """# The calls of `walrus`
 
-Made by `tests/calls.py --write` from the sources: each public call with its signature, the first sentence of what its source says of it,
-and the names of its clauses, where they have names: what it requires, and what it ensures. docs/PROMISES.md has what the main ones say,
+Made by `tests/calls.py --write` from the sources: each public call with its signature, the first sentence of what its source says of it, in words
+what it asks of its caller, and the names of the clauses that it ensures, where they have names. docs/PROMISES.md has what the main ones say,
 docs/DEFINITIONS.md the words in them. A type stands once, where it is first handed on, or behind what names it where it has no name there
 (unnamed). Public fields stand in front of a type's calls (`.name`), cases of an enum behind `|`. Names of traits stand for the calls that they bring.
+What callers need first stands first; what lies below a module stands in front of the laws, which end the page.
 """
+# The parts of what `walrus` itself hands on, by the crates in which it stands.
+GROUPS = {
+    "Modules": ("walrus_module",),
+    "Items, collection by collection": ("walrus_items",),
+    "Errors, custom sections, what imports bring and exports export": ("walrus_parts", "walrus_producers"),
+    "Building functions": ("walrus_builder",),
+    "Functions with a body, and operators": ("walrus_text", "walrus_functions", "walrus_bodies", "walrus_code"),
+    "Types and constants": ("walrus_types",),
+    "Ids": ("walrus_base",),
+}
+# The crates of which a type without a name stands behind what names it; those of all others stand under `walrus::below`.
+OF_MODULES = ("walrus_module", "walrus_items", "walrus")
+# What calls ask, by what their clauses say: the first pattern that fits.
+ASKED = (
+    (r"IsLive \((?:exports|held|locals|slots|type_slots)\b", "the id is live"),
+    (r"\w+\.IsAlwaysCallable (\w+)", r"`\1` may always be called"),
+    (r"F\.pre make id$", "`make` may be called with the id of the next place"),
+    (r"^AreInPlace ids\.now$", "under each index stands the id of the same place"),
+    (r"IfSome texts\.now .*AreInPlace", "below the limits of `texts`, where it is a code, each index is the place of its item"),
+    (r"Contains \(places_(?:in|of) self\.old.*→ ⊥|(?:index_in|index_of|local_index) self\.old .*≡ None", "the id has no index yet"),
+    (r"^length order\.now ≤ 2 \^ 32$", "`order` has at most 2^32 ids"),
+    (r"^count ≤ 2 \^ 32$", "`count` is at most 2^32"),
+    (r"^(?:given|given_in|locals_given|length) .*< 2 \^ 32$", "fewer than 2^32 have one"),
+    (r"IsDistinct nat_eq \(map place order", "no id stands twice in `order`"),
+    (r"is_function_at types\.old \(place ty\) ≡ true", "`ty` is a live type of functions"),
+    (r"^HasDead .*→ ⊥$", "nothing is named that isn't there"),
+    (r"^IsFunction ", "it is a type of functions"),
+    (r"^IsImport ", "the function is imported"),
+    (r"^IsLocal ", "the function has a body"),
+    (r"^KeepsGroups ", "of each group all members are marked, or none"),
+    (r"^as_text self\.now ≡ None$", "the body isn't kept as it stands in the input"),
+    (r"^place id < mark_places ", "there is a mark for the id's place"),
+)
+# What stands for an argument of each kind of the table of operators.
+ARGUMENTS = {
+    "Catches": "`Arg::Count`, and for each clause `Arg::Byte`, an `Arg::Tag` where that is 0 or 1, `Arg::Label`",
+    "Labels": "`Arg::Count`, and that many `Arg::Label`",
+    "Values": "`Arg::Count`, and that many `Arg::Value`",
+    "SixteenBytes": "sixteen `Arg::Byte`",
+}
 ITEM = r"^pub(?:\(crate\))? (?:const )?(struct|enum|trait|type|fn|mod) "
 FUNCTION = re.compile(r"^( *)(pub )?(?:const )?fn (\w+)", re.M)
 IMPL = re.compile(r"^impl(?:<[^{\n]*?>)? (?:(\S[^{\n]*?) for )?((\w+)(?:<[^{\n]*>)?) \{(?:\}|(.*?)^\})", re.M | re.S)
@@ -125,21 +167,31 @@ def parts_of(kind, mine, blocks):
     return lines
 
 
+def in_words(clause):
+    """What a clause asks of a caller."""
+    for pattern, words in ASKED:
+        found = re.search(pattern, clause)
+        if found:
+            return found.expand(words)
+    raise SystemExit(f"tests/calls.py: ASKED has no words for the clause {clause}")
+
+
 class Call:
     """A function: its signature, the first sentence on it, and the names of its clauses."""
 
     def __init__(self, text, head):
         end = re.compile(rf"^{head[1]}(?=\{{)|(?=\{{$)|(?=;$)", re.M).search(text, head.end()).end()
         rest = text[head.start():end]
-        clauses = re.findall(r"^\s*(requires|ensures)\*? (?:(\w+) )?\{", rest, re.M)
-        self.clauses = {word: [name for kind, name in clauses if kind == word] for word in ("requires", "ensures")}
+        self.ensured = re.findall(r"^\s*ensures\*? (\w*) ?\{", rest, re.M)
+        self.asked = [" ".join(it.split()) for it in re.findall(r"^\s*requires\*? (?:\w+ )?\{(.*?)\}\s*(?=^\s*(?:ensures|requires)\b|\Z)", rest, re.M | re.S)]
         line = " ".join(re.split(r"^\s*(?:requires|ensures)\b", rest, maxsplit=1, flags=re.M)[0].split())
         self.signature = line.removeprefix("pub ").removeprefix("fn ").replace("( ", "(").replace(", )", ")").rstrip(" ,")
         self.is_law = text[end:end + 2] == "{}" and "->" not in self.signature
         self.said = sentence(text, head.start())
 
     def line(self):
-        clauses = [" ".join([word, ", ".join(filter(None, names))]).strip() for word, names in self.clauses.items() if names]
+        clauses = ["asks that " + ", and that ".join(map(in_words, self.asked))] if self.asked else []
+        clauses += [" ".join(["ensures", ", ".join(filter(None, self.ensured))]).strip()] if self.ensured else []
         return f"- `{self.signature}` {self.said}" + (f" *{'; '.join(clauses)}*" if clauses else "")
 
 
@@ -191,7 +243,8 @@ class Page:
     """The page as it is put together: each place once, in the part where it is first met."""
 
     def __init__(self, named):
-        self.named, self.seen, self.lines, self.plain, self.laws, self.waiting = named, set(), [], [], [], []
+        self.named, self.seen, self.lines, self.plain, self.laws = named, set(), [], [], []
+        self.others, self.waiting, self.lower = [], [], []
 
     def add_calls(self, calls, crate, module, of=""):
         for call in calls:
@@ -219,7 +272,9 @@ class Page:
         if own or parts or kind == "trait":
             alias = f" = {target}" if kind == "type" else ""
             self.lines.append(f"\n**`{shown}{alias}`**{unnamed} {sentence(text, at)}" + (f" Traits: {traits}." if traits else ""))
-        elif traits and kind != "type":
+        elif kind == "type":
+            self.others.append(f"`{shown}` is `{target}`")
+        elif traits:
             self.plain.append(f"- `{shown}`{unnamed}: {traits}")
         self.lines += parts
         if kind == "trait":
@@ -242,26 +297,94 @@ class Page:
         call.signature = call.signature.replace(place[3], shown, 1)
         self.add_calls([call], place[0], place[1])
 
-    def add_part(self, module, items):
-        """A module: its functions, its types with what they lead to, and then types that have the calls of traits alone."""
+    def add_reached(self):
+        """The types that were reached: those of modules at once, the others for what lies below."""
+        while self.waiting:
+            reached = self.waiting.pop(0)
+            if reached[0] in OF_MODULES:
+                self.add(reached[3], reached)
+            else:
+                self.lower.append((reached[3], reached))
+
+    def add_part(self, heading, items, said=""):
+        """A part: its functions, its types with what they lead to, types that have the calls of traits alone, and other names."""
         begin = len(self.lines)
         for shown, place in sorted(items, key=lambda it: it[1] is not None and it[1][2] != "fn"):
             self.add(shown, place)
-            while self.waiting:
-                reached = self.waiting.pop(0)
-                self.add(reached[3], reached)
+            self.add_reached()
+        self.add_rest()
+        if len(self.lines) > begin:
+            self.lines[begin:begin] = [f"\n{heading}\n", *([said] if said else [])]
+
+    def add_rest(self):
         if self.plain:
             self.lines += ["\nTypes with the calls of traits alone:\n", *self.plain]
-        if len(self.lines) > begin:
-            self.lines.insert(begin, f"\n## {'::'.join(('walrus', *module))}\n")
-        self.plain = []
+        if self.others:
+            self.lines += ["\nOther names: " + ", ".join(self.others) + "."]
+        self.plain, self.others = [], []
+
+    def add_own(self, items):
+        """What `walrus` itself hands on, by the crates in which it stands."""
+        self.lines.append("\n## walrus\n")
+        for heading, crates in GROUPS.items():
+            self.add_part(f"### {heading}", [it for it in items if it[1] and it[1][0] in crates])
+        left = [name for name, place in items if place and place[2] != "mod" and place not in self.seen]
+        if left:
+            raise SystemExit(f"tests/calls.py: GROUPS has no place for {', '.join(left)}")
+
+    def add_below(self, items, said):
+        """`walrus::below`, and the types that were reached and have no name in `walrus`."""
+        self.add_part("## walrus::below", items, said)
+        self.lines.append("\n### Types without a name there\n")
+        while self.lower:
+            shown, place = self.lower.pop(0)
+            self.add(shown, place)
+            self.add_reached()
+        self.add_rest()
+
+
+def numbers_and_kinds():
+    """For each operator of the table its number and the kinds of its arguments."""
+    for line in source(CRATES / "wasm_operators" / "specs" / "Table.antt").splitlines():
+        row = re.match(r"    (?:bytes|prefixed (0x\w+)) (0x\w+) (0x\w+) (?:\((.*) ∷ \[\]\)|\[\]) ∷", line)
+        if row:
+            lead, first, last = (int(it or "0", 16) for it in row.groups()[:3])
+            for number in range(first, last + 1):
+                yield lead * 0x10000 + number, tuple(it.strip(" «»") for it in (row[4] or "").split("∷") if it.strip())
+
+
+def operators():
+    """The lines on `walrus::opcodes`: the names of operators by the arguments that they have."""
+    names = {}
+    for path in (CRATES / "wasm_opcodes" / "src").glob("*.rt"):
+        names |= {(path.stem, name): int(number, 16) for name, number in re.findall(r"^pub const (\w+): u32 = (0x\w+);", source(path), re.M)}
+    handed = re.findall(r"^pub use crate::(\w+)::(\w+);", source(CRATES / "wasm_opcodes" / "src" / "opcodes.rt"), re.M)
+    by_number, by_kinds = {names[it]: it[1] for it in handed}, {}
+    for number, kinds in numbers_and_kinds():
+        if number in by_number:
+            by_kinds.setdefault(kinds, []).append(by_number[number])
+    yield (f"\n## walrus::opcodes\n\nThe {len(by_number)} operators by the standard's names, each a constant of type `u32`, which `Operator::new`, `op`, `load` and "
+           "`store` take: its byte, or its prefix byte times 65,536 and the number behind it. Here they stand by the arguments that they have, in their order.\n")
+    for kinds, found in sorted(by_kinds.items(), key=lambda it: (len(it[0]), it[0])):
+        arguments = ", ".join(ARGUMENTS.get(it, f"`Arg::{it}`") for it in kinds) or "none (`Args::None`)"
+        yield textwrap.fill(f"- {arguments}: {', '.join(found)}", 160, subsequent_indent="  ", break_long_words=False)
+
+
+def told_of_module(module):
+    """What a module of `walrus` says of itself."""
+    return " ".join(re.findall(r"^//! ?(.*)$", source(file_of("walrus", module)), re.M)) + "\n"
 
 
 def page():
     items = [*handed_on(())]
     made = Page({place for _, _, place in items})
-    for module in dict.fromkeys(it[0] for it in items):
-        made.add_part(module, [it[1:] for it in items if it[0] == module])
+    parts = {module: [it[1:] for it in items if it[0] == module] for module in dict.fromkeys(it[0] for it in items)}
+    made.add_own(parts.pop(()))
+    made.lines += operators()
+    below = parts.pop(("below",))
+    for module, part in parts.items():
+        made.add_part(f"## {'::'.join(('walrus', *module))}", part, told_of_module(module))
+    made.add_below(below, told_of_module(("below",)))
     laws = ["\n## Laws\n\nThey do nothing, and their clauses are statements.\n", *made.laws]
     return HEAD + re.sub(r"\n{3,}", "\n\n", "\n".join([*made.lines, *(laws if made.laws else [])])) + "\n"
 

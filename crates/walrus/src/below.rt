@@ -1,4 +1,5 @@
-//! What stands below a module, for programs that make or read parts of one: types, constant expressions, operators and bodies.
+//! What stands below a module, for programs that make or read parts of one: types, constant expressions, operators and bodies. Who reads a
+//! body alone hands `read_body` `&None` for `texts` and 0 for `number`: it becomes a list of operators.
 
 pub use walrus_code::{push_locals, push_names as push_operator_names};
 pub use walrus_ir::{
