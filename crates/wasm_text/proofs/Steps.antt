@@ -9,7 +9,7 @@ use Rattle.wasm_forms.proofs.Keeping.{keeps_behind}
 use Rattle.wasm_operators.specs.declared.operator.RawArg.{RawArg}
 use Rattle.wasm_operators.specs.Spelling.{arg_bytes}
 use Rattle.wasm_text.specs.Places.{between}
-use Rattle.wasm_text.specs.Marks.{place_of, found, spelled, end_of, fill, AreInOrder, argument, args_at}
+use Rattle.wasm_text.specs.Marks.{place_of, found, spelled, end_of, fill, AreInOrder, HasArgument, argument, args_at}
 use Rattle.wasm_text.specs.Filling.{Numbering, or_same, anew, HasNumber, SomeLacks, Lacks, Puts, Steps}
 use Rattle.wasm_text.specs.declared.places.TheConstants.{NO_PLACE}
 use Rattle.wasm_text.proofs.Between.{cut}
@@ -38,9 +38,9 @@ order_from : (bytes : List ℕ) (from start : ℕ) (marks : List ℕ) → from �
 order_from bytes from start [] l h = omega (arith, l, h)
 order_from bytes from start (mark ∷ marks) l (h, rest) = (omega (arith, l, h), rest)
 
--- a mark that is next stands within the bytes
-pub next_within : (bytes : List ℕ) (run mark : ℕ) (marks : List ℕ) → AreInOrder bytes run (mark ∷ marks) → (run ≤ place_of mark) × (place_of mark ≤ length bytes)
-next_within bytes run mark marks (start, (arg, (behind, (s, rest)))) = (start, omega (arith, s.forward, s.within))
+-- an argument stands at a mark that is next
+pub next_stands : (bytes : List ℕ) (run mark : ℕ) (marks : List ℕ) → AreInOrder bytes run (mark ∷ marks) → (run ≤ place_of mark) × HasArgument bytes mark
+next_stands bytes run mark marks (start, (arg, (behind, (s, rest)))) = (start, (arg, (behind, s)))
 
 args_next : (bytes : List ℕ) (mark : ℕ) (more : List ℕ) (arg : RawArg) (rest : List ℕ) → found bytes mark ≡ Some (arg, rest) → args_at bytes (mark ∷ more) ≡ arg ∷ args_at bytes more
 args_next bytes mark more arg rest here = ap (λ o. argument o ++ args_at bytes more) here
@@ -109,8 +109,8 @@ at_mark number bytes marks i d run old to h g =
     let e : drop i marks ≡ get_or marks i d ∷ drop (i + 1) marks = drop-cons marks i d h ∙ ap (λ k. get_or marks i d ∷ drop k marks) s in
     subst (λ (l : List ℕ). Going number bytes marks l run old to) e g
 
-pub within_at : (number : Numbering) (bytes marks : List ℕ) (i d run : ℕ) (old to : List ℕ) → i < length marks → Going number bytes marks (drop i marks) run old to → (run ≤ place_of (get_or marks i d)) × (place_of (get_or marks i d) ≤ length bytes)
-within_at number bytes marks i d run old to h g = next_within bytes run (get_or marks i d) (drop (i + 1) marks) ((at_mark number bytes marks i d run old to h g).ordered)
+pub stands_at : (number : Numbering) (bytes marks : List ℕ) (i d run : ℕ) (old to : List ℕ) → i < length marks → Going number bytes marks (drop i marks) run old to → (run ≤ place_of (get_or marks i d)) × HasArgument bytes (get_or marks i d)
+stands_at number bytes marks i d run old to h g = next_stands bytes run (get_or marks i d) (drop (i + 1) marks) ((at_mark number bytes marks i d run old to h g).ordered)
 
 pub lacks_at : (number : Numbering) (bytes marks : List ℕ) (i d run next : ℕ) (old to to' : List ℕ) → i < length marks → Going number bytes marks (drop i marks) run old to → length bytes < NO_PLACE → next ≡ NO_PLACE
     → Steps number bytes run (get_or marks i d) to to' next → SomeLacks number (args_at bytes marks)

@@ -72,6 +72,25 @@ AreInOrder bytes from [] = from ≤ length bytes
 AreInOrder bytes from (mark ∷ marks) =
     (from ≤ place_of mark) × ((arg : RawArg) × ((behind : ℕ) × (Stands (form_of (kind_of mark)) bytes (place_of mark) behind arg × AreInOrder bytes behind marks)))
 
+-- an argument of its kind stands at a mark
+abbrev pub HasArgument : List ℕ → (mark : ℕ) → Type 0
+HasArgument bytes mark = (arg : RawArg) × ((behind : ℕ) × Stands (form_of (kind_of mark)) bytes (place_of mark) behind arg)
+
+-- whether some mark's kind is that of such an argument
+abbrev pub is_marked : RawArg → Bool
+is_marked (args.Function n) = true
+is_marked (args.«Type» n) = true
+is_marked (args.Table n) = true
+is_marked (args.Memory n) = true
+is_marked (args.Global n) = true
+is_marked (args.Local n) = true
+is_marked (args.Number n) = true
+is_marked (args.S32 z) = true
+is_marked (args.S64 z) = true
+is_marked (args.Block b) = true
+is_marked (args.Access flags memory offset) = true
+is_marked arg = false
+
 abbrev pub argument : Option (RawArg × List ℕ) → List RawArg
 argument None = []
 argument (Some x) = x.0 ∷ []

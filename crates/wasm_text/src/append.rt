@@ -1,27 +1,26 @@
 //! Bytes with marks, written anew: what arguments name gets new numbers, and each argument at a mark its one spelling.
 
-ghost use Rattle.std.specs.Prelude.{◌≡◌, ◌≢◌, ◌<◌, ◌≤◌, ◌+◌, ◌++◌, length, IfOk, IfSome, Some};
+ghost use Rattle.std.specs.Prelude.{◌≡◌, ◌≢◌, ◌<◌, ◌≤◌, ◌+◌, ◌-◌, ◌++◌, length, true, ℕ, IfOk, IfSome, Some};
 ghost use Rattle.wasm_text.specs.declared.mark.TheConstants.{MARK_ACCESS, MARK_BLOCK, MARK_S32, MARK_S64};
 ghost use Rattle.wasm_text.specs.declared.places.TheConstants.{NO_PLACE};
 ghost use Rattle.wasm_forms.specs.Types.{value_bytes};
 ghost use Rattle.wasm_forms.specs.Grammar.{at, U32};
 ghost use Rattle.wasm_forms.specs.Spelling.{number_bytes};
 ghost use Rattle.wasm_forms.specs.Reading.{Gives};
+ghost use Rattle.wasm_forms.specs.declared.error.WireError.TheVariants.{Malformed, TooLarge};
 ghost use Rattle.wasm_forms.specs.Writing.{Keeps};
 ghost use Rattle.wasm_operators.specs.Forms.{access, access_from, block_from, block_type, has_memory};
 ghost use Rattle.wasm_operators.specs.Spelling.{access_bytes, arg_bytes, block_bytes};
 ghost use Rattle.wasm_operators.specs.Standing.{ArgHeld, BlockHeld, HeapHeld, ValueHeld};
 ghost use Rattle.wasm_text.specs.Places.{between, IfShortest, Stands};
-ghost use Rattle.wasm_text.specs.Marks.{AreInOrder, form_of, kind_of, place_of};
+ghost use Rattle.wasm_text.specs.Marks.{AreInOrder, HasArgument, form_of, found, is_marked, kind_of, place_of};
 ghost use Rattle.wasm_text.specs.Filling.{Fills, IfStays, Steps, renamed, renamed_block, renamed_heap, renamed_value};
 
 use crate::mark::{
     MARK_ACCESS, MARK_BLOCK, MARK_FUNCTION, MARK_GLOBAL, MARK_LOCAL, MARK_MEMORY, MARK_NUMBER,
     MARK_S32, MARK_S64, MARK_TABLE, MARK_TYPE,
 };
-use crate::places::{
-    NO_PLACE, byte_from, is_shortest, number_at, past_number, past_u64, rest_from,
-};
+use crate::places::{NO_PLACE, byte_from, is_shortest, past_u64, rest_from};
 use crate::renumbering::{NO_NUMBER, Numbers};
 use std::alloc::AllocError;
 use wasm_forms::{
@@ -93,6 +92,17 @@ fn copy(to: &mut Vec<u8>, bytes: &[u8], from: usize, until: usize) -> Result<(),
     to.extend_from_slice(&bytes[from..until])
 }
 
+/// The memory that was refused, where nothing else can have been.
+pub fn memory_of(error: WireError) -> AllocError
+    requires malformed { error ≢ Malformed }
+    requires large { error ≢ TooLarge }
+{
+    match error {
+        WireError::Memory(failed) => failed,
+        WireError::Malformed | WireError::TooLarge => unreachable!(),
+    }
+}
+
 // Writes a value type.
 fn write_value(to: &mut Vec<u8>, value: &RawVal) -> Result<(), AllocError>
     ensures written { IfOk result (λ _. to.new.items ≡ to.old.items ++ value_bytes value.now) }
@@ -100,7 +110,7 @@ fn write_value(to: &mut Vec<u8>, value: &RawVal) -> Result<(), AllocError>
 {
     match value.write(to) {
         Ok(()) => Ok(()),
-        Err(_) => Err(AllocError),
+        Err(error) => Err(memory_of(error)),
     }
 }
 
@@ -229,13 +239,9 @@ fn read_number(kind: u32, bytes: &[u8]) -> Result<(RawArg, &[u8]), WireError>
     }
 }
 
-/// The argument at a mark of this kind, which the bytes begin with, and the bytes behind it.
-///
-/// # Errors
-///
-/// `Malformed` where none stands there, and `Memory`.
+// The argument at a mark of this kind, which the bytes begin with, and the bytes behind it.
 #[tactic(auto, unfolding(crate::specs::Marks::form_of))]
-pub fn read_marked(kind: u32, bytes: &[u8]) -> Result<(RawArg, &[u8]), WireError>
+fn read_marked(kind: u32, bytes: &[u8]) -> Result<(RawArg, &[u8]), WireError>
     ensures { Gives (λ r. (r.0, r.1.now)) result (at (form_of kind) bytes.now) }
 {
     match kind {
@@ -253,6 +259,21 @@ pub fn read_marked(kind: u32, bytes: &[u8]) -> Result<(RawArg, &[u8]), WireError
             Ok((RawArg::Block(block), rest))
         }
         _ => read_number(kind, bytes),
+    }
+}
+
+/// The argument that stands at a mark, and the bytes behind it.
+///
+/// # Errors
+///
+/// `AllocError` where no memory is left.
+pub fn read_at_mark(bytes: &[u8], mark: u32) -> Result<(RawArg, &[u8]), AllocError>
+    requires { HasArgument bytes.now mark }
+    ensures { IfOk result (λ r. found bytes.now mark ≡ Some (r.0, r.1.now)) }
+{
+    match read_marked(mark % 16, rest_from(bytes, (mark / 16) as usize)) {
+        Ok(read) => Ok(read),
+        Err(error) => Err(memory_of(error)),
     }
 }
 
@@ -290,6 +311,7 @@ fn rename_arg<N: Numbers>(numbers: &N, arg: RawArg) -> Option<RawArg>
 
 // Writes an argument that stands at marks.
 fn write_marked(to: &mut Vec<u8>, arg: &RawArg) -> Result<(), AllocError>
+    requires { is_marked arg.now ≡ true }
     ensures written { IfOk result (λ _. to.new.items ≡ to.old.items ++ arg_bytes arg.now) }
     ensures keeps { Keeps to.old.items to.new.items }
 {
@@ -309,7 +331,7 @@ fn write_marked(to: &mut Vec<u8>, arg: &RawArg) -> Result<(), AllocError>
             memory,
             offset,
         } => write_access(to, *flags, *memory, *offset),
-        _ => Err(AllocError),
+        _ => unreachable!(),
     }
 }
 
@@ -325,19 +347,16 @@ fn put_anew<N: Numbers>(
     numbers: &N,
 ) -> Result<usize, AllocError>
     requires ordered { run ≤ place_of mark }
-    requires within { place_of mark ≤ length bytes.now }
+    requires stands { HasArgument bytes.now mark }
     ensures steps { IfOk result (λ next.
         Steps (N.number numbers.now) bytes.now run mark to.old.items to.new.items next) }
     ensures keeps { Keeps to.old.items to.new.items }
 {
-    let at = (mark / 16) as usize;
-    let Ok((arg, rest)) = read_marked(mark % 16, rest_from(bytes, at)) else {
-        return Err(AllocError);
-    };
+    let (arg, rest) = read_at_mark(bytes, mark)?;
     let Some(new) = rename_arg(numbers, arg) else {
         return Ok(NO_PLACE);
     };
-    copy(to, bytes, run, at)?;
+    copy(to, bytes, run, (mark / 16) as usize)?;
     write_marked(to, &new)?;
     Ok(bytes.len() - rest.len())
 }
@@ -392,6 +411,18 @@ fn put_index_as<N: Numbers>(
     Ok(behind)
 }
 
+// The index that stands at a place, and the bytes behind it.
+#[inline]
+fn read_index_at(bytes: &[u8], at: usize) -> Result<(u32, &[u8]), AllocError>
+    requires { (behind index : ℕ) × Stands U32 bytes.now at behind index }
+    ensures { IfOk result (λ r. Stands U32 bytes.now at (length bytes.now - length r.1.now) r.0) }
+{
+    match read_u32(rest_from(bytes, at)) {
+        Ok(read) => Ok(read),
+        Err(error) => Err(memory_of(error)),
+    }
+}
+
 // The index at a mark that isn't one byte.
 #[inline(never)]
 fn put_long_index<N: Numbers>(
@@ -402,28 +433,17 @@ fn put_long_index<N: Numbers>(
     numbers: &N,
 ) -> Result<usize, AllocError>
     requires ordered { run ≤ place_of mark }
+    requires stands { HasArgument bytes.now mark }
     requires kind { kind_of mark ≤ 5 }
     ensures steps { IfOk result (λ next.
         Steps (N.number numbers.now) bytes.now run mark to.old.items to.new.items next) }
     ensures keeps { Keeps to.old.items to.new.items }
 {
     let at = (mark / 16) as usize;
-    let index = number_at(bytes, at);
-    let behind = past_number(bytes, at, 5);
-    if index >= 1 << 32 || behind == NO_PLACE {
-        return Err(AllocError);
-    }
+    let (index, rest) = read_index_at(bytes, at)?;
+    let behind = bytes.len() - rest.len();
     let shortest = is_shortest(bytes, at, behind);
-    put_index_as(
-        to,
-        bytes,
-        run,
-        mark,
-        numbers,
-        index as u32,
-        behind,
-        shortest,
-    )
+    put_index_as(to, bytes, run, mark, numbers, index, behind, shortest)
 }
 
 // The index at a mark.
@@ -436,6 +456,7 @@ fn put_index<N: Numbers>(
     numbers: &N,
 ) -> Result<usize, AllocError>
     requires ordered { run ≤ place_of mark }
+    requires stands { HasArgument bytes.now mark }
     requires kind { kind_of mark ≤ 5 }
     ensures steps { IfOk result (λ next.
         Steps (N.number numbers.now) bytes.now run mark to.old.items to.new.items next) }
@@ -493,7 +514,7 @@ fn put_mark<N: Numbers>(
     numbers: &N,
 ) -> Result<usize, AllocError>
     requires ordered { run ≤ place_of mark }
-    requires within { place_of mark ≤ length bytes.now }
+    requires stands { HasArgument bytes.now mark }
     ensures steps { IfOk result (λ next.
         Steps (N.number numbers.now) bytes.now run mark to.old.items to.new.items next) }
     ensures keeps { Keeps to.old.items to.new.items }

@@ -11,7 +11,7 @@ mod places;
 mod renumbering;
 mod scan;
 
-pub use append::{append_filled, read_marked};
+pub use append::{append_filled, memory_of, read_at_mark};
 pub use law::{
     filled_behind_filled, filled_operators_are_renamed, held_behind_held,
     lacking_marks_are_of_operators, nothing_is_held, operator_behind_held, runs_are_copied,

@@ -1,7 +1,7 @@
 use Rattle.std.proofs.Common.{◌++◌, drop, ap, ◌∙◌, arith}
 use Rattle.std.proofs.lemmas.List.{drop_all}
 use Rattle.wasm_text.specs.Places.{between}
-use Rattle.wasm_text.proofs.Steps.{going_first, going_last, last_within, keeps_through, within_at, lacks_at, more_at}
+use Rattle.wasm_text.proofs.Steps.{going_first, going_last, last_within, keeps_through, stands_at, lacks_at, more_at}
 use Rattle.wasm_text.proofs.append.append_filled.Goals as goal
 
 pub marks-init : goal.marks-init
@@ -9,11 +9,11 @@ marks-init g c = going_first (g.N.Numbers.number c.args.numbers.now) c.args.byte
 
 pub put_mark-requires-clause-ordered : goal.put_mark-requires-clause-ordered
 put_mark-requires-clause-ordered g c =
-    (within_at (g.N.Numbers.number c.args.numbers.now) c.args.bytes.now c.args.marks.now c.marks.mark-index _ c.marks.run c.args.to.now.items c.marks.to.items c.marks-test.true c.marks.invariant).0
+    (stands_at (g.N.Numbers.number c.args.numbers.now) c.args.bytes.now c.args.marks.now c.marks.mark-index _ c.marks.run c.args.to.now.items c.marks.to.items c.marks-test.true c.marks.invariant).0
 
-pub put_mark-requires-clause-within : goal.put_mark-requires-clause-within
-put_mark-requires-clause-within g c =
-    (within_at (g.N.Numbers.number c.args.numbers.now) c.args.bytes.now c.args.marks.now c.marks.mark-index _ c.marks.run c.args.to.now.items c.marks.to.items c.marks-test.true c.marks.invariant).1
+pub put_mark-requires-clause-stands : goal.put_mark-requires-clause-stands
+put_mark-requires-clause-stands g c =
+    (stands_at (g.N.Numbers.number c.args.numbers.now) c.args.bytes.now c.args.marks.now c.marks.mark-index _ c.marks.run c.args.to.now.items c.marks.to.items c.marks-test.true c.marks.invariant).1
 
 pub returns-then-run-clause-fills : goal.returns-then-run-clause-fills
 returns-then-run-clause-fills g c =
