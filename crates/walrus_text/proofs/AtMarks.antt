@@ -1,19 +1,19 @@
 -- What stands at a mark, by its kind.
-use Rattle.std.proofs.Common.{◌≡◌, ℕ, ◌+◌, ◌-◌, ◌/◌, ◌%◌, ◌<◌, ◌≤◌, Bool, true, false, List, [], ◌∷◌, ◌++◌, length, take, drop, map, Some, refl, sym, ap, subst, ◌∙◌, arith, append_assoc, append-nil, ℤ}
-use Rattle.std.specs.Prelude.{◌≢◌, nat_eq, flat_map}
-use Rattle.std.proofs.lemmas.Bool.{eqb-true, ne_eqb}
+use Rattle.std.proofs.Common.{◌≡◌, ℕ, ◌+◌, ◌-◌, ◌/◌, ◌%◌, ◌<◌, ◌≤◌, Bool, true, false, List, [], ◌∷◌, ◌++◌, length, take, drop, map, Some, refl, sym, ap, subst, ◌∙◌, arith, append_assoc, append-nil}
+use Rattle.std.specs.Prelude.{◌≢◌, flat_map}
+use Rattle.std.proofs.lemmas.Bool.{ne_eqb}
 use Rattle.std.proofs.lemmas.List.{take_at, length-drop, length-append, map-append}
 use Rattle.wasm_forms.specs.Number.{IsUnsigned}
-use Rattle.wasm_forms.specs.Grammar.{Form, Is, U32, U64, S32 as FormS32, S64 as FormS64, Made, Fails, ◌then◌, at, choose}
+use Rattle.wasm_forms.specs.Grammar.{Form, Is, U32, U64, Made, ◌then◌, at}
 use Rattle.wasm_forms.proofs.Bind.{some_same}
 use Rattle.wasm_text.specs.RawArg.{RawArg}
 use Rattle.wasm_text.specs.RawArg.TheVariants as args
-use Rattle.wasm_text.specs.RawBlock.{RawBlock}
-use Rattle.wasm_text.specs.Forms.{block_type, access, access_from, has_memory}
+use Rattle.wasm_text.specs.Forms.{access, access_from, has_memory}
 use Rattle.wasm_text.specs.Places.{between, Stands, IsNumberAt}
-use Rattle.wasm_text.specs.Marks.{place_of, kind_of, form_of}
+use Rattle.wasm_text.specs.Marks.{place_of, kind_of, form_of, found}
 use Rattle.wasm_text.proofs.Between.{cut}
 use Rattle.wasm_text.proofs.Filling.{found_is}
+use Rattle.wasm_text.proofs.Marked.{by_kind, choose_gives, made_gives}
 use Rattle.wasm_text.proofs.Read.{number_read}
 use Rattle.walrus_types.specs.Operators.{Space, Types, Functions, Tables, Memories, Globals, Arg, Index, Label, Local, Number, Count, Byte, S32, S64, Bits32, Bits64, Value, Heap, Block, Access, arg_names}
 use Rattle.walrus_bodies.specs.FromRaw.{arg_of}
@@ -24,41 +24,6 @@ use Rattle.walrus_bodies.specs.Arg.TheVariants as declared
 use Rattle.walrus_bodies.specs.ItemId.{ItemId}
 use Rattle.walrus_text.specs.Names.{OfArgument, PutsAt, items_named}
 use Rattle.walrus_text.specs.Placed.{moved_arg}
-
--- ---- cases
-
-made_gives : {B : Type 0} (P : RawArg → Type 0) (make : B → RawArg) (f : Form B) (bytes : List ℕ) (arg : RawArg) → ((b : B) → P (make b)) → Is (Made make f) bytes arg → P arg
-made_gives P make f bytes arg all is = subst P (sym is.1.0) (all is.0)
-
-choose_gives : (P : RawArg → Type 0) (t : Bool) (f g : Form RawArg) (bytes : List ℕ) (arg : RawArg) → (t ≡ true → Is f bytes arg → P arg) → (Is g bytes arg → P arg) → Is (choose t f g) bytes arg → P arg
-choose_gives P true f g bytes arg first second is = first refl is
-choose_gives P false f g bytes arg first second is = second is
-
-pub access_gives : (P : RawArg → Type 0) (bytes : List ℕ) (arg : RawArg) → ((flags memory offset : ℕ) → P (args.Access flags memory offset)) → Is access bytes arg → P arg
-unfolding access access_from
-access_gives P bytes arg all is =
-    let flags = is.0 in
-    choose_gives P (has_memory flags) (Made (λ x. args.Access (flags - 64) x.0 x.1) (U32 then U64)) (Made (λ offset. args.Access flags 0 offset) U64) is.1.1.0 arg
-    (λ e. made_gives P (λ x. args.Access (flags - 64) x.0 x.1) (U32 then U64) is.1.1.0 arg (λ x. all (flags - 64) x.0 x.1))
-    (made_gives P (λ offset. args.Access flags 0 offset) U64 is.1.1.0 arg (λ offset. all flags 0 offset)) is.1.1.1.2
-
--- what holds of each argument that may stand at a mark of a kind
-pub by_kind : (P : RawArg → Type 0) (kind : ℕ) (bytes : List ℕ) (arg : RawArg) → (kind ≡ 0 → (n : ℕ) → P (args.Local n)) → (kind ≡ 1 → (n : ℕ) → P (args.Function n)) → (kind ≡ 2 → (n : ℕ) → P (args.Global n)) → (kind ≡ 3 → (n : ℕ) → P (args.«Type» n))
-    → (kind ≡ 4 → (n : ℕ) → P (args.Table n)) → (kind ≡ 5 → (n : ℕ) → P (args.Memory n)) → (kind ≡ 6 → (flags memory offset : ℕ) → P (args.Access flags memory offset)) → ((n : ℕ) → P (args.Number n)) → ((z : ℤ) → P (args.S32 z)) → ((z : ℤ) → P (args.S64 z))
-    → (kind ≡ 10 → (b : RawBlock) → P (args.Block b)) → Is (form_of kind) bytes arg → P arg
-unfolding form_of
-by_kind P kind bytes arg p0 p1 p2 p3 p4 p5 p6 p7 p8 p9 p10 =
-    choose_gives P (nat_eq kind 0) (Made args.Local U32) _ bytes arg (λ e. made_gives P args.Local U32 bytes arg (p0 (eqb-true kind 0 e)))
-    (choose_gives P (nat_eq kind 1) (Made args.Function U32) _ bytes arg (λ e. made_gives P args.Function U32 bytes arg (p1 (eqb-true kind 1 e)))
-    (choose_gives P (nat_eq kind 2) (Made args.Global U32) _ bytes arg (λ e. made_gives P args.Global U32 bytes arg (p2 (eqb-true kind 2 e)))
-    (choose_gives P (nat_eq kind 3) (Made args.«Type» U32) _ bytes arg (λ e. made_gives P args.«Type» U32 bytes arg (p3 (eqb-true kind 3 e)))
-    (choose_gives P (nat_eq kind 4) (Made args.Table U32) _ bytes arg (λ e. made_gives P args.Table U32 bytes arg (p4 (eqb-true kind 4 e)))
-    (choose_gives P (nat_eq kind 5) (Made args.Memory U32) _ bytes arg (λ e. made_gives P args.Memory U32 bytes arg (p5 (eqb-true kind 5 e)))
-    (choose_gives P (nat_eq kind 6) access _ bytes arg (λ e. access_gives P bytes arg (p6 (eqb-true kind 6 e)))
-    (choose_gives P (nat_eq kind 7) (Made args.Number U32) _ bytes arg (λ e. made_gives P args.Number U32 bytes arg p7)
-    (choose_gives P (nat_eq kind 8) (Made args.S32 FormS32) _ bytes arg (λ e. made_gives P args.S32 FormS32 bytes arg p8)
-    (choose_gives P (nat_eq kind 9) (Made args.S64 FormS64) _ bytes arg (λ e. made_gives P args.S64 FormS64 bytes arg p9)
-    (choose_gives P (nat_eq kind 10) (Made args.Block block_type) Fails bytes arg (λ e. made_gives P args.Block block_type bytes arg (p10 (eqb-true kind 10 e))) (λ h. absurd h)))))))))))
 
 -- ---- an index
 
@@ -148,9 +113,9 @@ access_at bytes mark value k is low arg behind s = low_access bytes (place_of ma
 
 -- ---- what is read
 
-pub read_at_mark : (bytes read rest : List ℕ) (mark : ℕ) (arg : RawArg) → read ≡ drop (place_of mark) bytes → at (form_of (kind_of mark)) read ≡ Some (arg, rest) → OfArgument bytes mark (λ a. arg ≡ a)
-read_at_mark bytes read rest mark arg from here other behind s =
-    let p : Some (arg, rest) ≡ Some (other, drop behind bytes) = sym here ∙ ap (at (form_of (kind_of mark))) from ∙ found_is bytes mark behind other s in
+pub read_at_mark : (bytes rest : List ℕ) (mark : ℕ) (arg : RawArg) → found bytes mark ≡ Some (arg, rest) → OfArgument bytes mark (λ a. arg ≡ a)
+read_at_mark bytes rest mark arg here other behind s =
+    let p : Some (arg, rest) ≡ Some (other, drop behind bytes) = sym here ∙ found_is bytes mark behind other s in
     ap (λ (x : RawArg × List ℕ). x.0) (some_same (arg, rest) (other, drop behind bytes) p)
 
 -- ---- what is put
@@ -174,10 +139,10 @@ moved_names by (Heap h) = refl
 moved_names by (Block b) = refl
 moved_names by (Access flags memory offset) = refl
 
-pub puts_read : (bytes read rest : List ℕ) (mark : ℕ) (arg : RawArg) (args : List Arg) (old new : List ItemId) → read ≡ drop (place_of mark) bytes → at (form_of (kind_of mark)) read ≡ Some (arg, rest) → args ≡ moved_arg 0 (arg_of arg) ∷ []
+pub puts_read : (bytes rest : List ℕ) (mark : ℕ) (arg : RawArg) (args : List Arg) (old new : List ItemId) → found bytes mark ≡ Some (arg, rest) → args ≡ moved_arg 0 (arg_of arg) ∷ []
     → map item_of new ≡ map item_of old ++ flat_map arg_names args → PutsAt bytes mark old new
-puts_read bytes read rest mark arg args old new from here one put other behind s =
-    put ∙ ap (λ x. map item_of old ++ x) (ap (flat_map arg_names) one ∙ append-nil (arg_names (moved_arg 0 (arg_of arg))) ∙ moved_names 0 (arg_of arg) ∙ ap items_named (read_at_mark bytes read rest mark arg from here other behind s))
+puts_read bytes rest mark arg args old new here one put other behind s =
+    put ∙ ap (λ x. map item_of old ++ x) (ap (flat_map arg_names) one ∙ append-nil (arg_names (moved_arg 0 (arg_of arg))) ∙ moved_names 0 (arg_of arg) ∙ ap items_named (read_at_mark bytes rest mark arg here other behind s))
 
 -- ---- whether a block holds
 
@@ -197,10 +162,10 @@ moved_holds holds by (Heap h) = refl
 moved_holds holds by (Block b) = refl
 moved_holds holds by (Access flags memory offset) = refl
 
-pub holds_read : (holds : ℕ → Bool) (bytes read rest : List ℕ) (mark : ℕ) (arg : RawArg) (placed : DeclaredArg) (answer : Bool) → read ≡ drop (place_of mark) bytes → at (form_of (kind_of mark)) read ≡ Some (arg, rest) → declared_arg placed ≡ moved_arg 0 (arg_of arg)
+pub holds_read : (holds : ℕ → Bool) (bytes rest : List ℕ) (mark : ℕ) (arg : RawArg) (placed : DeclaredArg) (answer : Bool) → found bytes mark ≡ Some (arg, rest) → declared_arg placed ≡ moved_arg 0 (arg_of arg)
     → answer ≡ block_holds holds (declared_arg placed) → OfArgument bytes mark (λ a. answer ≡ block_holds holds (arg_of a))
-holds_read holds bytes read rest mark arg placed answer from here one is other behind s =
-    is ∙ ap (block_holds holds) one ∙ moved_holds holds 0 (arg_of arg) ∙ ap (λ a. block_holds holds (arg_of a)) (read_at_mark bytes read rest mark arg from here other behind s)
+holds_read holds bytes rest mark arg placed answer here one is other behind s =
+    is ∙ ap (block_holds holds) one ∙ moved_holds holds 0 (arg_of arg) ∙ ap (λ a. block_holds holds (arg_of a)) (read_at_mark bytes rest mark arg here other behind s)
 
 pub no_block : (holds : ℕ → Bool) (arg : DeclaredArg) → ((b : _) → arg ≡ declared.Block b → ⊥) → true ≡ block_holds holds (declared_arg arg)
 no_block holds (declared.Function id) h = refl

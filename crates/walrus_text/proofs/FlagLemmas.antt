@@ -22,7 +22,8 @@ use Rattle.walrus_text.specs.Texts.{texts_at}
 use Rattle.walrus_text.specs.Text.{bytes_of, entry_of, marks_of, texts_of, first_local_of, local_count_of, ops_in}
 use Rattle.walrus_text.specs.declared.text.Text.{Text}
 use Rattle.walrus_text.proofs.OrderLemmas.{parts, shown_of}
-use Rattle.walrus_text.proofs.AtMarks.{by_kind, local_at}
+use Rattle.wasm_text.proofs.Marked.{by_kind}
+use Rattle.walrus_text.proofs.AtMarks.{local_at}
 use Rattle.walrus_text.proofs.NamesShown.{AreLeft, next_at, left_at, indices_quiet, flat_shown, flat_texts}
 use Rattle.walrus_text.proofs.HeldLemmas.{plain}
 

@@ -9,7 +9,7 @@ use Rattle.wasm_text.specs.RawArg.{RawArg}
 use Rattle.wasm_text.specs.RawArg.TheVariants as args
 use Rattle.wasm_text.specs.Operators as wire
 use Rattle.wasm_text.specs.Places.{Stands}
-use Rattle.wasm_text.specs.Marks.{place_of, kind_of, form_of, AreInOrder, argument, args_at, heap_names as heap_names_any, value_names, block_names as block_names_any, arg_names as names_any, naming, all_args}
+use Rattle.wasm_text.specs.Marks.{place_of, kind_of, form_of, AreInOrder, HasArgument, argument, args_at, heap_names as heap_names_any, value_names, block_names as block_names_any, arg_names as names_any, naming, all_args}
 use Rattle.wasm_text.proofs.Filling.{found_is}
 use Rattle.wasm_forms.specs.declared.types.RawHeap.{RawHeap}
 use Rattle.wasm_forms.specs.declared.types.RawHeap.TheVariants as raw_heap
@@ -55,6 +55,9 @@ AreLeft bytes left = (from : ℕ) × AreInOrder bytes from left
 
 pub next_at : (bytes marks : List ℕ) (i d : ℕ) → i < length marks → AreLeft bytes (drop i marks) → IsNext bytes (get_or marks i d) (drop (i + 1) marks)
 next_at bytes marks i d h o = next_of bytes o.0 (get_or marks i d) (drop (i + 1) marks) (subst (AreInOrder bytes o.0) (left_at marks i d h) o.1)
+
+pub argument_at : (bytes marks : List ℕ) (i d : ℕ) → i < length marks → AreLeft bytes (drop i marks) → HasArgument bytes (get_or marks i d)
+argument_at bytes marks i d h o = let n = next_at bytes marks i d h o in (n.arg, (n.behind, n.stands))
 
 -- ---- what they name is put
 

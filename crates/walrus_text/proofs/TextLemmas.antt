@@ -1,5 +1,5 @@
 -- So many operators in front of bytes: how many they are, the first one taken, and where they stand.
-use Rattle.std.proofs.Common.{◌≡◌, ℕ, suc, ◌+◌, ◌-◌, ◌≤◌, true, List, [], ◌∷◌, length, refl, ap, ◌∙◌, sym, subst, arith, length-append}
+use Rattle.std.proofs.Common.{◌≡◌, ℕ, suc, ◌+◌, ◌-◌, ◌≤◌, true, false, List, [], ◌∷◌, length, refl, ap, ◌∙◌, sym, subst, arith, length-append}
 use Rattle.std.specs.Prelude.{Option, Some, None}
 use Rattle.std.proofs.lemmas.List.{append-nil}
 use Rattle.wasm_forms.specs.Reading.{◌>>=◌}
@@ -52,6 +52,16 @@ first_taken count n bytes x more is w =
     let led = row_led n bytes x is in
     let parts = led_whole x.0 (read_in_front n x.1) (ap is_whole (sym led) ∙ whole) in
     (parts.0, ap (λ (k : ℕ). texts_at k bytes) more ∙ ap values led ∙ parts.1)
+
+row_none : (n : ℕ) (bytes : List ℕ) → at operator bytes ≡ None → read_in_front (suc n) bytes ≡ None
+unfolding row_at
+row_none n bytes none = rw none refl
+
+pub first_stands : (count n : ℕ) (bytes : List ℕ) → count ≡ suc n → are_operators count bytes ≡ true → at operator bytes ≡ None → ⊥
+first_stands count n bytes more w none =
+    let whole : are_operators (suc n) bytes ≡ true = subst (λ (k : ℕ). are_operators k bytes ≡ true) more w in
+    let no : false ≡ true = ap is_whole (sym (row_none n bytes none)) ∙ whole in
+    cc
 
 pub none_texts : (bytes : List ℕ) → texts_at 0 bytes ≡ []
 unfolding row_at

@@ -1,7 +1,7 @@
 //! The types of the blocks of a body (Structure > Instructions > Control Instructions).
 ghost use Rattle.std.specs.Prelude.{◌≡◌, ◌≢◌, false, IfOk, IsFalse};
 ghost use Rattle.std.specs.List.{All, list_all};
-ghost use Rattle.wasm_text.specs.Marks.{AreInOrder, args_at, kind_of};
+ghost use Rattle.wasm_text.specs.Marks.{AreInOrder, HasArgument, args_at, kind_of};
 ghost use Rattle.wasm_text.specs.declared.mark.TheConstants.{MARK_BLOCK as BLOCK_KIND};
 ghost use Rattle.walrus_bodies.specs.Blocks.{block_holds, blocks_hold};
 ghost use Rattle.walrus_types.specs.Operators.{Block};
@@ -14,7 +14,7 @@ use crate::place::place_arg;
 use crate::text::Text;
 use std::alloc::AllocError;
 use walrus_bodies::{Arg, BlockType, FunctionTypes};
-use wasm_text::{MARK_BLOCK, read_marked, rest_from};
+use wasm_text::{MARK_BLOCK, read_at_mark};
 
 // Whether the type of a block is a function type, or none of the module's.
 fn type_holds<T: FunctionTypes>(types: &T, block: BlockType) -> bool
@@ -39,18 +39,18 @@ fn arg_holds<T: FunctionTypes>(types: &T, arg: Arg) -> bool
 // Whether the type of a block that stands at a mark is a function type, or none of the module's.
 #[inline(never)]
 fn read_holds<T: FunctionTypes>(types: &T, bytes: &[u8], mark: u32) -> Result<bool, AllocError>
+    requires { HasArgument bytes.now mark }
     ensures { IfOk result (λ holds. OfArgument bytes.now mark
         (λ arg. holds ≡ block_holds (T.function_types types.now) (from_raw.arg_of arg))) }
 {
-    let Ok((arg, _rest)) = read_marked(mark % 16, rest_from(bytes, (mark / 16) as usize)) else {
-        return Err(AllocError);
-    };
+    let (arg, _rest) = read_at_mark(bytes, mark)?;
     Ok(arg_holds(types, place_arg(&arg, 0)))
 }
 
 // Whether what stands at a mark is no type of a block, or one that is a function type or none of the module's.
 #[inline]
 fn mark_holds<T: FunctionTypes>(types: &T, bytes: &[u8], mark: u32) -> Result<bool, AllocError>
+    requires { HasArgument bytes.now mark }
     ensures { IfOk result (λ holds. OfArgument bytes.now mark
         (λ arg. holds ≡ block_holds (T.function_types types.now) (from_raw.arg_of arg))) }
 {

@@ -1,6 +1,6 @@
 //! What the operators of a body name (Structure > Modules > Indices).
 ghost use Rattle.std.specs.Prelude.{◌≡◌, ◌≢◌, ◌++◌, flat_map, map, option_to_list, OnOk};
-ghost use Rattle.wasm_text.specs.Marks.{AreInOrder, args_at, kind_of};
+ghost use Rattle.wasm_text.specs.Marks.{AreInOrder, HasArgument, args_at, kind_of};
 ghost use Rattle.wasm_text.specs.declared.mark.TheConstants.{MARK_ACCESS, MARK_BLOCK};
 ghost use Rattle.walrus_types.specs.Operators.{names_of};
 ghost use Rattle.walrus_bodies.specs.Code.{item_of};
@@ -14,7 +14,7 @@ use walrus_base::Id;
 use walrus_bodies::{Args, ItemId, Operator, push_names};
 use wasm_text::{
     MARK_ACCESS, MARK_BLOCK, MARK_FUNCTION, MARK_GLOBAL, MARK_MEMORY, MARK_TABLE, MARK_TYPE,
-    number_at, read_marked, rest_from,
+    number_at, read_at_mark,
 };
 
 // The item that an index names, which stands at a mark; none for an argument of another kind.
@@ -38,11 +38,10 @@ fn item_at(bytes: &[u8], mark: u32) -> Option<ItemId>
 // Puts the item that the argument at a mark names behind the others, whatever its kind.
 #[inline(never)]
 fn push_read(to: &mut Vec<ItemId>, bytes: &[u8], mark: u32) -> Result<(), AllocError>
+    requires { HasArgument bytes.now mark }
     ensures { OnOk result (PutsAt bytes.now mark to.old.items to.new.items) }
 {
-    let Ok((arg, _rest)) = read_marked(mark % 16, rest_from(bytes, (mark / 16) as usize)) else {
-        return Err(AllocError);
-    };
+    let (arg, _rest) = read_at_mark(bytes, mark)?;
     let named = Operator::new(0, Args::One(place_arg(&arg, 0)));
     push_names(to, &named)
 }
@@ -50,6 +49,7 @@ fn push_read(to: &mut Vec<ItemId>, bytes: &[u8], mark: u32) -> Result<(), AllocE
 // Puts the item that the argument at a mark names behind the others.
 #[inline]
 fn push_item(to: &mut Vec<ItemId>, bytes: &[u8], mark: u32) -> Result<(), AllocError>
+    requires { HasArgument bytes.now mark }
     ensures { OnOk result (PutsAt bytes.now mark to.old.items to.new.items) }
 {
     match mark % 16 {

@@ -1,5 +1,5 @@
 //! The operators of a body, one by one.
-ghost use Rattle.std.specs.Prelude.{◌≡◌, ◌+◌, Some, IfOk, length, map, true};
+ghost use Rattle.std.specs.Prelude.{◌≡◌, ◌≢◌, ◌+◌, Some, None, IfOk, length, map, true};
 ghost use Rattle.wasm_forms.specs.Grammar.{at};
 ghost use Rattle.wasm_text.specs.Operators as wire;
 ghost use Rattle.wasm_text.specs.Forms.{operator};
@@ -13,17 +13,16 @@ use crate::place::place_operator;
 use crate::text::Text;
 use std::alloc::{AllocError, Global};
 use walrus_bodies::{InstrLocId, Operator};
-use wasm_forms::WireError;
-use wasm_text::{RawOperator, read_operator};
+use wasm_text::{RawOperator, memory_of, read_operator};
 
-// The operator in front of the bytes, and the bytes behind it; malformed bytes are answered as a lack of memory.
+// The operator that stands in front of the bytes, and the bytes behind it.
 fn read_next(alloc: Global, bytes: &[u8]) -> Result<(RawOperator, &[u8]), AllocError>
+    requires { at operator bytes.now ≢ None }
     ensures { IfOk result (λ r. at operator bytes.now ≡ Some (wire.op_of r.0, r.1.now)) }
 {
     match read_operator(alloc, bytes) {
         Ok(read) => Ok(read),
-        Err(WireError::Memory(failed)) => Err(failed),
-        Err(_) => Err(AllocError),
+        Err(error) => Err(memory_of(error)),
     }
 }
 

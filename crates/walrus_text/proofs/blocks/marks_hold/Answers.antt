@@ -1,7 +1,10 @@
 use Rattle.walrus_bodies.specs.Blocks.{block_holds}
 use Rattle.walrus_bodies.specs.FromRaw.{arg_of}
-use Rattle.walrus_text.proofs.NamesShown.{hold_more, hold_not, none_hold}
+use Rattle.walrus_text.proofs.NamesShown.{argument_at, hold_more, hold_not, none_hold}
 use Rattle.walrus_text.proofs.blocks.marks_hold.Goals as goal
+
+pub mark_holds-requires : goal.mark_holds-requires
+mark_holds-requires g c = argument_at c.args.bytes.now c.args.marks.now c.marks.mark-index _ c.marks-test.true c.marks.invariant.ordered
 
 pub returns-then-not-branch : goal.returns-then-not-branch
 returns-then-not-branch g c =

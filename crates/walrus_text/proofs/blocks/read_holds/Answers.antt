@@ -3,4 +3,4 @@ use Rattle.walrus_text.proofs.blocks.read_holds.Goals as goal
 
 pub returns : goal.returns
 returns g c =
-    holds_read (g.T.FunctionTypes.function_types c.args.types.now) c.args.bytes.now c.rest_from.result.now c.in-Ok._rest.now c.args.mark c.in-Ok.arg c.place_arg.result c.arg_holds.result c.rest_from.ensures c.in-Ok.ensures c.place_arg.ensures c.arg_holds.ensures
+    holds_read (g.T.FunctionTypes.function_types c.args.types.now) c.args.bytes.now c.in_ok-arg._rest.now c.args.mark c.in_ok-arg.arg c.place_arg.result c.arg_holds.result c.in_ok-arg.ensures c.place_arg.ensures c.arg_holds.ensures

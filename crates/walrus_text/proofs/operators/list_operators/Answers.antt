@@ -5,10 +5,16 @@ use Rattle.walrus_bodies.specs.Code.{op_of, ops_of}
 use Rattle.walrus_bodies.specs.Operator.{Operator}
 use Rattle.walrus_bodies.specs.Results.{locations}
 use Rattle.walrus_text.specs.Text.{at_place}
-use Rattle.walrus_text.proofs.TextLemmas.{shorter}
+use Rattle.walrus_text.proofs.TextLemmas.{first_stands, shorter}
 use Rattle.walrus_text.proofs.LocatedLemmas.{loc_is}
 use Rattle.walrus_text.proofs.AgainLemmas.{whole_next, body_next, located_next, body_done, located_done}
 use Rattle.walrus_text.proofs.operators.list_operators.Goals as goal
+
+pub read_next-requires : goal.read_next-requires
+read_next-requires c =
+    let turn = c.operators-test.true in
+    let more : c.args.count - c.operators._turn ≡ suc (c.args.count - (c.operators._turn + 1)) = omega (arith, turn) in
+    first_stands (c.args.count - c.operators._turn) (c.args.count - (c.operators._turn + 1)) c.operators.rest.now more c.operators.invariant.whole
 
 pub operators-preserved : goal.operators-preserved
 operators-preserved c =
