@@ -1,5 +1,5 @@
 -- Sections that follow the code one after another.
-use Rattle.std.proofs.Common.{◌≡◌, ℕ, zero, suc, false, ◌+◌, ◌<◌, ◌≤◌, List, [], ◌∷◌, length, refl, sym, subst, ◌∙◌, arith, inl, inr, ⊎_elim}
+use Rattle.std.proofs.Common.{◌≡◌, ℕ, zero, suc, Bool, true, false, ◌+◌, ◌<◌, ◌≤◌, List, [], ◌∷◌, length, refl, sym, ap, subst, ◌∙◌, arith, inl, inr, ⊎_elim}
 use Rattle.std.specs.Prelude.{Contains, Option, Some, None, map, ◌⊎◌}
 use Rattle.walrus_base.specs.Arena.{entries, item_at, items}
 use Rattle.walrus_code.specs.Transform.{Transform}
@@ -7,12 +7,13 @@ use Rattle.walrus_parts.specs.declared.custom.CustomSection.{Ghosts}
 use Rattle.walrus_model.proofs.Lists.{Contains-map}
 use Rattle.walrus_parts.specs.declared.error.Error.{Error}
 use Rattle.walrus_parts.specs.declared.error.Error.TheVariants as errors
-use Rattle.walrus_module.specs.Asked.{IsRefusedBy, OneAskedMayRefuse}
-use Rattle.walrus_module.specs.Following.{EachComes, Follows, MayFollow, MayRefuseAt, OneComes, SlotComes, Stays}
+use Rattle.walrus_module.specs.Asked.{IsRefusedBy, OneAskedMayRefuse, is_in_turn}
+use Rattle.walrus_module.specs.Following.{EachComes, FollowedWrite, Follows, FollowsBy, MayFollow, MayRefuseAt, OneComes, SameKind, SlotComes, Stays}
 use Rattle.walrus_contents.proofs.Slots.{entry_in}
 use Rattle.walrus_module.proofs.Asking.{no_debug}
 use Rattle.walrus_module.specs.Meaning.{Meaning, meaning}
 use Rattle.walrus_module.specs.declared.entry.SectionEntry.{SectionEntry}
+use Rattle.walrus_module.specs.declared.entry.SectionEntry.TheVariants.{Raw, Boxed}
 use Rattle.std.proofs.lemmas.Bool.{cases_lt, cases_order}
 
 past_end : {X : Type 0} (slots : List (Option X)) (i : ℕ) → length slots ≤ i → item_at slots i ≡ None
@@ -23,16 +24,32 @@ past_end (s ∷ slots) (suc i) le = past_end slots i (omega (arith, le))
 item_in : {X : Type 0} (slots : List (Option X)) (i : ℕ) (x : X) → item_at slots i ≡ Some x → Contains (items slots) x
 item_in {X} slots i x e = Contains-map (λ (entry : ℕ × X). entry.1) (i, x) (entries slots) (entry_in slots i x e)
 
+pub same_kind : {V : Type 0} {O : V → Type 0} (s : SectionEntry V O) → SameKind s s
+same_kind (Raw s) = refl
+same_kind (Boxed b) = refl
+
+by_turn : (x : Transform) (old new : Meaning) (b : Bool) → b ≡ true → FollowsBy b x old new → new.state ≡ old.state_after x
+by_turn x old new true on h = h.1
+by_turn x old new false on h = absurd (cc)
+
+module _ {V : Type 0} {O : V → Type 0} (G : (v : V) → Ghosts (O v)) where
+  pub followed_write : FollowedWrite G
+  followed_write x f (Raw s) new writes turn h = absurd writes
+  followed_write x f (Boxed a) (Raw t) writes turn h = absurd h.0
+  followed_write x f (Boxed a) (Boxed b) writes turn h =
+      let still : (y : O b.vtable) → (G b.vtable).contents y ≡ f ((G b.vtable).state y) = subst (λ (v : V). (y : O v) → (G v).contents y ≡ f ((G v).state y)) (sym h.0) writes in
+      (still, still b.value ∙ ap f (by_turn x (meaning G (Boxed a)) (meaning G (Boxed b)) (is_in_turn false (meaning G (Boxed a)).name) turn h.1))
+
 module _ {V : Type 0} {O : V → Type 0} (G : (v : V) → Ghosts (O v)) where
   weaker : (R S : Meaning → Meaning → Type 0) → ((a b : Meaning) → R a b → S a b) → (old new : Option (SectionEntry V O)) → SlotComes G R old new → SlotComes G S old new
   weaker R S f None None h = tt
   weaker R S f None (Some t) h = absurd h
   weaker R S f (Some s) None h = absurd h
-  weaker R S f (Some s) (Some t) h = f _ _ h
+  weaker R S f (Some s) (Some t) h = (h.0, f _ _ h.1)
 
   same_slot : (R : Meaning → Meaning → Type 0) → ((a : Meaning) → R a a) → (s : Option (SectionEntry V O)) → SlotComes G R s s
   same_slot R f None = tt
-  same_slot R f (Some s) = f (meaning G s)
+  same_slot R f (Some s) = (same_kind s, f (meaning G s))
 
   refuses_there : (slots : List (Option (SectionEntry V O))) (i : ℕ) (o : Option (SectionEntry V O)) → item_at slots i ≡ o → MayRefuseAt G o → OneAskedMayRefuse (map (meaning G) (items slots))
   refuses_there slots i None is h = absurd h

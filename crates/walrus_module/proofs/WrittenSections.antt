@@ -157,7 +157,7 @@ module _ {V : Type 0} {O : V → Type 0} (G : (v : V) → Ghosts (O v)) where
   followed_or_not x None None h = tt
   followed_or_not x None (Some t) h = absurd h
   followed_or_not x (Some s) None h = absurd h
-  followed_or_not x (Some s) (Some t) h = inl h
+  followed_or_not x (Some s) (Some t) h = (h.0, inl h.1)
 
   -- where what comes behind it is refused
   pub left_anyway : {X Y E : Type 0} (hands : Bool) (Tells : X → Transform → Type 0) (Other : Y → Transform → Type 0) (Told : Transform → Type 0) (old new : ModuleCustomSections (SectionEntry V O)) (r : X) (e : E)
@@ -197,7 +197,7 @@ module _ {V : Type 0} {O : V → Type 0} (G : (v : V) → Ghosts (O v)) where
   meant_zip R k (None ∷ old) (None ∷ new) many comes = meant_zip R (k + 1) old new (omega (arith, many)) (λ i. comes (suc i))
   meant_zip R k (None ∷ old) (Some t ∷ new) many comes = absurd (comes 0)
   meant_zip R k (Some s ∷ old) (None ∷ new) many comes = absurd (comes 0)
-  meant_zip R k (Some s ∷ old) (Some t ∷ new) many comes = (comes 0, meant_zip R (k + 1) old new (omega (arith, many)) (λ i. comes (suc i)))
+  meant_zip R k (Some s ∷ old) (Some t ∷ new) many comes = ((comes 0).1, meant_zip R (k + 1) old new (omega (arith, many)) (λ i. comes (suc i)))
 
   pub comes_zip : (R : Meaning → Meaning → Type 0) (old new : ModuleCustomSections (SectionEntry V O)) → EachComes G R (sections old) (sections new) → AllZip R (meant G old) (meant G new)
   comes_zip R old new h = meant_zip R 0 (sections old) (sections new) h.places h.comes

@@ -3,6 +3,7 @@ use Rattle.std.specs.Prelude.{ℕ, Bool, true, false, List, length, Option, Some
 use Rattle.wasm_frames.specs.Record as wire
 use Rattle.walrus_base.specs.Arena.{item_at}
 use Rattle.walrus_code.specs.Indices.{index_of}
+use Rattle.walrus_code.specs.Names.{Lookup}
 use Rattle.walrus_code.specs.Transform.{Transform}
 use Rattle.walrus_model.specs.Config.{Config}
 use Rattle.walrus_contents.specs.View.{lent}
@@ -40,11 +41,18 @@ Stays old new = new ≡ old
 abbrev pub MayFollow : Transform → (old new : Meaning) → Type 0
 MayFollow x old new = Follows x old new ⊎ (new ≡ old)
 
+-- One that was read is the same one. One of a caller's own is of the same type: its box has the table that it had, so what it means is said by the
+-- same ghost members, of its new value.
+abbrev pub SameKind : {V : Type 0} {O : V → Type 0} → (old new : SectionEntry V O) → Type 0
+SameKind (Raw s) (Raw t) = t ≡ s
+SameKind (Boxed a) (Boxed b) = b.vtable ≡ a.vtable
+SameKind a b = ⊥
+
 module _ {V : Type 0} {O : V → Type 0} (G : (v : V) → Ghosts (O v)) where
-  -- what is at a place comes to what is there later: a section to a section, and nothing to nothing
+  -- what is at a place comes to what is there later: a section to one of its kind, and nothing to nothing
   abbrev pub SlotComes : (Meaning → Meaning → Type 0) → (old new : Option (SectionEntry V O)) → Type 0
   SlotComes R None None = ⊤
-  SlotComes R (Some s) (Some t) = R (meaning G s) (meaning G t)
+  SlotComes R (Some s) (Some t) = SameKind s t × R (meaning G s) (meaning G t)
   SlotComes R a b = ⊥
 
   -- so it does at each place, and there are as many
@@ -62,6 +70,18 @@ module _ {V : Type 0} {O : V → Type 0} (G : (v : V) → Ghosts (O v)) where
     pub places : length new ≡ length old
     pub comes : SlotComes R (item_at old at) (item_at new at)
     pub others : (i : ℕ) → i ≢ at → item_at new i ≡ item_at old i
+
+module _ {V : Type 0} {O : V → Type 0} (G : (v : V) → Ghosts (O v)) where
+  -- A caller's own whose type writes by its state: each value of that type says what f says of the value's state.
+  abbrev pub WritesByState : (f : List ℕ → Lookup → List ℕ) → SectionEntry V O → Type 0
+  WritesByState f (Raw s) = ⊥
+  WritesByState f (Boxed b) = (x : O b.vtable) → (G b.vtable).contents x ≡ f ((G b.vtable).state x)
+
+  -- so it does behind a transform, which it was handed: of the state that the old one gives for it
+  abbrev pub FollowedWrite : Type 0
+  FollowedWrite =
+      (x : Transform) (f : List ℕ → Lookup → List ℕ) (old new : SectionEntry V O) → WritesByState f old → is_in_turn false (meaning G old).name ≡ true
+      → SlotComes G (Follows x) (Some old) (Some new) → WritesByState f new × ((meaning G new).contents ≡ f ((meaning G old).state_after x))
 
 module _ {V : Type 0} {O : V → Type 0} where
   abbrev pub IsRaw : Option (SectionEntry V O) → Type 0

@@ -20,6 +20,7 @@ pub enum SectionEntry {
 }
 
 impl SectionEntry {
+    ghost use Rattle.walrus_module.specs.Following.{SameKind};
     ghost use Rattle.walrus_module.specs.Meaning.{meaning};
 
     /// The section's name.
@@ -60,11 +61,12 @@ impl SectionEntry {
         }
     }
 
-    /// Follows the code to its new places.
+    /// Follows the code to its new places. What was read stays, and a caller's own stays of its type, whatever it answers.
     pub fn apply_code_transform(&mut self, transform: &CodeTransform) -> Result<()>
         ensures value { OnOk result ((meaning ⟦<dyn CustomSection as CustomSection>⟧ self.new).state
             ≡ (meaning ⟦<dyn CustomSection as CustomSection>⟧ self.old).state_after
             (transform_of transform.now)) }
+        ensures same_kind { SameKind self.old self.new }
         ensures same_name { (meaning ⟦<dyn CustomSection as CustomSection>⟧ self.new).name
             ≡ (meaning ⟦<dyn CustomSection as CustomSection>⟧ self.old).name }
         ensures refused { OnErr result (meaning ⟦<dyn CustomSection as CustomSection>⟧ self.new
@@ -73,7 +75,7 @@ impl SectionEntry {
             result }
     {
         match self {
-            SectionEntry::Raw(section) => section.apply_code_transform(transform),
+            SectionEntry::Raw(_) => Ok(()),
             SectionEntry::Boxed(section) => section.apply_code_transform(transform),
         }
     }

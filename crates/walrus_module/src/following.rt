@@ -4,7 +4,7 @@ ghost use Rattle.walrus_base.specs.Arena.{item_at, items};
 ghost use Rattle.walrus_base.specs.Id.{place};
 ghost use Rattle.walrus_parts.specs.Section.{FailsAsSection};
 ghost use Rattle.walrus_parts.specs.Transform.{transform_of};
-ghost use Rattle.walrus_module.specs.Following.{AreRaw, EachComes, Follows, IsRaw, MayFollow, MayRefuseAt, OneComes, Stays};
+ghost use Rattle.walrus_module.specs.Following.{AreRaw, EachComes, Follows, IsRaw, MayFollow, MayRefuseAt, OneComes, SameKind, Stays};
 ghost use Rattle.walrus_module.specs.Meaning.{meaning};
 ghost use Rattle.walrus_module.specs.Asked.{IsRefusedBy, OneAskedMayRefuse, is_in_turn};
 
@@ -26,15 +26,13 @@ impl SectionEntry {
             result }
         ensures debug { IfErr result (λ _. is_in_turn false
             (meaning ⟦<dyn CustomSection as CustomSection>⟧ self.old).name ≡ true) }
+        ensures same_kind { SameKind self.old self.new }
         ensures raw { IsRaw (Some self.old) → self.new ≡ self.old }
     {
         if !is_in_turn(self.name(), false) {
             return Ok(());
         }
-        match self {
-            SectionEntry::Raw(_) => Ok(()),
-            SectionEntry::Boxed(section) => section.apply_code_transform(transform),
-        }
+        self.apply_code_transform(transform)
     }
 }
 

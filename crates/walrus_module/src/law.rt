@@ -2,6 +2,7 @@
 ghost use Rattle.walrus_rules.specs.OkLaws.{AreCounted};
 ghost use Rattle.walrus_rules.specs.Once.{TypesLocals};
 ghost use Rattle.walrus_module.specs.Check.{CheckedIsWellMade};
+ghost use Rattle.walrus_module.specs.Following.{FollowedWrite};
 ghost use Rattle.walrus_module.specs.Laws.{AbsentIsUncounted, EmitsAgain, HeldAreCounted, UnsayableIsOpen};
 ghost use Rattle.walrus_module.specs.View.{view};
 
@@ -31,4 +32,11 @@ pub fn bodies_are_counted(module: &Module)
 /// `name` or `producers`. The parameter only names the type of custom sections.
 pub fn checked_is_well_made(_module: &Module)
     ensures { CheckedIsWellMade ⟦<dyn CustomSection as CustomSection>⟧ }
+{}
+
+/// Where each value of a caller's type of sections says under indices what its state tells, a section of that type that followed a code transform in its box says
+/// what the state tells that the old one gave for it, and its type is such a one again: it is the same type. The parameter only names the type of
+/// custom sections.
+pub fn followed_sections_write_by_state(_module: &Module)
+    ensures { FollowedWrite ⟦<dyn CustomSection as CustomSection>⟧ }
 {}
