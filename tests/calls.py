@@ -30,7 +30,7 @@ What callers need first stands first; what lies below a module stands in front o
 GROUPS = {
     "Modules": ("walrus_module",),
     "Items, collection by collection": ("walrus_items",),
-    "Errors, custom sections, what imports bring and exports export": ("walrus_parts", "walrus_producers"),
+    "Errors, custom sections, what imports bring and exports export": ("walrus_parts", "walrus_producers", "walrus"),
     "Building functions": ("walrus_builder",),
     "Functions with a body, and operators": ("walrus_text", "walrus_functions", "walrus_bodies", "walrus_code"),
     "Types and constants": ("walrus_types",),

@@ -18,3 +18,6 @@ pub mod TracedSearch
 pub mod ChainsBack
 pub mod SameChains
 pub mod WholeLemmas
+pub mod ListedRoots
+pub mod MoveLemmas
+pub mod StateLemmas

@@ -16,3 +16,6 @@ pub mod Worklist
 pub mod Why
 pub mod Traced
 pub mod Whole
+pub mod Listed
+pub mod Places
+pub mod PlacesLaws

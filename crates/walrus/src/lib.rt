@@ -8,10 +8,13 @@ pub mod law;
 mod message;
 pub mod passes;
 mod report;
+mod sections;
 pub mod tool;
 mod transfer;
 mod work;
 
+pub use sections::ListedSection;
+pub use sections::PlacesSection;
 pub use walrus_ir::CustomSectionKey;
 pub use walrus_ir::DataKey;
 pub use walrus_ir::ElementKey;

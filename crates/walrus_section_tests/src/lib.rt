@@ -2,6 +2,8 @@
 //! those that are made of indices.
 #![tactic(auto)]
 
+#[cfg(test)]
+mod followed;
 pub mod follower;
 #[cfg(test)]
 mod found_names;

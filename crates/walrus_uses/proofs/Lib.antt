@@ -14,7 +14,6 @@ mod LineLemmas
 mod ListedBytes
 mod ListedEnds
 mod ListedReached
-mod ListedRoots
 mod ListedWritten
 mod Looked
 mod Matched

@@ -8,7 +8,8 @@ use Rattle.walrus_rules.proofs.StepHandlers.{Contains-split}
 use Rattle.walrus_parts.specs.declared.error.Error.{Error}
 use Rattle.walrus_items.specs.Functions.{FunctionValue}
 use Rattle.walrus_uses.specs.Finding.{BeginsWith, FindsFirst, FindsListed, IsThere}
-use Rattle.walrus_uses.specs.Listed.{Lists, index_bytes, list_bytes}
+use Rattle.walrus.specs.Listed.{index_bytes, list_bytes}
+use Rattle.walrus_uses.specs.Listed.{Lists}
 
 -- what stands behind an index is told by the bytes
 same_rest : (i j : ℕ) (xs ys : List ℕ) → index_bytes i ++ xs ≡ index_bytes j ++ ys → xs ≡ ys

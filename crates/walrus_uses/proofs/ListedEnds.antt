@@ -44,7 +44,8 @@ use Rattle.walrus_uses.proofs.FirstRaw.{FoundRaw, IsFirstRaw, found, gone_at, me
 use Rattle.walrus_uses.proofs.ListedReached.{listed_made, reached_there}
 use Rattle.walrus_uses.proofs.ListedWritten.{lists_again}
 use Rattle.walrus_uses.specs.Finding.{FindsListed, IsReady, IsThere}
-use Rattle.walrus_uses.specs.Listed.{AsksToKeep, HasFirst, HasNone, KeepsListed, Lists, ListsFunctions, found_bytes, listing}
+use Rattle.walrus.specs.Listed.{found_bytes}
+use Rattle.walrus_uses.specs.Listed.{AsksToKeep, HasFirst, HasNone, KeepsListed, Lists, ListsFunctions, listing}
 use Rattle.walrus_uses.specs.Listing.{AnswersListed, Finishes, IsFinished, MayListAgain}
 use Rattle.walrus_uses.specs.Metadata.{section_of}
 

@@ -13,7 +13,8 @@ use Rattle.walrus_model.specs.Roots.{asked_for}
 use Rattle.walrus_model.proofs.Lists.{Contains-head, Contains-map, Contains-tail}
 use Rattle.walrus_rules.proofs.StepLeaves.{between}
 use Rattle.walrus_uses.proofs.Sections.{stands_among}
-use Rattle.walrus_uses.specs.Listed.{HasListing, found_bytes, list_bytes, listing}
+use Rattle.walrus.specs.Listed.{found_bytes, list_bytes}
+use Rattle.walrus_uses.specs.Listed.{HasListing, listing}
 use Rattle.walrus_uses.specs.Listing.{IsFinished, ListsAgain}
 use Rattle.walrus_uses.specs.Metadata.{section_of}
 

@@ -19,7 +19,8 @@ use Rattle.walrus_module.specs.Settings.{settings}
 use Rattle.walrus_module.specs.View.{meanings, view}
 use Rattle.walrus_module.specs.declared.entry.SectionEntry.{SectionEntry}
 use Rattle.walrus_module.specs.declared.module.Module.{Module}
-use Rattle.walrus_uses.specs.Listed.{Lists, index_bytes}
+use Rattle.walrus.specs.Listed.{index_bytes}
+use Rattle.walrus_uses.specs.Listed.{Lists}
 use Rattle.walrus_uses.specs.Listing.{Finishes}
 
 -- ---- which functions bytes list

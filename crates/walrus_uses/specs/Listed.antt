@@ -1,23 +1,15 @@
 -- A custom section that lists functions which are to be kept ("Binary Format > Custom Section"). Its data is their indices, one behind the other,
 -- four bytes each, the lowest first.
 use Rattle.std.specs.Prelude.{ℕ, List, [], ◌∷◌, ◌++◌, map, flat_map, Option, Some, None, Contains, false, ◌≡◌, ◌≢◌, ◌<◌, ◌^◌}
-use Rattle.wasm_forms.specs.Spelling.{little_bytes}
 use Rattle.walrus_types.specs.Operators.{Functions, function_item}
 use Rattle.walrus_model.specs.Abstract.{Abstract, Custom}
 use Rattle.walrus_model.specs.Customs.{is_debug_name}
 use Rattle.walrus_model.specs.Live.{IsLive}
 use Rattle.walrus_module.specs.Asked.{is_dylink_name}
+use Rattle.walrus.specs.Listed.{found_bytes, list_bytes}
 use Rattle.walrus_uses.specs.Metadata.{section_of}
 
 -- ---- the format
-
--- an index in four bytes, the lowest first
-abbrev pub index_bytes : ℕ → List ℕ
-index_bytes i = little_bytes 4 i
-
--- indices, one behind the other
-abbrev pub list_bytes : List ℕ → List ℕ
-list_bytes indices = flat_map index_bytes indices
 
 -- the bytes list these indices, each of which has 32 bits and is of something that is there
 pub record Lists (Is : ℕ → Type 0) (bytes indices : List ℕ) : Type 0 where
@@ -29,11 +21,6 @@ abbrev pub ListsFunctions : Abstract → (bytes indices : List ℕ) → Type 0
 ListsFunctions v bytes indices = Lists (λ i. IsLive v (Functions, i)) bytes indices
 
 -- ---- the section
-
--- the index that was found, in its bytes; none where there is none
-abbrev pub found_bytes : Option ℕ → List ℕ
-found_bytes None = []
-found_bytes (Some i) = index_bytes i
 
 -- a section of this name that lists these functions by the indices that they come to have
 abbrev pub listing : (name functions : List ℕ) → Custom

@@ -7,7 +7,6 @@ mod counting;
 mod ending;
 mod law;
 mod lines;
-mod listed;
 mod listing;
 mod metadata;
 mod moving;

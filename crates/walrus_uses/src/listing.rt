@@ -7,9 +7,11 @@ ghost use Rattle.walrus_uses.specs.Finding.{FindsFirst, FindsListed};
 ghost use Rattle.walrus_uses.specs.Listing.{AnswersListed};
 
 use crate::ending::finished;
-use crate::listed::Listed;
 use std::alloc::Global;
-use walrus::{Error, FunctionId, Module, ModuleFunctions, RawCustomSection, Result, SectionEntry};
+use walrus::{
+    Error, FunctionId, ListedSection, Module, ModuleFunctions, RawCustomSection, Result,
+    SectionEntry,
+};
 
 // The function whose index stands first in the bytes, and the bytes behind it.
 fn first_listed<'a>(funcs: &ModuleFunctions, bytes: &'a [u8]) -> Result<(FunctionId, &'a [u8])>
@@ -56,7 +58,7 @@ pub fn keep_listed(alloc: Global, bytes: &[u8], name: &str) -> Result<Vec<u8>>
     };
     let RawCustomSection { name, data_ } = section;
     let ids = listed(alloc, &module.funcs, &data_)?;
-    let own = Box::new(alloc, Listed { alloc, name, ids })?;
+    let own = Box::new(alloc, ListedSection::new(alloc, name, ids))?;
     module.customs.add(SectionEntry::Boxed(own))?;
     finished(alloc, module)
 }

@@ -10,6 +10,7 @@ use Rattle.walrus_module.specs.Meaning.{Meaning}
 use Rattle.walrus_module.specs.declared.entry.SectionEntry.TheVariants.{Boxed}
 use Rattle.walrus_uses.proofs.ListedEnds.{edited_answers, edited_ready, list_refused, listed_meaning, passed_answers, passed_ready}
 use Rattle.walrus_uses.specs.Finding.{FindsListed}
+use Rattle.walrus.specs.Listed.{listed_functions, listed_name}
 use Rattle.walrus_uses.proofs.listing.keep_listed.OwnLists as own
 use Rattle.walrus_uses.proofs.listing.keep_listed.Goals as goal
 
@@ -39,8 +40,8 @@ returns c =
     let still = ap (λ (f : Flags). f.preserve_code_transform) m.ensures.configured in
     let fs = places c.in_ok-ids.ids.items in
     let lists = subst (λ (bytes : List ℕ). FindsListed (functions m.module.funcs) bytes (Ok c.in_ok-ids.ids)) c.deref.ensures.value c.in_ok-ids.ensures in
-    let named : string_bytes c.in_ok-own.own.value.name ≡ string_bytes c.in-Some.section.name = search rules in
-    let listed : places c.in_ok-own.own.value.ids.items ≡ fs = search rules in
+    let named : listed_name c.in_ok-own.own.value ≡ string_bytes c.in-Some.section.name = search rules in
+    let listed : listed_functions c.in_ok-own.own.value ≡ fs = search rules in
     let means = read_made own.own-1 own.entry-1-1 own.at-1-1 own.same-1-1 Meaning (λ j y. record { name = j.1.section_name y; state = j.1.state y; roots = j.1.own_roots y; may_refuse = j.1.may_refuse y; contents = j.1.contents y; state_after = j.1.state_after y }) _ _ _ c.into_dyn_box.ensures.1 ∙ ap₂ (λ (n gs : List ℕ). listed_meaning n gs) named listed in
     edited_answers _ (config_of defaults) c.args.bytes.now c.args.name.now m.module m.ensures.found m.ensures.kept.raws m.ensures.kept.are is still c.remove_raw.new.self c.remove_raw.ensures.left c.in-Some.section c.in-Some.ensures.value
     fs lists (Boxed c.into_dyn_box.result) means c.add.new.self c.in_ok-add.ensures.1
