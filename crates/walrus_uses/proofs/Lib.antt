@@ -10,6 +10,9 @@ mod EachMoves
 mod EditEnds
 mod Finishing
 mod FirstRaw
+mod FunctionsThere
+mod HookEnds
+mod HookSteps
 mod LineLemmas
 mod ListedBytes
 mod ListedEnds

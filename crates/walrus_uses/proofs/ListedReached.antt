@@ -18,12 +18,19 @@ use Rattle.walrus_rules.proofs.StepRead.{read_is_plain}
 use Rattle.walrus_module.specs.Parsed.{IsParsed}
 use Rattle.walrus_module.proofs.EditedKeeps.{kept_on}
 
+-- where what items keep is there, all that is there leads to what is there
+module _ (c : Config) (m : Abstract) (made : IsWellMade c m) (keeps : (x y : Item) → IsLive m x → KeepsToo m x y → IsLive m y) where
+  pub all_lead : (x : Item) → IsLive m x → LeadsToLive m x
+  all_lead x here y itself = here
+  all_lead x here y (further k z h (inl at)) = made.rules.indices.written k y at
+  all_lead x here y (further k z h (inr q)) = keeps k y (all_lead x here k h) q
+
 module _ (c : Config) (bytes : List ℕ) (v : Abstract) (parsed : IsParsed c bytes v) (made : IsWellMade c v) where
   abbrev read : Abstract
   read = parsed.module_read
 
   -- what is kept beside what is written in an item is there, where the item is
-  keeps_live : (x y : Item) → IsLive v x → KeepsToo v x y → IsLive v y
+  pub keeps_live : (x y : Item) → IsLive v x → KeepsToo v x y → IsLive v y
   keeps_live (Functions, f) y live (t, at, is) =
       let plain = read_is_plain c bytes read parsed.reads in
       let needed = (places_of c read v parsed.parsed plain parsed.holds f (live_back c read v parsed.parsed (Functions, f) (λ e. absurd (cc)) live)).back t at in
@@ -47,9 +54,7 @@ module _ (c : Config) (bytes : List ℕ) (v : Abstract) (parsed : IsParsed c byt
     stays = customs_stay c v W made refl free (λ x at asked. inr (asked x at))
 
     leads : (x : Item) → IsLive W x → LeadsToLive W x
-    leads x here y itself = here
-    leads x here y (further k z h (inl at)) = (stays.made).rules.indices.written k y at
-    leads x here y (further k z h (inr keeps)) = live_on v customs roots y (keeps_live k y (live_back_own v customs roots k (leads x here k h)) (kept_on v W k y (λ i is. refl) (λ i is. refl) (λ i is. refl) keeps))
+    leads = all_lead c W stays.made (λ x y here keeps. live_on v customs roots y (keeps_live x y (live_back_own v customs roots x here) (kept_on v W x y (λ i is. refl) (λ i is. refl) (λ i is. refl) keeps)))
 
     pub listed_made : IsWellMade c W
     listed_made = stays.made

@@ -24,7 +24,7 @@ abbrev pub names : List ℕ → ℕ × ExportValue → Bool
 names name d = is_named name d.1
 
 -- where nothing is found no export has the name
-no_other : (name : List ℕ) (all : List (Option ExportValue)) → named name all ≡ None → (d : Export) → Contains (map export_of (items all)) d → d.name ≢ name
+pub no_other : (name : List ℕ) (all : List (Option ExportValue)) → named name all ≡ None → (d : Export) → Contains (map export_of (items all)) d → d.name ≢ name
 no_other name all none d has same =
     let x = Contains-unmap export_of (items all) d has in
     let at = item_seen all x.0 x.1 in

@@ -2,6 +2,7 @@ pub mod Count
 pub mod Counted
 pub mod Edited
 pub mod Finding
+pub mod Hooked
 pub mod Listed
 pub mod Listing
 pub mod Metadata

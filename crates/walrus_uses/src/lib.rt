@@ -5,6 +5,7 @@
 mod calls;
 mod counting;
 mod ending;
+mod hooking;
 mod law;
 mod lines;
 mod listing;
@@ -20,6 +21,7 @@ mod stubbing;
 mod traps;
 
 pub use counting::count_calls;
+pub use hooking::with_export;
 pub use law::moves_once;
 pub use listing::keep_listed;
 pub use metadata::with_metadata;

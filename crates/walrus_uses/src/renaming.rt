@@ -24,7 +24,7 @@ fn find(all: &ModuleExports, name: &str) -> Option<ExportId>
 }
 
 // Whether something is exported under this name.
-fn is_taken(all: &ModuleExports, name: &str) -> bool
+pub(crate) fn is_taken(all: &ModuleExports, name: &str) -> bool
     ensures { result ≡ is_some (named name.now (exports all.now)) }
 {
     find(all, name).is_some()

@@ -1,6 +1,7 @@
 //! Each caller on a small module, whose bytes were worked out by hand.
 
 use crate::counting::count_calls;
+use crate::hooking::with_export;
 use crate::listing::keep_listed;
 use crate::metadata::with_metadata;
 use crate::moving::moves;
@@ -143,6 +144,34 @@ fn missing_and_taken_names_are_refused(rt: HostRuntime) -> std::result::Result<(
     demand(is_refused(missing, "not found"), "no export to drop")?;
     let taken = rename_export(rt.alloc(), &bytes, "g", "g", "f");
     demand(is_refused(taken, "a name that is taken"), "taken")
+}
+
+// ---- with_export
+
+// Both functions of `TWO`; the first, which nothing reached, is exported as `g`.
+const ONE_MORE: &str =
+    "00 61 73 6D 01 00 00 00 01 04 01 60 00 00 03 03 02 00 00 07 09 02 01 66 00 01 01 67 00 00 0A 08 02 03 00 01 0B 02 00 0B 00 27 09 70 72 6F 64 75 63 65 72 73 01 0C 70 72 6F 63 65 73 73 65 64 2D 62 79 01 06 77 61 6C 72 75 73 06 30 2E 32 38 2E 30";
+
+#[test]
+fn a_function_is_exported_by_its_index(rt: HostRuntime) -> std::result::Result<(), Fail> {
+    let bytes = bytes_of(rt.alloc(), TWO)?;
+    demand_output(
+        rt.alloc(),
+        with_export(rt.alloc(), &bytes, 0, "g"),
+        ONE_MORE,
+    )
+}
+
+#[test]
+fn other_indices_and_taken_names_are_refused(rt: HostRuntime) -> std::result::Result<(), Fail> {
+    let bytes = bytes_of(rt.alloc(), TWO)?;
+    let missing = with_export(rt.alloc(), &bytes, 2, "g");
+    demand(is_refused(missing, "not found"), "an index of no function")?;
+    let taken = with_export(rt.alloc(), &bytes, 0, "f");
+    demand(
+        is_refused(taken, "a name that is taken"),
+        "the name of an export",
+    )
 }
 
 // ---- stub
