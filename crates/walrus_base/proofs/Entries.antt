@@ -1,6 +1,6 @@
 -- The entries of a list of slots, and where they stand.
 use Rattle.std.proofs.Common.{◌≡◌, ℕ, suc, ◌+◌, List, [], ◌∷◌, map, Option, Some, None, option_map, refl, sym, ap, ◌∙◌, arith, add-zero}
-use Rattle.std.specs.Prelude.{All, IsSome}
+use Rattle.std.specs.Prelude.{All}
 use Rattle.std.proofs.lemmas.List.Elements.{All-nil, All-cons}
 use Rattle.walrus_base.specs.Arena.{item_at, IsLive, entries_from, entries, live_places}
 use Rattle.walrus_base.specs.Id.{place}

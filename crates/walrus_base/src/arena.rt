@@ -1,5 +1,5 @@
 //! Items by their ids, in the order in which they came.
-ghost use Rattle.std.specs.Prelude.{ℕ, ◌≡◌, ◌<◌, ◌++◌, ◌∷◌, [], length, map, All, Some, None, IfOk, IsTrue, IsSome, IsOk, OnOk, ◌↔◌, MatchResult, count_by, is_some, slice_set, vec_len, if◌then◌else◌};
+ghost use Rattle.std.specs.Prelude.{ℕ, ◌≡◌, ◌<◌, ◌++◌, ◌∷◌, [], length, map, All, Some, None, IfOk, IsTrue, IsSome, IsOk, OnOk, ◌↔◌, MatchResult, count_by, is_some, slice_set, if◌then◌else◌};
 ghost use Rattle.std.specs.Borrow.{sem};
 ghost use Rattle.std.specs.Iterator.{YieldsFirstBy, item_count};
 ghost use Rattle.walrus_base.specs.Arena.{HasRoom, slots, item_at, IsLive, entries, entries_left, kept_by, live_places};

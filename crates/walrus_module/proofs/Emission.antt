@@ -21,7 +21,7 @@ use Rattle.walrus_module.specs.Answered.{WritesUnless}
 use Rattle.walrus_module.specs.Following.{LeavesCustoms}
 use Rattle.walrus_module.specs.Left.{ChangesElements, LeavesBy, but_customs}
 use Rattle.walrus_module.specs.Meaning.{Meaning}
-use Rattle.walrus_module.specs.View.{custom_of, kept_by, meant, with_sections}
+use Rattle.walrus_module.specs.View.{custom_of, meant, with_sections}
 use Rattle.walrus_module.specs.declared.customs.ModuleCustomSections.{ModuleCustomSections}
 use Rattle.walrus_module.specs.declared.entry.SectionEntry.{SectionEntry}
 use Rattle.walrus_module.specs.declared.module.Module.{Module}

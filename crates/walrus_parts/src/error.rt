@@ -55,7 +55,7 @@ pub enum Error {
     NotImported,
     /// The function is exported and not local, or imported by name and not of import kind.
     NotReplaceable,
-    /// A caller's section or closure refused, with this text.
+    /// A caller's section or closure refused, or the program that uses the library, with this text.
     Caller(String),
 }
 

@@ -4,7 +4,7 @@ use crate::page::Page;
 use std::alloc::{AllocError, Global};
 use std::result;
 use test_support::is_text;
-use walrus::{ExportItem, FunctionKind, Module, Result};
+use walrus::{FunctionKind, Module, Result};
 
 fn kind_of(kind: &FunctionKind) -> &str {
     match kind {

@@ -28,7 +28,9 @@ mod MovesRuns
 mod MovesTrue
 mod OneNumber
 mod OwnOps
+mod PlacedEnds
 mod PlacedOps
+mod PlacedSlots
 mod Places
 mod ReadBodies
 mod ReasonEnds

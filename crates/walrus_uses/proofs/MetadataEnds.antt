@@ -45,7 +45,7 @@ use Rattle.walrus_uses.specs.Metadata.{CarriesMetadata, GainsSection, section_of
 
 -- ---- names
 
-or_left : (a b : Bool) → (a || b) ≡ false → (a ≡ false) × (b ≡ false)
+pub or_left : (a b : Bool) → (a || b) ≡ false → (a ≡ false) × (b ≡ false)
 or_left true b h = absurd (let no_such : true ≡ false = h in cc)
 or_left false b h = (refl, h)
 
@@ -53,10 +53,10 @@ module _ (name : List ℕ) (free : is_apart name ≡ false) where
   abbrev parts : (bytes_eq name (codes "name") ≡ false) × ((bytes_eq name (codes "producers") || is_debug_name name) ≡ false)
   parts = or_left (bytes_eq name (codes "name")) (bytes_eq name (codes "producers") || is_debug_name name) free
 
-  no_debug : is_debug_name name ≡ false
+  pub no_debug : is_debug_name name ≡ false
   no_debug = (or_left (bytes_eq name (codes "producers")) (is_debug_name name) parts.1).1
 
-  own_name : (name ≢ codes "name") × (name ≢ codes "producers")
+  pub own_name : (name ≢ codes "name") × (name ≢ codes "producers")
   own_name = (differs name (codes "name") parts.0, differs name (codes "producers") (or_left (bytes_eq name (codes "producers")) (is_debug_name name) parts.1).0)
 
 -- ---- the module with the section

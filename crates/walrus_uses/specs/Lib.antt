@@ -7,6 +7,7 @@ pub mod Listed
 pub mod Listing
 pub mod Metadata
 pub mod Moves
+pub mod Placed
 pub mod Reasons
 pub mod Renamed
 pub mod Snip

@@ -11,6 +11,7 @@ mod lines;
 mod listing;
 mod metadata;
 mod moving;
+mod placing;
 mod reasons;
 mod renaming;
 #[cfg(test)]
@@ -26,6 +27,7 @@ pub use law::moves_once;
 pub use listing::keep_listed;
 pub use metadata::with_metadata;
 pub use moving::moves;
+pub use placing::with_places;
 pub use reasons::why;
 pub use renaming::rename_export;
 pub use shrinking::shrink;

@@ -11,7 +11,7 @@ use std::alloc::Global;
 use walrus::{Error, Module, RawCustomSection, Result, SectionEntry};
 
 // Whether the format, or the library, keeps sections of this name for itself: names, producers and debug information.
-fn is_taken(name: &str) -> bool
+pub(crate) fn is_taken(name: &str) -> bool
     ensures { result ≡ is_apart name.now }
 {
     name == "name" || (name == "producers" || name.starts_with(".debug"))

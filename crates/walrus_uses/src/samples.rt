@@ -5,6 +5,7 @@ use crate::hooking::with_export;
 use crate::listing::keep_listed;
 use crate::metadata::with_metadata;
 use crate::moving::moves;
+use crate::placing::with_places;
 use crate::reasons::why;
 use crate::renaming::rename_export;
 use crate::shrinking::shrink;
@@ -117,6 +118,34 @@ fn a_name_of_the_format(rt: HostRuntime) -> std::result::Result<(), Fail> {
     demand(
         is_refused(answer, "a name of the format's own"),
         "producers",
+    )
+}
+
+// ---- with_places
+
+// Two functions, of which the smaller stands first: its operator begins at 31, those of the other, which is exported, at 34 and 35.
+const SMALL_FIRST: &str =
+    "00 61 73 6D 01 00 00 00 01 04 01 60 00 00 03 03 02 00 00 07 05 01 01 66 00 01 0A 08 02 02 00 0B 03 00 01 0B";
+
+// The larger one stands first, its operators at 31 and 32, that of the other at 35; behind producers the section `map`, which says 32 and 7, 35 and 9.
+const WITH_MAP: &str =
+    "00 61 73 6D 01 00 00 00 01 04 01 60 00 00 03 03 02 00 00 07 05 01 01 66 00 00 0A 08 02 03 00 01 0B 02 00 0B 00 27 09 70 72 6F 64 75 63 65 72 73 01 0C 70 72 6F 63 65 73 73 65 64 2D 62 79 01 06 77 61 6C 72 75 73 06 30 2E 32 38 2E 30 00 14 03 6D 61 70 20 00 00 00 07 00 00 00 23 00 00 00 09 00 00 00";
+
+#[test]
+fn places_follow_the_code(rt: HostRuntime) -> std::result::Result<(), Fail> {
+    let bytes = bytes_of(rt.alloc(), SMALL_FIRST)?;
+    let pairs = vec![in rt.alloc(); (35u32, 7u32), (30, 8), (31, 9)]?;
+    let output = with_places(rt.alloc(), &bytes, "map", &pairs);
+    demand_output(rt.alloc(), output, WITH_MAP)
+}
+
+#[test]
+fn a_name_of_dynamic_linking(rt: HostRuntime) -> std::result::Result<(), Fail> {
+    let bytes = bytes_of(rt.alloc(), SMALL_FIRST)?;
+    let answer = with_places(rt.alloc(), &bytes, "dylink", &[]);
+    demand(
+        is_refused(answer, "a name of the format's own"),
+        "dynamic linking",
     )
 }
 

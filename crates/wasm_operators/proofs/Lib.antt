@@ -3,6 +3,7 @@ pub mod Lookup
 pub mod OneRead
 pub mod OneStands
 pub mod Pushed
+pub mod Refusals
 pub mod Skipped
 pub mod Stands
 pub mod Taken

@@ -20,4 +20,4 @@ pub use operator::{RawArg, RawArgs, RawBlock, RawOperator};
 pub use read::read_operator;
 pub use standing::is_operator;
 pub use table::kinds;
-pub use write::write_operator;
+pub use write::{memory_of, write_operator};

@@ -1,6 +1,7 @@
 //! Operators, written (Binary Format > Instructions).
 
-ghost use Rattle.std.specs.Prelude.{◌≡◌, ◌∷◌, [], ◌++◌, IfOk};
+ghost use Rattle.std.specs.Prelude.{◌≡◌, ◌≢◌, ◌∷◌, [], ◌++◌, IfOk};
+ghost use Rattle.wasm_forms.specs.declared.error.WireError.TheVariants.{Malformed, TooLarge};
 ghost use Rattle.wasm_forms.specs.Spelling.{row_bytes};
 ghost use Rattle.wasm_forms.specs.Types.{heap_bytes, value_bytes};
 ghost use Rattle.wasm_operators.specs.Operators.{op_of};
@@ -9,10 +10,21 @@ ghost use Rattle.wasm_operators.specs.Spelling.{block_bytes, access_bytes, arg_b
 use crate::operator::{RawArg, RawBlock, RawOperator};
 use std::alloc::AllocError;
 use wasm_forms::{
-    RawHeap, RawVal, Written, write_f32, write_f64, write_heap_type, write_index, write_s32,
-    write_s64, write_u32, write_u64,
+    RawHeap, RawVal, WireError, Written, write_f32, write_f64, write_heap_type, write_index,
+    write_s32, write_s64, write_u32, write_u64,
 };
 use wasm_opcodes::types::EMPTY_BLOCK;
+
+/// The memory that was refused, where nothing else can have been.
+pub fn memory_of(error: WireError) -> AllocError
+    requires malformed { error ≢ Malformed }
+    requires large { error ≢ TooLarge }
+{
+    match error {
+        WireError::Memory(failed) => failed,
+        WireError::Malformed | WireError::TooLarge => unreachable!(),
+    }
+}
 
 /// Writes a value type.
 fn write_value(to: &mut Vec<u8>, value: &RawVal) -> Result<(), AllocError>
@@ -20,7 +32,7 @@ fn write_value(to: &mut Vec<u8>, value: &RawVal) -> Result<(), AllocError>
 {
     match value.write(to) {
         Ok(()) => Ok(()),
-        Err(_) => Err(AllocError),
+        Err(error) => Err(memory_of(error)),
     }
 }
 
@@ -30,7 +42,7 @@ fn write_heap(to: &mut Vec<u8>, heap: &RawHeap) -> Result<(), AllocError>
 {
     match write_heap_type(to, heap) {
         Ok(()) => Ok(()),
-        Err(_) => Err(AllocError),
+        Err(error) => Err(memory_of(error)),
     }
 }
 

@@ -16,5 +16,6 @@ pub mod Marked
 pub mod Steps
 pub mod Renaming
 pub mod Staying
+pub use Rattle.wasm_operators.proofs.Refusals
 pub use Rattle.wasm_operators.proofs.Stands
 pub use Rattle.wasm_operators.proofs.Taken

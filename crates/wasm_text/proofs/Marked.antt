@@ -1,13 +1,9 @@
 -- What stands at a mark, by its kind.
 use Rattle.std.proofs.Common.{◌≡◌, ℕ, zero, suc, ◌-◌, ◌≤◌, Bool, true, false, List, drop, length, refl, sym, ap, subst, ◌∙◌, arith, ℤ}
-use Rattle.std.specs.Prelude.{Option, Some, None, Err, nat_eq, option_map}
+use Rattle.std.specs.Prelude.{Option, Some, None, nat_eq, option_map}
 use Rattle.std.proofs.lemmas.Bool.{eqb-true}
 use Rattle.std.proofs.lemmas.List.{length-drop}
 use Rattle.wasm_forms.specs.Grammar.{Form, Is, U32, U64, S32 as FormS32, S64 as FormS64, Made, Fails, ◌then◌, at, choose}
-use Rattle.wasm_forms.specs.Reading.{Refuses}
-use Rattle.wasm_forms.specs.Writing.{Adds}
-use Rattle.wasm_forms.specs.declared.error.WireError.{WireError}
-use Rattle.wasm_forms.specs.declared.error.WireError.TheVariants.{Malformed, Memory, TooLarge}
 use Rattle.wasm_forms.proofs.Bind.{some_same, some_not_none}
 use Rattle.wasm_forms.proofs.Exact.{exact}
 use Rattle.wasm_operators.specs.declared.operator.RawArg.{RawArg}
@@ -127,25 +123,3 @@ stands_again {A} form bytes from behind value value' rest s e =
 
 pub standing_read : {A : Type 0} (form : Form A) (bytes : List ℕ) (from behind : ℕ) (value : A) → Stands form bytes from behind value → at form (drop from bytes) ≡ None → ⊥
 standing_read form bytes from behind value s none = some_not_none (value, drop behind bytes) (sym (read_at form bytes from behind value s) ∙ none)
-
--- ---- refusals
-
-pub malformed_none : {Y : Type 0} (error : WireError) (read : Option Y) → Refuses error read → error ≡ Malformed → read ≡ None
-malformed_none Malformed read h e = h
-malformed_none (Memory x) read h e = absurd cc
-malformed_none TooLarge read h e = absurd h
-
-pub not_large : {Y : Type 0} (error : WireError) (read : Option Y) → Refuses error read → error ≡ TooLarge → ⊥
-not_large Malformed read h e = cc
-not_large (Memory x) read h e = cc
-not_large TooLarge read h e = h
-
-pub added_malformed : (error : WireError) (old new spelled : List ℕ) (fits : Type 0) → Adds {X = Unit {0}} (Err error) old new spelled fits → error ≡ Malformed → ⊥
-added_malformed Malformed old new spelled fits h e = h
-added_malformed (Memory x) old new spelled fits h e = cc
-added_malformed TooLarge old new spelled fits h e = cc
-
-pub added_large : (error : WireError) (old new spelled : List ℕ) (fits : Type 0) → fits → Adds {X = Unit {0}} (Err error) old new spelled fits → error ≡ TooLarge → ⊥
-added_large Malformed old new spelled fits f h e = h
-added_large (Memory x) old new spelled fits f h e = cc
-added_large TooLarge old new spelled fits f h e = h f

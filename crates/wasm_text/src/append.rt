@@ -7,7 +7,6 @@ ghost use Rattle.wasm_forms.specs.Types.{value_bytes};
 ghost use Rattle.wasm_forms.specs.Grammar.{at, U32};
 ghost use Rattle.wasm_forms.specs.Spelling.{number_bytes};
 ghost use Rattle.wasm_forms.specs.Reading.{Gives};
-ghost use Rattle.wasm_forms.specs.declared.error.WireError.TheVariants.{Malformed, TooLarge};
 ghost use Rattle.wasm_forms.specs.Writing.{Keeps};
 ghost use Rattle.wasm_operators.specs.Forms.{access, access_from, block_from, block_type, has_memory};
 ghost use Rattle.wasm_operators.specs.Spelling.{access_bytes, arg_bytes, block_bytes};
@@ -28,7 +27,7 @@ use wasm_forms::{
     read_u32, read_u64, read_value_from, write_index, write_s32, write_s64, write_u32, write_u64,
 };
 use wasm_opcodes::types::EMPTY_BLOCK;
-use wasm_operators::{RawArg, RawBlock};
+use wasm_operators::{RawArg, RawBlock, memory_of};
 
 // The new number of an index.
 #[inline]
@@ -90,17 +89,6 @@ fn copy(to: &mut Vec<u8>, bytes: &[u8], from: usize, until: usize) -> Result<(),
     ensures keeps { Keeps to.old.items to.new.items }
 {
     to.extend_from_slice(&bytes[from..until])
-}
-
-/// The memory that was refused, where nothing else can have been.
-pub fn memory_of(error: WireError) -> AllocError
-    requires malformed { error ≢ Malformed }
-    requires large { error ≢ TooLarge }
-{
-    match error {
-        WireError::Memory(failed) => failed,
-        WireError::Malformed | WireError::TooLarge => unreachable!(),
-    }
 }
 
 // Writes a value type.

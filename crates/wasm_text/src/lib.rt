@@ -11,7 +11,7 @@ mod places;
 mod renumbering;
 mod scan;
 
-pub use append::{append_filled, memory_of, read_at_mark};
+pub use append::{append_filled, read_at_mark};
 pub use law::{
     filled_behind_filled, filled_operators_are_renamed, held_behind_held,
     lacking_marks_are_of_operators, nothing_is_held, operator_behind_held, runs_are_copied,
@@ -25,4 +25,4 @@ pub use mark::{
 pub use places::{NO_PLACE, number_at, past_number, past_s32, past_s64, past_u64, rest_from};
 pub use renumbering::{NO_NUMBER, Numbers};
 pub use scan::scan_operator;
-pub use wasm_operators::{RawArg, RawBlock, RawOperator, read_operator};
+pub use wasm_operators::{RawArg, RawBlock, RawOperator, memory_of, read_operator};

@@ -1,4 +1,4 @@
-use Rattle.wasm_text.proofs.Marked.{malformed_none, not_large}
+use Rattle.wasm_text.proofs.Refusals.{malformed_none, not_large}
 use Rattle.walrus_text.proofs.operators.read_next.Goals as goal
 
 pub memory_of-requires-clause-malformed : goal.memory_of-requires-clause-malformed

@@ -1,7 +1,8 @@
 use Rattle.std.proofs.Common.{sym, ap, ◌∙◌}
 use Rattle.wasm_forms.specs.Grammar.{at}
 use Rattle.wasm_text.specs.Marks.{form_of, kind_of}
-use Rattle.wasm_text.proofs.Marked.{argument_found, malformed_none, not_large}
+use Rattle.wasm_operators.proofs.Refusals.{malformed_none, not_large}
+use Rattle.wasm_text.proofs.Marked.{argument_found}
 use Rattle.wasm_text.proofs.append.read_at_mark.Goals as goal
 
 pub memory_of-requires-clause-malformed : goal.memory_of-requires-clause-malformed

@@ -1,6 +1,7 @@
 use Rattle.std.proofs.Common.{sym, ap, ◌∙◌}
 use Rattle.wasm_forms.specs.Grammar.{at, U32}
-use Rattle.wasm_text.proofs.Marked.{malformed_none, not_large, standing_read, stands_again}
+use Rattle.wasm_operators.proofs.Refusals.{malformed_none, not_large}
+use Rattle.wasm_text.proofs.Marked.{standing_read, stands_again}
 use Rattle.wasm_text.proofs.append.read_index_at.Goals as goal
 
 pub memory_of-requires-clause-malformed : goal.memory_of-requires-clause-malformed

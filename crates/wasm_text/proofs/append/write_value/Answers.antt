@@ -1,4 +1,4 @@
-use Rattle.wasm_text.proofs.Marked.{added_malformed, added_large}
+use Rattle.wasm_operators.proofs.Refusals.{added_malformed, added_large}
 use Rattle.wasm_text.proofs.append.write_value.Goals as goal
 
 pub memory_of-requires-clause-malformed : goal.memory_of-requires-clause-malformed
