@@ -1,7 +1,8 @@
 #!/usr/bin/env bash
 # Tries the wrong edits of tests/edits/CRATE/, which the gate leaves out for its time, on a copy of the repository: the prover has to
-# refuse each. To run when the crate, or one below it, changed: it takes a check of the crate from nothing, and then some ten to
-# thirty seconds an edit. Prints a line an edit and the counts. No part of the gate.
+# refuse each. To run when the crate, or one below it, changed. Those of different functions are tried at once (edits.py): some five seconds an
+# edit; what isn't refused so takes a check of the whole crate from nothing, and then ten to thirty seconds each. Prints a line an edit and the
+# counts. No part of the gate.
 # tests/edits.sh [CRATE..], all crates where none is given; LANES=N works on N crates at a time (1 to 4 GB of memory each), 2 where it isn't set.
 set -eu
 top=$(cd "$(dirname "$0")/.." && pwd)
@@ -18,8 +19,9 @@ for crate in "$@"; do
   cp -a "$top/tests/edits/$crate" "$room/crates/$crate/must-fail"
 done
 cd "$room"
-printf '%s\n' "$@" | "$top/tests/still.sh" 15 "tests/edits.sh: trying" xargs -P "${LANES:-2}" -I{} sh -c 'rt must-fail {} > "told.{}" 2>&1; cat "told.{}"'
-refused=$(cat told.* | grep -c ': refused, as it must be' || true)
 all=$(ls crates/*/must-fail/*.edit | wc -l)
+try='python3 "$0" . "$1" > "told.$1" 2>&1; ! ls "crates/$1/must-fail/"*.edit > still.$1 2>&1 || rt must-fail "$1" >> "told.$1" 2>&1; cat "told.$1"'
+printf '%s\n' "$@" | "$top/tests/still.sh" 15 "tests/edits.sh: trying" xargs -P "${LANES:-2}" -I{} sh -c "$try" "$top/tests/edits.py" {}
+refused=$(cat told.* | grep -c ': refused, as it must be' || true)
 echo "$refused of $all wrong edits are refused"
 [ "$refused" = "$all" ]
